@@ -1,6 +1,6 @@
 -- What a contract sees of a circuit: a record of plain lists, in the order of the file (FIRRTL Specification,
 -- "Circuits and Modules").
-use Rattle.std.specs.Prelude.{◌≡◌, ℕ, List, [], ◌∷◌, ◌++◌, map}
+use Rattle.std.specs.Prelude.{◌≡◌, ℕ, List, [], ◌∷◌, ◌++◌, map, slice_index_or}
 use Rattle.gg_ast.specs.declared.module.Port.{Port}
 use Rattle.gg_ast.specs.declared.statement.Field.{Field}
 use Rattle.gg_ast.specs.declared.statement.Stmt.{Stmt}
@@ -23,6 +23,10 @@ pub record CircuitTree : Type 0 where
 -- a module without ports and statements
 abbrev pub empty_module : ℕ → List ℕ → ModuleTree
 empty_module line name = record { line = line; name = name; ports = []; statements = [] }
+
+-- the module at a place of the file; past the end, one without a name that holds nothing
+abbrev pub module_at : List ModuleTree → ℕ → ModuleTree
+module_at modules k = slice_index_or modules k (empty_module 0 [])
 
 -- a circuit without modules
 abbrev pub empty_circuit : ℕ → List ℕ → CircuitTree

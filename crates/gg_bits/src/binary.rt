@@ -76,10 +76,8 @@ fn kind_and_width2(op: Op2, ta: Ty, tb: Ty) -> (Kind, u32)
     }
 }
 
-/// The width after a shift to the left by an amount of `amount` bits.
-fn shifted_width(width: u32, amount: u32) -> u32
-    requires some { 1 ≤ width }
-    requires few { width ≤ 128 }
+/// The width after a shift to the left by an amount of `amount` bits. 4,294,967,295 stands for any greater width.
+pub fn shifted_width(width: u32, amount: u32) -> u32
     ensures { result ≡ min (width + 2 ^ amount - 1) 4294967295 }
 {
     if amount < 32 {

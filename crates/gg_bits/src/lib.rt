@@ -25,7 +25,7 @@ mod spelling;
 mod types;
 mod unary;
 
-pub use binary::{apply2, result2};
+pub use binary::{apply2, result2, shifted_width};
 pub use choice::{mux, result_mux};
 pub use lists::{Ids, Items, Names};
 pub use name::Name;

@@ -37,11 +37,12 @@ use Rattle.gg_flattened.specs.Memories.{Bank}
 use Rattle.gg_flattened.specs.Signals.{Types, Own, own_signals, FromOutside, field_name}
 use Rattle.gg_flattened.proofs.AmongLemmas.{element-at}
 use Rattle.gg_flattened.proofs.NameLemmas.{Differ, place_of-at}
-use Rattle.gg_tree.specs.IsTreeOf.{Pairwise}
+use Rattle.gg_tree.specs.IsTreeOf.{Pairwise, clocks_held}
+use Rattle.gg_tree.proofs.RegisterClockLemmas.{clocks-at}
 use Rattle.gg_tree.proofs.JoinLemmas.{joined-behind}
 use Rattle.gg_tree.proofs.OwnLemmas.{Pairwise-at}
 use Rattle.gg_tree.proofs.PairwiseLemmas.{Pairwise-length}
-use Rattle.gg_moved.specs.Moved.{IsMoved, moved_reader, moved_writer, moved_memory, moved_line, moved_driver, moved_reset, moved_next, moved_register, shifted}
+use Rattle.gg_moved.specs.Moved.{IsMoved, moved_reader, moved_writer, moved_memory, moved_line, moved_driver, moved_reset, moved_next, moved_register, shifted, unclocked_memory, unclocked_reader, unclocked_register, unclocked_writer}
 use Rattle.gg_copies.proofs.LikeSites.{AreLikeScopes, AreLikeDrives, AreLikeSignals, AreLikeMemories}
 use Rattle.gg_copies.proofs.LikeSites as like
 use Rattle.gg_copies.proofs.CopyLineLemmas.{SamePaths, number-moved, moved_laid, line-moved, taken-moved, condition-moved, connected-moved}
@@ -117,8 +118,8 @@ count-same test (x ∷ xs) (y ∷ ys) p (suc k) =
     ∙ ap₂ (λ (b : Bool) (n : ℕ). one_if b + n) p.0 (count-same test xs ys p.1 k)
     ∙ sym (sum_by-cons (λ z. cond (test z) 1 0) y (take k ys))
 
-abbrev register_made : Ty → Option kept.Reset → Option (List Node) → Option ℕ → Register
-register_made ty reset next clock = record { ty = ty; reset = reset; next = next; clock = clock }
+abbrev register_made : Ty → Option kept.Reset → Option (List Node) → Register
+register_made ty reset next = record { ty = ty; reset = reset; next = next; clock = None }
 
 abbrev reset_made : List Node → List Node → kept.Reset
 reset_made condition init = record { condition = condition; init = init }
@@ -132,8 +133,14 @@ reader_made addr en word = record { addr = addr; en = en; word = word; clock = N
 abbrev writer_made : ℕ → ℕ → ℕ → ℕ → Writer
 writer_made addr en word mask = record { addr = addr; en = en; word = word; mask = mask; clock = None }
 
+abbrev unclocked_readers : List Reader → List Reader
+unclocked_readers readers = map (λ reader. unclocked_reader reader) readers
+
+abbrev unclocked_writers : List Writer → List Writer
+unclocked_writers writers = map (λ writer. unclocked_writer writer) writers
+
 -- two functions make the same of a list if they make the same of each of its elements
-map-among : {A B : Type 0} (h k : A → B) (xs : List A) → ((x : A) → Contains xs x → h x ≡ k x) → map h xs ≡ map k xs
+pub map-among : {A B : Type 0} (h k : A → B) (xs : List A) → ((x : A) → Contains xs x → h x ≡ k x) → map h xs ≡ map k xs
 map-among h k [] e = refl
 map-among h k (x ∷ xs) e = ap₂ (λ y ys. y ∷ ys) (e x (0, omega arith, refl)) (map-among h k xs (λ y c. e y (further x xs y c)))
 
@@ -175,7 +182,7 @@ port-no-register modules (Some outer) name = refl
 register-same : (types : Types) (modules : List ModuleTree) (u v : Site) (path : List ℕ) (d e : Drive) → AreLikeDrives types modules u v path d e → is_register d ≡ is_register e
 register-same types modules u v path d e (like.AtPort o c is at one other) = ap is_register one ∙ port-no-register modules u.outer o.name ∙ sym (port-no-register modules v.outer o.name) ∙ sym (ap is_register other)
 register-same types modules u v path d e (like.Connected a b c l one other) = ap is_register one ∙ sym (ap is_register other)
-register-same types modules u v path d e (like.Kept a b reset next l one other) = ap is_register one ∙ sym (ap is_register other)
+register-same types modules u v path d e (like.Kept a b reset next own clock clock' l one other) = ap is_register one ∙ sym (ap is_register other)
 register-same types modules u v path d e (like.Answered m n place latency addr addr' en en' lm la le one other) = ap is_register one ∙ sym (ap is_register other)
 
 answer-moved : (to registers memories : ℕ → ℕ) (latency : Latency) (m place addr en : ℕ) → answer latency (memories m) place (to addr) (to en) ≡ moved_driver to registers memories (answer latency m place addr en)
@@ -192,7 +199,7 @@ found-moved paths from to f g size differ same a b m k lt there =
     ∙ ap (λ (o : Option ℕ). unwrap_or o 0) moved
     ∙ ap (λ (o : Option ℕ). shifted f g (unwrap_or o 0)) (sym at)
 
-module _ (types : Types) (modules : List ModuleTree) (u v : Site) (all : List FlatSignal) (banks : List FlatMemory) (ports : List Port) (flat : FlatCircuit) (is_flat : IsFlatOf types all banks ports flat) (differ : Differ (paths_of all)) (f g : ℕ) (p q : List FlatSignal) (one : Stretch all f p) (other : Stretch all g q) (same : Pairwise (AreLikeSignals types modules u v) p q) where
+module _ (types : Types) (modules : List ModuleTree) (u v : Site) (all : List FlatSignal) (banks : List FlatMemory) (ports : List Port) (stops : List (List ℕ)) (flat : FlatCircuit) (is_flat : IsFlatOf types all banks ports stops flat) (differ : Differ (paths_of all)) (f g : ℕ) (p q : List FlatSignal) (one : Stretch all f p) (other : Stretch all g q) (same : Pairwise (AreLikeSignals types modules u v) p q) where
   abbrev size : ℕ
   size = length p
 
@@ -291,9 +298,9 @@ module _ (types : Types) (modules : List ModuleTree) (u v : Site) (all : List Fl
         go : AreLikeDrives types modules u v (get_or p s none).path (get_or p s none).drive (get_or q s none).drive → AtInput types modules u (get_or p s none).path ⊎ (driver_at flat (g + s) ≡ moved (driver_at flat (f + s)))
         go (like.AtPort o c is at d e) = inl (record { port = o; among = c; cause = is; is = at })
         go (like.Connected a b c l d e) = inr (computed-moved s lt here there a b c l (driven-at f p one s lt (Gets a c) d) (driven-at g q other s lt' (Gets b c) e))
-        go (like.Kept a b reset next l d e) =
-            let hu = driven-at f p one s lt (Holds a reset next) d in
-            let hv = driven-at g q other s lt' (Holds b reset next) e in
+        go (like.Kept a b reset next own clock clock' l d e) =
+            let hu = driven-at f p one s lt (Holds a reset next own clock) d in
+            let hv = driven-at g q other s lt' (Holds b reset next own clock') e in
             inr (hv.held ∙ ap Held (register-moved s lt) ∙ sym (ap moved hu.held))
         go (like.Answered m n place latency addr addr' en en' lm la le d e) =
             let hu = driven-at f p one s lt (Answers m place latency addr en) d in
@@ -350,23 +357,36 @@ module _ (types : Types) (modules : List ModuleTree) (u v : Site) (all : List Fl
           ∙ ap (map (moved_laid to_there)) (sym h.1.nodes)) in
           ap₂ (λ c i. Some (reset_made c i)) condition init
 
-      register-of : (reset : Option given.Reset) (next : Option Connection) (x y : Register) → IsRegisterOf (in_scope bound a) sink reset next x → IsRegisterOf (in_scope bound b) sink' reset next y → ClosedBy (RegisterNames x) f → ClosedBy (RegisterNames y) g → y ≡ moved_register to_there x
-      register-of reset next x y h k here there =
-          ap (λ t. register_made t y.reset y.next y.clock) (ty-equal y.ty x.ty (k.typed ∙ sinks ∙ sym h.typed))
-          ∙ ap (λ t. register_made x.ty y.reset y.next t) (k.clocked ∙ sym h.clocked)
-          ∙ ap₂ (λ r n. register_made x.ty r n x.clock)
+      register-of : (reset : Option given.Reset) (next : Option Connection) (clock clock' : Option ℕ) (x y : Register) → IsRegisterOf (in_scope bound a) sink reset next clock x → IsRegisterOf (in_scope bound b) sink' reset next clock' y → ClosedBy (RegisterNames x) f → ClosedBy (RegisterNames y) g → unclocked_register y ≡ unclocked_register (moved_register to_there x)
+      register-of reset next clock clock' x y h k here there =
+          ap (λ t. register_made t y.reset y.next) (ty-equal y.ty x.ty (k.typed ∙ sinks ∙ sym h.typed))
+          ∙ ap₂ (λ r n. register_made x.ty r n)
           (reset-same reset x.reset y.reset h.reset_is k.reset_is (λ t n. here t (inl n)) (λ t n. there t (inl n)))
           (next-same next x.next y.next h.next_is k.next_is (λ t n. here t (inr n)) (λ t n. there t (inr n)))
 
-    -- the register of a signal moves
-    pub register-copied : (s : ℕ) → s < size → (a b : Scope) (reset : Option given.Reset) (next : Option Connection) → AreLikeScopes u.path v.path a b → (get_or p s none).drive ≡ Holds a reset next → (get_or q s none).drive ≡ Holds b reset next → (any : Register)
+    -- the register of a signal moves, but for its clock
+    register-copied : (s : ℕ) → s < size → (a b : Scope) (reset : Option given.Reset) (next : Option Connection) (own clock clock' : Option ℕ) → AreLikeScopes u.path v.path a b → (get_or p s none).drive ≡ Holds a reset next own clock → (get_or q s none).drive ≡ Holds b reset next own clock' → (any : Register)
         → ClosedBy (RegisterNames (slice_index_or flat.registers (count_before is_register all (f + s)) any)) f
         → ClosedBy (RegisterNames (slice_index_or flat.registers (count_before is_register all (g + s)) any)) g
-        → slice_index_or flat.registers (count_before is_register all (g + s)) any ≡ moved_register to_there (slice_index_or flat.registers (count_before is_register all (f + s)) any)
-    register-copied s lt a b reset next l d e any here there =
-        let hu = driven-at f p one s lt (Holds a reset next) d in
-        let hv = driven-at g q other s (omega (arith, lt, size-same)) (Holds b reset next) e in
-        register-of a b l (shape_at (signals_of all).shapes (f + s)) (shape_at (signals_of all).shapes (g + s)) (shapes-same s lt) reset next _ _ (hu.register any) (hv.register any) here there
+        → unclocked_register (slice_index_or flat.registers (count_before is_register all (g + s)) any) ≡ unclocked_register (moved_register to_there (slice_index_or flat.registers (count_before is_register all (f + s)) any))
+    register-copied s lt a b reset next own clock clock' l d e any here there =
+        let hu = driven-at f p one s lt (Holds a reset next own clock) d in
+        let hv = driven-at g q other s (omega (arith, lt, size-same)) (Holds b reset next own clock') e in
+        register-of a b l (shape_at (signals_of all).shapes (f + s)) (shape_at (signals_of all).shapes (g + s)) (shapes-same s lt) reset next clock clock' _ _ (hu.register any) (hv.register any) here there
+
+    -- The register that a signal of the one instance holds is that of the other, with other numbers. Each follows the same Clock input
+    -- of its own site.
+    pub record IsHeldAgain (r : ℕ) (any : Register) : Type 0 where
+      pub own : Option ℕ
+      pub same : unclocked_register (slice_index_or flat.registers (shifted (registers_before f) (registers_before g) r) any) ≡ unclocked_register (moved_register to_there (slice_index_or flat.registers r any))
+      pub here : get_or (clocks_held all) r None ≡ own
+      pub there : get_or (clocks_held all) (shifted (registers_before f) (registers_before g) r) None ≡ own
+
+    -- what the register of a signal follows
+    followed-at : (first : ℕ) (part : List FlatSignal) → Stretch all first part → (s : ℕ) → s < length part → (a : Scope) (reset : Option given.Reset) (next : Option Connection) (own clock : Option ℕ) → (get_or part s none).drive ≡ Holds a reset next own clock → get_or (clocks_held all) (count_before is_register all (first + s)) None ≡ own
+    followed-at first part at s lt a reset next own clock is =
+        clocks-at all (first + s) own clock None (omega (arith, lt, stretch-inside all first part at))
+        (record { scope = a; reset = reset; next = next; is = part-at (λ (x : FlatSignal). x.drive) first part at s lt Outside ∙ is })
 
     abbrev is_held : Driver → Bool
     is_held (Held r) = true
@@ -385,53 +405,61 @@ module _ (types : Types) (modules : List ModuleTree) (u v : Site) (all : List Fl
     number-same : (r k : ℕ) → Held r ≡ Held k → r ≡ k
     number-same r k e = cc
 
-    -- the register that a signal of the one instance holds is that of the other, with other numbers
     pub held-copied : (s r : ℕ) → s < size → driver_at flat (f + s) ≡ Held r → (any : Register)
         → (r < length flat.registers → ClosedBy (RegisterNames (slice_index_or flat.registers r any)) f)
         → (shifted (registers_before f) (registers_before g) r < length flat.registers → ClosedBy (RegisterNames (slice_index_or flat.registers (shifted (registers_before f) (registers_before g) r) any)) g)
-        → AtInput types modules u (get_or p s none).path ⊎ (slice_index_or flat.registers (shifted (registers_before f) (registers_before g) r) any ≡ moved_register to_there (slice_index_or flat.registers r any))
+        → AtInput types modules u (get_or p s none).path ⊎ IsHeldAgain r any
     held-copied s r lt is any here there = go (like-at s lt).drive
       where
-        go : AreLikeDrives types modules u v (get_or p s none).path (get_or p s none).drive (get_or q s none).drive → AtInput types modules u (get_or p s none).path ⊎ (slice_index_or flat.registers (shifted (registers_before f) (registers_before g) r) any ≡ moved_register to_there (slice_index_or flat.registers r any))
+        go : AreLikeDrives types modules u v (get_or p s none).path (get_or p s none).drive (get_or q s none).drive → AtInput types modules u (get_or p s none).path ⊎ IsHeldAgain r any
         go (like.AtPort o c cause at d e) = inl (record { port = o; among = c; cause = cause; is = at })
         go (like.Connected a b c l d e) = not-held (Held r) (Computed (driven-at f p one s lt (Gets a c) d).line) (sym is ∙ (driven-at f p one s lt (Gets a c) d).computed) refl refl
         go (like.Answered m n place latency addr addr' en en' lm la le d e) =
             not-held (Held r) _ (sym is ∙ driven-at f p one s lt (Answers m place latency addr en) d) refl (answer-not-held latency (number_of (memory_paths banks) m) place (number_of (paths_of all) addr) (number_of (paths_of all) en))
-        go (like.Kept a b reset next l d e) =
-            let hu = driven-at f p one s lt (Holds a reset next) d in
-            let hv = driven-at g q other s (omega (arith, lt, size-same)) (Holds b reset next) e in
+        go (like.Kept a b reset next own clock clock' l d e) =
+            let hu = driven-at f p one s lt (Holds a reset next own clock) d in
+            let hv = driven-at g q other s (omega (arith, lt, size-same)) (Holds b reset next own clock') e in
             let r_is : count_before is_register all (f + s) ≡ r = sym (number-same r (count_before is_register all (f + s)) (sym is ∙ hu.held)) in
             let r_there : count_before is_register all (g + s) ≡ shifted (registers_before f) (registers_before g) r = register-moved s lt ∙ ap (shifted (registers_before f) (registers_before g)) r_is in
-            inr
-            (ap (λ (k : ℕ). slice_index_or flat.registers k any) (sym r_there)
-            ∙ register-copied s lt a b reset next l d e any
-            (subst (λ (k : ℕ). ClosedBy (RegisterNames (slice_index_or flat.registers k any)) f) (sym r_is) (here (subst (λ (k : ℕ). k < length flat.registers) r_is hu.within)))
-            (subst (λ (k : ℕ). ClosedBy (RegisterNames (slice_index_or flat.registers k any)) g) (sym r_there) (there (subst (λ (k : ℕ). k < length flat.registers) r_there hv.within)))
-            ∙ ap (λ (k : ℕ). moved_register to_there (slice_index_or flat.registers k any)) r_is)
+            inr (record {
+              own = own;
+              same =
+                  ap (λ (k : ℕ). unclocked_register (slice_index_or flat.registers k any)) (sym r_there)
+                  ∙ register-copied s lt a b reset next own clock clock' l d e any
+                  (subst (λ (k : ℕ). ClosedBy (RegisterNames (slice_index_or flat.registers k any)) f) (sym r_is) (here (subst (λ (k : ℕ). k < length flat.registers) r_is hu.within)))
+                  (subst (λ (k : ℕ). ClosedBy (RegisterNames (slice_index_or flat.registers k any)) g) (sym r_there) (there (subst (λ (k : ℕ). k < length flat.registers) r_there hv.within)))
+                  ∙ ap (λ (k : ℕ). unclocked_register (moved_register to_there (slice_index_or flat.registers k any))) r_is;
+              here = ap (λ (k : ℕ). get_or (clocks_held all) k None) (sym r_is) ∙ followed-at f p one s lt a reset next own clock d;
+              there = ap (λ (k : ℕ). get_or (clocks_held all) k None) (sym r_there) ∙ followed-at g q other s (omega (arith, lt, size-same)) b reset next own clock' e;
+            })
 
     -- ---- memories
 
-    -- a memory moves if the fields of its ports are in the instance
+    -- a memory moves, but for its clocks, if the fields of its ports are in the instance
     pub memory-copied : (x y : FlatMemory) (m n : Memory) → AreLikeMemories u v x y → IsMemoryOf (paths_of all) x m → IsMemoryOf (paths_of all) y n
         → ((port word : List ℕ) → Contains x.bank.readers port → Contains (codes "addr" ∷ codes "en" ∷ codes "data" ∷ []) word → IsThere (paths_of all) f size (field_name x.path port word))
         → ((port word : List ℕ) → Contains x.bank.writers port → Contains (codes "addr" ∷ codes "en" ∷ codes "data" ∷ codes "mask" ∷ []) word → IsThere (paths_of all) f size (field_name x.path port word))
-        → n ≡ moved_memory to_there m
+        → unclocked_memory n ≡ unclocked_memory (moved_memory to_there m)
     memory-copied x y m n l h k readers writers =
-        ap (λ t. memory_made t n.depth n.latency n.readers n.writers) (ty-equal n.word m.word (k.word ∙ ap (λ (b : Bank). b.word) (sym l.bank) ∙ sym h.word))
-        ∙ ap (λ t. memory_made m.word t n.latency n.readers n.writers) (k.depth ∙ ap (λ (b : Bank). b.depth) (sym l.bank) ∙ sym h.depth)
-        ∙ ap (λ t. memory_made m.word m.depth t n.readers n.writers) (k.latency ∙ ap (λ (b : Bank). b.latency) (sym l.bank) ∙ sym h.latency)
-        ∙ ap (λ t. memory_made m.word m.depth m.latency t n.writers)
-        (k.readers
-        ∙ ap (λ (b : Bank). map (reader_of (paths_of all) y.path) b.readers) (sym l.bank)
-        ∙ map-among (reader_of (paths_of all) y.path) (λ port. moved_reader to_there (reader_of (paths_of all) x.path port)) x.bank.readers (λ port c. reader-same port (λ word w. readers port word c w))
-        ∙ sym (map-map (moved_reader to_there) (reader_of (paths_of all) x.path) x.bank.readers)
-        ∙ ap (map (moved_reader to_there)) (sym h.readers))
-        ∙ ap (λ t. memory_made m.word m.depth m.latency (map (moved_reader to_there) m.readers) t)
-        (k.writers
-        ∙ ap (λ (b : Bank). map (writer_of (paths_of all) y.path) b.writers) (sym l.bank)
-        ∙ map-among (writer_of (paths_of all) y.path) (λ port. moved_writer to_there (writer_of (paths_of all) x.path port)) x.bank.writers (λ port c. writer-same port (λ word w. writers port word c w))
-        ∙ sym (map-map (moved_writer to_there) (writer_of (paths_of all) x.path) x.bank.writers)
-        ∙ ap (map (moved_writer to_there)) (sym h.writers))
+        ap (λ t. memory_made t n.depth n.latency (unclocked_readers n.readers) (unclocked_writers n.writers)) (ty-equal n.word m.word (k.word ∙ ap (λ (b : Bank). b.word) (sym l.bank) ∙ sym h.word))
+        ∙ ap (λ t. memory_made m.word t n.latency (unclocked_readers n.readers) (unclocked_writers n.writers)) (k.depth ∙ ap (λ (b : Bank). b.depth) (sym l.bank) ∙ sym h.depth)
+        ∙ ap (λ t. memory_made m.word m.depth t (unclocked_readers n.readers) (unclocked_writers n.writers)) (k.latency ∙ ap (λ (b : Bank). b.latency) (sym l.bank) ∙ sym h.latency)
+        ∙ ap (λ t. memory_made m.word m.depth m.latency t (unclocked_writers n.writers))
+        (ap unclocked_readers k.readers
+        ∙ ap (λ (b : Bank). unclocked_readers (map (reader_of (paths_of all) y) b.readers)) (sym l.bank)
+        ∙ map-map unclocked_reader (reader_of (paths_of all) y) x.bank.readers
+        ∙ map-among (λ port. unclocked_reader (reader_of (paths_of all) y port)) (λ port. unclocked_reader (moved_reader to_there (reader_of (paths_of all) x port))) x.bank.readers (λ port c. reader-same port (λ word w. readers port word c w))
+        ∙ sym (map-map (λ (r : Reader). unclocked_reader (moved_reader to_there r)) (reader_of (paths_of all) x) x.bank.readers)
+        ∙ sym (map-map unclocked_reader (moved_reader to_there) (map (reader_of (paths_of all) x) x.bank.readers))
+        ∙ ap (λ (rs : List Reader). unclocked_readers (map (moved_reader to_there) rs)) (sym h.readers))
+        ∙ ap (λ t. memory_made m.word m.depth m.latency (unclocked_readers (map (moved_reader to_there) m.readers)) t)
+        (ap unclocked_writers k.writers
+        ∙ ap (λ (b : Bank). unclocked_writers (map (writer_of (paths_of all) y) b.writers)) (sym l.bank)
+        ∙ map-map unclocked_writer (writer_of (paths_of all) y) x.bank.writers
+        ∙ map-among (λ port. unclocked_writer (writer_of (paths_of all) y port)) (λ port. unclocked_writer (moved_writer to_there (writer_of (paths_of all) x port))) x.bank.writers (λ port c. writer-same port (λ word w. writers port word c w))
+        ∙ sym (map-map (λ (w : Writer). unclocked_writer (moved_writer to_there w)) (writer_of (paths_of all) x) x.bank.writers)
+        ∙ sym (map-map unclocked_writer (moved_writer to_there) (map (writer_of (paths_of all) x) x.bank.writers))
+        ∙ ap (λ (ws : List Writer). unclocked_writers (map (moved_writer to_there) ws)) (sym h.writers))
       where
         field-moved : (port word : List ℕ) → IsMoved u.path v.path (field_name x.path port word) (field_name y.path port word)
         field-moved port word = record {
@@ -446,13 +474,13 @@ module _ (types : Types) (modules : List ModuleTree) (u v : Site) (all : List Fl
         number : (port word : List ℕ) → IsThere (paths_of all) f size (field_name x.path port word) → number_of (paths_of all) (field_name y.path port word) ≡ to_there (number_of (paths_of all) (field_name x.path port word))
         number port word t = found-moved (paths_of all) u.path v.path f g size differ paths-same (field_name x.path port word) (field_name y.path port word) (field-moved port word) t.0 t.1 t.2
 
-        reader-same : (port : List ℕ) → ((word : List ℕ) → Contains (codes "addr" ∷ codes "en" ∷ codes "data" ∷ []) word → IsThere (paths_of all) f size (field_name x.path port word)) → reader_of (paths_of all) y.path port ≡ moved_reader to_there (reader_of (paths_of all) x.path port)
+        reader-same : (port : List ℕ) → ((word : List ℕ) → Contains (codes "addr" ∷ codes "en" ∷ codes "data" ∷ []) word → IsThere (paths_of all) f size (field_name x.path port word)) → unclocked_reader (reader_of (paths_of all) y port) ≡ unclocked_reader (moved_reader to_there (reader_of (paths_of all) x port))
         reader-same port there =
             ap₂ (λ a e. reader_made a e (number_of (paths_of all) (field_name y.path port (codes "data"))))
             (number port (codes "addr") (there (codes "addr") (0, lit≤ tt, refl))) (number port (codes "en") (there (codes "en") (1, lit≤ tt, refl)))
             ∙ ap (λ d. reader_made (moved_at port (codes "addr")) (moved_at port (codes "en")) d) (number port (codes "data") (there (codes "data") (2, lit≤ tt, refl)))
 
-        writer-same : (port : List ℕ) → ((word : List ℕ) → Contains (codes "addr" ∷ codes "en" ∷ codes "data" ∷ codes "mask" ∷ []) word → IsThere (paths_of all) f size (field_name x.path port word)) → writer_of (paths_of all) y.path port ≡ moved_writer to_there (writer_of (paths_of all) x.path port)
+        writer-same : (port : List ℕ) → ((word : List ℕ) → Contains (codes "addr" ∷ codes "en" ∷ codes "data" ∷ codes "mask" ∷ []) word → IsThere (paths_of all) f size (field_name x.path port word)) → unclocked_writer (writer_of (paths_of all) y port) ≡ unclocked_writer (moved_writer to_there (writer_of (paths_of all) x port))
         writer-same port there =
             ap₂ (λ a e. writer_made a e (number_of (paths_of all) (field_name y.path port (codes "data"))) (number_of (paths_of all) (field_name y.path port (codes "mask"))))
             (number port (codes "addr") (there (codes "addr") (0, lit≤ tt, refl))) (number port (codes "en") (there (codes "en") (1, lit≤ tt, refl)))

@@ -31,8 +31,8 @@ own-there types modules xs x o c k =
 
 pub bank-there : (modules : List ModuleTree) (xs : List Site) (x : Site) (b : OwnBank) → Contains xs x → Contains (own_banks (module_at modules x.number).statements) b → Contains (map (λ (y : FlatMemory). y.path) (flat_memories modules xs)) (joined x.path b.name)
 bank-there modules xs x b c k =
-    Contains-map (λ (y : FlatMemory). y.path) (flat_memories modules xs) (flat_memory x b)
-    (in-flat_map (memories_at modules) xs x (flat_memory x b) c (Contains-map (flat_memory x) (own_banks (module_at modules x.number).statements) b k))
+    Contains-map (λ (y : FlatMemory). y.path) (flat_memories modules xs) (flat_memory modules x b)
+    (in-flat_map (memories_at modules) xs x (flat_memory modules x b) c (Contains-map (flat_memory modules x) (own_banks (module_at modules x.number).statements) b k))
 
 -- ---- fields
 
@@ -66,7 +66,7 @@ module _ (types : Types) (modules : List ModuleTree) (xs : List Site) where
   pub reader-there : (y : FlatMemory) → Contains (flat_memories modules xs) y → (port word : List ℕ) → Contains y.bank.readers port → Contains (codes "addr" ∷ codes "en" ∷ codes "data" ∷ []) word → Contains paths (field_name y.path port word)
   reader-there y c port word at w =
       let x = from-flat_map (memories_at modules) xs y c in
-      let b = from-map (flat_memory x.of) (own_banks (module_at modules x.of.number).statements) y x.made in
+      let b = from-map (flat_memory modules x.of) (own_banks (module_at modules x.of.number).statements) y x.made in
       let port_at : Contains b.of.bank.readers port = subst (λ (z : FlatMemory). Contains z.bank.readers port) (sym b.made) at in
       let o = reader-word b.of.name b.of.bank port_at.0 port word w in
       subst (Contains paths)
@@ -77,7 +77,7 @@ module _ (types : Types) (modules : List ModuleTree) (xs : List Site) where
   pub writer-there : (y : FlatMemory) → Contains (flat_memories modules xs) y → (port word : List ℕ) → Contains y.bank.writers port → Contains (codes "addr" ∷ codes "en" ∷ codes "data" ∷ codes "mask" ∷ []) word → Contains paths (field_name y.path port word)
   writer-there y c port word at w =
       let x = from-flat_map (memories_at modules) xs y c in
-      let b = from-map (flat_memory x.of) (own_banks (module_at modules x.of.number).statements) y x.made in
+      let b = from-map (flat_memory modules x.of) (own_banks (module_at modules x.of.number).statements) y x.made in
       let port_at : Contains b.of.bank.writers port = subst (λ (z : FlatMemory). Contains z.bank.writers port) (sym b.made) at in
       let o = writer-word b.of.name b.of.bank port word w in
       subst (Contains paths)
@@ -90,7 +90,7 @@ module _ (types : Types) (modules : List ModuleTree) (xs : List Site) where
 abbrev is_answer : Drive → ℕ
 is_answer Outside = 0
 is_answer (Gets scope c) = 0
-is_answer (Holds scope reset next) = 0
+is_answer (Holds scope reset next own clock) = 0
 is_answer (Answers memory place latency addr en) = 1
 
 -- The cause of a signal whose drive is a reader's answer, and the paths.
@@ -115,7 +115,7 @@ answer-parts modules x name FromOutside memory place latency addr en e = go x.ou
     go (Some outer) e = no-answer (drive_of modules (record x { outer = Some outer }) name FromOutside) (Answers memory place latency addr en) e refl refl
 answer-parts modules x name Connected memory place latency addr en e = no-answer (drive_of modules x name Connected) (Answers memory place latency addr en) e refl refl
 answer-parts modules x name (Expressed value) memory place latency addr en e = no-answer (drive_of modules x name (Expressed value)) (Answers memory place latency addr en) e refl refl
-answer-parts modules x name (Kept reset) memory place latency addr en e = no-answer (drive_of modules x name (Kept reset)) (Answers memory place latency addr en) e refl refl
+answer-parts modules x name (Kept clock reset) memory place latency addr en e = no-answer (drive_of modules x name (Kept clock reset)) (Answers memory place latency addr en) e refl refl
 answer-parts modules x name (Answered said port at late) memory place latency addr en e = record {
   said = said;
   port = port;

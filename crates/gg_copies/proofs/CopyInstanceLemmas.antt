@@ -1,11 +1,13 @@
 -- Two instances of one module in a flat circuit: the signals of the one are those of the other, with other numbers.
-use Rattle.std.proofs.Common.{◌≡◌, ℕ, zero, suc, ◌+◌, ◌-◌, ◌<◌, ◌≤◌, min, List, [], ◌∷◌, ◌++◌, length, length-append, map, take, get_or, Bool, Some, refl, sym, ap, ap₂, ◌∙◌, subst, subst₂, arith, inl, inr, ◌⊎◌}
+use Rattle.std.proofs.Common.{◌≡◌, ◌≢◌, ℕ, zero, suc, ◌+◌, ◌-◌, ◌<◌, ◌≤◌, min, List, [], ◌∷◌, ◌++◌, length, length-append, map, take, get_or, Bool, Option, Some, None, refl, sym, ap, ap₂, ◌∙◌, subst, subst₂, arith, inl, inr, ◌⊎◌, lit≤}
+use Rattle.std.proofs.lemmas.Bool.{cases_lt}
 use Rattle.std.specs.Prelude.{Contains, flat_map, slice_get, slice_index_or, codes}
 use Rattle.std.proofs.lemmas.List.{get_or_default, get_or-map, ext_get_or, length-map, length-take, take-append-drop, take-append-le}
 use Rattle.std.proofs.lemmas.Grind.{flat_map-append}
 use Rattle.std.proofs.Math.Seq.{take-append-add}
 use Rattle.std.proofs.lemmas.List.Elements.{Contains-get_or}
 use Rattle.std.proofs.lemmas.Option.{same_Some, get_or_from_slice_get, slice_get-get_or}
+use Rattle.gg_bits.specs.declared.types.Kind.TheVariants.{UInt}
 use Rattle.gg_bits.specs.Shape.{Shape}
 use Rattle.gg_ast.specs.Names.{AreNamesOfCircuit}
 use Rattle.gg_ast.specs.declared.module.Direction.{Direction}
@@ -18,32 +20,37 @@ use Rattle.gg_flat.specs.declared.memory.Memory.{Memory}
 use Rattle.gg_flat.specs.declared.piece.Driver.TheVariants.{Held}
 use Rattle.gg_flat.specs.declared.piece.Register.{Register}
 use Rattle.gg_flat.specs.declared.tree.InstancePort.{InstancePort}
+use Rattle.gg_flat.specs.declared.tree.StopInstance.{StopInstance}
 use Rattle.gg_flat.specs.Circuit.{FlatCircuit, signal_shapes, driver_at}
 use Rattle.gg_flat.specs.Line.{shape_at}
 use Rattle.gg_flat.specs.Reads.{NamesSignal, RegisterNames}
 use Rattle.gg_flat.specs.Scoped.{IsScoped, IsInputOf}
-use Rattle.gg_flat.specs.Tree.{InstanceTree, IsTree, Holds, instance_at, path_at, joined}
+use Rattle.gg_flat.specs.Tree.{InstanceTree, IsTree, Holds, instance_at, memory_at, path_at, stop_at, joined}
 use Rattle.gg_flat.proofs.ListLemmas.{some-item}
 use Rattle.gg_count.specs.Sites.{Site, module_at, sites, sites_of, top_site}
-use Rattle.gg_flattened.specs.Flat.{Answers, FlatSignal, flat_signal, FlatMemory, flat_signals, flat_memories, memories_at}
+use Rattle.gg_flattened.specs.Flat.{stop_paths, Answers, FlatSignal, flat_signal, FlatMemory, flat_signals, flat_memories, memories_at}
 use Rattle.gg_flattened.specs.IsFlat.{IsFlat, IsMemoryOf, memory_paths, top_ports, count_before, is_register}
 use Rattle.gg_flattened.specs.Known.{types_of}
 use Rattle.gg_flattened.specs.Signals.{Cause, FromOutside, Answered, Own, cause_of_port, field_name}
 use Rattle.gg_flattened.proofs.AmongLemmas.{Element, element-at, MadeOf, from-map, from-flat_map}
 use Rattle.gg_formed.proofs.BankFieldLemmas.{AnswerAmong, answer-among}
 use Rattle.gg_flattened.proofs.NameLemmas.{place_of-at}
-use Rattle.gg_tree.specs.IsTreeOf.{IsTreeOf, IsPortFor, Pairwise, signal_paths, signal_ports, memories_of}
+use Rattle.gg_flattened.specs.Clocks.{own_clocks}
+use Rattle.gg_flattened.proofs.FollowLemmas.{around-length, input_count}
+use Rattle.gg_tree.specs.IsTreeOf.{IsTreeOf, IsPortFor, Pairwise, clocks_held, signal_paths, signal_ports, memories_of}
+use Rattle.gg_tree.proofs.HeldMemoryLemmas.{memory-count}
+use Rattle.gg_tree.proofs.StopLemmas.{AskedPlace, asked-place, before_stops, holder-of, signal-of, stop-again}
 use Rattle.gg_tree.proofs.CauseLemmas.{IsNamed}
 use Rattle.gg_tree.proofs.DriverLemmas.{own-cases, port-is-input, port-own-cause, goes-in}
 use Rattle.gg_tree.proofs.InstanceLemmas.{signals_in, sites-are, stands, ranges, instance-for}
 use Rattle.gg_tree.proofs.OwnLemmas.{own_in, own-place, placed-known, Pairwise-at}
 use Rattle.gg_tree.proofs.PairwiseLemmas.{Pairwise-length}
 use Rattle.gg_tree.proofs.PlaceLemmas.{Placed, within, within-some}
-use Rattle.gg_tree.proofs.RangeLemmas.{Ranges, count_to, placed-at, placed-count, placed-inside}
+use Rattle.gg_tree.proofs.RangeLemmas.{Ranges, count_to, count-le, placed-at, placed-count, placed-inside, placed-same}
 use Rattle.gg_tree.proofs.ScopeOfTreeLemmas.{HasApartNames}
 use Rattle.gg_tree.proofs.TreeLemmas.{HasDistinctPaths, HasPlainNames, no_own, no_port, port-at, path-is}
 use Rattle.gg_tree.proofs.VisibleLemmas.{HasKnownNames}
-use Rattle.gg_moved.specs.Moved.{IsMoved, moved_driver, moved_register, moved_memory, moved_port, shifted}
+use Rattle.gg_moved.specs.Moved.{IsMoved, moved_driver, moved_register, moved_memory, moved_port, moved_stop, shifted, unclocked_memory, unclocked_register}
 use Rattle.gg_moved.specs.Copies.{LiesIn, Start, IsCopy, HasCopies}
 use Rattle.gg_copies.proofs.LikeSites.{AreLikeSites, AreLikeSignals, AreLikeMemories}
 use Rattle.gg_copies.proofs.CopyLemmas.{HasSomeNames, whole-like, signals-like, memories-like}
@@ -51,8 +58,13 @@ use Rattle.gg_copies.proofs.CopyLineLemmas.{SamePaths}
 use Rattle.gg_copies.proofs.CopyDriverLemmas.{Stretch, AtInput, driver-moved, held-copied, memory-copied, none, path-there, paths-same, shapes-same, stretch-at, stretch-inside, stretch-map, stretch-paths}
 use Rattle.gg_copies.proofs.CopyFieldLemmas.{AnswerParts, answer-parts, there-of, own-there, bank-there, reader-there, writer-there}
 use Rattle.gg_copies.proofs.CopyPlaceLemmas.{AreRanked, placed-stretch, levels-same, rank-left}
+use Rattle.gg_copies.proofs.CopyClockLemmas.{clocks-alike, own-same}
 use Rattle.gg_copies.proofs.CopyClosedLemmas.{driver-in, register-in}
 use Rattle.gg_copies.proofs.CopyInsideLemmas.{instance-inside, memory-inside}
+
+-- a register for where there is none
+abbrev some_register : Register
+some_register = record { ty = record { kind = UInt; width = 1; positive = lit≤ tt; bounded = lit≤ tt }; reset = None; next = None; clock = None }
 
 abbrev port_made : ℕ → Bool → InstancePort
 port_made signal goes = record { signal = signal; is_input = goes }
@@ -171,7 +183,7 @@ module _ (circuit : CircuitTree) (flat : FlatCircuit) (tree : InstanceTree) (top
         cause = ap (λ (o : Own). o.cause) (get_or_default (own_in circuit u) n no_own at.port at.among.1 ∙ at.among.2) ∙ at.cause
 
         there : slice_get (signal_paths circuit) (from_site i + s) ≡ Some (joined u.path at.port.name)
-        there = path-there (types_of circuit) circuit.modules u v all (memories_of circuit) (top_ports circuit.modules (place_of circuit.name (module_names circuit))) flat is_flat distinct.of_signals (from_site i) (from_site j) p q one other like (from_site i) p one s lt ∙ ap Some at.is
+        there = path-there (types_of circuit) circuit.modules u v all (memories_of circuit) (top_ports circuit.modules (place_of circuit.name (module_names circuit))) (stop_paths circuit.modules (sites_of circuit)) flat is_flat distinct.of_signals (from_site i) (from_site j) p q one other like (from_site i) p one s lt ∙ ap Some at.is
 
         counted : from_site i + s ≡ from_site i + n
         counted =
@@ -276,7 +288,7 @@ module _ (circuit : CircuitTree) (flat : FlatCircuit) (tree : InstanceTree) (top
     pub driver-copied : (s : ℕ) → s < length p → ¬ IsInputOf tree i (from_site i + s)
         → driver_at flat (from_site j + s) ≡ moved_driver (shifted (from_site i) (from_site j)) (shifted (registers_before (from_site i)) (registers_before (from_site j))) (shifted (from_memory i) (from_memory j)) (driver_at flat (from_site i + s))
     driver-copied s lt inner =
-        elim (driver-moved (types_of circuit) circuit.modules u v all (memories_of circuit) (top_ports circuit.modules (place_of circuit.name (module_names circuit))) flat is_flat distinct.of_signals (from_site i) (from_site j) p q one other like (from_memory i) (from_memory j) (length mp) distinct.of_memories banks-same fields s lt here there) [
+        elim (driver-moved (types_of circuit) circuit.modules u v all (memories_of circuit) (top_ports circuit.modules (place_of circuit.name (module_names circuit))) (stop_paths circuit.modules (sites_of circuit)) flat is_flat distinct.of_signals (from_site i) (from_site j) p q one other like (from_memory i) (from_memory j) (length mp) distinct.of_memories banks-same fields s lt here there) [
           | inl at ↦ absurd (inner (input-here s lt at))
           | inr e ↦ e
         ]
@@ -321,7 +333,7 @@ module _ (circuit : CircuitTree) (flat : FlatCircuit) (tree : InstanceTree) (top
     path-copied : (s : ℕ) → Holds (instance_at tree i) s → IsMoved (path_at tree.paths i) (path_at tree.paths j) (path_at flat.paths s) (path_at flat.paths (to_there s))
     path-copied s h =
         let k = in-place s h in
-        let l = (paths-same (types_of circuit) circuit.modules u v all (memories_of circuit) (top_ports circuit.modules (place_of circuit.name (module_names circuit))) flat is_flat distinct.of_signals (from_site i) (from_site j) p q one other like).at k.place k.inside in
+        let l = (paths-same (types_of circuit) circuit.modules u v all (memories_of circuit) (top_ports circuit.modules (place_of circuit.name (module_names circuit))) (stop_paths circuit.modules (sites_of circuit)) flat is_flat distinct.of_signals (from_site i) (from_site j) p q one other like).at k.place k.inside in
         record {
           rest = l.0;
           one =
@@ -338,7 +350,7 @@ module _ (circuit : CircuitTree) (flat : FlatCircuit) (tree : InstanceTree) (top
     shape-copied s h =
         let k = in-place s h in
         ap₂ (λ (shapes : List Shape) (n : ℕ). shape_at shapes n) is_flat.shapes (sym k.there)
-        ∙ shapes-same (types_of circuit) circuit.modules u v all (memories_of circuit) (top_ports circuit.modules (place_of circuit.name (module_names circuit))) flat is_flat distinct.of_signals (from_site i) (from_site j) p q one other like k.place k.inside
+        ∙ shapes-same (types_of circuit) circuit.modules u v all (memories_of circuit) (top_ports circuit.modules (place_of circuit.name (module_names circuit))) (stop_paths circuit.modules (sites_of circuit)) flat is_flat distinct.of_signals (from_site i) (from_site j) p q one other like k.place k.inside
         ∙ sym (ap₂ (λ (shapes : List Shape) (n : ℕ). shape_at shapes n) is_flat.shapes (sym k.here))
 
     driver-at : (s : ℕ) → Holds (instance_at tree i) s → ¬ IsInputOf tree i s
@@ -349,12 +361,16 @@ module _ (circuit : CircuitTree) (flat : FlatCircuit) (tree : InstanceTree) (top
         ∙ driver-copied k.place k.inside (λ input. inner (subst (λ (n : ℕ). IsInputOf tree i n) k.here input))
         ∙ ap (λ (n : ℕ). moved_driver (shifted (from_site i) (from_site j)) (shifted (registers_before (from_site i)) (registers_before (from_site j))) (shifted (from_memory i) (from_memory j)) (driver_at flat n)) k.here
 
-    register-at : (s r : ℕ) (any : Register) → Holds (instance_at tree i) s → ¬ IsInputOf tree i s → driver_at flat s ≡ Held r
-        → slice_index_or flat.registers (shifted (registers_before (from_site i)) (registers_before (from_site j)) r) any ≡ moved_register to_there (slice_index_or flat.registers r any)
-    register-at s r any h inner held =
-        elim (held-copied (types_of circuit) circuit.modules u v all (memories_of circuit) (top_ports circuit.modules (place_of circuit.name (module_names circuit))) flat is_flat distinct.of_signals (from_site i) (from_site j) p q one other like (from_memory i) (from_memory j) (length mp) distinct.of_memories banks-same fields k.place r k.inside held-here any here there) [
+    abbrev register_there : ℕ → ℕ
+    register_there r = shifted (registers_before (from_site i)) (registers_before (from_site j)) r
+
+    -- a register is the same but for its clock, and follows the same Clock input of its site
+    register-again : (s r : ℕ) (any : Register) → Holds (instance_at tree i) s → ¬ IsInputOf tree i s → driver_at flat s ≡ Held r
+        → (unclocked_register (slice_index_or flat.registers (register_there r) any) ≡ unclocked_register (moved_register to_there (slice_index_or flat.registers r any))) × (get_or (clocks_held all) (register_there r) None ≡ get_or (clocks_held all) r None)
+    register-again s r any h inner held =
+        elim (held-copied (types_of circuit) circuit.modules u v all (memories_of circuit) (top_ports circuit.modules (place_of circuit.name (module_names circuit))) (stop_paths circuit.modules (sites_of circuit)) flat is_flat distinct.of_signals (from_site i) (from_site j) p q one other like (from_memory i) (from_memory j) (length mp) distinct.of_memories banks-same fields k.place r k.inside held-here any here there) [
           | inl at ↦ absurd (inner (subst (λ (n : ℕ). IsInputOf tree i n) k.here (input-here k.place k.inside at)))
-          | inr e ↦ e
+          | inr e ↦ (e.same, e.there ∙ sym e.here)
         ]
       where
         k : InPlace s
@@ -384,12 +400,18 @@ module _ (circuit : CircuitTree) (flat : FlatCircuit) (tree : InstanceTree) (top
             let j_in = register-in circuit flat tree top known_top is_flat is_tree distinct fits scoped j v at_j (from_site j + k.place) moved_number t (slice_index_or flat.registers moved_number any) (omega arith, omega (arith, k.inside, end-j, size-same)) (λ input. inner-here (input-there k.place input)) held-there (slice_get-get_or flat.registers moved_number any within) names in
             (j_in.0, omega (arith, j_in.1, end-j, size-same))
 
-    memory-at : (m : ℕ) (any : Memory) → from_memory i ≤ m → m < from_memory i + length mp → slice_index_or flat.memories (shifted (from_memory i) (from_memory j) m) any ≡ moved_memory to_there (slice_index_or flat.memories m any)
+    register-clock : (s r : ℕ) → Holds (instance_at tree i) s → ¬ IsInputOf tree i s → driver_at flat s ≡ Held r → slice_index_or tree.register_clocks (register_there r) None ≡ slice_index_or tree.register_clocks r None
+    register-clock s r h inner held =
+        ap (λ (l : List (Option ℕ)). get_or l (register_there r) None) is_tree.register_clocks
+        ∙ (register-again s r some_register h inner held).1
+        ∙ sym (ap (λ (l : List (Option ℕ)). get_or l r None) is_tree.register_clocks)
+
+    memory-at : (m : ℕ) (any : Memory) → from_memory i ≤ m → m < from_memory i + length mp → unclocked_memory (slice_index_or flat.memories (shifted (from_memory i) (from_memory j) m) any) ≡ unclocked_memory (moved_memory to_there (slice_index_or flat.memories m any))
     memory-at m any low high =
-        ap (λ (n : ℕ). slice_index_or flat.memories n any) (sym there)
-        ∙ memory-copied (types_of circuit) circuit.modules u v all (memories_of circuit) (top_ports circuit.modules (place_of circuit.name (module_names circuit))) flat is_flat distinct.of_signals (from_site i) (from_site j) p q one other like (from_memory i) (from_memory j) (length mp) distinct.of_memories banks-same fields
+        ap (λ (n : ℕ). unclocked_memory (slice_index_or flat.memories n any)) (sym there)
+        ∙ memory-copied (types_of circuit) circuit.modules u v all (memories_of circuit) (top_ports circuit.modules (place_of circuit.name (module_names circuit))) (stop_paths circuit.modules (sites_of circuit)) flat is_flat distinct.of_signals (from_site i) (from_site j) p q one other like (from_memory i) (from_memory j) (length mp) distinct.of_memories banks-same fields
         x.element y.element _ _ same_bank is_here is_there readers writers
-        ∙ ap (λ (n : ℕ). moved_memory to_there (slice_index_or flat.memories n any)) here
+        ∙ ap (λ (n : ℕ). unclocked_memory (moved_memory to_there (slice_index_or flat.memories n any))) here
       where
         k : ℕ
         k = m - from_memory i
@@ -436,6 +458,43 @@ module _ (circuit : CircuitTree) (flat : FlatCircuit) (tree : InstanceTree) (top
 
         writers : (port word : List ℕ) → Contains x.element.bank.writers port → Contains (codes "addr" ∷ codes "en" ∷ codes "data" ∷ codes "mask" ∷ []) word → IsThere (signal_paths circuit) (from_site i) (length p) (field_name x.element.path port word)
         writers port word c w = signals-there (field_name x.element.path port word) (writer-there (types_of circuit) circuit.modules (below u) x.element x.among port word c w)
+
+    -- the ports of a memory follow the same Clock inputs of its instance
+    memory-clocks : (m : ℕ) → m < length tree.memories → from_memory i ≤ m → m < from_memory i + length mp → (memory_at tree (shifted (from_memory i) (from_memory j) m)).clocks ≡ (memory_at tree m).clocks
+    memory-clocks m lt low high =
+        subst₂ (λ (a b : ℕ). (memory_at tree b).clocks ≡ (memory_at tree a).clocks) here there
+        (clocks-alike circuit tree top known_top is_tree u v (from_memory i + k) (from_memory j + k) x.element y.element
+        (omega (arith, here, lt)) (omega (arith, inside_there, stretch-inside (memories_of circuit) (from_memory j) mq at-j, memory-count circuit tree top known_top is_tree))
+        (stretch-at (memories_of circuit) (from_memory i) mp at-i k x.element inside ∙ x.is x.element)
+        (stretch-at (memories_of circuit) (from_memory j) mq at-j k y.element inside_there ∙ y.is y.element)
+        (subst₂ (λ a b. AreLikeMemories u v a b) (x.is x.element) (y.is y.element) (Pairwise-at (AreLikeMemories u v) mp mq k x.element y.element banks-like inside)))
+      where
+        k : ℕ
+        k = m - from_memory i
+
+        inside : k < length mp
+        inside = omega (arith, low, high)
+
+        inside_there : k < length mq
+        inside_there = omega (arith, inside, Pairwise-length (AreLikeMemories u v) mp mq banks-like)
+
+        here : from_memory i + k ≡ m
+        here = omega (arith, low)
+
+        there : from_memory j + k ≡ shifted (from_memory i) (from_memory j) m
+        there = omega arith
+
+        x : Element mp k
+        x = element-at mp k inside
+
+        y : Element mq k
+        y = element-at mq k inside_there
+
+        at-i : Stretch (memories_of circuit) (from_memory i) mp
+        at-i = placed-stretch (memories_at circuit.modules) (length circuit.modules) circuit.modules (sites_of circuit) i u at_i
+
+        at-j : Stretch (memories_of circuit) (from_memory j) mq
+        at-j = placed-stretch (memories_at circuit.modules) (length circuit.modules) circuit.modules (sites_of circuit) j v at_j
 
     -- ---- ports and paths of memories
 
@@ -565,17 +624,142 @@ module _ (circuit : CircuitTree) (flat : FlatCircuit) (tree : InstanceTree) (top
         subst₂ (λ (a b : ℕ). ((instance_at tree b).«module» ≡ (instance_at tree a).«module») × ((instance_at tree b).first ≡ to_there (instance_at tree a).first)) here there
         (instance-copied (k - i) (omega (arith, h.0, h.1, some_site)))
 
+    -- ---- clocks and stops
+
+    own-clocks : length (instance_at tree j).clocks ≡ length (instance_at tree i).clocks
+    own-clocks =
+        ap (λ (l : List (Option ℕ)). length l) (instance-for circuit tree top known_top is_tree distinct.of_sites j v at_j).clocks
+        ∙ around-length circuit.modules v.number v.steps
+        ∙ ap (λ n. input_count (module_at circuit.modules n)) (sym same)
+        ∙ sym (around-length circuit.modules u.number u.steps)
+        ∙ sym (ap (λ (l : List (Option ℕ)). length l) (instance-for circuit tree top known_top is_tree distinct.of_sites i u at_i).clocks)
+
+    -- A site below the one instance, and the same one below the other.
+    record Below (k : ℕ) : Type 0 where
+      here : Site
+      there : Site
+      at_here : Stands k here
+      at_there : Stands (shifted i j k) there
+      numbers : here.number ≡ there.number
+      low : i ≤ k
+      inside : k - i < length (below u)
+      is_here : get_or (below u) (k - i) u ≡ here
+      is_there : get_or (below v) (k - i) v ≡ there
+
+    below-at : (k : ℕ) → k < length (sites_of circuit) → LiesIn tree i k → Below k
+    below-at k lt lies = record {
+      here = x.0;
+      there = y.0;
+      at_here = x.1;
+      at_there = subst (λ n. Stands n y.0) there y.1;
+      numbers = ap (λ (z : Site). z.number) (sym is_here) ∙ (Pairwise-at (AreLikeSites u v) (below u) (below v) (k - i) u v sites_like inside).number ∙ ap (λ (z : Site). z.number) is_there;
+      low = h.0;
+      inside = inside;
+      is_here = is_here;
+      is_there = is_there;
+    }
+      where
+        x : (z : Site) × Stands k z
+        x = stands circuit tree top known_top k lt
+
+        h : (i ≤ k) × (k + length (below x.0) ≤ i + length (below u))
+        h = let r = instance-inside circuit tree top known_top is_tree distinct i u at_i lies.levels k lies.is x.0 x.1 in (omega (arith, r.0), omega (arith, r.1))
+
+        inside : k - i < length (below u)
+        inside = let some_site = within-some (length circuit.modules - x.0.depth) circuit.modules x.0 in omega (arith, h.0, h.1, some_site)
+
+        here : i + (k - i) ≡ k
+        here = omega (arith, h.0)
+
+        there : j + (k - i) ≡ shifted i j k
+        there = omega arith
+
+        lt_there : j + (k - i) < length (sites_of circuit)
+        lt_there = omega (arith, inside, below-same, placed-inside (length circuit.modules) circuit.modules (sites_of circuit) j v at_j)
+
+        y : (z : Site) × Stands (j + (k - i)) z
+        y = stands circuit tree top known_top (j + (k - i)) lt_there
+
+        is_here : get_or (below u) (k - i) u ≡ x.0
+        is_here =
+            sym (stretch-at (sites_of circuit) i (below u) (sites-stretch i u at_i) (k - i) u inside)
+            ∙ ap (λ n. get_or (sites_of circuit) n u) here
+            ∙ placed-at (length circuit.modules) circuit.modules (sites_of circuit) k x.0 u x.1
+
+        is_there : get_or (below v) (k - i) v ≡ y.0
+        is_there =
+            sym (stretch-at (sites_of circuit) j (below v) (sites-stretch j v at_j) (k - i) v (omega (arith, inside, below-same)))
+            ∙ placed-at (length circuit.modules) circuit.modules (sites_of circuit) (j + (k - i)) y.0 v y.1
+
+    -- below the two, what the Clock inputs of an instance follow is the same
+    clocks-moved : (k : ℕ) → k < length tree.instances → LiesIn tree i k → k ≢ i → (instance_at tree (shifted i j k)).clocks ≡ (instance_at tree k).clocks
+    clocks-moved k lt lies other =
+        let b = below-at k (omega (arith, lt, tells.same)) lies in
+        let least : 0 < k - i = above-least i k b.low other in
+        (instance-for circuit tree top known_top is_tree distinct.of_sites (shifted i j k) b.there b.at_there).clocks
+        ∙ ap (own_clocks circuit.modules) (sym b.is_there ∙ ap (λ (l : List Site). get_or l (k - i) v) levels)
+        ∙ sym (own-same circuit.modules (length circuit.modules - u.depth) u v same (k - i) u v least b.inside)
+        ∙ ap (own_clocks circuit.modules) b.is_here
+        ∙ sym (instance-for circuit tree top known_top is_tree distinct.of_sites k b.here b.at_here).clocks
+      where
+        above-least : (a b : ℕ) → a ≤ b → b ≢ a → 0 < b - a
+        above-least a b le differ = go (cases_lt a b)
+          where
+            go : (a < b) ⊎ (b ≤ a) → 0 < b - a
+            go (inl lt) = omega (arith, lt)
+            go (inr ge) = let is : b ≡ a = omega (arith, le, ge) in absurd (differ is)
+
+    -- a stop of what lies in the one is a stop of the same in the other
+    stop-moved : (n : ℕ) → n < length tree.stops → LiesIn tree i (stop_at tree n).instance → Contains tree.stops (moved_stop (shifted i j) to_there (stop_at tree n))
+    stop-moved n lt lies = subst (λ (s : StopInstance). Contains tree.stops s) is (stop-again circuit flat tree top known_top is_flat is_tree distinct plain names n a (shifted i j a.holder) b.there b.at_there number)
+      where
+        a : AskedPlace circuit tree n
+        a = asked-place circuit tree top known_top is_tree n lt
+
+        holder : (stop_at tree n).instance ≡ a.holder
+        holder = holder-of circuit flat tree top known_top is_flat is_tree distinct plain names n a
+
+        b : Below a.holder
+        b = below-at a.holder (placed-known circuit a.holder a.site a.placed) (subst (λ k. LiesIn tree i k) holder lies)
+
+        site : a.site ≡ b.here
+        site = placed-same (length circuit.modules) circuit.modules (sites_of circuit) a.holder a.site b.here a.placed b.at_here
+
+        number : a.site.number ≡ b.there.number
+        number = ap (λ (z : Site). z.number) site ∙ b.numbers
+
+        start-same : from_site (shifted i j a.holder) ≡ to_there (from_site a.holder)
+        start-same =
+            let m = instance-moved a.holder (omega (arith, placed-known circuit a.holder a.site a.placed, tells.same)) (subst (λ k. LiesIn tree i k) holder lies) in
+            sym (tells.begins (shifted i j a.holder) (placed-known circuit (shifted i j a.holder) b.there b.at_there))
+            ∙ m.1
+            ∙ ap to_there (tells.begins a.holder (placed-known circuit a.holder a.site a.placed))
+
+        after : from_site i ≤ from_site a.holder
+        after = count-le (signals_in circuit) (sites_of circuit) i a.holder b.low
+
+        signal : from_site (shifted i j a.holder) + (length (before_stops circuit a.site) + a.offset) ≡ to_there (stop_at tree n).signal
+        signal = omega (arith, start-same, after, signal-of circuit flat tree top known_top is_flat is_tree distinct plain names n a)
+
+        is : (record { instance = shifted i j a.holder; signal = from_site (shifted i j a.holder) + (length (before_stops circuit a.site) + a.offset); clock = (stop_at tree n).clock }) ≡ moved_stop (shifted i j) to_there (stop_at tree n)
+        is = λ w. record { instance = shifted i j (sym holder w); signal = signal w; clock = (stop_at tree n).clock }
+
     pub is-copy : IsCopy flat tree i j (start i) (start j)
     is-copy = record {
       size = omega (arith, stop-i, stop-j, size-same);
       path = path-copied;
       shape = shape-copied;
       driver = driver-at;
-      register = register-at;
+      register = λ s r any h inner held. (register-again s r any h inner held).0;
+      register_clock = register-clock;
       ports = ports-copied;
       instance = instance-moved;
       memory_path = λ m lt lies. let h = memory-inside circuit tree top known_top is_tree distinct i u at_i m lt lies in memory-path-copied m h.0 h.1;
       memory = λ m any lt lies. let h = memory-inside circuit tree top known_top is_tree distinct i u at_i m lt lies in memory-at m any h.0 h.1;
+      memory_clocks = λ m lt lies. let h = memory-inside circuit tree top known_top is_tree distinct i u at_i m lt lies in memory-clocks m lt h.0 h.1;
+      own_clocks = own-clocks;
+      clocks = clocks-moved;
+      stop = stop-moved;
     }
 
   pub has-copies : HasCopies flat tree

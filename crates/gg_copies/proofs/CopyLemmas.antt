@@ -1,10 +1,12 @@
 -- Two instances of one module have the same signals and memories, but for the front of their paths.
-use Rattle.std.proofs.Common.{◌≡◌, ◌≢◌, inl, inr, ℕ, zero, suc, List, [], ◌∷◌, ◌++◌, Option, Some, map, refl, sym, ap, ◌∙◌, subst, arith, codes}
+use Rattle.std.proofs.Common.{◌≡◌, ◌≢◌, inl, inr, ℕ, zero, suc, List, [], ◌∷◌, ◌++◌, Option, Some, map, refl, sym, ap, ap₂, ◌∙◌, subst, arith, codes}
 use Rattle.std.specs.Prelude.{flat_map, Contains}
 use Rattle.gg_ast.specs.Tree.{ModuleTree}
 use Rattle.gg_flat.specs.Tree.{joined}
 use Rattle.gg_flat.proofs.ListLemmas.{further}
 use Rattle.gg_count.specs.Sites.{Held, Outer, Site, site_below, sites, held_at, module_at}
+use Rattle.gg_flat.specs.Clocked.{clock_at}
+use Rattle.gg_flattened.specs.Clocks.{clock_of, port_clock, site_clocks}
 use Rattle.gg_flattened.specs.Connection.{Connection, ConnectedTo, connection_in}
 use Rattle.gg_flattened.specs.Flat.{Drive, scope_at, scope_around, Gets, Holds, flat_signal, drive_of, signals_at, flat_signals, input_drive, flat_memory, memories_at, flat_memories}
 use Rattle.gg_flattened.specs.Signals.{Types, Cause, FromOutside, Connected, Expressed, Kept, Answered, Own, own_signals, OwnBank, own_banks, dotted, field_name}
@@ -23,7 +25,7 @@ Pairwise-same : {A B C : Type 0} (R : B → C → Type 0) (f : A → B) (g : A �
 Pairwise-same R f g [] h = tt
 Pairwise-same R f g (x ∷ xs) h = (h x (0, omega arith, refl), Pairwise-same R f g xs (λ y c. h y (further x xs y c)))
 
-Pairwise-parts : {A B C : Type 0} (R : B → C → Type 0) (f : A → List B) (g : A → List C) → (xs : List A) → ((x : A) → Contains xs x → Pairwise R (f x) (g x)) → Pairwise R (flat_map f xs) (flat_map g xs)
+pub Pairwise-parts : {A B C : Type 0} (R : B → C → Type 0) (f : A → List B) (g : A → List C) → (xs : List A) → ((x : A) → Contains xs x → Pairwise R (f x) (g x)) → Pairwise R (flat_map f xs) (flat_map g xs)
 Pairwise-parts R f g [] h = tt
 Pairwise-parts R f g (x ∷ xs) h =
     Pairwise-append R (f x) (flat_map f xs) (g x) (flat_map g xs) (h x (0, omega arith, refl)) (Pairwise-parts R f g xs (λ y c. h y (further x xs y c)))
@@ -88,9 +90,11 @@ module _ (modules : List ModuleTree) (some : HasSomeNames modules) (u v : Site) 
         like.Connected (scope_at x) (scope_at y) (connection_in (module_at modules x.number).statements o.name) (scopes-like x y l) refl
         (ap (λ (c : Option Connection). Gets (scope_at y) c) (connection-same x.number y.number o.name l.number))
     drive-like x y o c (Expressed value) is l = like.Connected (scope_at x) (scope_at y) (Some (ConnectedTo value)) (scopes-like x y l) refl refl
-    drive-like x y o c (Kept reset) is l =
-        like.Kept (scope_at x) (scope_at y) reset (connection_in (module_at modules x.number).statements o.name) (scopes-like x y l) refl
-        (ap (λ (c : Option Connection). Holds (scope_at y) reset c) (connection-same x.number y.number o.name l.number))
+    drive-like x y o c (Kept clock reset) is l =
+        like.Kept (scope_at x) (scope_at y) reset (connection_in (module_at modules x.number).statements o.name) (clock_of (module_at modules x.number) clock)
+        (clock_at (site_clocks modules x) (clock_of (module_at modules x.number) clock)) (clock_at (site_clocks modules y) (clock_of (module_at modules y.number) clock)) (scopes-like x y l) refl
+        (ap₂ (λ (c : Option Connection) (own : Option ℕ). Holds (scope_at y) reset c own (clock_at (site_clocks modules y) (clock_of (module_at modules y.number) clock))) (connection-same x.number y.number o.name l.number)
+        (ap (λ (k : ℕ). clock_of (module_at modules k) clock) (sym l.number)))
     drive-like x y o c (Answered memory port place latency) is l =
         like.Answered (joined x.path memory) (joined y.path memory) place latency _ _ _ _ (l.moved memory) (l.moved (field_name memory port (codes "addr"))) (l.moved (field_name memory port (codes "en"))) refl refl
 
@@ -111,8 +115,9 @@ module _ (modules : List ModuleTree) (some : HasSomeNames modules) (u v : Site) 
   memories-like xs ys p =
       Pairwise-flat (AreLikeSites u v) (AreLikeMemories u v) (memories_at modules) (memories_at modules)
       (λ x y l.
-      subst (λ (k : ℕ). Pairwise (AreLikeMemories u v) (memories_at modules x) (map (flat_memory y) (own_banks (module_at modules k).statements))) l.number
-      (Pairwise-same (AreLikeMemories u v) (flat_memory x) (flat_memory y) (own_banks (module_at modules x.number).statements) (λ (b : OwnBank) c. record { path = l.moved b.name; bank = refl })))
+      subst (λ (k : ℕ). Pairwise (AreLikeMemories u v) (memories_at modules x) (map (flat_memory modules y) (own_banks (module_at modules k).statements))) l.number
+      (Pairwise-same (AreLikeMemories u v) (flat_memory modules x) (flat_memory modules y) (own_banks (module_at modules x.number).statements)
+      (λ (b : OwnBank) c. record { path = l.moved b.name; bank = refl; own = λ port. ap (λ (k : ℕ). port_clock (module_at modules k) b.name port) l.number })))
       xs ys p
 
   -- ---- the two instances

@@ -1,20 +1,17 @@
 -- The instances of a circuit: the top and, below it, the instances that each module holds.
 -- Source: FIRRTL Specification, "Circuits and Modules" (the module of the circuit's name is the top), "Instances".
-use Rattle.std.specs.Prelude.{ℕ, zero, suc, List, [], ◌∷◌, Option, Some, None, length, map, slice_index_or, Contains}
+pub use Rattle.gg_ast.specs.Tree.{module_at}
+use Rattle.std.specs.Prelude.{ℕ, zero, suc, List, [], ◌∷◌, Option, Some, None, length, map, Contains}
 use Rattle.std.specs.List.{flat_map, filter_map}
 use Rattle.std.specs.Option.{option_map}
 use Rattle.gg_ast.specs.declared.statement.Stmt.{Stmt}
 use Rattle.gg_ast.specs.declared.statement.StmtKind.{StmtKind}
 use Rattle.gg_ast.specs.declared.statement.StmtKind.TheVariants as says
 use Rattle.gg_ast.specs.Places.{place_of}
-use Rattle.gg_ast.specs.Tree.{ModuleTree, CircuitTree, empty_module, names_of, module_names}
+use Rattle.gg_ast.specs.Tree.{ModuleTree, CircuitTree, names_of, module_names}
 use Rattle.gg_flat.specs.Tree.{joined}
 
 -- ---- the instances that a module holds
-
--- the module at a place of the file; past the end, a module that holds nothing
-abbrev pub module_at : List ModuleTree → ℕ → ModuleTree
-module_at modules k = slice_index_or modules k (empty_module 0 [])
 
 -- an instance that a module holds: its name, and its module's place
 pub record Held : Type 0 where
@@ -57,18 +54,24 @@ pub record Outer : Type 0 where
   pub number : ℕ
   pub name : List ℕ
 
+-- a step from an instance to what holds it: the place of the module there, and the name that the instance has in it
+pub record Step : Type 0 where
+  pub number : ℕ
+  pub name : List ℕ
+
 -- A place where a module stands: the top, or an instance. Its path has the names of the instances from the top down,
--- with dots between them. The top's path is empty. `number` is its module's place in the file, and `depth` the number
--- of sites above it.
+-- with dots between them. The top's path is empty. `number` is its module's place in the file, `depth` the number of
+-- sites above it, and `steps` lead from it up to the top.
 pub record Site : Type 0 where
   pub path : List ℕ
   pub number : ℕ
   pub depth : ℕ
   pub outer : Option Outer
+  pub steps : List Step
 
 -- the module at this place of the file, as the top
 abbrev pub top_site : ℕ → Site
-top_site k = record { path = []; number = k; depth = 0; outer = None }
+top_site k = record { path = []; number = k; depth = 0; outer = None; steps = [] }
 
 -- an instance that a site's module holds, as a site
 abbrev pub site_below : Site → Held → Site
@@ -78,6 +81,7 @@ site_below here h =
       number = h.number;
       depth = suc here.depth;
       outer = Some (record { path = here.path; number = here.number; name = h.name });
+      steps = record { number = here.number; name = h.name } ∷ here.steps;
     }
 
 -- A site and all sites below it, down to this many levels: the site itself first, then each instance that its module

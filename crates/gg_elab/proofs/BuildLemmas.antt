@@ -99,10 +99,10 @@ module _ (bindings : Bindings) where
   kept : (regs more : List Register) (i st : ℕ) (sh : Shape) (d : Drive) (r : Driver) → IsDrivenBy bindings regs i st sh d r → IsDrivenBy bindings (regs ++ more) i st sh d r
   kept regs more i st sh Outside r h = h
   kept regs more i st sh (Gets scope c) r h = h
-  kept regs more i st sh (Holds scope reset next) r h = record {
+  kept regs more i st sh (Holds scope reset next own clock) r h = record {
     held = h.held;
     within = omega (arith, h.within, length-append regs more);
-    register = λ any. subst (λ (x : Register). IsRegisterOf (in_scope bindings scope) sh reset next x) (sym (get_or_append_left regs more any st h.within)) (h.register any);
+    register = λ any. subst (λ (x : Register). IsRegisterOf (in_scope bindings scope) sh reset next clock x) (sym (get_or_append_left regs more any st h.within)) (h.register any);
   }
   kept regs more i st sh (Answers memory place l addr en) r h = h
 
@@ -110,11 +110,11 @@ module _ (bindings : Bindings) where
   made : (regs : List Register) (i : ℕ) (sh : Shape) (d : Drive) (r : Driver) (register : Option Register) → IsMade bindings i (length regs) sh d r register → IsDrivenBy bindings (regs ++ option_to_list register) i (length regs) sh d r
   made regs i sh Outside r register h = h.0
   made regs i sh (Gets scope c) r register h = h.0
-  made regs i sh (Holds scope reset next) r None h = absurd h.1
-  made regs i sh (Holds scope reset next) r (Some register) h = record {
+  made regs i sh (Holds scope reset next own clock) r None h = absurd h.1
+  made regs i sh (Holds scope reset next own clock) r (Some register) h = record {
     held = h.0;
     within = omega (arith, length-append regs (register ∷ []));
-    register = λ any. subst (λ (x : Register). IsRegisterOf (in_scope bindings scope) sh reset next x) (sym (get_or_push regs register any (length regs) refl)) h.1;
+    register = λ any. subst (λ (x : Register). IsRegisterOf (in_scope bindings scope) sh reset next clock x) (sym (get_or_push regs register any (length regs) refl)) h.1;
   }
   made regs i sh (Answers memory place l addr en) r register h = h.0
 
@@ -122,15 +122,15 @@ module _ (bindings : Bindings) where
   registers_made : (i st : ℕ) (sh : Shape) (d : Drive) (r : Driver) (register : Option Register) → IsMade bindings i st sh d r register → length (option_to_list register) ≡ one_if (is_register d)
   registers_made i st sh Outside r register h = ap (λ (o : Option Register). length (option_to_list o)) h.1
   registers_made i st sh (Gets scope c) r register h = ap (λ (o : Option Register). length (option_to_list o)) h.1
-  registers_made i st sh (Holds scope reset next) r None h = absurd h.1
-  registers_made i st sh (Holds scope reset next) r (Some register) h = refl
+  registers_made i st sh (Holds scope reset next own clock) r None h = absurd h.1
+  registers_made i st sh (Holds scope reset next own clock) r (Some register) h = refl
   registers_made i st sh (Answers memory place l addr en) r register h = ap (λ (o : Option Register). length (option_to_list o)) h.1
 
   -- an input is made exactly if the outside drives the signal
   inputs_made : (i st : ℕ) (sh : Shape) (d : Drive) (r : Driver) (register : Option Register) → IsMade bindings i st sh d r register → is_input_driver r ≡ is_outside d
   inputs_made i st sh Outside r register h = ap is_input_driver h.0
   inputs_made i st sh (Gets scope c) r register h = ap is_input_driver h.0.computed
-  inputs_made i st sh (Holds scope reset next) r register h = ap is_input_driver h.0
+  inputs_made i st sh (Holds scope reset next own clock) r register h = ap is_input_driver h.0
   inputs_made i st sh (Answers memory place latency.Zero addr en) r register h = ap is_input_driver h.0
   inputs_made i st sh (Answers memory place (latency.One under) addr en) r register h = ap is_input_driver h.0
 

@@ -1,4 +1,4 @@
--- The whole flat circuit: its signals, then its memories, then its ports.
+-- The whole flat circuit: its signals, then its memories, then its ports, its stops and its clocks.
 use Rattle.std.proofs.Common.{◌≡◌, ℕ, ◌<◌, List, [], ◌∷◌, ◌++◌, length, map, take, get_or, ◌+◌, append_assoc, Option, Some, refl, sym, ap, ◌∙◌, subst, arith}
 use Rattle.std.specs.Prelude.{slice_index_or, All}
 use Rattle.std.proofs.lemmas.List.{get_or_append_left, get_or_push, length-append, length-map, map-append, take_more}
@@ -20,24 +20,34 @@ use Rattle.gg_flat.specs.Line.{shape_at, HasType}
 use Rattle.gg_flat.specs.WellFormed.{IsRegister}
 use Rattle.gg_formed.specs.Fitting.{FitsDriver, AreFitting}
 use Rattle.gg_elab.specs.Building.{IsSoFar, HasMemories}
-use Rattle.gg_flattened.specs.Flat.{FlatSignal, FlatMemory, flat_signals, flat_memories}
+use Rattle.gg_flat.specs.Tree.{joined}
+use Rattle.gg_types.specs.Clocks.{clock_inputs}
+use Rattle.gg_flattened.specs.declared.digest.Digest.{Digest}
+use Rattle.gg_flattened.specs.declared.sites.Place.{Place}
+use Rattle.gg_flattened.specs.declared.stops.OwnStop as kept_stop
+use Rattle.gg_flattened.specs.Flat.{FlatSignal, FlatMemory, flat_signals, flat_memories, stop_paths, stop_paths_at}
 use Rattle.gg_flattened.specs.IsFlat.{IsFlatOf, IsMemoryOf, signals_of, memory_paths, number_of, port_name, port_names, top_ports}
 use Rattle.gg_flattened.specs.Meaning.{Signals, Bindings}
-use Rattle.gg_flattened.specs.Signals.{Types}
+use Rattle.gg_flattened.specs.Signals.{OwnStop, Types}
+use Rattle.gg_flattened.specs.Views.{IsDigest, own_stop_of, site_of}
+use Rattle.gg_flattened.proofs.FlatLemmas.{one_more}
 
 -- what a circuit's names stand for by its types, its signals and the paths of its memories
 abbrev bound : Types → Signals → List (List ℕ) → Bindings
 bound types signals memories = record { types = types; signals = signals; memories = memories }
 
-pub whole : (types : Types) (all : List FlatSignal) (banks : List FlatMemory) (ports : List Port) (table : Signals) (memories : List (List ℕ)) (one two three : FlatCircuit) (inputs : ℕ) → table ≡ signals_of all → memories ≡ memory_paths banks → IsSoFar (bound types table memories) all one inputs → HasMemories table.paths banks one two → three.ins ≡ two.ins ++ map (number_of table.paths) (port_names direction.Input ports) → three.outs ≡ two.outs ++ map (number_of table.paths) (port_names direction.Output ports) → three ≡ record two { ins = three.ins; outs = three.outs } → IsFlatOf types all banks ports three
-whole types all banks ports table memories one two three inputs same listed far has ins outs rest =
+pub whole : (types : Types) (all : List FlatSignal) (banks : List FlatMemory) (ports : List Port) (stops : List (List ℕ)) (table : Signals) (memories : List (List ℕ)) (one two three last : FlatCircuit) (inputs : ℕ) → table ≡ signals_of all → memories ≡ memory_paths banks → IsSoFar (bound types table memories) all one inputs → HasMemories table.paths banks one two → three.ins ≡ two.ins ++ map (number_of table.paths) (port_names direction.Input ports) → three.outs ≡ two.outs ++ map (number_of table.paths) (port_names direction.Output ports) → three ≡ record two { ins = three.ins; outs = three.outs } → last ≡ record three { outs = three.outs ++ map (number_of table.paths) stops; clocks = length (clock_inputs ports) } → IsFlatOf types all banks ports stops last
+whole types all banks ports stops table memories one two three last inputs same listed far has ins outs rest ends =
     let so = subst (λ (t : Signals). IsSoFar (bound types t (memory_paths banks)) all one inputs) same (subst (λ (m : List (List ℕ)). IsSoFar (bound types table m) all one inputs) listed far) in
     let numbers : table.paths ≡ (signals_of all).paths = ap (λ (t : Signals). t.paths) same in
     let no_ins : two.ins ≡ [] = ap (λ (f : FlatCircuit). f.ins) has.rest ∙ far.no_ins in
     let no_outs : two.outs ≡ [] = ap (λ (f : FlatCircuit). f.outs) has.rest ∙ far.no_outs in
-    let is : three ≡ record one { memories = two.memories; ins = three.ins; outs = three.outs } =
-    rest ∙ ap (λ (f : FlatCircuit). record f { ins = three.ins; outs = three.outs }) has.rest in
-    subst (λ (f : FlatCircuit). IsFlatOf types all banks ports f) (sym is) (record {
+    let outputs : three.outs ≡ map (number_of table.paths) (port_names direction.Output ports) = outs ∙ ap (λ l. l ++ map (number_of table.paths) (port_names direction.Output ports)) no_outs in
+    let is : last ≡ record one { memories = two.memories; ins = three.ins; outs = three.outs ++ map (number_of table.paths) stops; clocks = length (clock_inputs ports) } =
+    ends
+    ∙ ap (λ (f : FlatCircuit). record f { outs = three.outs ++ map (number_of table.paths) stops; clocks = length (clock_inputs ports) }) rest
+    ∙ ap (λ (f : FlatCircuit). record f { ins = three.ins; outs = three.outs ++ map (number_of table.paths) stops; clocks = length (clock_inputs ports) }) has.rest in
+    subst (λ (f : FlatCircuit). IsFlatOf types all banks ports stops f) (sym is) (record {
       paths = so.paths;
       shapes = so.shapes;
       drivers = so.drivers;
@@ -45,7 +55,11 @@ whole types all banks ports table memories one two three inputs same listed far 
       memory_count = has.count;
       memories = λ m said any lt. subst (λ (p : List (List ℕ)). IsMemoryOf p (slice_index_or banks m said) (slice_index_or two.memories m any)) numbers (has.each m said any lt);
       ins = ins ∙ ap (λ l. l ++ map (number_of table.paths) (port_names direction.Input ports)) no_ins ∙ ap (λ p. map (number_of p) (port_names direction.Input ports)) numbers;
-      outs = outs ∙ ap (λ l. l ++ map (number_of table.paths) (port_names direction.Output ports)) no_outs ∙ ap (λ p. map (number_of p) (port_names direction.Output ports)) numbers;
+      outs =
+          ap (λ l. l ++ map (number_of table.paths) stops) outputs
+          ∙ sym (map-append (number_of table.paths) (port_names direction.Output ports) stops)
+          ∙ ap (λ p. map (number_of p) (port_names direction.Output ports ++ stops)) numbers;
+      clocks = refl;
     })
 
 -- ---- memories
@@ -88,11 +102,11 @@ memories-push paths said x base old new memory h is of = record {
 
 -- ---- the top
 
-pub with_top : (types : Types) (modules : List ModuleTree) (o : Option ℕ) (top : ℕ) (sites : List Site) (ports : List Port) (flat : FlatCircuit) → o ≡ Some top → sites ≡ all_sites modules top → ports ≡ (module_at modules top).ports → IsFlatOf types (flat_signals types modules sites) (flat_memories modules sites) ports flat → IsFlatOf types (flat_signals types modules (sites_from modules o)) (flat_memories modules (sites_from modules o)) (top_ports modules o) flat
+pub with_top : (types : Types) (modules : List ModuleTree) (o : Option ℕ) (top : ℕ) (sites : List Site) (ports : List Port) (flat : FlatCircuit) → o ≡ Some top → sites ≡ all_sites modules top → ports ≡ (module_at modules top).ports → IsFlatOf types (flat_signals types modules sites) (flat_memories modules sites) ports (stop_paths modules sites) flat → IsFlatOf types (flat_signals types modules (sites_from modules o)) (flat_memories modules (sites_from modules o)) (top_ports modules o) (stop_paths modules (sites_from modules o)) flat
 with_top types modules o top sites ports flat is same own h =
-    subst (λ (x : Option ℕ). IsFlatOf types (flat_signals types modules (sites_from modules x)) (flat_memories modules (sites_from modules x)) (top_ports modules x) flat) (sym is)
-    (subst (λ (l : List Site). IsFlatOf types (flat_signals types modules l) (flat_memories modules l) (module_at modules top).ports flat) same
-    (subst (λ (l : List Port). IsFlatOf types (flat_signals types modules sites) (flat_memories modules sites) l flat) own h))
+    subst (λ (x : Option ℕ). IsFlatOf types (flat_signals types modules (sites_from modules x)) (flat_memories modules (sites_from modules x)) (top_ports modules x) (stop_paths modules (sites_from modules x)) flat) (sym is)
+    (subst (λ (l : List Site). IsFlatOf types (flat_signals types modules l) (flat_memories modules l) (module_at modules top).ports (stop_paths modules l) flat) same
+    (subst (λ (l : List Port). IsFlatOf types (flat_signals types modules sites) (flat_memories modules sites) l (stop_paths modules sites) flat) own h))
 
 -- ---- ports
 
@@ -107,10 +121,31 @@ names-more paths way before now after ports i p lt is so step =
     ∙ ap (λ l. before ++ map (number_of paths) l) (sym (filter_map-append (port_name way) (take i ports) (p ∷ [])))
     ∙ ap (λ l. before ++ map (number_of paths) (port_names way l)) (ap (λ y. take i ports ++ y ∷ []) is ∙ sym (take_more ports i p lt))
 
--- a list made from lent names is the list made from the names themselves
-pub ports-named : {A R : Type 0} (items lent : List A) (now : A → List ℕ) (of : List ℕ → List ℕ → R) (made : List R) (path other : List ℕ) → made ≡ map (λ a. of path (now a)) lent → lent ≡ items → path ≡ other → made ≡ map (of other) (map now items)
-ports-named items lent now of made path other is same at =
-    is ∙ ap (map (λ a. of path (now a))) same ∙ ap (λ p. map (λ a. of p (now a)) items) at ∙ sym (map-map (of other) now items)
+-- ---- stops
+
+-- the numbers of the stops of the sites up to the next one
+pub stops-more : (modules : List ModuleTree) (types : Types) (paths : List (List ℕ)) (base old new : FlatCircuit) (places : List Place) (i : ℕ) (p : Place) (digest : Digest) → i < length places → p ≡ get_or places i p → IsDigest types modules p.number digest → old ≡ record base { outs = base.outs ++ map (number_of paths) (stop_paths modules (map site_of (take i places))) } → new ≡ record old { outs = old.outs ++ map (λ (stop : kept_stop.OwnStop). number_of paths (joined p.path stop.name)) digest.stops.items } → new ≡ record base { outs = base.outs ++ map (number_of paths) (stop_paths modules (map site_of (take (i + 1) places))) }
+stops-more modules types paths base old new places i p digest lt is d h added =
+    added
+    ∙ ap (λ (f : FlatCircuit). record f { outs = f.outs ++ next }) h
+    ∙ ap (λ (l : List ℕ). record base { outs = l }) (append_assoc base.outs before next ∙ ap (λ l. base.outs ++ l) (ap (λ l. before ++ l) numbers ∙ joined_up))
+  where
+    before : List ℕ
+    before = map (number_of paths) (stop_paths modules (map site_of (take i places)))
+
+    next : List ℕ
+    next = map (λ (stop : kept_stop.OwnStop). number_of paths (joined p.path stop.name)) digest.stops.items
+
+    here : stop_paths_at modules (site_of p) ≡ map (λ (stop : kept_stop.OwnStop). joined p.path stop.name) digest.stops.items
+    here = ap (map (λ (stop : OwnStop). joined p.path stop.name)) (sym d.stops) ∙ map-map (λ (stop : OwnStop). joined p.path stop.name) own_stop_of digest.stops.items
+
+    numbers : next ≡ map (number_of paths) (stop_paths_at modules (site_of p))
+    numbers = sym (ap (map (number_of paths)) here ∙ map-map (number_of paths) (λ (stop : kept_stop.OwnStop). joined p.path stop.name) digest.stops.items)
+
+    joined_up : before ++ map (number_of paths) (stop_paths_at modules (site_of p)) ≡ map (number_of paths) (stop_paths modules (map site_of (take (i + 1) places)))
+    joined_up =
+        sym (map-append (number_of paths) (stop_paths modules (map site_of (take i places))) (stop_paths_at modules (site_of p)))
+        ∙ ap (map (number_of paths)) (sym (one_more (stop_paths_at modules) places i p lt is))
 
 -- ---- what may be connected
 

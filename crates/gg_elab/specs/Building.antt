@@ -10,19 +10,20 @@ use Rattle.gg_flat.specs.Circuit.{FlatCircuit, signal_shapes, driver_at}
 use Rattle.gg_flat.specs.Line.{shape_at, HasType}
 use Rattle.gg_flat.specs.WellFormed.{IsRegister}
 use Rattle.gg_formed.specs.Fitting.{FitsDriver}
-use Rattle.gg_flattened.specs.Flat.{Drive, Outside, Gets, Holds, Answers, FlatSignal, FlatMemory}
+use Rattle.gg_flattened.specs.declared.digest.OwnMemory.{OwnMemory}
+use Rattle.gg_flattened.specs.Flat.{Drive, Outside, Gets, Holds, Answers, FlatSignal, FlatMemory, flat_memory}
 use Rattle.gg_flattened.specs.IsFlat.{IsComputed, IsRegisterOf, IsDriven, answer, number_of, is_outside, is_register, count_before, IsMemoryOf}
 use Rattle.gg_flattened.specs.Meaning.{Bindings, in_scope}
 use Rattle.gg_flattened.specs.Known.{types_of}
-use Rattle.gg_flattened.specs.Views.{table_bindings}
+use Rattle.gg_flattened.specs.Views.{own_bank_of, site_of, table_bindings}
 use Rattle.gg_elab.specs.declared.site.Site.{Site}
 
 -- A driver and a register, if there is one, are made for a signal with this drive.
 abbrev pub IsMade : Bindings → ℕ → ℕ → Shape → Drive → Driver → Option Register → Type 0
 IsMade bindings inputs states sink Outside driver register = (driver ≡ Input inputs) × (register ≡ None)
 IsMade bindings inputs states sink (Gets scope c) driver register = IsComputed (in_scope bindings scope) sink c driver × (register ≡ None)
-IsMade bindings inputs states sink (Holds scope reset next) driver register =
-    (driver ≡ Held states) × MatchOption register ⊥ (IsRegisterOf (in_scope bindings scope) sink reset next)
+IsMade bindings inputs states sink (Holds scope reset next own clock) driver register =
+    (driver ≡ Held states) × MatchOption register ⊥ (IsRegisterOf (in_scope bindings scope) sink reset next clock)
 IsMade bindings inputs states sink (Answers memory place latency addr en) driver register =
     (driver ≡ answer latency (number_of bindings.memories memory) place (number_of bindings.signals.paths addr) (number_of bindings.signals.paths en)) × (register ≡ None)
 
@@ -58,6 +59,10 @@ pub record IsSoFar (bindings : Bindings) (xs : List FlatSignal) (flat : FlatCirc
 -- the same, in the circuit of a site
 abbrev pub IsSoFarAt : Site → List FlatSignal → FlatCircuit → ℕ → Type 0
 IsSoFarAt site = IsSoFar (table_bindings (types_of site.typed.now.circuit) site.table.now)
+
+-- a memory of a site
+abbrev pub memory_of : Site → OwnMemory → FlatMemory
+memory_of site own = flat_memory site.typed.now.circuit.modules (site_of site.place.now) (own_bank_of own)
 
 -- These memories, and nothing else, were added to a flat circuit.
 pub record HasMemories (paths : List (List ℕ)) (said : List FlatMemory) (old new : FlatCircuit) : Type 0 where

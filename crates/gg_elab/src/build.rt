@@ -5,7 +5,10 @@ ghost use Rattle.gg_flat.specs.Line.{HasType, IsSource};
 ghost use Rattle.gg_flat.specs.WellFormed.{IsRegister, IsReset};
 ghost use Rattle.gg_formed.specs.Fitting.{FitsDriver, IsFitting};
 ghost use Rattle.gg_flattened.specs.Flat.{drive_of, input_drive, FlatSignal, flat_signal, signals_at, flat_signals, Gets};
+ghost use Rattle.gg_count.specs.Sites.{module_at};
 ghost use Rattle.gg_flat.specs.Circuit.{no_circuit};
+ghost use Rattle.gg_flat.specs.Clocked.{clock_at as clock_at_number};
+ghost use Rattle.gg_flattened.specs.Clocks.{clock_of as clock_of_term, site_clocks};
 ghost use Rattle.gg_flat.specs.Tree.{joined as joined_text};
 ghost use Rattle.gg_flattened.specs.Signals.{field_name as field_text};
 ghost use Rattle.gg_flattened.specs.Views.{table_bindings, table_signals, seen, cause_of, own_of, site_of, AreDigests, IsPlaceIn};
@@ -17,11 +20,11 @@ ghost use Rattle.gg_elab.specs.Building.{IsMade, with_made, is_input_driver, IsS
 use crate::lines::{condition_line, source_line, value_line};
 use crate::scope::Scope;
 use crate::site::Site;
-use gg_ast::Reset;
+use gg_ast::{Expr, Reset};
 use gg_bits::{Name, Ty};
-use gg_flat::{AddError, Driver, Latency, Line, Piece, Register, Signal};
+use gg_flat::{AddError, Driver, Latency, Line, Piece, Register, Signal, clock_at};
 use gg_flattened::{
-    Digest, Origin, OwnSignal, Place, Source, Table, dotted, field_name, joined, number,
+    Digest, Origin, OwnSignal, Place, Source, Table, clock_of, dotted, field_name, joined, number,
 };
 use gg_types::Typed;
 use std::alloc::{AllocError, Global};
@@ -33,22 +36,23 @@ pub(crate) struct Made {
     pub(crate) register: Option<Register>,
 }
 
-// A register.
+// A register of a clock of the circuit.
 fn register(
     alloc: Global,
     scope: &Scope,
     reset: Option<&Reset>,
     next: Option<Source>,
+    clock: Option<u32>,
     ty: Ty,
 ) -> Result<Register, AllocError>
     ensures fits { IfOk result (IsRegister (HasType (context_of scope.now).bindings.signals.shapes)) }
-    ensures register { IfOk result (IsRegisterOf (context_of scope.now) (shape ty) (option_copied reset.entry) (seen next.entry)) }
+    ensures register { IfOk result (IsRegisterOf (context_of scope.now) (shape ty) (option_copied reset.entry) (seen next.entry) clock) }
 {
     Ok(Register {
         ty,
         reset: reset_lines(alloc, scope, reset, ty)?,
         next: next_line(alloc, scope, next, ty)?,
-        clock: None,
+        clock,
     })
 }
 
@@ -163,6 +167,14 @@ fn input(
     }
 }
 
+// The clock of the circuit that a register of a site follows, of what is written for its clock.
+fn followed(site: &Site, written: &Expr) -> Option<u32>
+    ensures { result ≡ clock_at_number (site_clocks site.now.typed.now.circuit.modules (site_of site.now.place.now)) (clock_of_term (module_at site.now.typed.now.circuit.modules site.now.place.now.number) written.now) }
+{
+    let own = clock_of(site.typed, site.place.number, written);
+    clock_at(site.place.clocks.as_slice(), own)
+}
+
 // The driver and the register of a signal of a site. `inputs` is the number of earlier signals that are driven from
 // outside, `states` the number of earlier signals that hold a register.
 fn make(
@@ -192,11 +204,12 @@ fn make(
             let source = Some(Source::Of(value));
             computed(alloc, &scope, source, signal.ty, inputs, states)
         }
-        Origin::Kept(reset) => {
+        Origin::Kept(written, reset) => {
             let next = sinks.source(&signal.name);
+            let clock = followed(site, written);
             Ok(Made {
                 driver: Driver::Held(states),
-                register: Some(register(alloc, &scope, reset, next, signal.ty)?),
+                register: Some(register(alloc, &scope, reset, next, clock, signal.ty)?),
             })
         }
         Origin::Answered(memory, port, reader, latency) => Ok(Made {
@@ -292,7 +305,7 @@ pub(crate) fn add_sites<'a>(
 ) -> Result<(), AllocError>
     requires even { length table.now.types.items ≡ length table.now.paths }
     requires digests { AreDigests (types_of typed.now.circuit) typed.now.circuit.modules digests.now }
-    requires places { All (IsPlaceIn (length typed.now.circuit.modules)) places.now }
+    requires places { All (IsPlaceIn typed.now.circuit.modules) places.now }
     requires empty { piece.old ≡ no_circuit }
     requires distinct { AllPairs (λ a b. a ≢ b) (map (λ x. x.path) (flat_signals (types_of typed.now.circuit) typed.now.circuit.modules (map site_of places.now))) }
     ensures { OnOk result ((inputs : ℕ) × IsSoFar (table_bindings (types_of typed.now.circuit) table.now) (flat_signals (types_of typed.now.circuit) typed.now.circuit.modules (map site_of places.now)) piece.new inputs) }

@@ -6,6 +6,7 @@ ghost use Rattle.gg_flattened.specs.Views.{AreDigests};
 ghost use Rattle.gg_flattened.specs.IsFlat.{IsFlat, IsFlatWith};
 ghost use Rattle.gg_formed.specs.Fitting.{AreFitting};
 ghost use Rattle.gg_formed.specs.Held.{AreHeldOnce};
+ghost use Rattle.gg_flat.specs.Clocked.{IsClocked};
 ghost use Rattle.gg_flat.specs.Scoped.{IsScoped};
 ghost use Rattle.gg_flat.specs.Tree.{IsTree};
 ghost use Rattle.gg_flat.specs.WellFormed.{IsWellFormed};
@@ -15,10 +16,10 @@ ghost use Rattle.gg_elab.specs.Limits.{excess_over, IsAnswered};
 
 use crate::build::add_sites;
 use crate::fault::ElabFault;
-use crate::ports::{add_all_memories, add_ports};
+use crate::ports::{add_all_memories, add_ports, add_stops};
 use gg_count::count;
 use gg_flat::{Piece, Tree};
-use gg_flattened::{Digest, Place, digests, places, table_of};
+use gg_flattened::{Digest, Place, clock_count, digests, places, table_of};
 use gg_formed::{distinct, formed, top_of};
 use gg_tree::{fits, tree_of};
 use gg_types::Typed;
@@ -51,19 +52,29 @@ fn build<'a>(
     ensures tree { IfOk result (λ both. IsTreeOf typed.now.circuit both.1) }
 {
     let modules = typed.names().circuit().modules();
-    distinct(typed);
+    distinct(typed, digests);
     let places = places(alloc, typed, digests, top)?;
     let table = table_of(alloc, typed, digests, places.as_slice())?;
     let mut piece = Piece::new(alloc);
     add_sites(alloc, typed, &table, digests, places.as_slice(), &mut piece)?;
     add_all_memories(alloc, typed, &table, digests, places.as_slice(), &mut piece)?;
-    add_ports(&table.paths, modules[top as usize].ports(), &mut piece)?;
-    let tree = tree_of(alloc, typed, &table, digests, places.as_slice())?;
+    let ports = modules[top as usize].ports();
+    add_ports(&table.paths, ports, &mut piece)?;
+    add_stops(
+        alloc,
+        typed,
+        &table.paths,
+        digests,
+        places.as_slice(),
+        &mut piece,
+    )?;
+    piece.set_clocks(clock_count(ports)?);
+    let tree = tree_of(alloc, typed, &table, digests, places.as_slice(), ports)?;
     Ok((piece, tree))
 }
 
 // The flat circuit with its tree. The flat circuit is well formed, each of its registers is held by exactly one
-// signal, the tree fits it, and it keeps to the tree's scopes.
+// signal, the tree fits it, and it keeps to the tree's scopes and has the tree's clocks.
 fn joined(typed: &Typed, piece: Piece, tree: Tree) -> (Piece, Tree)
     requires top { (place_of typed.now.circuit.name (module_names typed.now.circuit)) ≢ None }
     requires flat { IsFlat typed.now.circuit piece }
@@ -75,6 +86,7 @@ fn joined(typed: &Typed, piece: Piece, tree: Tree) -> (Piece, Tree)
     ensures held { AreHeldOnce result.0 }
     ensures fitting { IsTree result.0 result.1 }
     ensures scoped { IsScoped result.0 result.1 }
+    ensures clocked { IsClocked result.0 result.1 }
 {
     fits(typed, &piece, &tree);
     formed(typed, &piece);
@@ -82,7 +94,7 @@ fn joined(typed: &Typed, piece: Piece, tree: Tree) -> (Piece, Tree)
 }
 
 /// The flat circuit of a circuit that passed the checks, and the tree of its instances. The flat circuit keeps to the
-/// tree's scopes.
+/// tree's scopes, and has the tree's clocks.
 ///
 /// # Errors
 ///
@@ -96,6 +108,7 @@ pub fn flatten(alloc: Global, typed: &Typed) -> Result<(Piece, Tree), ElabFault>
     ensures held { IfOk result (λ both. AreHeldOnce both.0) }
     ensures fitting { IfOk result (λ both. IsTree both.0 both.1) }
     ensures scoped { IfOk result (λ both. IsScoped both.0 both.1) }
+    ensures clocked { IfOk result (λ both. IsClocked both.0 both.1) }
     ensures limits { IsAnswered (excess_over (types_of typed.now.circuit) typed.now.circuit.modules (place_of typed.now.circuit.name (module_names typed.now.circuit))) result }
 {
     let circuit = typed.names().circuit();

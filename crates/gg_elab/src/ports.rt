@@ -1,17 +1,23 @@
-//! The memories and the ports of the flat circuit.
+//! The memories, the ports and the stops of the flat circuit.
 ghost use Rattle.std.specs.Prelude.{◌≡◌, ◌<◌, ◌++◌, ◌∷◌, [], List, map, length, All, IfOk, OnOk};
-ghost use Rattle.gg_flattened.specs.declared.sites.Place.{Place};
 ghost use Rattle.gg_ast.specs.declared.module.Direction.TheVariants as direction;
-ghost use Rattle.gg_flattened.specs.Views.{IsPlaceIn, own_bank_of, site_of, AreDigests};
-ghost use Rattle.gg_elab.specs.Building.{HasMemories};
-ghost use Rattle.gg_flattened.specs.Flat.{FlatMemory, flat_memory, flat_memories};
+ghost use Rattle.gg_count.specs.Sites.{module_at};
+ghost use Rattle.gg_flat.specs.Clocked.{clock_at as clock_at_number};
+ghost use Rattle.gg_flat.specs.Tree.{joined as joined_text};
+ghost use Rattle.gg_flattened.specs.Clocks.{port_clock as clock_of_port, site_clocks};
+ghost use Rattle.gg_flattened.specs.Views.{IsPlaceIn, site_of, AreDigests};
+ghost use Rattle.gg_elab.specs.Building.{HasMemories, memory_of};
+ghost use Rattle.gg_flattened.specs.Flat.{FlatMemory, flat_memories, stop_paths};
 ghost use Rattle.gg_flattened.specs.IsFlat.{IsMemoryOf, reader_of, writer_of, number_of, field_number, port_names};
 ghost use Rattle.gg_flattened.specs.Known.{types_of};
 
+use crate::site::Site;
 use gg_ast::{Direction, Port};
 use gg_bits::Name;
-use gg_flat::{Memory, Paths, Piece, Reader, Readers, Writer, Writers};
-use gg_flattened::{Digest, OwnMemory, Place, Table, field_name, ground_type, joined, number};
+use gg_flat::{Memory, Paths, Piece, Reader, Readers, Writer, Writers, clock_at};
+use gg_flattened::{
+    Digest, OwnMemory, OwnStop, Place, Table, field_name, ground_type, joined, number, port_clock,
+};
 use gg_types::Typed;
 use std::alloc::{AllocError, Global};
 
@@ -29,116 +35,151 @@ fn field(
     Ok(number(paths, &path))
 }
 
-// A reader.
-fn reader(alloc: Global, paths: &Paths, memory: &Name, port: &Name) -> Result<Reader, AllocError>
-    ensures { IfOk result (λ reader. reader ≡ reader_of paths.now memory.now port.now) }
+// The clock of the circuit that a port of a memory of a site follows.
+fn clock(alloc: Global, site: &Site, memory: &Name, port: &Name) -> Result<Option<u32>, AllocError>
+    ensures { IfOk result (λ clock. clock ≡ clock_at_number (site_clocks site.now.typed.now.circuit.modules (site_of site.now.place.now)) (clock_of_port (module_at site.now.typed.now.circuit.modules site.now.place.now.number) memory.now port.now)) }
 {
+    let number = site.place.number;
+    let own = port_clock(alloc, site.typed, site.digests, number, memory, port)?;
+    Ok(clock_at(site.place.clocks.as_slice(), own))
+}
+
+// A reader of a memory of a site. The memory's path is given.
+fn reader(
+    alloc: Global,
+    site: &Site,
+    own: &OwnMemory,
+    path: &Name,
+    port: &Name,
+) -> Result<Reader, AllocError>
+    requires { path.now ≡ joined_text site.now.place.now.path own.now.name.now }
+    ensures { IfOk result (λ reader. reader ≡ reader_of site.now.table.now.paths (memory_of site.now own.now) port.now) }
+{
+    let paths = &site.table.paths;
     Ok(Reader {
-        addr: field(alloc, paths, memory, port, "addr")?,
-        en: field(alloc, paths, memory, port, "en")?,
-        word: field(alloc, paths, memory, port, "data")?,
-        clock: None,
+        addr: field(alloc, paths, path, port, "addr")?,
+        en: field(alloc, paths, path, port, "en")?,
+        word: field(alloc, paths, path, port, "data")?,
+        clock: clock(alloc, site, own.name, port)?,
     })
 }
 
-// A writer.
-fn writer(alloc: Global, paths: &Paths, memory: &Name, port: &Name) -> Result<Writer, AllocError>
-    ensures { IfOk result (λ writer. writer ≡ writer_of paths.now memory.now port.now) }
+// A writer of a memory of a site. The memory's path is given.
+fn writer(
+    alloc: Global,
+    site: &Site,
+    own: &OwnMemory,
+    path: &Name,
+    port: &Name,
+) -> Result<Writer, AllocError>
+    requires { path.now ≡ joined_text site.now.place.now.path own.now.name.now }
+    ensures { IfOk result (λ writer. writer ≡ writer_of site.now.table.now.paths (memory_of site.now own.now) port.now) }
 {
+    let paths = &site.table.paths;
     Ok(Writer {
-        addr: field(alloc, paths, memory, port, "addr")?,
-        en: field(alloc, paths, memory, port, "en")?,
-        word: field(alloc, paths, memory, port, "data")?,
-        mask: field(alloc, paths, memory, port, "mask")?,
-        clock: None,
+        addr: field(alloc, paths, path, port, "addr")?,
+        en: field(alloc, paths, path, port, "en")?,
+        word: field(alloc, paths, path, port, "data")?,
+        mask: field(alloc, paths, path, port, "mask")?,
+        clock: clock(alloc, site, own.name, port)?,
     })
 }
 
-// The readers of these names.
+// The readers of a memory of a site. The memory's path is given.
 fn readers(
     alloc: Global,
-    paths: &Paths,
-    memory: &Name,
-    ports: &[&Name],
+    site: &Site,
+    own: &OwnMemory,
+    path: &Name,
 ) -> Result<Vec<Reader>, AllocError>
-    ensures { IfOk result (λ readers. readers.items ≡ map (λ port. reader_of paths.now memory.now port.now) ports.now) }
+    requires { path.now ≡ joined_text site.now.place.now.path own.now.name.now }
+    ensures { IfOk result (λ readers. readers.items ≡ map (λ port. reader_of site.now.table.now.paths (memory_of site.now own.now) port.now) own.now.bank.readers.items) }
 {
     let mut readers = Vec::new(alloc);
+    let ports = own.bank.readers.as_slice();
     for port in ports {
-        let next = reader(alloc, paths, memory, port)?;
+        let next = reader(alloc, site, own, path, port)?;
         readers.reserve(1)?;
         readers.push_reserved(next);
     }
     Ok(readers)
 }
 
-// The writers of these names.
+// The writers of a memory of a site. The memory's path is given.
 fn writers(
     alloc: Global,
-    paths: &Paths,
-    memory: &Name,
-    ports: &[&Name],
+    site: &Site,
+    own: &OwnMemory,
+    path: &Name,
 ) -> Result<Vec<Writer>, AllocError>
-    ensures { IfOk result (λ writers. writers.items ≡ map (λ port. writer_of paths.now memory.now port.now) ports.now) }
+    requires { path.now ≡ joined_text site.now.place.now.path own.now.name.now }
+    ensures { IfOk result (λ writers. writers.items ≡ map (λ port. writer_of site.now.table.now.paths (memory_of site.now own.now) port.now) own.now.bank.writers.items) }
 {
     let mut writers = Vec::new(alloc);
+    let ports = own.bank.writers.as_slice();
     for port in ports {
-        let next = writer(alloc, paths, memory, port)?;
+        let next = writer(alloc, site, own, path, port)?;
         writers.reserve(1)?;
         writers.push_reserved(next);
     }
     Ok(writers)
 }
 
-// The memory of a site's module, at the site.
-fn memory(alloc: Global, paths: &Paths, path: &Name, own: &OwnMemory) -> Result<Memory, AllocError>
-    ensures { IfOk result (λ memory. (place : Place) → place.path ≡ path.now → IsMemoryOf paths.now (flat_memory (site_of place) (own_bank_of own.now)) memory) }
+// A memory of a site.
+fn memory(alloc: Global, site: &Site, own: &OwnMemory) -> Result<Memory, AllocError>
+    ensures { IfOk result (IsMemoryOf site.now.table.now.paths (memory_of site.now own.now)) }
 {
-    let path = joined(alloc, path, own.name)?;
+    let path = joined(alloc, &site.place.path, own.name)?;
     let bank = &own.bank;
     Ok(Memory {
         word: bank.word,
         depth: bank.depth,
         latency: bank.latency,
-        readers: Readers::from(readers(alloc, paths, &path, bank.readers.as_slice())?),
-        writers: Writers::from(writers(alloc, paths, &path, bank.writers.as_slice())?),
+        readers: Readers::from(readers(alloc, site, own, &path)?),
+        writers: Writers::from(writers(alloc, site, own, &path)?),
     })
 }
 
-// Adds the memories of a site.
+// Adds these memories of a site.
 fn add_memories(
     alloc: Global,
-    paths: &Paths,
-    path: &Name,
+    site: &Site,
     memories: &[OwnMemory],
     piece: &mut Piece,
 ) -> Result<(), AllocError>
-    ensures { OnOk result ((place : Place) (said : List FlatMemory) → place.path ≡ path.now → HasMemories paths.now said piece.old piece.old → HasMemories paths.now (said ++ map (λ m. flat_memory (site_of place) (own_bank_of m)) memories.now) piece.old piece.new) }
+    ensures { OnOk result ((said : List FlatMemory) → HasMemories site.now.table.now.paths said piece.old piece.old → HasMemories site.now.table.now.paths (said ++ map (memory_of site.now) memories.now) piece.old piece.new) }
 {
     for own in memories {
-        let made = memory(alloc, paths, path, own)?;
+        let made = memory(alloc, site, own)?;
         piece.add_memory(made)?;
     }
     Ok(())
 }
 
 /// Adds the memories of all sites.
-pub(crate) fn add_all_memories(
+pub(crate) fn add_all_memories<'a>(
     alloc: Global,
-    typed: &Typed,
+    typed: &Typed<'a>,
     table: &Table,
-    digests: &[Digest],
-    places: &[Place],
+    digests: &[Digest<'a>],
+    places: &[Place<'a>],
     piece: &mut Piece,
 ) -> Result<(), AllocError>
+    requires even { length table.now.types.items ≡ length table.now.paths }
     requires digests { AreDigests (types_of typed.now.circuit) typed.now.circuit.modules digests.now }
-    requires places { All (IsPlaceIn (length typed.now.circuit.modules)) places.now }
+    requires places { All (IsPlaceIn typed.now.circuit.modules) places.now }
     requires none { piece.old.memories ≡ [] }
     ensures { OnOk result (HasMemories table.now.paths (flat_memories typed.now.circuit.modules (map site_of places.now)) piece.old piece.new) }
 {
     for place in places {
+        let site = Site {
+            typed,
+            table,
+            digests,
+            place,
+        };
         let memories = digests[place.number as usize].memories.as_slice();
-        add_memories(alloc, &table.paths, &place.path, memories, piece)?;
+        add_memories(alloc, &site, memories, piece)?;
     }
     Ok(())
 }
@@ -167,6 +208,43 @@ pub(crate) fn add_ports(paths: &Paths, ports: &[Port], piece: &mut Piece) -> Res
 {
     for port in ports {
         add_port(paths, port, piece)?;
+    }
+    Ok(())
+}
+
+// Adds these stops of the site with this path to the ports.
+fn add_site_stops(
+    alloc: Global,
+    paths: &Paths,
+    path: &Name,
+    stops: &[OwnStop],
+    piece: &mut Piece,
+) -> Result<(), AllocError>
+    ensures { OnOk result (piece.new ≡ record piece.old { outs = piece.old.outs ++ map (λ stop. number_of paths.now (joined_text path.now stop.name)) stops.now }) }
+{
+    for stop in stops {
+        let own = joined(alloc, path, &stop.name)?;
+        piece.add_out(number(paths, &own))?;
+    }
+    Ok(())
+}
+
+/// Adds the stops of all sites to the ports.
+pub(crate) fn add_stops(
+    alloc: Global,
+    typed: &Typed,
+    paths: &Paths,
+    digests: &[Digest],
+    places: &[Place],
+    piece: &mut Piece,
+) -> Result<(), AllocError>
+    requires digests { AreDigests (types_of typed.now.circuit) typed.now.circuit.modules digests.now }
+    requires places { All (IsPlaceIn typed.now.circuit.modules) places.now }
+    ensures { OnOk result (piece.new ≡ record piece.old { outs = piece.old.outs ++ map (number_of paths.now) (stop_paths typed.now.circuit.modules (map site_of places.now)) }) }
+{
+    for place in places {
+        let digest = &digests[place.number as usize];
+        add_site_stops(alloc, paths, &place.path, digest.stops.as_slice(), piece)?;
     }
     Ok(())
 }

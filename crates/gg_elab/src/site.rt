@@ -19,5 +19,5 @@ pub(crate) struct Site<'s, 'a> {
     pub(crate) place: &'s Place<'a>,
     ghost even: { length table.now.types.items ≡ length table.now.paths },
     ghost told: { AreDigests (types_of typed.now.circuit) typed.now.circuit.modules digests.now } by { Prim.hlevel (codes, Coded-set, expression.the_row.coded) },
-    ghost within: { IsPlaceIn (length typed.now.circuit.modules) place.now } by { Prim.hlevel props },
+    ghost within: { IsPlaceIn typed.now.circuit.modules place.now } by { Prim.hlevel props },
 }

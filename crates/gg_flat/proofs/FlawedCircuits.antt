@@ -44,7 +44,7 @@ no_path formed = absurd (omega (arith, formed.named))
 -- ---- drivers of a circuit's only signal, which has three bits
 
 abbrev lone : Driver → FlatCircuit
-lone driver = record { paths = (113 ∷ []) ∷ []; signals = record { ty = three; driver = driver } ∷ []; registers = []; memories = []; ins = []; outs = [] }
+lone driver = record { paths = (113 ∷ []) ∷ []; signals = record { ty = three; driver = driver } ∷ []; registers = []; memories = []; ins = []; outs = []; clocks = 0 }
 
 -- a signal holds a register that isn't there
 no_register : ¬ IsWellFormed (lone (Held 0))

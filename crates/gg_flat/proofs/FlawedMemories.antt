@@ -1,5 +1,5 @@
 -- A circuit with a memory is well formed, and those whose memories have one flaw each are not.
-use Rattle.std.proofs.Common.{◌≡◌, ℕ, List, [], ◌∷◌, None, refl, ap, inl, arith, lit<, lit≤}
+use Rattle.std.proofs.Common.{◌≡◌, ℕ, List, [], ◌∷◌, Some, None, refl, ap, inl, arith, lit<, lit≤}
 use Rattle.std.specs.Prelude.{slice_index_or}
 use Rattle.gg_bits.specs.Shape.{Shape, shape}
 use Rattle.gg_flat.specs.declared.line.Op.TheVariants.{Literal}
@@ -13,7 +13,7 @@ use Rattle.gg_flat.specs.declared.piece.Driver.TheVariants.{MemoryWord, ReadRegi
 use Rattle.gg_flat.specs.Line.{HasType}
 use Rattle.gg_flat.specs.Circuit.{FlatCircuit, signal_shapes, driver_at}
 use Rattle.gg_flat.specs.Reads.{IsLoop}
-use Rattle.gg_flat.specs.WellFormed.{MayDrive, IsReader, IsWriter, IsMemory, IsWellFormed}
+use Rattle.gg_flat.specs.WellFormed.{MayDrive, IsClock, IsClockedMemory, IsReader, IsWriter, IsMemory, IsWellFormed}
 use Rattle.gg_flat.proofs.WorkedForms.{only, both, four, apart, differ, pair, quad}
 use Rattle.gg_flat.proofs.WorkedCircuits.{eight, node, value}
 use Rattle.gg_flat.proofs.WorkedMemories.{two, copy, high, signal}
@@ -28,6 +28,7 @@ lone driver memory =
       memories = memory ∷ [];
       ins = [];
       outs = [];
+      clocks = 0;
     }
 
 abbrev memory : ℕ → List Reader → List Writer → Memory
@@ -70,6 +71,11 @@ sound-formed =
         }) k lt;
       }) k lt;
       reads = only _ (only _ refl);
+      register_clocks = λ k d lt. absurd (omega arith);
+      memory_clocks = λ k d lt. only (λ i. IsClockedMemory 0 (slice_index_or sound.memories i d)) (record {
+        readers = λ k d lt. only (λ i. IsClock 0 (slice_index_or (reader ∷ []) i d).clock) tt k lt;
+        writers = λ k d lt. only (λ i. IsClock 0 (slice_index_or (writer ∷ []) i d).clock) tt k lt;
+      }) k lt;
     }
 
 -- two writers may share their signals
@@ -91,6 +97,11 @@ shared-formed =
         writers = λ k d lt. both (λ i. IsWriter (HasType (signal_shapes shared)) (shape eight) 3 (slice_index_or (writer ∷ writer ∷ []) i d)) shared-writer shared-writer k lt;
       }) k lt;
       reads = sound-formed.reads;
+      register_clocks = sound-formed.register_clocks;
+      memory_clocks = λ k d lt. only (λ i. IsClockedMemory 0 (slice_index_or shared.memories i d)) (record {
+        readers = (sound-formed.memory_clocks 0 (memory 3 [] []) (lit< tt)).readers;
+        writers = λ k d lt. both (λ i. IsClock 0 (slice_index_or (writer ∷ writer ∷ []) i d).clock) tt tt k lt;
+      }) k lt;
     }
   where
     shared-writer : IsWriter (HasType (signal_shapes shared)) (shape eight) 3 writer
@@ -200,3 +211,7 @@ wide_mask formed = absurd (omega (arith, ap (λ (s : Shape). s.width) ((formed.m
 -- a memory without words
 no_depth : ¬ IsWellFormed (lone (MemoryWord 0 0 1 2) (memory 0 (reader ∷ []) []))
 no_depth formed = absurd (omega (arith, (formed.memories 0 (memory 0 [] []) (lit< tt)).some))
+
+-- a reader with a clock that the circuit doesn't have
+no_clock : ¬ IsWellFormed (lone (MemoryWord 0 0 1 2) (memory 3 (record reader { clock = Some 0 } ∷ []) []))
+no_clock is = let past : 0 < 0 = (is.memory_clocks 0 (memory 3 [] []) (lit< tt)).readers 0 reader (lit< tt) in absurd (omega (arith, past))

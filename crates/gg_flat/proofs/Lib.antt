@@ -18,6 +18,7 @@ pub mod LateLemmas
 pub mod ServedLemmas
 pub mod RunLemmas
 pub mod SinceLemmas
+pub mod TopClockLemmas
 pub mod AlongLemmas
 pub mod WorkedCircuits
 pub mod WorkedRows
@@ -30,3 +31,4 @@ pub mod WorkedRuns
 pub mod WorkedClocks
 pub mod WorkedRatios
 pub mod WorkedScopes
+pub mod WorkedTreeClocks

@@ -65,6 +65,7 @@ counter =
       memories = [];
       ins = 0 ∷ [];
       outs = 1 ∷ [];
+      clocks = 0;
     }
 
 abbrev pub counter_order : List ℕ
@@ -80,6 +81,7 @@ toggle =
       memories = [];
       ins = [];
       outs = 0 ∷ [];
+      clocks = 0;
     }
 
 abbrev pub toggle_order : List ℕ
@@ -103,6 +105,7 @@ loaded =
       memories = [];
       ins = 0 ∷ [];
       outs = 1 ∷ [];
+      clocks = 0;
     }
 
 abbrev pub loaded_order : List ℕ

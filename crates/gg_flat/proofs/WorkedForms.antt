@@ -9,7 +9,7 @@ use Rattle.gg_flat.specs.declared.line.Op.TheVariants.{Ref, Literal, One, Two, F
 use Rattle.gg_flat.specs.Line.{shape_at, value_at, HasType}
 use Rattle.gg_flat.specs.Circuit.{signal_shapes, driver_at}
 use Rattle.gg_flat.specs.Reads.{Reads}
-use Rattle.gg_flat.specs.WellFormed.{MayDrive, IsRegister, IsWellFormed}
+use Rattle.gg_flat.specs.WellFormed.{MayDrive, IsClock, IsRegister, IsWellFormed}
 use Rattle.gg_flat.specs.Order.{IsOrder}
 use Rattle.gg_flat.specs.Settled.{in_shapes}
 use Rattle.gg_flat.specs.Run.{IsRun, IsColumns, inputs_at}
@@ -107,6 +107,8 @@ toggle-formed = record {
   }) k lt;
   memories = λ m d lt. absurd (omega arith);
   reads = λ m lt. absurd (omega arith);
+  register_clocks = λ k d lt. only (λ i. IsClock 0 (slice_index_or toggle.registers i d).clock) tt k lt;
+  memory_clocks = λ m d lt. absurd (omega arith);
 }
 
 toggle-ordered : IsOrder toggle toggle_order
@@ -152,6 +154,8 @@ loaded-formed = record {
   }) k lt;
   memories = λ m d lt. absurd (omega arith);
   reads = λ m lt. absurd (omega arith);
+  register_clocks = λ k d lt. only (λ i. IsClock 0 (slice_index_or loaded.registers i d).clock) tt k lt;
+  memory_clocks = λ m d lt. absurd (omega arith);
 }
 
 pub loaded-ordered : IsOrder loaded loaded_order
@@ -202,6 +206,8 @@ counter-formed = record {
   }) k lt;
   memories = λ m d lt. absurd (omega arith);
   reads = λ m lt. absurd (omega arith);
+  register_clocks = λ k d lt. only (λ i. IsClock 0 (slice_index_or counter.registers i d).clock) tt k lt;
+  memory_clocks = λ m d lt. absurd (omega arith);
 }
 
 counter-ordered : IsOrder counter counter_order

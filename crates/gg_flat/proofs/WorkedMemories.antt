@@ -69,6 +69,7 @@ ports =
           ∷ [];
       ins = 0 ∷ 1 ∷ [];
       outs = 2 ∷ 3 ∷ [];
+      clocks = 0;
     }
 
 abbrev pub ports_order : List ℕ
@@ -110,6 +111,7 @@ late under =
           ∷ [];
       ins = 0 ∷ 1 ∷ 2 ∷ [];
       outs = 3 ∷ [];
+      clocks = 0;
     }
 
 abbrev pub late_order : List ℕ

@@ -9,7 +9,7 @@ use Rattle.gg_flat.specs.declared.piece.Driver.TheVariants.{Held, Computed}
 use Rattle.gg_flat.specs.Line.{value_at, HasType}
 use Rattle.gg_flat.specs.Circuit.{FlatCircuit, signal_shapes, driver_at}
 use Rattle.gg_flat.specs.Reads.{Reads}
-use Rattle.gg_flat.specs.WellFormed.{MayDrive, IsRegister, IsWellFormed}
+use Rattle.gg_flat.specs.WellFormed.{MayDrive, IsClock, IsRegister, IsWellFormed}
 use Rattle.gg_flat.specs.Order.{IsOrder}
 use Rattle.gg_flat.specs.Run.{Start, IsRunFrom, clocked_start, column}
 use Rattle.gg_flat.specs.Along.{rows_from}
@@ -53,6 +53,7 @@ dual =
       memories = [];
       ins = [];
       outs = 0 ∷ 1 ∷ [];
+      clocks = 2;
     }
 
 abbrev dual_order : List ℕ
@@ -102,7 +103,15 @@ dual-formed = record {
       k lt;
   memories = λ m d lt. absurd (omega arith);
   reads = λ m lt. absurd (omega arith);
+  register_clocks = λ k d lt. both (λ i. IsClock 2 (slice_index_or dual.registers i d).clock) (lit< tt) (lit< tt) k lt;
+  memory_clocks = λ m d lt. absurd (omega arith);
 }
+
+-- it isn't well formed with one clock alone, which the second register's isn't
+near-one-clock : ¬ IsWellFormed (record dual { clocks = 1 })
+near-one-clock is =
+    let past : 1 < 1 = is.register_clocks 1 (record { ty = four_bits; reset = None; next = None; clock = None }) (lit< tt) in
+    absurd (omega (arith, past))
 
 dual-ordered : IsOrder dual dual_order
 dual-ordered = record {

@@ -13,7 +13,7 @@ use Rattle.gg_flat.specs.declared.piece.Driver.TheVariants.{Input}
 use Rattle.gg_flat.specs.Line.{shape_at, value_at, HasType}
 use Rattle.gg_flat.specs.Circuit.{FlatCircuit, signal_shapes, driver_at}
 use Rattle.gg_flat.specs.Reads.{Reads}
-use Rattle.gg_flat.specs.WellFormed.{MayDrive, IsReader, IsWriter, IsMemory, IsWellFormed}
+use Rattle.gg_flat.specs.WellFormed.{MayDrive, IsClock, IsClockedMemory, IsReader, IsWriter, IsMemory, IsWellFormed}
 use Rattle.gg_flat.specs.Order.{IsOrder}
 use Rattle.gg_flat.specs.Settled.{in_shapes}
 use Rattle.gg_flat.specs.Run.{IsRun, IsColumns, inputs_at}
@@ -120,6 +120,11 @@ ports-formed =
       registers = λ k d lt. absurd (omega arith);
       memories = λ k d lt. only (λ i. IsMemory (HasType (signal_shapes ports)) (slice_index_or ports.memories i d)) ports-memory k lt;
       reads = only _ (both _ refl refl);
+      register_clocks = λ k d lt. absurd (omega arith);
+      memory_clocks = λ k d lt. only (λ i. IsClockedMemory 0 (slice_index_or ports.memories i d)) (record {
+        readers = λ k d lt. both (λ i. IsClock 0 (slice_index_or ports_memory.readers i d).clock) tt tt k lt;
+        writers = λ k d lt. both (λ i. IsClock 0 (slice_index_or ports_memory.writers i d).clock) tt tt k lt;
+      }) k lt;
     }
 
 ports-after : (i : ℕ) → i < 18 → (s : ℕ) → Reads ports (value_at ports_order i) s → Contains (take i ports_order) s
@@ -252,6 +257,11 @@ late-formed =
       registers = λ k d lt. absurd (omega arith);
       memories = λ k d lt. only (λ i. IsMemory (HasType (signal_shapes new)) (slice_index_or new.memories i d)) late-memory k lt;
       reads = only _ (only _ refl);
+      register_clocks = λ k d lt. absurd (omega arith);
+      memory_clocks = λ k d lt. only (λ i. IsClockedMemory 0 (slice_index_or new.memories i d)) (record {
+        readers = λ k d lt. only (λ i. IsClock 0 (slice_index_or late_memory.readers i d).clock) tt k lt;
+        writers = λ k d lt. only (λ i. IsClock 0 (slice_index_or late_memory.writers i d).clock) tt k lt;
+      }) k lt;
     }
 
 late-after : (i : ℕ) → i < 11 → (s : ℕ) → Reads new (value_at late_order i) s → Contains (take i late_order) s

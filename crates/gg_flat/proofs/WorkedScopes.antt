@@ -1,8 +1,8 @@
 -- A small circuit keeps to the scopes of its tree, and those with one flaw each don't.
 --
 -- The top has the input `x` and the output `q`, which it connects to the output `b` of its instance `u`; `u.a` is connected to
--- `x`. In `u`, `b` is the node `n`, and `n` is the input `a`.
-use Rattle.std.proofs.Common.{◌≡◌, ◌≢◌, ℕ, zero, suc, ◌<◌, ◌≤◌, ◌⊎◌, inl, inr, [], ◌∷◌, Some, None, true, false, refl, sym, ◌∙◌, ap, subst, arith, lit<, lit≤}
+-- `x`. In `u`, `b` is the node `n`, and `n` is the input `a`. `n` stands for a stop, too.
+use Rattle.std.proofs.Common.{◌≡◌, ◌≢◌, ℕ, zero, suc, ◌<◌, ◌≤◌, ◌⊎◌, inl, inr, [], ◌∷◌, length, Some, None, true, false, refl, sym, ◌∙◌, ap, subst, arith, lit<, lit≤}
 use Rattle.std.specs.Prelude.{Contains, AllPairs, slice_index_or}
 use Rattle.std.proofs.lemmas.Bool.{cases_lt}
 use Rattle.std.proofs.lemmas.List.Kept.{AllPairs-cons}
@@ -14,8 +14,8 @@ use Rattle.gg_flat.specs.declared.tree.InstancePort.{InstancePort}
 use Rattle.gg_flat.specs.Circuit.{FlatCircuit, driver_at}
 use Rattle.gg_flat.specs.Reads.{NamesSignal}
 use Rattle.gg_flat.specs.Tree.{InstanceTree, IsInnermost, IsJustBelow, Holds, path_at, instance_at, parent_place}
-use Rattle.gg_flat.specs.Scoped.{IsPort, IsInputOf, IsChildsInput, IsOwnSink, IsWritten, IsVisible, IsOwnPort, IsScoped}
-use Rattle.gg_flat.proofs.WorkedForms.{only, both, apart, same, letter}
+use Rattle.gg_flat.specs.Scoped.{IsPort, IsInputOf, IsChildsInput, IsOwnSink, IsWritten, IsVisible, IsOwnPort, IsStop, IsScoped}
+use Rattle.gg_flat.proofs.WorkedForms.{only, both, apart, same, single, letter}
 use Rattle.gg_flat.proofs.WorkedCircuits.{eight}
 use Rattle.gg_flat.proofs.WorkedMemories.{signal, copy}
 
@@ -28,7 +28,8 @@ with q n =
       registers = [];
       memories = [];
       ins = 0 ∷ [];
-      outs = 1 ∷ [];
+      outs = 1 ∷ 4 ∷ [];
+      clocks = 0;
     }
 
 abbrev circuit : FlatCircuit
@@ -41,13 +42,13 @@ abbrev output : ℕ → InstancePort
 output s = record { signal = s; is_input = false }
 
 abbrev top : Instance
-top = record { parent = None; «module» = 0; first = 0; end = 5; ports = input 0 ∷ output 1 ∷ []; memories = [] }
+top = record { parent = None; «module» = 0; first = 0; end = 5; ports = input 0 ∷ output 1 ∷ []; memories = []; clocks = [] }
 
 abbrev lower : Instance
-lower = record { parent = Some 0; «module» = 1; first = 2; end = 5; ports = input 2 ∷ output 3 ∷ []; memories = [] }
+lower = record { parent = Some 0; «module» = 1; first = 2; end = 5; ports = input 2 ∷ output 3 ∷ []; memories = []; clocks = [] }
 
 abbrev tree : InstanceTree
-tree = record { paths = [] ∷ (117 ∷ []) ∷ []; instances = top ∷ lower ∷ []; memory_paths = []; memories = [] }
+tree = record { paths = [] ∷ (117 ∷ []) ∷ []; instances = top ∷ lower ∷ []; memory_paths = []; memories = []; clocks = []; register_clocks = []; stops = record { instance = 1; signal = 4; clock = None } ∷ [] }
 
 -- ---- the instance that each signal belongs to
 
@@ -167,7 +168,14 @@ scoped =
       apart = λ k j known lt. absurd (omega arith);
       drivers = drivers;
       registers = λ k s r t register written held found. absurd (cc);
+      stops = only (IsStop circuit tree) (record { own = own-lower 4 (lit≤ tt) (lit< tt); no_port = no-port; no_field = λ i lt. absurd (omega arith) });
+      stops_once = single 4;
     }
+  where
+    no-port : (k : ℕ) → ¬ IsPort tree k 4
+    no-port zero at = port-at (λ s. s ≡ 4 → ⊥) 4 (input 0) (output 1) at.port at.listed at.is (apart 0 4 refl) (apart 1 4 refl) refl
+    no-port (suc zero) at = port-at (λ s. s ≡ 4 → ⊥) 4 (input 2) (output 3) at.port at.listed at.is (apart 2 4 refl) (apart 3 4 refl) refl
+    no-port (suc (suc k)) at = let past : suc (suc k) < 2 = at.known in absurd (omega (arith, past))
 
 -- ---- flaws
 
@@ -211,5 +219,13 @@ reads-outside is =
         by (suc (suc child)) parent at = let past : suc (suc child) < 2 = at.known in absurd (omega (arith, past))
 
 -- an output of the top that isn't one of its ports
-pub other-out : ¬ IsScoped (record circuit { outs = 3 ∷ [] }) tree
+pub other-out : ¬ IsScoped (record circuit { outs = 3 ∷ 4 ∷ [] }) tree
 other-out is = apart 1 3 refl (ap (λ l. slice_index_or l 0 0) is.outs)
+
+-- a stop before the output
+pub stop-first : ¬ IsScoped (record circuit { outs = 4 ∷ 1 ∷ [] }) tree
+stop-first is = apart 1 4 refl (ap (λ l. slice_index_or l 0 0) is.outs)
+
+-- a stop that no out-signal has
+pub no-stop : ¬ IsScoped (record circuit { outs = 1 ∷ [] }) tree
+no-stop is = apart 2 1 refl (ap length is.outs)

@@ -20,13 +20,14 @@ circuit =
       memories = record { word = eight; depth = 1; latency = Zero; readers = record { addr = 0; en = 0; word = 1; clock = None } ∷ []; writers = [] } ∷ [];
       ins = [];
       outs = 0 ∷ [];
+      clocks = 0;
     }
 
 abbrev top : Instance
-top = record { parent = None; «module» = 0; first = 0; end = 2; ports = record { signal = 0; is_input = false } ∷ []; memories = [] }
+top = record { parent = None; «module» = 0; first = 0; end = 2; ports = record { signal = 0; is_input = false } ∷ []; memories = []; clocks = [] }
 
 abbrev lower : Instance
-lower = record { parent = Some 0; «module» = 1; first = 1; end = 2; ports = record { signal = 1; is_input = false } ∷ []; memories = 0 ∷ [] }
+lower = record { parent = Some 0; «module» = 1; first = 1; end = 2; ports = record { signal = 1; is_input = false } ∷ []; memories = 0 ∷ []; clocks = [] }
 
 -- the tree with this instance as `u`
 abbrev with_lower : Instance → InstanceTree
@@ -35,7 +36,10 @@ with_lower instance =
       paths = [] ∷ (117 ∷ []) ∷ [];
       instances = top ∷ instance ∷ [];
       memory_paths = (117 ∷ 46 ∷ 109 ∷ []) ∷ [];
-      memories = record { instance = 1; memory = 0; ports = (114 ∷ []) ∷ [] } ∷ [];
+      memories = record { instance = 1; memory = 0; ports = (114 ∷ []) ∷ []; clocks = [] } ∷ [];
+      clocks = [];
+      register_clocks = [];
+      stops = [];
     }
 
 abbrev tree : InstanceTree

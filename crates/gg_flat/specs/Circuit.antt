@@ -13,7 +13,8 @@ use Rattle.gg_flat.specs.declared.piece.Driver.{Driver}
 use Rattle.gg_flat.specs.declared.piece.Driver.TheVariants.{Input}
 
 -- A flat circuit. Signals, registers and memories are named by their places. `paths` has the path of each signal, as
--- bytes; `ins` and `outs` are the signals that it gets from outside and gives to the outside, in port order.
+-- bytes; `ins` and `outs` are the signals that it gets from outside and gives to the outside, in port order. It has
+-- `clocks` clocks, which registers and the ports of memories name by their numbers.
 pub record FlatCircuit : Type 0 where
   pub paths : List (List ℕ)
   pub signals : List Signal
@@ -21,10 +22,11 @@ pub record FlatCircuit : Type 0 where
   pub memories : List Memory
   pub ins : List ℕ
   pub outs : List ℕ
+  pub clocks : ℕ
 
 -- the flat circuit without a signal
 abbrev pub no_circuit : FlatCircuit
-no_circuit = record { paths = []; signals = []; registers = []; memories = []; ins = []; outs = [] }
+no_circuit = record { paths = []; signals = []; registers = []; memories = []; ins = []; outs = []; clocks = 0 }
 
 -- the shapes of the signals
 abbrev pub signal_shapes : FlatCircuit → List Shape

@@ -16,5 +16,6 @@ pub mod Ports
 pub mod Tree
 pub mod Models
 pub mod Scoped
+pub mod Clocked
 pub mod ErrorText
 pub mod Streams

@@ -1,10 +1,12 @@
 -- The ports of a flat circuit: the paths and types of the signals that it gets from outside and gives to the outside.
--- Source: FIRRTL Specification, "Modules" (the ports of the top); the clock is not a signal of a flat circuit.
+-- Source: FIRRTL Specification, "Modules" (the ports of the top); a clock is not a signal of a flat circuit.
 use Rattle.std.specs.Prelude.{ℕ, List, Option, Some, None, slice_get}
 use Rattle.std.specs.List.{filter_map}
 use Rattle.gg_flat.specs.declared.piece.Signal.{Signal}
 use Rattle.gg_flat.specs.Circuit.{FlatCircuit}
 use Rattle.gg_flat.specs.declared.ports.Port.{Port}
+use Rattle.gg_flat.specs.Scoped.{output_signals}
+use Rattle.gg_flat.specs.Tree.{InstanceTree, instance_at}
 
 -- a port with this name and the type of this signal
 abbrev pub port_with : Option (List ℕ) → Option Signal → Option Port
@@ -20,10 +22,14 @@ port_at circuit s = port_with (slice_get circuit.paths s) (slice_get circuit.sig
 abbrev pub ports_at : FlatCircuit → List ℕ → List Port
 ports_at circuit signals = filter_map (port_at circuit) signals
 
--- the input ports, without the clock
+-- the input ports, without clocks
 abbrev pub in_ports : FlatCircuit → List Port
 in_ports circuit = ports_at circuit circuit.ins
 
--- the output ports
+-- what it gives to the outside: the output ports, and the stops
 abbrev pub out_ports : FlatCircuit → List Port
 out_ports circuit = ports_at circuit circuit.outs
+
+-- the output ports of the top
+abbrev pub output_ports : FlatCircuit → InstanceTree → List Port
+output_ports circuit tree = ports_at circuit (output_signals (instance_at tree 0).ports)

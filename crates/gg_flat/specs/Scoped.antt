@@ -9,7 +9,7 @@ use Rattle.gg_flat.specs.declared.piece.Register.{Register}
 use Rattle.gg_flat.specs.declared.piece.Driver.TheVariants.{Held}
 use Rattle.gg_flat.specs.Circuit.{FlatCircuit, driver_at, readers_at}
 use Rattle.gg_flat.specs.Reads.{NamesSignal, RegisterNames}
-use Rattle.gg_flat.specs.Tree.{InstanceTree, IsInnermost, IsWithin, IsJustBelow, path_at, instance_at, memory_at}
+use Rattle.gg_flat.specs.Tree.{InstanceTree, IsInnermost, IsWithin, IsJustBelow, path_at, instance_at, memory_at, stop_at}
 
 -- ---- ports and fields
 
@@ -103,13 +103,26 @@ pub record IsOwnField (circuit : FlatCircuit) (tree : InstanceTree) (j s : ℕ) 
   pub own : IsInnermost tree (memory_at tree j).instance s
   pub path : IsWithin (path_at tree.memory_paths j) (path_at circuit.paths s)
 
--- A circuit keeps to the scopes of its tree. The circuit's in-signals and out-signals are the top's inputs and outputs,
--- in port order. An instance's ports are its own signals, and are distinct; so are a memory's fields. The path of an
--- own signal is just below the instance's, unless it is such a field. No memory has an instance's path. The signals
--- that a driver names, and those that the register of a signal names, are visible where the driver is written.
+-- ---- stops
+
+-- the signals of the stops, in the order of the tree
+abbrev pub stop_signals : InstanceTree → List ℕ
+stop_signals tree = map (λ stop. stop.signal) tree.stops
+
+-- The stop at place j has an own signal of its instance, which is no port and no field of a memory.
+pub record IsStop (circuit : FlatCircuit) (tree : InstanceTree) (j : ℕ) : Type 0 where
+  pub own : IsInnermost tree (stop_at tree j).instance (stop_at tree j).signal
+  pub no_port : (k : ℕ) → ¬ IsPort tree k (stop_at tree j).signal
+  pub no_field : (i : ℕ) → i < length tree.memories → ¬ IsFieldOf circuit tree i (stop_at tree j).signal
+
+-- A circuit keeps to the scopes of its tree. The circuit's in-signals are the top's inputs, in port order. Its
+-- out-signals are the top's outputs, in port order, and then the stops, which are distinct. An instance's ports are its
+-- own signals, and are distinct; so are a memory's fields. The path of an own signal is just below the instance's,
+-- unless it is such a field. No memory has an instance's path. The signals that a driver names, and those that the
+-- register of a signal names, are visible where the driver is written.
 pub record IsScoped (circuit : FlatCircuit) (tree : InstanceTree) : Type 0 where
   pub ins : input_signals (instance_at tree 0).ports ≡ circuit.ins
-  pub outs : output_signals (instance_at tree 0).ports ≡ circuit.outs
+  pub outs : output_signals (instance_at tree 0).ports ++ stop_signals tree ≡ circuit.outs
   pub ports : (k s : ℕ) → IsPort tree k s → IsOwnPort circuit tree k s
   pub ports_once : (k : ℕ) → k < length tree.instances → AllPairs (λ a b. a.signal ≢ b.signal) (instance_at tree k).ports
   pub fields : (j s : ℕ) → j < length tree.memories → IsFieldOf circuit tree j s → IsOwnField circuit tree j s
@@ -118,3 +131,5 @@ pub record IsScoped (circuit : FlatCircuit) (tree : InstanceTree) : Type 0 where
   pub apart : (k j : ℕ) → k < length tree.instances → j < length tree.memories → path_at tree.paths k ≢ path_at tree.memory_paths j
   pub drivers : (k s t : ℕ) → IsWritten tree k s → NamesSignal (driver_at circuit s) t → IsVisible tree k t
   pub registers : (k s r t : ℕ) (register : Register) → IsWritten tree k s → driver_at circuit s ≡ Held r → slice_get circuit.registers r ≡ Some register → RegisterNames register t → IsVisible tree k t
+  pub stops : (j : ℕ) → j < length tree.stops → IsStop circuit tree j
+  pub stops_once : AllPairs (λ a b. a ≢ b) (stop_signals tree)

@@ -3,19 +3,25 @@
 use Rattle.std.specs.Prelude.{◌≡◌, ◌≢◌, ◌⊎◌, ℕ, ◌<◌, ◌≤◌, ◌+◌, List, [], ◌∷◌, ◌++◌, Option, Some, None, length, map, slice_index_or, Contains, All, AllPairs}
 use Rattle.gg_flat.specs.declared.tree.Instance.{Instance}
 use Rattle.gg_flat.specs.declared.tree.MemoryInstance.{MemoryInstance}
+use Rattle.gg_flat.specs.declared.tree.StopInstance.{StopInstance}
 use Rattle.gg_flat.specs.Circuit.{FlatCircuit}
 
 -- The instances in the order of the tree: the top first, and each followed by all that are below it. `paths` has their
 -- paths, as bytes; the top's is empty. `memories` are the circuit's memories in that order, `memory_paths` their paths.
+-- `clocks` has the names of the top's Clock inputs, in port order, `register_clocks` the Clock input of its own instance
+-- that each of the circuit's registers follows, and `stops` the stops, in the order of the tree.
 pub record InstanceTree : Type 0 where
   pub paths : List (List ℕ)
   pub instances : List Instance
   pub memory_paths : List (List ℕ)
   pub memories : List MemoryInstance
+  pub clocks : List (List ℕ)
+  pub register_clocks : List (Option ℕ)
+  pub stops : List StopInstance
 
 -- the tree without an instance
 abbrev pub no_tree : InstanceTree
-no_tree = record { paths = []; instances = []; memory_paths = []; memories = [] }
+no_tree = record { paths = []; instances = []; memory_paths = []; memories = []; clocks = []; register_clocks = []; stops = [] }
 
 -- ---- paths
 
@@ -42,10 +48,13 @@ pub record IsJustBelow (outer path : List ℕ) : Type 0 where
 -- ---- instances and memories by their places
 
 abbrev pub instance_at : InstanceTree → ℕ → Instance
-instance_at tree k = slice_index_or tree.instances k (record { parent = None; «module» = 0; first = 0; end = 0; ports = []; memories = [] })
+instance_at tree k = slice_index_or tree.instances k (record { parent = None; «module» = 0; first = 0; end = 0; ports = []; memories = []; clocks = [] })
 
 abbrev pub memory_at : InstanceTree → ℕ → MemoryInstance
-memory_at tree k = slice_index_or tree.memories k (record { instance = 0; memory = 0; ports = [] })
+memory_at tree k = slice_index_or tree.memories k (record { instance = 0; memory = 0; ports = []; clocks = [] })
+
+abbrev pub stop_at : InstanceTree → ℕ → StopInstance
+stop_at tree k = slice_index_or tree.stops k (record { instance = 0; signal = 0; clock = None })
 
 -- the place of the parent; for the top 0
 abbrev pub parent_place : Option ℕ → ℕ

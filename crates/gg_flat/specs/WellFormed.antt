@@ -1,6 +1,6 @@
 -- When a flat circuit is well formed. Source: FIRRTL Specification, "Connects", "Registers", "Memories", "Type
 -- equivalence" and, for the names, "Namespaces".
-use Rattle.std.specs.Prelude.{◌≡◌, ◌≢◌, ℕ, ◌<◌, List, length, MatchOption, All, AllPairs, ⊤}
+use Rattle.std.specs.Prelude.{◌≡◌, ◌≢◌, ℕ, ◌<◌, List, Option, length, MatchOption, All, AllPairs, ⊤}
 use Rattle.gg_bits.specs.Shape.{Shape, shape, uint}
 use Rattle.gg_flat.specs.declared.memory.Latency.{Latency}
 use Rattle.gg_flat.specs.declared.memory.Latency.TheVariants.{Zero, One}
@@ -66,9 +66,19 @@ reader_driver (One under) m r reader = ReadRegister m r
 abbrev pub AreDriven : (ℕ → Driver) → ℕ → Latency → List Reader → Type 0
 AreDriven driver m latency readers = (r : ℕ) → r < length readers → driver (reader_at readers r).word ≡ reader_driver latency m r (reader_at readers r)
 
+-- a clock is one of `count`, or that of every tick
+abbrev pub IsClock : ℕ → Option ℕ → Type 0
+IsClock count clock = MatchOption clock ⊤ (λ number. number < count)
+
+-- the clocks of a memory's ports are among `count`
+pub record IsClockedMemory (count : ℕ) (memory : Memory) : Type 0 where
+  pub readers : All (λ reader. IsClock count reader.clock) memory.readers
+  pub writers : All (λ writer. IsClock count writer.clock) memory.writers
+
 -- A flat circuit is well formed. Each signal has a path, and no two have the same. The in-signals are just the signals
 -- without a driver of their own, each listed once. The data of readers are just the signals that memories drive, each
--- of exactly one reader. Every name is one of the circuit's. Types agree.
+-- of exactly one reader. Every name is one of the circuit's. Types agree. The clock of a register or of a memory's port is
+-- one of the circuit's, or that of every tick.
 pub record IsWellFormed (circuit : FlatCircuit) : Type 0 where
   pub named : length circuit.paths ≡ length circuit.signals
   pub distinct : AllPairs (λ a b. a ≢ b) circuit.paths
@@ -78,3 +88,5 @@ pub record IsWellFormed (circuit : FlatCircuit) : Type 0 where
   pub registers : All (IsRegister (HasType (signal_shapes circuit))) circuit.registers
   pub memories : All (IsMemory (HasType (signal_shapes circuit))) circuit.memories
   pub reads : (m : ℕ) → m < length circuit.memories → AreDriven (driver_at circuit) m (latency_at circuit m) (readers_at circuit m)
+  pub register_clocks : All (λ register. IsClock circuit.clocks register.clock) circuit.registers
+  pub memory_clocks : All (IsClockedMemory circuit.clocks) circuit.memories

@@ -229,6 +229,9 @@ impl Piece {
         if !self.are_read() {
             return false;
         }
+        if !self.are_clocked() {
+            return false;
+        }
         if !are_memories(self.signals(), self.memories()) {
             return false;
         }

@@ -16,15 +16,19 @@
 //!   (`values_agree`); a signal's value in a settled cycle depends only on the in-signals that it reaches
 //!   (`depends_on_reached`).
 //!
-//! `Tree` keeps the instances of a flat circuit and the names that have no signal there. `IsTree` defines when it is
-//! the tree of a circuit. The code that fills a `Tree` must prove this. `Piece::copy` and `Tree::copy` give an equal
-//! piece or tree. `Models` keeps pieces by their names.
+//! `Tree` keeps the instances of a flat circuit, its stops, and the names that have no signal there. It also keeps which
+//! Clock input of its instance each register, port of a memory and stop follows, and which one of its parent each Clock
+//! input of an instance follows. `IsTree` defines when it is the tree of a circuit, `IsScoped` when the circuit keeps to
+//! its scopes, and `IsClocked` when the circuit's clocks are those that the tree tells. The code that fills a `Tree` must
+//! prove these. `Tree::top_clocks` gives the clock of the circuit that each Clock input follows. `Piece::copy` and
+//! `Tree::copy` give an equal piece or tree. `Models` keeps pieces by their names.
 //!
 //! `Piece::check`, `Piece::settle` and `State::advance` do not allocate.
 #![tactic(auto)]
 
 mod bank;
 mod check;
+mod check_clocks;
 mod check_memory;
 mod clock;
 mod evaluate;
@@ -41,6 +45,7 @@ mod run;
 mod state;
 mod streams;
 mod tree;
+mod tree_clocks;
 
 pub use bank::Bank;
 pub use clock::ticks;
@@ -56,4 +61,5 @@ pub use piece::{Driver, Piece, Register, Reset, Signal};
 pub use ports::{Port, Ports};
 pub use state::State;
 pub use streams::Streams;
-pub use tree::{Instance, InstancePort, MemoryInstance, Tree};
+pub use tree::{ClockNumbers, Instance, InstancePort, MemoryInstance, StopInstance, Tree};
+pub use tree_clocks::{clock_at, clocks_at};

@@ -109,7 +109,7 @@ impl Clone for Register {
 }
 
 /// A flat circuit, or a part of one. A contract sees it as a `FlatCircuit`: lists of paths, signals, registers,
-/// memories, in-signals and out-signals. No two signals have the same path.
+/// memories, in-signals and out-signals, and the number of clocks. No two signals have the same path.
 #[derive(Drop)]
 pub struct Piece {
     paths: Paths,
@@ -118,6 +118,7 @@ pub struct Piece {
     memories: Vec<Memory>,
     ins: Vec<u32>,
     outs: Vec<u32>,
+    clocks: u32,
 }
 
 impl Model for Piece {
@@ -126,7 +127,7 @@ impl Model for Piece {
 
     ghost Value = { FlatCircuit };
 
-    ghost view = { λ piece. record { paths = piece.paths; signals = piece.signals.items; registers = piece.registers.items; memories = piece.memories.items; ins = piece.ins.items; outs = piece.outs.items } };
+    ghost view = { λ piece. record { paths = piece.paths; signals = piece.signals.items; registers = piece.registers.items; memories = piece.memories.items; ins = piece.ins.items; outs = piece.outs.items; clocks = piece.clocks } };
 
     ghost invariant = { λ piece. length piece.paths ≡ length piece.signals.items };
 }
@@ -143,6 +144,7 @@ impl Piece {
             memories: Vec::new(alloc),
             ins: Vec::new(alloc),
             outs: Vec::new(alloc),
+            clocks: 0,
         }
     }
 
@@ -161,6 +163,7 @@ impl Piece {
             memories: self.memories.clone()?,
             ins: self.ins.clone()?,
             outs: self.outs.clone()?,
+            clocks: self.clocks,
         })
     }
 
@@ -197,6 +200,13 @@ impl Piece {
         ensures { result.now ≡ self.now.outs }
     {
         self.outs.as_slice()
+    }
+
+    /// How many clocks there are.
+    pub fn clocks(&self) -> u32
+        ensures { result ≡ self.now.clocks }
+    {
+        self.clocks
     }
 
     /// How many signals there are, which is how many paths there are: fewer than 4,294,967,296.
@@ -299,5 +309,12 @@ impl Piece {
     {
         self.outs.push(signal)?;
         Ok(())
+    }
+
+    /// Gives the piece this many clocks.
+    pub fn set_clocks(&mut self, count: u32)
+        ensures { self.new ≡ record self.old { clocks = count } }
+    {
+        self.clocks = count;
     }
 }

@@ -1,4 +1,4 @@
-//! The ports of a piece: the signals that it gets from outside and gives to the outside.
+//! Signals of a piece as ports: those that it gets from outside and gives to the outside, or any others.
 ghost use Rattle.std.specs.Prelude.{◌≡◌, ◌<◌, Some, IfOk, All, length};
 ghost use Rattle.gg_flat.specs.Ports.{port_at, ports_at, in_ports, out_ports};
 ghost use Rattle.gg_flat.specs.WellFormed.{IsWellFormed};
@@ -44,7 +44,20 @@ impl Piece {
         ports_of(alloc, self, self.ins())
     }
 
-    /// The ports that the piece gives to the outside, in port order. The piece is well formed.
+    /// These signals of the piece as ports, in this order.
+    ///
+    /// # Errors
+    ///
+    /// Returns `AllocError` if an allocation fails.
+    pub fn ports(&self, alloc: Global, signals: &[u32]) -> Result<Ports, AllocError>
+        requires { All (λ s. s < length self.now.signals) signals.now }
+        ensures { IfOk result (λ ports. ports ≡ ports_at self.now signals.now) }
+    {
+        ports_of(alloc, self, signals)
+    }
+
+    /// The ports that the piece gives to the outside: the output ports in port order, and then the stops. The piece is
+    /// well formed.
     ///
     /// # Errors
     ///

@@ -17,6 +17,9 @@ pub struct InstancePort {
     pub is_input: bool,
 }
 
+/// Clocks by their numbers, or none.
+pub type ClockNumbers = Items<Option<u32>>;
+
 /// An instance of a module, or the top. Signals, memories and other instances are given by their numbers.
 #[derive(Debug, Drop)]
 pub struct Instance {
@@ -32,6 +35,9 @@ pub struct Instance {
     pub ports: Items<InstancePort>,
     /// Its own memories, in the order of the file.
     pub memories: Ids,
+    /// For each of its Clock inputs, in port order, the Clock input of its parent that it follows. For each of the top
+    /// it is that one itself.
+    pub clocks: ClockNumbers,
 }
 
 impl Clone for Instance {
@@ -45,6 +51,7 @@ impl Clone for Instance {
             end: self.end,
             ports: self.ports.clone()?,
             memories: self.memories.clone()?,
+            clocks: self.clocks.clone()?,
         })
     }
 }
@@ -58,6 +65,8 @@ pub struct MemoryInstance {
     pub memory: u32,
     /// The names of its ports: the readers first, then the writers, each in the order of the file.
     pub ports: Names,
+    /// For each of these ports, the Clock input of its instance that it follows.
+    pub clocks: ClockNumbers,
 }
 
 impl Clone for MemoryInstance {
@@ -68,8 +77,20 @@ impl Clone for MemoryInstance {
             instance: self.instance,
             memory: self.memory,
             ports: self.ports.clone()?,
+            clocks: self.clocks.clone()?,
         })
     }
+}
+
+/// A stop in the tree: where the circuit asks for the end of a run (FIRRTL Specification, "Stop").
+#[derive(Clone, Copy, Debug, PartialEq, Eq)]
+pub struct StopInstance {
+    /// The instance whose module has it.
+    pub instance: u32,
+    /// Its signal: its condition, one unsigned bit.
+    pub signal: u32,
+    /// The Clock input of its instance that it follows.
+    pub clock: Option<u32>,
 }
 
 /// The instances of a flat circuit in the order of the tree: the top first, and each followed by all that are below it.
@@ -84,6 +105,9 @@ pub struct Tree {
     instances: Vec<Instance>,
     memory_paths: Paths,
     memories: Vec<MemoryInstance>,
+    clocks: Vec<Name>,
+    register_clocks: Vec<Option<u32>>,
+    stops: Vec<StopInstance>,
 }
 
 impl Model for Tree {
@@ -92,7 +116,7 @@ impl Model for Tree {
 
     ghost Value = { InstanceTree };
 
-    ghost view = { λ tree. record { paths = tree.paths; instances = tree.instances.items; memory_paths = tree.memory_paths; memories = tree.memories.items } };
+    ghost view = { λ tree. record { paths = tree.paths; instances = tree.instances.items; memory_paths = tree.memory_paths; memories = tree.memories.items; clocks = tree.clocks.items; register_clocks = tree.register_clocks.items; stops = tree.stops.items } };
 
     ghost invariant = { λ tree. (length tree.paths ≡ length tree.instances.items) × (length tree.memory_paths ≡ length tree.memories.items) };
 }
@@ -107,6 +131,9 @@ impl Tree {
             instances: Vec::new(alloc),
             memory_paths: Paths::new(alloc),
             memories: Vec::new(alloc),
+            clocks: Vec::new(alloc),
+            register_clocks: Vec::new(alloc),
+            stops: Vec::new(alloc),
         }
     }
 
@@ -123,6 +150,9 @@ impl Tree {
             instances: self.instances.clone()?,
             memory_paths: self.memory_paths.clone()?,
             memories: self.memories.clone()?,
+            clocks: self.clocks.clone()?,
+            register_clocks: self.register_clocks.clone()?,
+            stops: self.stops.clone()?,
         })
     }
 
@@ -138,6 +168,27 @@ impl Tree {
         ensures { result.now ≡ self.now.memories }
     {
         self.memories.as_slice()
+    }
+
+    /// The names of the top's Clock inputs, in port order.
+    pub fn clocks(&self) -> &[Name]
+        ensures { result.now ≡ self.now.clocks }
+    {
+        self.clocks.as_slice()
+    }
+
+    /// For each register of the flat circuit, in order, the Clock input of its instance that it follows.
+    pub fn register_clocks(&self) -> &[Option<u32>]
+        ensures { result.now ≡ self.now.register_clocks }
+    {
+        self.register_clocks.as_slice()
+    }
+
+    /// The stops, in the order of the tree.
+    pub fn stops(&self) -> &[StopInstance]
+        ensures { result.now ≡ self.now.stops }
+    {
+        self.stops.as_slice()
     }
 
     /// How many instances there are, the top among them, which is how many paths there are: fewer than 4,294,967,296.
@@ -238,5 +289,44 @@ impl Tree {
             }
             Err(cause) => Err(cause),
         }
+    }
+
+    /// Adds a Clock input of the top, as the last.
+    ///
+    /// # Errors
+    ///
+    /// Returns `AllocError` if an allocation fails. The tree then stays as it was.
+    pub fn add_clock(&mut self, name: Name) -> Result<(), AllocError>
+        ensures ok { OnOk result (self.new ≡ record self.old { clocks = self.old.clocks ++ name ∷ [] }) }
+        ensures err { OnErr result (self.new ≡ self.old) }
+    {
+        self.clocks.push(name)?;
+        Ok(())
+    }
+
+    /// Adds what the next register of the flat circuit follows.
+    ///
+    /// # Errors
+    ///
+    /// Returns `AllocError` if an allocation fails. The tree then stays as it was.
+    pub fn add_register_clock(&mut self, clock: Option<u32>) -> Result<(), AllocError>
+        ensures ok { OnOk result (self.new ≡ record self.old { register_clocks = self.old.register_clocks ++ clock ∷ [] }) }
+        ensures err { OnErr result (self.new ≡ self.old) }
+    {
+        self.register_clocks.push(clock)?;
+        Ok(())
+    }
+
+    /// Adds a stop, as the last.
+    ///
+    /// # Errors
+    ///
+    /// Returns `AllocError` if an allocation fails. The tree then stays as it was.
+    pub fn add_stop(&mut self, stop: StopInstance) -> Result<(), AllocError>
+        ensures ok { OnOk result (self.new ≡ record self.old { stops = self.old.stops ++ stop ∷ [] }) }
+        ensures err { OnErr result (self.new ≡ self.old) }
+    {
+        self.stops.push(stop)?;
+        Ok(())
     }
 }

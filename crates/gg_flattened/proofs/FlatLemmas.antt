@@ -25,9 +25,9 @@ pub signals-kept : (types : Types) (modules : List ModuleTree) (place : Place) (
 signals-kept types modules place digest h =
     ap (map (flat_signal modules (site_of place))) (sym h.signals) ∙ map-map (flat_signal modules (site_of place)) own_of digest.signals.items
 
-pub memories-kept : (types : Types) (modules : List ModuleTree) (place : Place) (digest : Digest) → IsDigest types modules place.number digest → memories_at modules (site_of place) ≡ map (λ m. flat_memory (site_of place) (own_bank_of m)) digest.memories.items
+pub memories-kept : (types : Types) (modules : List ModuleTree) (place : Place) (digest : Digest) → IsDigest types modules place.number digest → memories_at modules (site_of place) ≡ map (λ m. flat_memory modules (site_of place) (own_bank_of m)) digest.memories.items
 memories-kept types modules place digest h =
-    ap (map (flat_memory (site_of place))) (sym h.memories) ∙ map-map (flat_memory (site_of place)) own_bank_of digest.memories.items
+    ap (map (flat_memory modules (site_of place))) (sym h.memories) ∙ map-map (flat_memory modules (site_of place)) own_bank_of digest.memories.items
 
 pub one_more : {B : Type 0} (f : Site → List B) (places : List Place) (i : ℕ) (p : Place) → i < length places → p ≡ get_or places i p → flat_map f (map site_of (take (i + 1) places)) ≡ flat_map f (map site_of (take i places)) ++ f (site_of p)
 one_more f places i p lt is =
@@ -42,7 +42,7 @@ signals-more types modules places i p digest lt is h =
     one_more (signals_at types modules) places i p lt is
     ∙ ap (λ l. flat_signals types modules (map site_of (take i places)) ++ l) (signals-kept types modules p digest h)
 
-pub memories-more : (types : Types) (modules : List ModuleTree) (places : List Place) (i : ℕ) (p : Place) (digest : Digest) → i < length places → p ≡ get_or places i p → IsDigest types modules p.number digest → flat_memories modules (map site_of (take (i + 1) places)) ≡ flat_memories modules (map site_of (take i places)) ++ map (λ m. flat_memory (site_of p) (own_bank_of m)) digest.memories.items
+pub memories-more : (types : Types) (modules : List ModuleTree) (places : List Place) (i : ℕ) (p : Place) (digest : Digest) → i < length places → p ≡ get_or places i p → IsDigest types modules p.number digest → flat_memories modules (map site_of (take (i + 1) places)) ≡ flat_memories modules (map site_of (take i places)) ++ map (λ m. flat_memory modules (site_of p) (own_bank_of m)) digest.memories.items
 memories-more types modules places i p digest lt is h =
     one_more (memories_at modules) places i p lt is
     ∙ ap (λ l. flat_memories modules (map site_of (take i places)) ++ l) (memories-kept types modules p digest h)
@@ -66,9 +66,9 @@ table-more modules xs place items old new h paths shapes =
     ∙ sym (map-append (λ (x : FlatSignal). x.shape) xs (map f items)) in
     λ i. record { paths = a i; shapes = b i }
 
-pub memory_paths-more : (banks : List FlatMemory) (place : Place) (items : List OwnMemory) (old new : List (List ℕ)) → old ≡ memory_paths banks → new ≡ old ++ map (λ m. joined place.path m.name.now) items → new ≡ memory_paths (banks ++ map (λ m. flat_memory (site_of place) (own_bank_of m)) items)
-memory_paths-more banks place items old new h more =
-    let f = λ (m : OwnMemory). flat_memory (site_of place) (own_bank_of m) in
+pub memory_paths-more : (modules : List ModuleTree) (banks : List FlatMemory) (place : Place) (items : List OwnMemory) (old new : List (List ℕ)) → old ≡ memory_paths banks → new ≡ old ++ map (λ m. joined place.path m.name.now) items → new ≡ memory_paths (banks ++ map (λ m. flat_memory modules (site_of place) (own_bank_of m)) items)
+memory_paths-more modules banks place items old new h more =
+    let f = λ (m : OwnMemory). flat_memory modules (site_of place) (own_bank_of m) in
     more ∙ ap (λ (l : List (List ℕ)). l ++ map (λ (m : OwnMemory). joined place.path m.name.now) items) h
     ∙ ap (λ l. memory_paths banks ++ l) (sym (map-map (λ (x : FlatMemory). x.path) f items))
     ∙ sym (map-append (λ (x : FlatMemory). x.path) banks (map f items))

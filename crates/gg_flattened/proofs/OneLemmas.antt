@@ -23,11 +23,11 @@ use Rattle.gg_flat.specs.Circuit.{FlatCircuit, driver_at}
 use Rattle.gg_flat.specs.Line.{shape_at}
 use Rattle.gg_flattened.specs.Connection.{Connection}
 use Rattle.gg_flattened.specs.Flat.{Drive, Outside, Gets, Holds, Answers, FlatSignal, FlatMemory}
-use Rattle.gg_flattened.specs.IsFlat.{bindings_of, IsDrivenBy, HasReset, HasNext, IsRegisterOf, IsMemoryOf, IsFlatOf, IsFlat, is_outside, is_register, drive_at, count_before, signals_of, memory_paths}
+use Rattle.gg_flattened.specs.IsFlat.{bindings_of, IsDrivenBy, HasReset, HasNext, IsRegisterOf, IsMemoryOf, IsFlatOf, IsFlat, is_outside, is_register, drive_at, count_before, signals_of}
 use Rattle.gg_flattened.specs.Lines.{Laid, laid_node, laid}
 use Rattle.gg_flattened.specs.Meaning.{Bindings, Context, in_scope}
 use Rattle.gg_flattened.specs.Signals.{Types}
-use Rattle.gg_flattened.proofs.PassingLemmas.{passing, passing-at, passing-count}
+use Rattle.gg_flattened.proofs.PassingLemmas.{passing-at, passing-count}
 use Rattle.gg_flattened.proofs.TyLemmas.{ty-equal}
 
 -- ---- lines
@@ -56,7 +56,7 @@ driver-same : (bindings : Bindings) (rs qs : List Register) (inputs states : ℕ
 driver-same bindings rs qs inputs states sink Outside d e h k = h ∙ sym k
 driver-same bindings rs qs inputs states sink (Gets scope c) d e h k =
     h.computed ∙ ap Computed (line-same h.line k.line (h.stands.nodes ∙ sym k.stands.nodes)) ∙ sym k.computed
-driver-same bindings rs qs inputs states sink (Holds scope reset next) d e h k = h.held ∙ sym k.held
+driver-same bindings rs qs inputs states sink (Holds scope reset next own clock) d e h k = h.held ∙ sym k.held
 driver-same bindings rs qs inputs states sink (Answers memory place latency addr en) d e h k = h ∙ sym k
 
 -- ---- registers
@@ -81,8 +81,8 @@ reset-same context sink (Some asked) (Some a) (Some b) h k =
     ap (λ (l : List Node). Some (reset_made l a.init)) (line-same a.condition b.condition (h.0.nodes ∙ sym k.0.nodes))
     ∙ ap (λ (l : List Node). Some (reset_made b.condition l)) (line-same a.init b.init (h.1.nodes ∙ sym k.1.nodes))
 
-register-same : (context : Context) (sink : Shape) (reset : Option given.Reset) (next : Option Connection) (a b : Register) → IsRegisterOf context sink reset next a → IsRegisterOf context sink reset next b → a ≡ b
-register-same context sink reset next a b h k =
+register-same : (context : Context) (sink : Shape) (reset : Option given.Reset) (next : Option Connection) (clock : Option ℕ) (a b : Register) → IsRegisterOf context sink reset next clock a → IsRegisterOf context sink reset next clock b → a ≡ b
+register-same context sink reset next clock a b h k =
     ap (λ (t : Ty). register_made t a.reset a.next a.clock) (ty-equal a.ty b.ty (h.typed ∙ sym k.typed))
     ∙ ap (λ (r : Option kept.Reset). register_made b.ty r a.next a.clock) (reset-same context sink reset a.reset b.reset h.reset_is k.reset_is)
     ∙ ap (λ (n : Option (List Node)). register_made b.ty b.reset n a.clock) (next-same context sink next a.next b.next h.next_is k.next_is)
@@ -124,11 +124,11 @@ list-same [] (y ∷ ys) e h = absurd (omega (arith, e))
 list-same (x ∷ xs) [] e h = absurd (omega (arith, e))
 list-same (x ∷ xs) (y ∷ ys) e h = ext_get_or x (x ∷ xs) (y ∷ ys) e (λ k lt. h k x x lt)
 
-abbrev circuit_made : List (List ℕ) → List Signal → List Register → List Memory → List ℕ → List ℕ → FlatCircuit
-circuit_made paths signals registers memories ins outs = record { paths = paths; signals = signals; registers = registers; memories = memories; ins = ins; outs = outs }
+abbrev circuit_made : List (List ℕ) → List Signal → List Register → List Memory → List ℕ → List ℕ → ℕ → FlatCircuit
+circuit_made paths signals registers memories ins outs clocks = record { paths = paths; signals = signals; registers = registers; memories = memories; ins = ins; outs = outs; clocks = clocks }
 
-module _ (types : Types) (all : List FlatSignal) (banks : List FlatMemory) (ports : List Port) (f g : FlatCircuit) (one : IsFlatOf types all banks ports f) (other : IsFlatOf types all banks ports g) where
-  counted : (flat : FlatCircuit) → IsFlatOf types all banks ports flat → length flat.signals ≡ length all
+module _ (types : Types) (all : List FlatSignal) (banks : List FlatMemory) (ports : List Port) (stops : List (List ℕ)) (f g : FlatCircuit) (one : IsFlatOf types all banks ports stops f) (other : IsFlatOf types all banks ports stops g) where
+  counted : (flat : FlatCircuit) → IsFlatOf types all banks ports stops flat → length flat.signals ≡ length all
   counted flat h =
       sym (length-map flat.signals (λ signal. shape signal.ty)) ∙ ap length h.shapes ∙ length-map all (λ x. x.shape)
 
@@ -147,7 +147,7 @@ module _ (types : Types) (all : List FlatSignal) (banks : List FlatMemory) (port
   register_at : (s r : ℕ) (drive : Drive) (d e : Driver) → is_register drive ≡ true → IsDrivenBy (bindings_of types all banks) f.registers (count_before is_outside all s) r (shape_at (signals_of all).shapes s) drive d → IsDrivenBy (bindings_of types all banks) g.registers (count_before is_outside all s) r (shape_at (signals_of all).shapes s) drive e → SameAt r
   register_at s r Outside d e is h k = absurd (cc)
   register_at s r (Gets scope c) d e is h k = absurd (cc)
-  register_at s r (Holds scope reset next) d e is h k = λ a b. register-same (in_scope (bindings_of types all banks) scope) _ reset next _ _ (h.register a) (k.register b)
+  register_at s r (Holds scope reset next own clock) d e is h k = λ a b. register-same (in_scope (bindings_of types all banks) scope) _ reset next clock _ _ (h.register a) (k.register b)
   register_at s r (Answers memory place latency addr en) d e is h k = absurd (cc)
 
   registers_at : (r : ℕ) → r < length f.registers → SameAt r
@@ -164,18 +164,19 @@ module _ (types : Types) (all : List FlatSignal) (banks : List FlatMemory) (port
   memories_at : (m : ℕ) (a b : Memory) → m < length f.memories → slice_index_or f.memories m a ≡ slice_index_or g.memories m b
   memories_at m a b lt =
       let few : m < length banks = let e = one.memory_count in omega (arith, e) in
-      let none : FlatMemory = record { path = []; bank = record { word = uint 0; depth = 0; latency = Zero; readers = []; writers = [] } } in
+      let none : FlatMemory = record { path = []; bank = record { word = uint 0; depth = 0; latency = Zero; readers = []; writers = [] }; own_clock = λ port. None; clock = λ port. None } in
       memory-same (signals_of all).paths (slice_index_or banks m none) _ _ (one.memories m none a few) (other.memories m none b few)
 
   pub circuit-same : f ≡ g
   circuit-same =
-      ap (λ x. circuit_made x f.signals f.registers f.memories f.ins f.outs) (one.paths ∙ sym other.paths)
-      ∙ ap (λ x. circuit_made g.paths x f.registers f.memories f.ins f.outs) (signals-same f.signals g.signals (one.shapes ∙ sym other.shapes) drivers-same)
-      ∙ ap (λ x. circuit_made g.paths g.signals x f.memories f.ins f.outs) (list-same f.registers g.registers (one.register_count ∙ sym other.register_count) (λ r a b lt. registers_at r lt a b))
-      ∙ ap (λ x. circuit_made g.paths g.signals g.registers x f.ins f.outs) (list-same f.memories g.memories (one.memory_count ∙ sym other.memory_count) memories_at)
-      ∙ ap (λ x. circuit_made g.paths g.signals g.registers g.memories x f.outs) (one.ins ∙ sym other.ins)
-      ∙ ap (λ x. circuit_made g.paths g.signals g.registers g.memories g.ins x) (one.outs ∙ sym other.outs)
+      ap (λ x. circuit_made x f.signals f.registers f.memories f.ins f.outs f.clocks) (one.paths ∙ sym other.paths)
+      ∙ ap (λ x. circuit_made g.paths x f.registers f.memories f.ins f.outs f.clocks) (signals-same f.signals g.signals (one.shapes ∙ sym other.shapes) drivers-same)
+      ∙ ap (λ x. circuit_made g.paths g.signals x f.memories f.ins f.outs f.clocks) (list-same f.registers g.registers (one.register_count ∙ sym other.register_count) (λ r a b lt. registers_at r lt a b))
+      ∙ ap (λ x. circuit_made g.paths g.signals g.registers x f.ins f.outs f.clocks) (list-same f.memories g.memories (one.memory_count ∙ sym other.memory_count) memories_at)
+      ∙ ap (λ x. circuit_made g.paths g.signals g.registers g.memories x f.outs f.clocks) (one.ins ∙ sym other.ins)
+      ∙ ap (λ x. circuit_made g.paths g.signals g.registers g.memories g.ins x f.clocks) (one.outs ∙ sym other.outs)
+      ∙ ap (λ x. circuit_made g.paths g.signals g.registers g.memories g.ins g.outs x) (one.clocks ∙ sym other.clocks)
 
 -- all flat circuits of a circuit are equal
 pub flats-same : (circuit : CircuitTree) (one other : FlatCircuit) → IsFlat circuit one → IsFlat circuit other → one ≡ other
-flats-same circuit one other a b = circuit-same _ _ _ _ one other a b
+flats-same circuit one other a b = circuit-same _ _ _ _ _ one other a b

@@ -6,10 +6,14 @@ use Rattle.gg_ast.specs.Tree.{ModuleTree}
 use Rattle.gg_count.specs.Sites.{Held, Site, site_below, sites, held_at, module_at}
 use Rattle.gg_count.proofs.CountLemmas.{held_by-below}
 use Rattle.gg_count.proofs.PassLemmas.{numbers_of}
+use Rattle.gg_flat.specs.Clocked.{clock_at}
 use Rattle.gg_flat.specs.Tree.{joined}
 use Rattle.gg_flattened.specs.declared.digest.Instance.{Instance}
 use Rattle.gg_flattened.specs.declared.sites.Around.{Around}
-use Rattle.gg_flattened.specs.Views.{held_of}
+use Rattle.gg_flattened.specs.declared.sites.Above.{Above}
+use Rattle.gg_flattened.specs.declared.sites.Place.{Place}
+use Rattle.gg_flattened.specs.Clocks.{clocks_given, own_clocks, site_clocks}
+use Rattle.gg_flattened.specs.Views.{held_of, site_of, step_of, IsAbove, IsPlaceIn}
 
 -- The list has the sites before, then the site `here`, then those of some of the instances that it holds, down to so many levels.
 pub record Grown (modules : List ModuleTree) (levels : ℕ) (here : Site) (before : List Site) (hs : List Held) (all : List Site) : Type 0 where
@@ -31,10 +35,23 @@ grown-all modules (suc levels) here before all some g =
 
 -- ---- an instance of a site
 
-pub next-site : (here : Site) (path : List ℕ) (h : Held) (s : Site) → s ≡ record { path = joined path h.name; number = h.number; depth = here.depth + 1; outer = Some (record { path = path; number = here.number; name = h.name }) } → path ≡ here.path → s ≡ site_below here h
-next-site here path h s e p =
-    let d : here.depth + 1 ≡ suc here.depth = omega arith in
-    e ∙ (λ i. record { path = joined (p i) h.name; number = h.number; depth = d i; outer = Some (record { path = p i; number = here.number; name = h.name }) })
+-- an instance of a site, by what is needed of the site
+pub next-site : (place : Place) (above : Above) (h : Held) (s : Site) → IsAbove place above
+    → s ≡ record { path = joined above.path h.name; number = h.number; depth = above.depth + 1; outer = Some (record { path = above.path; number = above.number; name = h.name }); steps = record { number = above.number; name = h.name } ∷ map step_of above.steps.items }
+    → s ≡ site_below (site_of place) h
+next-site place above h s a e =
+    let d : above.depth + 1 ≡ suc place.depth = omega (arith, a.depth) in
+    e ∙ (λ i. record { path = joined (a.path i) h.name; number = h.number; depth = d i; outer = Some (record { path = a.path i; number = a.number i; name = h.name }); steps = record { number = a.number i; name = h.name } ∷ a.steps i })
+
+-- its Clock inputs follow what they do
+pub next-place : (modules : List ModuleTree) (place next : Place) (above : Above) (h : Held) → IsPlaceIn modules place → IsAbove place above → site_of next ≡ site_below (site_of place) h
+    → next.own_clocks.items ≡ clocks_given (module_at modules above.number) h.name (module_at modules h.number) → next.clocks.items ≡ map (clock_at above.clocks.items) next.own_clocks.items
+    → (next.own_clocks.items ≡ own_clocks modules (site_of next)) × (next.clocks.items ≡ site_clocks modules (site_of next))
+next-place modules place next above h in_place a is own led =
+    let followed : next.own_clocks.items ≡ clocks_given (module_at modules place.number) h.name (module_at modules h.number) = own ∙ ap (λ n. clocks_given (module_at modules n) h.name (module_at modules h.number)) a.number in (
+      followed ∙ ap (own_clocks modules) (sym is),
+      led ∙ ap (λ l. map (clock_at l) next.own_clocks.items) (a.clocks ∙ in_place.led) ∙ ap (map (clock_at (site_clocks modules (site_of place)))) followed ∙ ap (site_clocks modules) (sym is),
+    )
 
 -- the module of an instance is one of the circuit's
 pub held-below : (modules : List ModuleTree) (k : ℕ) (items : List Instance) (i : ℕ) (x : Instance) → map held_of items ≡ held_at modules k → i < length items → x ≡ get_or items i x → x.number < length modules

@@ -109,7 +109,7 @@ register =
       ty = four;
       reset = Some (record { condition = node one (does.Ref 0) ∷ []; init = node four (does.Literal (value 0)) ∷ [] });
       next = Some next_line;
-      clock = None;
+      clock = Some 0;
     }
 
 abbrev flat_with : List Register → FlatCircuit
@@ -126,6 +126,7 @@ flat_with registers =
       memories = [];
       ins = 0 ∷ [];
       outs = 1 ∷ [];
+      clocks = 1;
     }
 
 abbrev flat : FlatCircuit
@@ -230,7 +231,7 @@ condition_is = record {
   nodes = refl;
 }
 
-register_is : IsRegisterOf here (shape four) (Some reset) (Some (ConnectedTo next)) register
+register_is : IsRegisterOf here (shape four) (Some reset) (Some (ConnectedTo next)) (Some 0) register
 register_is = record { typed = refl; reset_is = (condition_is, init_is); next_is = next_is; clocked = refl }
 
 -- ---- rows
@@ -263,6 +264,7 @@ right = record {
   memories = λ m said any lt. absurd (omega (arith, lt));
   ins = refl;
   outs = refl;
+  clocks = refl;
 }
 
 -- without the register's connection it isn't

@@ -77,11 +77,11 @@ of_b =
     ∷ []
 
 abbrev register : ℕ → Register
-register s = record { ty = one; reset = None; next = Some (node one (does.Ref s) ∷ []); clock = None }
+register s = record { ty = one; reset = None; next = Some (node one (does.Ref s) ∷ []); clock = Some 0 }
 
 abbrev memory_of_parent : Memory
 memory_of_parent =
-    record { word = three; depth = 4; latency = One New; readers = record { addr = 1; en = 2; word = 3; clock = None } ∷ []; writers = [] }
+    record { word = three; depth = 4; latency = One New; readers = record { addr = 1; en = 2; word = 3; clock = Some 0 } ∷ []; writers = [] }
 
 abbrev memory_of_a : Memory
 memory_of_a =
@@ -89,8 +89,8 @@ memory_of_a =
       word = one;
       depth = 2;
       latency = Zero;
-      readers = record { addr = 6; en = 7; word = 8; clock = None } ∷ [];
-      writers = record { addr = 9; en = 10; word = 11; mask = 12; clock = None } ∷ [];
+      readers = record { addr = 6; en = 7; word = 8; clock = Some 0 } ∷ [];
+      writers = record { addr = 9; en = 10; word = 11; mask = 12; clock = Some 0 } ∷ [];
     }
 
 abbrev memory_of_b : Memory
@@ -99,8 +99,8 @@ memory_of_b =
       word = one;
       depth = 2;
       latency = Zero;
-      readers = record { addr = 16; en = 17; word = 18; clock = None } ∷ [];
-      writers = record { addr = 19; en = 20; word = 21; mask = 22; clock = None } ∷ [];
+      readers = record { addr = 16; en = 17; word = 18; clock = Some 0 } ∷ [];
+      writers = record { addr = 19; en = 20; word = 21; mask = 22; clock = Some 0 } ∷ [];
     }
 
 abbrev flat : FlatCircuit
@@ -112,6 +112,7 @@ flat =
       memories = memory_of_parent ∷ memory_of_a ∷ memory_of_b ∷ [];
       ins = [];
       outs = 0 ∷ [];
+      clocks = 1;
     }
 
 abbrev with_signals : List Signal → FlatCircuit
@@ -178,7 +179,7 @@ abbrev registers : List Register
 registers = register 4 ∷ register 14 ∷ []
 
 -- the register that takes the value of `i`, signal s
-register_of : (scope : Scope) (s : ℕ) → is_some (types_of circuit scope.number (Local (codes "i"))) ≡ true → place_of (joined scope.path (codes "i")) paths ≡ Some s → shape_at shapes s ≡ shape one → IsRegisterOf (in_scope bound scope) (shape one) None (Some (ConnectedTo (NamedTerm (Local (codes "i"))))) (register s)
+register_of : (scope : Scope) (s : ℕ) → is_some (types_of circuit scope.number (Local (codes "i"))) ≡ true → place_of (joined scope.path (codes "i")) paths ≡ Some s → shape_at shapes s ≡ shape one → IsRegisterOf (in_scope bound scope) (shape one) None (Some (ConnectedTo (NamedTerm (Local (codes "i"))))) (Some 0) (register s)
 register_of scope s known is typed = record {
   typed = refl;
   reset_is = refl;
@@ -187,11 +188,11 @@ register_of scope s known is typed = record {
   clocked = refl;
 }
 
-held_by_a : IsHeld (in_scope bound a) (shape one) None (Some (ConnectedTo (NamedTerm (Local (codes "i"))))) registers 0 (Held 0)
+held_by_a : IsHeld (in_scope bound a) (shape one) None (Some (ConnectedTo (NamedTerm (Local (codes "i"))))) (Some 0) registers 0 (Held 0)
 unfolding types_of
 held_by_a = record { held = refl; within = lit≤ tt; register = λ any. register_of a 4 refl refl refl }
 
-held_by_b : IsHeld (in_scope bound b) (shape one) None (Some (ConnectedTo (NamedTerm (Local (codes "i"))))) registers 1 (Held 1)
+held_by_b : IsHeld (in_scope bound b) (shape one) None (Some (ConnectedTo (NamedTerm (Local (codes "i"))))) (Some 0) registers 1 (Held 1)
 unfolding types_of
 held_by_b = record { held = refl; within = lit≤ tt; register = λ any. register_of b 14 refl refl refl }
 
@@ -301,6 +302,7 @@ right = record {
   memories = memories_are;
   ins = refl;
   outs = refl;
+  clocks = refl;
 }
 
 -- with one signal too many it isn't
@@ -335,6 +337,16 @@ shared_register h = let held : Held 0 ≡ Held 1 = (h.drivers 23 (lit≤ tt)).he
 -- with the instances' memories before the parent's it isn't
 children_first : IsFlat circuit (record flat { memories = memory_of_a ∷ memory_of_b ∷ memory_of_parent ∷ [] }) → ⊥
 children_first h =
-    let word : shape one ≡ shape three = (h.memories 0 (record { path = []; bank = none }) memory_of_a (lit≤ tt)).word in
+    let word : shape one ≡ shape three = (h.memories 0 (record { path = []; bank = none; own_clock = λ port. None; clock = λ port. None }) memory_of_a (lit≤ tt)).word in
     let width : 1 ≡ 3 = ap (λ (s : Shape). s.width) word in
     omega (arith, width)
+
+-- with a register that goes on in every tick it isn't
+unclocked : IsFlat circuit (record flat { registers = record (register 4) { clock = None } ∷ register 14 ∷ [] }) → ⊥
+unfolding types_of
+unclocked h = let same : None ≡ Some 0 = ((h.drivers 13 (lit≤ tt)).register (register 4)).clocked in cc
+
+-- with a second clock it isn't
+second_clock : IsFlat circuit (record flat { clocks = 2 }) → ⊥
+unfolding types_of
+second_clock h = let counted : 2 ≡ 1 = h.clocks in omega (arith, counted)

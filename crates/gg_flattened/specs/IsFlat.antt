@@ -1,8 +1,8 @@
 -- When a flat circuit is that of a circuit.
 -- Source: FIRRTL Specification, "Circuits and Modules", "Instances", "Statements", "Memories", "Connects",
--- "Invalidates". It has the signals, registers, memories and ports of the circuit's sites, and nothing more. There is
--- only one: of each line its nodes are fixed, besides its value and the signals that it names.
-use Rattle.std.specs.Prelude.{◌≡◌, ℕ, ◌<◌, ◌↔◌, List, [], Option, Some, None, Bool, true, false, MatchOption, length, map, take, filter_map, count_by, slice_index_or, unwrap_or, if◌then◌else◌, ◌&&◌, is_some, codes}
+-- "Invalidates", "Stop". It has the signals, registers, memories, ports and clocks of the circuit's sites, and nothing
+-- more. There is only one: of each line its nodes are fixed, besides its value and the signals that it names.
+use Rattle.std.specs.Prelude.{◌≡◌, ℕ, ◌<◌, ◌↔◌, List, [], ◌++◌, Option, Some, None, Bool, true, false, MatchOption, length, map, take, filter_map, count_by, slice_index_or, unwrap_or, if◌then◌else◌, ◌&&◌, is_some, codes}
 use Rattle.gg_bits.specs.Shape.{Shape, shape}
 use Rattle.gg_ast.specs.declared.module.Direction.{Direction}
 use Rattle.gg_ast.specs.declared.module.Direction.TheVariants as direction
@@ -24,11 +24,12 @@ use Rattle.gg_flat.specs.declared.piece.Driver.TheVariants.{Input, Held, MemoryW
 use Rattle.gg_flat.specs.Circuit.{FlatCircuit, signal_shapes, driver_at}
 use Rattle.gg_flat.specs.Line.{shape_at, line_value, connected_value as line_connected}
 use Rattle.gg_flat.specs.Reads.{Names}
+use Rattle.gg_types.specs.Clocks.{clock_inputs}
 use Rattle.gg_count.specs.Sites.{module_at, sites_of}
 use Rattle.gg_flattened.specs.Memories.{type_shape}
 use Rattle.gg_flattened.specs.Signals.{Types, field_name}
 use Rattle.gg_flattened.specs.Connection.{Connection}
-use Rattle.gg_flattened.specs.Flat.{Drive, Outside, Gets, Holds, Answers, FlatSignal, FlatMemory, flat_signals, flat_memories}
+use Rattle.gg_flattened.specs.Flat.{Drive, Outside, Gets, Holds, Answers, FlatSignal, FlatMemory, flat_signals, flat_memories, stop_paths}
 use Rattle.gg_flattened.specs.Known.{types_of}
 use Rattle.gg_flattened.specs.Lines.{laid, connected_line, taken_line, condition_line}
 use Rattle.gg_flattened.specs.Meaning.{Signals, Bindings, Context, in_scope, TermNames, taken_value, connected_value, ConnectionNames, condition_value}
@@ -66,11 +67,11 @@ abbrev pub HasNext : Context → Shape → Option Connection → Option (List No
 HasNext context sink None next = next ≡ None
 HasNext context sink (Some c) next = MatchOption next ⊥ (IsLineFor context sink (Some c))
 
-pub record IsRegisterOf (context : Context) (sink : Shape) (reset : Option given.Reset) (next : Option Connection) (register : Register) : Type 0 where
+pub record IsRegisterOf (context : Context) (sink : Shape) (reset : Option given.Reset) (next : Option Connection) (clock : Option ℕ) (register : Register) : Type 0 where
   pub typed : shape register.ty ≡ sink
   pub reset_is : HasReset context sink reset register.reset
   pub next_is : HasNext context sink next register.next
-  pub clocked : register.clock ≡ None
+  pub clocked : register.clock ≡ clock
 
 -- ---- numbers
 
@@ -81,13 +82,13 @@ number_of paths path = unwrap_or (place_of path paths) 0
 abbrev pub is_outside : Drive → Bool
 is_outside Outside = true
 is_outside (Gets scope c) = false
-is_outside (Holds scope reset next) = false
+is_outside (Holds scope reset next own clock) = false
 is_outside (Answers memory place latency addr en) = false
 
 abbrev pub is_register : Drive → Bool
 is_register Outside = false
 is_register (Gets scope c) = false
-is_register (Holds scope reset next) = true
+is_register (Holds scope reset next own clock) = true
 is_register (Answers memory place latency addr en) = false
 
 -- the drive of signal s, as it is listed
@@ -112,16 +113,16 @@ pub record IsComputed (context : Context) (sink : Shape) (c : Option Connection)
   pub stands : IsLineFor context sink c line
 
 -- The signal has the state of this register.
-pub record IsHeld (context : Context) (sink : Shape) (reset : Option given.Reset) (next : Option Connection) (registers : List Register) (number : ℕ) (driver : Driver) : Type 0 where
+pub record IsHeld (context : Context) (sink : Shape) (reset : Option given.Reset) (next : Option Connection) (clock : Option ℕ) (registers : List Register) (number : ℕ) (driver : Driver) : Type 0 where
   pub held : driver ≡ Held number
   pub within : number < length registers
-  pub register : (any : Register) → IsRegisterOf context sink reset next (slice_index_or registers number any)
+  pub register : (any : Register) → IsRegisterOf context sink reset next clock (slice_index_or registers number any)
 
 -- A signal's driver is what its drive says. Inputs and registers are numbered in the order of the signals.
 abbrev pub IsDrivenBy : Bindings → List Register → ℕ → ℕ → Shape → Drive → Driver → Type 0
 IsDrivenBy bindings registers inputs states sink Outside driver = driver ≡ Input inputs
 IsDrivenBy bindings registers inputs states sink (Gets scope c) driver = IsComputed (in_scope bindings scope) sink c driver
-IsDrivenBy bindings registers inputs states sink (Holds scope reset next) driver = IsHeld (in_scope bindings scope) sink reset next registers states driver
+IsDrivenBy bindings registers inputs states sink (Holds scope reset next own clock) driver = IsHeld (in_scope bindings scope) sink reset next clock registers states driver
 IsDrivenBy bindings registers inputs states sink (Answers memory place latency addr en) driver =
     driver ≡ answer latency (number_of bindings.memories memory) place (number_of bindings.signals.paths addr) (number_of bindings.signals.paths en)
 
@@ -136,31 +137,31 @@ IsDriven bindings all flat s =
 abbrev pub field_number : List (List ℕ) → List ℕ → List ℕ → List ℕ → ℕ
 field_number paths memory port field = number_of paths (field_name memory port field)
 
-abbrev pub reader_of : List (List ℕ) → List ℕ → List ℕ → Reader
-reader_of paths memory port =
+abbrev pub reader_of : List (List ℕ) → FlatMemory → List ℕ → Reader
+reader_of paths said port =
     record {
-      addr = field_number paths memory port (codes "addr");
-      en = field_number paths memory port (codes "en");
-      word = field_number paths memory port (codes "data");
-      clock = None;
+      addr = field_number paths said.path port (codes "addr");
+      en = field_number paths said.path port (codes "en");
+      word = field_number paths said.path port (codes "data");
+      clock = said.clock port;
     }
 
-abbrev pub writer_of : List (List ℕ) → List ℕ → List ℕ → Writer
-writer_of paths memory port =
+abbrev pub writer_of : List (List ℕ) → FlatMemory → List ℕ → Writer
+writer_of paths said port =
     record {
-      addr = field_number paths memory port (codes "addr");
-      en = field_number paths memory port (codes "en");
-      word = field_number paths memory port (codes "data");
-      mask = field_number paths memory port (codes "mask");
-      clock = None;
+      addr = field_number paths said.path port (codes "addr");
+      en = field_number paths said.path port (codes "en");
+      word = field_number paths said.path port (codes "data");
+      mask = field_number paths said.path port (codes "mask");
+      clock = said.clock port;
     }
 
 pub record IsMemoryOf (paths : List (List ℕ)) (said : FlatMemory) (memory : Memory) : Type 0 where
   pub word : shape memory.word ≡ said.bank.word
   pub depth : memory.depth ≡ said.bank.depth
   pub latency : memory.latency ≡ said.bank.latency
-  pub readers : memory.readers ≡ map (reader_of paths said.path) said.bank.readers
-  pub writers : memory.writers ≡ map (writer_of paths said.path) said.bank.writers
+  pub readers : memory.readers ≡ map (reader_of paths said) said.bank.readers
+  pub writers : memory.writers ≡ map (writer_of paths said) said.bank.writers
 
 -- ---- ports
 
@@ -197,9 +198,10 @@ memory_paths banks = map (λ x. x.path) banks
 abbrev pub bindings_of : Types → List FlatSignal → List FlatMemory → Bindings
 bindings_of types all banks = record { types = types; signals = signals_of all; memories = memory_paths banks }
 
--- The flat circuit of these signals and memories, with these ports of the top. It has exactly these signals, each
--- with its driver; the registers that they hold, in turn; these memories; and the ports, in port order.
-pub record IsFlatOf (types : Types) (all : List FlatSignal) (banks : List FlatMemory) (ports : List Port) (flat : FlatCircuit) : Type 0 where
+-- The flat circuit of these signals, memories and stops, with these ports of the top. It has exactly these signals, each
+-- with its driver; the registers that they hold, in turn; these memories; the ports, in port order; and a clock for each
+-- Clock input. The stops come after the outputs.
+pub record IsFlatOf (types : Types) (all : List FlatSignal) (banks : List FlatMemory) (ports : List Port) (stops : List (List ℕ)) (flat : FlatCircuit) : Type 0 where
   pub paths : flat.paths ≡ (signals_of all).paths
   pub shapes : signal_shapes flat ≡ (signals_of all).shapes
   pub drivers : (s : ℕ) → s < length all → IsDriven (bindings_of types all banks) all flat s
@@ -207,7 +209,8 @@ pub record IsFlatOf (types : Types) (all : List FlatSignal) (banks : List FlatMe
   pub memory_count : length flat.memories ≡ length banks
   pub memories : (m : ℕ) (said : FlatMemory) (any : Memory) → m < length banks → IsMemoryOf (signals_of all).paths (slice_index_or banks m said) (slice_index_or flat.memories m any)
   pub ins : flat.ins ≡ map (number_of (signals_of all).paths) (port_names direction.Input ports)
-  pub outs : flat.outs ≡ map (number_of (signals_of all).paths) (port_names direction.Output ports)
+  pub outs : flat.outs ≡ map (number_of (signals_of all).paths) (port_names direction.Output ports ++ stops)
+  pub clocks : flat.clocks ≡ length (clock_inputs ports)
 
 -- The flat circuit of a circuit, if the type checks give its names these shapes.
 abbrev pub IsFlatWith : Types → CircuitTree → FlatCircuit → Type 0
@@ -216,6 +219,7 @@ IsFlatWith types circuit flat =
     (flat_signals types circuit.modules (sites_of circuit))
     (flat_memories circuit.modules (sites_of circuit))
     (top_ports circuit.modules (place_of circuit.name (module_names circuit)))
+    (stop_paths circuit.modules (sites_of circuit))
     flat
 
 -- The flat circuit of a circuit.

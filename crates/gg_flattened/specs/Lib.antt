@@ -1,6 +1,7 @@
 pub mod Memories
 pub mod Signals
 pub mod Connection
+pub mod Clocks
 pub mod Flat
 pub mod Known
 pub mod Meaning

@@ -1,7 +1,8 @@
 -- What the fields of a memory say.
 -- Source: FIRRTL Specification, "Memories" (data type, depth, latencies, ports, read-under-write). This program's
 -- profile: if a field occurs twice, the first counts; if read-under-write is missing, it is `undefined`.
-use Rattle.std.specs.Prelude.{ℕ, zero, suc, List, [], ◌∷◌, Option, Some, None, ◌&&◌, nat_le, nat_lt, flat_map, if◌then◌else◌, option_and_then, unwrap_or}
+pub use Rattle.gg_types.specs.Fields.{or_later, first_said, type_said, depth_said}
+use Rattle.std.specs.Prelude.{ℕ, zero, suc, List, [], Option, Some, None, ◌&&◌, nat_le, nat_lt, flat_map, if◌then◌else◌, option_and_then, unwrap_or}
 use Rattle.gg_bits.specs.Shape.{Shape, uint, sint}
 use Rattle.gg_ast.specs.declared.module.GroundType.{GroundType}
 use Rattle.gg_ast.specs.declared.module.GroundType.TheVariants.{UInt, SInt, Clock}
@@ -28,33 +29,6 @@ type_shape (SInt w) = sized w (sint w)
 type_shape Clock = None
 
 -- ---- fields
-
--- what a field says, else what the fields after it say
-abbrev pub or_later : {A : Type 0} → Option A → Option A → Option A
-or_later None later = later
-or_later (Some x) later = Some x
-
-abbrev pub first_said : {A : Type 0} → (MemoryField → Option A) → List Field → Option A
-first_said said [] = None
-first_said said (f ∷ fs) = or_later (said f.kind) (first_said said fs)
-
-abbrev pub type_said : MemoryField → Option GroundType
-type_said (field.DataType ty) = Some ty
-type_said (field.Depth n) = None
-type_said (field.ReadLatency n) = None
-type_said (field.WriteLatency n) = None
-type_said (field.Readers names) = None
-type_said (field.Writers names) = None
-type_said (field.ReadUnderWrite said) = None
-
-abbrev pub depth_said : MemoryField → Option ℕ
-depth_said (field.DataType ty) = None
-depth_said (field.Depth n) = Some n
-depth_said (field.ReadLatency n) = None
-depth_said (field.WriteLatency n) = None
-depth_said (field.Readers names) = None
-depth_said (field.Writers names) = None
-depth_said (field.ReadUnderWrite said) = None
 
 abbrev pub latency_said : MemoryField → Option ℕ
 latency_said (field.DataType ty) = None

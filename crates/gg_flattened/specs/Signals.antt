@@ -1,7 +1,7 @@
 -- The signals that a module has of its own.
 -- Source: FIRRTL Specification, "Circuits and Modules" (ports), "Statements" (wires, registers, nodes), "Memories"
--- (the fields of ports). A Clock isn't a signal.
-use Rattle.std.specs.Prelude.{ℕ, suc, List, [], ◌∷◌, ◌++◌, Option, Some, None, option_map, option_to_list, filter_map, flat_map, codes}
+-- (the fields of ports), "Stop". A Clock isn't a signal. That a stop's condition is a signal is this program's own.
+use Rattle.std.specs.Prelude.{ℕ, suc, List, [], ◌∷◌, ◌++◌, Option, Some, None, map, option_map, option_to_list, filter_map, flat_map, codes, decimal}
 use Rattle.gg_bits.specs.Shape.{Shape, uint}
 use Rattle.gg_ast.specs.declared.expression.Reference.{Reference}
 use Rattle.gg_ast.specs.declared.expression.Reference.TheVariants as reference
@@ -18,13 +18,14 @@ use Rattle.gg_flat.specs.declared.memory.Latency.{Latency}
 use Rattle.gg_flat.specs.Memory.{address_width}
 use Rattle.gg_flattened.specs.Memories.{Bank, bank_of, type_shape}
 
--- What gives a signal its value, as its module says: whatever holds the module, for an input port; a connection; a
--- node's expression; a register's state; or what the reader at this place of a memory answers.
+-- What gives a signal its value, as its module says: whatever holds the module, for an input port; a connection; the
+-- expression of a node or of a stop's condition; a register's state, with its clock and its reset; or what the reader at
+-- this place of a memory answers.
 pub data Cause : Type 0 where
   FromOutside : Cause
   Connected : Cause
   Expressed : Term → Cause
-  Kept : Option Reset → Cause
+  Kept : Term → Option Reset → Cause
   Answered : List ℕ → List ℕ → ℕ → Latency → Cause
 
 -- a signal of a module: its name as it is written there, its shape, and what gives it its value
@@ -87,7 +88,7 @@ Types = ℕ → Reference → Option Shape
 abbrev pub own_of_kind : Types → ℕ → StmtKind → List Own
 own_of_kind types k (says.Wire name ty) = option_to_list (option_map (own name Connected) (type_shape ty))
 own_of_kind types k (says.Node name value) = option_to_list (option_map (own name (Expressed value)) (types k (reference.Local name)))
-own_of_kind types k (says.Register name ty clock reset) = option_to_list (option_map (own name (Kept reset)) (type_shape ty))
+own_of_kind types k (says.Register name ty clock reset) = option_to_list (option_map (own name (Kept clock reset)) (type_shape ty))
 own_of_kind types k (says.Instance name m) = []
 own_of_kind types k (says.Memory name fields) = memory_signals name (bank_of fields)
 own_of_kind types k (says.Connect sink source) = []
@@ -96,9 +97,55 @@ own_of_kind types k says.Skip = []
 own_of_kind types k (says.Stop clock condition code label) = []
 own_of_kind types k (says.Report word arguments label) = []
 
--- the signals of the module at place k: its ports, then what its statements declare, in the order of the file
+-- ---- stops
+
+-- what a `stop` says: its clock and its condition
+pub record Asked : Type 0 where
+  pub clock : Term
+  pub condition : Term
+
+-- a stop of a module: its name, which no declared name is, and what it says
+pub record OwnStop : Type 0 where
+  pub name : List ℕ
+  pub asked : Asked
+
+abbrev pub stop_name : ℕ → List ℕ
+stop_name k = codes "stop:" ++ decimal k
+
+abbrev pub stop_of_kind : StmtKind → Option Asked
+stop_of_kind (says.Wire name ty) = None
+stop_of_kind (says.Node name value) = None
+stop_of_kind (says.Register name ty clock reset) = None
+stop_of_kind (says.Instance name m) = None
+stop_of_kind (says.Memory name fields) = None
+stop_of_kind (says.Connect sink source) = None
+stop_of_kind (says.Invalid sink) = None
+stop_of_kind says.Skip = None
+stop_of_kind (says.Stop clock condition code label) = Some (record { clock = clock; condition = condition })
+stop_of_kind (says.Report word arguments label) = None
+
+-- stops numbered from k on
+abbrev pub numbered : ℕ → List Asked → List OwnStop
+numbered k [] = []
+numbered k (asked ∷ rest) = record { name = stop_name k; asked = asked } ∷ numbered (suc k) rest
+
+-- the stops of a module, numbered in the order of the file from 0; the name and the code of a stop have no effect
+abbrev pub own_stops : List Stmt → List OwnStop
+own_stops statements = numbered 0 (filter_map (λ (s : Stmt). stop_of_kind s.kind) statements)
+
+-- a stop's signal is one bit
+abbrev pub stop_signal : OwnStop → Own
+stop_signal stop = own stop.name (Expressed stop.asked.condition) (uint 1)
+
+-- ---- all of them
+
+-- what statements declare, in the order of the file, and then their stops
+abbrev pub statement_signals : Types → ℕ → List Stmt → List Own
+statement_signals types k statements = flat_map (λ (s : Stmt). own_of_kind types k s.kind) statements ++ map stop_signal (own_stops statements)
+
+-- the signals of the module at place k: its ports, and then those of its statements
 abbrev pub own_signals : Types → ℕ → ModuleTree → List Own
-own_signals types k m = filter_map own_of_port m.ports ++ flat_map (λ (s : Stmt). own_of_kind types k s.kind) m.statements
+own_signals types k m = filter_map own_of_port m.ports ++ statement_signals types k m.statements
 
 -- ---- memories
 

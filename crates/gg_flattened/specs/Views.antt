@@ -1,5 +1,5 @@
 -- What the program keeps of a module, as a contract sees it.
-use Rattle.std.specs.Prelude.{◌≡◌, ℕ, List, Option, Some, None, map, option_map, slice_get, slice_index_or, length, ◌<◌, IfSome}
+use Rattle.std.specs.Prelude.{◌≡◌, ℕ, List, Option, Some, None, map, option_map, slice_get, slice_index_or, length, ◌<◌, ◌^◌, IfSome}
 use Rattle.gg_bits.specs.Shape.{shape}
 use Rattle.gg_ast.specs.declared.statement.Stmt.{Stmt}
 use Rattle.gg_ast.specs.Places.{place_of}
@@ -14,11 +14,15 @@ use Rattle.gg_flattened.specs.declared.memories.Bank as kept
 use Rattle.gg_flattened.specs.declared.own.Origin.{Origin}
 use Rattle.gg_flattened.specs.declared.own.Origin.TheVariants as origin
 use Rattle.gg_flattened.specs.declared.own.OwnSignal.{OwnSignal}
+use Rattle.gg_flattened.specs.declared.sites.Above.{Above}
 use Rattle.gg_flattened.specs.declared.sites.Around.{Around}
 use Rattle.gg_flattened.specs.declared.sites.Place.{Place}
+use Rattle.gg_flattened.specs.declared.sites.Step as kept_step
+use Rattle.gg_flattened.specs.declared.stops.OwnStop as kept_stop
 use Rattle.gg_flattened.specs.declared.table.Table.{Table}
+use Rattle.gg_flattened.specs.Clocks.{own_clocks, site_clocks}
 use Rattle.gg_flattened.specs.Memories.{Bank}
-use Rattle.gg_flattened.specs.Signals.{Cause, FromOutside, Connected, Expressed, Kept, Answered, Own, Types, own_signals, OwnBank, own_banks}
+use Rattle.gg_flattened.specs.Signals.{Cause, FromOutside, Connected, Expressed, Kept, Answered, Own, Types, own_signals, OwnBank, own_banks, OwnStop, own_stops}
 use Rattle.gg_flattened.specs.Connection.{Connection, ConnectedTo, Zeroed, connection_in}
 use Rattle.gg_flattened.specs.Meaning.{Signals, Bindings}
 
@@ -28,8 +32,8 @@ abbrev pub cause_of : Origin → Cause
 cause_of origin.FromOutside = FromOutside
 cause_of origin.Connected = Connected
 cause_of (origin.Expressed value) = Expressed value.now
-cause_of (origin.Kept None) = Kept None
-cause_of (origin.Kept (Some reset)) = Kept (Some reset.now)
+cause_of (origin.Kept clock None) = Kept clock.now None
+cause_of (origin.Kept clock (Some reset)) = Kept clock.now (Some reset.now)
 cause_of (origin.Answered memory port place latency) = Answered memory.now port.now place latency
 
 abbrev pub own_of : OwnSignal → Own
@@ -50,6 +54,11 @@ bank_seen b =
 abbrev pub own_bank_of : OwnMemory → OwnBank
 own_bank_of memory = record { name = memory.name.now; bank = bank_seen memory.bank }
 
+-- ---- stops
+
+abbrev pub own_stop_of : kept_stop.OwnStop → OwnStop
+own_stop_of stop = record { name = stop.name; asked = record { clock = stop.clock.now; condition = stop.condition.now } }
+
 -- ---- instances and sites
 
 abbrev pub held_of : Instance → count.Held
@@ -59,13 +68,26 @@ abbrev pub outer_of : Option Around → Option count.Outer
 outer_of None = None
 outer_of (Some around) = Some (record { path = around.path; number = around.number; name = around.name.now })
 
-abbrev pub site_of : Place → count.Site
-site_of place = record { path = place.path; number = place.number; depth = place.depth; outer = outer_of place.outer }
+abbrev pub step_of : kept_step.Step → count.Step
+step_of step = record { number = step.number; name = step.name.now }
 
--- the module of a site, and that of what holds it, are among this many modules
-pub record IsPlaceIn (count : ℕ) (place : Place) : Type 0 where
-  pub own : place.number < count
-  pub around : IfSome place.outer (λ a. a.number < count)
+abbrev pub site_of : Place → count.Site
+site_of place = record { path = place.path; number = place.number; depth = place.depth; outer = outer_of place.outer; steps = map step_of place.steps.items }
+
+-- what is needed of a site for the instances that it holds
+pub record IsAbove (place : Place) (above : Above) : Type 0 where
+  pub path : above.path ≡ place.path
+  pub number : above.number ≡ place.number
+  pub depth : above.depth ≡ place.depth
+  pub steps : map step_of above.steps.items ≡ map step_of place.steps.items
+  pub clocks : above.clocks.items ≡ place.clocks.items
+
+-- The module of a site, and that of what holds it, are among these modules, and its Clock inputs follow what they do.
+pub record IsPlaceIn (modules : List ModuleTree) (place : Place) : Type 0 where
+  pub own : place.number < length modules
+  pub around : IfSome place.outer (λ a. a.number < length modules)
+  pub followed : place.own_clocks.items ≡ own_clocks modules (site_of place)
+  pub led : place.clocks.items ≡ site_clocks modules (site_of place)
 
 -- ---- connections
 
@@ -88,11 +110,14 @@ TellsConnections statements names sources = (name : List ℕ) → source_at sour
 
 -- ---- modules
 
--- What is kept of the module at a place: its signals, the instances that it holds, its memories and its connections.
+-- What is kept of the module at a place: its signals, the instances that it holds, its memories, its stops, of which there
+-- are fewer than 2^32, and its connections.
 pub record IsDigest (types : Types) (modules : List ModuleTree) (k : ℕ) (digest : Digest) : Type 0 where
   pub signals : map own_of digest.signals.items ≡ own_signals types k (count.module_at modules k)
   pub instances : map held_of digest.instances.items ≡ count.held_at modules k
   pub memories : map own_bank_of digest.memories.items ≡ own_banks (count.module_at modules k).statements
+  pub stops : map own_stop_of digest.stops.items ≡ own_stops (count.module_at modules k).statements
+  pub few : length digest.stops.items < 2 ^ 32
   pub connections : TellsConnections (count.module_at modules k).statements digest.sinks.names digest.sinks.sources.items
   pub sources : length digest.sinks.sources.items ≡ length digest.sinks.names
 

@@ -8,6 +8,7 @@ ghost use Rattle.gg_flattened.specs.Views.{held_of, own_bank_of, bank_seen, IsDi
 use crate::connections::{Sinks, connections};
 use crate::memories::{Bank, bank_of};
 use crate::own::{OwnSignal, own_signals};
+use crate::stops::{OwnStop, stops};
 use gg_ast::{Circuit, Module, Stmt, StmtKind};
 use gg_bits::Name;
 use gg_types::Typed;
@@ -31,13 +32,14 @@ pub struct OwnMemory<'a> {
     pub bank: Bank<'a>,
 }
 
-/// A module: its signals, the instances that it holds, its memories, each in the order of the file, and its
-/// connections.
+/// A module: its signals, the instances that it holds, its memories and its stops, each in the order of the file, and
+/// its connections.
 #[derive(Drop)]
 pub struct Digest<'a> {
     pub signals: Vec<OwnSignal<'a>>,
     pub instances: Vec<Instance<'a>>,
     pub memories: Vec<OwnMemory<'a>>,
+    pub stops: Vec<OwnStop<'a>>,
     pub sinks: Sinks<'a>,
 }
 
@@ -149,10 +151,12 @@ fn digest_of<'a>(
     ensures { IfOk result (IsDigest (types_of typed.now.circuit) typed.now.circuit.modules number) }
 {
     let statements = body.statements();
+    let stops = stops(alloc, statements)?;
     Ok(Digest {
-        signals: own_signals(alloc, typed, number, body)?,
+        signals: own_signals(alloc, typed, number, body, stops.as_slice())?,
         instances: instances(alloc, circuit, statements)?,
         memories: memories(alloc, statements)?,
+        stops,
         sinks: connections(alloc, statements)?,
     })
 }

@@ -14,16 +14,22 @@
 //!   register or memory says, and names the same signals;
 //! - the registers, in the order of the signals;
 //! - these memories, those of a module before those of its instances;
-//! - the ports of the top.
+//! - the ports of the top, and behind its outputs the stops of all sites;
+//! - a clock for each Clock input of the top. A register, or a port of a memory, follows the clock that the Clock input
+//!   of its site leads to.
+//!
+//! A stop has a signal of one bit, its condition, named `stop:` and its number in its module.
 //!
 //! A line has a node for each part of its expression, in postfix order (`connected_line`).
 //!
 //! The crate promises:
 //!
 //! - `one_flat`: a circuit has at most one flat circuit;
-//! - `digests` gives, for each module, its own signals, the instances that it holds, its memories, and what each sink
-//!   is connected to (`AreDigests`);
-//! - `places` lists the top and the instances below it, each after what holds it (`all_sites`);
+//! - `digests` gives, for each module, its own signals, the instances that it holds, its memories, its stops, and what
+//!   each sink is connected to (`AreDigests`);
+//! - `places` lists the top and the instances below it, each after what holds it (`all_sites`), with the clocks that its
+//!   Clock inputs follow (`IsPlaceIn`);
+//! - `clock_of` and `port_clock` give the Clock input that an expression, or a port of a memory, follows in its module;
 //! - `table_of` has the paths and the types of all their signals, and the paths of all their memories, in order;
 //! - `value_type` is the type of what a reference names, if that is a value.
 //!
@@ -31,6 +37,7 @@
 //! checks.
 #![tactic(auto)]
 
+mod clocks;
 mod connections;
 mod digest;
 mod known;
@@ -39,8 +46,10 @@ mod memories;
 mod names;
 mod own;
 mod sites;
+mod stops;
 mod table;
 
+pub use clocks::{clock_count, clock_of, port_clock};
 pub use connections::{Sinks, Source};
 pub use digest::{Digest, Instance, OwnMemory, digests};
 pub use known::value_type;
@@ -48,5 +57,6 @@ pub use laws::one_flat;
 pub use memories::{Bank, ground_type};
 pub use names::{dotted, field_name, joined};
 pub use own::{Origin, OwnSignal};
-pub use sites::{Around, Place, places};
+pub use sites::{Around, Place, Step, places};
+pub use stops::OwnStop;
 pub use table::{Table, add_path, number, table_of};

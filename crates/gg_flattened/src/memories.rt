@@ -2,12 +2,13 @@
 ghost use Rattle.std.specs.Prelude.{◌≡◌, ◌++◌, ◌∷◌, [], map, flat_map, option_map, option_copied, IfOk, OnOk, ℕ, List};
 ghost use Rattle.gg_bits.specs.Shape.{shape, of_kind};
 ghost use Rattle.gg_ast.specs.declared.statement.Field.{Field};
-ghost use Rattle.gg_flattened.specs.Memories.{type_shape, sized as sized_shape, first_said, type_said, depth_said, latency_said, under_said, under_write, readers_said, writers_said, latency_of, bank_of, bank_with};
+ghost use Rattle.gg_flattened.specs.Memories.{type_shape, sized as sized_shape, first_said, latency_said, under_said, under_write, readers_said, writers_said, latency_of, bank_of, bank_with};
 ghost use Rattle.gg_flattened.specs.Views.{bank_seen};
 
 use gg_ast::{Field, GroundType, MemoryField, ReadUnderWrite};
 use gg_bits::{Kind, Name, Ty};
 use gg_flat::{Latency, UnderWrite};
+use gg_types::{said_depth, said_type};
 use std::alloc::{AllocError, Global};
 
 /// A memory: its words, how many there are, its latency, and the names of its ports in the order of the file.
@@ -40,30 +41,6 @@ fn sized(kind: Kind, width: u32) -> Option<Ty>
     } else {
         None
     }
-}
-
-// The type of the words.
-fn said_type(fields: &[Field]) -> Option<GroundType>
-    ensures { result ≡ first_said type_said fields.now }
-{
-    for field in fields {
-        if let MemoryField::DataType(ty) = &field.kind {
-            return Some(*ty);
-        }
-    }
-    None
-}
-
-// How many words there are.
-fn said_depth(fields: &[Field]) -> Option<u32>
-    ensures { result ≡ first_said depth_said fields.now }
-{
-    for field in fields {
-        if let MemoryField::Depth(depth) = &field.kind {
-            return Some(*depth);
-        }
-    }
-    None
 }
 
 // The read latency.

@@ -3,12 +3,13 @@ ghost use Rattle.std.specs.Prelude.{◌≡◌, ◌≤◌, ◌<◌, ◌^◌, ◌+
 ghost use Rattle.gg_bits.specs.Shape.{shape};
 ghost use Rattle.gg_ast.specs.declared.statement.Stmt.{Stmt};
 ghost use Rattle.gg_flattened.specs.Known.{types_of};
-ghost use Rattle.gg_flattened.specs.Signals.{own, own_of_port, own_of_kind, own_signals as signals_of_module, memory_signals, reader_signals, readers_signals, writer_signals};
-ghost use Rattle.gg_flattened.specs.Views.{own_of, cause_of, bank_seen};
+ghost use Rattle.gg_flattened.specs.Signals.{own, own_of_port, own_of_kind, own_signals as signals_of_module, own_stops, stop_signal, memory_signals, reader_signals, readers_signals, writer_signals};
+ghost use Rattle.gg_flattened.specs.Views.{own_of, own_stop_of, cause_of, bank_seen};
 
 use crate::known::value_type;
 use crate::memories::{Bank, bank_of, ground_type};
 use crate::names::field_name;
+use crate::stops::OwnStop;
 use gg_ast::{Direction, Expr, Module, Port, Reference, Reset, Stmt, StmtKind};
 use gg_bits::{Kind, Name, Ty};
 use gg_flat::{Latency, address_width};
@@ -22,10 +23,10 @@ pub enum Origin<'a> {
     FromOutside,
     /// An output port, a wire, or a field that is given to a memory: a connection.
     Connected,
-    /// A node: an expression.
+    /// A node, or a stop's condition: an expression.
     Expressed(&'a Expr),
-    /// A register, with its reset: its state.
-    Kept(Option<&'a Reset>),
+    /// A register, with what is written for its clock and with its reset: its state.
+    Kept(&'a Expr, Option<&'a Reset>),
     /// The data of a reader: what the memory answers. It has the memory's name, the reader's name, the reader's place
     /// and the latency.
     Answered(&'a Name, &'a Name, u32, Latency),
@@ -217,13 +218,13 @@ fn add_statement<'a>(
         StmtKind::Register {
             name,
             ty,
+            clock,
             reset,
-            ..
         } => add_typed(
             signals,
             name,
             ground_type(*ty),
-            Origin::Kept(reset.as_ref()),
+            Origin::Kept(clock, reset.as_ref()),
         ),
         StmtKind::Memory { name, fields } => {
             let bank = bank_of(alloc, fields.as_slice())?;
@@ -250,18 +251,38 @@ fn add_statements<'a>(
     Ok(())
 }
 
-/// The signals of the module at this place: its ports, and then what its statements declare.
+// Adds the signals of stops.
+fn add_stops<'a>(signals: &mut Vec<OwnSignal<'a>>, stops: &[OwnStop<'a>]) -> Result<(), AllocError>
+    ensures { OnOk result (map own_of signals.new.items ≡ map own_of signals.old.items ++ map (λ stop. stop_signal (own_stop_of stop)) stops.now) }
+{
+    let bit = Ty::new(Kind::UInt, 1);
+    for stop in stops {
+        add(
+            signals,
+            stop.name.clone()?,
+            bit,
+            Origin::Expressed(stop.condition),
+        )?;
+    }
+    Ok(())
+}
+
+/// The signals of the module at this place, which has these stops: its ports, then what its statements declare, then
+/// the stops.
 pub(crate) fn own_signals<'a>(
     alloc: Global,
     typed: &Typed,
     number: u32,
     body: &'a Module,
+    stops: &[OwnStop<'a>],
 ) -> Result<Vec<OwnSignal<'a>>, AllocError>
-    requires { number < length typed.now.circuit.modules }
+    requires there { number < length typed.now.circuit.modules }
+    requires stops { map own_stop_of stops.now ≡ own_stops body.now.statements }
     ensures { IfOk result (λ signals. map own_of signals.items ≡ signals_of_module (types_of typed.now.circuit) number body.now) }
 {
     let mut signals = Vec::new(alloc);
     add_ports(&mut signals, body.ports())?;
     add_statements(alloc, typed, number, &mut signals, body.statements())?;
+    add_stops(&mut signals, stops)?;
     Ok(signals)
 }

@@ -1,5 +1,5 @@
 -- The fields of a memory's ports are signals of its module, and a signal that a reader answers is the reader's data.
-use Rattle.std.proofs.Common.{◌≡◌, ◌⊎◌, inl, inr, ℕ, zero, suc, ◌+◌, ◌<◌, Bool, true, false, List, [], ◌∷◌, ◌++◌, Option, Some, None, length, get_or, refl, sym, ap, ◌∙◌, subst, arith, codes, if◌then◌else◌, nat_lt}
+use Rattle.std.proofs.Common.{◌≡◌, ◌⊎◌, inl, inr, ℕ, zero, suc, ◌+◌, ◌<◌, Bool, true, false, List, [], ◌∷◌, ◌++◌, Option, Some, None, length, get_or, map, refl, sym, ap, ◌∙◌, subst, arith, codes, if◌then◌else◌, nat_lt}
 use Rattle.std.specs.Prelude.{Contains, flat_map, filter_map, option_map, option_to_list, option_and_then, unwrap_or}
 use Rattle.std.proofs.lemmas.Bool.{ltb-true}
 use Rattle.std.proofs.lemmas.List.Elements.{Contains-append_left, Contains-append_right, Contains-append_cases}
@@ -16,8 +16,8 @@ use Rattle.gg_ast.specs.Tree.{ModuleTree}
 use Rattle.gg_flat.specs.declared.memory.Latency.{Latency}
 use Rattle.gg_flat.specs.declared.memory.UnderWrite.TheVariants.{Undefined}
 use Rattle.gg_flattened.specs.Memories.{Bank, bank_of, bank_with, type_shape, first_said, type_said, depth_said, latency_said, under_said, latency_of, readers_said, writers_said}
-use Rattle.gg_flattened.specs.Signals.{Types, Cause, FromOutside, Connected, Expressed, Kept, Answered, Own, own, own_of_port, cause_of_port, own_of_kind, own_signals, OwnBank, own_bank, own_banks, bank_of_kind, memory_signals, reader_signals, readers_signals, writer_signals, field_name}
-use Rattle.gg_flattened.proofs.AmongLemmas.{in-flat_map, from-flat_map, in-filter_map, from-filter_map}
+use Rattle.gg_flattened.specs.Signals.{Types, Cause, FromOutside, Connected, Expressed, Kept, Answered, Own, own, own_of_port, cause_of_port, own_of_kind, own_signals, own_stops, statement_signals, stop_signal, OwnBank, own_bank, own_banks, bank_of_kind, memory_signals, reader_signals, readers_signals, writer_signals, field_name}
+use Rattle.gg_flattened.proofs.AmongLemmas.{from-map, in-flat_map, from-flat_map, in-filter_map, from-filter_map}
 use Rattle.gg_tree.proofs.DeclaredLemmas.{made-by}
 use Rattle.gg_tree.proofs.FieldLemmas.{bank-together}
 
@@ -26,9 +26,10 @@ use Rattle.gg_tree.proofs.FieldLemmas.{bank-together}
 pub bank-signal : (types : Types) (k : ℕ) (m : ModuleTree) (b : OwnBank) (o : Own) → Contains (own_banks m.statements) b → Contains (memory_signals b.name (Some b.bank)) o → Contains (own_signals types k m) o
 bank-signal types k m b o c has =
     let t = bank-together types k m.statements c.0 b c.1 c.2 in
-    Contains-append_right (filter_map own_of_port m.ports) (flat_map (λ (s : Stmt). own_of_kind types k s.kind) m.statements) o
+    Contains-append_right (filter_map own_of_port m.ports) (statement_signals types k m.statements) o
+    (Contains-append_left (flat_map (λ (s : Stmt). own_of_kind types k s.kind) m.statements) (map stop_signal (own_stops m.statements)) o
     (subst (λ l. Contains l o) (sym t.is)
-    (Contains-append_right t.before (memory_signals b.name (Some b.bank) ++ t.after) o (Contains-append_left (memory_signals b.name (Some b.bank)) t.after o has)))
+    (Contains-append_right t.before (memory_signals b.name (Some b.bank) ++ t.after) o (Contains-append_left (memory_signals b.name (Some b.bank)) t.after o has))))
 
 among-readers : (memory : List ℕ) (bank : Bank) (place : ℕ) (ports : List (List ℕ)) (r : ℕ) (p : List ℕ) (o : Own) → r < length ports → get_or ports r p ≡ p → Contains (reader_signals memory bank (place + r) p) o → Contains (readers_signals memory bank place ports) o
 among-readers memory bank place [] r p o lt is has = absurd (omega (arith, lt))
@@ -111,28 +112,28 @@ abbrev is_answered : Cause → Bool
 is_answered FromOutside = false
 is_answered Connected = false
 is_answered (Expressed value) = false
-is_answered (Kept reset) = false
+is_answered (Kept clock reset) = false
 is_answered (Answered memory port place latency) = true
 
 abbrev memory_answering : List ℕ → Cause → List ℕ
 memory_answering d FromOutside = d
 memory_answering d Connected = d
 memory_answering d (Expressed value) = d
-memory_answering d (Kept reset) = d
+memory_answering d (Kept clock reset) = d
 memory_answering d (Answered memory port place latency) = memory
 
 abbrev place_answering : ℕ → Cause → ℕ
 place_answering d FromOutside = d
 place_answering d Connected = d
 place_answering d (Expressed value) = d
-place_answering d (Kept reset) = d
+place_answering d (Kept clock reset) = d
 place_answering d (Answered memory port place latency) = place
 
 abbrev latency_answering : Latency → Cause → Latency
 latency_answering d FromOutside = d
 latency_answering d Connected = d
 latency_answering d (Expressed value) = d
-latency_answering d (Kept reset) = d
+latency_answering d (Kept clock reset) = d
 latency_answering d (Answered memory port place latency) = latency
 
 no-answer : (cause : Cause) (memory port : List ℕ) (place : ℕ) (latency : Latency) → is_answered cause ≡ false → cause ≡ Answered memory port place latency → ⊥
@@ -200,7 +201,7 @@ pub record AnswerIn (kind : StmtKind) (memory : List ℕ) (place : ℕ) (latency
 kind-answer : (types : Types) (k : ℕ) (kind : StmtKind) (o : Own) (memory port : List ℕ) (place : ℕ) (latency : Latency) → Contains (own_of_kind types k kind) o → o.cause ≡ Answered memory port place latency → AnswerIn kind memory place latency o
 kind-answer types k (says.Wire name ty) o memory port place latency c e = absurd (no-answer o.cause memory port place latency (one-no-answer name Connected (type_shape ty) o refl c) e)
 kind-answer types k (says.Node name value) o memory port place latency c e = absurd (no-answer o.cause memory port place latency (one-no-answer name (Expressed value) (types k (reference.Local name)) o refl c) e)
-kind-answer types k (says.Register name ty clock reset) o memory port place latency c e = absurd (no-answer o.cause memory port place latency (one-no-answer name (Kept reset) (type_shape ty) o refl c) e)
+kind-answer types k (says.Register name ty clock reset) o memory port place latency c e = absurd (no-answer o.cause memory port place latency (one-no-answer name (Kept clock reset) (type_shape ty) o refl c) e)
 kind-answer types k (says.Instance name m) o memory port place latency c e = absurd (omega (arith, c.1))
 kind-answer types k (says.Memory name fields) o memory port place latency c e = go (bank_of fields) refl c
   where
@@ -235,13 +236,19 @@ pub record AnswerAmong (ss : List Stmt) (memory : List ℕ) (place : ℕ) (laten
   pub data_of : IsAnswerOf bank.name bank.bank place latency o
 
 pub answer-among : (types : Types) (k : ℕ) (m : ModuleTree) (o : Own) (memory port : List ℕ) (place : ℕ) (latency : Latency) → Contains (own_signals types k m) o → o.cause ≡ Answered memory port place latency → AnswerAmong m.statements memory place latency o
-answer-among types k m o memory port place latency c e = go (Contains-append_cases (filter_map own_of_port m.ports) (flat_map (λ (s : Stmt). own_of_kind types k s.kind) m.statements) o c)
+answer-among types k m o memory port place latency c e = go (Contains-append_cases (filter_map own_of_port m.ports) (statement_signals types k m.statements) o c)
   where
-    go : Contains (filter_map own_of_port m.ports) o ⊎ Contains (flat_map (λ (s : Stmt). own_of_kind types k s.kind) m.statements) o → AnswerAmong m.statements memory place latency o
-    go (inl here) =
-        let p = from-filter_map own_of_port m.ports o here in
-        absurd (no-answer o.cause memory port place latency (port-no-answer p.of o p.made) e)
-    go (inr there) =
+    declared : Contains (flat_map (λ (s : Stmt). own_of_kind types k s.kind) m.statements) o ⊎ Contains (map stop_signal (own_stops m.statements)) o → AnswerAmong m.statements memory place latency o
+    declared (inl there) =
         let s = from-flat_map (λ (s : Stmt). own_of_kind types k s.kind) m.statements o there in
         let a = kind-answer types k s.of.kind o memory port place latency s.made e in
         record { bank = a.bank; listed = in-filter_map (λ (s : Stmt). bank_of_kind s.kind) m.statements s.of a.bank s.among a.by; is = a.is; data_of = a.data_of }
+    declared (inr there) =
+        let s = from-map stop_signal (own_stops m.statements) o there in
+        absurd (no-answer o.cause memory port place latency (ap (λ (x : Own). is_answered x.cause) (sym s.made)) e)
+
+    go : Contains (filter_map own_of_port m.ports) o ⊎ Contains (statement_signals types k m.statements) o → AnswerAmong m.statements memory place latency o
+    go (inl here) =
+        let p = from-filter_map own_of_port m.ports o here in
+        absurd (no-answer o.cause memory port place latency (port-no-answer p.of o p.made) e)
+    go (inr there) = declared (Contains-append_cases (flat_map (λ (s : Stmt). own_of_kind types k s.kind) m.statements) (map stop_signal (own_stops m.statements)) o there)

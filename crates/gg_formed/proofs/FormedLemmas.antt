@@ -1,8 +1,8 @@
 -- The flat circuit of a circuit is well formed, if its lines and registers fit and no two paths are the same.
-use Rattle.std.proofs.Common.{◌≡◌, ℕ, zero, suc, ◌<◌, Bool, true, false, List, [], ◌∷◌, ◌++◌, Option, Some, None, length, get_or, map, refl, sym, ap, ◌∙◌, subst, subst₂, arith, codes, unwrap_or}
+use Rattle.std.proofs.Common.{◌≡◌, ◌⊎◌, inl, inr, ℕ, zero, suc, ◌<◌, Bool, true, false, List, [], ◌∷◌, ◌++◌, Option, Some, None, length, get_or, map, refl, sym, ap, ◌∙◌, subst, subst₂, arith, codes, unwrap_or}
 use Rattle.std.specs.Prelude.{All, Contains, flat_map, filter_map}
 use Rattle.std.proofs.lemmas.List.{length-map, get_or-map}
-use Rattle.std.proofs.lemmas.List.Elements.{Contains-append_left}
+use Rattle.std.proofs.lemmas.List.Elements.{Contains-append_cases, Contains-append_left, Contains-append_right}
 use Rattle.std.proofs.lemmas.Option.{slice_get-get_or}
 use Rattle.gg_bits.specs.Shape.{Shape, shape, uint}
 use Rattle.gg_ast.specs.declared.module.Direction.TheVariants as direction
@@ -24,11 +24,12 @@ use Rattle.gg_flat.specs.WellFormed.{IsDataOf, MayDrive, IsReader, IsWriter, IsM
 use Rattle.gg_flat.proofs.ListLemmas.{Contains-map}
 use Rattle.gg_count.specs.Sites.{Site, Outer, top_site, module_at, all_sites, sites_from, sites_of, sites}
 use Rattle.gg_formed.specs.Fitting.{FitsDriver, AreFitting}
-use Rattle.gg_flattened.specs.Flat.{Drive, Outside, Gets, Holds, Answers, drive_of, FlatSignal, flat_signal, signals_at, flat_signals, FlatMemory, flat_memory, memories_at, flat_memories}
+use Rattle.gg_flattened.specs.Flat.{Drive, Outside, Gets, Holds, Answers, drive_of, FlatSignal, flat_signal, signals_at, flat_signals, FlatMemory, flat_memory, memories_at, flat_memories, stop_paths, stop_paths_at}
 use Rattle.gg_flattened.specs.IsFlat.{bindings_of, IsDrivenBy, IsMemoryOf, IsFlatOf, IsFlat, answer, number_of, field_number, reader_of, writer_of, is_outside, is_register, drive_at, count_before, signals_of, memory_paths, port_names, top_ports}
 use Rattle.gg_flattened.specs.Known.{types_of}
-use Rattle.gg_flattened.specs.Signals.{Types, Cause, FromOutside, Connected, Expressed, Kept, Answered, Own, own, own_of_port, own_of_kind, own_signals, OwnBank, own_banks, field_name, reader_signals, writer_signals}
+use Rattle.gg_flattened.specs.Signals.{Types, Cause, FromOutside, Connected, Expressed, Kept, Answered, Own, own, own_of_port, own_of_kind, own_signals, own_stops, OwnStop, statement_signals, stop_signal, OwnBank, own_banks, field_name, reader_signals, writer_signals}
 use Rattle.gg_flattened.proofs.AmongLemmas.{Element, element-at, MadeOf, from-map, in-flat_map, from-flat_map}
+use Rattle.gg_formed.proofs.ClockFormLemmas.{registers-clocked, memories-clocked}
 use Rattle.gg_formed.proofs.BankFieldLemmas.{bank-signal, reader-among, writer-among, bank-depth, AnswerAmong, answer-among}
 use Rattle.gg_tree.proofs.JoinLemmas.{joined-behind}
 use Rattle.gg_flattened.proofs.NameLemmas.{Differ, place_of-at}
@@ -59,25 +60,25 @@ stands-at path xs x differ c =
 abbrev memory_read : List ℕ → Drive → List ℕ
 memory_read d Outside = d
 memory_read d (Gets scope c) = d
-memory_read d (Holds scope reset next) = d
+memory_read d (Holds scope reset next own clock) = d
 memory_read d (Answers memory place latency addr en) = memory
 
 abbrev place_read : ℕ → Drive → ℕ
 place_read d Outside = d
 place_read d (Gets scope c) = d
-place_read d (Holds scope reset next) = d
+place_read d (Holds scope reset next own clock) = d
 place_read d (Answers memory place latency addr en) = place
 
 abbrev latency_read : Latency → Drive → Latency
 latency_read d Outside = d
 latency_read d (Gets scope c) = d
-latency_read d (Holds scope reset next) = d
+latency_read d (Holds scope reset next own clock) = d
 latency_read d (Answers memory place latency addr en) = latency
 
 abbrev answers : Drive → Bool
 answers Outside = false
 answers (Gets scope c) = false
-answers (Holds scope reset next) = false
+answers (Holds scope reset next own clock) = false
 answers (Answers memory place latency addr en) = true
 
 -- The cause of a signal whose drive is a reader's answer.
@@ -95,7 +96,7 @@ answer-cause modules x name FromOutside memory place latency addr en e = go x.ou
     go (Some outer) e = let never : false ≡ true = ap answers e in absurd (cc)
 answer-cause modules x name Connected memory place latency addr en e = let never : false ≡ true = ap answers e in absurd (cc)
 answer-cause modules x name (Expressed value) memory place latency addr en e = let never : false ≡ true = ap answers e in absurd (cc)
-answer-cause modules x name (Kept reset) memory place latency addr en e = let never : false ≡ true = ap answers e in absurd (cc)
+answer-cause modules x name (Kept clock reset) memory place latency addr en e = let never : false ≡ true = ap answers e in absurd (cc)
 answer-cause modules x name (Answered said port at late) memory place latency addr en e = record {
   said = said;
   port = port;
@@ -114,7 +115,7 @@ data-drives flat (One under) m r addr en s h = h
 
 -- ---- the flat circuit
 
-module _ (types : Types) (modules : List ModuleTree) (top : ℕ) (flat : FlatCircuit) (is_flat : IsFlatOf types (flat_signals types modules (all_sites modules top)) (flat_memories modules (all_sites modules top)) (module_at modules top).ports flat) (fits : AreFitting flat) (signals : Differ (map (λ (x : FlatSignal). x.path) (flat_signals types modules (all_sites modules top)))) (memories : Differ (memory_paths (flat_memories modules (all_sites modules top)))) where
+module _ (types : Types) (modules : List ModuleTree) (top : ℕ) (flat : FlatCircuit) (is_flat : IsFlatOf types (flat_signals types modules (all_sites modules top)) (flat_memories modules (all_sites modules top)) (module_at modules top).ports (stop_paths modules (all_sites modules top)) flat) (fits : AreFitting flat) (signals : Differ (map (λ (x : FlatSignal). x.path) (flat_signals types modules (all_sites modules top)))) (memories : Differ (memory_paths (flat_memories modules (all_sites modules top)))) where
   abbrev all : List FlatSignal
   all = flat_signals types modules (all_sites modules top)
 
@@ -167,19 +168,19 @@ module _ (types : Types) (modules : List ModuleTree) (top : ℕ) (flat : FlatCir
     there : Contains (all_sites modules top) site
     bank : OwnBank
     listed : Contains (own_banks (module_at modules site.number).statements) bank
-    is : Stands banks (flat_memory site bank) m
+    is : Stands banks (flat_memory modules site bank) m
 
   memory-at : (m : ℕ) → m < length banks → MemoryAt m
   memory-at m lt =
       let e = element-at banks m lt in
       let x = from-flat_map (memories_at modules) (all_sites modules top) e.element e.among in
-      let b = from-map (flat_memory x.of) (own_banks (module_at modules x.of.number).statements) e.element x.made in
+      let b = from-map (flat_memory modules x.of) (own_banks (module_at modules x.of.number).statements) e.element x.made in
       record { site = x.of; there = x.among; bank = b.of; listed = b.among; is = record { inside = lt; is = λ d. e.is d ∙ sym b.made } }
 
-  is-memory : (m : ℕ) (any : Memory) → m < length flat.memories → (a : MemoryAt m) → IsMemoryOf paths (flat_memory a.site a.bank) (get_or flat.memories m any)
+  is-memory : (m : ℕ) (any : Memory) → m < length flat.memories → (a : MemoryAt m) → IsMemoryOf paths (flat_memory modules a.site a.bank) (get_or flat.memories m any)
   is-memory m any lt a =
-      subst (λ (y : FlatMemory). IsMemoryOf paths y (get_or flat.memories m any)) (a.is.is (flat_memory a.site a.bank))
-      (is_flat.memories m (flat_memory a.site a.bank) any (omega (arith, lt, is_flat.memory_count)))
+      subst (λ (y : FlatMemory). IsMemoryOf paths y (get_or flat.memories m any)) (a.is.is (flat_memory modules a.site a.bank))
+      (is_flat.memories m (flat_memory modules a.site a.bank) any (omega (arith, lt, is_flat.memory_count)))
 
   -- a field of the reader at a place, and of a writer, has its type
   reader-field : (m : ℕ) (a : MemoryAt m) (r : ℕ) (port field : List ℕ) (cause : Cause) (to : Shape) → r < length a.bank.bank.readers → get_or a.bank.bank.readers r port ≡ port → Contains (reader_signals a.bank.name a.bank.bank r port) (own (field_name a.bank.name port field) cause to) → Stands all (flat_signal modules a.site (own (field_name a.bank.name port field) cause to)) (field_number paths (joined a.site.path a.bank.name) port field)
@@ -197,14 +198,14 @@ module _ (types : Types) (modules : List ModuleTree) (top : ℕ) (flat : FlatCir
   abbrev Named : ℕ → Shape → Type 0
   Named s to = HasType (signal_shapes flat) s to
 
-  reader-is : (m : ℕ) (a : MemoryAt m) (r : ℕ) (port : List ℕ) → r < length a.bank.bank.readers → get_or a.bank.bank.readers r port ≡ port → IsReader Named a.bank.bank.word a.bank.bank.depth (reader_of paths (joined a.site.path a.bank.name) port)
+  reader-is : (m : ℕ) (a : MemoryAt m) (r : ℕ) (port : List ℕ) → r < length a.bank.bank.readers → get_or a.bank.bank.readers r port ≡ port → IsReader Named a.bank.bank.word a.bank.bank.depth (reader_of paths (flat_memory modules a.site a.bank) port)
   reader-is m a r port lt at = record {
     address = typed-at (flat_signal modules a.site (own (field_name a.bank.name port (codes "addr")) Connected (uint (address_width a.bank.bank.depth)))) (field_number paths (joined a.site.path a.bank.name) port (codes "addr")) (reader-field m a r port (codes "addr") Connected (uint (address_width a.bank.bank.depth)) lt at (0, omega arith, refl));
     enable = typed-at (flat_signal modules a.site (own (field_name a.bank.name port (codes "en")) Connected (uint 1))) (field_number paths (joined a.site.path a.bank.name) port (codes "en")) (reader-field m a r port (codes "en") Connected (uint 1) lt at (1, omega arith, refl));
     output = typed-at (flat_signal modules a.site (own (field_name a.bank.name port (codes "data")) (Answered a.bank.name port r a.bank.bank.latency) a.bank.bank.word)) (field_number paths (joined a.site.path a.bank.name) port (codes "data")) (reader-field m a r port (codes "data") (Answered a.bank.name port r a.bank.bank.latency) a.bank.bank.word lt at (2, omega arith, refl));
   }
 
-  writer-is : (m : ℕ) (a : MemoryAt m) (port : List ℕ) → Contains a.bank.bank.writers port → IsWriter Named a.bank.bank.word a.bank.bank.depth (writer_of paths (joined a.site.path a.bank.name) port)
+  writer-is : (m : ℕ) (a : MemoryAt m) (port : List ℕ) → Contains a.bank.bank.writers port → IsWriter Named a.bank.bank.word a.bank.bank.depth (writer_of paths (flat_memory modules a.site a.bank) port)
   writer-is m a port c = record {
     address = typed-at (flat_signal modules a.site (own (field_name a.bank.name port (codes "addr")) Connected (uint (address_width a.bank.bank.depth)))) (field_number paths (joined a.site.path a.bank.name) port (codes "addr")) (writer-field m a port (codes "addr") Connected (uint (address_width a.bank.bank.depth)) c (0, omega arith, refl));
     enable = typed-at (flat_signal modules a.site (own (field_name a.bank.name port (codes "en")) Connected (uint 1))) (field_number paths (joined a.site.path a.bank.name) port (codes "en")) (writer-field m a port (codes "en") Connected (uint 1) c (1, omega arith, refl));
@@ -225,23 +226,23 @@ module _ (types : Types) (modules : List ModuleTree) (top : ℕ) (flat : FlatCir
       a : MemoryAt m
       a = memory-at m (omega (arith, lt, is_flat.memory_count))
 
-      is : IsMemoryOf paths (flat_memory a.site a.bank) (get_or flat.memories m any)
+      is : IsMemoryOf paths (flat_memory modules a.site a.bank) (get_or flat.memories m any)
       is = is-memory m any lt a
 
-      readers : All (IsReader Named a.bank.bank.word a.bank.bank.depth) (map (reader_of paths (joined a.site.path a.bank.name)) a.bank.bank.readers)
+      readers : All (IsReader Named a.bank.bank.word a.bank.bank.depth) (map (reader_of paths (flat_memory modules a.site a.bank)) a.bank.bank.readers)
       readers r d below =
-          let inside : r < length a.bank.bank.readers = omega (arith, below, length-map a.bank.bank.readers (reader_of paths (joined a.site.path a.bank.name))) in
+          let inside : r < length a.bank.bank.readers = omega (arith, below, length-map a.bank.bank.readers (reader_of paths (flat_memory modules a.site a.bank))) in
           let e = element-at a.bank.bank.readers r inside in
           subst (IsReader Named a.bank.bank.word a.bank.bank.depth)
-          (sym (get_or-map (reader_of paths (joined a.site.path a.bank.name)) a.bank.bank.readers r [] d inside ∙ ap (reader_of paths (joined a.site.path a.bank.name)) (e.is [])))
+          (sym (get_or-map (reader_of paths (flat_memory modules a.site a.bank)) a.bank.bank.readers r [] d inside ∙ ap (reader_of paths (flat_memory modules a.site a.bank)) (e.is [])))
           (reader-is m a r e.element inside (e.is e.element))
 
-      writers : All (IsWriter Named a.bank.bank.word a.bank.bank.depth) (map (writer_of paths (joined a.site.path a.bank.name)) a.bank.bank.writers)
+      writers : All (IsWriter Named a.bank.bank.word a.bank.bank.depth) (map (writer_of paths (flat_memory modules a.site a.bank)) a.bank.bank.writers)
       writers r d below =
-          let inside : r < length a.bank.bank.writers = omega (arith, below, length-map a.bank.bank.writers (writer_of paths (joined a.site.path a.bank.name))) in
+          let inside : r < length a.bank.bank.writers = omega (arith, below, length-map a.bank.bank.writers (writer_of paths (flat_memory modules a.site a.bank))) in
           let e = element-at a.bank.bank.writers r inside in
           subst (IsWriter Named a.bank.bank.word a.bank.bank.depth)
-          (sym (get_or-map (writer_of paths (joined a.site.path a.bank.name)) a.bank.bank.writers r [] d inside ∙ ap (writer_of paths (joined a.site.path a.bank.name)) (e.is [])))
+          (sym (get_or-map (writer_of paths (flat_memory modules a.site a.bank)) a.bank.bank.writers r [] d inside ∙ ap (writer_of paths (flat_memory modules a.site a.bank)) (e.is [])))
           (writer-is m a e.element e.among)
 
   -- ---- what readers answer
@@ -251,11 +252,11 @@ module _ (types : Types) (modules : List ModuleTree) (top : ℕ) (flat : FlatCir
 
   memory-number : (m : ℕ) → m < length banks → (a : MemoryAt m) → number_of (memory_paths banks) (joined a.site.path a.bank.name) ≡ m
   memory-number m lt a =
-      ap (λ (y : FlatMemory). number_of (memory_paths banks) y.path) (sym (a.is.is (flat_memory a.site a.bank)))
-      ∙ number-at (λ (y : FlatMemory). y.path) banks m (flat_memory a.site a.bank) memories lt
+      ap (λ (y : FlatMemory). number_of (memory_paths banks) y.path) (sym (a.is.is (flat_memory modules a.site a.bank)))
+      ∙ number-at (λ (y : FlatMemory). y.path) banks m (flat_memory modules a.site a.bank) memories lt
 
   -- the readers of a memory are those of its bank
-  reader-there : (m : ℕ) → (lt : m < length flat.memories) → (a : MemoryAt m) → readers_at flat m ≡ map (reader_of paths (joined a.site.path a.bank.name)) a.bank.bank.readers
+  reader-there : (m : ℕ) → (lt : m < length flat.memories) → (a : MemoryAt m) → readers_at flat m ≡ map (reader_of paths (flat_memory modules a.site a.bank)) a.bank.bank.readers
   reader-there m lt a =
       let any = (element-at flat.memories m lt).element in
       get_or-map (λ (y : Memory). y.readers) flat.memories m any [] lt ∙ (is-memory m any lt a).readers
@@ -277,8 +278,8 @@ module _ (types : Types) (modules : List ModuleTree) (top : ℕ) (flat : FlatCir
 
       inside : r < length a.bank.bank.readers
       inside =
-          let same : length (readers_at flat m) ≡ length (map (reader_of paths (joined a.site.path a.bank.name)) a.bank.bank.readers) = ap (λ (l : List Reader). length l) (reader-there m lt a) in
-          omega (arith, below, same, length-map a.bank.bank.readers (reader_of paths (joined a.site.path a.bank.name)))
+          let same : length (readers_at flat m) ≡ length (map (reader_of paths (flat_memory modules a.site a.bank)) a.bank.bank.readers) = ap (λ (l : List Reader). length l) (reader-there m lt a) in
+          omega (arith, below, same, length-map a.bank.bank.readers (reader_of paths (flat_memory modules a.site a.bank)))
 
       e : Element a.bank.bank.readers r
       e = element-at a.bank.bank.readers r inside
@@ -286,11 +287,11 @@ module _ (types : Types) (modules : List ModuleTree) (top : ℕ) (flat : FlatCir
       port : List ℕ
       port = e.element
 
-      is : reader_at (readers_at flat m) r ≡ reader_of paths (joined a.site.path a.bank.name) port
+      is : reader_at (readers_at flat m) r ≡ reader_of paths (flat_memory modules a.site a.bank) port
       is =
           ap (λ (l : List Reader). reader_at l r) (reader-there m lt a)
-          ∙ get_or-map (reader_of paths (joined a.site.path a.bank.name)) a.bank.bank.readers r [] (record { addr = 0; en = 0; word = 0; clock = None }) inside
-          ∙ ap (reader_of paths (joined a.site.path a.bank.name)) (e.is [])
+          ∙ get_or-map (reader_of paths (flat_memory modules a.site a.bank)) a.bank.bank.readers r [] (record { addr = 0; en = 0; word = 0; clock = None }) inside
+          ∙ ap (reader_of paths (flat_memory modules a.site a.bank)) (e.is [])
 
       s : ℕ
       s = field_number paths (joined a.site.path a.bank.name) port (codes "data")
@@ -301,20 +302,20 @@ module _ (types : Types) (modules : List ModuleTree) (top : ℕ) (flat : FlatCir
       given : driver_at flat s ≡ answer a.bank.bank.latency (number_of (memory_paths banks) (joined a.site.path a.bank.name)) r (number_of paths (joined a.site.path (field_name a.bank.name port (codes "addr")))) (number_of paths (joined a.site.path (field_name a.bank.name port (codes "en"))))
       given = subst (Driven s) (drive-at (flat_signal modules a.site (own (field_name a.bank.name port (codes "data")) (Answered a.bank.name port r a.bank.bank.latency) a.bank.bank.word)) s stands) (is_flat.drivers s stands.inside)
 
-      driven : driver_at flat s ≡ reader_driver a.bank.bank.latency m r (reader_of paths (joined a.site.path a.bank.name) port)
+      driven : driver_at flat s ≡ reader_driver a.bank.bank.latency m r (reader_of paths (flat_memory modules a.site a.bank) port)
       driven =
           given
           ∙ ap (λ n. answer a.bank.bank.latency n r (number_of paths (joined a.site.path (field_name a.bank.name port (codes "addr")))) (number_of paths (joined a.site.path (field_name a.bank.name port (codes "en"))))) (memory-number m within a)
-          ∙ answer-is a.bank.bank.latency m r (number_of paths (joined a.site.path (field_name a.bank.name port (codes "addr")))) (number_of paths (joined a.site.path (field_name a.bank.name port (codes "en")))) (reader_of paths (joined a.site.path a.bank.name) port)
+          ∙ answer-is a.bank.bank.latency m r (number_of paths (joined a.site.path (field_name a.bank.name port (codes "addr")))) (number_of paths (joined a.site.path (field_name a.bank.name port (codes "en")))) (reader_of paths (flat_memory modules a.site a.bank) port)
           (ap (number_of paths) (sym (joined-behind a.site.path a.bank.name (port ++ 46 ∷ codes "addr"))))
           (ap (number_of paths) (sym (joined-behind a.site.path a.bank.name (port ++ 46 ∷ codes "en"))))
 
   -- a signal that a reader answers is the data of that reader
   data-of : (s : ℕ) → s < length all → (memory : List ℕ) (place : ℕ) (latency : Latency) (addr en : List ℕ) → drive_at all s ≡ Answers memory place latency addr en → IsDataOf flat (number_of (memory_paths banks) memory) place s
   data-of s lt memory place latency addr en is = (
-    omega (arith, answered.data_of.inside, ap (λ (l : List Reader). length l) readers, length-map b.bank.readers (reader_of paths (joined x.path b.name))),
+    omega (arith, answered.data_of.inside, ap (λ (l : List Reader). length l) readers, length-map b.bank.readers (reader_of paths (flat_memory modules x b))),
     ap (λ (l : List Reader). (reader_at l place).word) readers
-        ∙ ap (λ (y : Reader). y.word) (get_or-map (reader_of paths (joined x.path b.name)) b.bank.readers place [] (record { addr = 0; en = 0; word = 0; clock = None }) answered.data_of.inside)
+        ∙ ap (λ (y : Reader). y.word) (get_or-map (reader_of paths (flat_memory modules x b)) b.bank.readers place [] (record { addr = 0; en = 0; word = 0; clock = None }) answered.data_of.inside)
         ∙ ap (λ port. field_number paths (joined x.path b.name) port (codes "data")) (answered.data_of.at [])
         ∙ ap (number_of paths) (sym (joined-behind x.path b.name (answered.data_of.port ++ 46 ∷ codes "data")) ∙ ap (joined x.path) (sym answered.data_of.name))
         ∙ ap (λ (y : FlatSignal). number_of paths y.path) (o.made ∙ sym (e.is e.element))
@@ -351,13 +352,13 @@ module _ (types : Types) (modules : List ModuleTree) (top : ℕ) (flat : FlatCir
       m : ℕ
       m = number_of (memory_paths banks) memory
 
-      known : Stands banks (flat_memory x b) m
+      known : Stands banks (flat_memory modules x b) m
       known =
-          subst (λ path. Stands banks (flat_memory x b) (number_of (memory_paths banks) path)) (sym memory_is)
-          (stands-at (λ (y : FlatMemory). y.path) banks (flat_memory x b) memories
-          (in-flat_map (memories_at modules) (all_sites modules top) x (flat_memory x b) site.among (Contains-map (flat_memory x) (own_banks (module_at modules x.number).statements) b answered.listed)))
+          subst (λ path. Stands banks (flat_memory modules x b) (number_of (memory_paths banks) path)) (sym memory_is)
+          (stands-at (λ (y : FlatMemory). y.path) banks (flat_memory modules x b) memories
+          (in-flat_map (memories_at modules) (all_sites modules top) x (flat_memory modules x b) site.among (Contains-map (flat_memory modules x) (own_banks (module_at modules x.number).statements) b answered.listed)))
 
-      readers : readers_at flat m ≡ map (reader_of paths (joined x.path b.name)) b.bank.readers
+      readers : readers_at flat m ≡ map (reader_of paths (flat_memory modules x b)) b.bank.readers
       readers = reader-there m (omega (arith, known.inside, is_flat.memory_count)) (record { site = x; there = site.among; bank = b; listed = answered.listed; is = known })
 
   -- ---- inputs
@@ -377,7 +378,7 @@ module _ (types : Types) (modules : List ModuleTree) (top : ℕ) (flat : FlatCir
   outside-is : (drive : Drive) → is_outside drive ≡ true → drive ≡ Outside
   outside-is Outside h = refl
   outside-is (Gets scope c) h = absurd (cc)
-  outside-is (Holds scope reset next) h = absurd (cc)
+  outside-is (Holds scope reset next own clock) h = absurd (cc)
   outside-is (Answers memory place latency addr en) h = absurd (cc)
 
   ins-are : (place : ℕ) → place < length flat.ins → (value_at flat.ins place < length flat.signals) × (driver_at flat (value_at flat.ins place) ≡ Input place)
@@ -394,37 +395,55 @@ module _ (types : Types) (modules : List ModuleTree) (top : ℕ) (flat : FlatCir
       given : driver_at flat p.place ≡ Input (count_before is_outside all p.place)
       given = subst (Driven p.place) (outside-is (drive_at all p.place) (p.passes Outside)) (is_flat.drivers p.place (omega (arith, p.inside, drive-count)))
 
-  outs-are : (place : ℕ) → place < length flat.outs → value_at flat.outs place < length flat.signals
-  outs-are place lt =
-      subst (λ s. s < length flat.signals) (sym at) (omega (arith, stands.inside, signal-count))
+  -- the names of the top's outputs, and then the paths of the stops
+  abbrev out_names : List (List ℕ)
+  out_names = port_names direction.Output (module_at modules top).ports ++ stop_paths modules (all_sites modules top)
+
+  port-there : (name : List ℕ) → Contains (port_names direction.Output (module_at modules top).ports) name → number_of paths name < length all
+  port-there name c = subst (λ n. number_of paths n < length all) o.made stands.inside
     where
-      names : List (List ℕ)
-      names = port_names direction.Output (module_at modules top).ports
-
-      inside : place < length names
-      inside = omega (arith, lt, ap (λ (l : List ℕ). length l) is_flat.outs, length-map names (number_of paths))
-
-      e : Element names place
-      e = element-at names place inside
-
-      o : MadeOf (λ (y : Own) n. y.name ≡ n) (filter_map own_of_port (module_at modules top).ports) e.element
-      o = port-named direction.Output (module_at modules top).ports e.element e.among
+      o : MadeOf (λ (y : Own) n. y.name ≡ n) (filter_map own_of_port (module_at modules top).ports) name
+      o = port-named direction.Output (module_at modules top).ports name c
 
       among : Contains (own_at (top_site top)) o.of
-      among = Contains-append_left (filter_map own_of_port (module_at modules top).ports) (flat_map (λ (s : Stmt). own_of_kind types top s.kind) (module_at modules top).statements) o.of o.among
+      among = Contains-append_left (filter_map own_of_port (module_at modules top).ports) (statement_signals types top (module_at modules top).statements) o.of o.among
+
+      top-among : (n : ℕ) → Contains (sites n modules (top_site top)) (top_site top)
+      top-among zero = (0, omega arith, refl)
+      top-among (suc n) = (0, omega arith, refl)
 
       stands : Stands all (flat_signal modules (top_site top) o.of) (number_of paths o.of.name)
       stands = place-of (top_site top) o.of (top-among (length modules)) among
-        where
-          top-among : (n : ℕ) → Contains (sites n modules (top_site top)) (top_site top)
-          top-among zero = (0, omega arith, refl)
-          top-among (suc n) = (0, omega arith, refl)
 
-      at : value_at flat.outs place ≡ number_of paths o.of.name
+  stop-there : (path : List ℕ) → Contains (stop_paths modules (all_sites modules top)) path → number_of paths path < length all
+  stop-there path c =
+      let site = from-flat_map (stop_paths_at modules) (all_sites modules top) path c in
+      let x = site.of in
+      let stop = from-map (λ (s : OwnStop). joined x.path s.name) (own_stops (module_at modules x.number).statements) path site.made in
+      let own = Contains-append_right (filter_map own_of_port (module_at modules x.number).ports) (statement_signals types x.number (module_at modules x.number).statements) (stop_signal stop.of)
+      (Contains-append_right (flat_map (λ (s : Stmt). own_of_kind types x.number s.kind) (module_at modules x.number).statements) (map stop_signal (own_stops (module_at modules x.number).statements)) (stop_signal stop.of)
+      (Contains-map stop_signal (own_stops (module_at modules x.number).statements) stop.of stop.among)) in
+      subst (λ n. number_of paths n < length all) stop.made (place-of x (stop_signal stop.of) site.among own).inside
+
+  outs-are : (place : ℕ) → place < length flat.outs → value_at flat.outs place < length flat.signals
+  outs-are place lt =
+      subst (λ s. s < length flat.signals) (sym at) (omega (arith, there (Contains-append_cases (port_names direction.Output (module_at modules top).ports) (stop_paths modules (all_sites modules top)) e.element e.among), signal-count))
+    where
+      inside : place < length out_names
+      inside = omega (arith, lt, ap (λ (l : List ℕ). length l) is_flat.outs, length-map out_names (number_of paths))
+
+      e : Element out_names place
+      e = element-at out_names place inside
+
+      there : Contains (port_names direction.Output (module_at modules top).ports) e.element ⊎ Contains (stop_paths modules (all_sites modules top)) e.element → number_of paths e.element < length all
+      there (inl c) = port-there e.element c
+      there (inr c) = stop-there e.element c
+
+      at : value_at flat.outs place ≡ number_of paths e.element
       at =
           ap (λ (l : List ℕ). value_at l place) is_flat.outs
-          ∙ get_or-map (number_of paths) names place [] 0 inside
-          ∙ ap (number_of paths) (e.is [] ∙ sym o.made)
+          ∙ get_or-map (number_of paths) out_names place [] 0 inside
+          ∙ ap (number_of paths) (e.is [])
 
   -- ---- drivers
 
@@ -433,7 +452,7 @@ module _ (types : Types) (modules : List ModuleTree) (top : ℕ) (flat : FlatCir
   may-drive s lt (Gets scope c) is h =
       let fit : FitsDriver (signal_shapes flat) (shape_at (signal_shapes flat) s) (Computed h.line) = subst (FitsDriver (signal_shapes flat) (shape_at (signal_shapes flat) s)) h.computed (fits.drivers s (omega (arith, lt, signal-count))) in
       subst (MayDrive flat s) (sym h.computed) fit
-  may-drive s lt (Holds scope reset next) is h =
+  may-drive s lt (Holds scope reset next own clock) is h =
       let n = count_before is_register all s in
       let any = (element-at flat.registers n h.within).element in
       subst (MayDrive flat s) (sym h.held) (
@@ -454,6 +473,8 @@ module _ (types : Types) (modules : List ModuleTree) (top : ℕ) (flat : FlatCir
     registers = fits.registers;
     memories = λ m any lt. formed-memory m any lt;
     reads = reads;
+    register_clocks = registers-clocked types modules top flat is_flat;
+    memory_clocks = memories-clocked types modules top flat is_flat;
   }
 
 -- the flat circuit of a circuit with a top is well formed
@@ -464,5 +485,5 @@ circuit-formed circuit flat top known is_flat fits signals memories =
     same : sites_of circuit ≡ all_sites circuit.modules top
     same = ap (λ (o : Option ℕ). sites_from circuit.modules o) known
 
-    at_top : IsFlatOf (types_of circuit) (flat_signals (types_of circuit) circuit.modules (all_sites circuit.modules top)) (flat_memories circuit.modules (all_sites circuit.modules top)) (module_at circuit.modules top).ports flat
-    at_top = subst (λ (o : Option ℕ). IsFlatOf (types_of circuit) (flat_signals (types_of circuit) circuit.modules (sites_from circuit.modules o)) (flat_memories circuit.modules (sites_from circuit.modules o)) (top_ports circuit.modules o) flat) known is_flat
+    at_top : IsFlatOf (types_of circuit) (flat_signals (types_of circuit) circuit.modules (all_sites circuit.modules top)) (flat_memories circuit.modules (all_sites circuit.modules top)) (module_at circuit.modules top).ports (stop_paths circuit.modules (all_sites circuit.modules top)) flat
+    at_top = subst (λ (o : Option ℕ). IsFlatOf (types_of circuit) (flat_signals (types_of circuit) circuit.modules (sites_from circuit.modules o)) (flat_memories circuit.modules (sites_from circuit.modules o)) (top_ports circuit.modules o) (stop_paths circuit.modules (sites_from circuit.modules o)) flat) known is_flat

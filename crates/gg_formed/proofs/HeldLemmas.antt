@@ -22,7 +22,7 @@ module _ (bindings : Bindings) (registers : List Register) (inputs states : ℕ)
   held-number : (drive : Drive) (driver : Driver) (r : ℕ) → IsDrivenBy bindings registers inputs states sink drive driver → driver ≡ Held r → (is_register drive ≡ true) × (states ≡ r)
   held-number Outside driver r h is = absurd (cc)
   held-number (Gets scope c) driver r h is = absurd (let e = h.computed in cc)
-  held-number (Holds scope reset next) driver r h is = (refl, let e = h.held in cc)
+  held-number (Holds scope reset next own clock) driver r h is = (refl, let e = h.held in cc)
   held-number (Answers memory place latency.Zero addr en) driver r h is = absurd (cc)
   held-number (Answers memory place (latency.One under) addr en) driver r h is = absurd (cc)
 
@@ -30,10 +30,10 @@ module _ (bindings : Bindings) (registers : List Register) (inputs states : ℕ)
   holds-number : (drive : Drive) (driver : Driver) → IsDrivenBy bindings registers inputs states sink drive driver → is_register drive ≡ true → driver ≡ Held states
   holds-number Outside driver h is = absurd (cc)
   holds-number (Gets scope c) driver h is = absurd (cc)
-  holds-number (Holds scope reset next) driver h is = h.held
+  holds-number (Holds scope reset next own clock) driver h is = h.held
   holds-number (Answers memory place late addr en) driver h is = absurd (cc)
 
-module _ (types : Types) (all : List FlatSignal) (banks : List FlatMemory) (ports : List Port) (flat : FlatCircuit) (is : IsFlatOf types all banks ports flat) where
+module _ (types : Types) (all : List FlatSignal) (banks : List FlatMemory) (ports : List Port) (stops : List (List ℕ)) (flat : FlatCircuit) (is : IsFlatOf types all banks ports stops flat) where
   abbrev drives : List Drive
   drives = map (λ x. x.drive) all
 

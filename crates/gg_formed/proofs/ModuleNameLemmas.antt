@@ -1,12 +1,13 @@
--- If all names of a circuit are valid and none is repeated, the paths of its sites, signals and memories differ.
-use Rattle.std.proofs.Common.{◌≡◌, ◌≢◌, ◌⊎◌, inl, inr, ℕ, zero, suc, ◌<◌, List, [], ◌∷◌, ◌++◌, Option, Some, None, option_to_list, length, get_or, map, refl, sym, ap, ap₂, ◌∙◌, subst, arith}
+-- If all names of a circuit are valid and none is repeated, the names of each module differ, and so do the paths of its sites
+-- and memories.
+use Rattle.std.proofs.Common.{◌≡◌, ◌≢◌, ◌⊎◌, inl, inr, ℕ, zero, suc, ◌<◌, List, [], ◌∷◌, ◌++◌, Option, Some, None, option_to_list, length, get_or, map, refl, sym, ap, ap₂, ◌∙◌, subst, append_assoc, arith}
 use Rattle.std.specs.Prelude.{Contains, All, flat_map, filter_map, option_map}
 use Rattle.std.proofs.lemmas.List.{map-append, length-map, get_or-map}
 use Rattle.std.proofs.lemmas.List.Concat.{flat_map_single}
 use Rattle.std.proofs.lemmas.List.Elements.{Contains-append_cases, All-contains}
 use Rattle.std.proofs.lemmas.Simd.{map-map}
 use Rattle.gg_bits.specs.Shape.{Shape}
-use Rattle.gg_ast.specs.Names.{IsPortNamed, AreNamesOfKind, AreNamesOfStatement, AreNamesOfCircuit}
+use Rattle.gg_ast.specs.Names.{IsName, IsPortNamed, AreNamesOfKind, AreNamesOfStatement, AreNamesOfCircuit}
 use Rattle.gg_ast.specs.declared.expression.Reference.TheVariants as reference
 use Rattle.gg_ast.specs.declared.module.Port.{Port}
 use Rattle.gg_ast.specs.declared.statement.Stmt.{Stmt}
@@ -20,26 +21,25 @@ use Rattle.gg_names.specs.Repetitions.{repeated_in, repeated_in_field, repeated_
 use Rattle.gg_flat.specs.Tree.{joined}
 use Rattle.gg_flat.proofs.ListLemmas.{Contains-map}
 use Rattle.gg_count.specs.Sites.{Held, Site, top_site, module_at, held_at, held_by_kind, sites_from, sites_of}
-use Rattle.gg_flattened.specs.Flat.{FlatSignal, flat_signal, signals_at, FlatMemory, flat_memory, memories_at}
+use Rattle.gg_flattened.specs.Flat.{FlatMemory, flat_memory, memories_at}
 use Rattle.gg_flattened.specs.IsFlat.{memory_paths}
 use Rattle.gg_flattened.specs.Known.{types_of}
 use Rattle.gg_flattened.specs.Memories.{Bank, bank_of, type_shape}
-use Rattle.gg_flattened.specs.Signals.{Types, Cause, Connected, Expressed, Kept, Own, own, own_of_port, cause_of_port, own_of_kind, own_signals, OwnBank, own_bank, own_banks, bank_of_kind, memory_signals}
+use Rattle.gg_flattened.specs.Signals.{Types, Cause, Connected, Expressed, Kept, Own, own, own_of_port, cause_of_port, own_of_kind, own_signals, own_stops, statement_signals, stop_signal, OwnBank, own_bank, own_banks, bank_of_kind, memory_signals}
 use Rattle.gg_flattened.proofs.FreshLemmas.{Differ-front}
 use Rattle.gg_flattened.proofs.NameLemmas.{Differ}
-use Rattle.gg_tree.specs.IsTreeOf.{site_paths, signal_paths, memories_of}
+use Rattle.gg_tree.specs.IsTreeOf.{site_paths, memories_of}
 use Rattle.gg_tree.proofs.CauseLemmas.{name-some, name-dotless, statements-named}
 use Rattle.gg_tree.proofs.DeclaredLemmas.{append-none, names-differ, module-declared, Differ-behind, held-named, bank-named}
-use Rattle.gg_tree.proofs.FieldLemmas.{FieldPlace, memory-field}
+use Rattle.gg_tree.proofs.FieldLemmas.{memory-field}
 use Rattle.gg_tree.proofs.JoinLemmas.{dot-within}
-use Rattle.gg_tree.proofs.OwnLemmas.{own_in}
-use Rattle.gg_tree.proofs.SoundLemmas.{apart-names}
 use Rattle.gg_tree.proofs.WordLemmas.{ports-named, held-word, bank-word, BankWords}
-use Rattle.gg_flattened.proofs.AmongLemmas.{MadeOf, from-map, in-flat_map, from-flat_map, in-filter_map}
+use Rattle.gg_flattened.proofs.AmongLemmas.{from-map, in-flat_map, from-flat_map, in-filter_map}
 use Rattle.gg_formed.proofs.ApartLemmas.{behind, AreApart, own_paths, paths-differ}
-use Rattle.gg_formed.proofs.DifferLemmas.{Differ-none, Differ-one, Differ-append, IsDotless, first-once, BeginsIn, begins-apart, parts-differ, filter_map-parts, flat_map-parts}
+use Rattle.gg_formed.proofs.DifferLemmas.{Differ-none, Differ-one, Differ-append, IsDotless, BeginsIn, begins-apart, parts-differ, filter_map-parts, flat_map-parts}
 use Rattle.gg_formed.proofs.PortNameLemmas.{bank-differs, fields-apart}
 use Rattle.gg_formed.proofs.BankFieldLemmas.{bank_or}
+use Rattle.gg_formed.proofs.StopNameLemmas.{StopWord, stop-apart, stop_words}
 
 -- ---- the names of statements
 
@@ -47,17 +47,17 @@ one-word : (name w : List ℕ) → Contains (name ∷ []) w → w ≡ name
 one-word name w (zero, lt, is) = sym is
 one-word name w (suc i, lt, is) = absurd (omega (arith, lt))
 
-kind-dotless : (kind : StmtKind) (n : List ℕ) → AreNamesOfKind kind → Contains (name_by_kind kind) n → IsDotless n
-kind-dotless (says.Wire name ty) n h c = subst IsDotless (sym (one-word name n c)) (name-dotless name h)
-kind-dotless (says.Node name value) n h c = subst IsDotless (sym (one-word name n c)) (name-dotless name h.0)
-kind-dotless (says.Register name ty clock reset) n h c = subst IsDotless (sym (one-word name n c)) (name-dotless name h.0)
-kind-dotless (says.Instance name m) n h c = subst IsDotless (sym (one-word name n c)) (name-dotless name h.0)
-kind-dotless (says.Memory name fields) n h c = subst IsDotless (sym (one-word name n c)) (name-dotless name h.0)
-kind-dotless (says.Connect sink source) n h c = absurd (omega (arith, c.1))
-kind-dotless (says.Invalid sink) n h c = absurd (omega (arith, c.1))
-kind-dotless says.Skip n h c = absurd (omega (arith, c.1))
-kind-dotless (says.Stop clock condition code label) n h c = absurd (omega (arith, c.1))
-kind-dotless (says.Report word arguments label) n h c = absurd (omega (arith, c.1))
+kind-named : (kind : StmtKind) (n : List ℕ) → AreNamesOfKind kind → Contains (name_by_kind kind) n → IsName n
+kind-named (says.Wire name ty) n h c = subst IsName (sym (one-word name n c)) h
+kind-named (says.Node name value) n h c = subst IsName (sym (one-word name n c)) h.0
+kind-named (says.Register name ty clock reset) n h c = subst IsName (sym (one-word name n c)) h.0
+kind-named (says.Instance name m) n h c = subst IsName (sym (one-word name n c)) h.0
+kind-named (says.Memory name fields) n h c = subst IsName (sym (one-word name n c)) h.0
+kind-named (says.Connect sink source) n h c = absurd (omega (arith, c.1))
+kind-named (says.Invalid sink) n h c = absurd (omega (arith, c.1))
+kind-named says.Skip n h c = absurd (omega (arith, c.1))
+kind-named (says.Stop clock condition code label) n h c = absurd (omega (arith, c.1))
+kind-named (says.Report word arguments label) n h c = absurd (omega (arith, c.1))
 
 -- ---- the signals of one statement
 
@@ -82,7 +82,7 @@ memory-begins name (Some bank) w c =
 kind-begins : (types : Types) (k : ℕ) (kind : StmtKind) (w : List ℕ) → Contains (names_of (own_of_kind types k kind)) w → BeginsIn (name_by_kind kind) w
 kind-begins types k (says.Wire name ty) w c = optional-begins name Connected (type_shape ty) w c
 kind-begins types k (says.Node name value) w c = optional-begins name (Expressed value) (types k (reference.Local name)) w c
-kind-begins types k (says.Register name ty clock reset) w c = optional-begins name (Kept reset) (type_shape ty) w c
+kind-begins types k (says.Register name ty clock reset) w c = optional-begins name (Kept clock reset) (type_shape ty) w c
 kind-begins types k (says.Instance name m) w c = absurd (omega (arith, c.1))
 kind-begins types k (says.Memory name fields) w c = memory-begins name (bank_of fields) w c
 kind-begins types k (says.Connect sink source) w c = absurd (omega (arith, c.1))
@@ -98,7 +98,7 @@ HasPorts kind = (b : OwnBank) → bank_of_kind kind ≡ Some b → Differ (b.ban
 kind-apart : (types : Types) (k : ℕ) (kind : StmtKind) → HasPorts kind → Differ (names_of (own_of_kind types k kind))
 kind-apart types k (says.Wire name ty) h = optional-differs name Connected (type_shape ty)
 kind-apart types k (says.Node name value) h = optional-differs name (Expressed value) (types k (reference.Local name))
-kind-apart types k (says.Register name ty clock reset) h = optional-differs name (Kept reset) (type_shape ty)
+kind-apart types k (says.Register name ty clock reset) h = optional-differs name (Kept clock reset) (type_shape ty)
 kind-apart types k (says.Instance name m) h = Differ-none
 kind-apart types k (says.Memory name fields) h = go (bank_of fields) refl
   where
@@ -138,7 +138,7 @@ statement-ports ports before (x ∷ ss) s b h (zero, lt, is) e =
 statement-ports ports before (x ∷ ss) s b h (suc i, lt, is) e =
     statement-ports ports (before ++ x ∷ []) ss s b (append-none (repeated_by ports before x) (along_from (repeated_by ports) (before ++ x ∷ []) ss) h).1 (i, omega (arith, lt), is) e
 
-flat_map-same : {A B : Type 0} (f g : A → List B) (xs : List A) → ((x : A) → f x ≡ g x) → flat_map f xs ≡ flat_map g xs
+pub flat_map-same : {A B : Type 0} (f g : A → List B) (xs : List A) → ((x : A) → f x ≡ g x) → flat_map f xs ≡ flat_map g xs
 flat_map-same f g [] h = refl
 flat_map-same f g (x ∷ xs) h = ap₂ (λ a b. a ++ b) (h x) (flat_map-same f g xs h)
 
@@ -157,18 +157,24 @@ module _ (circuit : CircuitTree) (are_names : AreNamesOfCircuit circuit) (once :
   statements-differ : (k : ℕ) → Differ (flat_map name_by (body k).statements)
   statements-differ k = Differ-behind (port_names (body k).ports) (flat_map name_by (body k).statements) (differ-in k)
 
-  words : (k : ℕ) → All AreNamesOfStatement (body k).statements
+  pub words : (k : ℕ) → All AreNamesOfStatement (body k).statements
   words k = statements-named circuit.modules k are_names.of_modules
 
-  plain-statements : (k : ℕ) (n : List ℕ) → Contains (flat_map name_by (body k).statements) n → IsDotless n
-  plain-statements k n c =
+  statement-word : (k : ℕ) (n : List ℕ) → Contains (flat_map name_by (body k).statements) n → IsName n
+  statement-word k n c =
       let s = from-flat_map name_by (body k).statements n c in
-      kind-dotless s.of.kind n (All-contains AreNamesOfStatement (body k).statements s.of (words k) s.among) s.made
+      kind-named s.of.kind n (All-contains AreNamesOfStatement (body k).statements s.of (words k) s.among) s.made
+
+  plain-statements : (k : ℕ) (n : List ℕ) → Contains (flat_map name_by (body k).statements) n → IsDotless n
+  plain-statements k n c = name-dotless n (statement-word k n c)
+
+  port-word : (k : ℕ) (n : List ℕ) → Contains (port_names (body k).ports) n → IsName n
+  port-word k n c =
+      let p = from-map (λ (q : Port). q.name) (body k).ports n c in
+      subst IsName p.made (All-contains IsPortNamed (body k).ports p.of (ports-named circuit.modules k are_names.of_modules) p.among)
 
   plain-ports : (k : ℕ) (n : List ℕ) → Contains (port_names (body k).ports) n → IsDotless n
-  plain-ports k n c =
-      let p = from-map (λ (q : Port). q.name) (body k).ports n c in
-      subst IsDotless p.made (name-dotless p.of.name (All-contains IsPortNamed (body k).ports p.of (ports-named circuit.modules k are_names.of_modules) p.among))
+  plain-ports k n c = name-dotless n (port-word k n c)
 
   plain-in : (k : ℕ) (n : List ℕ) → Contains (names_in (body k)) n → IsDotless n
   plain-in k n c = go (Contains-append_cases (port_names (body k).ports) (flat_map name_by (body k).statements) n c)
@@ -192,19 +198,27 @@ module _ (circuit : CircuitTree) (are_names : AreNamesOfCircuit circuit) (once :
 
   -- ---- names of signals
 
-  abbrev own_names : ℕ → List (List ℕ)
+  abbrev pub own_names : ℕ → List (List ℕ)
   own_names k = names_of (own_signals (types_of circuit) k (body k))
 
-  abbrev port_words : Port → List (List ℕ)
+  abbrev pub port_words : Port → List (List ℕ)
   port_words p = names_of (option_to_list (own_of_port p))
 
-  abbrev statement_words : ℕ → Stmt → List (List ℕ)
+  abbrev pub statement_words : ℕ → Stmt → List (List ℕ)
   statement_words k s = names_of (own_of_kind (types_of circuit) k s.kind)
 
-  own-parts : (k : ℕ) → own_names k ≡ flat_map port_words (body k).ports ++ flat_map (statement_words k) (body k).statements
+  -- the names of what a module's ports and statements declare
+  abbrev pub declared_words : ℕ → List (List ℕ)
+  declared_words k = flat_map port_words (body k).ports ++ flat_map (statement_words k) (body k).statements
+
+  pub own-parts : (k : ℕ) → own_names k ≡ declared_words k ++ stop_words (body k).statements
   own-parts k =
-      map-append (λ (o : Own). o.name) (filter_map own_of_port (body k).ports) (flat_map (λ (s : Stmt). own_of_kind (types_of circuit) k s.kind) (body k).statements)
-      ∙ ap₂ (λ xs ys. xs ++ ys) (filter_map-parts own_of_port (λ (o : Own). o.name) (body k).ports) (flat_map-parts (λ (s : Stmt). own_of_kind (types_of circuit) k s.kind) (λ (o : Own). o.name) (body k).statements)
+      map-append (λ (o : Own). o.name) (filter_map own_of_port (body k).ports) (statement_signals (types_of circuit) k (body k).statements)
+      ∙ ap₂ (λ xs ys. xs ++ ys) (filter_map-parts own_of_port (λ (o : Own). o.name) (body k).ports) (
+      map-append (λ (o : Own). o.name) (flat_map (λ (s : Stmt). own_of_kind (types_of circuit) k s.kind) (body k).statements) (map stop_signal (own_stops (body k).statements))
+      ∙ ap (λ xs. xs ++ stop_words (body k).statements) (flat_map-parts (λ (s : Stmt). own_of_kind (types_of circuit) k s.kind) (λ (o : Own). o.name) (body k).statements)
+      )
+      ∙ sym (append_assoc (flat_map port_words (body k).ports) (flat_map (statement_words k) (body k).statements) (stop_words (body k).statements))
 
   single-ports : (k : ℕ) → flat_map (λ (p : Port). p.name ∷ []) (body k).ports ≡ port_names (body k).ports
   single-ports k = flat_map_single (λ (p : Port). p.name) (body k).ports
@@ -224,20 +238,23 @@ module _ (circuit : CircuitTree) (are_names : AreNamesOfCircuit circuit) (once :
       let b = kind-begins (types_of circuit) k s.of.kind w s.made in
       record { first = b.first; among = in-flat_map name_by (body k).statements s.of b.first s.among b.among; is = b.is }
 
-  own-differ : (k : ℕ) → Differ (own_names k)
-  own-differ k =
-      subst Differ (sym (own-parts k))
-      (Differ-append (flat_map port_words (body k).ports) (flat_map (statement_words k) (body k).statements)
+  pub declared-differ : (k : ℕ) → Differ (declared_words k)
+  declared-differ k =
+      Differ-append (flat_map port_words (body k).ports) (flat_map (statement_words k) (body k).statements)
       (parts-differ (λ (p : Port). p.name ∷ []) port_words (body k).ports (subst Differ (sym (single-ports k)) (Differ-front (port_names (body k).ports) (flat_map name_by (body k).statements) (differ-in k))) (λ n c. plain-ports k n (subst (λ l. Contains l n) (single-ports k) c)) (λ p c. optional-differs p.name (cause_of_port p.direction) (type_shape p.ty)) (λ p w c h. optional-begins p.name (cause_of_port p.direction) (type_shape p.ty) w h))
       (parts-differ name_by (statement_words k) (body k).statements (statements-differ k) (plain-statements k) (λ s c. kind-apart (types_of circuit) k s.kind (has-ports k s c)) (λ s w c h. kind-begins (types_of circuit) k s.kind w h))
-      (λ w a b. begins-apart (port_names (body k).ports) (flat_map name_by (body k).statements) w (differ-in k) (plain-in k) (ports-begin k w a) (statements-begin k w b)))
+      (λ w a b. begins-apart (port_names (body k).ports) (flat_map name_by (body k).statements) w (differ-in k) (plain-in k) (ports-begin k w a) (statements-begin k w b))
+
+  pub no-stop : (k : ℕ) (w : List ℕ) → StopWord w → Contains (flat_map port_words (body k).ports) w ⊎ Contains (flat_map (statement_words k) (body k).statements) w → ⊥
+  no-stop k w stop (inl c) = stop-apart (port_names (body k).ports) w (port-word k) (ports-begin k w c) stop
+  no-stop k w stop (inr c) = stop-apart (flat_map name_by (body k).statements) w (statement-word k) (statements-begin k w c) stop
 
   -- ---- names of instances
 
   held-parts : (k : ℕ) → map (λ (h : Held). h.name) (held_at circuit.modules k) ≡ flat_map (λ (s : Stmt). map (λ (h : Held). h.name) (option_to_list (held_by_kind circuit.modules s.kind))) (body k).statements
   held-parts k = filter_map-parts (λ (s : Stmt). held_by_kind circuit.modules s.kind) (λ (h : Held). h.name) (body k).statements
 
-  held-differ : (k : ℕ) → Differ (map (λ (h : Held). h.name) (held_at circuit.modules k))
+  pub held-differ : (k : ℕ) → Differ (map (λ (h : Held). h.name) (held_at circuit.modules k))
   held-differ k =
       subst Differ (sym (held-parts k))
       (parts-differ name_by (λ (s : Stmt). map (λ (h : Held). h.name) (option_to_list (held_by_kind circuit.modules s.kind))) (body k).statements (statements-differ k) (plain-statements k)
@@ -252,39 +269,11 @@ module _ (circuit : CircuitTree) (are_names : AreNamesOfCircuit circuit) (once :
       begins s w None e c = absurd (omega (arith, c.1))
       begins s w (Some h) e c = record { first = h.name; among = subst (λ l. Contains l h.name) (sym (held-named circuit.modules s.kind h e)) (0, omega arith, refl); is = inl (one-word h.name w c) }
 
-  held-some : (k : ℕ) (h : Held) → Contains (held_at circuit.modules k) h → h.name ≢ []
+  pub held-some : (k : ℕ) (h : Held) → Contains (held_at circuit.modules k) h → h.name ≢ []
   held-some k h c = name-some h.name (held-word circuit.modules (body k).statements h (words k) c)
 
-  held-plain : (k : ℕ) (h : Held) → Contains (held_at circuit.modules k) h → IsDotless h.name
+  pub held-plain : (k : ℕ) (h : Held) → Contains (held_at circuit.modules k) h → IsDotless h.name
   held-plain k h c = name-dotless h.name (held-word circuit.modules (body k).statements h (words k) c)
-
-  -- ---- signals
-
-  signals-apart : AreApart circuit.modules own_names
-  signals-apart = record {
-    differ = own-differ;
-    held = held-differ;
-    some = held-some;
-    plain = held-plain;
-    apart = λ k h r c has. clash k h r c (from-map (λ (o : Own). o.name) (own_in circuit (top_site k)) (behind h r) has);
-  }
-    where
-      clash : (k : ℕ) (h : Held) (r : List ℕ) → Contains (held_at circuit.modules k) h → MadeOf (λ (o : Own) n. o.name ≡ n) (own_in circuit (top_site k)) (behind h r) → ⊥
-      clash k h r c m = go ((apart-names circuit are_names once).of_own (top_site k) m.among.0 m.among.1)
-        where
-          named : (get_or (own_in circuit (top_site k)) m.among.0 m.of).name ≡ behind h r
-          named = ap (λ (o : Own). o.name) m.among.2 ∙ m.made
-
-          go : ((d : Own) → ¬ Contains (get_or (own_in circuit (top_site k)) m.among.0 d).name 46) ⊎ ((d : Own) → FieldPlace (body k).statements (get_or (own_in circuit (top_site k)) m.among.0 d)) → ⊥
-          go (inl plain) = plain m.of (subst (λ n. Contains n 46) (sym named) (dot-within h.name r))
-          go (inr field) =
-              let f = field m.of in
-              let name = memory-field f.bank.name f.bank.bank f.among.0 (get_or (own_in circuit (top_site k)) m.among.0 m.of) f.among.1 in
-              let is : behind h r ≡ f.bank.name ++ 46 ∷ (name.port ++ 46 ∷ name.field) = sym named ∙ ap (λ (o : Own). o.name) (sym f.among.2) ∙ name.is in
-              let listed : Contains (own_banks (body k).statements) f.bank = (f.place, f.known, f.is f.bank) in
-              let word = bank-word (body k).statements f.bank (words k) listed in
-              (apart-names circuit are_names once).apart (top_site k) h f.bank c listed
-              (first-once h.name f.bank.name r (name.port ++ 46 ∷ name.field) (held-plain k h c) (name-dotless f.bank.name word.name) is)
 
   -- ---- memories
 
@@ -342,19 +331,9 @@ module _ (circuit : CircuitTree) (are_names : AreNamesOfCircuit circuit) (once :
 
   -- ---- the circuit's paths
 
-  of-sites : (own : ℕ → List (List ℕ)) → (are : AreApart circuit.modules own) → (o : Option ℕ) → Differ (flat_map (own_paths circuit.modules own are) (sites_from circuit.modules o))
+  pub of-sites : (own : ℕ → List (List ℕ)) → (are : AreApart circuit.modules own) → (o : Option ℕ) → Differ (flat_map (own_paths circuit.modules own are) (sites_from circuit.modules o))
   of-sites own are None = Differ-none
   of-sites own are (Some k) = paths-differ circuit.modules own are (length circuit.modules) (top_site k)
-
-  pub signal-paths-differ : Differ (signal_paths circuit)
-  signal-paths-differ =
-      subst Differ (sym (flat_map-parts (signals_at (types_of circuit) circuit.modules) (λ (x : FlatSignal). x.path) (sites_of circuit) ∙ flat_map-same (λ (s : Site). map (λ (x : FlatSignal). x.path) (signals_at (types_of circuit) circuit.modules s)) (own_paths circuit.modules own_names signals-apart) (sites_of circuit) same))
-      (of-sites own_names signals-apart (place_of circuit.name (module_names circuit)))
-    where
-      same : (s : Site) → map (λ (x : FlatSignal). x.path) (signals_at (types_of circuit) circuit.modules s) ≡ map (joined s.path) (own_names s.number)
-      same s =
-          map-map (λ (x : FlatSignal). x.path) (flat_signal circuit.modules s) (own_signals (types_of circuit) s.number (body s.number))
-          ∙ sym (map-map (joined s.path) (λ (o : Own). o.name) (own_signals (types_of circuit) s.number (body s.number)))
 
   pub memory-paths-differ : Differ (memory_paths (memories_of circuit))
   memory-paths-differ =
@@ -363,7 +342,7 @@ module _ (circuit : CircuitTree) (are_names : AreNamesOfCircuit circuit) (once :
     where
       same : (s : Site) → map (λ (x : FlatMemory). x.path) (memories_at circuit.modules s) ≡ map (joined s.path) (bank_names s.number)
       same s =
-          map-map (λ (x : FlatMemory). x.path) (flat_memory s) (own_banks (body s.number).statements)
+          map-map (λ (x : FlatMemory). x.path) (flat_memory circuit.modules s) (own_banks (body s.number).statements)
           ∙ sym (map-map (joined s.path) (λ (b : OwnBank). b.name) (own_banks (body s.number).statements))
 
   pub site-paths-differ : Differ (site_paths circuit)

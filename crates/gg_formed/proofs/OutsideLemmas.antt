@@ -18,7 +18,7 @@ use Rattle.gg_count.specs.Sites.{Held, Site, Outer, top_site, site_below, sites,
 use Rattle.gg_flattened.specs.Flat.{FlatSignal, flat_signal, drive_of, signals_at, flat_signals}
 use Rattle.gg_flattened.specs.IsFlat.{number_of, is_outside, port_name, port_names, same_direction}
 use Rattle.gg_flattened.specs.Memories.{Bank, bank_of, type_shape}
-use Rattle.gg_flattened.specs.Signals.{Types, Cause, FromOutside, Connected, Expressed, Kept, Answered, Own, own, own_of_port, cause_of_port, own_of_kind, own_signals, memory_signals, readers_signals, writer_signals}
+use Rattle.gg_flattened.specs.Signals.{Types, Cause, FromOutside, Connected, Expressed, Kept, Answered, Own, own, own_of_port, cause_of_port, own_of_kind, own_signals, own_stops, statement_signals, stop_signal, memory_signals, readers_signals, writer_signals}
 use Rattle.gg_flattened.proofs.AmongLemmas.{MadeOf, in-filter_map, from-filter_map}
 use Rattle.gg_flattened.proofs.NameLemmas.{Differ, place_of-at}
 use Rattle.gg_flattened.proofs.PassingLemmas.{passing, passing-append, passing-none}
@@ -52,7 +52,7 @@ abbrev is_from_outside : Cause → Bool
 is_from_outside FromOutside = true
 is_from_outside Connected = false
 is_from_outside (Expressed value) = false
-is_from_outside (Kept reset) = false
+is_from_outside (Kept clock reset) = false
 is_from_outside (Answered memory port place latency) = false
 
 abbrev IsInside : Own → Type 0
@@ -86,7 +86,7 @@ memory-inside memory (Some bank) i d lt =
 kind-inside : (types : Types) (k : ℕ) (kind : StmtKind) → Each IsInside (own_of_kind types k kind)
 kind-inside types k (says.Wire name ty) i d lt = one-inside name Connected (type_shape ty) refl i d lt
 kind-inside types k (says.Node name value) i d lt = one-inside name (Expressed value) (types k (reference.Local name)) refl i d lt
-kind-inside types k (says.Register name ty clock reset) i d lt = one-inside name (Kept reset) (type_shape ty) refl i d lt
+kind-inside types k (says.Register name ty clock reset) i d lt = one-inside name (Kept clock reset) (type_shape ty) refl i d lt
 kind-inside types k (says.Instance name m) i d lt = absurd (omega (arith, lt))
 kind-inside types k (says.Memory name fields) i d lt = memory-inside name (bank_of fields) i d lt
 kind-inside types k (says.Connect sink source) i d lt = absurd (omega (arith, lt))
@@ -99,14 +99,18 @@ inside-drive : (modules : List ModuleTree) (x : Site) (name : List ℕ) (cause :
 inside-drive modules x name FromOutside h = absurd (cc)
 inside-drive modules x name Connected h = refl
 inside-drive modules x name (Expressed value) h = refl
-inside-drive modules x name (Kept reset) h = refl
+inside-drive modules x name (Kept clock reset) h = refl
 inside-drive modules x name (Answered memory port place latency) h = refl
 
-statements-inside : (types : Types) (modules : List ModuleTree) (x : Site) (ss : List Stmt) → Each (λ (y : FlatSignal). from_outside y ≡ false) (map (flat_signal modules x) (flat_map (λ (s : Stmt). own_of_kind types x.number s.kind) ss))
+stops-inside : (ss : List Stmt) → Each IsInside (map stop_signal (own_stops ss))
+stops-inside ss = each-map IsInside stop_signal (own_stops ss) (λ i d lt. refl)
+
+statements-inside : (types : Types) (modules : List ModuleTree) (x : Site) (ss : List Stmt) → Each (λ (y : FlatSignal). from_outside y ≡ false) (map (flat_signal modules x) (statement_signals types x.number ss))
 statements-inside types modules x ss =
-    each-map (λ (y : FlatSignal). from_outside y ≡ false) (flat_signal modules x) (flat_map (λ (s : Stmt). own_of_kind types x.number s.kind) ss)
-    (λ i d lt. inside-drive modules x (get_or (flat_map (λ (s : Stmt). own_of_kind types x.number s.kind) ss) i d).name (get_or (flat_map (λ (s : Stmt). own_of_kind types x.number s.kind) ss) i d).cause
-    (each-flat_map IsInside (λ (s : Stmt). own_of_kind types x.number s.kind) ss (λ s. kind-inside types x.number s.kind) i d lt))
+    each-map (λ (y : FlatSignal). from_outside y ≡ false) (flat_signal modules x) (statement_signals types x.number ss)
+    (λ i d lt. inside-drive modules x (get_or (statement_signals types x.number ss) i d).name (get_or (statement_signals types x.number ss) i d).cause
+    (each-append IsInside (flat_map (λ (s : Stmt). own_of_kind types x.number s.kind) ss) (map stop_signal (own_stops ss))
+    (each-flat_map IsInside (λ (s : Stmt). own_of_kind types x.number s.kind) ss (λ s. kind-inside types x.number s.kind)) (stops-inside ss) i d lt))
 
 -- ---- below the top nothing is driven by the outside
 
@@ -121,7 +125,7 @@ held-drive modules x name FromOutside h = go x.outer h
     go (Some outer) h = refl
 held-drive modules x name Connected h = refl
 held-drive modules x name (Expressed value) h = refl
-held-drive modules x name (Kept reset) h = refl
+held-drive modules x name (Kept clock reset) h = refl
 held-drive modules x name (Answered memory port place latency) h = refl
 
 held-signals : (types : Types) (modules : List ModuleTree) (x : Site) → has_outer x ≡ true → Each (λ (y : FlatSignal). from_outside y ≡ false) (signals_at types modules x)
@@ -223,7 +227,7 @@ inputs-are types modules top differ =
     ports = map (flat_signal modules (top_site top)) (filter_map own_of_port (module_at modules top).ports)
 
     others : List FlatSignal
-    others = map (flat_signal modules (top_site top)) (flat_map (λ (s : Stmt). own_of_kind types top s.kind) (module_at modules top).statements)
+    others = map (flat_signal modules (top_site top)) (statement_signals types top (module_at modules top).statements)
 
     below : List FlatSignal
     below = flat_signals types modules (rest_of (length modules) modules (top_site top))
@@ -231,7 +235,7 @@ inputs-are types modules top differ =
     parts : flat_signals types modules (all_sites modules top) ≡ ports ++ (others ++ below)
     parts =
         ap (λ (l : List Site). flat_signals types modules l) (sites-split (length modules) modules (top_site top))
-        ∙ ap (λ (l : List FlatSignal). l ++ below) (map-append (flat_signal modules (top_site top)) (filter_map own_of_port (module_at modules top).ports) (flat_map (λ (s : Stmt). own_of_kind types top s.kind) (module_at modules top).statements))
+        ∙ ap (λ (l : List FlatSignal). l ++ below) (map-append (flat_signal modules (top_site top)) (filter_map own_of_port (module_at modules top).ports) (statement_signals types top (module_at modules top).statements))
         ∙ append_assoc ports others below
 
 -- ---- the ports of the top are signals

@@ -21,6 +21,7 @@ circuit second =
       memories = [];
       ins = [];
       outs = [];
+      clocks = 0;
     }
 
 abbrev follower : FlatCircuit

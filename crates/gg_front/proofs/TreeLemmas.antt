@@ -52,7 +52,7 @@ memory-number-same circuit said a b p q = at-same _ _ a b p.number q.number
 
 abbrev pub instance_made : Option ℕ → ℕ → ℕ → ℕ → List InstancePort → List ℕ → Instance
 instance_made parent number first end ports memories =
-    record { parent = parent; «module» = number; first = first; end = end; ports = ports; memories = memories }
+    record { parent = parent; «module» = number; first = first; end = end; ports = ports; memories = memories; clocks = [] }
 
 instances-equal : (a b : Instance) → a.parent ≡ b.parent → a.«module» ≡ b.«module» → a.first ≡ b.first → a.end ≡ b.end → a.ports ≡ b.ports → a.memories ≡ b.memories → a ≡ b
 instances-equal a b p n f e o m =
@@ -84,7 +84,7 @@ instances-same circuit first (site ∷ rest) (x ∷ xs) (y ∷ ys) p q =
 -- ---- memories
 
 abbrev pub memory_made : ℕ → ℕ → List (List ℕ) → MemoryInstance
-memory_made holder number ports = record { instance = holder; memory = number; ports = ports }
+memory_made holder number ports = record { instance = holder; memory = number; ports = ports; clocks = [] }
 
 memories-equal : (a b : MemoryInstance) → a.instance ≡ b.instance → a.memory ≡ b.memory → a.ports ≡ b.ports → a ≡ b
 memories-equal a b h n o =
@@ -97,7 +97,7 @@ memory-same circuit h a b p q =
 -- ---- the tree
 
 abbrev pub tree_made : List (List ℕ) → List Instance → List (List ℕ) → List MemoryInstance → InstanceTree
-tree_made paths instances memory_paths memories = record { paths = paths; instances = instances; memory_paths = memory_paths; memories = memories }
+tree_made paths instances memory_paths memories = record { paths = paths; instances = instances; memory_paths = memory_paths; memories = memories; clocks = []; register_clocks = []; stops = [] }
 
 pub tree-same : (circuit : CircuitTree) (a b : InstanceTree) → IsTreeOf circuit a → IsTreeOf circuit b → a ≡ b
 tree-same circuit a b p q =

@@ -131,6 +131,7 @@ module _ (whole part : FlatCircuit) (globals held memories : List ℕ) (f rf mf 
     drivers = λ s lt. let lt' : s < length globals = omega (arith, lt, length-map globals f) in from-moved s lt' (driver_at part s) refl (is.drivers s lt');
     ins = λ place lt. let h = is.ins place lt in (omega (arith, h.0, length-map globals f), h.1);
     outs = λ place lt. omega (arith, is.outs place lt, length-map globals f);
+    clocks = is.clocks;
     register_count = is.register_count ∙ sym (length-map held rf);
     register_from = λ r lt.
         let lt' : r < length held = omega (arith, lt, length-map held rf) in

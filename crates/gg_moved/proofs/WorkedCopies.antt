@@ -1,7 +1,8 @@
--- Two instances of a module with an input `i`, an output `o` and a register `q`, which takes `i` and gives `o`; each is fed by the
--- other. They are copies of each other, and with one flaw each they aren't.
-use Rattle.std.proofs.Common.{◌≡◌, ℕ, zero, suc, ◌<◌, List, [], ◌∷◌, Some, None, true, false, codes, refl, sym, ap, ◌∙◌, subst, arith, lit<, lit≤}
-use Rattle.std.specs.Prelude.{slice_index_or}
+-- Two instances of a module with an input `i`, an output `o` and a register `q`, which takes `i` and gives `o`, and a stop where `q`
+-- is 1; each is fed by the other. They follow two clocks of the circuit, and are copies of each other. With one flaw each they
+-- aren't.
+use Rattle.std.proofs.Common.{◌≡◌, ℕ, zero, suc, ◌<◌, List, [], ◌∷◌, Option, Some, None, true, false, codes, refl, sym, ap, ◌∙◌, subst, arith, lit<, lit≤}
+use Rattle.std.specs.Prelude.{slice_index_or, Contains}
 use Rattle.gg_bits.specs.declared.types.Kind.TheVariants.{UInt}
 use Rattle.gg_bits.specs.declared.types.Ty.{Ty}
 use Rattle.gg_bits.specs.Shape.{Shape}
@@ -12,11 +13,12 @@ use Rattle.gg_flat.specs.declared.piece.Register.{Register}
 use Rattle.gg_flat.specs.declared.piece.Signal.{Signal}
 use Rattle.gg_flat.specs.declared.tree.Instance.{Instance}
 use Rattle.gg_flat.specs.declared.tree.InstancePort.{InstancePort}
+use Rattle.gg_flat.specs.declared.tree.StopInstance.{StopInstance}
 use Rattle.gg_flat.specs.Circuit.{FlatCircuit, driver_at, signal_shapes}
 use Rattle.gg_flat.specs.Line.{shape_at}
 use Rattle.gg_flat.specs.Scoped.{IsInputOf}
-use Rattle.gg_flat.specs.Tree.{InstanceTree, instance_at, path_at}
-use Rattle.gg_moved.specs.Moved.{IsMoved, moved_driver, moved_register, shifted}
+use Rattle.gg_flat.specs.Tree.{InstanceTree, instance_at, path_at, stop_at}
+use Rattle.gg_moved.specs.Moved.{IsMoved, moved_driver, moved_register, moved_stop, shifted, unclocked_register}
 use Rattle.gg_moved.specs.Copies.{above, Start, IsCopy}
 
 -- ---- the circuit
@@ -33,23 +35,24 @@ signal ty driver = record { ty = ty; driver = driver }
 abbrev follows : Ty → ℕ → Signal
 follows ty s = signal ty (Computed (record { ty = one; op = Ref s } ∷ []))
 
-abbrev register : ℕ → Register
-register s = record { ty = one; reset = None; next = Some (record { ty = one; op = Ref s } ∷ []); clock = None }
+abbrev register : ℕ → ℕ → Register
+register s clock = record { ty = one; reset = None; next = Some (record { ty = one; op = Ref s } ∷ []); clock = Some clock }
 
 -- the second instance's output and register are these
 abbrev with : List ℕ → Signal → Signal → FlatCircuit
 with path output state =
     record {
-      paths = codes "a.i" ∷ codes "a.o" ∷ codes "a.q" ∷ codes "b.i" ∷ path ∷ codes "b.q" ∷ [];
-      signals = follows one 4 ∷ follows one 2 ∷ signal one (Held 0) ∷ follows one 1 ∷ output ∷ state ∷ [];
-      registers = register 0 ∷ register 3 ∷ [];
+      paths = codes "a.i" ∷ codes "a.o" ∷ codes "a.q" ∷ codes "a.stop:0" ∷ codes "b.i" ∷ path ∷ codes "b.q" ∷ codes "b.stop:0" ∷ [];
+      signals = follows one 5 ∷ follows one 2 ∷ signal one (Held 0) ∷ follows one 2 ∷ follows one 1 ∷ output ∷ state ∷ follows one 6 ∷ [];
+      registers = register 0 0 ∷ register 4 1 ∷ [];
       memories = [];
       ins = [];
-      outs = [];
+      outs = 3 ∷ 7 ∷ [];
+      clocks = 2;
     }
 
 abbrev circuit : FlatCircuit
-circuit = with (codes "b.o") (follows one 5) (signal one (Held 1))
+circuit = with (codes "b.o") (follows one 6) (signal one (Held 1))
 
 abbrev port : ℕ → InstancePort
 port s = record { signal = s; is_input = true }
@@ -57,23 +60,33 @@ port s = record { signal = s; is_input = true }
 abbrev output : ℕ → InstancePort
 output s = record { signal = s; is_input = false }
 
-abbrev inner : ℕ → ℕ → Instance
-inner first end = record { parent = Some 0; «module» = 1; first = first; end = end; ports = port first ∷ output (suc first) ∷ []; memories = [] }
+abbrev inner : ℕ → ℕ → ℕ → Instance
+inner first end clock = record { parent = Some 0; «module» = 1; first = first; end = end; ports = port first ∷ output (suc first) ∷ []; memories = []; clocks = Some clock ∷ [] }
 
-abbrev tree : InstanceTree
-tree =
+abbrev stop : ℕ → ℕ → StopInstance
+stop instance signal = record { instance = instance; signal = signal; clock = Some 0 }
+
+-- the tree with these stops, where registers follow these Clock inputs of their instances
+abbrev tree_with : List (Option ℕ) → List StopInstance → InstanceTree
+tree_with registers stops =
     record {
       paths = [] ∷ codes "a" ∷ codes "b" ∷ [];
-      instances = record { parent = None; «module» = 0; first = 0; end = 6; ports = []; memories = [] } ∷ inner 0 3 ∷ inner 3 6 ∷ [];
+      instances = record { parent = None; «module» = 0; first = 0; end = 8; ports = []; memories = []; clocks = Some 0 ∷ Some 1 ∷ [] } ∷ inner 0 4 0 ∷ inner 4 8 1 ∷ [];
       memory_paths = [];
       memories = [];
+      clocks = codes "c" ∷ codes "d" ∷ [];
+      register_clocks = registers;
+      stops = stops;
     }
+
+abbrev tree : InstanceTree
+tree = tree_with (Some 0 ∷ Some 0 ∷ []) (stop 1 3 ∷ stop 2 7 ∷ [])
 
 abbrev from : Start
 from = record { signals = 0; registers = 0; memories = 0 }
 
 abbrev to : Start
-to = record { signals = 3; registers = 1; memories = 0 }
+to = record { signals = 4; registers = 1; memories = 0 }
 
 -- ---- which signals are inputs
 
@@ -90,25 +103,33 @@ last-no-input i = go i.listed.0 i.listed.1 i.listed.2
 
 -- ---- the row
 
-paths : (s : ℕ) → s < 3 → IsMoved (codes "a") (codes "b") (path_at circuit.paths s) (path_at circuit.paths (shifted 0 3 s))
+paths : (s : ℕ) → s < 4 → IsMoved (codes "a") (codes "b") (path_at circuit.paths s) (path_at circuit.paths (shifted 0 4 s))
 paths zero lt = record { rest = codes "i"; one = refl; other = refl }
 paths (suc zero) lt = record { rest = codes "o"; one = refl; other = refl }
 paths (suc (suc zero)) lt = record { rest = codes "q"; one = refl; other = refl }
-paths (suc (suc (suc s))) lt = absurd (omega (arith, lt))
+paths (suc (suc (suc zero))) lt = record { rest = codes "stop:0"; one = refl; other = refl }
+paths (suc (suc (suc (suc s)))) lt = absurd (omega (arith, lt))
 
-drivers : (s : ℕ) → s < 3 → ¬ IsInputOf tree 1 s → driver_at circuit (shifted 0 3 s) ≡ moved_driver (shifted 0 3) (shifted 0 1) (shifted 0 0) (driver_at circuit s)
+drivers : (s : ℕ) → s < 4 → ¬ IsInputOf tree 1 s → driver_at circuit (shifted 0 4 s) ≡ moved_driver (shifted 0 4) (shifted 0 1) (shifted 0 0) (driver_at circuit s)
 drivers zero lt none = absurd (none first-input)
 drivers (suc zero) lt none = refl
 drivers (suc (suc zero)) lt none = refl
-drivers (suc (suc (suc s))) lt none = absurd (omega (arith, lt))
+drivers (suc (suc (suc zero))) lt none = refl
+drivers (suc (suc (suc (suc s)))) lt none = absurd (omega (arith, lt))
 
-registers : (s r : ℕ) (any : Register) → s < 3 → ¬ IsInputOf tree 1 s → driver_at circuit s ≡ Held r → slice_index_or circuit.registers (shifted 0 1 r) any ≡ moved_register (shifted 0 3) (slice_index_or circuit.registers r any)
-registers zero r any lt none is = absurd (none first-input)
-registers (suc zero) r any lt none is = absurd (cc)
-registers (suc (suc zero)) r any lt none is =
-    let same : 0 ≡ r = cc in
-    subst (λ (k : ℕ). slice_index_or circuit.registers (shifted 0 1 k) any ≡ moved_register (shifted 0 3) (slice_index_or circuit.registers k any)) same refl
-registers (suc (suc (suc s))) r any lt none is = absurd (omega (arith, lt))
+-- the register that a signal of the first instance holds is the first one
+first-register : (s r : ℕ) → s < 4 → ¬ IsInputOf tree 1 s → driver_at circuit s ≡ Held r → 0 ≡ r
+first-register zero r lt none is = absurd (none first-input)
+first-register (suc zero) r lt none is = absurd (cc)
+first-register (suc (suc zero)) r lt none is = cc
+first-register (suc (suc (suc zero))) r lt none is = absurd (cc)
+first-register (suc (suc (suc (suc s)))) r lt none is = absurd (omega (arith, lt))
+
+abbrev SameRegister : ℕ → Type 0
+SameRegister r = (any : Register) → unclocked_register (slice_index_or circuit.registers (shifted 0 1 r) any) ≡ unclocked_register (moved_register (shifted 0 4) (slice_index_or circuit.registers r any))
+
+abbrev SameClock : ℕ → Type 0
+SameClock r = slice_index_or tree.register_clocks (shifted 0 1 r) None ≡ slice_index_or tree.register_clocks r None
 
 copies : IsCopy circuit tree 1 2 from to
 copies = record {
@@ -116,20 +137,41 @@ copies = record {
   path = λ s h. paths s h.1;
   shape = λ s h. shapes s h.1;
   driver = λ s h none. drivers s h.1 none;
-  register = λ s r any h none is. registers s r any h.1 none is;
+  register = λ s r any h none is. subst SameRegister (first-register s r h.1 none is) (λ d. refl) any;
+  register_clock = λ s r h none is. subst SameClock (first-register s r h.1 none is) refl;
   ports = refl;
   instance = λ k lt lies. instances k lt lies.levels lies.is;
   memory_path = λ m lt lies. absurd (omega (arith, lt));
   memory = λ m any lt lies. absurd (omega (arith, lt));
+  memory_clocks = λ m lt lies. absurd (omega (arith, lt));
+  own_clocks = refl;
+  clocks = λ k lt lies other. absurd (other (alone k lt lies.levels lies.is));
+  stop = λ p lt lies. stops p lt lies.levels lies.is;
 }
   where
-    shapes : (s : ℕ) → s < 3 → shape_at (signal_shapes circuit) (shifted 0 3 s) ≡ shape_at (signal_shapes circuit) s
+    shapes : (s : ℕ) → s < 4 → shape_at (signal_shapes circuit) (shifted 0 4 s) ≡ shape_at (signal_shapes circuit) s
     shapes zero lt = refl
     shapes (suc zero) lt = refl
     shapes (suc (suc zero)) lt = refl
-    shapes (suc (suc (suc s))) lt = absurd (omega (arith, lt))
+    shapes (suc (suc (suc zero))) lt = refl
+    shapes (suc (suc (suc (suc s)))) lt = absurd (omega (arith, lt))
 
-    instances : (k : ℕ) → k < 3 → (levels : ℕ) → above tree levels k ≡ Some 1 → ((instance_at tree (shifted 1 2 k)).«module» ≡ (instance_at tree k).«module») × ((instance_at tree (shifted 1 2 k)).first ≡ shifted 0 3 (instance_at tree k).first)
+    -- no other instance lies in the first
+    alone : (k : ℕ) → k < 3 → (levels : ℕ) → above tree levels k ≡ Some 1 → k ≡ 1
+    alone zero lt zero is = absurd (cc)
+    alone zero lt (suc levels) is = absurd (cc)
+    alone (suc zero) lt levels is = refl
+    alone (suc (suc zero)) lt zero is = absurd (cc)
+    alone (suc (suc zero)) lt (suc zero) is = absurd (cc)
+    alone (suc (suc zero)) lt (suc (suc levels)) is = absurd (cc)
+    alone (suc (suc (suc k))) lt levels is = absurd (omega (arith, lt))
+
+    stops : (p : ℕ) → p < 2 → (levels : ℕ) → above tree levels (stop_at tree p).instance ≡ Some 1 → Contains tree.stops (moved_stop (shifted 1 2) (shifted 0 4) (stop_at tree p))
+    stops zero lt levels is = (1, lit< tt, refl)
+    stops (suc zero) lt levels is = let same : 2 ≡ 1 = alone 2 (lit< tt) levels is in omega (arith, same)
+    stops (suc (suc p)) lt levels is = absurd (omega (arith, lt))
+
+    instances : (k : ℕ) → k < 3 → (levels : ℕ) → above tree levels k ≡ Some 1 → ((instance_at tree (shifted 1 2 k)).«module» ≡ (instance_at tree k).«module») × ((instance_at tree (shifted 1 2 k)).first ≡ shifted 0 4 (instance_at tree k).first)
     instances zero lt zero is = absurd (cc)
     instances zero lt (suc levels) is = absurd (cc)
     instances (suc zero) lt levels is = (refl, refl)
@@ -141,15 +183,30 @@ copies = record {
 -- ---- near misses
 
 -- the second shares the first one's register
-shares : IsCopy (with (codes "b.o") (follows one 5) (signal one (Held 0))) tree 1 2 from to → ⊥
+shares : IsCopy (with (codes "b.o") (follows one 6) (signal one (Held 0))) tree 1 2 from to → ⊥
 shares h = let held : Held 0 ≡ Held 1 = h.driver 2 (lit≤ tt, lit< tt) last-no-input in cc
 
+-- its register follows no Clock input
+unclocked : IsCopy circuit (tree_with (Some 0 ∷ None ∷ []) (stop 1 3 ∷ stop 2 7 ∷ [])) 1 2 from to → ⊥
+unclocked h = let same : None ≡ Some 0 = h.register_clock 2 0 (lit≤ tt, lit< tt) (λ i. last-no-input (again i)) refl in cc
+  where
+    again : IsInputOf (tree_with (Some 0 ∷ None ∷ []) (stop 1 3 ∷ stop 2 7 ∷ [])) 1 2 → IsInputOf tree 1 2
+    again i = record { known = i.known; port = i.port; listed = i.listed; is = i.is; input = i.input }
+
+-- it has no stop
+without : IsCopy circuit (tree_with (Some 0 ∷ Some 0 ∷ []) (stop 1 3 ∷ [])) 1 2 from to → ⊥
+without h = go (h.stop 0 (lit< tt) (record { levels = 0; is = refl }))
+  where
+    go : Contains (stop 1 3 ∷ []) (stop 2 7) → ⊥
+    go (zero, lt, is) = let signal : 3 ≡ 7 = ap (λ (s : StopInstance). s.signal) is in omega (arith, signal)
+    go (suc i, lt, is) = omega (arith, lt)
+
 -- its output is wider
-wider : IsCopy (with (codes "b.o") (follows two 5) (signal one (Held 1))) tree 1 2 from to → ⊥
+wider : IsCopy (with (codes "b.o") (follows two 6) (signal one (Held 1))) tree 1 2 from to → ⊥
 wider h = let width : 2 ≡ 1 = ap (λ (s : Shape). s.width) (h.shape 1 (lit≤ tt, lit< tt)) in omega (arith, width)
 
 -- its output has another name
-renamed : IsCopy (with (codes "b.p") (follows one 5) (signal one (Held 1))) tree 1 2 from to → ⊥
+renamed : IsCopy (with (codes "b.p") (follows one 6) (signal one (Held 1))) tree 1 2 from to → ⊥
 renamed h =
     let p = h.path 1 (lit≤ tt, lit< tt) in
     let o : codes "o" ≡ p.rest = let e = p.one in cc in

@@ -13,6 +13,7 @@ use Rattle.gg_flat.specs.declared.piece.Driver.TheVariants.{Input, Held, MemoryW
 use Rattle.gg_flat.specs.declared.piece.Register.{Register}
 use Rattle.gg_flat.specs.declared.piece.Reset as kept
 use Rattle.gg_flat.specs.declared.tree.InstancePort.{InstancePort}
+use Rattle.gg_flat.specs.declared.tree.StopInstance.{StopInstance}
 use Rattle.gg_flat.specs.Tree.{joined}
 
 -- ---- paths
@@ -77,6 +78,31 @@ moved_memory to memory =
       readers = map (λ reader. moved_reader to reader) memory.readers;
       writers = map (λ writer. moved_writer to writer) memory.writers;
     }
+
+-- a stop, with other numbers of its instance and of its signal
+abbrev pub moved_stop : (ℕ → ℕ) → (ℕ → ℕ) → StopInstance → StopInstance
+moved_stop instances to stop = record { instance = instances stop.instance; signal = to stop.signal; clock = stop.clock }
+
+-- ---- but for clocks
+
+-- a register, a reader, a writer and a memory without their clocks
+abbrev pub unclocked_register : Register → Register
+unclocked_register register = record register { clock = None }
+
+abbrev pub unclocked_reader : Reader → Reader
+unclocked_reader reader = record reader { clock = None }
+
+abbrev pub unclocked_writer : Writer → Writer
+unclocked_writer writer = record writer { clock = None }
+
+abbrev pub unclocked_memory : Memory → Memory
+unclocked_memory memory =
+    record memory {
+      readers = map (λ reader. unclocked_reader reader) memory.readers;
+      writers = map (λ writer. unclocked_writer writer) memory.writers;
+    }
+
+-- ---- ports
 
 abbrev pub moved_port : (ℕ → ℕ) → InstancePort → InstancePort
 moved_port to port = record { signal = to port.signal; is_input = port.is_input }

@@ -1,16 +1,13 @@
 -- Which modules have instances of which (FIRRTL Specification, "Instances": a module may not have an instance of
 -- itself, directly or through others). Modules are identified by their places in the circuit, counted from 0.
+pub use Rattle.gg_ast.specs.Tree.{module_at}
 use Rattle.std.proofs.Math.Nat.{not-suc-le-zero}
-use Rattle.std.specs.Prelude.{ℕ, List, [], Contains, flat_map, option_to_list, slice_index_or, take}
+use Rattle.std.specs.Prelude.{ℕ, List, [], Contains, flat_map, option_to_list, take}
 use Rattle.gg_ast.specs.Places.{place_of}
 use Rattle.gg_ast.specs.declared.statement.Stmt.{Stmt}
 use Rattle.gg_ast.specs.declared.statement.StmtKind as statements
 use Rattle.gg_ast.specs.declared.statement.StmtKind.TheVariants as kinds
-use Rattle.gg_ast.specs.Tree.{ModuleTree, empty_module, names_of}
-
--- the module at a place; after the end one without a name
-abbrev pub module_at : List ModuleTree → ℕ → ModuleTree
-module_at modules k = slice_index_or modules k (empty_module 0 [])
+use Rattle.gg_ast.specs.Tree.{ModuleTree, names_of}
 
 -- the place of the module that a statement makes an instance of
 abbrev pub held_by_kind : List ModuleTree → statements.StmtKind → List ℕ

@@ -25,6 +25,7 @@ circle =
       memories = [];
       ins = [];
       outs = 3 ∷ [];
+      clocks = 0;
     }
 
 -- what a copy reads

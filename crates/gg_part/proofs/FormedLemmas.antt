@@ -19,7 +19,7 @@ use Rattle.gg_flat.specs.Line.{value_at, shape_at, shapes_of, op_at, HasType, Ha
 use Rattle.gg_flat.specs.Circuit.{FlatCircuit, signal_shapes, driver_at, readers_at, latency_at, reader_at}
 use Rattle.gg_flat.specs.Reads.{Names, ResetNames, NextNames}
 use Rattle.gg_flat.specs.Tree.{path_at}
-use Rattle.gg_flat.specs.WellFormed.{IsDataOf, MayDrive, IsReset, IsRegister, IsReader, IsWriter, IsMemory, IsWellFormed, reader_driver}
+use Rattle.gg_flat.specs.WellFormed.{IsDataOf, MayDrive, IsReset, IsRegister, IsReader, IsWriter, IsMemory, IsClock, IsClockedMemory, IsWellFormed, reader_driver}
 use Rattle.gg_flat.proofs.ListLemmas.{some-item, once-apart}
 use Rattle.gg_part.specs.Part.{IsPart, IsFrom, renamed_op, renamed_line, renamed_next, renamed_reset, renamed_register, renamed_reader, renamed_writer, renamed_memory, NamesBelow, ReadsAmong}
 use Rattle.gg_part.proofs.RenameLemmas.{shapes_of-renamed, length-renamed, line_shape-renamed}
@@ -109,6 +109,18 @@ module _ (whole part : FlatCircuit) (globals held memories : List ℕ) (is : IsP
               input = type-part (get_or memory.writers w d).word _ among.2 old.input;
               masked = type-part (get_or memory.writers w d).mask _ among.3 old.masked;
             };
+      }
+
+  -- the clocks of a memory's ports are those of the whole
+  clocked-part : (memory : Memory) → IsClockedMemory whole.clocks (renamed_memory globals memory) → IsClockedMemory whole.clocks memory
+  clocked-part memory clocked =
+      record {
+        readers = λ r d lt.
+            let long : r < length (map (λ reader. renamed_reader globals reader) memory.readers) = omega (arith, lt, length-map memory.readers (λ reader. renamed_reader globals reader)) in
+            subst (λ (x : Reader). IsClock whole.clocks x.clock) (get_or-map (λ reader. renamed_reader globals reader) memory.readers r d (renamed_reader globals d) lt) (clocked.readers r (renamed_reader globals d) long);
+        writers = λ w d lt.
+            let long : w < length (map (λ writer. renamed_writer globals writer) memory.writers) = omega (arith, lt, length-map memory.writers (λ writer. renamed_writer globals writer)) in
+            subst (λ (x : Writer). IsClock whole.clocks x.clock) (get_or-map (λ writer. renamed_writer globals writer) memory.writers w d (renamed_writer globals d) lt) (clocked.writers w (renamed_writer globals d) long);
       }
 
   readers-part : (m : ℕ) → m < length memories → readers_at whole (value_at memories m) ≡ map (λ reader. renamed_reader globals reader) (readers_at part m)
@@ -235,6 +247,17 @@ IsWellFormed-part whole part globals held memories formed is =
             reset = reset-part whole part globals held memories is (shape local.ty) local.reset (λ s named. at.below d s (inl named)) old.reset;
             next = next-part whole part globals held memories is (shape local.ty) local.next (λ s named. at.below d s (inr named)) old.next;
           };
+      register_clocks = λ r d lt.
+          let known : r < length held = omega (arith, lt, is.register_count) in
+          let at = is.register_from r known in
+          let local = get_or part.registers r d in
+          subst (λ n. IsClock n local.clock) (sym is.clocks) (subst (λ (x : Register). IsClock whole.clocks x.clock) (at.is d (renamed_register globals local)) (formed.register_clocks (value_at held r) (renamed_register globals local) at.within));
+      memory_clocks = λ m d lt.
+          let known : m < length memories = omega (arith, lt, is.memory_count) in
+          let at = is.memory_from m known in
+          let local = get_or part.memories m d in
+          let old = subst (IsClockedMemory whole.clocks) (at.is d (renamed_memory globals local)) (formed.memory_clocks (value_at memories m) (renamed_memory globals local) at.within) in
+          subst (λ n. IsClockedMemory n local) (sym is.clocks) (clocked-part whole part globals held memories is local old);
       memories = λ m d lt.
           let known : m < length memories = omega (arith, lt, is.memory_count) in
           let at = is.memory_from m known in

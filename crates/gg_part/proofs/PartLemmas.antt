@@ -39,7 +39,7 @@ IsChoice-frame whole globals ins outs memories own_globals own_ins own_memories 
       answers = chosen.answers;
     })))
 
-module _ (whole piece : FlatCircuit) (globals ins held memories : List ℕ) (formed : IsWellFormed whole) (chosen : IsChoice whole globals ins [] memories) (are_held : AreHeld whole globals ins held) (signals : AreSignals whole globals ins held memories (length globals) piece) (registers : AreRegisters whole globals held (length held) piece.registers) (banks : AreMemories whole globals memories (length memories) piece.memories) (own_ins : map (value_at globals) piece.ins ≡ ins) (ins_below : All (λ s. s < length globals) piece.ins) (outs_below : All (λ s. s < length globals) piece.outs) where
+module _ (whole piece : FlatCircuit) (globals ins held memories : List ℕ) (formed : IsWellFormed whole) (chosen : IsChoice whole globals ins [] memories) (are_held : AreHeld whole globals ins held) (signals : AreSignals whole globals ins held memories (length globals) piece) (registers : AreRegisters whole globals held (length held) piece.registers) (banks : AreMemories whole globals memories (length memories) piece.memories) (own_ins : map (value_at globals) piece.ins ≡ ins) (ins_below : All (λ s. s < length globals) piece.ins) (outs_below : All (λ s. s < length globals) piece.outs) (clocks : piece.clocks ≡ whole.clocks) where
   ins-count : length piece.ins ≡ length ins
   ins-count = sym (length-map piece.ins (value_at globals)) ∙ ap length own_ins
 
@@ -108,6 +108,7 @@ module _ (whole piece : FlatCircuit) (globals ins held memories : List ℕ) (for
         drivers = λ s lt. from-local s (driver_at whole (value_at globals s)) (driver_at piece s) lt (signals.drivers s lt).from;
         ins = λ place lt. (ins_below place 0 lt, ins-driven place lt);
         outs = λ place lt. outs_below place 0 lt;
+        clocks = clocks;
         register_count = registers.counted;
         register_from = λ r lt. record {
           within = held-within whole globals ins held formed chosen.within are_held r 0 lt;

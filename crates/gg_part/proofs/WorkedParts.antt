@@ -123,6 +123,7 @@ part =
       memories = [];
       ins = 1 ∷ 2 ∷ [];
       outs = 0 ∷ [];
+      clocks = 0;
     }
 
 part-register : IsRegisterFrom counter part globals (0 ∷ []) 0
@@ -144,6 +145,7 @@ is-part =
       drivers = three (λ s. IsFrom part.ins globals (0 ∷ []) [] s (driver_at counter (value_at globals s)) (driver_at part s)) (lit< tt, refl) (lit< tt, refl) (lit< tt, refl);
       ins = both (λ place. (value_at part.ins place < 3) × (driver_at part (value_at part.ins place) ≡ Input place)) (lit< tt, refl) (lit< tt, refl);
       outs = only (λ place. value_at part.outs place < 3) (lit< tt);
+      clocks = refl;
       register_count = refl;
       register_from = only (λ r. IsRegisterFrom counter part globals (0 ∷ []) r) part-register;
       memory_count = refl;
@@ -177,6 +179,10 @@ given-data : (signals : List ℕ) → ¬ IsChoice ports signals (6 ∷ []) [] (0
 given-data signals choice = choice.answers 0 0 (0, lit< tt, refl) (lit< tt) (0, lit< tt, refl)
 
 -- ---- what is no part
+
+-- it lists a clock that the counter hasn't
+not-clocked : ¬ IsPart counter (record part { clocks = 1 }) globals (0 ∷ []) []
+not-clocked is = let clocks : 1 ≡ 0 = is.clocks in omega (arith, clocks)
 
 -- the register has the whole's numbers
 not-renamed : ¬ IsPart counter (record part { registers = counted 0 2 3 ∷ [] }) globals (0 ∷ []) []

@@ -113,7 +113,7 @@ pub record IsMemoryFrom (whole part : FlatCircuit) (globals memories : List ℕ)
 
 -- A part: some signals of the whole circuit, each once, with their paths and types. Each is an in-signal, or has its
 -- driver from the whole circuit. The registers and the memories that these drivers name are those of the whole
--- circuit.
+-- circuit, and so are the clocks.
 pub record IsPart (whole part : FlatCircuit) (globals held memories : List ℕ) : Type 0 where
   pub count : length part.signals ≡ length globals
   pub within : (s : ℕ) → s < length globals → value_at globals s < length whole.signals
@@ -123,6 +123,7 @@ pub record IsPart (whole part : FlatCircuit) (globals held memories : List ℕ) 
   pub drivers : (s : ℕ) → s < length globals → IsFrom part.ins globals held memories s (driver_at whole (value_at globals s)) (driver_at part s)
   pub ins : (place : ℕ) → place < length part.ins → (value_at part.ins place < length globals) × (driver_at part (value_at part.ins place) ≡ Input place)
   pub outs : (place : ℕ) → place < length part.outs → value_at part.outs place < length globals
+  pub clocks : part.clocks ≡ whole.clocks
   pub register_count : length part.registers ≡ length held
   pub register_from : (r : ℕ) → r < length held → IsRegisterFrom whole part globals held r
   pub memory_count : length part.memories ≡ length memories

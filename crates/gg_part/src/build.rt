@@ -222,6 +222,7 @@ fn add_all(
     add_memories(alloc, whole, frame, piece)?;
     add_ins(&frame.globals, frame.ins.as_slice(), piece)?;
     add_outs(&frame.globals, outs, piece)?;
+    piece.set_clocks(whole.clocks());
     Ok(())
 }
 

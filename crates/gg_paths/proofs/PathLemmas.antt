@@ -1,5 +1,5 @@
 -- The signals, the instances and the memories of a circuit whose names are names have paths.
-use Rattle.std.proofs.Common.{◌≡◌, ◌⊎◌, inl, inr, ℕ, zero, suc, List, [], ◌∷◌, ◌++◌, Option, None, Some, codes, length, get_or, map, refl, sym, ap, ◌∙◌, subst, arith}
+use Rattle.std.proofs.Common.{◌≡◌, ◌⊎◌, inl, inr, ℕ, zero, suc, List, [], ◌∷◌, ◌++◌, Option, None, Some, codes, length, get_or, map, refl, sym, ap, ◌∙◌, subst, append_assoc, arith}
 use Rattle.std.specs.Prelude.{All, Contains, flat_map, filter_map, option_map, option_to_list}
 use Rattle.std.proofs.lemmas.List.Elements.{All-nil, All-cons, All-contains, Contains-append_cases, Contains-get_or}
 use Rattle.gg_bits.specs.Shape.{Shape}
@@ -19,13 +19,14 @@ use Rattle.gg_flattened.specs.Flat.{FlatSignal, flat_signal, signals_at, flat_si
 use Rattle.gg_flattened.specs.IsFlat.{IsFlat}
 use Rattle.gg_flattened.specs.Known.{types_of}
 use Rattle.gg_flattened.specs.Memories.{Bank, bank_of, type_shape}
-use Rattle.gg_flattened.specs.Signals.{Types, Cause, Connected, Expressed, Kept, Own, own, own_of_port, own_of_kind, own_signals, OwnBank, own_bank, own_banks, bank_of_kind, cause_of_port, field_name, memory_signals, reader_signals, readers_signals, writer_signals}
+use Rattle.gg_flattened.specs.Signals.{Types, Cause, Connected, Expressed, Kept, Own, own, own_of_port, own_of_kind, own_signals, own_stops, stop_of_kind, stop_signal, OwnBank, own_bank, own_banks, bank_of_kind, cause_of_port, field_name, memory_signals, reader_signals, readers_signals, writer_signals}
+use Rattle.gg_flattened.proofs.StopLemmas.{numbered-among}
 use Rattle.gg_flattened.proofs.AmongLemmas.{MadeOf, from-map, from-flat_map, from-filter_map, in-filter_map}
 use Rattle.gg_tree.specs.IsTreeOf.{IsTreeOf, site_paths, signal_paths, memories_of}
 use Rattle.gg_tree.proofs.CauseLemmas.{statements-named}
 use Rattle.gg_tree.proofs.WordLemmas.{BankWords, bank-word, held-word, ports-named}
-use Rattle.gg_paths.specs.Paths.{HasPathBytes, IsPath}
-use Rattle.gg_paths.proofs.BytesLemmas.{dotted-path, joined-path, name-path}
+use Rattle.gg_paths.specs.Paths.{HasPathBytes, IsPath, IsSignalPath}
+use Rattle.gg_paths.proofs.BytesLemmas.{dotted-path, joined-path, joined-signal, name-path, path-signal, stop-path}
 
 -- each of these signals has a path for its name
 record ArePaths (all : List Own) : Type 0 where
@@ -114,7 +115,7 @@ memory-paths s name names is (Some bank) made =
 kind-paths : (types : Types) (k at : ℕ) (kind : StmtKind) → AreNamesOfKind kind → ArePaths (own_of_kind types k kind)
 kind-paths types k at (says.Wire name ty) h = optional-path name Connected (type_shape ty) (name-path name h)
 kind-paths types k at (says.Node name value) h = optional-path name (Expressed value) (types k (reference.Local name)) (name-path name h.0)
-kind-paths types k at (says.Register name ty clock reset) h = optional-path name (Kept reset) (type_shape ty) (name-path name h.0)
+kind-paths types k at (says.Register name ty clock reset) h = optional-path name (Kept clock reset) (type_shape ty) (name-path name h.0)
 kind-paths types k at (says.Instance name m) h = no-paths
 kind-paths types k at (says.Memory name fields) h =
     memory-paths (record { line = at; kind = says.Memory name fields }) name h h.0 (bank_of fields) (λ bank e. ap (option_map (own_bank name)) e)
@@ -140,8 +141,8 @@ module _ (circuit : CircuitTree) (names : AreNamesOfCircuit circuit) where
   words : (k : ℕ) → All AreNamesOfStatement (body k).statements
   words k = statements-named circuit.modules k names.of_modules
 
-  own-paths : (k : ℕ) → ArePaths (own_signals (types_of circuit) k (body k))
-  own-paths k =
+  declared-paths : (k : ℕ) → ArePaths (filter_map own_of_port (body k).ports ++ flat_map (λ (s : Stmt). own_of_kind (types_of circuit) k s.kind) (body k).statements)
+  declared-paths k =
       both-paths (filter_map own_of_port (body k).ports) (flat_map (λ (s : Stmt). own_of_kind (types_of circuit) k s.kind) (body k).statements)
       (record { each = λ o c. by-port o (from-filter_map own_of_port (body k).ports o c) })
       (record { each = λ o c. by-statement o (from-flat_map (λ (s : Stmt). own_of_kind (types_of circuit) k s.kind) (body k).statements o c) })
@@ -152,6 +153,23 @@ module _ (circuit : CircuitTree) (names : AreNamesOfCircuit circuit) where
       by-statement : (o : Own) → MadeOf (λ (s : Stmt) (x : Own). Contains (own_of_kind (types_of circuit) k s.kind) x) (body k).statements o → IsPath o.name
       by-statement o m =
           (kind-paths (types_of circuit) k m.of.line m.of.kind (All-contains AreNamesOfStatement (body k).statements m.of (words k) m.among)).each o m.made
+
+  -- each signal of a module has the path of a signal for its name: what is declared, and the stops
+  own-path : (k : ℕ) (o : Own) → Contains (own_signals (types_of circuit) k (body k)) o → IsSignalPath o.name
+  own-path k o c = go (Contains-append_cases declared stopped o (subst (λ l. Contains l o) (sym (append_assoc (filter_map own_of_port (body k).ports) (flat_map (λ (s : Stmt). own_of_kind (types_of circuit) k s.kind) (body k).statements) stopped)) c))
+    where
+      declared : List Own
+      declared = filter_map own_of_port (body k).ports ++ flat_map (λ (s : Stmt). own_of_kind (types_of circuit) k s.kind) (body k).statements
+
+      stopped : List Own
+      stopped = map stop_signal (own_stops (body k).statements)
+
+      go : Contains declared o ⊎ Contains stopped o → IsSignalPath o.name
+      go (inl h) = path-signal o.name ((declared-paths k).each o h)
+      go (inr h) =
+          let s = from-map stop_signal (own_stops (body k).statements) o h in
+          let n = numbered-among 0 (filter_map (λ (s : Stmt). stop_of_kind s.kind) (body k).statements) s.of s.among in
+          subst IsSignalPath (sym n.named ∙ ap (λ (x : Own). x.name) s.made) (stop-path n.number)
 
   -- ---- sites
 
@@ -181,30 +199,30 @@ module _ (circuit : CircuitTree) (names : AreNamesOfCircuit circuit) where
 
   -- ---- paths
 
-  signal-path : (path : List ℕ) → Contains (signal_paths circuit) path → IsPath path
+  signal-path : (path : List ℕ) → Contains (signal_paths circuit) path → IsSignalPath path
   signal-path path c =
       let x = from-map (λ (s : FlatSignal). s.path) (flat_signals (types_of circuit) circuit.modules (sites_of circuit)) path c in
       let s = from-flat_map (signals_at (types_of circuit) circuit.modules) (sites_of circuit) x.of x.among in
       let o = from-map (flat_signal circuit.modules s.of) (own_signals (types_of circuit) s.of.number (body s.of.number)) x.of s.made in
-      subst IsPath (ap (λ (z : FlatSignal). z.path) o.made ∙ x.made) (joined-path s.of.path o.of.name (site-bytes s.of s.among) ((own-paths s.of.number).each o.of o.among))
+      subst IsSignalPath (ap (λ (z : FlatSignal). z.path) o.made ∙ x.made) (joined-signal s.of.path o.of.name (site-bytes s.of s.among) (own-path s.of.number o.of o.among))
 
   -- a memory of a site, with its bank
   pub record IsBankOf (said : FlatMemory) : Type 0 where
     pub site : Site
     pub bank : OwnBank
-    pub is : flat_memory site bank ≡ said
+    pub is : flat_memory circuit.modules site bank ≡ said
     pub named : BankWords bank
 
   pub bank-of : (site : Site) (said : FlatMemory) → Contains (memories_at circuit.modules site) said → IsBankOf said
   bank-of site said c =
-      let b = from-map (flat_memory site) (own_banks (body site.number).statements) said c in
+      let b = from-map (flat_memory circuit.modules site) (own_banks (body site.number).statements) said c in
       record { site = site; bank = b.of; is = b.made; named = bank-word (body site.number).statements b.of (words site.number) b.among }
 
   memory-path : (path : List ℕ) → Contains (map (λ (x : FlatMemory). x.path) (memories_of circuit)) path → IsPath path
   memory-path path c =
       let x = from-map (λ (m : FlatMemory). m.path) (memories_of circuit) path c in
       let s = from-flat_map (memories_at circuit.modules) (sites_of circuit) x.of x.among in
-      let b = from-map (flat_memory s.of) (own_banks (body s.of.number).statements) x.of s.made in
+      let b = from-map (flat_memory circuit.modules s.of) (own_banks (body s.of.number).statements) x.of s.made in
       let named = bank-word (body s.of.number).statements b.of (words s.of.number) b.among in
       subst IsPath (ap (λ (z : FlatMemory). z.path) b.made ∙ x.made) (joined-path s.of.path b.of.name (site-bytes s.of s.among) (name-path b.of.name named.name))
 
@@ -216,8 +234,8 @@ module _ (circuit : CircuitTree) (names : AreNamesOfCircuit circuit) where
   all-of : (P : List ℕ → Type 0) (paths : List (List ℕ)) → ((path : List ℕ) → Contains paths path → P path) → All P paths
   all-of P paths h = λ k d lt. h (get_or paths k d) (Contains-get_or paths k d lt)
 
-  pub flat-paths : (flat : FlatCircuit) → IsFlat circuit flat → All IsPath flat.paths
-  flat-paths flat is = subst (All IsPath) (sym is.paths) (all-of IsPath (signal_paths circuit) signal-path)
+  pub flat-paths : (flat : FlatCircuit) → IsFlat circuit flat → All IsSignalPath flat.paths
+  flat-paths flat is = subst (All IsSignalPath) (sym is.paths) (all-of IsSignalPath (signal_paths circuit) signal-path)
 
   pub tree-paths : (tree : InstanceTree) → IsTreeOf circuit tree → All HasPathBytes tree.paths
   tree-paths tree is = subst (All HasPathBytes) (sym is.paths) (all-of HasPathBytes (site_paths circuit) site-path)

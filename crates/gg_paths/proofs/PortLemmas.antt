@@ -61,7 +61,7 @@ words-differ f h own (w ∷ ws) apart =
 -- ---- one memory
 
 abbrev no_memory : MemoryInstance
-no_memory = record { instance = 0; memory = 0; ports = [] }
+no_memory = record { instance = 0; memory = 0; ports = []; clocks = [] }
 
 module _ (circuit : CircuitTree) (names : AreNamesOfCircuit circuit) (tree : InstanceTree) (grown : IsTreeOf circuit tree) where
   abbrev held : List HeldMemory
@@ -136,10 +136,10 @@ module _ (circuit : CircuitTree) (names : AreNamesOfCircuit circuit) (tree : Ins
 
       -- the fields of a port
       abbrev of_reader : List ℕ → List ℕ
-      of_reader p = reader_fields (reader_of (signal_paths circuit) own.path p)
+      of_reader p = reader_fields (reader_of (signal_paths circuit) own p)
 
       abbrev of_writer : List ℕ → List ℕ
-      of_writer p = writer_fields (writer_of (signal_paths circuit) own.path p)
+      of_writer p = writer_fields (writer_of (signal_paths circuit) own p)
 
       abbrev addr : List ℕ → ℕ
       addr p = field_number (signal_paths circuit) own.path p (codes "addr")
@@ -148,14 +148,14 @@ module _ (circuit : CircuitTree) (names : AreNamesOfCircuit circuit) (tree : Ins
       fields-are =
           let other = some-item flat.memories number inside in
           let m = laid other in
-          let readers : readers_at flat number ≡ map (reader_of (signal_paths circuit) own.path) own.bank.readers =
+          let readers : readers_at flat number ≡ map (reader_of (signal_paths circuit) own) own.bank.readers =
           get_or-map (λ (x : Memory). x.readers) flat.memories number other [] inside ∙ m.readers in
-          let writers : writers_at flat number ≡ map (writer_of (signal_paths circuit) own.path) own.bank.writers =
+          let writers : writers_at flat number ≡ map (writer_of (signal_paths circuit) own) own.bank.writers =
           get_or-map (λ (x : Memory). x.writers) flat.memories number other [] inside ∙ m.writers in
           ap₂ (λ rs ws. flat_map (λ r. reader_fields r) rs ++ flat_map (λ w. writer_fields w) ws) readers writers
           ∙ ap₂ (λ xs ys. xs ++ ys)
-          (flat_map-map (λ r. reader_fields r) (reader_of (signal_paths circuit) own.path) own.bank.readers)
-          (flat_map-map (λ w. writer_fields w) (writer_of (signal_paths circuit) own.path) own.bank.writers)
+          (flat_map-map (λ r. reader_fields r) (reader_of (signal_paths circuit) own) own.bank.readers)
+          (flat_map-map (λ w. writer_fields w) (writer_of (signal_paths circuit) own) own.bank.writers)
 
       ports-apart : Differ (get_or tree.memories j any).ports
       ports-apart = subst Differ (sym (is-said j any lt).is.ports) apart

@@ -1,7 +1,7 @@
 -- Paths at small texts, and at near misses.
 use Rattle.std.proofs.Common.{◌≡◌, codes, refl, arith, false}
 use Rattle.std.specs.List.{list_all}
-use Rattle.gg_paths.specs.Paths.{IsPath, is_path_byte}
+use Rattle.gg_paths.specs.Paths.{IsPath, IsSignalPath, is_path_byte, is_signal_byte}
 
 -- names, with dots between them
 signal : IsPath (codes "store.m.r.addr")
@@ -22,6 +22,13 @@ dash = refl
 
 line_feed : list_all is_path_byte (codes "a\n") ≡ false
 line_feed = refl
+
+-- a stop, and a blank in its name
+stop : IsSignalPath (codes "store.stop:12")
+stop = record { some = omega arith; bytes = refl }
+
+stop_blank : list_all is_signal_byte (codes "stop: 12") ≡ false
+stop_blank = refl
 
 nothing : IsPath (codes "") → ⊥
 nothing path = omega (arith, path.some)

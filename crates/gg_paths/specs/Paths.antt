@@ -1,6 +1,6 @@
 -- Paths: names with dots between them.
 -- Source: FIRRTL Specification, "Notes on Syntax" (the bytes of a name); "Instances" and "Memories" (what is in an
--- instance or a memory is called by its name, a dot and a name in it).
+-- instance or a memory is called by its name, a dot and a name in it). The name of a stop is this program's own.
 use Rattle.std.specs.Prelude.{◌≡◌, ◌≢◌, ℕ, ◌<◌, Bool, true, ◌||◌, ◌==◌, List, length, All, AllPairs}
 use Rattle.std.specs.List.{list_all}
 use Rattle.gg_ast.specs.Names.{IsName, is_name_byte}
@@ -20,10 +20,19 @@ pub record IsPath (path : List ℕ) : Type 0 where
   pub some : 0 < length path
   pub bytes : HasPathBytes path
 
--- Signals and memories have paths. So have instances, but for the top, whose path is empty. The ports of a memory have
--- names, and no two have the same.
+-- a byte of a path, or the colon in the name of a stop
+abbrev pub is_signal_byte : ℕ → Bool
+is_signal_byte b = is_path_byte b || b == 58
+
+-- the path of a signal isn't empty, and all its bytes are those of names, dots, or colons
+pub record IsSignalPath (path : List ℕ) : Type 0 where
+  pub some : 0 < length path
+  pub bytes : list_all is_signal_byte path ≡ true
+
+-- Signals have paths of signals, and memories have paths. So have instances, but for the top, whose path is empty. The
+-- ports of a memory have names, and no two have the same.
 pub record HavePaths (circuit : FlatCircuit) (tree : InstanceTree) : Type 0 where
-  pub signals : All IsPath circuit.paths
+  pub signals : All IsSignalPath circuit.paths
   pub instances : All HasPathBytes tree.paths
   pub memories : All IsPath tree.memory_paths
   pub ports : All (λ memory. All IsName memory.ports) tree.memories

@@ -3,8 +3,8 @@
 //! The functions of this crate compute nothing. Each states a fact:
 //!
 //! - `spelt_names`: each name in the circuit that a text spells is a name;
-//! - `paths_are_words`: the paths of such a circuit have only bytes of names, and dots; the ports of a memory have
-//!   names, and no two of them have the same.
+//! - `paths_are_words`: the paths of such a circuit have only bytes of names, and dots, and those of its signals also
+//!   the colons of stops; the ports of a memory have names, and no two of them have the same.
 #![tactic(auto)]
 
 mod laws;

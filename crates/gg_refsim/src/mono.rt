@@ -1,12 +1,14 @@
 //! `Mono`: the simulator of a whole circuit.
-ghost use Rattle.std.specs.Prelude.{◌≡◌, ℕ, ◌<◌, List, [], length, map, IfOk};
+ghost use Rattle.std.specs.Prelude.{◌≡◌, ℕ, ◌+◌, ◌<◌, ◌≤◌, List, [], length, map, IfOk};
+ghost use Rattle.gg_flat.specs.Clock.{edges_at};
 ghost use Rattle.gg_flat.specs.Line.{value_at};
-ghost use Rattle.gg_flat.specs.State.{State as StateValue, opening, IsState};
+ghost use Rattle.gg_flat.specs.State.{State as StateValue, IsState};
 ghost use Rattle.gg_flat.specs.Settled.{IsInputs};
 ghost use Rattle.gg_flat.specs.Order.{IsOrder};
 ghost use Rattle.gg_flat.specs.WellFormed.{IsWellFormed};
-ghost use Rattle.gg_refsim.specs.Cycle.{Cycle};
+ghost use Rattle.gg_refsim.specs.Cycle.{Cycle, begun};
 
+use gg_clocks::Ratio;
 use gg_flat::{Piece, State};
 use gg_order::Design;
 use std::alloc::{AllocError, Global};
@@ -39,13 +41,19 @@ impl fmt::Display for NoMemory {
 
 impl Error for NoMemory {}
 
-/// A simulator of a design's circuit. A contract sees the circuit and the simulator's state.
+/// A simulator of a design's circuit. A contract sees the circuit, the ratios of its clocks, how many cycles were made, and
+/// the simulator's state.
 #[derive(Drop)]
 pub struct Mono<'a> {
     design: &'a Design,
+    ratios: Vec<Ratio>,
+    // The cycles that were made.
+    count: u64,
     state: State,
     signals: Vec<u128>,
     scratch: Vec<u128>,
+    // The edges of a cycle, for each clock with a ratio.
+    edges: Vec<bool>,
 }
 
 impl<'a> Model for Mono<'a> {
@@ -55,30 +63,50 @@ impl<'a> Model for Mono<'a> {
 
     ghost Value = { Simulation };
 
-    ghost view = { λ mono. record { circuit = mono.design.now.circuit; state = mono.state } };
+    ghost view = { λ mono. record { circuit = mono.design.now.circuit; ratios = mono.ratios.items; cycle = mono.count; state = mono.state } };
 
-    ghost invariant = { λ mono. IsKept mono.design.now mono.state mono.signals.items (length mono.scratch.items) };
+    ghost invariant = { λ mono. IsKept mono.design.now mono.state mono.signals.items (length mono.scratch.items) (length mono.ratios.items) (length mono.edges.items) };
 }
 
 impl<'a> Mono<'a> {
-    /// The simulator of a design, in the state before the first cycle.
+    /// The simulator of a design each of whose clocks has an edge in every cycle, in the state before the first cycle.
     ///
     /// # Errors
     ///
     /// Returns `NoMemory` if an allocation fails.
     pub fn new(alloc: Global, design: &'a Design) -> Result<Mono<'a>, NoMemory>
-        ensures circuit { IfOk result (λ mono. mono.circuit ≡ design.now.circuit) }
-        ensures opening { IfOk result (λ mono. mono.state ≡ opening design.now.circuit) }
+        ensures { IfOk result (λ mono. mono ≡ begun design.now.circuit []) }
+    {
+        Mono::with_clocks(alloc, design, &[])
+    }
+
+    /// The simulator of a design whose clocks have these ratios, in the order in which the circuit lists them, in the
+    /// state before the first cycle. A clock past the end of the list has an edge in every cycle.
+    ///
+    /// # Errors
+    ///
+    /// Returns `NoMemory` if an allocation fails.
+    pub fn with_clocks(
+        alloc: Global,
+        design: &'a Design,
+        ratios: &[Ratio],
+    ) -> Result<Mono<'a>, NoMemory>
+        ensures { IfOk result (λ mono. mono ≡ begun design.now.circuit ratios.now) }
     {
         let piece = design.piece();
         let state = State::new(alloc, piece)?;
         let signals = piece.zeros(alloc)?;
         let scratch = piece.scratch(alloc)?;
+        let ratios = ratios_copied(alloc, ratios)?;
+        let edges = edges_with(alloc, ratios.as_slice())?;
         Ok(Mono {
             design,
+            ratios,
+            count: 0,
             state,
             signals,
             scratch,
+            edges,
         })
     }
 
@@ -94,16 +122,19 @@ impl<'a> Mono<'a> {
         self.design.piece()
     }
 
-    /// Makes one cycle: puts the outputs, in port order, into `outs`, and goes to the next state. It allocates
-    /// nothing.
+    /// Makes one cycle: puts the outputs, in port order, into `outs`, and goes to the next state. Fewer than 1,000,000
+    /// cycles were made before. It allocates nothing.
     ///
     /// The inputs are in port order, one for each in-signal, of its type. `outs` has a place for each out-signal.
     pub fn cycle(&mut self, inputs: &[u128], outs: &mut [u128])
+        requires few { self.old.cycle < 1000000 }
         requires inputs { IsInputs self.old.circuit inputs.now }
         requires outs { length outs.old ≡ length self.old.circuit.outs }
         ensures circuit { self.new.circuit ≡ self.old.circuit }
-        ensures cycle { Cycle [] self.old.circuit self.old.state inputs.now outs.new self.new.state }
-        ensures only { (printed : List ℕ) (after : StateValue) → Cycle [] self.old.circuit self.old.state inputs.now printed after → (printed ≡ outs.new) × (after ≡ self.new.state) }
+        ensures ratios { self.new.ratios ≡ self.old.ratios }
+        ensures count { self.new.cycle ≡ self.old.cycle + 1 }
+        ensures cycle { Cycle (edges_at self.old.ratios self.old.cycle) self.old.circuit self.old.state inputs.now outs.new self.new.state }
+        ensures only { (printed : List ℕ) (after : StateValue) → Cycle (edges_at self.old.ratios self.old.cycle) self.old.circuit self.old.state inputs.now printed after → (printed ≡ outs.new) × (after ≡ self.new.state) }
     {
         let piece = self.design.piece();
         piece.settle(
@@ -114,8 +145,10 @@ impl<'a> Mono<'a> {
             &mut self.scratch,
         );
         read_outs(piece.outs(), &self.signals, outs);
+        read_edges(&self.ratios, self.count, &mut self.edges);
         self.state
-            .advance(piece, &[], &self.signals, &mut self.scratch);
+            .advance(piece, &self.edges, &self.signals, &mut self.scratch);
+        self.count += 1;
     }
 }
 
@@ -127,5 +160,39 @@ fn read_outs(places: &[u32], signals: &[u128], outs: &mut [u128])
 {
     for k in 0..places.len() {
         outs[k] = signals[places[k] as usize];
+    }
+}
+
+// A copy of ratios.
+fn ratios_copied(alloc: Global, ratios: &[Ratio]) -> Result<Vec<Ratio>, AllocError>
+    ensures { IfOk result (λ copies. copies.items ≡ ratios.now) }
+{
+    let mut copies = Vec::new(alloc);
+    for ratio in ratios {
+        copies.push(*ratio)?;
+    }
+    Ok(copies)
+}
+
+// Room for an edge of each of these clocks.
+fn edges_with(alloc: Global, ratios: &[Ratio]) -> Result<Vec<bool>, AllocError>
+    ensures { IfOk result (λ edges. length edges.items ≡ length ratios.now) }
+{
+    let mut edges = Vec::new(alloc);
+    for ratio in ratios {
+        let _ = ratio;
+        edges.push(false)?;
+    }
+    Ok(edges)
+}
+
+// Puts the edges of these clocks at tick `b`, which is at most 1,000,000, into `edges`.
+fn read_edges(ratios: &[Ratio], b: u64, edges: &mut [bool])
+    requires few { b ≤ 1000000 }
+    requires count { length edges.old ≡ length ratios.now }
+    ensures { edges.new ≡ edges_at ratios.now b }
+{
+    for k in 0..ratios.len() {
+        edges[k] = ratios[k].edge(b);
     }
 }

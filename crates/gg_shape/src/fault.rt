@@ -93,8 +93,7 @@ pub enum Fault {
         /// The sink's width in bits.
         sink: u32,
     },
-    /// F14: a Clock that is read does not lead to an input port, a Clock is invalid, an output port is a Clock, or an
-    /// input port is the second Clock of the top.
+    /// F14: a Clock that is read does not lead to an input port, a Clock is invalid, or an output port is a Clock.
     WrongClock {
         /// The line of the reference, the statement or the port.
         line: u64,

@@ -27,24 +27,32 @@ pub name-some : (a : List ℕ) → IsName a → a ≢ []
 name-some [] h e = absurd (true≢false (sym h))
 name-some (b ∷ bs) h e = let never : (b ∷ bs) ≡ [] = e in absurd (cc)
 
-no-dots : (bs : List ℕ) → list_all is_name_byte bs ≡ true → ¬ Contains bs 46
-no-dots [] h c = absurd (omega (arith, c.1))
-no-dots (b ∷ bs) h c = go (is_name_byte b) refl h c (no-dots bs)
+-- no byte of a name is one that a name can't have
+without : (bad : ℕ) (bs : List ℕ) → is_name_byte bad ≡ false → list_all is_name_byte bs ≡ true → ¬ Contains bs bad
+without bad [] never h c = absurd (omega (arith, c.1))
+without bad (b ∷ bs) never h c = go (is_name_byte b) refl h c (without bad bs never)
   where
-    go : (t : Bool) → is_name_byte b ≡ t → (t && list_all is_name_byte bs) ≡ true → Contains (b ∷ bs) 46 → (list_all is_name_byte bs ≡ true → ¬ Contains bs 46) → ⊥
+    go : (t : Bool) → is_name_byte b ≡ t → (t && list_all is_name_byte bs) ≡ true → Contains (b ∷ bs) bad → (list_all is_name_byte bs ≡ true → ¬ Contains bs bad) → ⊥
     go false e h c next = absurd (true≢false (sym h))
-    go true e h (zero, lt, is) next = absurd (true≢false (sym e ∙ ap is_name_byte is))
+    go true e h (zero, lt, is) next = absurd (true≢false (sym e ∙ ap is_name_byte is ∙ never))
     go true e h (suc k, lt, is) next = next h (k, omega (arith, lt), is)
+
+name-without : (bad : ℕ) (a : List ℕ) → is_name_byte bad ≡ false → begins_name bad ≡ false → IsName a → ¬ Contains a bad
+name-without bad [] never first h c = absurd (true≢false (sym h))
+name-without bad (b ∷ bs) never first h c = go (begins_name b) refl h c
+  where
+    go : (t : Bool) → begins_name b ≡ t → (t && list_all is_name_byte bs) ≡ true → Contains (b ∷ bs) bad → ⊥
+    go false e h c = absurd (true≢false (sym h))
+    go true e h (zero, lt, is) = absurd (true≢false (sym e ∙ ap begins_name is ∙ first))
+    go true e h (suc k, lt, is) = without bad bs never h (k, omega (arith, lt), is)
 
 -- a name has no dot
 pub name-dotless : (a : List ℕ) → IsName a → ¬ Contains a 46
-name-dotless [] h c = absurd (true≢false (sym h))
-name-dotless (b ∷ bs) h c = go (begins_name b) refl h c
-  where
-    go : (t : Bool) → begins_name b ≡ t → (t && list_all is_name_byte bs) ≡ true → Contains (b ∷ bs) 46 → ⊥
-    go false e h c = absurd (true≢false (sym h))
-    go true e h (zero, lt, is) = absurd (true≢false (sym e ∙ ap begins_name is))
-    go true e h (suc k, lt, is) = no-dots bs h (k, omega (arith, lt), is)
+name-dotless a h c = name-without 46 a refl refl h c
+
+-- a name has no colon
+pub name-colonless : (a : List ℕ) → IsName a → ¬ Contains a 58
+name-colonless a h c = name-without 58 a refl refl h c
 
 -- ---- connections
 
@@ -97,7 +105,7 @@ abbrev pub IsNamed : (List ℕ → Type 0) → Cause → Type 0
 IsNamed Has FromOutside = ⊥
 IsNamed Has Connected = Unit {0}
 IsNamed Has (Expressed value) = AreNamesOfTerm value
-IsNamed Has (Kept reset) = IfSome reset AreNamesOfReset
+IsNamed Has (Kept clock reset) = IfSome reset AreNamesOfReset
 IsNamed Has (Answered memory port place latency) = Has (field_name memory port (codes "addr")) × Has (field_name memory port (codes "en"))
 
 abbrev pub AreNamed : (List ℕ → Type 0) → List Own → Type 0
@@ -117,7 +125,7 @@ named-one Has name cause (Some s) h zero d lt = h
 named-one Has name cause (Some s) h (suc i) d lt = absurd (omega (arith, lt))
 
 -- each of these own signals has the name of a signal of the module
-abbrev AreHad : (List ℕ → Type 0) → List Own → Type 0
+abbrev pub AreHad : (List ℕ → Type 0) → List Own → Type 0
 AreHad Has all = (i : ℕ) (d : Own) → i < length all → Has (get_or all i d).name
 
 readers-named : (Has : List ℕ → Type 0) (memory : List ℕ) (bank : Bank) (place : ℕ) (ports : List (List ℕ)) → AreHad Has (readers_signals memory bank place ports) → AreNamed Has (readers_signals memory bank place ports)
@@ -147,7 +155,7 @@ memory-named Has memory (Some bank) had =
 kind-named : (Has : List ℕ → Type 0) (types : Types) (k : ℕ) (kind : StmtKind) → AreNamesOfKind kind → AreHad Has (own_of_kind types k kind) → AreNamed Has (own_of_kind types k kind)
 kind-named Has types k (says.Wire name ty) h had = named-one Has name Connected (type_shape ty) tt
 kind-named Has types k (says.Node name value) h had = named-one Has name (Expressed value) (types k (reference.Local name)) h.1
-kind-named Has types k (says.Register name ty clock reset) h had = named-one Has name (Kept reset) (type_shape ty) h.2
+kind-named Has types k (says.Register name ty clock reset) h had = named-one Has name (Kept clock reset) (type_shape ty) h.2
 kind-named Has types k (says.Instance name m) h had = named-none Has
 kind-named Has types k (says.Memory name fields) h had = memory-named Has name (bank_of fields) had
 kind-named Has types k (says.Connect sink source) h had = named-none Has

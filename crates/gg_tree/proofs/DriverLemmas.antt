@@ -1,6 +1,6 @@
 -- A flat circuit keeps to the scopes of its circuit's tree: what drivers and registers name is visible where they are written.
 use Rattle.std.proofs.Common.{◌≡◌, ◌⊎◌, inl, inr, ℕ, ◌+◌, ◌-◌, ◌<◌, ◌≤◌, Bool, true, false, List, Option, Some, None, is_some, length, get_or, refl, sym, ap, ◌∙◌, subst, arith, codes, unwrap_or, true≢false, length-append, slice_get, slice_index_or}
-use Rattle.std.specs.Prelude.{flat_map, filter_map, All, IfSome}
+use Rattle.std.specs.Prelude.{filter_map, All, IfSome}
 use Rattle.std.proofs.lemmas.Bool.{cases_lt}
 use Rattle.std.proofs.lemmas.List.{get_or-map, get_or_default}
 use Rattle.std.proofs.lemmas.Option.{get_or_from_slice_get}
@@ -14,7 +14,6 @@ use Rattle.gg_ast.specs.declared.module.Direction.{Direction}
 use Rattle.gg_ast.specs.declared.module.Direction.TheVariants as direction
 use Rattle.gg_ast.specs.declared.module.Port.{Port}
 use Rattle.gg_ast.specs.declared.statement.Reset as given
-use Rattle.gg_ast.specs.declared.statement.Stmt.{Stmt}
 use Rattle.gg_ast.specs.Places.{place_of}
 use Rattle.gg_ast.specs.Term.{Term, NamedTerm, ConstantTerm, UnaryTerm, BinaryTerm, FixedTerm, MuxTerm}
 use Rattle.gg_ast.specs.Tree.{CircuitTree, module_names}
@@ -40,7 +39,7 @@ use Rattle.gg_flattened.specs.IsFlat.{IsFlat, bindings_of, IsDrivenBy, IsRegiste
 use Rattle.gg_tree.specs.IsTreeOf.{IsTreeOf, Pairwise, IsPortFor, signal_paths, signal_ports, is_input, memories_of}
 use Rattle.gg_flattened.specs.Known.{types_of}
 use Rattle.gg_flattened.specs.Meaning.{Signals, Bindings, Context, in_scope, named_if, TermNames, ConnectionNames}
-use Rattle.gg_flattened.specs.Signals.{Cause, FromOutside, Connected, Expressed, Kept, Answered, Own, own_of_port, own_of_kind, cause_of_port, field_name, dotted}
+use Rattle.gg_flattened.specs.Signals.{Cause, FromOutside, Connected, Expressed, Kept, Answered, Own, own_of_port, statement_signals, cause_of_port, field_name, dotted}
 use Rattle.gg_tree.proofs.PairwiseLemmas.{Pairwise-length}
 use Rattle.gg_tree.proofs.PlaceLemmas.{Placed, Under}
 use Rattle.gg_tree.proofs.RangeLemmas.{Ranges, count_to}
@@ -50,7 +49,10 @@ use Rattle.gg_tree.proofs.TreeLemmas.{HasDistinctPaths, HasPlainNames, no_own, n
 use Rattle.gg_tree.proofs.ScopeOfTreeLemmas.{HasApartNames, own-is-innermost, ins-of, outs-of, port-of, ports_once-of, field-of, fields_once-of}
 use Rattle.gg_tree.proofs.NamedLemmas.{named-of, apart-of}
 use Rattle.gg_tree.proofs.VisibleLemmas.{HasKnownNames, IsPlain, IsPlainReference, visible}
-use Rattle.gg_tree.proofs.CauseLemmas.{name-some, name-dotless, AreNamesOfConnection, connected-names, statements-named, IsNamed, AreNamed, statements-cause, port-cause, port-count}
+use Rattle.gg_tree.proofs.StopLemmas.{stop-of, stops_once-of}
+use Rattle.gg_tree.proofs.StopOutLemmas.{outs-with-stops}
+use Rattle.gg_tree.proofs.StopOwnLemmas.{all-cause}
+use Rattle.gg_tree.proofs.CauseLemmas.{name-some, name-dotless, AreNamesOfConnection, connected-names, statements-named, IsNamed, AreNamed, port-cause, port-count}
 
 -- a name isn't empty and has no dot; the same of each name of a reference
 plain-name : (a : List ℕ) → IsName a → IsPlain a
@@ -134,7 +136,7 @@ module _ (circuit : CircuitTree) (flat : FlatCircuit) (tree : InstanceTree) (top
   cause-visible k x p s name FromOutside h driver is t n = absurd h
   cause-visible k x p s name Connected h driver is t n = connected-visible k x p name t ((is.stands.names t).0 (subst (λ d. NamesSignal d t) is.computed n))
   cause-visible k x p s name (Expressed value) h driver is t n = term-visible k x p value h t ((is.stands.names t).0 (subst (λ d. NamesSignal d t) is.computed n))
-  cause-visible k x p s name (Kept reset) h driver is t n = absurd (subst (λ d. NamesSignal d t) is.held n)
+  cause-visible k x p s name (Kept clock reset) h driver is t n = absurd (subst (λ d. NamesSignal d t) is.held n)
   cause-visible k x p s name (Answered memory port place latency) h driver is t n =
       answer-visible k x p latency (number_of (memory_paths (memories_of circuit)) (joined x.path memory)) place (field_name memory port (codes "addr")) (field_name memory port (codes "en")) h.0 h.1 t (subst (λ d. NamesSignal d t) is n)
 
@@ -177,7 +179,7 @@ module _ (circuit : CircuitTree) (flat : FlatCircuit) (tree : InstanceTree) (top
   cause-register k x p s name FromOutside h driver is r register held at t n = absurd h
   cause-register k x p s name Connected h driver is r register held at t n = absurd (not-held driver (Computed is.line) r is.computed refl held)
   cause-register k x p s name (Expressed value) h driver is r register held at t n = absurd (not-held driver (Computed is.line) r is.computed refl held)
-  cause-register k x p s name (Kept reset) h driver is r register held at t n =
+  cause-register k x p s name (Kept clock reset) h driver is r register held at t n =
       let number = same-held r (count_before is_register (flat_signals (types_of circuit) circuit.modules (sites_of circuit)) s) (sym held ∙ is.held) in
       let same : slice_index_or flat.registers (count_before is_register (flat_signals (types_of circuit) circuit.modules (sites_of circuit)) s) register ≡ register = ap (λ i. get_or flat.registers i register) (sym number) ∙ get_or_from_slice_get flat.registers r register register at in
       register-visible k x p (shape_at all_signals.shapes s) name reset register h
@@ -210,29 +212,29 @@ module _ (circuit : CircuitTree) (flat : FlatCircuit) (tree : InstanceTree) (top
   pub port-own-cause : (x : Site) (i : ℕ) (d : Own) (q : Port) → i < length (signal_ports (module_at circuit.modules x.number)) → (get_or (own_in circuit x) i d).cause ≡ cause_of_port (get_or (signal_ports (module_at circuit.modules x.number)) i q).direction
   port-own-cause x i d q lt =
       let r = port-cause (module_at circuit.modules x.number).ports i d q lt in
-      ap (λ (o : Own). o.cause) (front (filter_map own_of_port (module_at circuit.modules x.number).ports) (flat_map (λ (s : Stmt). own_of_kind (types_of circuit) x.number s.kind) (module_at circuit.modules x.number).statements) i d r.0) ∙ r.1
+      ap (λ (o : Own). o.cause) (front (filter_map own_of_port (module_at circuit.modules x.number).ports) (statement_signals (types_of circuit) x.number (module_at circuit.modules x.number).statements) i d r.0) ∙ r.1
 
   -- an own signal is a port's, or its cause names what IsNamed allows
   pub own-cases : (x : Site) (o : ℕ) → o < length (own_in circuit x) → (o < length (signal_ports (module_at circuit.modules x.number))) ⊎ IsNamed (HasOwn x) (get_or (own_in circuit x) o no_own).cause
   own-cases x o lt = go (cases_lt o (length (filter_map own_of_port (module_at circuit.modules x.number).ports)))
     where
-      sum : length (own_in circuit x) ≡ length (filter_map own_of_port (module_at circuit.modules x.number).ports) + length (flat_map (λ (s : Stmt). own_of_kind (types_of circuit) x.number s.kind) (module_at circuit.modules x.number).statements)
-      sum = length-append (filter_map own_of_port (module_at circuit.modules x.number).ports) (flat_map (λ (s : Stmt). own_of_kind (types_of circuit) x.number s.kind) (module_at circuit.modules x.number).statements)
+      sum : length (own_in circuit x) ≡ length (filter_map own_of_port (module_at circuit.modules x.number).ports) + length (statement_signals (types_of circuit) x.number (module_at circuit.modules x.number).statements)
+      sum = length-append (filter_map own_of_port (module_at circuit.modules x.number).ports) (statement_signals (types_of circuit) x.number (module_at circuit.modules x.number).statements)
 
-      named : AreNamed (HasOwn x) (flat_map (λ (s : Stmt). own_of_kind (types_of circuit) x.number s.kind) (module_at circuit.modules x.number).statements)
-      named = statements-cause (HasOwn x) (types_of circuit) x.number (module_at circuit.modules x.number).statements (statements_of x)
+      named : AreNamed (HasOwn x) (statement_signals (types_of circuit) x.number (module_at circuit.modules x.number).statements)
+      named = all-cause (HasOwn x) (types_of circuit) x.number (module_at circuit.modules x.number).statements (statements_of x)
           (λ i d inside. (
             length (filter_map own_of_port (module_at circuit.modules x.number).ports) + i,
             omega (arith, inside, sum),
             ap (λ (y : Own). y.name)
-                (get_or-append-add (filter_map own_of_port (module_at circuit.modules x.number).ports) (flat_map (λ (s : Stmt). own_of_kind (types_of circuit) x.number s.kind) (module_at circuit.modules x.number).statements) i no_own
-                ∙ get_or_default (flat_map (λ (s : Stmt). own_of_kind (types_of circuit) x.number s.kind) (module_at circuit.modules x.number).statements) i no_own d inside),
+                (get_or-append-add (filter_map own_of_port (module_at circuit.modules x.number).ports) (statement_signals (types_of circuit) x.number (module_at circuit.modules x.number).statements) i no_own
+                ∙ get_or_default (statement_signals (types_of circuit) x.number (module_at circuit.modules x.number).statements) i no_own d inside),
           ))
 
       go : (o < length (filter_map own_of_port (module_at circuit.modules x.number).ports)) ⊎ (length (filter_map own_of_port (module_at circuit.modules x.number).ports) ≤ o) → (o < length (signal_ports (module_at circuit.modules x.number))) ⊎ IsNamed (HasOwn x) (get_or (own_in circuit x) o no_own).cause
       go (inl here) = inl (omega (arith, here, port-count (module_at circuit.modules x.number).ports))
       go (inr behind) = inr (subst (λ (y : Own). IsNamed (HasOwn x) y.cause)
-          (sym (get_or-append_right (filter_map own_of_port (module_at circuit.modules x.number).ports) (flat_map (λ (s : Stmt). own_of_kind (types_of circuit) x.number s.kind) (module_at circuit.modules x.number).statements) o no_own behind))
+          (sym (get_or-append_right (filter_map own_of_port (module_at circuit.modules x.number).ports) (statement_signals (types_of circuit) x.number (module_at circuit.modules x.number).statements) o no_own behind))
           (named (o - length (filter_map own_of_port (module_at circuit.modules x.number).ports)) no_own (omega (arith, lt, behind, sum))))
 
   tells : Ranges (length circuit.modules) circuit.modules (signals_in circuit) (sites_of circuit) tree
@@ -342,7 +344,9 @@ module _ (circuit : CircuitTree) (flat : FlatCircuit) (tree : InstanceTree) (top
   pub scoped-of : IsScoped flat tree
   scoped-of = record {
     ins = ins-of circuit flat tree top known_top is_flat is_tree distinct plain names;
-    outs = outs-of circuit flat tree top known_top is_flat is_tree distinct plain names;
+    outs = outs-with-stops circuit flat tree is_flat is_tree (outs-of circuit flat tree top known_top is_flat is_tree distinct plain names);
+    stops = stop-of circuit flat tree top known_top is_flat is_tree distinct plain names;
+    stops_once = stops_once-of circuit flat tree top known_top is_flat is_tree distinct plain names;
     ports = port-of circuit flat tree top known_top is_flat is_tree distinct plain names;
     ports_once = ports_once-of circuit flat tree top known_top is_flat is_tree distinct plain names;
     fields = field-of circuit flat tree top known_top is_flat is_tree distinct plain names;

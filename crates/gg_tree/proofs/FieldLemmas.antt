@@ -8,8 +8,11 @@ use Rattle.std.proofs.lemmas.List.{map-append}
 use Rattle.gg_ast.specs.declared.statement.Stmt.{Stmt}
 use Rattle.gg_ast.specs.declared.statement.StmtKind.{StmtKind}
 use Rattle.gg_ast.specs.declared.statement.StmtKind.TheVariants as says
+use Rattle.gg_ast.specs.Tree.{ModuleTree}
 use Rattle.gg_flat.specs.Tree.{joined}
 use Rattle.gg_flat.specs.Scoped.{reader_fields, writer_fields}
+use Rattle.gg_count.specs.Sites.{Site}
+use Rattle.gg_flattened.specs.Flat.{flat_memory}
 use Rattle.gg_flattened.specs.IsFlat.{number_of, reader_of, writer_of}
 use Rattle.gg_flattened.specs.Memories.{Bank, bank_of}
 use Rattle.gg_flattened.specs.Signals.{Types, Own, OwnBank, own_bank, own_banks, own_of_kind, bank_of_kind, memory_signals, readers_signals, writer_signals, field_name}
@@ -39,6 +42,17 @@ pub record StandTogether (all part : List Own) : Type 0 where
   pub before : List Own
   pub after : List Own
   pub is : all ≡ before ++ (part ++ after)
+
+-- they stand together with signals before and after these
+pub together-within : {all part : List Own} (xs ys : List Own) → StandTogether all part → StandTogether (xs ++ (all ++ ys)) part
+together-within {all = all} {part = part} xs ys t = record {
+  before = xs ++ t.before;
+  after = t.after ++ ys;
+  is =
+      ap (λ l. xs ++ (l ++ ys)) t.is
+      ∙ ap (λ l. xs ++ l) (append_assoc t.before (part ++ t.after) ys ∙ ap (λ l. t.before ++ l) (append_assoc part t.after ys))
+      ∙ sym (append_assoc xs t.before (part ++ (t.after ++ ys)));
+}
 
 -- the fields of a memory stand together among the own signals of the module's statements
 pub bank-together : (types : Types) (k : ℕ) (ss : List Stmt) (q : ℕ) (b : OwnBank) → q < length (own_banks ss) → get_or (own_banks ss) q b ≡ b → StandTogether (flat_map (λ (s : Stmt). own_of_kind types k s.kind) ss) (memory_signals b.name (Some b.bank))
@@ -70,20 +84,21 @@ field-there paths outer memory port field = ap (number_of paths) (sym (joined-be
 abbrev pub number_behind : List (List ℕ) → List ℕ → Own → ℕ
 number_behind paths outer o = number_of paths (joined outer o.name)
 
-reader-numbers : (paths : List (List ℕ)) (outer memory : List ℕ) (bank : Bank) (place : ℕ) (ports : List (List ℕ)) → flat_map (λ reader. reader_fields reader) (map (reader_of paths (joined outer memory)) ports) ≡ map (number_behind paths outer) (readers_signals memory bank place ports)
-reader-numbers paths outer memory bank place [] = refl
-reader-numbers paths outer memory bank place (p ∷ ps) =
-    rw (field-there paths outer memory p (codes "addr"), field-there paths outer memory p (codes "en"), field-there paths outer memory p (codes "data"), reader-numbers paths outer memory bank (suc place) ps) refl
+module _ (paths : List (List ℕ)) (modules : List ModuleTree) (site : Site) (own : OwnBank) where
+  reader-numbers : (place : ℕ) (ports : List (List ℕ)) → flat_map (λ reader. reader_fields reader) (map (reader_of paths (flat_memory modules site own)) ports) ≡ map (number_behind paths site.path) (readers_signals own.name own.bank place ports)
+  reader-numbers place [] = refl
+  reader-numbers place (p ∷ ps) =
+      rw (field-there paths site.path own.name p (codes "addr"), field-there paths site.path own.name p (codes "en"), field-there paths site.path own.name p (codes "data"), reader-numbers (suc place) ps) refl
 
-writer-numbers : (paths : List (List ℕ)) (outer memory : List ℕ) (bank : Bank) (ports : List (List ℕ)) → flat_map (λ writer. writer_fields writer) (map (writer_of paths (joined outer memory)) ports) ≡ map (number_behind paths outer) (flat_map (writer_signals memory bank) ports)
-writer-numbers paths outer memory bank [] = refl
-writer-numbers paths outer memory bank (p ∷ ps) =
-    rw (field-there paths outer memory p (codes "addr"), field-there paths outer memory p (codes "en"), field-there paths outer memory p (codes "data"), field-there paths outer memory p (codes "mask"), writer-numbers paths outer memory bank ps) refl
+  writer-numbers : (ports : List (List ℕ)) → flat_map (λ writer. writer_fields writer) (map (writer_of paths (flat_memory modules site own)) ports) ≡ map (number_behind paths site.path) (flat_map (writer_signals own.name own.bank) ports)
+  writer-numbers [] = refl
+  writer-numbers (p ∷ ps) =
+      rw (field-there paths site.path own.name p (codes "addr"), field-there paths site.path own.name p (codes "en"), field-there paths site.path own.name p (codes "data"), field-there paths site.path own.name p (codes "mask"), writer-numbers ps) refl
 
-pub field-numbers : (paths : List (List ℕ)) (outer memory : List ℕ) (bank : Bank) → flat_map (λ reader. reader_fields reader) (map (reader_of paths (joined outer memory)) bank.readers) ++ flat_map (λ writer. writer_fields writer) (map (writer_of paths (joined outer memory)) bank.writers) ≡ map (number_behind paths outer) (memory_signals memory (Some bank))
-field-numbers paths outer memory bank =
-    ap₂ (λ xs ys. xs ++ ys) (reader-numbers paths outer memory bank 0 bank.readers) (writer-numbers paths outer memory bank bank.writers)
-    ∙ sym (map-append (number_behind paths outer) (readers_signals memory bank 0 bank.readers) (flat_map (writer_signals memory bank) bank.writers))
+  pub field-numbers : flat_map (λ reader. reader_fields reader) (map (reader_of paths (flat_memory modules site own)) own.bank.readers) ++ flat_map (λ writer. writer_fields writer) (map (writer_of paths (flat_memory modules site own)) own.bank.writers) ≡ map (number_behind paths site.path) (memory_signals own.name (Some own.bank))
+  field-numbers =
+      ap₂ (λ xs ys. xs ++ ys) (reader-numbers 0 own.bank.readers) (writer-numbers own.bank.writers)
+      ∙ sym (map-append (number_behind paths site.path) (readers_signals own.name own.bank 0 own.bank.readers) (flat_map (writer_signals own.name own.bank) own.bank.writers))
 
 -- ---- what a signal of a module is
 

@@ -48,8 +48,8 @@ pub record MemoryPlace (circuit : CircuitTree) (tree : InstanceTree) (j : ℕ) :
   pub is_own : (d : OwnBank) → get_or (banks_in circuit site) offset d ≡ own
   pub counted : j ≡ count_to (held_memories circuit.modules) (sites_of circuit) holder + offset
   pub below : j < count_to (held_memories circuit.modules) (sites_of circuit) (suc holder)
-  pub said : (d : FlatMemory) → get_or (memories_of circuit) j d ≡ flat_memory site own
-  pub is_for : IsMemoryFor circuit site (flat_memory site own) (memory_at tree j)
+  pub said : (d : FlatMemory) → get_or (memories_of circuit) j d ≡ flat_memory circuit.modules site own
+  pub is_for : IsMemoryFor circuit site (flat_memory circuit.modules site own) (memory_at tree j)
 
 module _ (circuit : CircuitTree) (tree : InstanceTree) (top : ℕ) (known_top : place_of circuit.name (module_names circuit) ≡ Some top) (is : IsTreeOf circuit tree) where
   pub held-count : length (flat_map (held_memories circuit.modules) (sites_of circuit)) ≡ length (memories_of circuit)
@@ -70,7 +70,7 @@ module _ (circuit : CircuitTree) (tree : InstanceTree) (top : ℕ) (known_top : 
     counted = omega (arith, o.from);
     below = o.to;
     said = λ d. said d ∙ ap (λ (h : HeldMemory). h.said) (held_is (held_memory x d));
-    is_for = subst (λ (h : HeldMemory). IsMemoryFor circuit h.site h.said (memory_at tree j)) (held_is (held_memory x (flat_memory x bank))) (at (held_memory x (flat_memory x bank)));
+    is_for = subst (λ (h : HeldMemory). IsMemoryFor circuit h.site h.said (memory_at tree j)) (held_is (held_memory x (flat_memory circuit.modules x bank))) (at (held_memory x (flat_memory circuit.modules x bank)));
   }
     where
       inside : j < length (flat_map (held_memories circuit.modules) (sites_of circuit))
@@ -89,7 +89,7 @@ module _ (circuit : CircuitTree) (tree : InstanceTree) (top : ℕ) (known_top : 
       here = placed-at (length circuit.modules) circuit.modules (sites_of circuit) o.place x x p
 
       size : length (held_memories circuit.modules x) ≡ length (banks_in circuit x)
-      size = length-map (memories_at circuit.modules x) (held_memory x) ∙ length-map (banks_in circuit x) (flat_memory x)
+      size = length-map (memories_at circuit.modules x) (held_memory x) ∙ length-map (banks_in circuit x) (flat_memory circuit.modules x)
 
       next : count_to (held_memories circuit.modules) (sites_of circuit) (suc o.place) ≡ count_to (held_memories circuit.modules) (sites_of circuit) o.place + length (banks_in circuit x)
       next =
@@ -110,16 +110,16 @@ module _ (circuit : CircuitTree) (tree : InstanceTree) (top : ℕ) (known_top : 
       is_own = found.1
 
       -- the memory with its site
-      held_is : (d : HeldMemory) → get_or (flat_map (held_memories circuit.modules) (sites_of circuit)) j d ≡ held_memory x (flat_memory x bank)
+      held_is : (d : HeldMemory) → get_or (flat_map (held_memories circuit.modules) (sites_of circuit)) j d ≡ held_memory x (flat_memory circuit.modules x bank)
       held_is d =
           let back : j ≡ count_to (held_memories circuit.modules) (sites_of circuit) o.place + (j - count_to (held_memories circuit.modules) (sites_of circuit) o.place) = omega (arith, o.from) in
           let fits : length (held_memories circuit.modules (get_or (sites_of circuit) o.place x)) ≡ length (banks_in circuit x) = ap (λ (y : Site). length (held_memories circuit.modules y)) here ∙ size in
           ap (λ i. get_or (flat_map (held_memories circuit.modules) (sites_of circuit)) i d) back
           ∙ get_or-flat_map (held_memories circuit.modules) (sites_of circuit) o.place (j - count_to (held_memories circuit.modules) (sites_of circuit) o.place) x d o.known (omega (arith, known, fits))
           ∙ ap (λ (y : Site). get_or (held_memories circuit.modules y) (j - count_to (held_memories circuit.modules) (sites_of circuit) o.place) d) here
-          ∙ get_or-map (held_memory x) (memories_at circuit.modules x) (j - count_to (held_memories circuit.modules) (sites_of circuit) o.place) (flat_memory x bank) d (omega (arith, known, length-map (banks_in circuit x) (flat_memory x)))
-          ∙ ap (held_memory x) (get_or-map (flat_memory x) (banks_in circuit x) (j - count_to (held_memories circuit.modules) (sites_of circuit) o.place) bank (flat_memory x bank) known)
-          ∙ ap (λ b. held_memory x (flat_memory x b)) (is_own bank)
+          ∙ get_or-map (held_memory x) (memories_at circuit.modules x) (j - count_to (held_memories circuit.modules) (sites_of circuit) o.place) (flat_memory circuit.modules x bank) d (omega (arith, known, length-map (banks_in circuit x) (flat_memory circuit.modules x)))
+          ∙ ap (held_memory x) (get_or-map (flat_memory circuit.modules x) (banks_in circuit x) (j - count_to (held_memories circuit.modules) (sites_of circuit) o.place) bank (flat_memory circuit.modules x bank) known)
+          ∙ ap (λ b. held_memory x (flat_memory circuit.modules x b)) (is_own bank)
 
       said : (d : FlatMemory) → get_or (memories_of circuit) j d ≡ (get_or (flat_map (held_memories circuit.modules) (sites_of circuit)) j (held_memory x d)).said
       said d =
@@ -127,7 +127,7 @@ module _ (circuit : CircuitTree) (tree : InstanceTree) (top : ℕ) (known_top : 
           ∙ get_or-map (λ (h : HeldMemory). h.said) (flat_map (held_memories circuit.modules) (sites_of circuit)) j (held_memory x d) d inside
 
       at : (d : HeldMemory) → IsMemoryFor circuit (get_or (flat_map (held_memories circuit.modules) (sites_of circuit)) j d).site (get_or (flat_map (held_memories circuit.modules) (sites_of circuit)) j d).said (memory_at tree j)
-      at d = Pairwise-at (λ (h : HeldMemory) (memory : MemoryInstance). IsMemoryFor circuit h.site h.said memory) (flat_map (held_memories circuit.modules) (sites_of circuit)) tree.memories j d (record { instance = 0; memory = 0; ports = [] }) is.memories inside
+      at d = Pairwise-at (λ (h : HeldMemory) (memory : MemoryInstance). IsMemoryFor circuit h.site h.said memory) (flat_map (held_memories circuit.modules) (sites_of circuit)) tree.memories j d (record { instance = 0; memory = 0; ports = []; clocks = [] }) is.memories inside
 
   module _ (sites_differ : Differ (site_paths circuit)) (memories_differ : Differ (memory_paths (memories_of circuit))) where
     -- the first place of the path of a memory is the memory's own place
@@ -146,5 +146,5 @@ module _ (circuit : CircuitTree) (tree : InstanceTree) (top : ℕ) (known_top : 
     memory-number j lt p =
         same_Some (memory_at tree j).memory j
         (sym p.is_for.number.is
-        ∙ ap (λ (m : FlatMemory). place_of m.path (memory_paths (memories_of circuit))) (sym (p.said (flat_memory p.site p.own)))
-        ∙ memory_path-place j (flat_memory p.site p.own) (omega (arith, lt, memory-count)))
+        ∙ ap (λ (m : FlatMemory). place_of m.path (memory_paths (memories_of circuit))) (sym (p.said (flat_memory circuit.modules p.site p.own)))
+        ∙ memory_path-place j (flat_memory circuit.modules p.site p.own) (omega (arith, lt, memory-count)))

@@ -1,14 +1,16 @@
--- The tree of a circuit fits its flat circuit, and the flat circuit keeps to the tree's scopes.
+-- The tree of a circuit fits its flat circuit, and the flat circuit keeps to the tree's scopes and has its clocks.
 use Rattle.std.proofs.Common.{◌≡◌, ℕ, [], Some, subst}
 use Rattle.gg_ast.specs.Names.{AreNamesOfCircuit}
 use Rattle.gg_ast.specs.Places.{place_of}
 use Rattle.gg_ast.specs.Tree.{CircuitTree, module_names}
 use Rattle.gg_flat.specs.Circuit.{FlatCircuit}
+use Rattle.gg_flat.specs.Clocked.{IsClocked}
 use Rattle.gg_flat.specs.Scoped.{IsScoped}
 use Rattle.gg_flat.specs.Tree.{InstanceTree, IsTree}
 use Rattle.gg_names.specs.Repetitions.{repetitions}
 use Rattle.gg_flattened.specs.IsFlat.{IsFlat}
 use Rattle.gg_tree.specs.IsTreeOf.{IsTreeOf}
+use Rattle.gg_tree.proofs.ClockedLemmas.{clocked-of}
 use Rattle.gg_tree.proofs.DriverLemmas.{scoped-of}
 use Rattle.gg_flattened.proofs.NameLemmas.{Differ}
 use Rattle.gg_tree.proofs.SoundLemmas.{plain-names, apart-names, known-names}
@@ -27,3 +29,6 @@ module _ (circuit : CircuitTree) (flat : FlatCircuit) (tree : InstanceTree) (top
 
   pub scopes-hold : IsScoped flat tree
   scopes-hold = scoped-of circuit flat tree top known_top is_flat is_tree distinct (plain-names circuit are_names once) (apart-names circuit are_names once) (known-names circuit are_names once) are_names
+
+  pub clocks-hold : IsClocked flat tree
+  clocks-hold = clocked-of circuit flat tree top known_top is_flat is_tree distinct (plain-names circuit are_names once) (apart-names circuit are_names once)

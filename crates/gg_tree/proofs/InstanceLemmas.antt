@@ -77,7 +77,7 @@ module _ (circuit : CircuitTree) (tree : InstanceTree) (top : ℕ) (known_top : 
     instance-for k x p =
         let inside = placed-inside (length circuit.modules) circuit.modules (sites_of circuit) k x p in
         let some = within-some (length circuit.modules - x.depth) circuit.modules x in
-        let at = AreInstances-at circuit 0 k (sites_of circuit) tree.instances x (record { parent = None; «module» = 0; first = 0; end = 0; ports = []; memories = [] }) is.instances (omega (arith, inside, some)) in
+        let at = AreInstances-at circuit 0 k (sites_of circuit) tree.instances x (record { parent = None; «module» = 0; first = 0; end = 0; ports = []; memories = []; clocks = [] }) is.instances (omega (arith, inside, some)) in
         let start : 0 + count_to (signals_in circuit) (sites_of circuit) k ≡ count_to (signals_in circuit) (sites_of circuit) k = omega arith in
         subst (λ n. IsInstanceFor circuit n x (instance_at tree k)) start (subst (λ y. IsInstanceFor circuit (0 + count_to (signals_in circuit) (sites_of circuit) k) y (instance_at tree k)) (placed-at (length circuit.modules) circuit.modules (sites_of circuit) k x x p) at)
 

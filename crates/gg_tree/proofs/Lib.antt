@@ -1,5 +1,6 @@
 pub mod CauseLemmas
 pub mod ChildLemmas
+pub mod ClockedLemmas
 pub mod DeclaredLemmas
 pub mod DriverLemmas
 pub mod ElementLemmas
@@ -9,17 +10,24 @@ pub mod HeldMemoryLemmas
 pub mod HoldsLemmas
 pub mod InstanceLemmas
 pub mod JoinLemmas
+pub mod KeptLemmas
 pub mod NamedLemmas
 pub mod OwnLemmas
 pub mod PairwiseLemmas
 pub mod PlaceLemmas
 pub mod RangeLemmas
+pub mod RegisterClockLemmas
 pub mod ScopeOfTreeLemmas
 pub mod SoundLemmas
+pub mod StopLemmas
+pub mod StopOutLemmas
+pub mod StopOwnLemmas
+pub mod StopPartLemmas
 pub mod ThereLemmas
 pub mod TreeJoinLemmas
 pub mod TreeLemmas
 pub mod TreePartLemmas
 pub mod VisibleLemmas
 pub mod WordLemmas
+mod WorkedStopTree
 mod WorkedTree

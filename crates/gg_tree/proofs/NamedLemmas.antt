@@ -52,7 +52,7 @@ module _ (circuit : CircuitTree) (tree : InstanceTree) (top : ℕ) (known_top : 
   }
     where
       size : length (held_memories circuit.modules x) ≡ length (banks_in circuit x)
-      size = length-map (memories_at circuit.modules x) (held_memory x) ∙ length-map (banks_in circuit x) (flat_memory x)
+      size = length-map (memories_at circuit.modules x) (held_memory x) ∙ length-map (banks_in circuit x) (flat_memory circuit.modules x)
 
       next : memories_to (suc k) ≡ memories_to k + length (banks_in circuit x)
       next =

@@ -7,7 +7,6 @@ use Rattle.std.proofs.lemmas.List.Folds.{length-flat_map-take}
 use Rattle.std.proofs.lemmas.Option.{slice_get-get_or, same_Some}
 use Rattle.gg_bits.specs.Shape.{Shape}
 use Rattle.gg_ast.specs.declared.module.Port.{Port}
-use Rattle.gg_ast.specs.declared.statement.Stmt.{Stmt}
 use Rattle.gg_ast.specs.Places.{place_of}
 use Rattle.gg_ast.specs.Tree.{CircuitTree}
 use Rattle.gg_flat.specs.declared.tree.InstancePort.{InstancePort}
@@ -17,7 +16,7 @@ use Rattle.gg_flattened.specs.Flat.{FlatSignal, flat_signal, flat_signals}
 use Rattle.gg_tree.specs.IsTreeOf.{Pairwise, signal_paths, signal_ports, IsPortFor}
 use Rattle.gg_flattened.specs.Known.{types_of}
 use Rattle.gg_flattened.specs.Memories.{type_shape}
-use Rattle.gg_flattened.specs.Signals.{Own, own_of_port, own_of_kind, own_signals}
+use Rattle.gg_flattened.specs.Signals.{Own, own_of_port, own_signals, statement_signals}
 use Rattle.gg_flattened.proofs.NameLemmas.{Differ, place_of-at}
 use Rattle.gg_tree.proofs.PlaceLemmas.{within-some, Placed}
 use Rattle.gg_tree.proofs.RangeLemmas.{count_to, placed-at, placed-inside}
@@ -61,9 +60,9 @@ port-own circuit x i p lt =
     let a = length-map (filter_map own_of_port (module_at circuit.modules x.number).ports) (λ (o : Own). o.name) in
     let b = length-map (signal_ports (module_at circuit.modules x.number)) (λ (q : Port). q.name) in
     let inside : i < length (filter_map own_of_port (module_at circuit.modules x.number).ports) = omega (arith, lt, same, a, b) in (
-      omega (arith, inside, length-append (filter_map own_of_port (module_at circuit.modules x.number).ports) (flat_map (λ (s : Stmt). own_of_kind (types_of circuit) x.number s.kind) (module_at circuit.modules x.number).statements)),
+      omega (arith, inside, length-append (filter_map own_of_port (module_at circuit.modules x.number).ports) (statement_signals (types_of circuit) x.number (module_at circuit.modules x.number).statements)),
       λ d.
-          ap (λ (o : Own). o.name) (front (filter_map own_of_port (module_at circuit.modules x.number).ports) (flat_map (λ (s : Stmt). own_of_kind (types_of circuit) x.number s.kind) (module_at circuit.modules x.number).statements) i d inside)
+          ap (λ (o : Own). o.name) (front (filter_map own_of_port (module_at circuit.modules x.number).ports) (statement_signals (types_of circuit) x.number (module_at circuit.modules x.number).statements) i d inside)
           ∙ sym (get_or-map (λ (o : Own). o.name) (filter_map own_of_port (module_at circuit.modules x.number).ports) i d [] inside)
           ∙ ap (λ (l : List (List ℕ)). get_or l i []) (port-names (module_at circuit.modules x.number).ports)
           ∙ get_or-map (λ (q : Port). q.name) (signal_ports (module_at circuit.modules x.number)) i p [] lt,

@@ -1,5 +1,5 @@
 -- A flat circuit keeps to the scopes of its circuit's tree: ports, the fields of memories, and how signals are named.
-use Rattle.std.proofs.Common.{◌≡◌, ◌≢◌, ◌⊎◌, ℕ, ◌+◌, ◌<◌, true, false, List, [], ◌∷◌, ◌++◌, Option, Some, None, length, get_or, map, filter, is_some, refl, sym, ap, ap₂, ◌∙◌, subst, subst₂, arith, append_assoc, length-append, unwrap_or}
+use Rattle.std.proofs.Common.{◌≡◌, ◌≢◌, ◌⊎◌, ℕ, ◌+◌, ◌<◌, true, false, List, [], ◌∷◌, ◌++◌, Option, Some, None, length, get_or, map, filter, is_some, refl, sym, ap, ap₂, ◌∙◌, subst, subst₂, arith, length-append, unwrap_or}
 use Rattle.std.specs.Prelude.{flat_map, filter_map, Contains, AllPairs}
 use Rattle.std.proofs.lemmas.List.{length-map, get_or-map}
 use Rattle.std.proofs.Math.Seq.{get_or-append-add}
@@ -17,11 +17,12 @@ use Rattle.gg_flat.specs.Tree.{InstanceTree, IsInnermost, IsWithin, IsJustBelow,
 use Rattle.gg_flat.specs.Scoped.{IsPort, IsOwnPort, IsOwnField, IsFieldOf, input_signals, output_signals, reader_fields, writer_fields, writers_at, memory_fields}
 use Rattle.gg_flat.proofs.ListLemmas.{filter-cases, some-item}
 use Rattle.gg_count.specs.Sites.{Held, Site, module_at, held_at, sites_of, top_site}
+use Rattle.gg_flattened.specs.Flat.{flat_memory}
 use Rattle.gg_flattened.specs.IsFlat.{IsFlat, number_of, reader_of, writer_of, port_names, top_ports}
 use Rattle.gg_tree.specs.IsTreeOf.{IsTreeOf, IsPortFor, signal_paths, signal_ports, is_input, Pairwise}
 use Rattle.gg_flattened.specs.Known.{types_of}
 use Rattle.gg_flattened.specs.Memories.{type_shape}
-use Rattle.gg_flattened.specs.Signals.{Own, own_of_port, OwnBank, memory_signals}
+use Rattle.gg_flattened.specs.Signals.{Own, own_of_port, own_stops, stop_signal, OwnBank, memory_signals}
 use Rattle.gg_tree.proofs.PairwiseLemmas.{Pairwise-length}
 use Rattle.gg_tree.proofs.PlaceLemmas.{Placed}
 use Rattle.gg_tree.proofs.RangeLemmas.{count_to, own-innermost}
@@ -30,7 +31,7 @@ use Rattle.gg_tree.proofs.OwnLemmas.{own_in, own-count, own-place, placed-known,
 use Rattle.gg_tree.proofs.HeldMemoryLemmas.{banks_in, MemoryPlace, memory-place}
 use Rattle.gg_tree.proofs.TreeLemmas.{HasDistinctPaths, HasPlainNames, no_own, Pairwise-other, path-is, port-at, signal-path, memory-path, holder-is, number-is, memory-is, flat-memory-count}
 use Rattle.gg_tree.proofs.JoinLemmas.{joined-behind, within-dot}
-use Rattle.gg_tree.proofs.FieldLemmas.{StandTogether, bank-together, number_behind, field-numbers, FieldName, memory-field, FieldPlace}
+use Rattle.gg_tree.proofs.FieldLemmas.{StandTogether, bank-together, together-within, number_behind, field-numbers, FieldName, memory-field, FieldPlace}
 
 -- The names of each module are apart: a port's name has no dot; each own signal has a name without a dot or is a field of one of
 -- the module's memories; and a memory has a name, which isn't the name of an instance.
@@ -104,11 +105,11 @@ module _ (circuit : CircuitTree) (flat : FlatCircuit) (tree : InstanceTree) (top
       ∙ ap (λ ports. map (number_of (signal_paths circuit)) (port_names direction.Input ports)) (sym same_ports)
       ∙ sym is_flat.ins
 
-  pub outs-of : output_signals (instance_at tree 0).ports ≡ flat.outs
+  -- the numbers of the top's outputs, found by their names
+  pub outs-of : output_signals (instance_at tree 0).ports ≡ map (number_of (signal_paths circuit)) (port_names direction.Output (top_ports circuit.modules (place_of circuit.name (module_names circuit))))
   outs-of =
       outs-are circuit top (module_at circuit.modules top).ports (instance_at tree 0).ports top_for
       ∙ ap (λ ports. map (number_of (signal_paths circuit)) (port_names direction.Output ports)) (sym same_ports)
-      ∙ sym is_flat.outs
 
   -- ---- own signals
 
@@ -181,13 +182,7 @@ module _ (circuit : CircuitTree) (flat : FlatCircuit) (tree : InstanceTree) (top
 
   -- the fields of a memory stand together among its site's own signals
   pub fields-together : (x : Site) (q : ℕ) (b : OwnBank) → q < length (banks_in circuit x) → get_or (banks_in circuit x) q b ≡ b → StandTogether (own_in circuit x) (memory_signals b.name (Some b.bank))
-  fields-together x q b lt is =
-      let t = bank-together (types_of circuit) x.number (module_at circuit.modules x.number).statements q b lt is in
-      record {
-        before = filter_map own_of_port (module_at circuit.modules x.number).ports ++ t.before;
-        after = t.after;
-        is = ap (λ l. filter_map own_of_port (module_at circuit.modules x.number).ports ++ l) t.is ∙ sym (append_assoc (filter_map own_of_port (module_at circuit.modules x.number).ports) t.before (memory_signals b.name (Some b.bank) ++ t.after));
-      }
+  fields-together x q b lt is = together-within (filter_map own_of_port (module_at circuit.modules x.number).ports) (map stop_signal (own_stops (module_at circuit.modules x.number).statements)) (bank-together (types_of circuit) x.number (module_at circuit.modules x.number).statements q b lt is)
 
   together-at : (all part : List Own) (t : StandTogether all part) (i : ℕ) (e : Own) → i < length part → (length t.before + i < length all) × (get_or all (length t.before + i) e ≡ get_or part i e)
   together-at all part t i e lt =
@@ -199,7 +194,7 @@ module _ (circuit : CircuitTree) (flat : FlatCircuit) (tree : InstanceTree) (top
   fields-are j lt p =
       ap (memory_fields flat) (number-is circuit flat tree top known_top is_flat is_tree distinct plain j lt p)
       ∙ ap₂ (λ readers writers. flat_map (λ reader. reader_fields reader) readers ++ flat_map (λ writer. writer_fields writer) writers) readers writers
-      ∙ field-numbers (signal_paths circuit) p.site.path p.own.name p.own.bank
+      ∙ field-numbers (signal_paths circuit) circuit.modules p.site p.own
     where
       there : j < length flat.memories
       there = omega (arith, lt, flat-memory-count circuit flat tree top known_top is_flat is_tree distinct plain)
@@ -207,10 +202,10 @@ module _ (circuit : CircuitTree) (flat : FlatCircuit) (tree : InstanceTree) (top
       memory : Memory
       memory = some-item flat.memories j there
 
-      readers : readers_at flat j ≡ map (reader_of (signal_paths circuit) (joined p.site.path p.own.name)) p.own.bank.readers
+      readers : readers_at flat j ≡ map (reader_of (signal_paths circuit) (flat_memory circuit.modules p.site p.own)) p.own.bank.readers
       readers = get_or-map (λ (m : Memory). m.readers) flat.memories j memory [] there ∙ (memory-is circuit flat tree top known_top is_flat is_tree distinct plain j lt p memory).readers
 
-      writers : writers_at flat j ≡ map (writer_of (signal_paths circuit) (joined p.site.path p.own.name)) p.own.bank.writers
+      writers : writers_at flat j ≡ map (writer_of (signal_paths circuit) (flat_memory circuit.modules p.site p.own)) p.own.bank.writers
       writers = get_or-map (λ (m : Memory). m.writers) flat.memories j memory [] there ∙ (memory-is circuit flat tree top known_top is_flat is_tree distinct plain j lt p memory).writers
 
   -- The fields of a memory stand one after another among the site's own signals.

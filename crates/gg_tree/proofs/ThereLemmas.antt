@@ -37,8 +37,8 @@ signal-there circuit x p c k =
 
 pub memory-there : (circuit : CircuitTree) (x : Site) (b : OwnBank) → Contains (sites_of circuit) x → Contains (banks_in circuit x) b → Contains (memory_paths (memories_of circuit)) (joined x.path b.name)
 memory-there circuit x b c k =
-    Contains-map (λ (y : FlatMemory). y.path) (memories_of circuit) (flat_memory x b)
-    (in-flat_map (memories_at circuit.modules) (sites_of circuit) x (flat_memory x b) c (Contains-map (flat_memory x) (banks_in circuit x) b k))
+    Contains-map (λ (y : FlatMemory). y.path) (memories_of circuit) (flat_memory circuit.modules x b)
+    (in-flat_map (memories_at circuit.modules) (sites_of circuit) x (flat_memory circuit.modules x b) c (Contains-map (flat_memory circuit.modules x) (banks_in circuit x) b k))
 
 -- the paths of a site's memories, as its digest keeps them, are among the circuit's
 pub memories-there : (circuit : CircuitTree) (place : Place) (digest : Digest) → IsDigest (types_of circuit) circuit.modules place.number digest → Contains (sites_of circuit) (site_of place) → (items : List OwnMemory) → items ≡ digest.memories.items → All (λ (own : OwnMemory). Contains (memory_paths (memories_of circuit)) (joined place.path own.name.now)) items

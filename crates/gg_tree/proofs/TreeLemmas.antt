@@ -251,8 +251,8 @@ module _ (circuit : CircuitTree) (flat : FlatCircuit) (tree : InstanceTree) (top
     pub memory-path : (j : ℕ) → j < length tree.memories → (p : MemoryPlace circuit tree j) → path_at tree.memory_paths j ≡ joined p.site.path p.own.name
     memory-path j lt p =
         ap (λ (l : List (List ℕ)). get_or l j []) is_tree.memory_names
-        ∙ get_or-map (λ (m : FlatMemory). m.path) (memories_of circuit) j (flat_memory p.site p.own) [] (omega (arith, lt, memory-count circuit tree top known_top is_tree))
-        ∙ ap (λ (m : FlatMemory). m.path) (p.said (flat_memory p.site p.own))
+        ∙ get_or-map (λ (m : FlatMemory). m.path) (memories_of circuit) j (flat_memory circuit.modules p.site p.own) [] (omega (arith, lt, memory-count circuit tree top known_top is_tree))
+        ∙ ap (λ (m : FlatMemory). m.path) (p.said (flat_memory circuit.modules p.site p.own))
 
     pub holder-is : (j : ℕ) → (p : MemoryPlace circuit tree j) → (memory_at tree j).instance ≡ p.holder
     holder-is j p = memory-holder circuit tree top known_top is_tree distinct.of_sites distinct.of_memories j p
@@ -261,11 +261,11 @@ module _ (circuit : CircuitTree) (flat : FlatCircuit) (tree : InstanceTree) (top
     number-is j lt p = memory-number circuit tree top known_top is_tree distinct.of_sites distinct.of_memories j lt p
 
     -- the memory of the flat circuit at a memory's place is what the site's module declares
-    pub memory-is : (j : ℕ) → j < length tree.memories → (p : MemoryPlace circuit tree j) → (any : Memory) → IsMemoryOf (signals_of (flat_signals (types_of circuit) circuit.modules (sites_of circuit))).paths (flat_memory p.site p.own) (get_or flat.memories j any)
+    pub memory-is : (j : ℕ) → j < length tree.memories → (p : MemoryPlace circuit tree j) → (any : Memory) → IsMemoryOf (signals_of (flat_signals (types_of circuit) circuit.modules (sites_of circuit))).paths (flat_memory circuit.modules p.site p.own) (get_or flat.memories j any)
     memory-is j lt p any =
         subst (λ said. IsMemoryOf (signals_of (flat_signals (types_of circuit) circuit.modules (sites_of circuit))).paths said (get_or flat.memories j any))
-        (p.said (flat_memory p.site p.own))
-        (is_flat.memories j (flat_memory p.site p.own) any (omega (arith, lt, memory-count circuit tree top known_top is_tree)))
+        (p.said (flat_memory circuit.modules p.site p.own))
+        (is_flat.memories j (flat_memory circuit.modules p.site p.own) any (omega (arith, lt, memory-count circuit tree top known_top is_tree)))
 
     pub flat-memory-count : length tree.memories ≡ length flat.memories
     flat-memory-count = memory-count circuit tree top known_top is_tree ∙ sym is_flat.memory_count
@@ -298,17 +298,17 @@ module _ (circuit : CircuitTree) (flat : FlatCircuit) (tree : InstanceTree) (top
         h = instance-for circuit tree top known_top is_tree distinct.of_sites p.holder p.site p.placed
 
         size : length (memories_at circuit.modules p.site) ≡ length (banks_in circuit p.site)
-        size = length-map (banks_in circuit p.site) (flat_memory p.site)
+        size = length-map (banks_in circuit p.site) (flat_memory circuit.modules p.site)
 
         both : length (memories_at circuit.modules p.site) ≡ length (instance_at tree p.holder).memories
         both = Pairwise-length (IsMemoryAt circuit) (memories_at circuit.modules p.site) (instance_at tree p.holder).memories h.memories
 
-        said_here : get_or (memories_at circuit.modules p.site) p.offset (flat_memory p.site p.own) ≡ flat_memory p.site p.own
-        said_here = get_or-map (flat_memory p.site) (banks_in circuit p.site) p.offset p.own (flat_memory p.site p.own) p.known ∙ ap (flat_memory p.site) (p.is_own p.own)
+        said_here : get_or (memories_at circuit.modules p.site) p.offset (flat_memory circuit.modules p.site p.own) ≡ flat_memory circuit.modules p.site p.own
+        said_here = get_or-map (flat_memory circuit.modules p.site) (banks_in circuit p.site) p.offset p.own (flat_memory circuit.modules p.site p.own) p.known ∙ ap (flat_memory circuit.modules p.site) (p.is_own p.own)
 
         number_here : get_or (instance_at tree p.holder).memories p.offset (memory_at tree j).memory ≡ (memory_at tree j).memory
         number_here =
-            let at = Pairwise-at (IsMemoryAt circuit) (memories_at circuit.modules p.site) (instance_at tree p.holder).memories p.offset (flat_memory p.site p.own) (memory_at tree j).memory h.memories (omega (arith, p.known, size)) in
+            let at = Pairwise-at (IsMemoryAt circuit) (memories_at circuit.modules p.site) (instance_at tree p.holder).memories p.offset (flat_memory circuit.modules p.site p.own) (memory_at tree j).memory h.memories (omega (arith, p.known, size)) in
             same_Some (get_or (instance_at tree p.holder).memories p.offset (memory_at tree j).memory) (memory_at tree j).memory
             (sym at.number.is ∙ ap (λ (m : FlatMemory). place_of m.path (memory_paths (memories_of circuit))) said_here ∙ p.is_for.number.is)
 
@@ -321,7 +321,7 @@ module _ (circuit : CircuitTree) (flat : FlatCircuit) (tree : InstanceTree) (top
         memory : Memory
         memory = some-item flat.memories j there
 
-        is_memory : IsMemoryOf (signals_of (flat_signals (types_of circuit) circuit.modules (sites_of circuit))).paths (flat_memory p.site p.own) (get_or flat.memories j memory)
+        is_memory : IsMemoryOf (signals_of (flat_signals (types_of circuit) circuit.modules (sites_of circuit))).paths (flat_memory circuit.modules p.site p.own) (get_or flat.memories j memory)
         is_memory = memory-is j lt p memory
 
         ports : length (memory_at tree j).ports ≡ port_count flat (memory_at tree j).memory
@@ -330,15 +330,15 @@ module _ (circuit : CircuitTree) (flat : FlatCircuit) (tree : InstanceTree) (top
             let sum = length-append p.own.bank.readers p.own.bank.writers in
             let readers = ap (λ (l : List Reader). length l) is_memory.readers in
             let writers = ap (λ (l : List Writer). length l) is_memory.writers in
-            let each = length-map p.own.bank.readers (reader_of (signals_of (flat_signals (types_of circuit) circuit.modules (sites_of circuit))).paths (flat_memory p.site p.own).path) in
-            let every = length-map p.own.bank.writers (writer_of (signals_of (flat_signals (types_of circuit) circuit.modules (sites_of circuit))).paths (flat_memory p.site p.own).path) in
+            let each = length-map p.own.bank.readers (reader_of (signals_of (flat_signals (types_of circuit) circuit.modules (sites_of circuit))).paths (flat_memory circuit.modules p.site p.own)) in
+            let every = length-map p.own.bank.writers (writer_of (signals_of (flat_signals (types_of circuit) circuit.modules (sites_of circuit))).paths (flat_memory circuit.modules p.site p.own)) in
             let counted : port_count flat j ≡ length (get_or flat.memories j memory).readers + length (get_or flat.memories j memory).writers = get_or-map (λ (m : Memory). length m.readers + length m.writers) flat.memories j memory 0 there in
             let here : port_count flat (memory_at tree j).memory ≡ port_count flat j = ap (port_count flat) number in
             omega (arith, names, sum, readers, writers, each, every, counted, here)
 
     -- the memory at a place doesn't depend on the default
     memory-any : (j : ℕ) (d : MemoryInstance) → j < length tree.memories → slice_index_or tree.memories j d ≡ memory_at tree j
-    memory-any j d lt = get_or_default tree.memories j d (record { instance = 0; memory = 0; ports = [] }) lt
+    memory-any j d lt = get_or_default tree.memories j d (record { instance = 0; memory = 0; ports = []; clocks = [] }) lt
 
     once-of : AllPairs (λ a b. a.memory ≢ b.memory) tree.memories
     once-of i j d before lt same =

@@ -1,5 +1,5 @@
 -- The parts of a tree while it is made.
-use Rattle.std.proofs.Common.{◌≡◌, ℕ, ◌+◌, ◌<◌, ◌≤◌, Bool, List, [], ◌∷◌, ◌++◌, Option, Some, None, length, take, get_or, map, filter, sym, ap, ◌∙◌, subst, arith, length-append, slice_index}
+use Rattle.std.proofs.Common.{◌≡◌, ℕ, ◌+◌, ◌<◌, ◌≤◌, Bool, List, [], ◌∷◌, ◌++◌, Option, Some, None, length, take, get_or, map, filter, sym, ap, ap₂, ◌∙◌, subst, arith, length-append, slice_index}
 use Rattle.std.specs.Prelude.{flat_map}
 use Rattle.std.proofs.lemmas.List.{take_more, length-map, take-map, get_or-map, map-append}
 use Rattle.std.proofs.lemmas.List.Elements.{filter-append}
@@ -18,6 +18,7 @@ use Rattle.gg_tree.specs.IsTreeOf.{Pairwise, IsAt, IsParent, IsPortFor, IsMemory
 use Rattle.gg_flattened.specs.Known.{types_of}
 use Rattle.gg_tree.specs.TreeParts.{signals_to, IsHolder, IsPortAt, IsNumberAt, signals_among, IsInstanceAt, IsMemoryPart, IsHeldFor, held_at_place}
 use Rattle.gg_flattened.specs.Views.{own_bank_of, outer_of, site_of, IsDigest}
+use Rattle.gg_flattened.specs.Clocks.{own_clocks, port_clock}
 use Rattle.gg_flattened.specs.Flat.{FlatMemory, flat_memory, signals_at, flat_memories}
 use Rattle.gg_flattened.proofs.FlatLemmas.{memories-more, memories-kept, one_more}
 use Rattle.gg_flattened.specs.IsFlat.{memory_paths}
@@ -96,15 +97,16 @@ module _ (circuit : CircuitTree) (top : ℕ) (known_top : place_of circuit.name 
       ∙ get_or-map (λ (s : Site). s.depth) (sites_of circuit) i d 0 lt
 
   -- the instance that is made is the instance of the site
-  pub instance-is : (paths signals memories : List (List ℕ)) (digest : Digest) (place : Place) (i end first last : ℕ) (depths : List ℕ) (made : Instance) → i < length places → place ≡ get_or places i place → paths ≡ map (λ (p : Place). p.path) places → signals ≡ signal_paths circuit → memories ≡ memory_paths (memories_of circuit) → IsDigest (types_of circuit) circuit.modules place.number digest → first ≡ signals_to circuit places i → last ≡ signals_to circuit places end → depths ≡ map (λ (p : Place). p.depth) places → i < end → end ≤ length depths → ((j : ℕ) → i < j → j < end → slice_index depths i < slice_index depths j) → (end < length depths → slice_index depths end ≤ slice_index depths i) → IsInstanceAt paths signals memories digest (module_at circuit.modules place.number).ports place first last made → IsInstanceFor circuit (signals_to circuit places i) (site_of place) made
-  instance-is paths signals memories digest place i end first last depths made lt is paths_are signals_are memories_are digest_is first_is last_is depths_are after inside deeper stop m = record {
+  pub instance-is : (paths signals memories : List (List ℕ)) (digest : Digest) (place : Place) (i end first last : ℕ) (depths : List ℕ) (made : Instance) → i < length places → place ≡ get_or places i place → paths ≡ map (λ (p : Place). p.path) places → signals ≡ signal_paths circuit → memories ≡ memory_paths (memories_of circuit) → IsDigest (types_of circuit) circuit.modules place.number digest → first ≡ signals_to circuit places i → last ≡ signals_to circuit places end → depths ≡ map (λ (p : Place). p.depth) places → i < end → end ≤ length depths → ((j : ℕ) → i < j → j < end → slice_index depths i < slice_index depths j) → (end < length depths → slice_index depths end ≤ slice_index depths i) → place.own_clocks.items ≡ own_clocks circuit.modules (site_of place) → IsInstanceAt paths signals memories digest (module_at circuit.modules place.number).ports place first last made → IsInstanceFor circuit (signals_to circuit places i) (site_of place) made
+  instance-is paths signals memories digest place i end first last depths made lt is paths_are signals_are memories_are digest_is first_is last_is depths_are after inside deeper stop followed m = record {
     parent = holder-parent circuit paths place.outer made.parent (paths_are ∙ paths-same) m.holder;
     number = m.number;
     begins = m.begins ∙ first_is;
     ends = m.ends ∙ last_is ∙ count-same end ∙ ap (count_to (signals_in circuit) (sites_of circuit)) end_is ∙ placed-count (length circuit.modules) circuit.modules (sites_of circuit) (signals_in circuit) i (site_of place) p ∙ ap (λ n. n + length (flat_map (signals_in circuit) (within (length circuit.modules) circuit.modules (site_of place)))) (sym (count-same i));
     ports = Pairwise-turned (IsPortAt signals place.path) (IsPortFor circuit (site_of place)) (λ port found at. record { signal = subst (λ l. IsAt l (joined place.path port.name) found.signal) signals_are at.signal; goes = at.goes }) (signals_among (module_at circuit.modules place.number).ports) made.ports m.ports_are;
     memories = subst (λ (l : List FlatMemory). Pairwise (IsMemoryAt circuit) l made.memories) (sym (memories-kept (types_of circuit) circuit.modules place digest digest_is))
-        (Pairwise-mapped (IsNumberAt memories place.path) (IsMemoryAt circuit) (λ own. flat_memory (site_of place) (own_bank_of own)) (λ own number at. record { number = subst (λ l. IsAt l (joined place.path own.name.now) number) memories_are at }) digest.memories.items made.memories m.memories_are);
+        (Pairwise-mapped (IsNumberAt memories place.path) (IsMemoryAt circuit) (λ own. flat_memory circuit.modules (site_of place) (own_bank_of own)) (λ own number at. record { number = subst (λ l. IsAt l (joined place.path own.name.now) number) memories_are at }) digest.memories.items made.memories m.memories_are);
+    clocks = m.clocks_are ∙ followed;
   }
     where
       p : Placed (length circuit.modules) circuit.modules (sites_of circuit) i (site_of place)
@@ -126,23 +128,30 @@ module _ (circuit : CircuitTree) (top : ℕ) (known_top : place_of circuit.name 
 
 -- ---- memories
 
-pub memory-is-for : (circuit : CircuitTree) (paths memories : List (List ℕ)) (place : Place) (own : OwnMemory) (made : MemoryInstance) → paths ≡ site_paths circuit → memories ≡ memory_paths (memories_of circuit) → IsMemoryPart paths memories place.path own made → IsHeldFor circuit (held_at_place place own) made
+pub memory-is-for : (circuit : CircuitTree) (paths memories : List (List ℕ)) (place : Place) (own : OwnMemory) (made : MemoryInstance) → paths ≡ site_paths circuit → memories ≡ memory_paths (memories_of circuit) → IsMemoryPart paths memories (module_at circuit.modules place.number) place.path own made → IsHeldFor circuit (held_at_place circuit.modules place own) made
 memory-is-for circuit paths memories place own made p q h = record {
   holder = subst (λ l. IsAt l place.path made.instance) p h.holder;
   number = subst (λ l. IsAt l (joined place.path own.name.now) made.memory) q h.number;
   ports = h.ports_are;
+  clocks =
+      h.clocks_are
+      ∙ sym (ap₂ (λ (xs ys : List (Option ℕ)). xs ++ ys) (map-map follows (λ n. n.now) own.bank.readers.items) (map-map follows (λ n. n.now) own.bank.writers.items))
+      ∙ sym (map-append follows (map (λ n. n.now) own.bank.readers.items) (map (λ n. n.now) own.bank.writers.items));
 }
+  where
+    follows : List ℕ → Option ℕ
+    follows port = port_clock (module_at circuit.modules place.number) own.name.now port
 
 -- the memories of the sites up to the next one
-pub held-more : (circuit : CircuitTree) (places : List Place) (i : ℕ) (p : Place) (digest : Digest) → i < length places → p ≡ get_or places i p → IsDigest (types_of circuit) circuit.modules p.number digest → flat_map (held_memories circuit.modules) (map site_of (take i places)) ++ map (held_at_place p) digest.memories.items ≡ flat_map (held_memories circuit.modules) (map site_of (take (i + 1) places))
+pub held-more : (circuit : CircuitTree) (places : List Place) (i : ℕ) (p : Place) (digest : Digest) → i < length places → p ≡ get_or places i p → IsDigest (types_of circuit) circuit.modules p.number digest → flat_map (held_memories circuit.modules) (map site_of (take i places)) ++ map (held_at_place circuit.modules p) digest.memories.items ≡ flat_map (held_memories circuit.modules) (map site_of (take (i + 1) places))
 held-more circuit places i p digest lt is d =
-    ap (λ l. flat_map (held_memories circuit.modules) (map site_of (take i places)) ++ l) (sym (map-map (held_memory (site_of p)) (λ m. flat_memory (site_of p) (own_bank_of m)) digest.memories.items) ∙ ap (map (held_memory (site_of p))) (sym (memories-kept (types_of circuit) circuit.modules p digest d)))
+    ap (λ l. flat_map (held_memories circuit.modules) (map site_of (take i places)) ++ l) (sym (map-map (held_memory (site_of p)) (λ m. flat_memory circuit.modules (site_of p) (own_bank_of m)) digest.memories.items) ∙ ap (map (held_memory (site_of p))) (sym (memories-kept (types_of circuit) circuit.modules p digest d)))
     ∙ sym (one_more (held_memories circuit.modules) places i p lt is)
 
 pub held-paths : (places : List Place) (i : ℕ) (circuit : CircuitTree) (p : Place) (digest : Digest) → i < length places → p ≡ get_or places i p → IsDigest (types_of circuit) circuit.modules p.number digest → memory_paths (flat_memories circuit.modules (map site_of (take i places))) ++ map (λ m. joined p.path m.name.now) digest.memories.items ≡ memory_paths (flat_memories circuit.modules (map site_of (take (i + 1) places)))
 held-paths places i circuit p digest lt is d =
-    ap (λ l. memory_paths (flat_memories circuit.modules (map site_of (take i places))) ++ l) (sym (map-map (λ (m : FlatMemory). m.path) (λ m. flat_memory (site_of p) (own_bank_of m)) digest.memories.items))
-    ∙ sym (map-append (λ (m : FlatMemory). m.path) (flat_memories circuit.modules (map site_of (take i places))) (map (λ m. flat_memory (site_of p) (own_bank_of m)) digest.memories.items))
+    ap (λ l. memory_paths (flat_memories circuit.modules (map site_of (take i places))) ++ l) (sym (map-map (λ (m : FlatMemory). m.path) (λ m. flat_memory circuit.modules (site_of p) (own_bank_of m)) digest.memories.items))
+    ∙ sym (map-append (λ (m : FlatMemory). m.path) (flat_memories circuit.modules (map site_of (take i places))) (map (λ m. flat_memory circuit.modules (site_of p) (own_bank_of m)) digest.memories.items))
     ∙ ap memory_paths (sym (memories-more (types_of circuit) circuit.modules places i p digest lt is d))
 
 -- the instances of the sites up to the next one

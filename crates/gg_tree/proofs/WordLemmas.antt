@@ -162,7 +162,7 @@ one-kind kind name cause (Some s) by n (suc i) d lt = absurd (omega (arith, lt))
 kind-own : (types : Types) (k : ℕ) (kind : StmtKind) (i : ℕ) (d : Own) → i < length (own_of_kind types k kind) → AreNamesOfKind kind → IsDeclared kind (get_or (own_of_kind types k kind) i d) ⊎ IsFieldBy kind (get_or (own_of_kind types k kind) i d)
 kind-own types k (says.Wire name ty) i d lt n = one-kind (says.Wire name ty) name Connected (type_shape ty) refl n i d lt
 kind-own types k (says.Node name value) i d lt n = one-kind (says.Node name value) name (Expressed value) (types k (reference.Local name)) refl n.0 i d lt
-kind-own types k (says.Register name ty clock reset) i d lt n = one-kind (says.Register name ty clock reset) name (Kept reset) (type_shape ty) refl n.0 i d lt
+kind-own types k (says.Register name ty clock reset) i d lt n = one-kind (says.Register name ty clock reset) name (Kept clock reset) (type_shape ty) refl n.0 i d lt
 kind-own types k (says.Instance name m) i d lt n = absurd (omega (arith, lt))
 kind-own types k (says.Memory name fields) i d lt n = go (bank_of fields) refl lt
   where

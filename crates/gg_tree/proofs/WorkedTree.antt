@@ -8,7 +8,7 @@ use Rattle.gg_flattened.proofs.WorkedText.{circuit}
 
 abbrev top : Instance
 top =
-    record { parent = None; «module» = 1; first = 0; end = 24; ports = record { signal = 0; is_input = false } ∷ []; memories = 0 ∷ [] }
+    record { parent = None; «module» = 1; first = 0; end = 24; ports = record { signal = 0; is_input = false } ∷ []; memories = 0 ∷ []; clocks = Some 0 ∷ [] }
 
 -- an instance of the child: its first two signals, where its signals end, its parent and its memory
 abbrev child_at : ℕ → ℕ → ℕ → ℕ → ℕ → Instance
@@ -20,6 +20,7 @@ child_at first second end parent memory =
       end = end;
       ports = record { signal = first; is_input = true } ∷ record { signal = second; is_input = false } ∷ [];
       memories = memory ∷ [];
+      clocks = Some 0 ∷ [];
     }
 
 abbrev with_instances : List Instance → InstanceTree
@@ -29,10 +30,13 @@ with_instances instances =
       instances = instances;
       memory_paths = codes "k" ∷ codes "a.m" ∷ codes "b.m" ∷ [];
       memories =
-          record { instance = 0; memory = 0; ports = codes "r" ∷ [] }
-          ∷ record { instance = 1; memory = 1; ports = codes "r" ∷ codes "w" ∷ [] }
-          ∷ record { instance = 2; memory = 2; ports = codes "r" ∷ codes "w" ∷ [] }
+          record { instance = 0; memory = 0; ports = codes "r" ∷ []; clocks = Some 0 ∷ [] }
+          ∷ record { instance = 1; memory = 1; ports = codes "r" ∷ codes "w" ∷ []; clocks = Some 0 ∷ Some 0 ∷ [] }
+          ∷ record { instance = 2; memory = 2; ports = codes "r" ∷ codes "w" ∷ []; clocks = Some 0 ∷ Some 0 ∷ [] }
           ∷ [];
+      clocks = codes "clock" ∷ [];
+      register_clocks = Some 0 ∷ Some 0 ∷ [];
+      stops = [];
     }
 
 abbrev tree : InstanceTree
@@ -53,6 +57,7 @@ right = record {
       ends = refl;
       ports = (record { signal = record { is = refl }; goes = refl }, tt);
       memories = (record { number = record { is = refl } }, tt);
+      clocks = refl;
     },
     (
       record {
@@ -62,6 +67,7 @@ right = record {
         ends = refl;
         ports = (record { signal = record { is = refl }; goes = refl }, (record { signal = record { is = refl }; goes = refl }, tt));
         memories = (record { number = record { is = refl } }, tt);
+        clocks = refl;
       },
       (
         record {
@@ -71,6 +77,7 @@ right = record {
           ends = refl;
           ports = (record { signal = record { is = refl }; goes = refl }, (record { signal = record { is = refl }; goes = refl }, tt));
           memories = (record { number = record { is = refl } }, tt);
+          clocks = refl;
         },
         tt,
       ),
@@ -78,12 +85,15 @@ right = record {
   );
   memory_names = refl;
   memories = (
-    record { holder = record { is = refl }; number = record { is = refl }; ports = refl },
+    record { holder = record { is = refl }; number = record { is = refl }; ports = refl; clocks = refl },
     (
-      record { holder = record { is = refl }; number = record { is = refl }; ports = refl },
-      (record { holder = record { is = refl }; number = record { is = refl }; ports = refl }, tt),
+      record { holder = record { is = refl }; number = record { is = refl }; ports = refl; clocks = refl },
+      (record { holder = record { is = refl }; number = record { is = refl }; ports = refl; clocks = refl }, tt),
     ),
   );
+  clocks = refl;
+  register_clocks = refl;
+  stops = tt;
 }
 
 -- it isn't, where the second child lies in the first
@@ -95,3 +105,8 @@ in_sister h = let parent = h.instances.1.1.0.parent.is in cc
 only_own : IsTreeOf circuit (with_instances ((record top { end = 4 }) ∷ child_at 4 5 14 0 1 ∷ child_at 14 15 24 0 2 ∷ [])) → ⊥
 unfolding types_of
 only_own h = let end : 4 ≡ 24 = h.instances.0.ends in omega (arith, end)
+
+-- nor where a register's clock is missing
+register_missing : IsTreeOf circuit (record tree { register_clocks = Some 0 ∷ [] }) → ⊥
+unfolding types_of
+register_missing h = let clocks = h.register_clocks in cc

@@ -1,20 +1,25 @@
 -- When a tree of instances is that of a circuit.
--- Source: FIRRTL Specification, "Instances": the top and, below it, the instances that each module holds; "Memories".
+-- Source: FIRRTL Specification, "Instances": the top and, below it, the instances that each module holds; "Memories";
+-- "Registers"; "Stop"; "Clock" types: what each of these follows.
 use Rattle.std.specs.Prelude.{◌≡◌, ℕ, ◌+◌, ◌-◌, List, [], ◌∷◌, ◌++◌, Option, Some, None, Bool, true, false, length, map, flat_map, filter, is_some}
 use Rattle.gg_ast.specs.declared.module.Direction.{Direction}
 use Rattle.gg_ast.specs.declared.module.Direction.TheVariants.{Input, Output}
 use Rattle.gg_ast.specs.declared.module.Port.{Port}
 use Rattle.gg_ast.specs.Places.{place_of}
-use Rattle.gg_ast.specs.Tree.{ModuleTree, CircuitTree}
+use Rattle.gg_ast.specs.Tree.{ModuleTree, CircuitTree, module_names}
 use Rattle.gg_flat.specs.declared.tree.Instance.{Instance}
 use Rattle.gg_flat.specs.declared.tree.InstancePort.{InstancePort}
 use Rattle.gg_flat.specs.declared.tree.MemoryInstance.{MemoryInstance}
+use Rattle.gg_flat.specs.declared.tree.StopInstance.{StopInstance}
 use Rattle.gg_flat.specs.Tree.{InstanceTree, joined}
+use Rattle.gg_types.specs.Clocks.{clock_inputs}
 use Rattle.gg_count.specs.Sites.{Site, Outer, module_at, sites, sites_of}
-use Rattle.gg_flattened.specs.Flat.{FlatMemory, signals_at, flat_signals, memories_at, flat_memories}
-use Rattle.gg_flattened.specs.IsFlat.{memory_paths}
+use Rattle.gg_flattened.specs.Clocks.{clock_of, own_clocks}
+use Rattle.gg_flattened.specs.Flat.{Drive, Outside, Gets, Holds, Answers, FlatSignal, FlatMemory, signals_at, flat_signals, memories_at, flat_memories}
+use Rattle.gg_flattened.specs.IsFlat.{memory_paths, top_ports}
 use Rattle.gg_flattened.specs.Known.{types_of}
 use Rattle.gg_flattened.specs.Memories.{type_shape}
+use Rattle.gg_flattened.specs.Signals.{OwnStop, own_stops}
 
 -- ---- places by paths
 
@@ -72,8 +77,8 @@ signal_count circuit all = length (flat_signals (types_of circuit) circuit.modul
 abbrev pub sites_within : CircuitTree → Site → List Site
 sites_within circuit site = sites (length circuit.modules - site.depth) circuit.modules site
 
--- An instance: its parent, its module, its ports in port order, its own memories, and its signals with those below
--- it. These signals are the next ones from `first` on.
+-- An instance: its parent, its module, its ports in port order, its own memories, what its Clock inputs follow, and its
+-- signals with those below it. These signals are the next ones from `first` on.
 pub record IsInstanceFor (circuit : CircuitTree) (first : ℕ) (site : Site) (instance : Instance) : Type 0 where
   pub parent : IsParent circuit site.outer instance.parent
   pub number : instance.«module» ≡ site.number
@@ -81,6 +86,7 @@ pub record IsInstanceFor (circuit : CircuitTree) (first : ℕ) (site : Site) (in
   pub ends : instance.end ≡ first + signal_count circuit (sites_within circuit site)
   pub ports : Pairwise (IsPortFor circuit site) (signal_ports (module_at circuit.modules site.number)) instance.ports
   pub memories : Pairwise (IsMemoryAt circuit) (memories_at circuit.modules site) instance.memories
+  pub clocks : instance.clocks ≡ own_clocks circuit.modules site
 
 -- These instances are the sites in turn. The signals of the first begin at `first`.
 abbrev pub AreInstances : CircuitTree → ℕ → List Site → List Instance → Type 0
@@ -93,11 +99,13 @@ AreInstances circuit first (site ∷ rest) (instance ∷ instances) =
 
 -- ---- memories
 
--- The memory that a site holds, in the tree: its instance, its number, and the names of its ports, the readers first.
+-- The memory that a site holds, in the tree: its instance, its number, the names of its ports, the readers first, and the
+-- Clock inputs of the site that these follow.
 pub record IsMemoryFor (circuit : CircuitTree) (site : Site) (said : FlatMemory) (memory : MemoryInstance) : Type 0 where
   pub holder : IsAt (site_paths circuit) site.path memory.instance
   pub number : IsAt (memory_paths (memories_of circuit)) said.path memory.memory
   pub ports : memory.ports ≡ said.bank.readers ++ said.bank.writers
+  pub clocks : memory.clocks ≡ map said.own_clock (said.bank.readers ++ said.bank.writers)
 
 -- a memory with the site that holds it
 pub record HeldMemory : Type 0 where
@@ -110,11 +118,47 @@ held_memory site said = record { site = site; said = said }
 abbrev pub held_memories : List ModuleTree → Site → List HeldMemory
 held_memories modules site = map (held_memory site) (memories_at modules site)
 
+-- ---- registers
+
+-- the Clock input of its site that a register follows, of what gives a signal its value
+abbrev pub clock_held : Drive → List (Option ℕ)
+clock_held Outside = []
+clock_held (Gets scope c) = []
+clock_held (Holds scope reset next own clock) = own ∷ []
+clock_held (Answers memory place latency addr en) = []
+
+-- those of all registers among these signals
+abbrev pub clocks_held : List FlatSignal → List (Option ℕ)
+clocks_held all = flat_map (λ s. clock_held s.drive) all
+
+-- ---- stops
+
+-- The stop of a site, in the tree: its instance, its signal, and the Clock input of the site that it follows.
+pub record IsStopFor (circuit : CircuitTree) (site : Site) (said : OwnStop) (stop : StopInstance) : Type 0 where
+  pub holder : IsAt (site_paths circuit) site.path stop.instance
+  pub signal : IsAt (signal_paths circuit) (joined site.path said.name) stop.signal
+  pub clock : stop.clock ≡ clock_of (module_at circuit.modules site.number) said.asked.clock
+
+-- a stop with the site that has it
+pub record HeldStop : Type 0 where
+  pub site : Site
+  pub said : OwnStop
+
+abbrev pub held_stop : Site → OwnStop → HeldStop
+held_stop site said = record { site = site; said = said }
+
+abbrev pub held_stops : List ModuleTree → Site → List HeldStop
+held_stops modules site = map (held_stop site) (own_stops (module_at modules site.number).statements)
+
 -- ---- the tree
 
--- The tree of a circuit has exactly its instances and its memories, in turn.
+-- The tree of a circuit has exactly its instances, its memories and its stops, in turn. It has the names of the top's Clock
+-- inputs, and what each register follows, in the order of the signals.
 pub record IsTreeOf (circuit : CircuitTree) (tree : InstanceTree) : Type 0 where
   pub paths : tree.paths ≡ site_paths circuit
   pub instances : AreInstances circuit 0 (sites_of circuit) tree.instances
   pub memory_names : tree.memory_paths ≡ memory_paths (memories_of circuit)
   pub memories : Pairwise (λ h memory. IsMemoryFor circuit h.site h.said memory) (flat_map (held_memories circuit.modules) (sites_of circuit)) tree.memories
+  pub clocks : tree.clocks ≡ clock_inputs (top_ports circuit.modules (place_of circuit.name (module_names circuit)))
+  pub register_clocks : tree.register_clocks ≡ clocks_held (flat_signals (types_of circuit) circuit.modules (sites_of circuit))
+  pub stops : Pairwise (λ h stop. IsStopFor circuit h.site h.said stop) (flat_map (held_stops circuit.modules) (sites_of circuit)) tree.stops

@@ -1,21 +1,25 @@
 -- The parts of a tree while it is built. Each is found by its path among the paths of all sites, signals and
--- memories.
-use Rattle.std.specs.Prelude.{◌≡◌, ℕ, Bool, List, ◌++◌, Option, Some, None, map, filter, flat_map, length, take, is_some}
+-- memories, and has what it follows.
+use Rattle.std.specs.Prelude.{◌≡◌, ℕ, Bool, List, [], ◌∷◌, ◌++◌, Option, Some, None, map, filter, flat_map, length, take, is_some}
 use Rattle.gg_ast.specs.declared.module.Port.{Port}
-use Rattle.gg_ast.specs.Tree.{CircuitTree}
+use Rattle.gg_ast.specs.Tree.{ModuleTree, CircuitTree}
 use Rattle.gg_flat.specs.declared.tree.Instance.{Instance}
 use Rattle.gg_flat.specs.declared.tree.MemoryInstance.{MemoryInstance}
 use Rattle.gg_flat.specs.declared.tree.InstancePort.{InstancePort}
-use Rattle.gg_flat.specs.Tree.{joined}
+use Rattle.gg_flat.specs.declared.tree.StopInstance.{StopInstance}
+use Rattle.gg_flat.specs.Tree.{InstanceTree, joined}
 use Rattle.gg_flattened.specs.declared.digest.Digest.{Digest}
 use Rattle.gg_flattened.specs.declared.digest.OwnMemory.{OwnMemory}
 use Rattle.gg_flattened.specs.declared.sites.Around.{Around}
 use Rattle.gg_flattened.specs.declared.sites.Place.{Place}
+use Rattle.gg_flattened.specs.declared.stops.OwnStop as kept_stop
+use Rattle.gg_flattened.specs.Clocks.{clock_of, port_clock}
 use Rattle.gg_flattened.specs.Flat.{signals_at, flat_memory}
-use Rattle.gg_tree.specs.IsTreeOf.{IsAt, Pairwise, is_input, IsMemoryFor, HeldMemory, held_memory}
+use Rattle.gg_flattened.specs.Signals.{Cause, FromOutside, Connected, Expressed, Kept, Answered}
+use Rattle.gg_tree.specs.IsTreeOf.{IsAt, Pairwise, is_input, IsMemoryFor, HeldMemory, held_memory, IsStopFor, HeldStop, held_stop}
 use Rattle.gg_flattened.specs.Known.{types_of}
 use Rattle.gg_flattened.specs.Memories.{type_shape}
-use Rattle.gg_flattened.specs.Views.{site_of, own_bank_of}
+use Rattle.gg_flattened.specs.Views.{site_of, own_bank_of, own_stop_of}
 
 -- the ports that are signals
 abbrev pub is_signal : Port → Bool
@@ -55,16 +59,56 @@ pub record IsInstanceAt (paths signals memories : List (List ℕ)) (digest : Dig
   pub ends : made.end ≡ end
   pub ports_are : Pairwise (IsPortAt signals place.path) (signals_among ports) made.ports
   pub memories_are : Pairwise (IsNumberAt memories place.path) digest.memories.items made.memories
+  pub clocks_are : made.clocks ≡ place.own_clocks.items
 
--- What is made for a memory, by its parts.
-pub record IsMemoryPart (paths memories : List (List ℕ)) (outer : List ℕ) (own : OwnMemory) (made : MemoryInstance) : Type 0 where
+-- What is made for a memory of a module, by its parts.
+pub record IsMemoryPart (paths memories : List (List ℕ)) (m : ModuleTree) (outer : List ℕ) (own : OwnMemory) (made : MemoryInstance) : Type 0 where
   pub holder : IsAt paths outer made.instance
   pub number : IsAt memories (joined outer own.name.now) made.memory
   pub ports_are : made.ports ≡ map (λ n. n.now) own.bank.readers.items ++ map (λ n. n.now) own.bank.writers.items
+  pub clocks_are : made.clocks ≡ map (λ n. port_clock m own.name.now n.now) own.bank.readers.items ++ map (λ n. port_clock m own.name.now n.now) own.bank.writers.items
 
 -- a memory with the site that holds it
-abbrev pub held_at_place : Place → OwnMemory → HeldMemory
-held_at_place place own = held_memory (site_of place) (flat_memory (site_of place) (own_bank_of own))
+abbrev pub held_at_place : List ModuleTree → Place → OwnMemory → HeldMemory
+held_at_place modules place own = held_memory (site_of place) (flat_memory modules (site_of place) (own_bank_of own))
 
 abbrev pub IsHeldFor : CircuitTree → HeldMemory → MemoryInstance → Type 0
 IsHeldFor circuit h memory = IsMemoryFor circuit h.site h.said memory
+
+-- the Clock input of a module that a register follows, of what gives an own signal its value
+abbrev pub clock_kept : ModuleTree → Cause → List (Option ℕ)
+clock_kept m FromOutside = []
+clock_kept m Connected = []
+clock_kept m (Expressed value) = []
+clock_kept m (Kept clock reset) = clock_of m clock ∷ []
+clock_kept m (Answered memory port place latency) = []
+
+-- What is made for a stop of a module, by its parts.
+pub record IsStopPart (paths signals : List (List ℕ)) (m : ModuleTree) (outer : List ℕ) (own : kept_stop.OwnStop) (made : StopInstance) : Type 0 where
+  pub holder : IsAt paths outer made.instance
+  pub signal : IsAt signals (joined outer own.name) made.signal
+  pub clock_is : made.clock ≡ clock_of m own.clock.now
+
+-- a stop with the site that has it
+abbrev pub stop_at_place : Place → kept_stop.OwnStop → HeldStop
+stop_at_place place own = held_stop (site_of place) (own_stop_of own)
+
+abbrev pub IsAskedFor : CircuitTree → HeldStop → StopInstance → Type 0
+IsAskedFor circuit h stop = IsStopFor circuit h.site h.said stop
+
+-- ---- a tree with other parts
+
+abbrev pub with_instances : InstanceTree → List (List ℕ) → List Instance → InstanceTree
+with_instances tree paths instances = record tree { paths = paths; instances = instances }
+
+abbrev pub with_memories : InstanceTree → List (List ℕ) → List MemoryInstance → InstanceTree
+with_memories tree paths memories = record tree { memory_paths = paths; memories = memories }
+
+abbrev pub with_stops : InstanceTree → List StopInstance → InstanceTree
+with_stops tree stops = record tree { stops = stops }
+
+abbrev pub with_register_clocks : InstanceTree → List (Option ℕ) → InstanceTree
+with_register_clocks tree clocks = record tree { register_clocks = clocks }
+
+abbrev pub with_clocks : InstanceTree → List (List ℕ) → InstanceTree
+with_clocks tree clocks = record tree { clocks = clocks }

@@ -1,406 +1,27 @@
-//! The tree of the circuit's instances.
-ghost use Rattle.std.specs.Prelude.{List, None, ℕ, ◌≡◌, ◌≢◌, ◌<◌, ◌≤◌, ◌+◌, ◌++◌, ◌∷◌, [], map, flat_map, length, option_to_list, slice_index, IfOk, OnOk, IfSome, All, AllPairs, Contains, true};
+//! The tree of a circuit, built.
+ghost use Rattle.std.specs.Prelude.{◌≡◌, ◌≢◌, None, map, IfOk, All, AllPairs};
 ghost use Rattle.gg_ast.specs.Places.{place_of};
-ghost use Rattle.gg_ast.specs.Tree.{CircuitTree, module_names};
+ghost use Rattle.gg_ast.specs.Tree.{module_names};
 ghost use Rattle.gg_count.specs.Sites.{sites_of};
-ghost use Rattle.gg_flattened.specs.declared.sites.Place.{Place};
-ghost use Rattle.gg_flattened.specs.Flat.{flat_memories};
-ghost use Rattle.gg_flattened.specs.IsFlat.{memory_paths};
-ghost use Rattle.gg_flat.specs.Tree.{joined as joined_text, no_tree};
-ghost use Rattle.gg_flattened.specs.Views.{IsPlaceIn, AreDigests, site_of};
-ghost use Rattle.gg_tree.specs.IsTreeOf.{IsAt, Pairwise, HeldMemory, held_memories, AreInstances, IsTreeOf, site_paths as paths_of_sites, signal_paths, memories_of};
+ghost use Rattle.gg_flattened.specs.IsFlat.{memory_paths, top_ports};
 ghost use Rattle.gg_flattened.specs.Known.{types_of};
-ghost use Rattle.gg_tree.specs.TreeParts.{is_signal, signals_among, IsPortAt, IsNumberAt, IsHolder, place_paths, signals_to, IsInstanceAt, IsMemoryPart, IsHeldFor, held_at_place};
+ghost use Rattle.gg_flattened.specs.Views.{IsPlaceIn, AreDigests, site_of};
+ghost use Rattle.gg_tree.specs.IsTreeOf.{IsTreeOf, site_paths as paths_of_sites, signal_paths, memories_of};
 
-use gg_ast::{Direction, Port};
-use gg_bits::{Ids, Items, Name, Names};
-use gg_flat::{AddError, Instance, InstancePort, MemoryInstance, Paths, Tree};
-use gg_flattened::{Around, Digest, OwnMemory, Place, Table, add_path, ground_type, joined};
+use crate::clocks::{add_clocks, add_register_clocks};
+use crate::instances::add_instances;
+use crate::memories::add_memories;
+use crate::places::site_paths;
+use crate::stops::add_stops;
+use gg_ast::Port;
+use gg_flat::Tree;
+use gg_flattened::{Digest, Place, Table};
 use gg_types::Typed;
 use std::alloc::{AllocError, Global};
 
-// The place of a path, which is one of these.
-fn place_at(paths: &Paths, path: &Name) -> u32
-    requires there { Contains paths.now path.now }
-    ensures { IsAt paths.now path.now result }
-{
-    let _ = paths.len();
-    let Some(place) = paths.find(path) else {
-        unreachable!();
-    };
-    place
-}
-
-// The paths of all sites.
-fn site_paths(alloc: Global, places: &[Place]) -> Result<Paths, AllocError>
-    requires distinct { AllPairs (λ a b. a ≢ b) (place_paths places.now) }
-    ensures { IfOk result (λ paths. paths ≡ place_paths places.now) }
-{
-    let mut paths = Paths::new(alloc);
-    for place in places {
-        add_path(&mut paths, copied(&place.path)?)?;
-    }
-    Ok(paths)
-}
-
-// A number plus a count. Returns `AllocError` if the sum is 4,294,967,296 or more.
-fn raised(number: u32, count: usize) -> Result<u32, AllocError>
-    ensures { IfOk result (λ sum. sum ≡ number + count) }
-{
-    if count > (u32::MAX - number) as usize {
-        return Err(AllocError);
-    }
-    Ok(number + count as u32)
-}
-
-// The first signal of each site, and the end of the last site's signals.
-fn firsts(
-    alloc: Global,
-    typed: &Typed,
-    digests: &[Digest],
-    places: &[Place],
-) -> Result<Vec<u32>, AllocError>
-    requires digests { AreDigests (types_of typed.now.circuit) typed.now.circuit.modules digests.now }
-    requires places { All (IsPlaceIn (length typed.now.circuit.modules)) places.now }
-    ensures count { IfOk result (λ firsts. length firsts.items ≡ length places.now + 1) }
-    ensures each { IfOk result (λ firsts. (k : ℕ) → k ≤ length places.now → slice_index firsts.items k ≡ signals_to typed.now.circuit places.now k) }
-{
-    let mut firsts = Vec::new(alloc);
-    let mut next: u32 = 0;
-    for place in places {
-        firsts.reserve(1)?;
-        firsts.push_reserved(next);
-        next = raised(next, digests[place.number as usize].signals.len())?;
-    }
-    firsts.reserve(1)?;
-    firsts.push_reserved(next);
-    Ok(firsts)
-}
-
-// The number of sites above each site.
-fn depths(alloc: Global, places: &[Place]) -> Result<Vec<u32>, AllocError>
-    ensures { IfOk result (λ depths. depths.items ≡ map (λ p. p.depth) places.now) }
-{
-    let mut depths = Vec::new(alloc);
-    for place in places {
-        depths.reserve(1)?;
-        depths.push_reserved(place.depth);
-    }
-    Ok(depths)
-}
-
-// The next site that isn't deeper than this one, or the end.
-fn end_of(depths: &[u32], from: usize) -> usize
-    requires { from < length depths.now }
-    ensures after { from < result }
-    ensures inside { result ≤ length depths.now }
-    ensures deeper { (i : ℕ) → from < i → i < result → slice_index depths.now from < slice_index depths.now i }
-    ensures stop { result < length depths.now → slice_index depths.now result ≤ slice_index depths.now from }
-{
-    let mut next = from + 1;
-    while next < depths.len() && depths[next] > depths[from] {
-        next += 1;
-    }
-    next
-}
-
-// The port of an instance with this path; none for a Clock.
-fn port(
-    alloc: Global,
-    paths: &Paths,
-    outer: &Name,
-    port: &Port,
-) -> Result<Option<InstancePort>, AllocError>
-    requires there { is_signal port.now ≡ true → Contains paths.now (joined_text outer.now port.now.name) }
-    ensures { IfOk result (λ found. Pairwise (IsPortAt paths.now outer.now) (signals_among (port.now ∷ [])) (option_to_list found)) }
-{
-    if ground_type(port.ty).is_none() {
-        return Ok(None);
-    }
-    let path = joined(alloc, outer, &port.name)?;
-    let signal = place_at(paths, &path);
-    let is_input = match port.direction {
-        Direction::Input => true,
-        Direction::Output => false,
-    };
-    Ok(Some(InstancePort { signal, is_input }))
-}
-
-// Adds a port, if there is one.
-fn add_port(found: &mut Vec<InstancePort>, port: Option<InstancePort>) -> Result<(), AllocError>
-    ensures { OnOk result (found.new.items ≡ found.old.items ++ option_to_list port) }
-{
-    match port {
-        None => Ok(()),
-        Some(port) => {
-            found.reserve(1)?;
-            found.push_reserved(port);
-            Ok(())
-        }
-    }
-}
-
-// The ports of an instance with this path, without Clocks.
-fn ports(
-    alloc: Global,
-    paths: &Paths,
-    outer: &Name,
-    ports: &[Port],
-) -> Result<Vec<InstancePort>, AllocError>
-    requires there { All (λ p. Contains paths.now (joined_text outer.now p.name)) (signals_among ports.now) }
-    ensures { IfOk result (λ found. Pairwise (IsPortAt paths.now outer.now) (signals_among ports.now) found.items) }
-{
-    let mut found = Vec::new(alloc);
-    for one in ports {
-        let next = port(alloc, paths, outer, one)?;
-        add_port(&mut found, next)?;
-    }
-    Ok(found)
-}
-
-// The numbers of the memories of an instance with this path.
-fn numbers(
-    alloc: Global,
-    paths: &Paths,
-    outer: &Name,
-    memories: &[OwnMemory],
-) -> Result<Vec<u32>, AllocError>
-    requires there { All (λ own. Contains paths.now (joined_text outer.now own.name.now)) memories.now }
-    ensures { IfOk result (λ numbers. Pairwise (IsNumberAt paths.now outer.now) memories.now numbers.items) }
-{
-    let mut numbers = Vec::new(alloc);
-    for own in memories {
-        let path = joined(alloc, outer, own.name)?;
-        let number = place_at(paths, &path);
-        numbers.reserve(1)?;
-        numbers.push_reserved(number);
-    }
-    Ok(numbers)
-}
-
-// The instance that holds an instance, if there is one.
-fn holder(paths: &Paths, outer: &Option<Around>) -> Option<u32>
-    requires there { IfSome outer.now (λ around. Contains paths.now around.path) }
-    ensures { IsHolder paths.now outer.now result }
-{
-    match outer {
-        None => None,
-        Some(around) => Some(place_at(paths, &around.path)),
-    }
-}
-
-// Adds copies of names.
-fn add_names(names: &mut Vec<Name>, more: &[&Name]) -> Result<(), AllocError>
-    ensures { OnOk result (names.new.items ≡ names.old.items ++ map (λ n. n.now) more.now) }
-{
-    for name in more {
-        names.reserve(1)?;
-        names.push_reserved(copied(name)?);
-    }
-    Ok(())
-}
-
-// A copy of a name.
-fn copied(name: &Name) -> Result<Name, AllocError>
-    ensures { IfOk result (λ copy. copy ≡ name.now) }
-{
-    name.clone()
-}
-
-// The instance of a site. Its signals and those below it are given.
-fn instance(
-    alloc: Global,
-    table: &Table,
-    paths: &Paths,
-    digest: &Digest,
-    module_ports: &[Port],
-    place: &Place,
-    first: u32,
-    end: u32,
-) -> Result<Instance, AllocError>
-    requires holder { IfSome place.now.outer (λ around. Contains paths.now around.path) }
-    requires ports { All (λ p. Contains table.now.paths (joined_text place.now.path p.name)) (signals_among module_ports.now) }
-    requires memories { All (λ own. Contains table.now.memories (joined_text place.now.path own.name.now)) digest.now.memories.items }
-    ensures { IfOk result (IsInstanceAt paths.now table.now.paths table.now.memories digest.now module_ports.now place.now first end) }
-{
-    let parent = holder(paths, &place.outer);
-    let ports = ports(alloc, &table.paths, &place.path, module_ports)?;
-    let memories = numbers(
-        alloc,
-        &table.memories,
-        &place.path,
-        digest.memories.as_slice(),
-    )?;
-    Ok(Instance {
-        parent,
-        module: place.number,
-        first,
-        end,
-        ports: Items::from(ports),
-        memories: Ids::from(memories),
-    })
-}
-
-// Adds an instance with a path that no other instance has.
-fn add_instance(tree: &mut Tree, path: Name, instance: Instance) -> Result<(), AllocError>
-    requires fresh { ¬ Contains tree.old.paths path }
-    ensures { OnOk result (tree.new ≡ record tree.old { paths = tree.old.paths ++ path ∷ []; instances = tree.old.instances ++ instance ∷ [] }) }
-{
-    if tree.len() >= u32::MAX as usize {
-        return Err(AllocError);
-    }
-    match tree.add(path, instance) {
-        Ok(()) => Ok(()),
-        Err(AddError::Doubled) => unreachable!(),
-        Err(AddError::NoMemory) => Err(AllocError),
-    }
-}
-
-// Adds a memory with a path that no other memory has.
-fn add_memory(tree: &mut Tree, path: Name, memory: MemoryInstance) -> Result<(), AllocError>
-    requires fresh { ¬ Contains tree.old.memory_paths path }
-    ensures { OnOk result (tree.new ≡ record tree.old { memory_paths = tree.old.memory_paths ++ path ∷ []; memories = tree.old.memories ++ memory ∷ [] }) }
-{
-    if tree.memory_count() >= u32::MAX as usize {
-        return Err(AllocError);
-    }
-    match tree.add_memory(path, memory) {
-        Ok(()) => Ok(()),
-        Err(AddError::Doubled) => unreachable!(),
-        Err(AddError::NoMemory) => Err(AllocError),
-    }
-}
-
-// A memory of a site with this path.
-fn memory(
-    alloc: Global,
-    table: &Table,
-    paths: &Paths,
-    outer: &Name,
-    own: &OwnMemory,
-) -> Result<MemoryInstance, AllocError>
-    requires holder { Contains paths.now outer.now }
-    requires number { Contains table.now.memories (joined_text outer.now own.now.name.now) }
-    ensures { IfOk result (IsMemoryPart paths.now table.now.memories outer.now own.now) }
-{
-    let holder = place_at(paths, outer);
-    let path = joined(alloc, outer, own.name)?;
-    let number = place_at(&table.memories, &path);
-    let mut names = Vec::new(alloc);
-    add_names(&mut names, own.bank.readers.as_slice())?;
-    add_names(&mut names, own.bank.writers.as_slice())?;
-    Ok(MemoryInstance {
-        instance: holder,
-        memory: number,
-        ports: Names::from(names),
-    })
-}
-
-// Adds the instances of all sites.
-fn add_instances(
-    alloc: Global,
-    typed: &Typed,
-    table: &Table,
-    paths: &Paths,
-    digests: &[Digest],
-    places: &[Place],
-    tree: &mut Tree,
-) -> Result<(), AllocError>
-    requires digests { AreDigests (types_of typed.now.circuit) typed.now.circuit.modules digests.now }
-    requires within { All (IsPlaceIn (length typed.now.circuit.modules)) places.now }
-    requires top { (place_of typed.now.circuit.name (module_names typed.now.circuit)) ≢ None }
-    requires sites { map site_of places.now ≡ sites_of typed.now.circuit }
-    requires paths { paths.now ≡ place_paths places.now }
-    requires distinct { AllPairs (λ a b. a ≢ b) (place_paths places.now) }
-    requires signals { table.now.paths ≡ signal_paths typed.now.circuit }
-    requires memories { table.now.memories ≡ memory_paths (memories_of typed.now.circuit) }
-    requires none { tree.old ≡ no_tree }
-    ensures paths { OnOk result (tree.new.paths ≡ place_paths places.now) }
-    ensures instances { OnOk result (AreInstances typed.now.circuit 0 (map site_of places.now) tree.new.instances) }
-    ensures rest { OnOk result ((tree.new.memory_paths ≡ []) × (tree.new.memories ≡ [])) }
-{
-    let modules = typed.names().circuit().modules();
-    let starts = firsts(alloc, typed, digests, places)?;
-    let levels = depths(alloc, places)?;
-    for i in 0..places.len() {
-        let place = &places[i];
-        let number = place.number as usize;
-        let end = end_of(levels.as_slice(), i);
-        let made = instance(
-            alloc,
-            table,
-            paths,
-            &digests[number],
-            modules[number].ports(),
-            place,
-            starts[i],
-            starts[end],
-        )?;
-        add_instance(tree, copied(&place.path)?, made)?;
-    }
-    Ok(())
-}
-
-// Adds the memories of a site with this path.
-fn add_site_memories(
-    alloc: Global,
-    table: &Table,
-    paths: &Paths,
-    outer: &Name,
-    memories: &[OwnMemory],
-    tree: &mut Tree,
-) -> Result<(), AllocError>
-    requires distinct { AllPairs (λ a b. a ≢ b) (tree.old.memory_paths ++ map (λ m. joined_text outer.now m.name.now) memories.now) }
-    requires holder { Contains paths.now outer.now }
-    requires numbers { All (λ own. Contains table.now.memories (joined_text outer.now own.name.now)) memories.now }
-    ensures names { OnOk result (tree.new.memory_paths ≡ tree.old.memory_paths ++ map (λ m. joined_text outer.now m.name.now) memories.now) }
-    ensures made { OnOk result ((circuit : CircuitTree) (said : List HeldMemory) (place : Place) → paths.now ≡ paths_of_sites circuit → table.now.memories ≡ memory_paths (memories_of circuit) → place.path ≡ outer.now → Pairwise (IsHeldFor circuit) said tree.old.memories → Pairwise (IsHeldFor circuit) (said ++ map (held_at_place place) memories.now) tree.new.memories) }
-    ensures rest { OnOk result ((tree.new.paths ≡ tree.old.paths) × (tree.new.instances ≡ tree.old.instances)) }
-{
-    for own in memories {
-        let made = memory(alloc, table, paths, outer, own)?;
-        add_memory(tree, joined(alloc, outer, own.name)?, made)?;
-    }
-    Ok(())
-}
-
-// Adds the memories of all sites.
-fn add_memories(
-    alloc: Global,
-    typed: &Typed,
-    table: &Table,
-    paths: &Paths,
-    digests: &[Digest],
-    places: &[Place],
-    tree: &mut Tree,
-) -> Result<(), AllocError>
-    requires digests { AreDigests (types_of typed.now.circuit) typed.now.circuit.modules digests.now }
-    requires within { All (IsPlaceIn (length typed.now.circuit.modules)) places.now }
-    requires sites { map site_of places.now ≡ sites_of typed.now.circuit }
-    requires paths { paths.now ≡ paths_of_sites typed.now.circuit }
-    requires memories { table.now.memories ≡ memory_paths (memories_of typed.now.circuit) }
-    requires none { (tree.old.memory_paths ≡ []) × (tree.old.memories ≡ []) }
-    requires distinct { AllPairs (λ a b. a ≢ b) (memory_paths (flat_memories typed.now.circuit.modules (map site_of places.now))) }
-    ensures names { OnOk result (tree.new.memory_paths ≡ memory_paths (flat_memories typed.now.circuit.modules (map site_of places.now))) }
-    ensures made { OnOk result (Pairwise (IsHeldFor typed.now.circuit) (flat_map (held_memories typed.now.circuit.modules) (map site_of places.now)) tree.new.memories) }
-    ensures rest { OnOk result ((tree.new.paths ≡ tree.old.paths) × (tree.new.instances ≡ tree.old.instances)) }
-{
-    for place in places {
-        let digest = &digests[place.number as usize];
-        add_site_memories(
-            alloc,
-            table,
-            paths,
-            &place.path,
-            digest.memories.as_slice(),
-            tree,
-        )?;
-    }
-    Ok(())
-}
-
-/// The tree of a circuit: the instances of its sites with their signals, ports and memories. The table has the
-/// circuit's signals and memories, and `places` has its sites.
+/// The tree of a circuit: the instances of its sites with their signals, ports and memories, its stops, and the Clock
+/// inputs that they follow. The table has the circuit's signals and memories, `places` its sites, and `ports` the ports
+/// of its top.
 ///
 /// # Errors
 ///
@@ -411,10 +32,12 @@ pub fn tree_of(
     table: &Table,
     digests: &[Digest],
     places: &[Place],
+    ports: &[Port],
 ) -> Result<Tree, AllocError>
     requires digests { AreDigests (types_of typed.now.circuit) typed.now.circuit.modules digests.now }
-    requires within { All (IsPlaceIn (length typed.now.circuit.modules)) places.now }
+    requires within { All (IsPlaceIn typed.now.circuit.modules) places.now }
     requires top { (place_of typed.now.circuit.name (module_names typed.now.circuit)) ≢ None }
+    requires ports { ports.now ≡ top_ports typed.now.circuit.modules (place_of typed.now.circuit.name (module_names typed.now.circuit)) }
     requires sites { map site_of places.now ≡ sites_of typed.now.circuit }
     requires signals { table.now.paths ≡ signal_paths typed.now.circuit }
     requires memories { table.now.memories ≡ memory_paths (memories_of typed.now.circuit) }
@@ -426,5 +49,8 @@ pub fn tree_of(
     let mut tree = Tree::new(alloc);
     add_instances(alloc, typed, table, &paths, digests, places, &mut tree)?;
     add_memories(alloc, typed, table, &paths, digests, places, &mut tree)?;
+    add_stops(alloc, typed, table, &paths, digests, places, &mut tree)?;
+    add_register_clocks(typed, digests, places, &mut tree)?;
+    add_clocks(ports, &mut tree)?;
     Ok(tree)
 }

@@ -170,57 +170,73 @@ module _ (ways : List (List ℕ × Way)) (statements : List Stmt) where
   stays zero next k h = refl
   stays (suc n) next k h = ap (iterate n next) h ∙ stays n next k h
 
-  -- n steps from a name lead to an input port exactly if n steps from its place do
-  follows : (next : List ℕ) → TellsNext ways statements next → (n : ℕ) (name : List ℕ) (k : ℕ) → place_in name ways ≡ Some k → is_outside (find_named (followed ways statements n name) ways) ≡ is_outside (way_at ways (iterate n next k))
-  follows next tells zero name k u = ap is_outside (placed-way name ways k u)
-  follows next tells (suc n) name k u = go (is_followed (find_named name ways)) refl (lead_of name statements) refl (follows next tells n)
-    where
-      go : (b : Bool) → is_followed (find_named name ways) ≡ b → (o : Option (List ℕ)) → lead_of name statements ≡ o → ((q : List ℕ) (j : ℕ) → place_in q ways ≡ Some j → is_outside (find_named (followed ways statements n q) ways) ≡ is_outside (way_at ways (iterate n next j))) → is_outside (find_named (followed ways statements n (stay_or name (next_of ways statements name))) ways) ≡ is_outside (way_at ways (iterate n next (slice_index next k)))
-      go false t o v rest =
-          let here : slice_index next k ≡ k = tells.told name k u ∙ ap (λ b. if b then next_at ways k (lead_of name statements) else k) t in
-          ap (λ b. is_outside (find_named (followed ways statements n (stay_or name (if b then lead_of name statements else None))) ways)) t
-          ∙ rest name k u ∙ ap (λ j. is_outside (way_at ways (iterate n next j))) (sym here)
-      go true t None v rest =
-          let here : slice_index next k ≡ k = tells.told name k u ∙ ap (λ b. if b then next_at ways k (lead_of name statements) else k) t ∙ ap (next_at ways k) v in
-          ap (λ b. is_outside (find_named (followed ways statements n (stay_or name (if b then lead_of name statements else None))) ways)) t
-          ∙ ap (λ o. is_outside (find_named (followed ways statements n (stay_or name o)) ways)) v
-          ∙ rest name k u ∙ ap (λ j. is_outside (way_at ways (iterate n next j))) (sym here)
-      go true t (Some q) v rest = at (place_in q ways) refl
-        where
-          leads-on : is_outside (find_named (followed ways statements n (stay_or name (next_of ways statements name))) ways) ≡ is_outside (find_named (followed ways statements n q) ways)
-          leads-on =
-              ap (λ b. is_outside (find_named (followed ways statements n (stay_or name (if b then lead_of name statements else None))) ways)) t
-              ∙ ap (λ o. is_outside (find_named (followed ways statements n (stay_or name o)) ways)) v
+  -- What is said of each declared name as of its place, and is `nothing` of the others and of names that lead on.
+  pub record IsSaid {X : Type 0} (nothing : X) (of_name : List ℕ → X) (of_place : ℕ → X) : Type 0 where
+    pub placed : (name : List ℕ) (k : ℕ) → place_in name ways ≡ Some k → of_name name ≡ of_place k
+    pub undeclared : (name : List ℕ) → place_in name ways ≡ None → of_name name ≡ nothing
+    pub leads_on : (name : List ℕ) → is_followed (find_named name ways) ≡ true → of_name name ≡ nothing
 
-          next-is : slice_index next k ≡ unwrap_or (place_in q ways) k
-          next-is = tells.told name k u ∙ ap (λ b. if b then next_at ways k (lead_of name statements) else k) t ∙ ap (next_at ways k) v
+  module _ {X : Type 0} (nothing : X) (of_name : List ℕ → X) (of_place : ℕ → X) (said : IsSaid nothing of_name of_place) where
+    -- it is the same of where n steps from a name lead, and of where n steps from the name's place do
+    follows : (next : List ℕ) → TellsNext ways statements next → (n : ℕ) (name : List ℕ) (k : ℕ) → place_in name ways ≡ Some k → of_name (followed ways statements n name) ≡ of_place (iterate n next k)
+    follows next tells zero name k u = said.placed name k u
+    follows next tells (suc n) name k u = go (is_followed (find_named name ways)) refl (lead_of name statements) refl (follows next tells n)
+      where
+        go : (b : Bool) → is_followed (find_named name ways) ≡ b → (o : Option (List ℕ)) → lead_of name statements ≡ o → ((q : List ℕ) (j : ℕ) → place_in q ways ≡ Some j → of_name (followed ways statements n q) ≡ of_place (iterate n next j)) → of_name (followed ways statements n (stay_or name (next_of ways statements name))) ≡ of_place (iterate n next (slice_index next k))
+        go false t o v rest =
+            let here : slice_index next k ≡ k = tells.told name k u ∙ ap (λ b. if b then next_at ways k (lead_of name statements) else k) t in
+            ap (λ b. of_name (followed ways statements n (stay_or name (if b then lead_of name statements else None)))) t
+            ∙ rest name k u ∙ ap (λ j. of_place (iterate n next j)) (sym here)
+        go true t None v rest =
+            let here : slice_index next k ≡ k = tells.told name k u ∙ ap (λ b. if b then next_at ways k (lead_of name statements) else k) t ∙ ap (next_at ways k) v in
+            ap (λ b. of_name (followed ways statements n (stay_or name (if b then lead_of name statements else None)))) t
+            ∙ ap (λ o. of_name (followed ways statements n (stay_or name o))) v
+            ∙ rest name k u ∙ ap (λ j. of_place (iterate n next j)) (sym here)
+        go true t (Some q) v rest = at (place_in q ways) refl
+          where
+            leads-on : of_name (followed ways statements n (stay_or name (next_of ways statements name))) ≡ of_name (followed ways statements n q)
+            leads-on =
+                ap (λ b. of_name (followed ways statements n (stay_or name (if b then lead_of name statements else None)))) t
+                ∙ ap (λ o. of_name (followed ways statements n (stay_or name o))) v
 
-          at : (p : Option ℕ) → place_in q ways ≡ p → is_outside (find_named (followed ways statements n (stay_or name (next_of ways statements name))) ways) ≡ is_outside (way_at ways (iterate n next (slice_index next k)))
-          at (Some j) w = leads-on ∙ rest q j w ∙ ap (λ i. is_outside (way_at ways (iterate n next i))) (sym (next-is ∙ ap (λ p. unwrap_or p k) w))
-          at None w =
-              let here : slice_index next k ≡ k = next-is ∙ ap (λ p. unwrap_or p k) w in
-              let gone : find_named q ways ≡ None = way-placed q ways w in
-              leads-on
-              ∙ ap (λ l. is_outside (find_named l ways)) (undeclared-stays n q gone)
-              ∙ ap is_outside gone
-              ∙ sym (ap (λ i. is_outside (way_at ways (iterate n next i))) here
-              ∙ ap (λ i. is_outside (way_at ways i)) (stays n next k here)
-              ∙ ap is_outside (sym (placed-way name ways k u))
-              ∙ followed-not-outside (find_named name ways) t)
+            next-is : slice_index next k ≡ unwrap_or (place_in q ways) k
+            next-is = tells.told name k u ∙ ap (λ b. if b then next_at ways k (lead_of name statements) else k) t ∙ ap (next_at ways k) v
+
+            at : (p : Option ℕ) → place_in q ways ≡ p → of_name (followed ways statements n (stay_or name (next_of ways statements name))) ≡ of_place (iterate n next (slice_index next k))
+            at (Some j) w = leads-on ∙ rest q j w ∙ ap (λ i. of_place (iterate n next i)) (sym (next-is ∙ ap (λ p. unwrap_or p k) w))
+            at None w =
+                let here : slice_index next k ≡ k = next-is ∙ ap (λ p. unwrap_or p k) w in
+                leads-on
+                ∙ ap of_name (undeclared-stays n q (way-placed q ways w))
+                ∙ said.undeclared q w
+                ∙ sym (said.leads_on name t)
+                ∙ said.placed name k u
+                ∙ sym (ap (λ i. of_place (iterate n next i)) here ∙ ap of_place (stays n next k here))
+
+    -- a list of what is said of the places that are reached tells it of where names lead
+    pub reached-told : (next reached : List ℕ) (told : List X) → TellsNext ways statements next → Reaches (length ways) next reached → told ≡ map of_place reached → (name : List ℕ) (k : ℕ) → place_in name ways ≡ Some k → get_or told k nothing ≡ of_name (followed ways statements (length ways) name)
+    reached-told next reached told tells reaches is name k u =
+        let lt : k < length reached = omega (arith, place-within name ways k u, reaches.places.length_is, tells.places.length_is) in
+        let below : k < length next = omega (arith, place-within name ways k u, tells.places.length_is) in
+        ap (λ l. get_or l k nothing) is
+        ∙ get_or-map of_place reached k 0 nothing lt
+        ∙ ap of_place (reaches.steps k below)
+        ∙ sym (follows next tells (length ways) name k u)
+
+    pub undeclared-told : (name : List ℕ) → place_in name ways ≡ None → nothing ≡ of_name (followed ways statements (length ways) name)
+    undeclared-told name u = sym (ap of_name (undeclared-stays (length ways) name (way-placed name ways u)) ∙ said.undeclared name u)
+
+  outside-said : IsSaid false (λ name. is_outside (find_named name ways)) (λ place. is_outside (way_at ways place))
+  outside-said = record {
+    placed = λ name k u. ap is_outside (placed-way name ways k u);
+    undeclared = λ name u. ap is_outside (way-placed name ways u);
+    leads_on = λ name t. followed-not-outside (find_named name ways) t;
+  }
 
   -- the flags of the places that are reached tell which names lead to an input port
   pub traced : (next reached : List ℕ) (flags : List Bool) → TellsNext ways statements next → Reaches (length ways) next reached → flags ≡ map (λ (place : ℕ). is_outside (way_at ways place)) reached → (name : List ℕ) → flag_at flags (place_in name ways) ≡ leads ways statements name
   traced next reached flags tells reaches is name = go (place_in name ways) refl
     where
       go : (p : Option ℕ) → place_in name ways ≡ p → flag_at flags (place_in name ways) ≡ leads ways statements name
-      go None u =
-          let gone : find_named name ways ≡ None = way-placed name ways u in
-          ap (flag_at flags) u ∙ sym (ap (λ l. is_outside (find_named l ways)) (undeclared-stays (length ways) name gone) ∙ ap is_outside gone)
-      go (Some k) u =
-          let lt : k < length reached = omega (arith, place-within name ways k u, reaches.places.length_is, tells.places.length_is) in
-          let below : k < length next = omega (arith, place-within name ways k u, tells.places.length_is) in
-          ap (flag_at flags) u
-          ∙ ap (λ l. get_or l k false) is
-          ∙ get_or-map (λ (place : ℕ). is_outside (way_at ways place)) reached k 0 false lt
-          ∙ ap (λ j. is_outside (way_at ways j)) (reaches.steps k below)
-          ∙ sym (follows next tells (length ways) name k u)
+      go None u = ap (flag_at flags) u ∙ undeclared-told false (λ name. is_outside (find_named name ways)) (λ place. is_outside (way_at ways place)) outside-said name u
+      go (Some k) u = ap (flag_at flags) u ∙ reached-told false (λ name. is_outside (find_named name ways)) (λ place. is_outside (way_at ways place)) outside-said next reached flags tells reaches is name k u

@@ -1,6 +1,6 @@
 -- What is seen of a module depends only on its circuit, its place and its flags.
 use Rattle.std.proofs.Common.{◌≡◌, ℕ, Bool, List, ◌++◌, map, ap, ◌∙◌}
-use Rattle.std.specs.Str.{bytes_eq}
+use Rattle.std.specs.List.{flat_map}
 use Rattle.gg_ast.specs.declared.module.Port.{Port}
 use Rattle.gg_ast.specs.declared.statement.Stmt.{Stmt}
 use Rattle.gg_ast.specs.Tree.{CircuitTree, ModuleTree}
@@ -34,12 +34,11 @@ names-at k circuit number names n =
     ap (λ (c : CircuitTree). names_in (module_at c.modules k.number)) names ∙ ap (λ i. names_in (module_at circuit.modules i)) n
 
 module _ (circuit : CircuitTree) (m : ModuleTree) (traced : List ℕ → Bool) (ports : List Port) (statements : List Stmt) (t : traced ≡ leads_to_input m) (p : ports ≡ m.ports) (s : statements ≡ m.statements) where
-  pub faults-same : (is_top : Bool) → is_top ≡ bytes_eq circuit.name m.name → along (port_faults is_top) ports ++ along (faults_of (scope_of circuit.modules m) traced (map port_own ports)) statements ≡ faults_of_module circuit m
-  faults-same is_top top =
-      ap (λ b. along (port_faults b) ports ++ along (faults_of (scope_of circuit.modules m) traced (map port_own ports)) statements) top
-      ∙ ap (λ f. along (port_faults (bytes_eq circuit.name m.name)) ports ++ along (faults_of (scope_of circuit.modules m) f (map port_own ports)) statements) t
-      ∙ ap (λ l. along (port_faults (bytes_eq circuit.name m.name)) l ++ along (faults_of (scope_of circuit.modules m) (leads_to_input m) (map port_own l)) statements) p
-      ∙ ap (λ l. along (port_faults (bytes_eq circuit.name m.name)) m.ports ++ along (faults_of (scope_of circuit.modules m) (leads_to_input m) (map port_own m.ports)) l) s
+  pub faults-same : flat_map port_faults ports ++ along (faults_of (scope_of circuit.modules m) traced (map port_own ports)) statements ≡ faults_of_module circuit.modules m
+  faults-same =
+      ap (λ f. flat_map port_faults ports ++ along (faults_of (scope_of circuit.modules m) f (map port_own ports)) statements) t
+      ∙ ap (λ l. flat_map port_faults l ++ along (faults_of (scope_of circuit.modules m) (leads_to_input m) (map port_own l)) statements) p
+      ∙ ap (λ l. flat_map port_faults m.ports ++ along (faults_of (scope_of circuit.modules m) (leads_to_input m) (map port_own m.ports)) l) s
 
   pub known-same : known_after (scope_of circuit.modules m) traced (map port_own ports) statements ≡ known_in circuit.modules m
   known-same =

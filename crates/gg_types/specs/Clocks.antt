@@ -1,5 +1,5 @@
 -- Where a Clock comes from: through the drivers of wires and nodes to an input port (FIRRTL Specification, "Clock Type").
-use Rattle.std.specs.Prelude.{ℕ, zero, suc, Bool, true, false, List, [], ◌∷◌, ◌++◌, map, flat_map, Option, Some, None, length, if◌then◌else◌}
+use Rattle.std.specs.Prelude.{ℕ, zero, suc, Bool, true, false, ◌&&◌, List, [], ◌∷◌, ◌++◌, map, filter, flat_map, Option, Some, None, length, if◌then◌else◌}
 use Rattle.std.specs.Str.{bytes_eq}
 use Rattle.gg_ast.specs.declared.expression.Reference.{Reference}
 use Rattle.gg_ast.specs.declared.expression.Reference.TheVariants as references
@@ -14,6 +14,7 @@ use Rattle.gg_ast.specs.Tree.{ModuleTree}
 use Rattle.gg_types.specs.Named.{find_named}
 use Rattle.gg_types.specs.declared.clocks.Way.{Way}
 use Rattle.gg_types.specs.declared.clocks.Way.TheVariants.{FromOutside, FromDriver, Nowhere}
+use Rattle.gg_types.specs.Sorts.{is_clock}
 
 -- ---- where the names of a module get a Clock from
 
@@ -124,3 +125,48 @@ leads ways statements name = is_outside (find_named (followed ways statements (l
 
 abbrev pub leads_to_input : ModuleTree → List ℕ → Bool
 leads_to_input m name = leads (ways_of m) m.statements name
+
+-- ---- which Clock input
+
+abbrev pub is_input : Direction → Bool
+is_input directions.Input = true
+is_input directions.Output = false
+
+abbrev pub is_clock_input : Port → Bool
+is_clock_input port = is_clock port.ty && is_input port.direction
+
+-- the names of the Clock inputs, in port order
+abbrev pub clock_inputs : List Port → List (List ℕ)
+clock_inputs ports = map (λ port. port.name) (filter is_clock_input ports)
+
+-- how many Clock inputs there are with this port, and its number among them if it is one
+abbrev pub counted_clock : ℕ → Port → ℕ
+counted_clock count port = if is_clock_input port then suc count else count
+
+abbrev pub clock_number : ℕ → Port → Option ℕ
+clock_number count port = if is_clock_input port then Some count else None
+
+-- the number of the first port of this name among the Clock inputs, which are counted from `count` on
+abbrev pub clock_from : ℕ → List Port → List ℕ → Option ℕ
+clock_from count [] name = None
+clock_from count (p ∷ ps) name = if bytes_eq name p.name then clock_number count p else clock_from (counted_clock count p) ps name
+
+-- the same for each port
+abbrev pub clock_numbers : ℕ → List Port → List (Option ℕ)
+clock_numbers count [] = []
+clock_numbers count (p ∷ ps) = clock_number count p ∷ clock_numbers (counted_clock count p) ps
+
+-- The number of the port of this name among the Clock inputs, in port order from 0; none if it isn't one.
+abbrev pub clock_named : List Port → List ℕ → Option ℕ
+clock_named ports name = clock_from 0 ports name
+
+-- the name that a name leads to through the drivers of wires and nodes
+abbrev pub root_of : ModuleTree → List ℕ → List ℕ
+root_of m name = followed (ways_of m) m.statements (length (ways_of m)) name
+
+-- The Clock input that a reference follows, by its number among those of the module; none if it follows none. A port of
+-- an instance and a field of a memory follow none.
+abbrev pub clock_followed : ModuleTree → Reference → Option ℕ
+clock_followed m (references.Local name) = clock_named m.ports (root_of m name)
+clock_followed m (references.PortOf instance port) = None
+clock_followed m (references.FieldOf memory port field) = None

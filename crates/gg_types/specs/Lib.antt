@@ -1,6 +1,7 @@
 pub mod Literal
 pub mod Sorts
 pub mod Named
+pub mod Fields
 pub mod Owned
 pub mod Clocks
 pub mod Places

@@ -24,6 +24,11 @@ flag_at flags (Some place) = slice_index_or flags place false
 abbrev pub flagged : List (List ℕ) → List Bool → List ℕ → Bool
 flagged names flags name = flag_at flags (place_of name names)
 
+-- the number at a place, if there is one
+abbrev pub number_at : List (Option ℕ) → Option ℕ → Option ℕ
+number_at numbers None = None
+number_at numbers (Some place) = slice_index_or numbers place None
+
 -- these names are the next after the first `count`
 abbrev pub AreNext : List (List ℕ) → ℕ → List (List ℕ) → Type 0
 AreNext names count more = take (count + length more) names ≡ take count names ++ more

@@ -7,13 +7,12 @@ use Rattle.gg_ast.specs.declared.expression.Reference.{Reference}
 use Rattle.gg_ast.specs.declared.module.GroundType.{GroundType}
 use Rattle.gg_ast.specs.declared.module.Port.{Port}
 use Rattle.gg_ast.specs.declared.statement.Field.{Field}
-use Rattle.gg_ast.specs.declared.statement.MemoryField.{MemoryField}
-use Rattle.gg_ast.specs.declared.statement.MemoryField.TheVariants as field
 use Rattle.gg_flat.specs.Memory.{address_width}
 use Rattle.gg_names.specs.declared.role.Role.{Role}
 use Rattle.gg_names.specs.declared.role.Role.TheVariants as roles
 use Rattle.gg_names.specs.declared.role.PortField.{PortField}
 use Rattle.gg_names.specs.declared.role.PortField.TheVariants.{Addr, En, Clk, Data, Mask}
+use Rattle.gg_types.specs.Fields.{first_said, type_said, depth_said}
 use Rattle.gg_types.specs.Named.{find_named}
 use Rattle.gg_names.specs.Scope.{first_name}
 use Rattle.gg_names.specs.Namespace.{meaning_of}
@@ -24,35 +23,6 @@ use Rattle.gg_types.specs.declared.sort.Own.TheVariants as own
 use Rattle.gg_types.specs.Sorts.{sort_of, bits}
 
 -- ---- memories
-
--- what an earlier field says counts before what later ones say
-abbrev pub word_type_by : MemoryField → Option GroundType → Option GroundType
-word_type_by (field.DataType ty) later = Some ty
-word_type_by (field.Depth n) later = later
-word_type_by (field.ReadLatency n) later = later
-word_type_by (field.WriteLatency n) later = later
-word_type_by (field.Readers names) later = later
-word_type_by (field.Writers names) later = later
-word_type_by (field.ReadUnderWrite word) later = later
-
--- the type of the words, `data-type`; none where it is missing (F8)
-abbrev pub word_type : List Field → Option GroundType
-word_type [] = None
-word_type (f ∷ fs) = word_type_by f.kind (word_type fs)
-
-abbrev pub depth_by : MemoryField → Option ℕ → Option ℕ
-depth_by (field.DataType ty) later = later
-depth_by (field.Depth n) later = Some n
-depth_by (field.ReadLatency n) later = later
-depth_by (field.WriteLatency n) later = later
-depth_by (field.Readers names) later = later
-depth_by (field.Writers names) later = later
-depth_by (field.ReadUnderWrite word) later = later
-
--- how many words there are, `depth`; none where it is missing (F8)
-abbrev pub depth_of : List Field → Option ℕ
-depth_of [] = None
-depth_of (f ∷ fs) = depth_by f.kind (depth_of fs)
 
 -- an address can name each word; `en` and `mask` are one bit, `clk` is a Clock, `data` is a word
 abbrev pub field_sort : Option GroundType → Option ℕ → PortField → Option Sort
@@ -70,7 +40,7 @@ port_own port = (port.name, Some (own.Single (sort_of port.ty)))
 
 -- a memory
 abbrev pub memory_own : List Field → Own
-memory_own fields = own.Memory (word_type fields) (depth_of fields)
+memory_own fields = own.Memory (first_said type_said fields) (first_said depth_said fields)
 
 abbrev pub single : Own → Option Sort
 single (own.Single s) = Some s

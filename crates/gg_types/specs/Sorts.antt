@@ -1,4 +1,5 @@
 -- Types as they are written (FIRRTL Specification, "Ground Types").
+use Rattle.std.specs.Prelude.{Bool, true, false}
 use Rattle.gg_bits.specs.declared.types.Kind.TheVariants as kind
 use Rattle.gg_bits.specs.Shape.{Shape}
 use Rattle.gg_ast.specs.declared.module.GroundType.{GroundType}
@@ -15,3 +16,8 @@ sort_of types.Clock = Clock
 -- the ground type of a shape
 abbrev pub bits : Shape → Sort
 bits s = Bits s.kind s.width
+
+abbrev pub is_clock : GroundType → Bool
+is_clock (types.UInt w) = false
+is_clock (types.SInt w) = false
+is_clock types.Clock = true

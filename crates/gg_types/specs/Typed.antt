@@ -1,7 +1,8 @@
 -- What `types` returns: a circuit without faults, with an order of its modules.
 -- Sources: FIRRTL Specification, "Ground Types", "Instances".
-use Rattle.std.specs.Prelude.{◌≡◌, ℕ, ◌<◌, List, [], length, slice_index_or}
+use Rattle.std.specs.Prelude.{◌≡◌, ℕ, ◌<◌, List, [], Option, length, slice_index_or}
 use Rattle.gg_bits.specs.Shape.{shape}
+use Rattle.gg_ast.specs.Places.{place_of}
 use Rattle.gg_ast.specs.Tree.{CircuitTree, ModuleTree}
 use Rattle.gg_names.specs.Modules.{module_at, Holds}
 use Rattle.gg_names.specs.Namespace.{names_in}
@@ -12,7 +13,8 @@ use Rattle.gg_types.specs.declared.sort.Sort.{Sort}
 use Rattle.gg_types.specs.declared.sort.Sort.TheVariants as sorts
 use Rattle.gg_types.specs.declared.sort.Typing.{Typing}
 use Rattle.gg_types.specs.declared.sort.Typing.TheVariants.{Ground, Clock}
-use Rattle.gg_types.specs.Named.{owned}
+use Rattle.gg_types.specs.Clocks.{clock_named, root_of}
+use Rattle.gg_types.specs.Named.{number_at, owned}
 use Rattle.gg_types.specs.Sorts.{bits}
 use Rattle.gg_types.specs.Types.{known_in, type_faults}
 
@@ -36,10 +38,20 @@ pub record TellModules (modules : List ModuleTree) (n : ℕ) (lists : List (List
   pub count : length lists ≡ n
   pub each : (k : ℕ) → k < n → TellsOwn modules (module_at modules k) (slice_index_or lists k [])
 
+-- the list has, for each declared name of a module, the number of the Clock input that the name leads to
+abbrev pub TellsClocks : ModuleTree → List (Option ℕ) → Type 0
+TellsClocks m clocks = (name : List ℕ) → number_at clocks (place_of name (names_in m)) ≡ clock_named m.ports (root_of m name)
+
+-- the same, for each of the first n modules
+pub record TellAllClocks (modules : List ModuleTree) (n : ℕ) (lists : List (List (Option ℕ))) : Type 0 where
+  pub count : length lists ≡ n
+  pub each : (k : ℕ) → k < n → TellsClocks (module_at modules k) (slice_index_or lists k [])
+
 -- The circuit has none of the faults F1 to F14. The order has each of its modules after all that it has instances of.
--- The lists have the type data of its names.
-pub record IsTyped (circuit : CircuitTree) (order : List ℕ) (lists : List (List Own)) : Type 0 where
+-- The lists have the type data of its names, and the Clock inputs that they lead to.
+pub record IsTyped (circuit : CircuitTree) (order : List ℕ) (lists : List (List Own)) (clocks : List (List (Option ℕ))) : Type 0 where
   pub shaped : IsShaped circuit
   pub faultless : type_faults circuit ≡ []
   pub ordered : IsOrderOf (Holds circuit.modules) (length circuit.modules) order
   pub tells : TellModules circuit.modules (length circuit.modules) lists
+  pub clocked : TellAllClocks circuit.modules (length circuit.modules) clocks

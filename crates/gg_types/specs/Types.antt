@@ -1,9 +1,8 @@
 -- The type of each expression and the faults of types, in the order of the text.
 -- Sources: FIRRTL Specification, "Ground Types" (F10), "Primitive Operations" (F9 to F11), "Expressions" (F12), "Connects",
 -- "Registers", "Memories" (F9, F13), "Clock Type" (F14).
-use Rattle.std.specs.Prelude.{ℕ, Bool, true, false, not, ◌&&◌, ◌||◌, List, [], ◌∷◌, ◌++◌, Option, Some, None, Result, Ok, Err, map, nat_lt, nat_le, is_some, option_map, if◌then◌else◌}
-use Rattle.std.specs.List.{list_any, flat_map}
-use Rattle.std.specs.Str.{bytes_eq}
+use Rattle.std.specs.Prelude.{ℕ, Bool, true, false, not, ◌&&◌, List, [], ◌∷◌, ◌++◌, Option, Some, None, Result, Ok, Err, map, nat_lt, nat_le, is_some, option_map, if◌then◌else◌}
+use Rattle.std.specs.List.{flat_map}
 use Rattle.gg_bits.specs.declared.types.Bad.{Bad}
 use Rattle.gg_bits.specs.declared.types.Bad.TheVariants as bads
 use Rattle.gg_bits.specs.declared.types.Kind.{Kind}
@@ -12,8 +11,6 @@ use Rattle.gg_bits.specs.ResultType.{type1, type2, type_const, type_mux, is_cond
 use Rattle.gg_ast.specs.declared.expression.Reference.{Reference}
 use Rattle.gg_ast.specs.declared.expression.Reference.TheVariants as references
 use Rattle.gg_ast.specs.declared.expression.Literal.{Literal}
-use Rattle.gg_ast.specs.declared.module.Direction.{Direction}
-use Rattle.gg_ast.specs.declared.module.Direction.TheVariants.{Input, Output}
 use Rattle.gg_ast.specs.declared.module.GroundType.{GroundType}
 use Rattle.gg_ast.specs.declared.module.GroundType.TheVariants as types
 use Rattle.gg_ast.specs.declared.module.Port.{Port}
@@ -38,13 +35,13 @@ use Rattle.gg_names.specs.Scope.{written}
 use Rattle.gg_names.specs.Namespace.{scope_of}
 use Rattle.gg_shape.specs.Faults.{fault_if}
 use Rattle.gg_types.specs.Literal.{literal_fits}
-use Rattle.gg_types.specs.Clocks.{leads_to_input}
+use Rattle.gg_types.specs.Clocks.{is_input, leads_to_input}
 use Rattle.gg_types.specs.declared.sort.Sort.{Sort}
 use Rattle.gg_types.specs.declared.sort.Sort.TheVariants.{Bits, Clock}
 use Rattle.gg_types.specs.declared.sort.Own.{Own}
 use Rattle.gg_types.specs.declared.sort.Own.TheVariants as own
 use Rattle.gg_types.specs.Owned.{port_own, memory_own, known_entry, sort_of_reference}
-use Rattle.gg_types.specs.Sorts.{sort_of, bits}
+use Rattle.gg_types.specs.Sorts.{is_clock, sort_of, bits}
 
 -- ---- references
 
@@ -298,43 +295,26 @@ module _ (roles : List (Reference × Role)) (traced : List ℕ → Bool) where
 
 -- ---- ports
 
-abbrev pub is_clock : GroundType → Bool
-is_clock (types.UInt w) = false
-is_clock (types.SInt w) = false
-is_clock types.Clock = true
-
-abbrev pub is_input : Direction → Bool
-is_input Input = true
-is_input Output = false
-
-abbrev pub is_clock_input : Port → Bool
-is_clock_input port = is_clock port.ty && is_input port.direction
-
--- a port of type Clock is an input, and in the top no earlier port is such an input (F14); a width is 1 to 128 (F10)
-abbrev pub port_judged : Bool → Port → List Fault
-port_judged is_taken port =
+-- a port of type Clock is an input (F14); a width is 1 to 128 (F10)
+abbrev pub port_faults : Port → List Fault
+port_faults port =
     if is_clock port.ty
-    then fault_if (not (is_input port.direction) || is_taken) (WrongClock port.line port.name)
+    then fault_if (not (is_input port.direction)) (WrongClock port.line port.name)
     else width_faults port.line port.ty
-
-abbrev pub port_faults : Bool → List Port → Port → List Fault
-port_faults is_top before port = port_judged (is_top && list_any is_clock_input before) port
 
 -- ---- all of them
 
-abbrev pub module_type_faults : Bool → List (Reference × Role) → (List ℕ → Bool) → ModuleTree → List Fault
-module_type_faults is_top roles traced m =
-    along (port_faults is_top) m.ports ++ along (faults_of roles traced (map port_own m.ports)) m.statements
+abbrev pub module_type_faults : List (Reference × Role) → (List ℕ → Bool) → ModuleTree → List Fault
+module_type_faults roles traced m = flat_map port_faults m.ports ++ along (faults_of roles traced (map port_own m.ports)) m.statements
 
--- those of one of these modules; the top is the module with the circuit's name
-abbrev pub faults_of_module : CircuitTree → ModuleTree → List Fault
-faults_of_module circuit m =
-    module_type_faults (bytes_eq circuit.name m.name) (scope_of circuit.modules m) (leads_to_input m) m
+-- those of one of these modules
+abbrev pub faults_of_module : List ModuleTree → ModuleTree → List Fault
+faults_of_module modules m = module_type_faults (scope_of modules m) (leads_to_input m) m
 
 -- The faults of F9 to F14 in the order of the text, module by module, whether the top reaches them or not. Also F3 for
 -- a name that is not declared; a circuit without faults of shape has none.
 abbrev pub type_faults : CircuitTree → List Fault
-type_faults circuit = flat_map (faults_of_module circuit) circuit.modules
+type_faults circuit = flat_map (faults_of_module circuit.modules) circuit.modules
 
 -- ---- types of a whole module
 

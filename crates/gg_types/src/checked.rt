@@ -3,6 +3,7 @@ ghost use Rattle.std.specs.Prelude.{◌≡◌, ◌<◌, [], length};
 ghost use Rattle.std.specs.Option.{option_map};
 ghost use Rattle.gg_names.specs.Modules.{module_at, Holds};
 ghost use Rattle.gg_shape.specs.Judged.{IsShaped};
+ghost use Rattle.gg_types.specs.Clocks.{clock_followed};
 ghost use Rattle.gg_types.specs.Typed.{sort};
 ghost use Rattle.gg_types.specs.Types.{sort_named, type_faults};
 ghost use Rattle.gg_walk.specs.Graph.{IsOrderOf};
@@ -22,6 +23,8 @@ pub struct Typed<'a> {
     pub(crate) names: Namespace<'a>,
     // For each module, by its place, the type data of its names.
     pub(crate) own: Vec<Items<Own>>,
+    // For each module, by its place, the number of the Clock input that each of its names leads to.
+    pub(crate) clocks: Vec<Items<Option<u32>>>,
     pub(crate) order: Vec<u32>,
 }
 
@@ -36,7 +39,7 @@ impl<'a> Model for Typed<'a> {
 
     ghost view = { λ t. record { circuit = t.names; order = t.order.items } };
 
-    ghost invariant = { λ t. IsTyped t.names t.order.items t.own.items };
+    ghost invariant = { λ t. IsTyped t.names t.order.items t.own.items t.clocks.items };
 }
 
 impl<'a> Typed<'a> {
@@ -66,6 +69,24 @@ impl<'a> Typed<'a> {
         match sort_of_name(&self.names, number, own, reference)? {
             Sort::Bits(kind, width) => Some(Typing::Ground(Ty::new(kind, width))),
             Sort::Clock => Some(Typing::Clock),
+        }
+    }
+
+    /// The Clock input that a reference follows in the module at this place, through the drivers of wires and nodes: its
+    /// number among the module's Clock inputs, in port order from 0. None if it follows none.
+    pub fn clock(&self, number: u32, reference: &Reference) -> Option<u32>
+        requires there { number < length self.now.circuit.modules }
+        ensures { result ≡ clock_followed (module_at self.now.circuit.modules number) reference.now }
+    {
+        match reference {
+            Reference::Local(name) => {
+                let place = self.names.place(number, name)?;
+                match self.clocks[number as usize].as_slice().get(place) {
+                    Some(clock) => *clock,
+                    None => None,
+                }
+            }
+            Reference::PortOf(_, _) | Reference::FieldOf(_, _, _) => None,
         }
     }
 }

@@ -1,19 +1,17 @@
 //! `types`: the first fault of a circuit's types, or the circuit with its names' types.
 ghost use Rattle.std.specs.Prelude.{◌≡◌, ◌<◌, ◌++◌, ◌∷◌, ℕ, List, [], IfOk, length, flat_map, take};
-ghost use Rattle.std.specs.Str.{bytes_eq};
-ghost use Rattle.std.specs.List.{All};
 ghost use Rattle.gg_names.specs.Modules.{module_at, Holds};
 ghost use Rattle.gg_names.specs.Namespace.{scope_of};
 ghost use Rattle.gg_shape.specs.Faults.{Answers};
 ghost use Rattle.gg_shape.specs.Judged.{IsShaped};
 ghost use Rattle.gg_shape.specs.Rings.{HasNoRing};
 ghost use Rattle.gg_types.specs.Clocks.{leads_to_input};
-ghost use Rattle.gg_types.specs.Typed.{TellsOwn, TellModules};
+ghost use Rattle.gg_types.specs.Typed.{TellsOwn, TellModules, TellsClocks, TellAllClocks};
 ghost use Rattle.gg_types.specs.Types.{module_type_faults, faults_of_module, type_faults};
 ghost use Rattle.gg_walk.specs.Graph.{IsOrderOf, IsRing};
 
 use crate::checked::Typed;
-use crate::clocks::trace;
+use crate::clocks::{Traces, trace};
 use crate::known::Known;
 use crate::module::judge_all;
 use crate::sort::Own;
@@ -57,9 +55,14 @@ pub fn typed<'a>(alloc: Global, names: Namespace<'a>) -> Result<Typed<'a>, TypeF
     ensures answers { Answers (type_faults names.entry) result }
     ensures circuit { IfOk result (λ t. t.circuit ≡ names.entry) }
 {
-    let own = judge_modules(alloc, &names)?;
+    let Tables { own, clocks } = judge_modules(alloc, &names)?;
     let order = module_order(alloc, &names)?;
-    Ok(Typed { names, own, order })
+    Ok(Typed {
+        names,
+        own,
+        clocks,
+        order,
+    })
 }
 
 // The order of the modules, each after all that it has instances of.
@@ -75,43 +78,67 @@ fn module_order(alloc: Global, names: &Namespace) -> Result<Vec<u32>, Refusal>
     }
 }
 
-// Returns the type data of the modules' names, or fails with the first fault in the order of the modules.
-fn judge_modules(alloc: Global, names: &Namespace) -> Result<Vec<Items<Own>>, Refusal>
+// Of the names of each module, by its place, the type data, and the Clock inputs that they lead to.
+#[derive(Drop)]
+struct Tables {
+    own: Vec<Items<Own>>,
+    clocks: Vec<Items<Option<u32>>>,
+}
+
+// The same of one module.
+#[derive(Drop)]
+struct Judged {
+    own: Vec<Own>,
+    clocks: Vec<Option<u32>>,
+}
+
+// Returns what is known of the modules' names, or fails with the first fault in the order of the modules.
+fn judge_modules(alloc: Global, names: &Namespace) -> Result<Tables, Refusal>
     ensures answers { Answers (type_faults names.now) result }
-    ensures own { IfOk result (λ lists. TellModules names.now.modules (length names.now.modules) lists.items) }
+    ensures own { IfOk result (λ tables. TellModules names.now.modules (length names.now.modules) tables.own.items) }
+    ensures clocks { IfOk result (λ tables. TellAllClocks names.now.modules (length names.now.modules) tables.clocks.items) }
 {
-    let mut lists = Vec::new(alloc);
+    let mut own = Vec::new(alloc);
+    let mut clocks = Vec::new(alloc);
     for number in 0..names.node_count() {
-        let own = judge_module(alloc, names, number)?;
-        add_list(&mut lists, own)?;
+        let Judged {
+            own: types,
+            clocks: numbers,
+        } = judge_module(alloc, names, number)?;
+        add_list(&mut own, types)?;
+        add_list(&mut clocks, numbers)?;
     }
-    Ok(lists)
+    Ok(Tables { own, clocks })
 }
 
 // Adds a list as the last.
-fn add_list(lists: &mut Vec<Items<Own>>, own: Vec<Own>) -> Result<(), AllocError>
-    ensures { IfOk result (λ _. lists.new.items ≡ lists.old.items ++ own.items ∷ []) }
+fn add_list<T: Drop>(lists: &mut Vec<Items<T>>, list: Vec<T>) -> Result<(), AllocError>
+    ensures { IfOk result (λ _. lists.new.items ≡ lists.old.items ++ list.items ∷ []) }
 {
-    lists.push(Items::from(own))?;
+    lists.push(Items::from(list))?;
     Ok(())
 }
 
-// Returns the type data of a module's names, or fails with its first fault.
-fn judge_module(alloc: Global, names: &Namespace, number: u32) -> Result<Vec<Own>, Refusal>
+// Returns what is known of a module's names, or fails with its first fault.
+fn judge_module(alloc: Global, names: &Namespace, number: u32) -> Result<Judged, Refusal>
     requires { number < length names.now.modules }
-    ensures answers { Answers (faults_of_module names.now (module_at names.now.modules number)) result }
-    ensures own { IfOk result (λ own. TellsOwn names.now.modules (module_at names.now.modules number) own.items) }
+    ensures answers { Answers (faults_of_module names.now.modules (module_at names.now.modules number)) result }
+    ensures own { IfOk result (λ judged. TellsOwn names.now.modules (module_at names.now.modules number) judged.own.items) }
+    ensures clocks { IfOk result (λ judged. TellsClocks (module_at names.now.modules number) judged.clocks.items) }
 {
     let here = module_of(names, number);
-    let is_top = names.circuit().name().as_str() == here.name().as_str();
+    let Traces { flags, clocks } = trace(alloc, names, number)?;
     let mut known = Known {
         names,
         number,
-        traced: trace(alloc, names, number)?,
+        traced: flags,
         own: Vec::new(alloc),
     };
-    judge_all(alloc, &mut known, is_top, here.ports(), here.statements())?;
-    Ok(known.own)
+    judge_all(alloc, &mut known, here.ports(), here.statements())?;
+    Ok(Judged {
+        own: known.own,
+        clocks,
+    })
 }
 
 /// The module at a place.

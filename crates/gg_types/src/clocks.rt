@@ -1,4 +1,4 @@
-//! F14: which names lead to an input port, through the drivers of wires and nodes.
+//! Where names lead, through the drivers of wires and nodes: whether to an input port (F14), and to which Clock input.
 ghost use Rattle.std.specs.Prelude.{◌≡◌, ◌<◌, ◌+◌, ◌*◌, ◌≤◌, ◌-◌, ◌%◌, ◌/◌, ◌++◌, ℕ, List, IfOk, IfSome, length, map, flat_map, option_copied, option_to_list, slice_index, Some, None, if◌then◌else◌};
 ghost use Rattle.gg_ast.specs.Tree.{ModuleTree};
 ghost use Rattle.gg_names.specs.Modules.{module_at};
@@ -6,8 +6,10 @@ ghost use Rattle.gg_names.specs.Namespace.{names_in};
 ghost use Rattle.gg_types.specs.Clocks.{bare as bare_name, driven_by, is_followed as leads_on, is_outside as comes_from_outside, leads, leads_to_input, way_of_port as port_way, ways_by, ways_of};
 ghost use Rattle.gg_types.specs.Named.{flagged};
 ghost use Rattle.gg_types.specs.Places.{ArePlaces, TellsNext, Reaches, next_at, place_in, with_driven, way_at};
+ghost use Rattle.gg_types.specs.Typed.{TellsClocks};
 
 use crate::circuit::module_of;
+use crate::inputs::{clock_numbers, numbers_reached};
 use gg_ast::{Direction, Expr, ExprKind, Module, Port, Reference, Stmt, StmtKind};
 use gg_bits::Name;
 use gg_names::Namespace;
@@ -154,16 +156,28 @@ fn way_of(statement: &Stmt) -> Option<Way>
     }
 }
 
-/// For each declared name of a module whether it leads to an input port.
-pub fn trace(alloc: Global, names: &Namespace, number: u32) -> Result<Vec<bool>, AllocError>
+/// What is known of the declared names of a module: whether each leads to an input port, and the number of the Clock
+/// input that it leads to, if it leads to one.
+#[derive(Drop)]
+pub struct Traces {
+    pub flags: Vec<bool>,
+    pub clocks: Vec<Option<u32>>,
+}
+
+/// Where the declared names of a module lead.
+pub fn trace(alloc: Global, names: &Namespace, number: u32) -> Result<Traces, AllocError>
     requires { number < length names.now.modules }
-    ensures { IfOk result (λ flags. (name : List ℕ) → flagged (names_in (module_at names.now.modules number)) flags.items name ≡ leads_to_input (module_at names.now.modules number) name) }
+    ensures flags { IfOk result (λ traces. (name : List ℕ) → flagged (names_in (module_at names.now.modules number)) traces.flags.items name ≡ leads_to_input (module_at names.now.modules number) name) }
+    ensures clocks { IfOk result (λ traces. TellsClocks (module_at names.now.modules number) traces.clocks.items) }
 {
+    let this = module_of(names, number);
     let ways = Ways::of(alloc, names, number)?;
-    let next = next_places(alloc, &ways, module_of(names, number).statements())?;
+    let next = next_places(alloc, &ways, this.statements())?;
     let reached = after_steps(alloc, next, ways.len())?;
     let flags = outside_flags(alloc, &ways, &reached)?;
-    Ok(flags)
+    let inputs = clock_numbers(alloc, this.ports())?;
+    let clocks = numbers_reached(alloc, inputs.as_slice(), &reached)?;
+    Ok(Traces { flags, clocks })
 }
 
 // The place that the driver of each name leads to.

@@ -9,16 +9,18 @@
 //! `typed` does the same for a namespace that was already made.
 //!
 //! What they return, a `Typed`, is a circuit with none of the faults F1 to F14. It has the type of each name, and an
-//! order of the modules in which each comes after all that it has instances of.
+//! order of the modules in which each comes after all that it has instances of. `Typed::clock` gives the Clock input that
+//! a reference follows.
 //!
-//! `literal` returns the type and the pattern of a literal. `is_width` is the test of a type's width, for this crate
-//! and the ones above it.
+//! `literal` returns the type and the pattern of a literal. `is_width` is the test of a type's width. `said_type` and
+//! `said_depth` are what the fields of a memory say. They are for this crate and the ones above it.
 #![tactic(auto)]
 
 mod checked;
 mod circuit;
 mod clocks;
 mod expression;
+mod inputs;
 mod known;
 mod literals;
 mod lookup;
@@ -31,6 +33,8 @@ mod statement;
 
 pub use checked::Typed;
 pub use circuit::{TypeFault, typed, types};
+pub use inputs::is_clock_input;
 pub use literals::literal;
+pub use memory::{said_depth, said_type};
 pub use places::is_width;
 pub use sort::{Sort, Typing};

@@ -1,7 +1,7 @@
 //! The fields of a memory (FIRRTL Specification, "Memories").
 ghost use Rattle.std.specs.Prelude.{◌≡◌};
 ghost use Rattle.gg_shape.specs.Faults.{Answers};
-ghost use Rattle.gg_types.specs.Owned.{word_type, depth_of};
+ghost use Rattle.gg_types.specs.Fields.{first_said, type_said, depth_said};
 ghost use Rattle.gg_types.specs.Types.{field_faults, memory_type_faults};
 
 use crate::places::stored_type;
@@ -34,8 +34,8 @@ fn judge_field(line: u64, kind: &MemoryField) -> Result<(), Refusal>
 }
 
 /// The type of a memory's words, if a field has it.
-pub fn word_type(fields: &[Field]) -> Option<GroundType>
-    ensures { result ≡ word_type fields.now }
+pub fn said_type(fields: &[Field]) -> Option<GroundType>
+    ensures { result ≡ first_said type_said fields.now }
 {
     for field in fields {
         if let MemoryField::DataType(ty) = &field.kind {
@@ -46,8 +46,8 @@ pub fn word_type(fields: &[Field]) -> Option<GroundType>
 }
 
 /// How many words a memory has, if a field says so.
-pub fn depth_of(fields: &[Field]) -> Option<u32>
-    ensures { result ≡ depth_of fields.now }
+pub fn said_depth(fields: &[Field]) -> Option<u32>
+    ensures { result ≡ first_said depth_said fields.now }
 {
     for field in fields {
         if let MemoryField::Depth(depth) = &field.kind {

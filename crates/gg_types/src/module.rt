@@ -1,11 +1,11 @@
 //! The ports and statements of a module, one after another.
-ghost use Rattle.std.specs.Prelude.{◌≡◌, ◌&&◌, ◌||◌, ◌++◌, [], map, OnOk, length};
+ghost use Rattle.std.specs.Prelude.{◌≡◌, ◌++◌, [], map, flat_map, OnOk, length};
 ghost use Rattle.gg_names.specs.Namespace.{names_after};
 ghost use Rattle.gg_names.specs.Along.{along};
 ghost use Rattle.gg_shape.specs.Faults.{Answers};
 ghost use Rattle.gg_types.specs.Known.{names_seen, roles_seen, traced_seen, owned_seen};
 ghost use Rattle.gg_types.specs.Owned.{port_own};
-ghost use Rattle.gg_types.specs.Types.{port_faults, port_judged, is_clock_input as takes_clock, faults_of, known_after};
+ghost use Rattle.gg_types.specs.Types.{port_faults, faults_of, known_after};
 
 use crate::known::Known;
 use crate::places::declared_type;
@@ -19,32 +19,26 @@ use std::alloc::Global;
 pub fn judge_all(
     alloc: Global,
     known: &mut Known,
-    is_top: bool,
     ports: &[Port],
     statements: &[Stmt],
 ) -> Result<(), Refusal>
     requires empty { known.old.own.items ≡ [] }
     requires names { names_seen known.old ≡ names_after ports.now statements.now }
-    ensures answers { Answers (along (port_faults is_top) ports.now ++ along (faults_of (roles_seen known.old) (traced_seen known.old) (map port_own ports.now)) statements.now) result }
+    ensures answers { Answers (flat_map port_faults ports.now ++ along (faults_of (roles_seen known.old) (traced_seen known.old) (map port_own ports.now)) statements.now) result }
     ensures own { OnOk result (owned_seen known.new ≡ known_after (roles_seen known.old) (traced_seen known.old) (map port_own ports.now) statements.now) }
     ensures count { OnOk result (length known.new.own.items ≡ length (names_seen known.old)) }
     ensures names { known.new.names.now ≡ known.old.names.now }
     ensures number { known.new.number ≡ known.old.number }
 {
-    judge_ports(known, is_top, ports, statements)?;
+    judge_ports(known, ports, statements)?;
     judge_statements(alloc, known, ports, statements)
 }
 
 // Adds the types of a module's ports, or fails with their first fault.
-fn judge_ports(
-    known: &mut Known,
-    is_top: bool,
-    ports: &[Port],
-    statements: &[Stmt],
-) -> Result<(), Refusal>
+fn judge_ports(known: &mut Known, ports: &[Port], statements: &[Stmt]) -> Result<(), Refusal>
     requires empty { known.old.own.items ≡ [] }
     requires names { names_seen known.old ≡ names_after ports.now statements.now }
-    ensures answers { Answers (along (port_faults is_top) ports.now) result }
+    ensures answers { Answers (flat_map port_faults ports.now) result }
     ensures own { OnOk result (owned_seen known.new ≡ map port_own ports.now) }
     ensures count { OnOk result (length known.new.own.items ≡ length ports.now) }
     ensures names { known.new.names.now ≡ known.old.names.now }
@@ -52,39 +46,24 @@ fn judge_ports(
     ensures traced { known.new.traced.items ≡ known.old.traced.items }
 {
     let _ = statements;
-    let mut has_clock = false;
     for port in ports {
-        judge_port(is_top, has_clock, port)?;
+        judge_port(port)?;
         declare(known, Own::Single(sort_of(port.ty)))?;
-        has_clock = has_clock_after(has_clock, port);
     }
     Ok(())
 }
 
-// Fails with the first fault of a port, given whether an earlier port is an input of type Clock.
-fn judge_port(is_top: bool, has_clock: bool, port: &Port) -> Result<(), Refusal>
-    ensures { Answers (port_judged (is_top && has_clock) port.now) result }
+// Fails with the first fault of a port.
+fn judge_port(port: &Port) -> Result<(), Refusal>
+    ensures { Answers (port_faults port.now) result }
 {
-    if port.ty == GroundType::Clock
-        && (port.direction == Direction::Output || is_top && has_clock)
-    {
+    if port.ty == GroundType::Clock && port.direction == Direction::Output {
         return Err(Refusal::F(Fault::WrongClock {
             line: port.line,
             name: port.name.clone()?,
         }));
     }
     declared_type(port.line, port.ty)
-}
-
-// Whether one of the ports up to this one is an input of type Clock.
-fn has_clock_after(has_clock: bool, port: &Port) -> bool
-    ensures { result ≡ has_clock || takes_clock port.now }
-{
-    match (port.ty, port.direction) {
-        (GroundType::Clock, Direction::Input) => true,
-        (GroundType::Clock, Direction::Output) | (GroundType::UInt(_) | GroundType::SInt(_), _) =>
-            has_clock,
-    }
 }
 
 // Adds the type data of what a module's statements declare, or fails with their first fault.

@@ -1,9 +1,9 @@
 //! The types of operations on operands of any width (FIRRTL Specification, "Primitive Operations").
-ghost use Rattle.std.specs.Prelude.{◌≡◌, ◌≤◌, ◌+◌, ◌-◌, ◌^◌, ℕ, min, true};
+ghost use Rattle.std.specs.Prelude.{◌≡◌, ℕ, min, true};
 ghost use Rattle.gg_bits.specs.Shape.{of_kind, shape_of};
 ghost use Rattle.gg_bits.specs.ResultType.{within, shape1, type1, kinds2, shape2, type2, params_const, shape_const, type_const, type_mux};
 
-use gg_bits::{Bad, Kind, Op1, Op2, OpN, Ty};
+use gg_bits::{Bad, Kind, Op1, Op2, OpN, Ty, shifted_width};
 
 /// The type of the result of an operation on one value, or that its width is 0 or above 128.
 pub fn result1(op: Op1, kind: Kind, width: u32) -> Result<Ty, Bad>
@@ -53,17 +53,6 @@ fn takes_kinds(op: Op2, ka: Kind, a: u32, kb: Kind) -> bool
         Op2::Dshl | Op2::Dshr => kb == Kind::UInt,
         Op2::Validif => ka == Kind::UInt && a == 1,
         _ => ka == kb,
-    }
-}
-
-// The width after a shift to the left by an amount of `amount` bits. 4,294,967,295 stands for any greater width.
-fn shifted_width(width: u32, amount: u32) -> u32
-    ensures { result ≡ min (width + 2 ^ amount - 1) 4294967295 }
-{
-    if amount < 32 {
-        width.saturating_add((1 << amount) - 1)
-    } else {
-        u32::MAX
     }
 }
 

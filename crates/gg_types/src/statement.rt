@@ -12,7 +12,7 @@ ghost use Rattle.gg_types.specs.Types.{width_faults, faults_in, sort_in, memory_
 
 use crate::expression::{named, type_of, wrong_kind};
 use crate::known::Known;
-use crate::memory::{depth_of, judge_fields, word_type};
+use crate::memory::{judge_fields, said_depth, said_type};
 use crate::places::{clock, clocked, condition, connected, declared_type, stored_type};
 use crate::sort::{Own, Sort, sort_of};
 use gg_ast::{Argument, Expr, Field, GroundType, Reference, Report, Reset, Stmt, StmtKind};
@@ -109,7 +109,7 @@ fn judge_memory(known: &mut Known, fields: &[Field]) -> Result<(), Refusal>
     ensures traced { known.new.traced.items ≡ known.old.traced.items }
 {
     judge_fields(fields)?;
-    declare(known, Own::Memory(word_type(fields), depth_of(fields)))
+    declare(known, Own::Memory(said_type(fields), said_depth(fields)))
 }
 
 // Adds the type of a register, or fails with its first fault.

@@ -1,10 +1,11 @@
 //! gg_refsim: a simulator gives the outputs that were worked out by hand.
-ghost use Rattle.std.specs.Prelude.{◌≡◌, length};
+ghost use Rattle.std.specs.Prelude.{◌≡◌, ◌<◌, ◌+◌, length};
 ghost use Rattle.gg_flat.specs.Run.{IsColumns};
 ghost use Rattle.gg_flat.specs.Settled.{IsInputs};
 
 use crate::files::{design_of, inputs_of};
-use crate::texts::{COUNTER, COUNTER_TRACE, THREE_CYCLES, memory};
+use crate::texts::{COUNTER, COUNTER_TRACE, DUAL, HALT, SIX_CYCLES, THREE_CYCLES, memory};
+use gg_clocks::Ratio;
 use gg_order::Design;
 use gg_refsim::Mono;
 use gg_trace::Trace;
@@ -15,7 +16,9 @@ use std::test::Fail;
 fn step(mono: &mut Mono<'_>, inputs: &[u128]) -> u128
     requires inputs { IsInputs mono.old.circuit inputs.now }
     requires outs { length mono.old.circuit.outs ≡ 1 }
-    ensures { mono.new.circuit ≡ mono.old.circuit }
+    requires few { mono.old.cycle < 1000000 }
+    ensures circuit { mono.new.circuit ≡ mono.old.circuit }
+    ensures count { mono.new.cycle ≡ mono.old.cycle + 1 }
 {
     let mut outs = [9];
     mono.cycle(inputs, &mut outs);
@@ -24,9 +27,13 @@ fn step(mono: &mut Mono<'_>, inputs: &[u128]) -> u128
 
 // Whether a simulator with one output gives these, one in each cycle.
 fn gives(mono: &mut Mono<'_>, inputs: &Trace, outputs: &[u128]) -> bool
-    requires { IsColumns mono.old.circuit inputs.now.rows inputs.now.columns }
+    requires inputs { IsColumns mono.old.circuit inputs.now.rows inputs.now.columns }
+    requires begun { mono.old.cycle ≡ 0 }
 {
     if mono.piece().outs().len() != 1 || inputs.rows() != outputs.len() as u64 {
+        return false;
+    }
+    if inputs.rows() > 1000000 {
         return false;
     }
     for cycle in 0..inputs.rows() {
@@ -37,20 +44,32 @@ fn gives(mono: &mut Mono<'_>, inputs: &Trace, outputs: &[u128]) -> bool
     true
 }
 
-// Whether the simulator of a design gives these.
-fn simulates(alloc: Global, design: &Design, inputs: &Trace, outputs: &[u128]) -> bool
+// Whether the simulator of a design gives these, with clocks of these ratios.
+fn simulates(
+    alloc: Global,
+    design: &Design,
+    ratios: &[Ratio],
+    inputs: &Trace,
+    outputs: &[u128],
+) -> bool
     requires { IsColumns design.now.circuit inputs.now.rows inputs.now.columns }
 {
-    match Mono::new(alloc, design) {
+    match Mono::with_clocks(alloc, design, ratios) {
         Ok(mut mono) => gives(&mut mono, inputs, outputs),
         Err(_) => false,
     }
 }
 
-// Whether a design gives these outputs on a trace.
-fn is_run_of(alloc: Global, design: &Design, trace: &str, outputs: &[u128]) -> bool {
+// Whether a design gives these outputs on a trace, with clocks of these ratios.
+fn is_run_of(
+    alloc: Global,
+    design: &Design,
+    ratios: &[Ratio],
+    trace: &str,
+    outputs: &[u128],
+) -> bool {
     match inputs_of(alloc, design, trace) {
-        Some(inputs) => simulates(alloc, design, &inputs, outputs),
+        Some(inputs) => simulates(alloc, design, ratios, &inputs, outputs),
         None => false,
     }
 }
@@ -58,7 +77,7 @@ fn is_run_of(alloc: Global, design: &Design, trace: &str, outputs: &[u128]) -> b
 // Whether a circuit gives these outputs on a trace.
 fn is_run(alloc: Global, circuit: &str, trace: &str, outputs: &[u128]) -> bool {
     match design_of(alloc, circuit) {
-        Some(design) => is_run_of(alloc, &design, trace, outputs),
+        Some(design) => is_run_of(alloc, &design, &[], trace, outputs),
         None => false,
     }
 }
@@ -66,6 +85,33 @@ fn is_run(alloc: Global, circuit: &str, trace: &str, outputs: &[u128]) -> bool {
 #[test]
 fn the_counter_counts(rt: HostRuntime) -> Result<(), Fail> {
     assert!(rt; is_run(rt.alloc(), COUNTER, COUNTER_TRACE, &[0, 0, 1, 2]));
+    Ok(())
+}
+
+// Whether a circuit with two clocks, the second of which has an edge in two of three ticks, gives these outputs.
+fn is_clocked_run(alloc: Global, circuit: &str, trace: &str, outputs: &[u128]) -> bool {
+    match (
+        design_of(alloc, circuit),
+        Ratio::new(1, 1),
+        Ratio::new(2, 3),
+    ) {
+        (Some(design), Some(each), Some(some)) => {
+            is_run_of(alloc, &design, &[each, some], trace, outputs)
+        }
+        _ => false,
+    }
+}
+
+#[test]
+fn a_clock_skips_ticks(rt: HostRuntime) -> Result<(), Fail> {
+    assert!(rt; is_clocked_run(rt.alloc(), DUAL, SIX_CYCLES, &[0, 0, 1, 3, 3, 7]));
+    assert!(rt; is_run(rt.alloc(), DUAL, SIX_CYCLES, &[0, 0, 1, 3, 6, 10]));
+    Ok(())
+}
+
+#[test]
+fn a_stop_is_an_output(rt: HostRuntime) -> Result<(), Fail> {
+    assert!(rt; is_run(rt.alloc(), HALT, SIX_CYCLES, &[0, 0, 1, 0, 0, 0]));
     Ok(())
 }
 

@@ -33,6 +33,17 @@ pub(crate) const FOUR_PORTS_TRACE: &str = "cycle a v\n0 1 0f\n1 1 21\n2 3 55\n3 
 /// A trace of three cycles without inputs.
 pub(crate) const THREE_CYCLES: &str = "cycle\n0\n1\n2\n";
 
+/// A trace of six cycles without inputs.
+pub(crate) const SIX_CYCLES: &str = "cycle\n0\n1\n2\n3\n4\n5\n";
+
+/// A counter without outputs that asks for a stop at 2.
+pub(crate) const HALT: &str =
+    "circuit Halt :\nmodule Halt :\ninput clock : Clock\nreg c : UInt<4>, clock\nc <= tail(add(c, UInt<1>(\"h1\")), 1)\nstop(clock, eq(c, UInt<2>(\"h2\")), 1) : done\n";
+
+/// Two registers of two clocks. The second adds the first.
+pub(crate) const DUAL: &str =
+    "circuit Dual :\nmodule Dual :\ninput c1 : Clock\ninput c2 : Clock\noutput q : UInt<4>\nreg r : UInt<4>, c1\nreg s : UInt<4>, c2\nq <= s\nr <= tail(add(r, UInt<1>(\"h1\")), 1)\ns <= tail(add(s, r), 1)\n";
+
 // A memory of two words, up to its latency and behind it. Its reader reads address 0, and its writer writes 7 there in each cycle.
 const MEMORY_FRONT: &str =
     "circuit Mem :\nmodule Mem :\ninput clock : Clock\noutput o : UInt<8>\nmem m :\ndata-type => UInt<8>\ndepth => 2\nwrite-latency => 1\nreader => r\nwriter => w\n";

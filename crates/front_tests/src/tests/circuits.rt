@@ -35,3 +35,7 @@ pub(crate) const TOP: &str =
 /// An instance whose module has a memory with a reader and a writer.
 pub(crate) const STORE: &str =
     "circuit Top :\nmodule Store :\ninput clock : Clock\ninput at : UInt<2>\ninput v : UInt<8>\noutput o : UInt<8>\nmem m :\ndata-type => UInt<8>\ndepth => 4\nread-latency => 0\nwrite-latency => 1\nreader => r\nwriter => w\nm.r.clk <= clock\nm.r.addr <= at\nm.r.en <= UInt<1>(\"h1\")\nm.w.clk <= clock\nm.w.addr <= at\nm.w.en <= UInt<1>(\"h1\")\nm.w.mask <= UInt<1>(\"h1\")\nm.w.data <= v\no <= m.r.data\nmodule Top :\ninput clock : Clock\ninput at : UInt<2>\ninput v : UInt<8>\noutput o : UInt<8>\ninst s of Store\ns.clock <= clock\ns.at <= at\ns.v <= v\no <= s.o\n";
+
+/// Two clocks: one goes down two levels under other names, the other is only used by a stop.
+pub(crate) const CLOCKS: &str =
+    "circuit Top :\nmodule Leaf :\ninput k : Clock\ninput v : UInt<1>\noutput o : UInt<1>\nreg r : UInt<1>, k\nr <= v\no <= r\nmodule Mid :\ninput m : Clock\ninput v : UInt<1>\noutput o : UInt<1>\ninst leaf of Leaf\nleaf.k <= m\nleaf.v <= v\no <= leaf.o\nmodule Top :\ninput fast : Clock\ninput slow : Clock\ninput v : UInt<1>\noutput o : UInt<1>\ninst mid of Mid\nmid.m <= slow\nmid.v <= v\no <= mid.o\nstop(fast, v, 1) : done\n";

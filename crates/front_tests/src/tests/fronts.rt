@@ -3,7 +3,7 @@
 ghost use Rattle.std.specs.Prelude.{◌<◌, ◌^◌, length};
 
 use super::calls::{Call, Row, check_all};
-use super::circuits::{COUNTER, LATE, LOOP, MEM, PAIR, SECOND, TOP, WIDE};
+use super::circuits::{CLOCKS, COUNTER, LATE, LOOP, MEM, PAIR, SECOND, TOP, WIDE};
 use super::sources::Source::{Bytes, Chain, Edited};
 use gg_front::front;
 use gg_order::Design;
@@ -33,7 +33,7 @@ fn put_design(out: &mut String, design: &Design) -> Result<(), AllocError> {
 }
 
 /// Circuits with a line changed, and bytes that are no text.
-static CIRCUITS: [Row; 52] = [
+static CIRCUITS: [Row; 58] = [
     (Bytes(b"\xff"), "not text"),
     (Edited(COUNTER, 0, ""), "4 signals 1 in 1 out 1 instances"),
     (Edited(SECOND, 0, ""), "4 signals 1 in 1 out 1 instances"),
@@ -104,6 +104,29 @@ static CIRCUITS: [Row; 52] = [
     (
         Edited(COUNTER, 6, "wire k : Clock\nk is invalid"),
         "F14 line 7 k",
+    ),
+    // the top may have several clocks
+    (
+        Edited(COUNTER, 3, "input clock : Clock\ninput other : Clock"),
+        "4 signals 1 in 1 out 1 instances",
+    ),
+    // a stop is a signal and an out-signal
+    (
+        Edited(COUNTER, 10, "out <= c\nstop(clock, reset, 1) : done"),
+        "5 signals 1 in 2 out 1 instances",
+    ),
+    (
+        Edited(COUNTER, 10, "out <= c\nstop(clock, c, 1) : done"),
+        "F9 line 11 stop",
+    ),
+    (Edited(CLOCKS, 0, ""), "8 signals 1 in 2 out 3 instances"),
+    (
+        Edited(CLOCKS, 14, "leaf.k is invalid"),
+        "F14 line 14 leaf.k",
+    ),
+    (
+        Edited(CLOCKS, 26, "stop(v, v, 1) : done"),
+        "F9 line 26 stop",
     ),
     (Edited(COUNTER, 10, "out <= out"), "F16 out"),
     (

@@ -1,4 +1,4 @@
-use Rattle.std.proofs.Common.{◌≡◌, ℕ, ◌<◌, List, [], map, length, get_or, sym, ap, ◌∙◌, subst, arith}
+use Rattle.std.proofs.Common.{◌≡◌, ℕ, ◌<◌, List, [], ◌++◌, map, length, get_or, sym, ap, ◌∙◌, subst, arith}
 use Rattle.std.proofs.lemmas.List.{length-map, get_or_default}
 use Rattle.gg_ast.specs.Tree.{ModuleTree, CircuitTree, module_names, empty_module}
 use Rattle.gg_ast.specs.Places.{place_of}
@@ -9,8 +9,9 @@ use Rattle.gg_flattened.specs.Known.{types_of}
 use Rattle.gg_flattened.specs.Views.{site_of, table_bindings, table_signals}
 use Rattle.gg_flattened.specs.declared.sites.Place.{Place}
 use Rattle.gg_elab.specs.Building.{IsSoFar, HasMemories}
-use Rattle.gg_flattened.specs.Flat.{FlatSignal, flat_signals, flat_memories}
-use Rattle.gg_flattened.specs.IsFlat.{signals_of, memory_paths}
+use Rattle.gg_types.specs.Clocks.{clock_inputs}
+use Rattle.gg_flattened.specs.Flat.{FlatSignal, flat_signals, flat_memories, stop_paths}
+use Rattle.gg_flattened.specs.IsFlat.{signals_of, memory_paths, number_of, top_ports}
 use Rattle.gg_elab.proofs.WholeLemmas.{whole, with_top, fitting_whole}
 use Rattle.gg_tree.proofs.TreeJoinLemmas.{sites-of, is-some}
 use Rattle.gg_flattened.specs.Signals.{Types}
@@ -54,8 +55,13 @@ returns-clause-flat c =
     let body : c.index-modules-top.result ≡ module_at modules c.args.top =
     c.index-modules-top.is ∙ ap (λ (ms : List ModuleTree). get_or ms c.args.top c.index-modules-top.result) (c.modules-modules.ensures ∙ ap (λ (k : CircuitTree). k.modules) (c.circuit.ensures.circuit ∙ c.names.ensures.names))
     ∙ get_or_default modules c.args.top c.index-modules-top.result (empty_module 0 []) below in
-    with_top types modules (place_of circuit.name (module_names circuit)) c.args.top (map site_of places) c.ports.result.now three c.requires.top c.in_ok-places.ensures.sites (c.ports.ensures ∙ ap (λ (m : ModuleTree). m.ports) body)
-    (whole types all banks c.ports.result.now (table_signals table) table.memories one two three c.in_ok-add_sites.ensures.0 same listed far has c.in_ok-add_ports.ensures.ins c.in_ok-add_ports.ensures.outs c.in_ok-add_ports.ensures.rest)
+    let ends : c.set_clocks.new.self ≡ record three { outs = three.outs ++ map (number_of table.paths) (stop_paths modules (map site_of places)); clocks = length (clock_inputs c.ports-ports.result.now) } =
+    c.set_clocks.ensures
+    ∙ ap (λ n. record c.add_stops.new.piece { clocks = n }) c.in_ok-clock_count.ensures
+    ∙ ap (λ (f : FlatCircuit). record f { clocks = length (clock_inputs c.ports-ports.result.now) }) c.in_ok-add_stops.ensures
+    ∙ ap (λ (l : List Place). record three { outs = three.outs ++ map (number_of table.paths) (stop_paths modules (map site_of l)); clocks = length (clock_inputs c.ports-ports.result.now) }) c.as_slice-4.ensures.value in
+    with_top types modules (place_of circuit.name (module_names circuit)) c.args.top (map site_of places) c.ports-ports.result.now c.set_clocks.new.self c.requires.top c.in_ok-places.ensures.sites (c.ports-ports.ensures ∙ ap (λ (m : ModuleTree). m.ports) body)
+    (whole types all banks c.ports-ports.result.now (stop_paths modules (map site_of places)) (table_signals table) table.memories one two three c.set_clocks.new.self c.in_ok-add_sites.ensures.0 same listed far has c.in_ok-add_ports.ensures.ins c.in_ok-add_ports.ensures.outs c.in_ok-add_ports.ensures.rest ends)
 
 pub returns-clause-fits : goal.returns-clause-fits
 returns-clause-fits c =
@@ -71,9 +77,11 @@ returns-clause-fits c =
     let same : table_signals table ≡ signals_of all = c.in_ok-table.ensures.signals ∙ ap (λ (l : List Place). signals_of (flat_signals types modules (map site_of l))) c.as_slice.ensures.value in
     let far : IsSoFar (table_bindings types table) all one c.in_ok-add_sites.ensures.0 =
     subst (λ (l : List Place). IsSoFar (table_bindings types table) (flat_signals types modules (map site_of l)) one c.in_ok-add_sites.ensures.0) c.as_slice-2.ensures.value c.in_ok-add_sites.ensures.1 in
-    fitting_whole types all (table_signals table) table.memories one three c.in_ok-add_sites.ensures.0 same far
-    (ap (λ (f : FlatCircuit). f.signals) c.in_ok-add_ports.ensures.rest ∙ ap (λ (f : FlatCircuit). f.signals) c.in_ok-add_all_memories.ensures.rest)
-    (ap (λ (f : FlatCircuit). f.registers) c.in_ok-add_ports.ensures.rest ∙ ap (λ (f : FlatCircuit). f.registers) c.in_ok-add_all_memories.ensures.rest)
+    let signals : c.set_clocks.new.self.signals ≡ three.signals = ap (λ (f : FlatCircuit). f.signals) c.set_clocks.ensures ∙ ap (λ (f : FlatCircuit). f.signals) c.in_ok-add_stops.ensures in
+    let registers : c.set_clocks.new.self.registers ≡ three.registers = ap (λ (f : FlatCircuit). f.registers) c.set_clocks.ensures ∙ ap (λ (f : FlatCircuit). f.registers) c.in_ok-add_stops.ensures in
+    fitting_whole types all (table_signals table) table.memories one c.set_clocks.new.self c.in_ok-add_sites.ensures.0 same far
+    (signals ∙ ap (λ (f : FlatCircuit). f.signals) c.in_ok-add_ports.ensures.rest ∙ ap (λ (f : FlatCircuit). f.signals) c.in_ok-add_all_memories.ensures.rest)
+    (registers ∙ ap (λ (f : FlatCircuit). f.registers) c.in_ok-add_ports.ensures.rest ∙ ap (λ (f : FlatCircuit). f.registers) c.in_ok-add_all_memories.ensures.rest)
 
 pub tree_of-requires-clause-top : goal.tree_of-requires-clause-top
 tree_of-requires-clause-top c =
@@ -83,7 +91,7 @@ tree_of-requires-clause-top c =
 pub tree_of-requires-clause-sites : goal.tree_of-requires-clause-sites
 tree_of-requires-clause-sites c =
     let circuit = c.args.typed.now.circuit in
-    subst (λ (l : List Place). map site_of l ≡ sites_of circuit) (sym c.as_slice-4.ensures.value)
+    subst (λ (l : List Place). map site_of l ≡ sites_of circuit) (sym c.as_slice-5.ensures.value)
     (sites-of circuit.modules (place_of circuit.name (module_names circuit)) c.args.top (map site_of c.in_ok-places.places.items) c.requires.top c.in_ok-places.ensures.sites)
 
 pub tree_of-requires-clause-signals : goal.tree_of-requires-clause-signals
@@ -128,3 +136,13 @@ add_sites-requires-clause-distinct c =
     let sites = sites-of modules (place_of circuit.name (module_names circuit)) c.args.top (map site_of c.in_ok-places.places.items) c.requires.top c.in_ok-places.ensures.sites in
     subst (λ (l : List Place). Differ (map (λ (x : FlatSignal). x.path) (flat_signals (types_of circuit) modules (map site_of l)))) (sym c.as_slice-2.ensures.value)
     (subst (λ (l : List Site). Differ (map (λ (x : FlatSignal). x.path) (flat_signals (types_of circuit) modules (l)))) (sym sites) c.distinct.ensures.signals)
+
+pub tree_of-requires-clause-ports : goal.tree_of-requires-clause-ports
+tree_of-requires-clause-ports c =
+    let circuit = c.args.typed.now.circuit in
+    let modules = circuit.modules in
+    let below : c.args.top < length modules = omega (arith, place_of-below circuit.name (module_names circuit) c.args.top c.requires.top, length-map modules (λ (m : ModuleTree). m.name)) in
+    let body : c.index-modules-top.result ≡ module_at modules c.args.top =
+    c.index-modules-top.is ∙ ap (λ (ms : List ModuleTree). get_or ms c.args.top c.index-modules-top.result) (c.modules-modules.ensures ∙ ap (λ (k : CircuitTree). k.modules) (c.circuit.ensures.circuit ∙ c.names.ensures.names))
+    ∙ get_or_default modules c.args.top c.index-modules-top.result (empty_module 0 []) below in
+    c.ports-ports.ensures ∙ ap (λ (m : ModuleTree). m.ports) body ∙ ap (top_ports modules) (sym c.requires.top)

@@ -1,4 +1,4 @@
-use Rattle.std.proofs.Common.{◌<◌, List, ◌++◌, map, take, length, refl, sym, ap, ◌∙◌, subst, arith}
+use Rattle.std.proofs.Common.{◌<◌, List, ◌++◌, map, take, length, sym, ap, ◌∙◌, subst, arith}
 use Rattle.gg_flattened.specs.Views.{IsPlaceIn, own_bank_of, site_of}
 use Rattle.gg_elab.specs.Building.{HasMemories}
 use Rattle.gg_flattened.specs.Flat.{FlatMemory, flat_memory, flat_memories}
@@ -19,13 +19,13 @@ loop-place-preserved c =
     let i = c.loop-place.place-index in
     let p = c.place-item.result in
     let digest = c.index-digests-place.result in
-    let f = λ (m : OwnMemory). flat_memory (site_of p) (own_bank_of m) in
+    let f = λ (m : OwnMemory). flat_memory modules (site_of p) (own_bank_of m) in
     let within : i < length places = omega arith in
-    let inside : IsPlaceIn (length modules) p = subst (λ (x : Place). IsPlaceIn (length modules) x) (sym c.place-item.is) (c.requires.places i p within) in
+    let inside : IsPlaceIn modules p = subst (λ (x : Place). IsPlaceIn modules x) (sym c.place-item.is) (c.requires.places i p within) in
     let d = digest-at types modules c.args.digests.now p.number digest c.requires.digests inside.own c.index-digests-place.is in
     let said = flat_memories modules (map site_of (take i places)) in
     let new = c.add_memories.new.piece in
-    let own = c.in_ok-add_memories.ensures p said refl (memories-own paths said c.args.piece.now c.loop-place.piece c.loop-place.invariant) in
+    let own = c.in_ok-add_memories.ensures said (memories-own paths said c.args.piece.now c.loop-place.piece c.loop-place.invariant) in
     let all = memories-on paths said (said ++ map f c.as_slice-memories.result.now) c.args.piece.now c.loop-place.piece new c.loop-place.invariant own in
     subst (λ (l : List FlatMemory). HasMemories paths l c.args.piece.now new) (sym (memories-more types modules places i p digest within c.place-item.is d))
     (subst (λ (l : List OwnMemory). HasMemories paths (said ++ map f l) c.args.piece.now new) (c.as_slice-memories.ensures.value ∙ ap (λ (x : Digest). x.memories.items) (sym c.index-digests-place.is)) all)

@@ -37,7 +37,7 @@ loop-place-preserved c =
     let signals = table-more modules xs p digest.signals.items c.loop-place.table one c.loop-place.invariant.0
     (a.paths ∙ ap (λ (l : List OwnSignal). c.loop-place.table.paths ++ map (λ s. joined p.path s.name) l) c.as_slice.ensures.value)
     (a.types ∙ ap (λ (l : List OwnSignal). map (λ t. shape t) c.loop-place.table.types.items ++ map (λ s. shape s.ty) l) c.as_slice.ensures.value) in
-    let memories = memory_paths-more banks p digest.memories.items one.memories two.memories (a.memories ∙ c.loop-place.invariant.1)
+    let memories = memory_paths-more modules banks p digest.memories.items one.memories two.memories (a.memories ∙ c.loop-place.invariant.1)
     (b.memories ∙ ap (λ (l : List OwnMemory). one.memories ++ map (λ m. joined p.path m.name.now) l) c.as_slice-in-loop-place.ensures.value) in (
       kept ∙ signals ∙ ap signals_of (sym (signals-more types modules places i p digest within c.place-item.is d)),
       memories ∙ ap memory_paths (sym (memories-more types modules places i p digest within c.place-item.is d)),
@@ -74,7 +74,7 @@ add_memories-requires c =
     let d = digest-at types modules c.args.digests.now p.number digest c.requires.digests inside c.index-digests-place.is in
     let more : memory_paths (flat_memories modules (map site_of (take (i + 1) places))) ≡ c.add_signals.new.table.memories ++ map (λ (m : OwnMemory). joined p.path m.name.now) c.as_slice-in-loop-place.result.now =
     ap memory_paths (memories-more types modules places i p digest within c.place-item.is d)
-    ∙ map-append (λ (x : FlatMemory). x.path) (flat_memories modules (map site_of (take i places))) (map (λ (m : OwnMemory). flat_memory (site_of p) (own_bank_of m)) digest.memories.items)
-    ∙ ap₂ (λ xs ys. xs ++ ys) (sym (c.in_ok-add_signals.ensures.memories ∙ c.loop-place.invariant.1)) (map-map (λ (x : FlatMemory). x.path) (λ (m : OwnMemory). flat_memory (site_of p) (own_bank_of m)) digest.memories.items)
+    ∙ map-append (λ (x : FlatMemory). x.path) (flat_memories modules (map site_of (take i places))) (map (λ (m : OwnMemory). flat_memory modules (site_of p) (own_bank_of m)) digest.memories.items)
+    ∙ ap₂ (λ xs ys. xs ++ ys) (sym (c.in_ok-add_signals.ensures.memories ∙ c.loop-place.invariant.1)) (map-map (λ (x : FlatMemory). x.path) (λ (m : OwnMemory). flat_memory modules (site_of p) (own_bank_of m)) digest.memories.items)
     ∙ ap (λ (l : List OwnMemory). c.add_signals.new.table.memories ++ map (λ m. joined p.path m.name.now) l) (sym c.as_slice-in-loop-place.ensures.value) in
     record { distinct = subst Differ more (parts-front (λ (x : FlatMemory). x.path) (memories_at modules) site_of places (i + 1) c.requires.memories) }

@@ -3,7 +3,7 @@ use Rattle.gg_ast.specs.Names.{AreNamesOfCircuit}
 use Rattle.gg_ast.specs.Places.{place_of}
 use Rattle.gg_ast.specs.Tree.{CircuitTree, module_names}
 use Rattle.gg_count.specs.Sites.{sites_of}
-use Rattle.gg_flattened.specs.Flat.{flat_signals, flat_memories}
+use Rattle.gg_flattened.specs.Flat.{flat_signals, flat_memories, stop_paths}
 use Rattle.gg_flattened.specs.IsFlat.{top_ports}
 use Rattle.gg_flattened.specs.Known.{types_of}
 use Rattle.gg_names.specs.Repetitions.{repetitions}
@@ -27,4 +27,4 @@ pub returns-clause-held : goal.returns-clause-held
 returns-clause-held c =
     let circuit = c.args.typed.now.circuit in
     held-once (types_of circuit) (flat_signals (types_of circuit) circuit.modules (sites_of circuit)) (flat_memories circuit.modules (sites_of circuit))
-    (top_ports circuit.modules (place_of circuit.name (module_names circuit))) c.args.piece.now c.requires.flat
+    (top_ports circuit.modules (place_of circuit.name (module_names circuit))) (stop_paths circuit.modules (sites_of circuit)) c.args.piece.now c.requires.flat

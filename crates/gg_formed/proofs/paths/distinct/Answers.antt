@@ -2,7 +2,10 @@ use Rattle.std.proofs.Common.{◌≡◌, [], ◌∙◌, subst}
 use Rattle.gg_ast.specs.Names.{AreNamesOfCircuit}
 use Rattle.gg_ast.specs.Tree.{CircuitTree}
 use Rattle.gg_names.specs.Repetitions.{repetitions}
-use Rattle.gg_formed.proofs.ModuleNameLemmas.{signal-paths-differ, memory-paths-differ, site-paths-differ}
+use Rattle.gg_flattened.specs.Known.{types_of}
+use Rattle.gg_flattened.proofs.StopLemmas.{few-stops}
+use Rattle.gg_formed.proofs.ModuleNameLemmas.{memory-paths-differ, site-paths-differ}
+use Rattle.gg_formed.proofs.SignalPathLemmas.{signal-paths-differ}
 use Rattle.gg_formed.proofs.paths.distinct.Goals as goal
 
 pub returns-clause-sites : goal.returns-clause-sites
@@ -18,6 +21,7 @@ returns-clause-signals c =
     signal-paths-differ c.args.typed.now.circuit
     (subst (λ (k : CircuitTree). AreNamesOfCircuit k) same c.names_are_words.ensures)
     (subst (λ (k : CircuitTree). repetitions k ≡ []) c.names.ensures.names c.circuit-circuit.ensures.once)
+    (few-stops (types_of c.args.typed.now.circuit) c.args.typed.now.circuit.modules c.args.digests.now c.requires)
 
 pub returns-clause-memories : goal.returns-clause-memories
 returns-clause-memories c =

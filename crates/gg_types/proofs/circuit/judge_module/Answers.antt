@@ -1,6 +1,5 @@
 use Rattle.std.proofs.Common.{◌≡◌, sym, ap, subst, ◌∙◌, rules}
-use Rattle.std.specs.Str.{bytes_eq}
-use Rattle.gg_ast.specs.Tree.{ModuleTree, CircuitTree}
+use Rattle.gg_ast.specs.Tree.{ModuleTree}
 use Rattle.gg_names.specs.Modules.{module_at}
 use Rattle.gg_names.specs.Namespace.{names_in}
 use Rattle.gg_shape.specs.Faults.{Refuses}
@@ -15,38 +14,30 @@ pub returns-in_err-judge_all-clause-answers : goal.returns-in_err-judge_all-clau
 returns-in_err-judge_all-clause-answers c =
     let circuit = c.args.names.now in
     let m = module_at circuit.modules c.args.number in
-    let traced = flagged (names_in m) c.in_ok-trace.field-0.items in
-    let t : traced ≡ leads_to_input m = λ i. λ name. c.in_ok-trace.ensures name i in
+    let traced = flagged (names_in m) c.in_ok-trace.field-0.flags.items in
+    let t : traced ≡ leads_to_input m = λ i. λ name. c.in_ok-trace.ensures.flags name i in
     let p = c.ports.ensures ∙ ap (λ (x : ModuleTree). x.ports) c.module_of-here.ensures in
     let s = c.statements.ensures ∙ ap (λ (x : ModuleTree). x.statements) c.module_of-here.ensures in
-    let top : c.eq-is_top.result ≡ bytes_eq circuit.name m.name =
-    c.eq-is_top.ensures
-    ∙ ap (λ x. bytes_eq x c.as_str-2.result.now) (c.as_str.ensures ∙ c.name.ensures ∙ ap (λ (x : CircuitTree). x.name) c.circuit.ensures.circuit)
-    ∙ ap (bytes_eq circuit.name) (c.as_str-2.ensures ∙ c.name-2.ensures ∙ ap (λ (x : ModuleTree). x.name) c.module_of-here.ensures) in
-    let same = faults-same circuit m traced c.ports.result.now c.statements.result.now t p s c.eq-is_top.result top in
-    let h : Refuses (faults_of_module circuit m) c.in_err-judge_all.field-0.0 = subst (λ l. Refuses l c.in_err-judge_all.field-0.0) same c.in_err-judge_all.ensures.answers in
+    let same = faults-same circuit m traced c.ports.result.now c.statements.result.now t p s in
+    let h : Refuses (faults_of_module circuit.modules m) c.in_err-judge_all.field-0.0 = subst (λ l. Refuses l c.in_err-judge_all.field-0.0) same c.in_err-judge_all.ensures.answers in
     search (rules, h)
 
 pub returns-clause-answers : goal.returns-clause-answers
 returns-clause-answers c =
     let circuit = c.args.names.now in
     let m = module_at circuit.modules c.args.number in
-    let traced = flagged (names_in m) c.in_ok-trace.field-0.items in
-    let t : traced ≡ leads_to_input m = λ i. λ name. c.in_ok-trace.ensures name i in
+    let traced = flagged (names_in m) c.in_ok-trace.field-0.flags.items in
+    let t : traced ≡ leads_to_input m = λ i. λ name. c.in_ok-trace.ensures.flags name i in
     let p = c.ports.ensures ∙ ap (λ (x : ModuleTree). x.ports) c.module_of-here.ensures in
     let s = c.statements.ensures ∙ ap (λ (x : ModuleTree). x.statements) c.module_of-here.ensures in
-    let top : c.eq-is_top.result ≡ bytes_eq circuit.name m.name =
-    c.eq-is_top.ensures
-    ∙ ap (λ x. bytes_eq x c.as_str-2.result.now) (c.as_str.ensures ∙ c.name.ensures ∙ ap (λ (x : CircuitTree). x.name) c.circuit.ensures.circuit)
-    ∙ ap (bytes_eq circuit.name) (c.as_str-2.ensures ∙ c.name-2.ensures ∙ ap (λ (x : ModuleTree). x.name) c.module_of-here.ensures) in
-    sym (faults-same circuit m traced c.ports.result.now c.statements.result.now t p s c.eq-is_top.result top) ∙ c.in_ok-judge_all.ensures.answers
+    sym (faults-same circuit m traced c.ports.result.now c.statements.result.now t p s) ∙ c.in_ok-judge_all.ensures.answers
 
 pub returns-clause-own : goal.returns-clause-own
 returns-clause-own c =
     let circuit = c.args.names.now in
     let m = module_at circuit.modules c.args.number in
-    let traced = flagged (names_in m) c.in_ok-trace.field-0.items in
-    let t : traced ≡ leads_to_input m = λ i. λ name. c.in_ok-trace.ensures name i in
+    let traced = flagged (names_in m) c.in_ok-trace.field-0.flags.items in
+    let t : traced ≡ leads_to_input m = λ i. λ name. c.in_ok-trace.ensures.flags name i in
     let p = c.ports.ensures ∙ ap (λ (x : ModuleTree). x.ports) c.module_of-here.ensures in
     let s = c.statements.ensures ∙ ap (λ (x : ModuleTree). x.statements) c.module_of-here.ensures in
     let new = c.judge_all.new.known in

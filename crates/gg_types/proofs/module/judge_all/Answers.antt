@@ -1,4 +1,4 @@
-use Rattle.std.proofs.Common.{◌≡◌, map, OnOk, ap, subst, ◌∙◌}
+use Rattle.std.proofs.Common.{◌≡◌, map, flat_map, OnOk, ap, subst, ◌∙◌}
 use Rattle.gg_names.specs.Along.{along}
 use Rattle.gg_shape.specs.Faults.{Answers}
 use Rattle.gg_shape.proofs.FlatLemmas.{decided_next}
@@ -16,7 +16,7 @@ returns-clause-answers c =
     let e = c.judge_ports.ensures in
     let same = ap (λ x. along (faults_of x (traced_seen now) start) c.args.statements.now) (roles-same now old e.names e.number)
     ∙ ap (λ x. along (faults_of (roles_seen old) x start) c.args.statements.now) (traced-same now old e.names e.number e.traced) in
-    decided_next (along (port_faults c.args.is_top) c.args.ports.now) (along (faults_of (roles_seen old) (traced_seen old) start) c.args.statements.now) c.judge_statements.result
+    decided_next (flat_map port_faults c.args.ports.now) (along (faults_of (roles_seen old) (traced_seen old) start) c.args.statements.now) c.judge_statements.result
     c.in_ok-judge_ports.ensures.answers
     (subst (λ l. Answers l c.judge_statements.result) same c.judge_statements.ensures.answers)
 

@@ -15,6 +15,8 @@ returns c =
             registers = registers.0 yes;
             memories = rw (c.signals.ensures, c.memories.ensures) at memories;
             reads = c.if-not-are_read.ensures.0 refl;
+            register_clocks = (c.if-not-are_clocked.ensures.0 refl).0;
+            memory_clocks = (c.if-not-are_clocked.ensures.0 refl).1;
           },
       λ formed. registers.1 formed.registers,
     )

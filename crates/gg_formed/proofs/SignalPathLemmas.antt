@@ -1,0 +1,77 @@
+-- If all names of a circuit are valid and none is repeated, the paths of its signals differ. No module has 2^32 stops.
+use Rattle.std.proofs.Common.{◌≡◌, ◌⊎◌, inl, inr, ℕ, ◌<◌, ◌^◌, List, [], ◌∷◌, ◌++◌, length, get_or, map, sym, ap, ◌∙◌, subst}
+use Rattle.std.specs.Prelude.{Contains, flat_map}
+use Rattle.std.proofs.lemmas.List.Elements.{Contains-append_cases}
+use Rattle.std.proofs.lemmas.Simd.{map-map}
+use Rattle.gg_ast.specs.Names.{AreNamesOfCircuit}
+use Rattle.gg_ast.specs.Places.{place_of}
+use Rattle.gg_ast.specs.Tree.{CircuitTree, module_names}
+use Rattle.gg_names.specs.Repetitions.{repetitions}
+use Rattle.gg_flat.specs.Tree.{joined}
+use Rattle.gg_count.specs.Sites.{Held, Site, held_at, module_at, sites_of, top_site}
+use Rattle.gg_flattened.specs.Flat.{FlatSignal, flat_signal, signals_at}
+use Rattle.gg_flattened.specs.Known.{types_of}
+use Rattle.gg_flattened.specs.Signals.{Own, own_banks, own_signals, own_stops}
+use Rattle.gg_flattened.proofs.AmongLemmas.{MadeOf, from-map}
+use Rattle.gg_flattened.proofs.NameLemmas.{Differ}
+use Rattle.gg_tree.specs.IsTreeOf.{signal_paths}
+use Rattle.gg_tree.proofs.CauseLemmas.{name-dotless}
+use Rattle.gg_tree.proofs.FieldLemmas.{FieldPlace, memory-field}
+use Rattle.gg_tree.proofs.JoinLemmas.{dot-within}
+use Rattle.gg_tree.proofs.OwnLemmas.{own_in}
+use Rattle.gg_tree.proofs.SoundLemmas.{apart-names}
+use Rattle.gg_tree.proofs.WordLemmas.{bank-word}
+use Rattle.gg_formed.proofs.ApartLemmas.{behind, AreApart, own_paths}
+use Rattle.gg_formed.proofs.DifferLemmas.{Differ-append, first-once, flat_map-parts}
+use Rattle.gg_formed.proofs.ModuleNameLemmas.{declared-differ, declared_words, flat_map-same, held-differ, held-plain, held-some, no-stop, of-sites, own-parts, port_words, statement_words, words}
+use Rattle.gg_formed.proofs.StopNameLemmas.{stop-word, stop_words, stops-differ}
+
+module _ (circuit : CircuitTree) (are_names : AreNamesOfCircuit circuit) (once : repetitions circuit ≡ []) (few : (k : ℕ) → length (own_stops (module_at circuit.modules k).statements) < 2 ^ 32) where
+  abbrev own_names : ℕ → List (List ℕ)
+  own_names k = map (λ (o : Own). o.name) (own_signals (types_of circuit) k (module_at circuit.modules k))
+
+  own-differ : (k : ℕ) → Differ (own_names k)
+  own-differ k =
+      subst Differ (sym (own-parts circuit are_names once k))
+      (Differ-append (declared_words circuit are_names once k) (stop_words (module_at circuit.modules k).statements) (declared-differ circuit are_names once k) (stops-differ (module_at circuit.modules k).statements (few k))
+      (λ w a b. no-stop circuit are_names once k w (stop-word (module_at circuit.modules k).statements w b) (Contains-append_cases (flat_map (port_words circuit are_names once) (module_at circuit.modules k).ports) (flat_map (statement_words circuit are_names once k) (module_at circuit.modules k).statements) w a)))
+
+  -- ---- signals
+
+  signals-apart : AreApart circuit.modules own_names
+  signals-apart = record {
+    differ = own-differ;
+    held = held-differ circuit are_names once;
+    some = held-some circuit are_names once;
+    plain = held-plain circuit are_names once;
+    apart = λ k h r c has. clash k h r c (from-map (λ (o : Own). o.name) (own_in circuit (top_site k)) (behind h r) has);
+  }
+    where
+      clash : (k : ℕ) (h : Held) (r : List ℕ) → Contains (held_at circuit.modules k) h → MadeOf (λ (o : Own) n. o.name ≡ n) (own_in circuit (top_site k)) (behind h r) → ⊥
+      clash k h r c m = go ((apart-names circuit are_names once).of_own (top_site k) m.among.0 m.among.1)
+        where
+          named : (get_or (own_in circuit (top_site k)) m.among.0 m.of).name ≡ behind h r
+          named = ap (λ (o : Own). o.name) m.among.2 ∙ m.made
+
+          go : ((d : Own) → ¬ Contains (get_or (own_in circuit (top_site k)) m.among.0 d).name 46) ⊎ ((d : Own) → FieldPlace (module_at circuit.modules k).statements (get_or (own_in circuit (top_site k)) m.among.0 d)) → ⊥
+          go (inl plain) = plain m.of (subst (λ n. Contains n 46) (sym named) (dot-within h.name r))
+          go (inr field) =
+              let f = field m.of in
+              let name = memory-field f.bank.name f.bank.bank f.among.0 (get_or (own_in circuit (top_site k)) m.among.0 m.of) f.among.1 in
+              let is : behind h r ≡ f.bank.name ++ 46 ∷ (name.port ++ 46 ∷ name.field) = sym named ∙ ap (λ (o : Own). o.name) (sym f.among.2) ∙ name.is in
+              let listed : Contains (own_banks (module_at circuit.modules k).statements) f.bank = (f.place, f.known, f.is f.bank) in
+              let word = bank-word (module_at circuit.modules k).statements f.bank (words circuit are_names once k) listed in
+              (apart-names circuit are_names once).apart (top_site k) h f.bank c listed
+              (first-once h.name f.bank.name r (name.port ++ 46 ∷ name.field) (held-plain circuit are_names once k h c) (name-dotless f.bank.name word.name) is)
+
+  -- ---- the circuit's paths
+
+  pub signal-paths-differ : Differ (signal_paths circuit)
+  signal-paths-differ =
+      subst Differ (sym (flat_map-parts (signals_at (types_of circuit) circuit.modules) (λ (x : FlatSignal). x.path) (sites_of circuit) ∙ flat_map-same (λ (s : Site). map (λ (x : FlatSignal). x.path) (signals_at (types_of circuit) circuit.modules s)) (own_paths circuit.modules own_names signals-apart) (sites_of circuit) same))
+      (of-sites circuit are_names once own_names signals-apart (place_of circuit.name (module_names circuit)))
+    where
+      same : (s : Site) → map (λ (x : FlatSignal). x.path) (signals_at (types_of circuit) circuit.modules s) ≡ map (joined s.path) (own_names s.number)
+      same s =
+          map-map (λ (x : FlatSignal). x.path) (flat_signal circuit.modules s) (own_signals (types_of circuit) s.number (module_at circuit.modules s.number))
+          ∙ sym (map-map (joined s.path) (λ (o : Own). o.name) (own_signals (types_of circuit) s.number (module_at circuit.modules s.number)))
