@@ -7,10 +7,10 @@ use Rattle.gg_program.specs.Programmed.{Programmed}
 use Rattle.gg_program.specs.Slots.{IsDone, DoneWith, inputs_in}
 use Rattle.gg_program.specs.Right.{InCycle}
 use Rattle.gg_program.proofs.ConeLemmas.{IsConeValue-done}
-use Rattle.gg_program.proofs.program.Program.run_cone.Goals as goal
+use Rattle.gg_program.proofs.program.Program.cone_once.Goals as goal
 
 pub returns-clause-value : goal.returns-clause-value
-returns-clause-value c =
+returns-clause-value g c =
     let circuit = c.args.self.now.circuit in
     let state = c.args.state.now in
     let before = c.args.slots.now in
