@@ -16,9 +16,22 @@ use std::marker::Brand;
 
 /// What is tried on the network of a plan.
 pub trait Trial {
-    /// Whether the network of a design's plan does on a trace what is expected.
-    fn holds<Z: Streams>(&self, alloc: Global, design: &Design, plan: &Plan, inputs: &Trace) -> bool
+    /// Whether the network of a plan does on a trace what is expected.
+    fn holds<Z: Streams>(&self, alloc: Global, plan: &Plan, inputs: &Trace) -> bool
         requires { IsToRun plan.now inputs.now.columns inputs.now.rows Z.flow };
+}
+
+// Whether the network of a design's plan does what is expected. What it computes is picked where this is called, by the design.
+fn is_tried<T: Trial, Z: Streams>(
+    alloc: Global,
+    _design: &Design,
+    plan: &Plan,
+    inputs: &Trace,
+    trial: &T,
+) -> bool
+    requires { IsToRun plan.now inputs.now.columns inputs.now.rows Z.flow }
+{
+    trial.holds::<Z>(alloc, plan, inputs)
 }
 
 // Whether the network of a design and a request does what is expected.
@@ -41,7 +54,7 @@ fn is_cut<T: Trial>(
     let _ = design.tree();
     let _ = inputs.rows();
     match cut(alloc, design, request, capacity) {
-        Ok(plan) => trial.holds::<Brand>(alloc, design, &plan, inputs),
+        Ok(plan) => is_tried::<T, Brand>(alloc, design, &plan, inputs, trial),
         Err(fault) => {
             drop(fault);
             false

@@ -6,7 +6,6 @@ use crate::measures::end_alike;
 use gg_build::{Node, build};
 use gg_cut::Plan;
 use gg_net::{Event, Net, Refusal, Streams};
-use gg_order::Design;
 use gg_trace::Trace;
 use net_calls::{COUNTER, COUNTER_TRACE, THREE_CYCLES, Trial, memory, try_network};
 use std::alloc::{AllocError, Global};
@@ -193,13 +192,7 @@ fn is_built_twice<Z: Streams>(alloc: Global, plan: &Plan, inputs: &Trace, case: 
 }
 
 impl Trial for Case {
-    fn holds<Z: Streams>(
-        &self,
-        alloc: Global,
-        _design: &Design,
-        plan: &Plan,
-        inputs: &Trace,
-    ) -> bool {
+    fn holds<Z: Streams>(&self, alloc: Global, plan: &Plan, inputs: &Trace) -> bool {
         is_built_once::<Z>(alloc, plan, inputs, self)
             && is_built_twice::<Z>(alloc, plan, inputs, self)
     }

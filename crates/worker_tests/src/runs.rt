@@ -5,7 +5,6 @@ use gg_io::Gate;
 use gg_link::Link;
 use gg_measure::{left, run_to, run_to_end};
 use gg_net::{Net, Streams};
-use gg_order::Design;
 use gg_ring::Ring;
 use gg_ruled::Ruled;
 use gg_trace::Trace;
@@ -69,13 +68,7 @@ pub(crate) struct OverRing<'a, R, G> {
 }
 
 impl<'a, R: Threads + Sync, G: Gate + Sync> Trial for OverRing<'a, R, G> {
-    fn holds<Z: Streams>(
-        &self,
-        alloc: Global,
-        _design: &Design,
-        plan: &Plan,
-        inputs: &Trace,
-    ) -> bool {
+    fn holds<Z: Streams>(&self, alloc: Global, plan: &Plan, inputs: &Trace) -> bool {
         match build::<Z>(alloc, plan, inputs) {
             Ok(net) => goes::<R, Ring, Z, G>(&self.rt, (), alloc, net, self.run, self.gate),
             Err(_) => false,
@@ -92,13 +85,7 @@ pub(crate) struct OverQueue<'a, R, G> {
 }
 
 impl<'a, R: Threads + Wait + Copy + Send + Sync, G: Gate + Sync> Trial for OverQueue<'a, R, G> {
-    fn holds<Z: Streams>(
-        &self,
-        alloc: Global,
-        _design: &Design,
-        plan: &Plan,
-        inputs: &Trace,
-    ) -> bool {
+    fn holds<Z: Streams>(&self, alloc: Global, plan: &Plan, inputs: &Trace) -> bool {
         match build::<Z>(alloc, plan, inputs) {
             Ok(net) => {
                 goes::<R, Ruled<R>, Z, G>(&self.rt, self.rt, alloc, net, self.run, self.gate)
