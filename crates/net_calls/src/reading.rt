@@ -10,10 +10,10 @@ use gg_trace::{Trace, read_trace};
 use std::alloc::Global;
 
 // The most bytes that a text may have here.
-const LIMIT: usize = 4096;
+const LIMIT: usize = 4_194_304;
 
-/// The design of a circuit.
-pub(crate) fn design_of(alloc: Global, circuit: &str) -> Option<Design> {
+/// The design of a circuit. `None` if it has a fault or is too long, or if an allocation fails.
+pub fn design_of(alloc: Global, circuit: &str) -> Option<Design> {
     let bytes = circuit.as_bytes();
     if bytes.len() > LIMIT {
         return None;
@@ -27,8 +27,8 @@ pub(crate) fn design_of(alloc: Global, circuit: &str) -> Option<Design> {
     }
 }
 
-/// The request of a partition.
-pub(crate) fn request_of(alloc: Global, partition: &str) -> Option<Request>
+/// The request of a partition. `None` if it has a fault or is too long, or if an allocation fails.
+pub fn request_of(alloc: Global, partition: &str) -> Option<Request>
     ensures { IfSome result IsSmall }
 {
     let bytes = partition.as_bytes();
@@ -44,8 +44,8 @@ pub(crate) fn request_of(alloc: Global, partition: &str) -> Option<Request>
     }
 }
 
-/// What a trace gives the inputs of a design.
-pub(crate) fn inputs_of(alloc: Global, design: &Design, trace: &str) -> Option<Trace>
+/// What a trace gives the inputs of a design. `None` if it has a fault, or if an allocation fails.
+pub fn inputs_of(alloc: Global, design: &Design, trace: &str) -> Option<Trace>
     ensures { IfSome result (λ trace. IsColumns design.now.circuit trace.rows trace.columns) }
 {
     let piece = design.piece();

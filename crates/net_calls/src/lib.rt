@@ -1,0 +1,19 @@
+//! Networks from texts, for tests: a circuit, a partition and a trace become a plan, whose network is tried. It promises nothing: the
+//! contracts of the crates below say what each call does.
+//!
+//! A value of a design or a plan makes a proof long: it is dropped once for each way out of the function that owns it. So a function that
+//! owns one has a single way out, and all others take references.
+#![tactic(auto)]
+
+mod networks;
+mod reading;
+mod texts;
+mod trial;
+
+pub use networks::{is_at_most, keeps};
+pub use reading::{design_of, inputs_of, request_of};
+pub use texts::{
+    COUNTER, COUNTER_TRACE, FOUR_PORTS, FOUR_PORTS_TRACE, PAIR, PAIR_TRACE, PASS, THREE_CYCLES,
+    TOGGLE, memory,
+};
+pub use trial::{Trial, try_network};
