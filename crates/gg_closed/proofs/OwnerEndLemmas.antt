@@ -1,16 +1,16 @@
 -- The owner of a channel's signal is at one of the channel's ends.
 use Rattle.std.proofs.Common.{◌≡◌, ℕ, suc, ◌+◌, ◌<◌, length, get_or, Bool, true, false, refl, sym, ◌∙◌, ap, subst, inl, inr, ◌⊎◌, eq-eqb, arith}
-use Rattle.std.specs.Prelude.{◌==◌, if◌then◌else◌, not, All, Contains}
+use Rattle.std.specs.Prelude.{◌==◌, if◌then◌else◌, All, Contains}
 use Rattle.std.proofs.lemmas.List.{get_or_default}
 use Rattle.std.proofs.lemmas.List.Elements.{Contains-get_or}
 use Rattle.std.proofs.lemmas.List.Folds.{list_any_at}
 use Rattle.gg_flat.specs.Line.{value_at}
 use Rattle.gg_flat.specs.Circuit.{FlatCircuit, readers_at}
 use Rattle.gg_flat.specs.Tree.{InstanceTree, IsTree, memory_at}
-use Rattle.gg_flat.specs.Scoped.{IsScoped, IsPort, IsFieldOf, memory_fields}
+use Rattle.gg_flat.specs.Scoped.{IsScoped, IsFieldOf, memory_fields}
 use Rattle.gg_cut.specs.declared.wires.Wire.{Wire}
 use Rattle.gg_cut.specs.declared.listed.Listed.{Listed}
-use Rattle.gg_cut.specs.Listed.{first_place, unit_or_hub, owner_of_instance, owner_of, has_signal, has_field, memory_or}
+use Rattle.gg_cut.specs.Listed.{first_place, unit_or_hub, owner_of, has_signal, has_field, memory_or}
 use Rattle.gg_cut.specs.Machines.{first_memory}
 use Rattle.gg_cut.specs.Channels.{wire, wires_of}
 use Rattle.gg_closed.specs.Apart.{AreApart, IsOwnerAtEnd}

@@ -1,34 +1,23 @@
 -- Tests that show of a part in full that it is a machine's part.
-use Rattle.std.proofs.Common.{◌≡◌, ◌≢◌, ◌==◌, ◌&&◌, ◌||◌, ◌↔◌, ◌⊎◌, ℕ, zero, suc, ◌<◌, ◌≤◌, List, [], ◌∷◌, length, map, get_or, set, replicate, Bool, true, false, true≢false, not, nat_eq, nat_lt, refl, sym, ◌∙◌, ap, subst, inl, inr, arith, ltb-true}
-use Rattle.std.specs.Prelude.{if◌then◌else◌, Contains, AllPairs, bytes_eq}
+use Rattle.std.proofs.Common.{◌≡◌, ◌≢◌, ◌==◌, ◌&&◌, ◌||◌, ◌↔◌, ℕ, suc, ◌<◌, List, [], ◌∷◌, length, map, Bool, true, false, true≢false, not, nat_lt, refl, sym, ◌∙◌, ap, subst, inl, inr, arith, ltb-true}
+use Rattle.std.specs.Prelude.{Contains}
 use Rattle.std.specs.List.{list_all}
 use Rattle.std.proofs.lemmas.Bool.Decides.{Decides-eqb}
-use Rattle.std.proofs.lemmas.List.{get_or-map, get_or-set_other, get_or_default, length-map}
-use Rattle.std.proofs.lemmas.List.Kept.{AllPairs-cons}
-use Rattle.std.proofs.lemmas.Slice.Eq.{bytes_eq-Decides}
-use Rattle.std.proofs.lemmas.Bool.{and_from, and_parts, or_left, or_right, or_cases, not-true}
-use Rattle.gg_flat.specs.declared.line.Node.{Node}
-use Rattle.gg_flat.specs.declared.line.Op.{Op}
-use Rattle.gg_flat.specs.declared.line.Op.TheVariants.{Ref, Literal, One, Two, Fix, Mux}
+use Rattle.std.proofs.lemmas.List.{get_or_default}
+use Rattle.std.proofs.lemmas.Bool.{and_parts, or_cases, not-true}
 use Rattle.gg_flat.specs.declared.piece.Driver.{Driver}
 use Rattle.gg_flat.specs.declared.piece.Driver.TheVariants.{Input, Held, MemoryWord, ReadRegister, Computed}
 use Rattle.gg_flat.specs.Line.{value_at, shape_at}
 use Rattle.gg_flat.specs.Circuit.{FlatCircuit, driver_at, signal_shapes}
 use Rattle.gg_flat.specs.Tree.{InstanceTree, path_at}
-use Rattle.gg_flat.specs.Reads.{Names, NamesSignal, Reads, Reaches}
-use Rattle.gg_needs.proofs.ReachLemmas.{Reaches-on, along-reaches}
-use Rattle.gg_order.specs.Marks.{is_marked}
 use Rattle.gg_order.specs.Design.{Ordered}
-use Rattle.gg_part.specs.Part.{NamesBelow, IsPart, IsFrom, IsRegisterFrom, IsMemoryFrom}
-use Rattle.gg_part.specs.Building.{Holds, IsHeldIn, AreHeld}
-use Rattle.gg_part.specs.InOrder.{IsInOrder}
+use Rattle.gg_part.specs.Part.{IsPart, IsFrom, IsRegisterFrom, IsMemoryFrom}
+use Rattle.gg_part.specs.Building.{IsHeldIn, AreHeld}
 use Rattle.gg_part.specs.declared.part.Part.{Part}
 use Rattle.gg_cut.specs.declared.listed.Listed.{Listed}
 use Rattle.gg_cut.specs.declared.wires.Wire.{Wire}
-use Rattle.gg_cut.specs.Listed.{owner_of}
-use Rattle.gg_cut.specs.Channels.{wire}
-use Rattle.gg_cut.specs.Plan.{channels_to, channels_from, signals_of, givens_of, IsInner, Makes, Takes, HasMemory, IsCutPart, IsNeed, AreNeedsOf}
-use Rattle.gg_plan.proofs.WorkedTests.{Upto, each-below, test-below, has, has-contains, contains-has, test-of, all_pairs, distinct, are_known, known-at, has_signals, has-signals, in_order, in-order}
+use Rattle.gg_cut.specs.Plan.{channels_to, channels_from, signals_of, givens_of, HasMemory, IsCutPart}
+use Rattle.gg_plan.proofs.WorkedTests.{Upto, each-below, has, has-contains, contains-has, test-of, all_pairs, distinct, are_known, known-at, has_signals, has-signals, in_order, in-order}
 
 -- ---- registers
 

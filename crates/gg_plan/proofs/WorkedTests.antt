@@ -12,22 +12,20 @@ use Rattle.gg_flat.specs.declared.line.Op.{Op}
 use Rattle.gg_flat.specs.declared.line.Op.TheVariants.{Ref, Literal, One, Two, Fix, Mux}
 use Rattle.gg_flat.specs.declared.piece.Driver.{Driver}
 use Rattle.gg_flat.specs.declared.piece.Driver.TheVariants.{Input, Held, MemoryWord, ReadRegister, Computed}
-use Rattle.gg_flat.specs.Line.{value_at, shape_at}
-use Rattle.gg_flat.specs.Circuit.{FlatCircuit, driver_at, signal_shapes}
-use Rattle.gg_flat.specs.Tree.{InstanceTree, path_at}
+use Rattle.gg_flat.specs.Line.{value_at}
+use Rattle.gg_flat.specs.Circuit.{FlatCircuit, driver_at}
+use Rattle.gg_flat.specs.Tree.{InstanceTree}
 use Rattle.gg_flat.specs.Reads.{Names, NamesSignal, Reads, Reaches}
 use Rattle.gg_needs.proofs.ReachLemmas.{Reaches-on, along-reaches}
 use Rattle.gg_order.specs.Marks.{is_marked}
-use Rattle.gg_order.specs.Design.{Ordered}
-use Rattle.gg_part.specs.Part.{NamesBelow, IsPart, IsFrom, IsRegisterFrom, IsMemoryFrom}
-use Rattle.gg_part.specs.Building.{Holds, IsHeldIn, AreHeld}
+use Rattle.gg_part.specs.Part.{NamesBelow}
 use Rattle.gg_part.specs.InOrder.{IsInOrder}
 use Rattle.gg_part.specs.declared.part.Part.{Part}
 use Rattle.gg_cut.specs.declared.listed.Listed.{Listed}
 use Rattle.gg_cut.specs.declared.wires.Wire.{Wire}
 use Rattle.gg_cut.specs.Listed.{owner_of}
 use Rattle.gg_cut.specs.Channels.{wire}
-use Rattle.gg_cut.specs.Plan.{channels_to, channels_from, signals_of, givens_of, IsInner, Makes, Takes, HasMemory, IsCutPart, IsNeed, AreNeedsOf}
+use Rattle.gg_cut.specs.Plan.{channels_to, channels_from, signals_of, givens_of, IsInner, Makes, Takes, IsNeed, AreNeedsOf}
 
 -- ---- numbers and lists
 

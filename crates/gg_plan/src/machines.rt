@@ -106,15 +106,9 @@ fn body_at(
     ensures { IfOk result (λ body. IsBody design.now listed.now wires.now number body) }
 {
     match numbering.role(number) {
-        Role::Hub => Ok(Body::Cut(cut_part(
-            alloc, design, listed, wires, share, number,
-        )?)),
-        Role::Unit(_) => Ok(Body::Cut(cut_part(
-            alloc, design, listed, wires, share, number,
-        )?)),
-        Role::Memory(_) => Ok(Body::Memory(cut_part(
-            alloc, design, listed, wires, share, number,
-        )?)),
+        Role::Hub => Ok(Body::Cut(cut_part(alloc, design, listed, wires, share, number)?)),
+        Role::Unit(_) => Ok(Body::Cut(cut_part(alloc, design, listed, wires, share, number)?)),
+        Role::Memory(_) => Ok(Body::Memory(cut_part(alloc, design, listed, wires, share, number)?)),
         Role::Source(place) => Ok(Body::Source(place)),
         Role::Tray(_) => Ok(Body::Tray),
     }

@@ -34,7 +34,11 @@ pub(crate) fn machine_name(
         Role::Hub => Name::from_str(alloc, "hub:"),
         Role::Unit(place) => request.units.as_slice()[place as usize].clone(),
         Role::Memory(place) => {
-            memory_name(alloc, design.tree(), listed.memories.as_slice()[place as usize])
+            memory_name(
+                alloc,
+                design.tree(),
+                listed.memories.as_slice()[place as usize],
+            )
         }
         Role::Source(place) => port_name(alloc, "in:", piece, piece.ins()[place as usize]),
         Role::Tray(place) => port_name(alloc, "out:", piece, piece.outs()[place as usize]),

@@ -1,5 +1,5 @@
 -- The circuit's own run solves the network of a plan.
-use Rattle.std.proofs.Common.{◌≡◌, ℕ, ◌<◌, List, [], ◌∷◌, Option, length, map, get_or, false, refl, sym, ◌∙◌, ap, subst, arith}
+use Rattle.std.proofs.Common.{◌≡◌, ℕ, ◌<◌, List, [], Option, length, map, refl, sym, ◌∙◌, ap, subst, arith}
 use Rattle.std.proofs.lemmas.List.{length-map, get_or-map}
 use Rattle.std.proofs.lemmas.Option.{none-some}
 use Rattle.gg_flat.specs.Line.{value_at}
@@ -22,7 +22,7 @@ use Rattle.gg_cut.specs.Channels.{wires_of}
 use Rattle.gg_cut.specs.Plan.{wire_at as link_at, channels_to, channels_from, signals_of, IsBody}
 use Rattle.gg_cut.specs.Solves.{columns_of}
 use Rattle.gg_cut.proofs.WireLemmas.{givens-same}
-use Rattle.gg_node.specs.Machine.{Machine, machine_at, no_state, source_machine}
+use Rattle.gg_node.specs.Machine.{Machine, machine_at, no_state}
 use Rattle.gg_net.specs.Network.{wire_at, entered_by, Kind, kind_of, kind_at}
 use Rattle.gg_net.specs.Kept.{list_at, rows_at, Answers, Asks, Solves}
 use Rattle.gg_net.proofs.StateLemmas.{column-at}

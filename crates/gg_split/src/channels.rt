@@ -53,11 +53,7 @@ pub(crate) fn channels(
 }
 
 // Adds the channels of the top's inputs.
-fn push_sources(
-    wires: &mut Vec<Wire>,
-    numbering: &Numbering,
-    ins: &[u32],
-) -> Result<(), AllocError>
+fn push_sources(wires: &mut Vec<Wire>, numbering: &Numbering, ins: &[u32]) -> Result<(), AllocError>
     requires { numbering.now.ins ≡ length ins.now }
     ensures { OnOk result (wires.new.items ≡ wires.old.items ++ numbered source_wires (source_after numbering.now.units numbering.now.memories) ins.now) }
 {
