@@ -1,10 +1,10 @@
 -- Tests that show of a part in full that it is a machine's part.
-use Rattle.std.proofs.Common.{◌≡◌, ◌==◌, ◌&&◌, ◌||◌, ◌↔◌, ℕ, suc, ◌<◌, List, [], ◌∷◌, length, map, Bool, true, false, true≢false, not, nat_lt, refl, sym, ◌∙◌, ap, subst, inl, inr, arith, ltb-true}
+use Rattle.std.proofs.Common.{◌≡◌, ◌==◌, ◌&&◌, ◌||◌, ◌↔◌, ℕ, zero, suc, ◌<◌, List, [], ◌∷◌, length, map, Bool, true, false, true≢false, not, nat_lt, refl, sym, ◌∙◌, ap, subst, inl, inr, arith, ltb-true}
 use Rattle.std.specs.Prelude.{Contains}
 use Rattle.std.specs.List.{list_all}
 use Rattle.std.proofs.lemmas.Bool.Decides.{Decides-eqb}
 use Rattle.std.proofs.lemmas.List.{get_or_default}
-use Rattle.std.proofs.lemmas.Bool.{and_parts, or_cases, not-true}
+use Rattle.std.proofs.lemmas.Bool.{and_from, and_parts, or_left, or_right, or_cases, not-true}
 use Rattle.gg_flat.specs.declared.piece.Driver.{Driver}
 use Rattle.gg_flat.specs.declared.piece.Driver.TheVariants.{Input, Held, MemoryWord, ReadRegister, Computed}
 use Rattle.gg_flat.specs.Line.{value_at, shape_at}
@@ -36,7 +36,7 @@ is_held held (MemoryWord memory reader addr en) = true
 is_held held (ReadRegister memory reader) = true
 is_held held (Computed line) = true
 
-abbrev holder_among : FlatCircuit → List ℕ → List ℕ → ℕ → Bool
+abbrev pub holder_among : FlatCircuit → List ℕ → List ℕ → ℕ → Bool
 holder_among circuit ins [] r = false
 holder_among circuit ins (s ∷ globals) r = (not (has ins s) && holds (driver_at circuit s) r) || holder_among circuit ins globals r
 
@@ -76,6 +76,26 @@ has-held circuit globals ins held is =
       ];
       sound = λ r among. holder-in circuit globals ins r (test-of (holder_among circuit ins globals) held parts.1 r among);
     }
+
+holder-there : (circuit : FlatCircuit) (globals ins : List ℕ) (r : ℕ) → IsHeldIn circuit globals ins r → holder_among circuit ins globals r ≡ true
+holder-there circuit globals ins r is = by globals is.chosen
+  where
+    here : not (has ins is.signal) && holds (driver_at circuit is.signal) r ≡ true
+    here = and_from (not (has ins is.signal)) (holds (driver_at circuit is.signal) r) (free (has ins is.signal) refl) (subst (λ (driver : Driver). holds driver r ≡ true) (sym is.holds.holds) ((Decides-eqb r r).1 refl))
+      where
+        free : (b : Bool) → has ins is.signal ≡ b → not (has ins is.signal) ≡ true
+        free true e = absurd (is.holds.inside (has-contains ins is.signal e))
+        free false e = ap not e
+
+    by : (list : List ℕ) → Contains list is.signal → holder_among circuit ins list r ≡ true
+    by [] (k, lt, e) = absurd (omega arith)
+    by (s ∷ list) (zero, lt, e) =
+        or_left (not (has ins s) && holds (driver_at circuit s) r) (holder_among circuit ins list r) (subst (λ (t : ℕ). not (has ins t) && holds (driver_at circuit t) r ≡ true) (sym e) here)
+    by (s ∷ list) (suc k, lt, e) = or_right (not (has ins s) && holds (driver_at circuit s) r) (holder_among circuit ins list r) (by list (k, omega arith, e))
+
+-- a part can't list a register that none of its signals holds
+pub idle-register : (circuit : FlatCircuit) (globals ins held : List ℕ) (r : ℕ) → has held r ≡ true → holder_among circuit ins globals r ≡ false → ¬ AreHeld circuit globals ins held
+idle-register circuit globals ins held r listed idle are = true≢false (sym (holder-there circuit globals ins r (are.sound r (has-contains held r listed))) ∙ idle)
 
 -- ---- parts
 

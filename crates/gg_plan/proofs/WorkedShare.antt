@@ -19,6 +19,7 @@ use Rattle.gg_flat.proofs.WorkedMemories.{signal, copy}
 use Rattle.gg_flat.proofs.WorkedForms.{only}
 use Rattle.gg_order.specs.Design.{Ordered}
 use Rattle.gg_part.specs.Part.{IsPart, IsRegisterFrom}
+use Rattle.gg_part.specs.Building.{AreHeld}
 use Rattle.gg_part.specs.declared.part.Part.{Part}
 use Rattle.gg_partfile.specs.declared.request.Request.{Request}
 use Rattle.gg_cut.specs.declared.plan.Body.TheVariants.{Cut, Source, Tray}
@@ -31,7 +32,7 @@ use Rattle.gg_cut.specs.Channels.{wires_of, capacity_of}
 use Rattle.gg_cut.specs.Plan.{IsPlan, IsMachine, IsChannel, IsCutPart, wire_at}
 use Rattle.gg_cut.proofs.WorkedPair.{input, output, asks}
 use Rattle.gg_plan.proofs.WorkedTests.{each-below, ascending, names-below, has-needs, extra-need}
-use Rattle.gg_plan.proofs.WorkedParts.{is-part, is-part-with, no-memories, is-cut-part}
+use Rattle.gg_plan.proofs.WorkedParts.{is-part, is-part-with, no-memories, is-cut-part, idle-register}
 
 -- a register that adds signal a up, and is itself signal r
 abbrev sum_of : ℕ → ℕ → List Node
@@ -277,6 +278,10 @@ mixed = record { piece = part_v.piece; globals = part_v.globals; held = 0 ∷ []
 
 register-mixed : ¬ IsPlan design request 2 (record { machines = set machines 2 (record { name = codes "v"; host = 1; body = Cut mixed; ins = 3 ∷ []; outs = 4 ∷ [] }); channels = channels; listed = listed })
 register-mixed is = let body = (is.machine 2 any_machine (lit< tt)).body in let from = body.1.is.drivers 0 (lit< tt) in let wrong : Held 1 ≡ Held 0 = from.1 in cc
+
+-- the registers of both units, of which the signals of `u` hold one
+register-idle : ¬ AreHeld circuit part_u.globals (3 ∷ []) (0 ∷ 1 ∷ [])
+register-idle = idle-register circuit part_u.globals (3 ∷ []) (0 ∷ 1 ∷ []) 1 refl refl
 
 -- both units with the part of `u`
 twice-u : ¬ IsPlan design request 2 (record { machines = set machines 2 (record { name = codes "v"; host = 1; body = Cut part_u; ins = 3 ∷ []; outs = 4 ∷ [] }); channels = channels; listed = listed })
