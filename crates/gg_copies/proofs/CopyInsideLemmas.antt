@@ -15,7 +15,7 @@ use Rattle.gg_tree.proofs.OwnLemmas.{placed-known}
 use Rattle.gg_tree.proofs.PlaceLemmas.{Placed, within, within-some}
 use Rattle.gg_tree.proofs.RangeLemmas.{Ranges, count_to, count-le, placed-same, placed-count}
 use Rattle.gg_tree.proofs.TreeLemmas.{HasDistinctPaths}
-use Rattle.gg_copies.specs.Copies.{LiesIn, above}
+use Rattle.gg_moved.specs.Copies.{LiesIn, above}
 
 module _ (circuit : CircuitTree) (tree : InstanceTree) (top : ℕ) (known_top : place_of circuit.name (module_names circuit) ≡ Some top) (is_tree : IsTreeOf circuit tree) (distinct : HasDistinctPaths circuit) (i : ℕ) (u : Site) (at : Placed (length circuit.modules) circuit.modules (sites_of circuit) i u) where
   abbrev Stands : ℕ → Site → Type 0

@@ -44,7 +44,7 @@ use Rattle.gg_tree.proofs.ScopeOfTreeLemmas.{HasApartNames}
 use Rattle.gg_tree.proofs.TreeLemmas.{HasDistinctPaths, HasPlainNames, no_own, no_port, port-at, path-is}
 use Rattle.gg_tree.proofs.VisibleLemmas.{HasKnownNames}
 use Rattle.gg_moved.specs.Moved.{IsMoved, moved_driver, moved_register, moved_memory, moved_port, shifted}
-use Rattle.gg_copies.specs.Copies.{LiesIn, Start, IsCopy, HasCopies}
+use Rattle.gg_moved.specs.Copies.{LiesIn, Start, IsCopy, HasCopies}
 use Rattle.gg_copies.proofs.LikeSites.{AreLikeSites, AreLikeSignals, AreLikeMemories}
 use Rattle.gg_copies.proofs.CopyLemmas.{HasSomeNames, whole-like, signals-like, memories-like}
 use Rattle.gg_copies.proofs.CopyLineLemmas.{SamePaths}

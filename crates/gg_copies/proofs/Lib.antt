@@ -8,4 +8,3 @@ pub mod CopyLineLemmas
 pub mod CopyPlaceLemmas
 pub mod CopyRankLemmas
 pub mod LikeSites
-mod WorkedCopies

@@ -3,7 +3,7 @@ ghost use Rattle.gg_flattened.specs.IsFlat.{IsFlat};
 ghost use Rattle.gg_flat.specs.Scoped.{IsScoped};
 ghost use Rattle.gg_flat.specs.Tree.{IsTree};
 ghost use Rattle.gg_tree.specs.IsTreeOf.{IsTreeOf};
-ghost use Rattle.gg_copies.specs.Copies.{HasCopies};
+ghost use Rattle.gg_moved.specs.Copies.{HasCopies};
 
 use gg_flat::{Piece, Tree};
 use gg_formed::top_of;

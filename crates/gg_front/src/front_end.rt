@@ -4,9 +4,9 @@ ghost use Rattle.std.specs.List.{All};
 ghost use Rattle.gg_flattened.specs.IsFlat.{IsFlat};
 ghost use Rattle.gg_tree.specs.IsTreeOf.{IsTreeOf};
 ghost use Rattle.gg_flat.specs.Reads.{IsLoop};
-ghost use Rattle.gg_flat.specs.Scoped.{IsScoped};
-ghost use Rattle.gg_flat.specs.Tree.{IsTree, path_at};
+ghost use Rattle.gg_flat.specs.Tree.{path_at};
 ghost use Rattle.gg_flat.specs.WellFormed.{IsWellFormed};
+ghost use Rattle.gg_moved.specs.KeepsToTree.{KeepsToTree};
 ghost use Rattle.gg_order.specs.Fault.{IfLoop};
 ghost use Rattle.gg_order.specs.Loop.{IsToldLoop};
 ghost use Rattle.gg_read.specs.Text.{Spells, HasNoFaultLine};
@@ -19,6 +19,7 @@ ghost use Rattle.gg_front.specs.Meaning.{MeansDesign};
 use crate::fault::FrontFault;
 use gg_ast::Circuit;
 use gg_bits::{Name, Names};
+use gg_copies::copies;
 use gg_count::Excess;
 use gg_elab::{ElabFault, flatten, limit_of};
 use gg_flat::{Piece, Tree};
@@ -31,7 +32,8 @@ use gg_types::{Typed, typed};
 use std::alloc::{AllocError, Global};
 
 /// The design of a circuit file: a well-formed flat circuit that the bytes mean, with the tree of the circuit that
-/// they spell and an order of evaluation. Each register is held by exactly one signal.
+/// they spell and an order of evaluation. Each register is held by exactly one signal. The circuit keeps to its tree, in
+/// which instances of one module are copies of each other.
 ///
 /// # Errors
 ///
@@ -43,6 +45,7 @@ pub fn front(alloc: Global, bytes: &[u8]) -> Result<Design, FrontFault>
     requires { length bytes.now < 2 ^ 32 }
     ensures ok { IfOk result (λ design. MeansDesign bytes.now design) }
     ensures held { IfOk result (λ design. AreHeldOnce design.circuit) }
+    ensures keeps { IfOk result (λ design. KeepsToTree design.circuit design.tree) }
     ensures refused { IfErr result (HasFrontFault bytes.now) }
 {
     let circuit = read(alloc, bytes)?;
@@ -70,6 +73,7 @@ fn design_of(alloc: Global, circuit: &Circuit) -> Result<Design, FrontFault>
     ensures grown { IfOk result (λ design. IsTreeOf circuit.now design.tree) }
     ensures formed { IfOk result (λ design. IsWellFormed design.circuit) }
     ensures held { IfOk result (λ design. AreHeldOnce design.circuit) }
+    ensures keeps { IfOk result (λ design. KeepsToTree design.circuit design.tree) }
     ensures refused { IfErr result (IfFirstFault circuit.now) }
 {
     one_flat();
@@ -85,8 +89,7 @@ fn flat_circuit(alloc: Global, circuit: &Circuit) -> Result<(Piece, Tree), Front
     ensures grown { IfOk result (λ made. IsTreeOf circuit.now made.1) }
     ensures formed { IfOk result (λ made. IsWellFormed made.0) }
     ensures held { IfOk result (λ made. AreHeldOnce made.0) }
-    ensures fitting { IfOk result (λ made. IsTree made.0 made.1) }
-    ensures scoped { IfOk result (λ made. IsScoped made.0 made.1) }
+    ensures keeps { IfOk result (λ made. KeepsToTree made.0 made.1) }
     ensures refused { IfErr result (IfFirstFault circuit.now) }
 {
     let checked = checked(alloc, circuit)?;
@@ -138,12 +141,14 @@ fn flattened(alloc: Global, checked: &Typed) -> Result<(Piece, Tree), FrontFault
     ensures grown { IfOk result (λ made. IsTreeOf checked.now.circuit made.1) }
     ensures formed { IfOk result (λ made. IsWellFormed made.0) }
     ensures held { IfOk result (λ made. AreHeldOnce made.0) }
-    ensures fitting { IfOk result (λ made. IsTree made.0 made.1) }
-    ensures scoped { IfOk result (λ made. IsScoped made.0 made.1) }
+    ensures keeps { IfOk result (λ made. KeepsToTree made.0 made.1) }
     ensures refused { IfErr result (IfFirstFault checked.now.circuit) }
 {
     match flatten(alloc, checked) {
-        Ok(made) => Ok(made),
+        Ok((piece, tree)) => {
+            copies(checked, &piece, &tree);
+            Ok((piece, tree))
+        }
         Err(ElabFault::TooLarge(excess)) => Err(FrontFault::Fault(over_limit(excess))),
         Err(ElabFault::NoMemory) => Err(FrontFault::NoMemory),
     }
@@ -162,8 +167,6 @@ fn over_limit(excess: Excess) -> Fault
 // The flat circuit with its tree and an order, or a loop of it.
 fn ordered(alloc: Global, piece: Piece, tree: Tree) -> Result<Design, FrontFault>
     requires formed { IsWellFormed piece }
-    requires fitting { IsTree piece tree }
-    requires scoped { IsScoped piece tree }
     ensures circuit { IfOk result (λ design. design.circuit ≡ piece) }
     ensures grown { IfOk result (λ design. design.tree ≡ tree) }
     ensures free { IfOk result (λ _. (loop : List ℕ) → ¬ IsLoop piece loop) }

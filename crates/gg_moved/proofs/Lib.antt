@@ -1,2 +1,3 @@
 pub mod MovedLemmas
+mod WorkedCopies
 mod WorkedMoved

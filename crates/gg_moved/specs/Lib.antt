@@ -1,2 +1,4 @@
+pub mod Copies
+pub mod KeepsToTree
 pub mod Moved
 pub mod StandsAgain

@@ -1,16 +1,14 @@
 //! `Design`: a flat circuit with the tree of its instances and an order of evaluation.
 ghost use Rattle.std.specs.Prelude.{◌≡◌};
 ghost use Rattle.gg_flat.specs.WellFormed.{IsWellFormed};
-ghost use Rattle.gg_flat.specs.Tree.{IsTree};
-ghost use Rattle.gg_flat.specs.Scoped.{IsScoped};
 ghost use Rattle.gg_flat.specs.Order.{IsOrder};
 
 use crate::ordering::Order;
 use gg_flat::{Piece, Tree};
 use std::marker::Model;
 
-/// A flat circuit that is well formed, with the tree of its instances and an order of evaluation. A contract sees these
-/// three.
+/// A flat circuit that is well formed, with a tree of instances and an order of evaluation. A contract sees these three.
+/// Whether the circuit keeps to the tree is for the maker to say.
 #[derive(Drop)]
 pub struct Design {
     piece: Piece,
@@ -29,13 +27,10 @@ impl Model for Design {
 }
 
 impl Design {
-    /// The design of a circuit, the tree of its instances and an order of it. The circuit is well formed, as
-    /// `Piece::check` tells. The tree is one of the circuit, and the circuit keeps to its scopes. The order has each
-    /// signal once, after all signals that it reads.
+    /// The design of a circuit, a tree of instances and an order of the circuit. The circuit is well formed, as
+    /// `Piece::check` tells. The order has each signal once, after all signals that it reads.
     pub fn new(piece: Piece, tree: Tree, order: Order) -> Design
         requires formed { IsWellFormed piece }
-        requires fitting { IsTree piece tree }
-        requires scoped { IsScoped piece tree }
         requires ordered { IsOrder piece order }
         ensures circuit { result.circuit ≡ piece }
         ensures tree { result.tree ≡ tree }
@@ -52,11 +47,9 @@ impl Design {
         &self.piece
     }
 
-    /// The tree of the circuit's instances.
+    /// The tree of instances.
     pub fn tree(&self) -> &Tree
         ensures tree { result.now ≡ self.now.tree }
-        ensures fitting { IsTree self.now.circuit self.now.tree }
-        ensures scoped { IsScoped self.now.circuit self.now.tree }
     {
         &self.tree
     }

@@ -6,7 +6,7 @@
 //!
 //! - `order` returns an order exactly if the circuit has no combinational loop. Else it returns such a loop, which
 //!   begins with the signal whose path is the least by bytes (`IsToldLoop`). It may return `NoMemory` instead;
-//! - a `Design` is a well-formed flat circuit, with the tree of its instances and an order of it.
+//! - a `Design` is a well-formed flat circuit, with a tree of instances and an order of it.
 //!
 //! The time that `order` takes is linear in the numbers of signals and nodes.
 #![tactic(auto)]

@@ -1,23 +1,52 @@
 -- The bytes of a file have one answer: a request, or one key with which they are refused.
-use Rattle.std.proofs.Common.{◌≡◌, ℕ, List, Option, Some, None, sym, ap, ◌∙◌, subst, cond, inl, inr}
-use Rattle.std.specs.Prelude.{is_some, codes}
+use Rattle.std.proofs.Common.{◌≡◌, ℕ, List, [], ◌∷◌, Bool, true, Option, Some, None, refl, sym, ap, ◌∙◌, subst, cond, inl, inr}
+use Rattle.std.specs.Prelude.{⊤, is_some, codes}
 use Rattle.std.proofs.lemmas.Option.{none-some, same_Some}
 use Rattle.serde_json.specs.Data.{Data}
-use Rattle.gg_partfile.specs.Partition.{texts, groups, numbers, under, unknown, Asks, IsPartition}
-use Rattle.gg_partfile.specs.Fault.{wrong, or_else, first_wrong, wrong_key, IsRefused}
+use Rattle.serde_json.specs.Find.{get, as_object}
+use Rattle.gg_partfile.specs.Fault.{or_else, first_wrong, wrong_key, IsRefused}
+use Rattle.gg_partfile.specs.Keys.{Key, keys, is_known, has_shape, misshapen, or_default, under, unknown}
+use Rattle.gg_partfile.specs.Partition.{Asks, IsPartition}
+use Rattle.gg_partfile.specs.Shapes.{texts, groups, numbers}
 use Rattle.gg_partfile.specs.declared.request.Request.{Request}
 
-right : {A : Type 0} (f : Data → Option (List A)) (key : List ℕ) (d : Data) (found : List A) → under f key d ≡ Some found → wrong f key d ≡ None
-right {A = A} f key d found is = ap (λ (o : Option (List A)). cond (is_some o) None (Some key)) is
+-- ---- keys
+
+-- the value under a known key is read, or the key is absent, exactly where it has the key's shape
+shape-read : {A : Type 0} (default : A) (f : Data → Option A) (o : Option Data) → has_shape (λ d. is_some (f d)) o ≡ is_some (or_default default f o)
+shape-read default f None = refl
+shape-read default f (Some d) = refl
+
+fits-under : {A : Type 0} (default : A) (f : Data → Option A) (key : List ℕ) (d : Data) → is_known key ≡ true → has_shape (λ e. is_some (f e)) (get key d) ≡ is_some (under default f key d)
+fits-under default f key d known = shape-read default f (get key d) ∙ sym (ap (λ (b : Bool). is_some (or_default default f (cond b (get key d) None))) known)
+
+-- what is read under a known key has its shape
+pub fits : {A : Type 0} (default : A) (f : Data → Option A) (key : List ℕ) (d : Data) (found : A) → is_known key ≡ true → under default f key d ≡ Some found → has_shape (λ e. is_some (f e)) (get key d) ≡ true
+fits default f key d found known is = fits-under default f key d known ∙ ap (λ (o : Option _). is_some o) is
+
+-- the first key is passed over if its value has its shape
+misshapen-next : (key : Key) (rest : List Key) (d : Data) → has_shape key.fits (get key.name d) ≡ true → misshapen (key ∷ rest) d ≡ misshapen rest d
+misshapen-next key rest d is = ap (λ b. cond b (misshapen rest d) (Some key.name)) is
+
+-- each of these keys is absent or has its shape
+abbrev pub AllFit : List Key → Data → Type 0
+AllFit [] d = ⊤
+AllFit (key ∷ rest) d = (has_shape key.fits (get key.name d) ≡ true) × AllFit rest d
+
+all-fit : (ks : List Key) (d : Data) → AllFit ks d → misshapen ks d ≡ None
+all-fit [] d h = refl
+all-fit (key ∷ rest) d h = misshapen-next key rest d h.0 ∙ all-fit rest d h.1
+
+-- ---- the key that is told
+
+told-last : (d : Data) → is_some (as_object d) ≡ true → AllFit keys d → wrong_key d ≡ unknown d
+told-last d object fit = ap (λ b. cond b (first_wrong d) (Some (codes "-"))) object ∙ ap (λ o. or_else o (unknown d)) (all-fit keys d fit)
 
 -- a value that asks for a request has no wrong key
 asked : (d : Data) (request : Request) → Asks d request → wrong_key d ≡ None
 asked d request a =
-    ap (λ b. cond b (first_wrong d) (Some (codes "-"))) a.object
-    ∙ ap (λ o. or_else o (or_else (wrong groups (codes "share") d) (or_else (wrong texts (codes "memories") d) (or_else (wrong numbers (codes "capacity") d) (unknown d))))) (right texts (codes "units") d request.units a.units)
-    ∙ ap (λ o. or_else o (or_else (wrong texts (codes "memories") d) (or_else (wrong numbers (codes "capacity") d) (unknown d)))) (right groups (codes "share") d request.share a.share)
-    ∙ ap (λ o. or_else o (or_else (wrong numbers (codes "capacity") d) (unknown d))) (right texts (codes "memories") d request.memories a.memories)
-    ∙ ap (λ o. or_else o (unknown d)) (right numbers (codes "capacity") d request.capacity a.capacity)
+    told-last d a.object
+    (fits [] texts (codes "units") d request.units refl a.units, (fits [] groups (codes "share") d request.share refl a.share, (fits [] texts (codes "memories") d request.memories refl a.memories, (fits [] numbers (codes "capacity") d request.capacity refl a.capacity, tt))))
     ∙ a.known
 
 pub refused-apart : (bytes key : List ℕ) (request : Request) → IsPartition bytes request → ¬ IsRefused bytes key

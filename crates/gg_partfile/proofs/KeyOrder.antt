@@ -14,7 +14,9 @@ use Rattle.serde_json.specs.Data.{Data, null, boolean, number, string, array, ob
 use Rattle.serde_json.specs.Find.{get, get_member}
 use Rattle.serde_json.specs.Read.{number_of, of_json, of_items, of_members, max_depth, read}
 use Rattle.gg_partfile.specs.Order.{IsBefore, IsLeastUnknown}
-use Rattle.gg_partfile.specs.Partition.{whole, pairs, numbers, or_empty, is_known, unknown_key, unknown, IsPartition}
+use Rattle.gg_partfile.specs.Keys.{key_names, is_known, unknown, held, or_default, under}
+use Rattle.gg_partfile.specs.Partition.{IsPartition}
+use Rattle.gg_partfile.specs.Shapes.{whole, ratio, each_member, named, other_member}
 use Rattle.gg_partfile.specs.declared.request.Request.{Request}
 
 -- a key comes before all keys of an object
@@ -135,13 +137,13 @@ behind-unknown Less k other d ms is h held less = not-before-itself k (before-tr
 behind-unknown Equal k other d ms is h held less = let e : Equal ≡ Less = sym is ∙ less in cc
 behind-unknown Greater k other d ms is h held less = let e : Greater ≡ Less = sym is ∙ less in cc
 
-least-at : (b : Bool) (k key other : List ℕ) (d : Data) (ms : Members) → is_known k ≡ b → MembersInOrder (member k d ms) → cond b (unknown_key ms) (Some k) ≡ Some key → is_some (get_member other (member k d ms)) ≡ true → is_known other ≡ false → (unknown_key ms ≡ Some key → is_some (get_member other ms) ≡ true → ¬ IsBefore other key) → ¬ IsBefore other key
+least-at : (b : Bool) (k key other : List ℕ) (d : Data) (ms : Members) → is_known k ≡ b → MembersInOrder (member k d ms) → cond b (other_member key_names ms) (Some k) ≡ Some key → is_some (get_member other (member k d ms)) ≡ true → is_known other ≡ false → (other_member key_names ms ≡ Some key → is_some (get_member other ms) ≡ true → ¬ IsBefore other key) → ¬ IsBefore other key
 least-at true k key other d ms known h is held unknown later =
     behind-known (slice_cmp nat_cmp other k) k key other d ms refl known unknown (later is) held
 least-at false k key other d ms known h is held unknown later =
     subst (λ (l : List ℕ). ¬ IsBefore other l) (same_Some k key is) (behind-unknown (slice_cmp nat_cmp other k) k other d ms refl h.0 held)
 
-least-member : (key other : List ℕ) (ms : Members) → MembersInOrder ms → unknown_key ms ≡ Some key → is_some (get_member other ms) ≡ true → is_known other ≡ false → ¬ IsBefore other key
+least-member : (key other : List ℕ) (ms : Members) → MembersInOrder ms → other_member key_names ms ≡ Some key → is_some (get_member other ms) ≡ true → is_known other ≡ false → ¬ IsBefore other key
 least-member key other no_members h is held unknown = absurd (true≢false (sym held))
 least-member key other (member k d ms) h is held unknown =
     least-at (is_known k) k key other d ms refl h is held unknown (λ later found. least-member key other ms h.2 later found unknown)
@@ -176,39 +178,47 @@ value-ordered k (string s) e h is = absurd (none-some e is)
 value-ordered k (array ds) e h is = absurd (none-some e is)
 value-ordered k (object ms) e h is = member-ordered k e ms h is
 
--- if pairs were read from an object, its first member gives the first pair, and the others the rest
-pairs-parts : {P : Type 0} (k : List ℕ) (o : Option ℕ) (r : Option (List (List ℕ × ℕ))) (ps : List (List ℕ × ℕ)) → option_and_then (λ n. option_map (λ rest. (k, n) ∷ rest) r) o ≡ Some ps → ((n : ℕ) (rest : List (List ℕ × ℕ)) → r ≡ Some rest → ((k, n) ∷ rest) ≡ ps → P) → P
-pairs-parts k None r ps is next = absurd (none-some ps is)
-pairs-parts k (Some n) None ps is next = absurd (none-some ps is)
-pairs-parts k (Some n) (Some rest) ps is next = next n rest refl (same_Some ((k, n) ∷ rest) ps is)
+-- if the members of an object were read, the first gives the first pair, and the others the rest
+members-parts : {A P : Type 0} (k : List ℕ) (o : Option A) (r : Option (List (List ℕ × A))) (ps : List (List ℕ × A)) → option_and_then (λ a. option_map (λ rest. (k, a) ∷ rest) r) o ≡ Some ps → ((a : A) (rest : List (List ℕ × A)) → r ≡ Some rest → ((k, a) ∷ rest) ≡ ps → P) → P
+members-parts k None r ps is next = absurd (none-some ps is)
+members-parts k (Some a) None ps is next = absurd (none-some ps is)
+members-parts k (Some a) (Some rest) ps is next = next a rest refl (same_Some ((k, a) ∷ rest) ps is)
 
-pairs-before : (j : List ℕ) (ms : Members) (ps : List (List ℕ × ℕ)) → IsBeforeAll j ms → pairs ms ≡ Some ps → All (λ q. IsBefore j q.0) ps
-pairs-before j no_members ps h is = subst (All (λ q. IsBefore j q.0)) (same_Some [] ps is) (All-nil (λ q. IsBefore j q.0))
-pairs-before j (member k d ms) ps h is =
-    pairs-parts k (whole d) (pairs ms) ps is
-    (λ n rest later same. subst (All (λ q. IsBefore j q.0)) same (All-cons (λ q. IsBefore j q.0) (k, n) rest h.0 (pairs-before j ms rest h.1 later)))
+members-before : {A : Type 0} (f : Data → Option A) (j : List ℕ) (ms : Members) (ps : List (List ℕ × A)) → IsBeforeAll j ms → each_member f ms ≡ Some ps → All (λ q. IsBefore j q.0) ps
+members-before f j no_members ps h is = subst (All (λ q. IsBefore j q.0)) (same_Some [] ps is) (All-nil (λ q. IsBefore j q.0))
+members-before f j (member k d ms) ps h is =
+    members-parts k (f d) (each_member f ms) ps is
+    (λ a rest later same. subst (All (λ q. IsBefore j q.0)) same (All-cons (λ q. IsBefore j q.0) (k, a) rest h.0 (members-before f j ms rest h.1 later)))
 
-pairs-ordered : (ms : Members) (ps : List (List ℕ × ℕ)) → MembersInOrder ms → pairs ms ≡ Some ps → AllPairs (λ p q. IsBefore p.0 q.0) ps
-pairs-ordered no_members ps h is = subst (AllPairs (λ p q. IsBefore p.0 q.0)) (same_Some [] ps is) (λ i j d lt within. absurd (omega (arith, within)))
-pairs-ordered (member k d ms) ps h is =
-    pairs-parts k (whole d) (pairs ms) ps is
-    (λ n rest later same. subst (AllPairs (λ p q. IsBefore p.0 q.0)) same
-    (AllPairs-cons (λ p q. IsBefore p.0 q.0) (k, n) rest (pairs-before k ms rest h.0 later) (pairs-ordered ms rest h.2 later)))
+pairs-ordered : {A : Type 0} (f : Data → Option A) (ms : Members) (ps : List (List ℕ × A)) → MembersInOrder ms → each_member f ms ≡ Some ps → AllPairs (λ p q. IsBefore p.0 q.0) ps
+pairs-ordered f no_members ps h is = subst (AllPairs (λ p q. IsBefore p.0 q.0)) (same_Some [] ps is) (λ i j d lt within. absurd (omega (arith, within)))
+pairs-ordered f (member k d ms) ps h is =
+    members-parts k (f d) (each_member f ms) ps is
+    (λ a rest later same. subst (AllPairs (λ p q. IsBefore p.0 q.0)) same
+    (AllPairs-cons (λ p q. IsBefore p.0 q.0) (k, a) rest (members-before f k ms rest h.0 later) (pairs-ordered f ms rest h.2 later)))
 
-numbers-ordered : (d : Data) (ps : List (List ℕ × ℕ)) → InOrder d → numbers d ≡ Some ps → AllPairs (λ p q. IsBefore p.0 q.0) ps
-numbers-ordered null ps h is = absurd (none-some ps is)
-numbers-ordered (boolean b) ps h is = absurd (none-some ps is)
-numbers-ordered (number n) ps h is = absurd (none-some ps is)
-numbers-ordered (string s) ps h is = absurd (none-some ps is)
-numbers-ordered (array ds) ps h is = absurd (none-some ps is)
-numbers-ordered (object ms) ps h is = pairs-ordered ms ps h is
+named-ordered : {A : Type 0} (f : Data → Option A) (d : Data) (ps : List (List ℕ × A)) → InOrder d → named f d ≡ Some ps → AllPairs (λ p q. IsBefore p.0 q.0) ps
+named-ordered f null ps h is = absurd (none-some ps is)
+named-ordered f (boolean b) ps h is = absurd (none-some ps is)
+named-ordered f (number n) ps h is = absurd (none-some ps is)
+named-ordered f (string s) ps h is = absurd (none-some ps is)
+named-ordered f (array ds) ps h is = absurd (none-some ps is)
+named-ordered f (object ms) ps h is = pairs-ordered f ms ps h is
 
-under-ordered : (o : Option Data) (ps : List (List ℕ × ℕ)) → ((d : Data) → o ≡ Some d → InOrder d) → or_empty numbers o ≡ Some ps → AllPairs (λ p q. IsBefore p.0 q.0) ps
-under-ordered None ps h is = subst (AllPairs (λ p q. IsBefore p.0 q.0)) (same_Some [] ps is) (λ i j d lt within. absurd (omega (arith, within)))
-under-ordered (Some d) ps h is = numbers-ordered d ps (h d refl) is
+default-ordered : {A : Type 0} (f : Data → Option A) (o : Option Data) (ps : List (List ℕ × A)) → ((d : Data) → o ≡ Some d → InOrder d) → or_default [] (named f) o ≡ Some ps → AllPairs (λ p q. IsBefore p.0 q.0) ps
+default-ordered f None ps h is = subst (AllPairs (λ p q. IsBefore p.0 q.0)) (same_Some [] ps is) (λ i j d lt within. absurd (omega (arith, within)))
+default-ordered f (Some d) ps h is = named-ordered f d ps (h d refl) is
+
+held-at : (b : Bool) (o : Option Data) (d : Data) → cond b o None ≡ Some d → o ≡ Some d
+held-at true o d is = is
+held-at false o d is = absurd (none-some d is)
+
+-- what was read of an object under a key is in the order of the members' keys
+under-ordered : {A : Type 0} (f : Data → Option A) (key : List ℕ) (d : Data) (ps : List (List ℕ × A)) → InOrder d → under [] (named f) key d ≡ Some ps → AllPairs (λ p q. IsBefore p.0 q.0) ps
+under-ordered f key d ps h is = default-ordered f (held key d) ps (λ e at. value-ordered key d e h (held-at (is_known key) (get key d) e at)) is
 
 pub capacities_ordered : (bytes : List ℕ) (request : Request) → IsPartition bytes request → AllPairs (λ p q. IsBefore p.0 q.0) request.capacity
-capacities_ordered bytes request p =
-    under-ordered (get (codes "capacity") p.value) request.capacity
-    (λ d is. value-ordered (codes "capacity") p.value d (read-ordered bytes p.value p.is) is)
-    p.asks.capacity
+capacities_ordered bytes request p = under-ordered whole (codes "capacity") p.value request.capacity (read-ordered bytes p.value p.is) p.asks.capacity
+
+pub clocks_ordered : (bytes : List ℕ) (request : Request) → IsPartition bytes request → AllPairs (λ p q. IsBefore p.0 q.0) request.clocks
+clocks_ordered bytes request p = under-ordered ratio (codes "clocks") p.value request.clocks (read-ordered bytes p.value p.is) p.asks.clocks

@@ -1,11 +1,12 @@
 -- Lists that are read item by item.
-use Rattle.std.proofs.Common.{◌≡◌, ℕ, ◌+◌, ◌<◌, List, [], ◌∷◌, ◌++◌, length, get_or, map, drop, Option, Some, None, Global, refl, sym, ap, ◌∙◌, append_assoc, arith}
+use Rattle.std.proofs.Common.{◌≡◌, ℕ, ◌+◌, ◌<◌, List, [], ◌∷◌, ◌++◌, length, get_or, map, drop, Option, Some, None, Global, Bor, bytes_eq, ◌||◌, refl, sym, ap, ◌∙◌, append_assoc, arith}
 use Rattle.std.specs.Prelude.{String, string_bytes, option_map, option_and_then}
+use Rattle.std.specs.List.{list_any}
 use Rattle.std.proofs.lemmas.List.{drop_more, length-map, get_or-map}
 use Rattle.serde_json.specs.Data.{Data}
-use Rattle.serde_json.specs.View.{items_of, view, members_view}
+use Rattle.serde_json.specs.View.{items_of, view, items_view, members_view}
 use Rattle.serde_json.specs.declared.value.Value.{Value}
-use Rattle.gg_partfile.specs.Partition.{each, whole, pairs}
+use Rattle.gg_partfile.specs.Shapes.{each, two, is_one_of, each_member}
 
 -- a list after another, if there is one
 abbrev pub behind : {A : Type 0} → List A → Option (List A) → Option (List A)
@@ -45,11 +46,23 @@ pub values-stop : {A : Type 0} (f : Data → Option A) (values : List Value) (i 
 values-stop f values i value found lt is reads h =
     items-stop f (map view values) i (view value) found (omega (arith, lt, length-map values view)) (ap view is ∙ sym (get_or-map view values i value (view value) lt)) reads h
 
+-- a list that doesn't have two items is no ratio
+pub not-two : (values : List Value) → (length values ≡ 2 → ⊥) → two (items_view values) ≡ None
+not-two [] differ = refl
+not-two (a ∷ []) differ = refl
+not-two (a ∷ b ∷ []) differ = absurd (differ refl)
+not-two (a ∷ b ∷ c ∷ rest) differ = refl
+
 -- ---- the members of an object
 
-pub pairs-more : (entries rest : List (String Global × Value)) (key : String Global) (value : Value) (n : ℕ) (found : List (List ℕ × ℕ)) (all : Option (List (List ℕ × ℕ))) → entries ≡ (key, value) ∷ rest → whole (view value) ≡ Some n → behind found (pairs (members_view entries)) ≡ all → behind (found ++ (string_bytes key, n) ∷ []) (pairs (members_view rest)) ≡ all
-pairs-more entries rest key value n found all splits is reads =
-    let at : pairs (members_view entries) ≡ option_map (λ more. (string_bytes key, n) ∷ more) (pairs (members_view rest)) =
-    ap (λ (l : List (String Global × Value)). pairs (members_view l)) splits
-    ∙ ap (option_and_then (λ m. option_map (λ more. (string_bytes key, m) ∷ more) (pairs (members_view rest)))) is in
-    sym (behind-more found (string_bytes key, n) (pairs (members_view rest))) ∙ ap (behind found) (sym at) ∙ reads
+-- a name is one of the texts of a table
+pub one-of-texts : (texts : List (Bor (List ℕ))) (k : List ℕ) → list_any (λ a. bytes_eq a.now k) texts ≡ is_one_of (map (λ n. n.now) texts) k
+one-of-texts [] k = refl
+one-of-texts (a ∷ rest) k = ap (λ b. bytes_eq a.now k || b) (one-of-texts rest k)
+
+pub member-more : {A : Type 0} (f : Data → Option A) (entries rest : List (String Global × Value)) (key : String Global) (value : Value) (a : A) (found : List (List ℕ × A)) (all : Option (List (List ℕ × A))) → entries ≡ (key, value) ∷ rest → f (view value) ≡ Some a → behind found (each_member f (members_view entries)) ≡ all → behind (found ++ (string_bytes key, a) ∷ []) (each_member f (members_view rest)) ≡ all
+member-more f entries rest key value a found all splits is reads =
+    let at : each_member f (members_view entries) ≡ option_map (λ more. (string_bytes key, a) ∷ more) (each_member f (members_view rest)) =
+    ap (λ (l : List (String Global × Value)). each_member f (members_view l)) splits
+    ∙ ap (option_and_then (λ m. option_map (λ more. (string_bytes key, m) ∷ more) (each_member f (members_view rest)))) is in
+    sym (behind-more found (string_bytes key, a) (each_member f (members_view rest))) ∙ ap (behind found) (sym at) ∙ reads

@@ -1,11 +1,15 @@
 -- Small partition files: what they ask for, and what is wrong with others.
-use Rattle.std.proofs.Common.{◌≡◌, ℕ, List, [], ◌∷◌, Option, Some, None, refl, codes}
+use Rattle.std.proofs.Common.{◌≡◌, ℕ, List, [], ◌∷◌, true, false, true≢false, Option, Some, None, refl, sym, codes}
 use Rattle.std.specs.Prelude.{option_and_then}
-use Rattle.serde_json.specs.Data.{Data}
+use Rattle.std.proofs.lemmas.Option.{same_Some}
+use Rattle.serde_json.specs.Data.{Data, object, no_members}
 use Rattle.serde_json.specs.Read.{read}
 use Rattle.serde_json.proofs.OnLiterals.{serde_json_on_literals}
-use Rattle.gg_partfile.specs.Partition.{texts, groups, numbers, under}
 use Rattle.gg_partfile.specs.Fault.{wrong_key}
+use Rattle.gg_partfile.specs.Keys.{under}
+use Rattle.gg_partfile.specs.Partition.{Asks}
+use Rattle.gg_partfile.specs.Request.{no_request}
+use Rattle.gg_partfile.specs.Shapes.{texts, groups, numbers}
 
 -- the key with which a text is refused, if it is
 abbrev told_of : Option Data → Option (List ℕ)
@@ -23,21 +27,34 @@ whole : told (codes "{\"units\": [\"a\", \"b.c\"], \"share\": [[\"a\", \"b.c\"],
 unfolding serde_json_on_literals
 whole = refl
 
-units : option_and_then (under texts (codes "units")) (read (codes "{\"units\": [\"a\", \"b.c\"]}")) ≡ Some (codes "a" ∷ codes "b.c" ∷ [])
+units : option_and_then (under [] texts (codes "units")) (read (codes "{\"units\": [\"a\", \"b.c\"]}")) ≡ Some (codes "a" ∷ codes "b.c" ∷ [])
 unfolding serde_json_on_literals
 units = refl
 
-share : option_and_then (under groups (codes "share")) (read (codes "{\"share\": [[\"a\", \"b\"], []]}")) ≡ Some ((codes "a" ∷ codes "b" ∷ []) ∷ [] ∷ [])
+share : option_and_then (under [] groups (codes "share")) (read (codes "{\"share\": [[\"a\", \"b\"], []]}")) ≡ Some ((codes "a" ∷ codes "b" ∷ []) ∷ [] ∷ [])
 unfolding serde_json_on_literals
 share = refl
 
-absent : option_and_then (under texts (codes "memories")) (read (codes "{\"units\": []}")) ≡ Some []
+absent : option_and_then (under [] texts (codes "memories")) (read (codes "{\"units\": []}")) ≡ Some []
 unfolding serde_json_on_literals
 absent = refl
 
-capacity : option_and_then (under numbers (codes "capacity")) (read (codes "{\"capacity\": {\"y\": 4, \"x\": 0}}")) ≡ Some ((codes "x", 0) ∷ (codes "y", 4) ∷ [])
+capacity : option_and_then (under [] numbers (codes "capacity")) (read (codes "{\"capacity\": {\"y\": 4, \"x\": 0}}")) ≡ Some ((codes "x", 0) ∷ (codes "y", 4) ∷ [])
 unfolding serde_json_on_literals
 capacity = refl
+
+-- the request of an empty object, and no other
+asks-nothing : Asks (object no_members) no_request
+asks-nothing =
+    record { object = refl; units = refl; share = refl; memories = refl; capacity = refl; direct = refl; pipe = refl; clocks = refl; bridges = refl; known = refl }
+
+not-direct : Asks (object no_members) (record no_request { direct = true }) → ⊥
+not-direct h = true≢false (sym (same_Some false true h.direct))
+
+-- a key whose feature isn't there is unknown, whatever its value
+later_key : told (codes "{\"pipe\": [\"a.k\"], \"direct\": 1}") ≡ Some (codes "direct")
+unfolding serde_json_on_literals
+later_key = refl
 
 nothing : told [] ≡ Some (codes "-")
 unfolding serde_json_on_literals

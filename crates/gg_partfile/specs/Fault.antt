@@ -4,7 +4,7 @@ use Rattle.std.specs.Str.{IsUtf8}
 use Rattle.serde_json.specs.Data.{Data}
 use Rattle.serde_json.specs.Find.{as_object}
 use Rattle.serde_json.specs.Read.{read}
-use Rattle.gg_partfile.specs.Partition.{texts, groups, numbers, under, unknown}
+use Rattle.gg_partfile.specs.Keys.{keys, misshapen, unknown}
 use Rattle.gg_partfile.specs.declared.fault.PartFault.{PartFault}
 use Rattle.gg_partfile.specs.declared.fault.PartFault.TheVariants.{WrongKey, NoMemory}
 
@@ -18,17 +18,13 @@ abbrev pub fault_text : PartFault → List ℕ
 fault_text (WrongKey key) = codes "P1 " ++ key
 fault_text NoMemory = codes "out of memory"
 
--- the key, if the value under it has another shape
-abbrev pub wrong : {A : Type 0} → (Data → Option (List A)) → List ℕ → Data → Option (List ℕ)
-wrong f key d = if is_some (under f key d) then None else Some key
-
 abbrev pub or_else : Option (List ℕ) → Option (List ℕ) → Option (List ℕ)
 or_else None later = later
 or_else (Some key) later = Some key
 
 -- the first key whose value has a wrong shape, else the least unknown key
 abbrev pub first_wrong : Data → Option (List ℕ)
-first_wrong d = or_else (wrong texts (codes "units") d) (or_else (wrong groups (codes "share") d) (or_else (wrong texts (codes "memories") d) (or_else (wrong numbers (codes "capacity") d) (unknown d))))
+first_wrong d = or_else (misshapen keys d) (unknown d)
 
 -- a value that isn't an object is reported with the key `-`
 abbrev pub wrong_key : Data → Option (List ℕ)

@@ -5,7 +5,7 @@ use Rattle.std.specs.Cmp.Lexicographic.{slice_cmp}
 use Rattle.std.specs.declared.cmp.Ordering.TheVariants.{Less}
 use Rattle.serde_json.specs.Data.{Data}
 use Rattle.serde_json.specs.Find.{get}
-use Rattle.gg_partfile.specs.Partition.{is_known}
+use Rattle.gg_partfile.specs.Keys.{is_known}
 
 -- a text comes before another, by their bytes
 abbrev pub IsBefore : List ℕ → List ℕ → Type 0

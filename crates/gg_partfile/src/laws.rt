@@ -2,7 +2,8 @@
 ghost use Rattle.std.specs.Prelude.{◌≡◌, ℕ, List, Some, AllPairs};
 ghost use Rattle.serde_json.specs.Data.{Data};
 ghost use Rattle.serde_json.specs.Read.{read};
-ghost use Rattle.gg_partfile.specs.Partition.{unknown, IsPartition};
+ghost use Rattle.gg_partfile.specs.Keys.{unknown};
+ghost use Rattle.gg_partfile.specs.Partition.{IsPartition};
 ghost use Rattle.gg_partfile.specs.Fault.{IsRefused};
 ghost use Rattle.gg_partfile.specs.Order.{IsBefore, IsLeastUnknown};
 ghost use Rattle.gg_partfile.specs.declared.request.Request.{Request};
@@ -22,4 +23,9 @@ pub fn least_unknown()
 /// A request's capacities are in the order of their names' bytes, each name once.
 pub fn capacities_in_order()
     ensures { (bytes : List ℕ) (request : Request) → IsPartition bytes request → AllPairs (λ p q. IsBefore p.0 q.0) request.capacity }
+{}
+
+/// A request's clocks are in the order of their names' bytes, each name once.
+pub fn clocks_in_order()
+    ensures { (bytes : List ℕ) (request : Request) → IsPartition bytes request → AllPairs (λ p q. IsBefore p.0 q.0) request.clocks }
 {}

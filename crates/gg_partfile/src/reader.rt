@@ -1,15 +1,16 @@
 //! The reader of partition files.
-ghost use Rattle.std.specs.Prelude.{◌≡◌, Some, None, IfOk, IfErr, codes, length};
+ghost use Rattle.std.specs.Prelude.{◌≡◌, [], Some, None, IfOk, IfErr, length};
 ghost use Rattle.serde_json.specs.View.{view};
-ghost use Rattle.gg_partfile.specs.Partition.{texts, groups, numbers, under, Asks, IsPartition};
 ghost use Rattle.gg_partfile.specs.Fault.{IfKey, wrong_key, IsRefused};
+ghost use Rattle.gg_partfile.specs.Keys.{under};
+ghost use Rattle.gg_partfile.specs.Partition.{Asks, IsPartition};
 ghost use Rattle.gg_partfile.specs.Size.{HasAtMost};
 
 use crate::fault::PartFault;
-use crate::keys::first_unknown;
-use crate::request::{Capacities, Groups, Request};
-use crate::shapes::{groups_of, numbers_of, texts_of};
-use gg_bits::{Name, Names};
+use crate::keys::{KEYS, held, other_member};
+use crate::request::Request;
+use crate::shapes::FromValue;
+use gg_bits::{Items, Name};
 use serde_json::Value;
 use std::alloc::Global;
 
@@ -49,11 +50,15 @@ fn request_of(alloc: Global, value: &Value) -> Result<Request, PartFault>
     let Some(members) = value.as_object() else {
         return Err(fault_of(alloc, "-"));
     };
-    let units = units_of(alloc, value, "units")?;
-    let share = share_of(alloc, value)?;
-    let memories = units_of(alloc, value, "memories")?;
-    let capacity = capacity_of(alloc, value)?;
-    if let Some(key) = first_unknown(members) {
+    let units = under(alloc, value, "units", none(alloc))?;
+    let share = under(alloc, value, "share", none(alloc))?;
+    let memories = under(alloc, value, "memories", none(alloc))?;
+    let capacity = under(alloc, value, "capacity", none(alloc))?;
+    let direct = under(alloc, value, "direct", false)?;
+    let pipe = under(alloc, value, "pipe", none(alloc))?;
+    let clocks = under(alloc, value, "clocks", none(alloc))?;
+    let bridges = under(alloc, value, "bridges", none(alloc))?;
+    if let Some(key) = other_member(members, &KEYS) {
         return Err(fault_of(alloc, key));
     }
     Ok(Request {
@@ -61,47 +66,30 @@ fn request_of(alloc: Global, value: &Value) -> Result<Request, PartFault>
         share,
         memories,
         capacity,
+        direct,
+        pipe,
+        clocks,
+        bridges,
     })
 }
 
-// The texts under a key.
-fn units_of(alloc: Global, value: &Value, key: &str) -> Result<Names, PartFault>
-    ensures is { IfOk result (λ names. under texts key.now (view value.now) ≡ Some names) }
-    ensures wrong { IfErr result (IfKey (λ told. (told ≡ key.now) × (under texts key.now (view value.now) ≡ None))) }
+// An empty list.
+fn none<T: Drop>(alloc: Global) -> Items<T>
+    ensures { result ≡ [] }
 {
-    let Some(held) = value.get(key) else {
-        return Ok(Names::from(Vec::new(alloc)));
+    Items::from(Vec::new(alloc))
+}
+
+// What is read of the value under a key, or something else if the key is absent.
+fn under<T: FromValue>(alloc: Global, value: &Value, key: &str, default: T) -> Result<T, PartFault>
+    ensures is { IfOk result (λ found. under default T.reads key.now (view value.now) ≡ Some found) }
+    ensures wrong { IfErr result (IfKey (λ told. (told ≡ key.now) × (under default T.reads key.now (view value.now) ≡ None))) }
+{
+    let Some(held) = held(value, key) else {
+        return Ok(default);
     };
-    match texts_of(alloc, held)? {
-        Some(names) => Ok(names),
+    match T::from_value(alloc, held)? {
+        Some(found) => Ok(found),
         None => Err(fault_of(alloc, key)),
-    }
-}
-
-// The lists under `share`.
-fn share_of(alloc: Global, value: &Value) -> Result<Groups, PartFault>
-    ensures is { IfOk result (λ lists. under groups (codes "share") (view value.now) ≡ Some lists) }
-    ensures wrong { IfErr result (IfKey (λ told. (told ≡ codes "share") × (under groups (codes "share") (view value.now) ≡ None))) }
-{
-    let Some(held) = value.get("share") else {
-        return Ok(Groups::from(Vec::new(alloc)));
-    };
-    match groups_of(alloc, held)? {
-        Some(lists) => Ok(lists),
-        None => Err(fault_of(alloc, "share")),
-    }
-}
-
-// The numbers under `capacity`.
-fn capacity_of(alloc: Global, value: &Value) -> Result<Capacities, PartFault>
-    ensures is { IfOk result (λ pairs. under numbers (codes "capacity") (view value.now) ≡ Some pairs) }
-    ensures wrong { IfErr result (IfKey (λ told. (told ≡ codes "capacity") × (under numbers (codes "capacity") (view value.now) ≡ None))) }
-{
-    let Some(held) = value.get("capacity") else {
-        return Ok(Capacities::from(Vec::new(alloc)));
-    };
-    match numbers_of(alloc, held)? {
-        Some(pairs) => Ok(pairs),
-        None => Err(fault_of(alloc, "capacity")),
     }
 }

@@ -7,7 +7,27 @@ pub type Groups = Items<Names>;
 /// Names, each with a number. A contract sees them as the list of pairs.
 pub type Capacities = Items<(Name, u64)>;
 
+/// Names of clocks, each with a ratio: the numbers of its edges and of the base ticks in which they come.
+pub type Clocks = Items<(Name, (u64, u64))>;
+
+/// A bridge that is attached to the circuit's top.
+#[derive(Debug, Drop)]
+pub struct BridgeEntry {
+    /// The bridge's name.
+    pub name: Name,
+    /// The output ports that it sees.
+    pub sees: Names,
+    /// The input ports that it drives.
+    pub drives: Names,
+}
+
+/// The bridges that are attached, in the order of the file.
+pub type Bridges = Items<BridgeEntry>;
+
 /// What a partition asks for.
+///
+/// No file may have the keys `direct`, `pipe`, `clocks` and `bridges` yet, so `direct` is false, and the other three lists
+/// are empty.
 #[derive(Debug, Drop)]
 pub struct Request {
     /// The paths of the instances that become units.
@@ -18,4 +38,12 @@ pub struct Request {
     pub memories: Names,
     /// The capacities of channels, by name, in the order of the names' bytes.
     pub capacity: Capacities,
+    /// Whether channels that the hub only passes on are led past it.
+    pub direct: bool,
+    /// The names of the channels that hold a token from the start.
+    pub pipe: Names,
+    /// The ratios of clocks, by name, in the order of the names' bytes.
+    pub clocks: Clocks,
+    /// The bridges.
+    pub bridges: Bridges,
 }

@@ -1,82 +1,166 @@
 //! Values of a certain shape.
 ghost use Rattle.std.specs.Prelude.{◌≡◌, IfOk};
-ghost use Rattle.serde_json.specs.Find.{as_str};
-ghost use Rattle.serde_json.specs.View.{view, items_view, members_view};
-ghost use Rattle.gg_partfile.specs.Partition.{each, texts, groups, numbers, pairs};
+ghost use Rattle.serde_json.specs.View.{view};
+ghost use Rattle.gg_partfile.specs.Shapes.{ratio, required};
 
-use crate::request::{Capacities, Groups};
+use crate::keys::other_member;
+use crate::lists::{list_of, named_of};
+use crate::request::{BridgeEntry, Bridges, Capacities, Clocks, Groups};
 use gg_bits::{Name, Names};
-use serde_json::{Map, Value};
+use serde_json::Value;
 use std::alloc::{AllocError, Global};
 
-// A list of texts.
-pub(crate) fn texts_of(alloc: Global, value: &Value) -> Result<Option<Names>, AllocError>
-    ensures { IfOk result (λ found. texts (view value.now) ≡ found) }
-{
-    match value.as_array() {
-        Some(items) => text_list(alloc, items.as_slice()),
-        None => Ok(None),
-    }
+// What can be read of a JSON value, if it has a certain shape.
+pub(crate) trait FromValue: Drop {
+    ghost use Rattle.std.specs.Prelude.{Option};
+    ghost use Rattle.serde_json.specs.Data.{Data};
+
+    // What is read of a value: none if it has another shape.
+    ghost reads: { Data → Option Self };
+
+    // Reads a value.
+    fn from_value(alloc: Global, value: &Value) -> Result<Option<Self>, AllocError>
+        ensures { IfOk result (λ found. reads (view value.now) ≡ found) };
 }
 
-// The items as texts, if all of them are texts.
-fn text_list(alloc: Global, items: &[Value]) -> Result<Option<Names>, AllocError>
-    ensures { IfOk result (λ found. each as_str (items_view items.now) ≡ found) }
-{
-    let mut names = Vec::new(alloc);
-    for item in items {
-        match item.as_str() {
-            Some(text) => names.push(Name::from_str(alloc, text)?)?,
-            None => return Ok(None),
+impl FromValue for Name {
+    ghost use Rattle.serde_json.specs.Find.{as_str};
+
+    ghost reads = { as_str };
+
+    fn from_value(alloc: Global, value: &Value) -> Result<Option<Name>, AllocError> {
+        match value.as_str() {
+            Some(text) => Ok(Some(Name::from_str(alloc, text)?)),
+            None => Ok(None),
         }
     }
-    Ok(Some(Names::from(names)))
 }
 
-// A list of lists of texts.
-pub(crate) fn groups_of(alloc: Global, value: &Value) -> Result<Option<Groups>, AllocError>
-    ensures { IfOk result (λ found. groups (view value.now) ≡ found) }
+impl FromValue for bool {
+    ghost use Rattle.serde_json.specs.Find.{as_bool};
+
+    ghost reads = { as_bool };
+
+    fn from_value(_alloc: Global, value: &Value) -> Result<Option<bool>, AllocError> {
+        Ok(value.as_bool())
+    }
+}
+
+impl FromValue for u64 {
+    ghost use Rattle.gg_partfile.specs.Shapes.{whole};
+
+    ghost reads = { whole };
+
+    fn from_value(_alloc: Global, value: &Value) -> Result<Option<u64>, AllocError> {
+        Ok(value.as_u64())
+    }
+}
+
+impl FromValue for (u64, u64) {
+    ghost use Rattle.gg_partfile.specs.Shapes.{ratio};
+
+    ghost reads = { ratio };
+
+    fn from_value(_alloc: Global, value: &Value) -> Result<Option<(u64, u64)>, AllocError> {
+        Ok(ratio_of(value))
+    }
+}
+
+impl FromValue for BridgeEntry {
+    ghost use Rattle.gg_partfile.specs.Shapes.{bridge};
+
+    ghost reads = { bridge };
+
+    fn from_value(alloc: Global, value: &Value) -> Result<Option<BridgeEntry>, AllocError> {
+        let Some(members) = value.as_object() else {
+            return Ok(None);
+        };
+        if other_member(members, &BRIDGE_KEYS).is_some() {
+            return Ok(None);
+        }
+        let Some(name) = required::<Name>(alloc, value, "name")? else {
+            return Ok(None);
+        };
+        let Some(sees) = required::<Names>(alloc, value, "sees")? else {
+            return Ok(None);
+        };
+        let Some(drives) = required::<Names>(alloc, value, "drives")? else {
+            return Ok(None);
+        };
+        Ok(Some(BridgeEntry { name, sees, drives }))
+    }
+}
+
+impl FromValue for Names {
+    ghost use Rattle.gg_partfile.specs.Shapes.{texts};
+
+    ghost reads = { texts };
+
+    fn from_value(alloc: Global, value: &Value) -> Result<Option<Names>, AllocError> {
+        list_of(alloc, value)
+    }
+}
+
+impl FromValue for Groups {
+    ghost use Rattle.gg_partfile.specs.Shapes.{groups};
+
+    ghost reads = { groups };
+
+    fn from_value(alloc: Global, value: &Value) -> Result<Option<Groups>, AllocError> {
+        list_of(alloc, value)
+    }
+}
+
+impl FromValue for Bridges {
+    ghost use Rattle.gg_partfile.specs.Shapes.{bridges};
+
+    ghost reads = { bridges };
+
+    fn from_value(alloc: Global, value: &Value) -> Result<Option<Bridges>, AllocError> {
+        list_of(alloc, value)
+    }
+}
+
+impl FromValue for Capacities {
+    ghost use Rattle.gg_partfile.specs.Shapes.{numbers};
+
+    ghost reads = { numbers };
+
+    fn from_value(alloc: Global, value: &Value) -> Result<Option<Capacities>, AllocError> {
+        named_of(alloc, value)
+    }
+}
+
+impl FromValue for Clocks {
+    ghost use Rattle.gg_partfile.specs.Shapes.{ratios};
+
+    ghost reads = { ratios };
+
+    fn from_value(alloc: Global, value: &Value) -> Result<Option<Clocks>, AllocError> {
+        named_of(alloc, value)
+    }
+}
+
+// The keys of an entry of `bridges`.
+static BRIDGE_KEYS: [&str; 3] = ["name", "sees", "drives"];
+
+// A list of exactly two whole numbers.
+fn ratio_of(value: &Value) -> Option<(u64, u64)>
+    ensures { result ≡ ratio (view value.now) }
 {
-    match value.as_array() {
-        Some(items) => group_list(alloc, items.as_slice()),
+    let items = value.as_array()?.as_slice();
+    if items.len() != 2 {
+        return None;
+    }
+    Some((items[0].as_u64()?, items[1].as_u64()?))
+}
+
+// What is read of the value under a key that has to be there.
+fn required<T: FromValue>(alloc: Global, value: &Value, key: &str) -> Result<Option<T>, AllocError>
+    ensures { IfOk result (λ found. required T.reads key.now (view value.now) ≡ found) }
+{
+    match value.get(key) {
+        Some(held) => T::from_value(alloc, held),
         None => Ok(None),
     }
-}
-
-// The items as lists of texts, if all of them are such lists.
-fn group_list(alloc: Global, items: &[Value]) -> Result<Option<Groups>, AllocError>
-    ensures { IfOk result (λ found. each texts (items_view items.now) ≡ found) }
-{
-    let mut lists = Vec::new(alloc);
-    for item in items {
-        match texts_of(alloc, item)? {
-            Some(names) => lists.push(names)?,
-            None => return Ok(None),
-        }
-    }
-    Ok(Some(Groups::from(lists)))
-}
-
-// An object of whole numbers.
-pub(crate) fn numbers_of(alloc: Global, value: &Value) -> Result<Option<Capacities>, AllocError>
-    ensures { IfOk result (λ found. numbers (view value.now) ≡ found) }
-{
-    match value.as_object() {
-        Some(members) => pairs_of(alloc, members),
-        None => Ok(None),
-    }
-}
-
-// The members with their whole numbers, if all of them have one.
-fn pairs_of(alloc: Global, members: &Map<String, Value>) -> Result<Option<Capacities>, AllocError>
-    ensures { IfOk result (λ found. pairs (members_view members.now.entries) ≡ found) }
-{
-    let mut pairs = Vec::new(alloc);
-    for (key, value) in members {
-        match value.as_u64() {
-            Some(number) => pairs.push((Name::from_str(alloc, key.as_str())?, number))?,
-            None => return Ok(None),
-        }
-    }
-    Ok(Some(Capacities::from(pairs)))
 }

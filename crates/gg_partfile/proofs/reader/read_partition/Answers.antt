@@ -1,5 +1,5 @@
 use Rattle.serde_json.specs.View.{view}
-use Rattle.gg_partfile.proofs.EntryLemmas.{few-read}
+use Rattle.gg_partfile.proofs.RequestLemmas.{few-read}
 use Rattle.gg_partfile.proofs.reader.read_partition.Goals as goal
 
 pub returns-in-Ok-clause-entries : goal.returns-in-Ok-clause-entries

@@ -17,7 +17,7 @@ use Rattle.gg_flat.specs.Line.{shape_at}
 use Rattle.gg_flat.specs.Scoped.{IsInputOf}
 use Rattle.gg_flat.specs.Tree.{InstanceTree, instance_at, path_at}
 use Rattle.gg_moved.specs.Moved.{IsMoved, moved_driver, moved_register, shifted}
-use Rattle.gg_copies.specs.Copies.{above, Start, IsCopy}
+use Rattle.gg_moved.specs.Copies.{above, Start, IsCopy}
 
 -- ---- the circuit
 

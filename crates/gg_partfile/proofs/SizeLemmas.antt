@@ -1,30 +1,23 @@
--- A request has no more entries than its file has bytes.
-use Rattle.std.proofs.Common.{◌≡◌, ℕ, zero, suc, ◌+◌, ◌≤◌, Bool, true, false, List, [], ◌∷◌, length, Option, None, Some, Result, Ok, Err, option_and_then, refl, ap, subst, arith}
-use Rattle.std.specs.Prelude.{⊤, IfOk, codes, option_map}
+-- The value of a JSON text has no more parts than the text has bytes.
+use Rattle.std.proofs.Common.{ℕ, zero, suc, ◌+◌, ◌≤◌, Bool, true, false, List, [], ◌∷◌, length, Option, None, Some, option_and_then, arith}
+use Rattle.std.specs.Prelude.{⊤, option_map}
 use Rattle.std.specs.Ordering.{nat_cmp, match_ordering}
 use Rattle.std.specs.Cmp.Lexicographic.{slice_cmp}
 use Rattle.std.specs.declared.cmp.Ordering.{Ordering}
 use Rattle.std.specs.declared.cmp.Ordering.TheVariants.{Less, Equal, Greater}
-use Rattle.std.proofs.lemmas.List.{length-append}
-use Rattle.std.proofs.lemmas.Option.{same_Some}
 use Rattle.json.specs.Token.{Token}
 use Rattle.json.specs.Lex.{Lexeme, token, comma, colon, Class, quote, backslash, operator, space, other, Mode, between, in_word, in_string, in_escape, class, lex_byte, lex, Place, fresh, after_value, after_comma, after_key, begins_colon, if_allowed, may_begin, may_close, place_token, punctuate, tokens}
 use Rattle.json.specs.Json.{Json, Parse, parse_map, after_end_array, read_key, items_step, members_step, items, members, value_with, value, if_last}
 use Rattle.json.specs.Json as json
 use Rattle.serde_json.specs.Data.{Data, null, boolean, number, string, array, object, Items, no_items, item, Members, no_members, member, put}
-use Rattle.serde_json.specs.Find.{get, get_member, as_array, as_str}
 use Rattle.serde_json.specs.Read.{of_json, of_items, of_members, number_of, max_depth, read}
-use Rattle.gg_partfile.specs.Partition.{Asks, each, groups, numbers, pairs, texts, or_empty, under, whole}
-use Rattle.gg_partfile.specs.Size.{HasAtMost, shared}
-use Rattle.gg_partfile.specs.declared.fault.PartFault.{PartFault}
-use Rattle.gg_partfile.specs.declared.request.Request.{Request}
 
 -- if something was read, it has at most this weight
-abbrev AtMost : {A : Type 0} → (A → ℕ) → ℕ → Option A → Type 0
+abbrev pub AtMost : {A : Type 0} → (A → ℕ) → ℕ → Option A → Type 0
 AtMost w n None = ⊤
 AtMost w n (Some x) = w x ≤ n
 
-more : {A : Type 0} (w : A → ℕ) (n m : ℕ) (o : Option A) → n ≤ m → AtMost w n o → AtMost w m o
+pub more : {A : Type 0} (w : A → ℕ) (n m : ℕ) (o : Option A) → n ≤ m → AtMost w n o → AtMost w m o
 more w n m None le h = tt
 more w n m (Some x) le h = omega arith
 
@@ -209,7 +202,7 @@ value-short (suc depth) ts =
 -- ---- data: at most as much as its values
 
 abbrev mutual
-  size : Data → ℕ
+  pub size : Data → ℕ
   size null = 1
   size (boolean b) = 1
   size (number n) = 1
@@ -217,11 +210,11 @@ abbrev mutual
   size (array ds) = suc (items_size ds)
   size (object ms) = suc (members_size ms)
 
-  items_size : Items → ℕ
+  pub items_size : Items → ℕ
   items_size no_items = 0
   items_size (item d ds) = size d + items_size ds
 
-  members_size : Members → ℕ
+  pub members_size : Members → ℕ
   members_size no_members = 0
   members_size (member k d ms) = size d + members_size ms
 
@@ -280,120 +273,7 @@ data-light : (n : ℕ) (o : Option Json) → AtMost weight n o → AtMost size n
 data-light n None h = tt
 data-light n (Some j) h = more size (weight j) n (of_json j) h (json-light j)
 
-read-light : (text : List ℕ) → AtMost size (suc (length text)) (read text)
+pub read-light : (text : List ℕ) → AtMost size (suc (length text)) (read text)
 read-light text =
     data-light (suc (length text)) (option_and_then (λ p. if_last p.0 p.1) (value max_depth (tokens text)))
     (last-light (suc (length text)) (value max_depth (tokens text)) (more (with_rest weight) (length (tokens text)) (suc (length text)) (value max_depth (tokens text)) (tokens-short text) (value-short max_depth (tokens text))))
-
--- ---- requests: at most as many entries as the value has parts
-
-some-part : (d : Data) → 1 ≤ size d
-some-part null = omega arith
-some-part (boolean b) = omega arith
-some-part (number n) = omega arith
-some-part (string s) = omega arith
-some-part (array ds) = omega arith
-some-part (object ms) = omega arith
-
-found-by : (o : Ordering) (n m : ℕ) (e : Data) (rest : Option Data) → size e ≤ n → m ≤ n → AtMost size m rest → AtMost size n (match_ordering o rest (Some e) rest)
-found-by Less n m e rest h le k = more size m n rest le k
-found-by Equal n m e rest h le k = h
-found-by Greater n m e rest h le k = more size m n rest le k
-
-member-light : (k : List ℕ) (ms : Members) → AtMost size (members_size ms) (get_member k ms)
-member-light k no_members = tt
-member-light k (member l e ms) =
-    found-by (slice_cmp nat_cmp k l) (size e + members_size ms) (members_size ms) e (get_member k ms) (omega arith) (omega arith) (member-light k ms)
-
-get-light : (k : List ℕ) (d : Data) → AtMost (λ e. suc (size e)) (size d) (get k d)
-get-light k null = tt
-get-light k (boolean b) = tt
-get-light k (number n) = tt
-get-light k (string s) = tt
-get-light k (array ds) = tt
-get-light k (object ms) = below (members_size ms) (get_member k ms) (member-light k ms)
-  where
-    below : (n : ℕ) (o : Option Data) → AtMost size n o → AtMost (λ e. suc (size e)) (suc n) o
-    below n None h = tt
-    below n (Some e) h = omega (arith, h)
-
--- what f reads of a list's items weighs at most as much as the items
-each-next : {A : Type 0} (w : List A → ℕ) (n m : ℕ) (o : Option A) (rest : Option (List A)) → ((a : A) (xs : List A) → o ≡ Some a → w (a ∷ xs) ≤ n + w xs) → AtMost w m rest
-    → AtMost w (n + m) (option_and_then (λ a. option_map (λ xs. a ∷ xs) rest) o)
-each-next w n m None rest h k = tt
-each-next w n m (Some a) None h k = tt
-each-next w n m (Some a) (Some xs) h k = omega (arith, h a xs refl, k)
-
-each-light : {A : Type 0} (w : List A → ℕ) (f : Data → Option A) → w [] ≡ 0 → ((d : Data) (a : A) (xs : List A) → f d ≡ Some a → w (a ∷ xs) ≤ size d + w xs)
-    → (ds : Items) → AtMost w (items_size ds) (each f ds)
-each-light w f z h no_items = omega (arith, z)
-each-light w f z h (item d ds) = each-next w (size d) (items_size ds) (f d) (each f ds) (h d) (each-light w f z h ds)
-
-array-light : {A : Type 0} (w : List A → ℕ) (f : Items → Option (List A)) → ((ds : Items) → AtMost w (items_size ds) (f ds)) → (d : Data) → AtMost w (size d) (option_and_then f (as_array d))
-array-light w f h null = tt
-array-light w f h (boolean b) = tt
-array-light w f h (number n) = tt
-array-light w f h (string s) = tt
-array-light w f h (array ds) = more w (items_size ds) (suc (items_size ds)) (f ds) (omega arith) (h ds)
-array-light w f h (object ms) = tt
-
-texts-light : (d : Data) → AtMost (λ (xs : List (List ℕ)). length xs) (size d) (texts d)
-texts-light d =
-    array-light (λ (xs : List (List ℕ)). length xs) (each as_str)
-    (each-light (λ (xs : List (List ℕ)). length xs) as_str refl (λ e a xs is. omega (arith, some-part e))) d
-
-group-light : (n : ℕ) (o : Option (List (List ℕ))) (a : List (List ℕ)) (xs : List (List (List ℕ))) → AtMost (λ (x : List (List ℕ)). length x) n o → o ≡ Some a → length (shared (a ∷ xs)) ≤ n + length (shared xs)
-group-light n o a xs h is =
-    let few : length a ≤ n = subst (λ (x : Option (List (List ℕ))). AtMost (λ (y : List (List ℕ)). length y) n x) is h in
-    omega (arith, few, length-append a (shared xs))
-
-groups-light : (d : Data) → AtMost (λ (xs : List (List (List ℕ))). length (shared xs)) (size d) (groups d)
-groups-light d =
-    array-light (λ (xs : List (List (List ℕ))). length (shared xs)) (each texts)
-    (each-light (λ (xs : List (List (List ℕ))). length (shared xs)) texts refl (λ e a xs is. group-light (size e) (texts e) a xs (texts-light e) is)) d
-
--- an object has at most as many whole numbers as members
-pairs-next : (k : List ℕ) (n m : ℕ) (o : Option ℕ) (rest : Option (List (List ℕ × ℕ))) → 1 ≤ n → AtMost (λ (xs : List (List ℕ × ℕ)). length xs) m rest
-    → AtMost (λ (xs : List (List ℕ × ℕ)). length xs) (n + m) (option_and_then (λ v. option_map (λ (xs : List (List ℕ × ℕ)). (k, v) ∷ xs) rest) o)
-pairs-next k n m None rest some h = tt
-pairs-next k n m (Some v) None some h = tt
-pairs-next k n m (Some v) (Some xs) some h = omega (arith, some, h)
-
-pairs-light : (ms : Members) → AtMost (λ (xs : List (List ℕ × ℕ)). length xs) (members_size ms) (pairs ms)
-pairs-light no_members = omega arith
-pairs-light (member k d ms) = pairs-next k (size d) (members_size ms) (whole d) (pairs ms) (some-part d) (pairs-light ms)
-
-numbers-light : (d : Data) → AtMost (λ (xs : List (List ℕ × ℕ)). length xs) (size d) (numbers d)
-numbers-light null = tt
-numbers-light (boolean b) = tt
-numbers-light (number n) = tt
-numbers-light (string s) = tt
-numbers-light (array ds) = tt
-numbers-light (object ms) = more (λ (xs : List (List ℕ × ℕ)). length xs) (members_size ms) (suc (members_size ms)) (pairs ms) (omega arith) (pairs-light ms)
-
-known-light : {A : Type 0} (w : A → ℕ) (n : ℕ) (o : Option A) (a : A) → AtMost w n o → o ≡ Some a → w a ≤ n
-known-light w n o a h is = subst (λ x. AtMost w n x) is h
-
--- what is read under a key weighs less than the whole value
-or-light : {A : Type 0} (w : List A → ℕ) (f : Data → Option (List A)) → w [] ≡ 0 → ((d : Data) → AtMost w (size d) (f d))
-    → (n : ℕ) (o : Option Data) → 1 ≤ n → AtMost (λ e. suc (size e)) n o → (xs : List A) → or_empty f o ≡ Some xs → suc (w xs) ≤ n
-or-light w f z h n None some k xs is = omega (arith, z, ap w (same_Some [] xs is), some)
-or-light w f z h n (Some d) some k xs is = omega (arith, known-light w (size d) (f d) xs (h d) is, k)
-
-under-light : {A : Type 0} (w : List A → ℕ) (f : Data → Option (List A)) (key : List ℕ) (d : Data) (xs : List A) → w [] ≡ 0 → ((e : Data) → AtMost w (size e) (f e)) → under f key d ≡ Some xs → suc (w xs) ≤ size d
-under-light w f key d xs z h is = or-light w f z h (size d) (get key d) (some-part d) (get-light key d) xs is
-
--- a request has at most as many entries as its file has bytes
-few-entries : (bytes : List ℕ) (d : Data) (request : Request) → read bytes ≡ Some d → Asks d request → HasAtMost (length bytes) request
-few-entries bytes d request is asks =
-    let all : size d ≤ suc (length bytes) = known-light size (suc (length bytes)) (read bytes) d (read-light bytes) is in
-    let units : suc (length request.units) ≤ size d = under-light (λ (xs : List (List ℕ)). length xs) texts (codes "units") d request.units refl texts-light asks.units in
-    let share : suc (length (shared request.share)) ≤ size d = under-light (λ (xs : List (List (List ℕ))). length (shared xs)) groups (codes "share") d request.share refl groups-light asks.share in
-    let memories : suc (length request.memories) ≤ size d = under-light (λ (xs : List (List ℕ)). length xs) texts (codes "memories") d request.memories refl texts-light asks.memories in
-    let capacity : suc (length request.capacity) ≤ size d = under-light (λ (xs : List (List ℕ × ℕ)). length xs) numbers (codes "capacity") d request.capacity refl numbers-light asks.capacity in
-    record { units = omega arith; share = omega arith; memories = omega arith; capacity = omega arith }
-
--- the same for a request that was read from the bytes' value, if one was
-pub few-read : (bytes : List ℕ) (d : Data) (r : Result Request PartFault) → read bytes ≡ Some d → IfOk r (Asks d) → IfOk r (HasAtMost (length bytes))
-few-read bytes d (Ok request) is asks = few-entries bytes d request is asks
-few-read bytes d (Err fault) is asks = tt
