@@ -14,6 +14,7 @@ use Rattle.gg_flat.proofs.WorkedCircuits.{eight}
 use Rattle.gg_flat.proofs.WorkedForms.{only, both, three, apart}
 use Rattle.gg_order.specs.Design.{Ordered}
 use Rattle.gg_partfile.specs.declared.request.Request.{Request}
+use Rattle.gg_partfile.specs.Request.{no_request}
 use Rattle.gg_cut.specs.Listed.{listed_of, owner_of, owner_of_instance}
 use Rattle.gg_cut.specs.Fault.{rest_behind, fault_in}
 use Rattle.gg_cut.specs.Plan.{machine_names, memory_owner}
@@ -77,7 +78,7 @@ abbrev design : Ordered
 design = record { circuit = circuit; tree = tree; order = [] }
 
 abbrev asks : List (List ℕ) → List (List ℕ) → Request
-asks units memories = record { units = units; share = []; memories = memories; capacity = [] }
+asks units memories = record no_request { units = units; share = []; memories = memories; capacity = [] }
 
 -- the unit `c`, machine 1, and the memory `c.m` in it, machine 2
 abbrev one : Request

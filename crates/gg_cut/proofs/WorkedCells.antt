@@ -12,6 +12,7 @@ use Rattle.gg_flat.specs.Circuit.{FlatCircuit}
 use Rattle.gg_flat.specs.Tree.{InstanceTree}
 use Rattle.gg_flat.proofs.WorkedCircuits.{eight}
 use Rattle.gg_partfile.specs.declared.request.Request.{Request}
+use Rattle.gg_partfile.specs.Request.{no_request}
 use Rattle.gg_cut.specs.declared.fault.CutFault.TheVariants.{Doubled, UnknownMemory, Unmatched}
 use Rattle.gg_cut.specs.declared.listed.Listed.{Listed}
 use Rattle.gg_cut.specs.Listed.{listed_of, owner_of, lies}
@@ -60,7 +61,7 @@ tree =
     }
 
 abbrev asks : List (List ℕ) → List (List (List ℕ)) → List (List ℕ) → Request
-asks units share memories = record { units = units; share = share; memories = memories; capacity = [] }
+asks units share memories = record no_request { units = units; share = share; memories = memories; capacity = [] }
 
 -- ---- what lies in what
 

@@ -15,6 +15,7 @@ use Rattle.gg_flat.specs.Tree.{InstanceTree}
 use Rattle.gg_flat.proofs.WorkedCircuits.{eight, nine, node}
 use Rattle.gg_flat.proofs.WorkedMemories.{signal, copy}
 use Rattle.gg_partfile.specs.declared.request.Request.{Request}
+use Rattle.gg_partfile.specs.Request.{no_request}
 use Rattle.gg_cut.specs.declared.fault.CutFault.TheVariants.{UnknownUnit, Doubled, OtherModule, UnknownMemory, UnknownChannel, OutOfRange}
 use Rattle.gg_cut.specs.declared.listed.Listed.{Listed}
 use Rattle.gg_cut.specs.Listed.{listed_of, owner_of}
@@ -57,7 +58,7 @@ tree =
 
 -- a request for these units and lists that share a host
 abbrev pub asks : List (List ℕ) → List (List (List ℕ)) → Request
-asks units share = record { units = units; share = share; memories = []; capacity = [] }
+asks units share = record no_request { units = units; share = share; memories = []; capacity = [] }
 
 abbrev pub both_units : Request
 both_units = asks (codes "a" ∷ codes "b" ∷ []) []

@@ -2,6 +2,7 @@
 ghost use Rattle.std.specs.Prelude.{IfSome};
 ghost use Rattle.gg_cut.specs.Fault.{IsSmall};
 ghost use Rattle.gg_flat.specs.Run.{IsColumns};
+ghost use Rattle.gg_moved.specs.KeepsToTree.{KeepsToTree};
 
 use gg_front::front;
 use gg_order::Design;
@@ -13,7 +14,9 @@ use std::alloc::Global;
 const LIMIT: usize = 4096;
 
 /// The design of a circuit.
-pub(crate) fn design_of(alloc: Global, circuit: &str) -> Option<Design> {
+pub(crate) fn design_of(alloc: Global, circuit: &str) -> Option<Design>
+    ensures { IfSome result (λ design. KeepsToTree design.circuit design.tree) }
+{
     let bytes = circuit.as_bytes();
     if bytes.len() > LIMIT {
         return None;
