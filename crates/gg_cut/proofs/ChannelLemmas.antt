@@ -1,5 +1,5 @@
 -- The signals of the channels: those of the wires; all in the circuit; and how channels are found by name.
-use Rattle.std.proofs.Common.{◌≡◌, ◌≢◌, ℕ, suc, ◌+◌, ◌<◌, List, [], ◌∷◌, ◌++◌, length, map, take, slice_get, Bool, true, false, true≢false, true-eqb, eq-eqb, refl, sym, ◌∙◌, ap, ap₂, Some, arith}
+use Rattle.std.proofs.Common.{◌≡◌, ◌≢◌, ℕ, suc, ◌<◌, List, [], ◌∷◌, ◌++◌, length, map, take, slice_get, Bool, true, false, true≢false, true-eqb, eq-eqb, refl, sym, ◌∙◌, ap, ap₂, Some, arith}
 use Rattle.std.specs.Prelude.{Contains, All, AllPairs, bytes_eq, ◌||◌, ◌==◌, if◌then◌else◌, flat_map}
 use Rattle.std.specs.List.{list_any}
 use Rattle.std.proofs.lemmas.List.{map-append, get_or_default}

@@ -9,7 +9,6 @@ use Rattle.gg_part.specs.declared.part.Part.{Part}
 use Rattle.gg_cut.specs.declared.listed.Listed.{Listed}
 use Rattle.gg_cut.specs.declared.plan.Body.{Body}
 use Rattle.gg_cut.specs.declared.plan.Body.TheVariants.{Cut, Memory, Source, Tray}
-use Rattle.gg_cut.specs.declared.plan.Machine as planned
 use Rattle.gg_cut.specs.declared.wires.Wire.{Wire}
 use Rattle.gg_cut.specs.Machines.{first_memory, first_source}
 use Rattle.gg_cut.specs.Channels.{wires_of}

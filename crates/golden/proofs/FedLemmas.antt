@@ -4,7 +4,6 @@ use Rattle.std.specs.Prelude.{Option, Result, Ok}
 use Rattle.gg_flat.specs.Along.{rows_along}
 use Rattle.gg_order.specs.Design.{Ordered}
 use Rattle.gg_partfile.specs.declared.request.Request.{Request}
-use Rattle.gg_cut.specs.declared.listed.Listed.{Listed}
 use Rattle.gg_cut.specs.declared.plan.Plan.{Plan}
 use Rattle.gg_net.specs.declared.event.Event.{Event}
 use Rattle.gg_marking.specs.Fits.{marking_of}
@@ -24,7 +23,7 @@ use Rattle.gg_told.proofs.EndingLemmas.{judged-map}
 use Rattle.gg_trace.specs.Fields.{text_lines}
 use Rattle.golden.specs.Case.{IsFed}
 use Rattle.golden.specs.Replay.{CanGoOn, GoesOnUntilAll, IsReplayText, IsReplayed, IsSetting, Setting, TellsSteps, all_steps, naming_of, replay_text, replayed}
-use Rattle.golden.specs.Replayed.{AreFewNames, IsNetText, IsToReplay, TellsStop, case_naming, fed_flow, plan_naming}
+use Rattle.golden.specs.Replayed.{AreFewNames, IsNetText, IsToReplay, TellsStop, case_naming, fed_flow}
 use Rattle.golden.specs.declared.case.Fed.{Fed}
 use Rattle.golden.proofs.FewLemmas.{few-names}
 use Rattle.golden.proofs.GoOnLemmas.{follows-few, line-follows}
@@ -56,19 +55,19 @@ module _ (circuit partition trace : List ℕ) (capacity : ℕ) (fed : Fed) (is :
   rows = rows_along design.circuit design.order columns n
 
   given : IsGiven design request capacity plan columns n rows
-  given = given-along design request capacity plan columns n is.case.designed is.case.cuts.faultless is.case.planned is.case.bounded.0 is.case.bounded.1 is.most is.columns
+  given = given-along design request capacity plan columns n is.case.designed is.case.keeps is.case.cuts.faultless is.case.planned is.case.bounded.0 is.case.bounded.1 is.most is.columns
 
   -- the plan's network can be built
   pub to-replay : IsToReplay fed (fed_flow fed)
-  to-replay = to-run design request capacity plan columns n is.case.designed is.case.cuts.faultless is.case.planned is.case.bounded.0 is.case.bounded.1 is.most is.columns
+  to-replay = to-run design request capacity plan columns n is.case.designed is.case.keeps is.case.cuts.faultless is.case.planned is.case.bounded.0 is.case.bounded.1 is.most is.columns
 
   -- its names are few
-  pub few-named : AreFewNames plan design.tree fed.case.cut.listed
-  few-named = subst (λ (l : Listed). AreFewNames plan design.tree l) (sym is.case.listed) (few-names design request capacity plan is.case.designed is.case.cuts.faultless is.case.planned)
+  pub few-named : AreFewNames plan design.tree
+  few-named = few-names design request capacity plan is.case.keeps is.case.cuts.faultless is.case.planned
 
   -- and are those of the cut
   named : case_naming fed.case ≡ naming_of design request
-  named = ap (λ (l : Listed). plan_naming plan design.tree l) is.case.listed ∙ naming-is design request capacity plan columns n rows given
+  named = naming-is design request capacity plan columns n rows given
 
   abbrev setting : Layout → Setting
   setting layout = setting_of design request n columns rows layout
@@ -101,7 +100,7 @@ module _ (circuit partition trace : List ℕ) (capacity : ℕ) (fed : Fed) (is :
         have : HavePaths design.circuit design.tree
         have =
             have-paths circuit is.case.means.means.text.circuit design.circuit design.tree is.case.means.means.text.spelt is.case.means.means.flattened is.case.means.grown
-            are.design_is.fitting are.design_is.scoped
+            is.case.keeps.fitting is.case.keeps.scoped
 
         same : all_steps (setting layout) ≡ all_steps b
         same =
@@ -112,12 +111,12 @@ module _ (circuit partition trace : List ℕ) (capacity : ℕ) (fed : Fed) (is :
 
         goes : length (text_lines steps) < all_steps (setting layout) → CanGoOn circuit partition trace capacity steps
         goes lt =
-            let more = line-follows design request capacity n are.design_is is.case.cuts.faultless layout are.laid are.able have steps marking leads lt in
+            let more = line-follows design request capacity n is.case.designed is.case.keeps is.case.cuts.faultless layout are.laid are.able have steps marking leads lt in
             (more.0, more.1, more.2.0, (setting layout, x, more.2.1))
 
         ends : CanGoOn circuit partition trace capacity steps → length (text_lines steps) < all_steps (setting layout)
         ends (line, longer, more, (other, z, (next, led))) =
-            follows-few design request capacity n are.design_is is.case.cuts.faultless layout are.laid are.able have steps marking leads line longer
+            follows-few design request capacity n is.case.designed is.case.keeps is.case.cuts.faultless layout are.laid are.able have steps marking leads line longer
             (more, (next, sym (leads-same agree circuit partition trace capacity other (setting layout) z x longer) ∙ led))
 
     -- ---- a steps file

@@ -10,9 +10,10 @@ use Rattle.gg_flat.specs.Run.{IsRun, column}
 use Rattle.gg_flat.specs.Streams.{Flow}
 use Rattle.gg_flat.specs.Tree.{path_at}
 use Rattle.gg_flat.proofs.ListLemmas.{some-item}
-use Rattle.gg_order.specs.Design.{IsDesign, Ordered}
+use Rattle.gg_order.specs.Design.{Ordered}
 use Rattle.gg_partfile.specs.declared.request.Request.{Request}
-use Rattle.gg_cut.specs.Channels.{capacity_of, machine_count, wires_of}
+use Rattle.gg_cut.specs.Channels.{capacity_of, wires_of}
+use Rattle.gg_cut.specs.Machines.{machine_count}
 use Rattle.gg_cut.specs.Listed.{listed_of}
 use Rattle.gg_cut.specs.Plan.{IsChannel, machine_names, wire_at}
 use Rattle.gg_cut.specs.declared.listed.Listed.{Listed}
@@ -50,9 +51,8 @@ use Rattle.golden.specs.Replayed.{name_in, net_line, net_text, plan_naming, widt
 abbrev pub setting_of : Ordered → Request → ℕ → (columns rows : List (List ℕ)) → Layout → Setting
 setting_of design request n columns rows layout = record { design = design; request = request; cycles = n; columns = columns; rows = rows; layout = layout }
 
--- A design with its circuit's run, and the layout of the request's cut, whose network can go on.
+-- The circuit's run, and the layout of the request's cut, whose network can go on.
 pub record AreSet (design : Ordered) (request : Request) (default n : ℕ) (columns rows : List (List ℕ)) (layout : Layout) : Type 0 where
-  pub design_is : IsDesign design
   pub run : IsRun design.circuit columns n rows
   pub laid : IsLayoutOf design request default n layout
   pub able : CanRun layout
@@ -97,10 +97,11 @@ module _ (design : Ordered) (request : Request) (default : ℕ) (plan : Plan) (c
       map-numbers (λ (machine : planned.Machine). machine.name) path_of plan.machines (λ k any lt. (given.planned.machine k any lt).name)
       ∙ ap (λ count. map path_of (range_with_len 0 count)) given.planned.machine_total
 
-  pub naming-is : plan_naming plan design.tree the_listed ≡ naming_of design request
+  pub naming-is : plan_naming plan design.tree ≡ naming_of design request
   naming-is =
-      let ports : map (port_names design.tree the_listed) (range_with_len 0 (length plan.machines)) ≡ map (port_names design.tree the_listed) (range_with_len 0 (machine_count design.circuit the_listed)) =
-      ap (λ count. map (port_names design.tree the_listed) (range_with_len 0 count)) given.planned.machine_total in
+      let ports : map (port_names design.tree plan.listed) (range_with_len 0 (length plan.machines)) ≡ map (port_names design.tree the_listed) (range_with_len 0 (machine_count design.circuit the_listed)) =
+      ap (λ (l : Listed). map (port_names design.tree l) (range_with_len 0 (length plan.machines))) given.planned.listed
+      ∙ ap (λ count. map (port_names design.tree the_listed) (range_with_len 0 count)) given.planned.machine_total in
       let names = channel-names in
       let machines = machine-names in
       cc
@@ -152,7 +153,7 @@ module _ (design : Ordered) (request : Request) (default : ℕ) (plan : Plan) (c
     opens = opens-so flow machines (wires_of_plan plan) n (built-opening design request default plan columns n rows machines given built) laid.0 laid.1.1
 
     pub are-set : AreSet design request default n columns rows laid.0
-    are-set = record { design_is = given.design_is; run = given.run; laid = laid.1.0; able = can-run flow opening kept laid.0 laid.1.1 }
+    are-set = record { run = given.run; laid = laid.1.0; able = can-run flow opening kept laid.0 laid.1.1 }
 
     pub frame-has : (events : List (Option Event)) (net : Network) → Steps opening events net → HasLayout (frame_of net) laid.0
     frame-has events net steps = subst (λ (f : Frame). HasLayout f laid.0) (sym (steps-frame opening events net steps)) laid.1.1

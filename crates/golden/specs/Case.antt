@@ -1,10 +1,10 @@
 -- What the code has once the first files of a command are read.
-use Rattle.std.specs.Prelude.{◌≡◌, ℕ, ◌≤◌, List}
-use Rattle.gg_cut.specs.Listed.{listed_of}
+use Rattle.std.specs.Prelude.{ℕ, ◌≤◌, List}
 use Rattle.gg_cut.specs.Plan.{IsPlan}
 use Rattle.gg_flat.specs.Run.{IsColumns}
 use Rattle.gg_front.specs.Meaning.{MeansDesign}
 use Rattle.gg_io.specs.Told.{Told}
+use Rattle.gg_moved.specs.KeepsToTree.{KeepsToTree}
 use Rattle.gg_node.specs.Machine.{cycle_limit}
 use Rattle.gg_order.specs.Design.{IsDesign}
 use Rattle.gg_told.specs.Order.{CanBe, Order, Write}
@@ -16,15 +16,15 @@ use Rattle.golden.specs.RunText.{FeedsOnly}
 use Rattle.golden.specs.declared.case.Case.{Case}
 use Rattle.golden.specs.declared.case.Fed.{Fed}
 
--- The bytes of a circuit and of a partition mean this design and this request, and this is the plan of their cut, with
--- this capacity of the channels that the request doesn't name.
+-- The bytes of a circuit and of a partition mean this design, which keeps to its tree, and this request. This is the plan
+-- of their cut, with this capacity of the channels that the request doesn't name.
 pub record IsCase (circuit partition : List ℕ) (capacity : ℕ) (case : Case) : Type 0 where
   pub means : MeansDesign circuit case.design
   pub designed : IsDesign case.design
+  pub keeps : KeepsToTree case.design.circuit case.design.tree
   pub cuts : Cuts case.design partition case.cut.request
   pub bounded : IsCapacity capacity
   pub planned : IsPlan case.design case.cut.request capacity case.cut.plan
-  pub listed : case.cut.listed ≡ listed_of case.design.tree case.cut.request
 
 -- the case is that of bytes that the first two files can have
 pub record CaseRead (files : List ℕ → Told) (asked : Asked) (case : Case) : Type 0 where

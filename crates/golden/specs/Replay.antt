@@ -10,7 +10,8 @@ use Rattle.gg_flat.specs.Tree.{InstanceTree, memory_at, path_at}
 use Rattle.gg_front.specs.Meaning.{MeansDesign}
 use Rattle.gg_order.specs.Design.{Ordered}
 use Rattle.gg_partfile.specs.declared.request.Request.{Request}
-use Rattle.gg_cut.specs.Channels.{first_memory, machine_count, wires_of}
+use Rattle.gg_cut.specs.Channels.{wires_of}
+use Rattle.gg_cut.specs.Machines.{first_memory, is_memory, machine_count}
 use Rattle.gg_cut.specs.Listed.{listed_of}
 use Rattle.gg_cut.specs.Plan.{machine_names, wire_at}
 use Rattle.gg_cut.specs.declared.listed.Listed.{Listed}
@@ -20,7 +21,7 @@ use Rattle.gg_net.specs.declared.event.Event.{Event}
 use Rattle.gg_marking.specs.Marking.{Layout, Marking, opening_marking, puts, takes}
 use Rattle.gg_marking.specs.Goes.{Stopped, replayed_from}
 use Rattle.gg_progress.specs.Measure.{all_dues}
-use Rattle.gg_layout.specs.CutLayout.{IsLayoutOf, is_memory}
+use Rattle.gg_layout.specs.CutLayout.{IsLayoutOf}
 use Rattle.gg_trace.specs.Fields.{text_lines}
 use Rattle.gg_steps.specs.Naming.{Naming}
 use Rattle.gg_steps.specs.Spelling.{IsLengthened}

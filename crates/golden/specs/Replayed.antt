@@ -4,7 +4,6 @@ use Rattle.std.specs.List.{range_with_len}
 use Rattle.gg_flat.specs.Line.{value_at}
 use Rattle.gg_flat.specs.Streams.{Flow}
 use Rattle.gg_flat.specs.Tree.{InstanceTree, path_at}
-use Rattle.gg_cut.specs.declared.listed.Listed.{Listed}
 use Rattle.gg_cut.specs.declared.plan.Plan.{Plan}
 use Rattle.gg_node.specs.Machine.{Machine}
 use Rattle.gg_net.specs.declared.event.Event.{Event}
@@ -25,23 +24,23 @@ use Rattle.golden.specs.declared.case.Fed.{Fed}
 -- ---- names
 
 -- the names of a plan's channels, machines and ports
-abbrev pub plan_naming : Plan → InstanceTree → Listed → Naming
-plan_naming plan tree listed =
+abbrev pub plan_naming : Plan → InstanceTree → Naming
+plan_naming plan tree =
     record {
       channels = map (λ channel. channel.name) plan.channels;
       machines = map (λ machine. machine.name) plan.machines;
-      ports = map (port_names tree listed) (range_with_len 0 (length plan.machines));
+      ports = map (port_names tree plan.listed) (range_with_len 0 (length plan.machines));
     }
 
 -- Numbers of 32 bits suffice for these names.
-pub record AreFewNames (plan : Plan) (tree : InstanceTree) (listed : Listed) : Type 0 where
+pub record AreFewNames (plan : Plan) (tree : InstanceTree) : Type 0 where
   pub channels : length plan.channels < 2 ^ 32
   pub machines : length plan.machines < 2 ^ 32
-  pub ports : (m : ℕ) → length (port_names tree listed m) < 2 ^ 32
+  pub ports : (m : ℕ) → length (port_names tree plan.listed m) < 2 ^ 32
 
 -- the names of a case's plan
 abbrev pub case_naming : Case → Naming
-case_naming case = plan_naming case.cut.plan case.design.tree case.cut.listed
+case_naming case = plan_naming case.cut.plan case.design.tree
 
 -- ---- lines
 

@@ -51,7 +51,6 @@ pub(crate) fn read_case<S: Shelf>(
     // for the design's invariant
     let _ = design.order();
     let _ = design.piece();
-    let _ = design.tree();
     Ok(Case { design, cut })
 }
 

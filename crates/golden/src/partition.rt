@@ -1,8 +1,8 @@
 //! Reading of the partition's file, and the cut of the circuit that it asks for.
 ghost use Rattle.std.specs.Prelude.{◌≡◌, ◌≢◌, ◌≤◌, ◌++◌, ℕ, List, IfOk, IfErr, Some, None, codes, length, string_bytes};
 ghost use Rattle.gg_cut.specs.Fault as cut;
-ghost use Rattle.gg_cut.specs.Listed.{listed_of};
 ghost use Rattle.gg_cut.specs.Plan.{IsPlan};
+ghost use Rattle.gg_moved.specs.KeepsToTree.{KeepsToTree};
 ghost use Rattle.gg_words.specs.Range.{IsCapacity};
 ghost use Rattle.gg_cut.specs.declared.fault.CutFault.{CutFault};
 ghost use Rattle.gg_cut.specs.declared.fault.CutFault.TheVariants as cut_fault;
@@ -18,20 +18,19 @@ ghost use Rattle.gg_told.specs.Ends.{loads_of};
 ghost use Rattle.gg_told.specs.WentOn.{ShelfWentOn};
 
 use crate::limits::PARTITION_LIMIT;
-use gg_cut::{CutFault, Listed, Plan, judge};
+use gg_cut::{CutFault, Plan};
 use gg_io::Shelf;
 use gg_order::Design;
 use gg_partfile::{PartFault, Request};
+use gg_plan::cut;
 use gg_told::{Ending, end_with, load, make_refusal};
 use std::alloc::{AllocError, Global};
 
-/// A request without a fault for a design, what it lists, and the plan of its cut.
+/// A request without a fault for a design, and the plan of its cut.
 #[derive(Drop)]
 pub(crate) struct Cut {
     /// The request.
     pub(crate) request: Request,
-    /// What it lists.
-    pub(crate) listed: Listed,
     /// The plan.
     pub(crate) plan: Plan,
 }
@@ -96,24 +95,6 @@ fn request_of(alloc: Global, bytes: &[u8]) -> Result<Request, Ending>
     }
 }
 
-// The cut of a design that a request asks for, or the request's first fault.
-fn cut_of(alloc: Global, design: &Design, request: Request, capacity: u32) -> Result<Cut, CutFault>
-    requires small { cut.IsSmall request }
-    requires range { IsCapacity capacity }
-    ensures told { cut.Tells (cut.first_fault design.now request) result }
-    ensures request { IfOk result (λ cut. cut.request ≡ request) }
-    ensures listed { IfOk result (λ cut. cut.listed ≡ listed_of design.now.tree request) }
-    ensures planned { IfOk result (λ cut. IsPlan design.now request capacity cut.plan) }
-{
-    let listed = judge(alloc, design, &request)?;
-    let plan = gg_plan::cut(alloc, design, &request, capacity)?;
-    Ok(Cut {
-        request,
-        listed,
-        plan,
-    })
-}
-
 // The cut of a design that a request asks for, if the request has no fault.
 fn cut_request(
     alloc: Global,
@@ -122,15 +103,15 @@ fn cut_request(
     capacity: u32,
 ) -> Result<Cut, Ending>
     requires small { cut.IsSmall request }
+    requires keeps { KeepsToTree design.now.circuit design.now.tree }
     requires range { IsCapacity capacity }
     ensures faultless { IfOk result (λ _. cut.first_fault design.now request ≡ None) }
     ensures request { IfOk result (λ cut. cut.request ≡ request) }
-    ensures listed { IfOk result (λ cut. cut.listed ≡ listed_of design.now.tree request) }
     ensures planned { IfOk result (λ cut. IsPlan design.now request capacity cut.plan) }
     ensures refused { IfErr result (IfRefused (λ said. (fault : CutFault) × (cut.first_fault design.now request ≡ Some fault) × (said ≡ partition_fault (cut.fault_text fault)))) }
 {
-    match cut_of(alloc, design, request, capacity) {
-        Ok(cut) => Ok(cut),
+    match cut(alloc, design, &request, capacity) {
+        Ok(plan) => Ok(Cut { request, plan }),
         Err(fault) => Err(end_at_request(alloc, &fault)),
     }
 }
@@ -143,9 +124,9 @@ pub(crate) fn read_cut<S: Shelf>(
     design: &Design,
     capacity: u32,
 ) -> Result<Cut, Ending>
-    requires { IsCapacity capacity }
+    requires keeps { KeepsToTree design.now.circuit design.now.tree }
+    requires range { IsCapacity capacity }
     ensures accepted { IfOk result (λ cut. (bytes : List ℕ) × CanBe (S.files shelf.old) (partition_file_of design.now name.now) bytes × Cuts design.now bytes cut.request) }
-    ensures listed { IfOk result (λ cut. cut.listed ≡ listed_of design.now.tree cut.request) }
     ensures planned { IfOk result (λ cut. IsPlan design.now cut.request capacity cut.plan) }
     ensures refused { IfErr result (IfRefused (IsRefusedBy (loads_of S.Shelf shelf.old shelf.new) (partition_file_of design.now name.now))) }
     ensures shelf { ShelfWentOn S.Shelf shelf.old shelf.new }

@@ -31,7 +31,7 @@ fn replay_bytes<K: Sink>(alloc: Global, fed: &Fed, steps: &[u8], out: &mut K) ->
     one_meaning();
     run_once();
     let case = &fed.case;
-    let names = names_of(alloc, case.design.tree(), &case.cut.listed, &case.cut.plan)?;
+    let names = names_of(alloc, case.design.tree(), &case.cut.plan)?;
     let events = read_steps(alloc, &names, steps)?;
     replay_net::<Brand, K>(alloc, fed, &names, events.as_slice(), out)
 }

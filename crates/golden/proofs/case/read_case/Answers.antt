@@ -28,10 +28,10 @@ returns-clause-read g c =
       at_partition = can-before (loads-on c.read_cut.new.shelf c.read_circuit.ensures.shelf) (partition-can cut.1);
       is = record {
         means = accepted.2;
-        designed = record { formed = c.piece.ensures.formed; fitting = c.tree.ensures.fitting; scoped = c.tree.ensures.scoped; ordered = c.order.ensures.ordered };
+        designed = record { formed = c.piece.ensures.formed; ordered = c.order.ensures.ordered };
+        keeps = c.in_ok-design.ensures.keeps;
         cuts = cut.2;
         bounded = c.requires;
         planned = c.in_ok-cut.ensures.planned;
-        listed = c.in_ok-cut.ensures.listed;
       };
     }

@@ -1,5 +1,4 @@
 use Rattle.std.proofs.Common.{◌≡◌, ℕ, List, inr, subst, sym}
-use Rattle.gg_cut.specs.Listed.{listed_of}
 use Rattle.gg_cut.specs.Plan.{IsPlan}
 use Rattle.gg_partfile.specs.Partition.{IsPartition}
 use Rattle.gg_partfile.specs.declared.request.Request.{Request}
@@ -38,9 +37,6 @@ returns-clause-accepted g c =
       record { held = c.in_ok-bytes.ensures.held; within = c.in_ok-bytes.ensures.within },
       subst (λ (r : Request). Cuts c.args.design.now bytes r) (sym c.in_ok-cut.ensures.request) (record { asks = asks; faultless = c.in_ok-cut.ensures.faultless }),
     )
-
-pub returns-clause-listed : goal.returns-clause-listed
-returns-clause-listed g c = subst (λ (r : Request). c.in_ok-cut.cut.listed ≡ listed_of c.args.design.now.tree r) (sym c.in_ok-cut.ensures.request) c.in_ok-cut.ensures.listed
 
 pub returns-clause-planned : goal.returns-clause-planned
 returns-clause-planned g c = subst (λ (r : Request). IsPlan c.args.design.now r c.args.capacity c.in_ok-cut.cut.plan) (sym c.in_ok-cut.ensures.request) c.in_ok-cut.ensures.planned

@@ -8,7 +8,7 @@ use Rattle.golden.proofs.replay.replay_bytes.Goals as goal
 pub names_of-requires : goal.names_of-requires
 names_of-requires g c =
     let case = c.args.fed.now.case in
-    subst (λ (t : InstanceTree). AreFewNames case.cut.plan t case.cut.listed) (sym c.tree.ensures.tree) (few-named c.requires.0 c.requires.1 c.requires.2 c.requires.3 c.args.fed.now c.requires.4)
+    subst (λ (t : InstanceTree). AreFewNames case.cut.plan t) (sym c.tree.ensures.tree) (few-named c.requires.0 c.requires.1 c.requires.2 c.requires.3 c.args.fed.now c.requires.4)
 
 pub replay_net-requires-clause-few : goal.replay_net-requires-clause-few
 replay_net-requires-clause-few g c κs within = (few-named c.requires.0 c.requires.1 c.requires.2 c.requires.3 c.args.fed.now c.requires.4).channels
@@ -22,5 +22,5 @@ returns-clause-ended g c =
     let case = c.args.fed.now.case in
     λ circuit partition trace capacity is.
     steps-judged circuit partition trace capacity c.args.fed.now is (designs-agree d.flat d.tree) d.flat c.run_once.ensures.opening c.args.steps.now _ _
-    (c.in_ok-names.ensures ∙ ap (λ (t : InstanceTree). plan_naming case.cut.plan t case.cut.listed) c.tree.ensures.tree)
+    (c.in_ok-names.ensures ∙ ap (λ (t : InstanceTree). plan_naming case.cut.plan t) c.tree.ensures.tree)
     (c.as_slice.ensures.value ∙ c.in_ok-events.ensures) c.replay_net.ensures.ended
