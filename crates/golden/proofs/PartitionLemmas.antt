@@ -16,8 +16,10 @@ use Rattle.gg_partfile.proofs.OnceLemmas.{request-once}
 use Rattle.gg_partfile.specs.Partition.{IsPartition}
 use Rattle.gg_partfile.specs.declared.fault.PartFault.TheVariants as file_fault
 use Rattle.gg_partfile.specs.declared.request.Request.{Request}
-use Rattle.golden.specs.Lines.{Said, partition_fault}
-use Rattle.golden.specs.Order.{IsExactFile, IsUniqueFile, IsRefused}
+use Rattle.gg_told.specs.Said.{Said}
+use Rattle.golden.specs.Lines.{partition_fault}
+use Rattle.gg_told.specs.Order.{CanBe, IsExactFile, IsUniqueFile, IsRefused}
+use Rattle.gg_told.proofs.OrderLemmas.{exact-by}
 use Rattle.golden.specs.Partition.{Cuts, HasFault, OfFile, OfRequest, IsPartitionFor, TellsPartitionOf, TellsPartitionFor, partition_file_for, partition_file_of}
 
 -- ---- the fault of bytes
@@ -80,11 +82,15 @@ module _ (agree : DesignsAgree) (apart : FileApart) (key : OneKey) (circuit : Li
 
   -- nothing is reported for a partition without a fault, and all that is reported for others has the status 6
   pub partition_file-exact : (name : List ℕ) → IsExactFile (partition_file_for circuit name)
-  partition_file-exact name = record { apart = partition-apart; status = partition-status; judges = inr (inl refl) }
+  partition_file-exact name = exact-by 6 (inr (inl refl)) partition-apart partition-status
 
   -- at most one thing is reported for a partition
   pub partition_file-unique : (name : List ℕ) → IsUniqueFile (partition_file_for circuit name)
   partition_file-unique name = partition-once
+
+-- what can be a partition's file for a design can be one for some bytes
+pub partition-can : {files : List ℕ → Told} {circuit : List ℕ} {design : Ordered} {name bytes : List ℕ} → CanBe files (partition_file_of design name) bytes → CanBe files (partition_file_for circuit name) bytes
+partition-can can = record { held = can.held; within = can.within }
 
 -- a partition that is refused for a design that some bytes mean is refused for these bytes
 pub partition-refused : (files : List ℕ → Told) {lost cut : Type 0} {circuit : List ℕ} {design : Ordered} {name : List ℕ} → MeansDesign circuit design
