@@ -1,10 +1,11 @@
 -- A partition has at most one fault, whichever design the circuit's bytes are taken to mean.
-use Rattle.std.proofs.Common.{◌≡◌, ℕ, ◌++◌, List, None, Some, refl, sym, ap, ◌∙◌, subst, inl, inr}
+use Rattle.std.proofs.Common.{◌≡◌, ◌≢◌, ℕ, ◌++◌, List, None, Some, refl, sym, ap, ◌∙◌, subst, inl, inr}
 use Rattle.std.specs.Prelude.{codes}
 use Rattle.std.proofs.lemmas.Option.{same_Some}
 use Rattle.gg_cut.specs.Fault.{first_fault}
 use Rattle.gg_cut.specs.Fault as cut
 use Rattle.gg_cut.specs.declared.fault.CutFault.{CutFault}
+use Rattle.gg_cut.specs.declared.fault.CutFault.TheVariants as cut_fault
 use Rattle.gg_check.specs.Alike.{AreAlike}
 use Rattle.gg_check.proofs.SameCutLemmas.{fault-same}
 use Rattle.gg_flat.specs.Circuit.{FlatCircuit}
@@ -17,6 +18,9 @@ use Rattle.gg_partfile.specs.Partition.{IsPartition}
 use Rattle.gg_partfile.specs.declared.fault.PartFault.TheVariants as file_fault
 use Rattle.gg_partfile.specs.declared.request.Request.{Request}
 use Rattle.gg_told.specs.Said.{Said}
+use Rattle.gg_told.specs.Endings.{IfRefused}
+use Rattle.gg_told.specs.declared.endings.Ending.{Ending}
+use Rattle.gg_told.proofs.EndingLemmas.{IfRefused-map}
 use Rattle.golden.specs.Lines.{partition_fault}
 use Rattle.gg_told.specs.Order.{CanBe, IsExactFile, IsUniqueFile, IsRefused}
 use Rattle.gg_told.proofs.OrderLemmas.{exact-by}
@@ -111,3 +115,10 @@ pub request-refused : (design : Ordered) (bytes slice : List ℕ) (request : Req
     → (fault : CutFault) × (first_fault design request ≡ Some fault) × (said ≡ partition_fault (cut.fault_text fault)) → TellsPartitionOf design bytes said
 request-refused design bytes slice request said e asks (fault, first, is) =
     (cut.fault_text fault, OfRequest request (subst (λ (b : List ℕ). IsPartition b request) e asks) fault first refl, is)
+
+-- what is reported for the fault that was told is the request's first
+pub request-told : (design : Ordered) (request : Request) (fault : CutFault) (ending : Ending) → cut.IsTold (first_fault design request) fault
+    → IfRefused (λ said. (fault ≢ cut_fault.NoMemory) × (said ≡ partition_fault (cut.fault_text fault))) ending
+    → IfRefused (λ said. (first : CutFault) × (first_fault design request ≡ Some first) × (said ≡ partition_fault (cut.fault_text first))) ending
+request-told design request fault ending (inl wants) = IfRefused-map (λ said h. absurd (h.0 wants)) ending
+request-told design request fault ending (inr first) = IfRefused-map (λ said h. (fault, first, h.1)) ending

@@ -1,4 +1,4 @@
-use Rattle.std.proofs.Common.{◌≡◌, ℕ, List, inr, subst, sym}
+use Rattle.std.proofs.Common.{ℕ, List, inr, subst, sym}
 use Rattle.gg_cut.specs.Plan.{IsPlan}
 use Rattle.gg_partfile.specs.Partition.{IsPartition}
 use Rattle.gg_partfile.specs.declared.request.Request.{Request}
