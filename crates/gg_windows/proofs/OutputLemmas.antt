@@ -6,15 +6,15 @@ use Rattle.gg_flat.proofs.ListLemmas.{some-item}
 use Rattle.gg_flat.specs.Run.{column, row_at}
 use Rattle.gg_flat.specs.Streams.{Flow}
 use Rattle.gg_order.specs.Design.{Ordered}
-use Rattle.gg_cut.specs.Channels.{wire, wires_of, first_tray}
-use Rattle.gg_cut.specs.Listed.{listed_of}
+use Rattle.gg_cut.specs.Channels.{wire, wires_of}
+use Rattle.gg_cut.specs.Machines.{first_tray}
+use Rattle.gg_cut.specs.Listed.{listed_of, owner_of}
 use Rattle.gg_cut.specs.Plan as planned
 use Rattle.gg_cut.specs.Plan.{IsPlan, IsChannel, IsBody}
 use Rattle.gg_cut.specs.declared.listed.Listed.{Listed}
 use Rattle.gg_cut.specs.declared.plan.Body.{Body}
 use Rattle.gg_cut.specs.declared.plan.Body.TheVariants.{Cut, Memory, Source, Tray}
 use Rattle.gg_cut.specs.declared.plan.Channel.{Channel}
-use Rattle.gg_cut.specs.declared.plan.Machine as plans
 use Rattle.gg_cut.specs.declared.plan.Plan.{Plan}
 use Rattle.gg_cut.specs.declared.wires.Wire as cut
 use Rattle.gg_closed.proofs.KindLemmas.{tray-wire}
@@ -36,12 +36,12 @@ pub net-stays : (plan : Plan) (columns : List (List ℕ)) (n : ℕ) (old new : N
 net-stays plan columns n old new is same = record { machines = is.machines; built = is.built; frame = same ∙ is.frame }
 
 -- a machine of a plan from the first tray on is a tray
-tray-behaves : (design : Ordered) (listed : Listed) (wires : List cut.Wire) (columns : List (List ℕ)) (n m : ℕ) (own : plans.Machine) (body : Body) (machine : Machine) → first_tray design.circuit listed ≤ m → IsBody design listed wires m body → IsBuilt columns n own body machine
+tray-behaves : (design : Ordered) (listed : Listed) (wires : List cut.Wire) (columns : List (List ℕ)) (n m : ℕ) (body : Body) (machine : Machine) → first_tray design.circuit listed ≤ m → IsBody design listed wires m body → IsBuilt columns n body machine
     → machine.behaviour ≡ KeepsLast (tray_rows n)
-tray-behaves design listed wires columns n m own (Cut part) machine low is built = absurd (omega (arith, low, is.0))
-tray-behaves design listed wires columns n m own (Memory part) machine low is built = absurd (omega (arith, low, is.1))
-tray-behaves design listed wires columns n m own Source machine low is built = absurd (omega (arith, low, is.1))
-tray-behaves design listed wires columns n m own Tray machine low is built = ap (λ (x : Machine). x.behaviour) built
+tray-behaves design listed wires columns n m (Cut part) machine low is built = absurd (omega (arith, low, is.0))
+tray-behaves design listed wires columns n m (Memory part) machine low is built = absurd (omega (arith, low, is.1))
+tray-behaves design listed wires columns n m (Source place) machine low is built = absurd (omega (arith, low, is.0, is.1))
+tray-behaves design listed wires columns n m Tray machine low is built = ap (λ (x : Machine). x.behaviour) built
 
 -- ---- the tray of an output
 
@@ -79,7 +79,7 @@ module _ (plan : Plan) (columns : List (List ℕ)) (n : ℕ) (flow : Flow) (run 
       let kinds : kind_of (machine_at net.machines m) ≡ kind_of (machine_at is.machines m) =
       sym (kind-is net.machines m (omega (arith, lt, count))) ∙ ap (λ (f : Frame). kind_at f.kinds m) is.frame ∙ kind-is is.machines m (omega (arith, there, is.built.count)) in
       ap (λ (kind : Kind). kind.behaviour) kinds
-      ∙ tray-behaves run.design listed wires columns n m (machine_in plan m) (machine_in plan m).body (machine_at is.machines m) (omega arith)
+      ∙ tray-behaves run.design listed wires columns n m (machine_in plan m).body (machine_at is.machines m) (omega arith)
       (run.given.planned.machine m nameless there).body (is.built.each m there)
 
   -- the channel of a tray
@@ -90,7 +90,7 @@ module _ (plan : Plan) (columns : List (List ℕ)) (n : ℕ) (flow : Flow) (run 
 
   tray-channel : (k : ℕ) → k < length outs → (c : ℕ) × IsTrayChannel k c
   tray-channel k lt =
-      let w = wire (value_at outs k) 0 (tray k) in
+      let w = wire (value_at outs k) (owner_of run.design.circuit run.design.tree listed (value_at outs k)) (tray k) in
       let has = tray-wire run.design.circuit run.design.tree listed k lt in
       let c = has.0 in
       let at : planned.wire_at wires c ≡ w = get_or_default wires c (wire 0 0 0) w has.1 ∙ has.2 in
