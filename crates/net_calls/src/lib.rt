@@ -1,4 +1,4 @@
-//! Networks from texts, for tests: a circuit, a partition and a trace become a plan, whose network is tried. It promises nothing: the
+//! Networks from texts, for tests: circuits, partitions and traces, read. It promises nothing: the
 //! contracts of the crates below say what each call does.
 //!
 //! A value of a design or a plan makes a proof long: it is dropped once for each way out of the function that owns it. So a function that
@@ -8,7 +8,6 @@
 mod networks;
 mod reading;
 mod texts;
-mod trial;
 
 pub use networks::{is_at_most, keeps};
 pub use reading::{design_of, inputs_of, request_of};
@@ -16,4 +15,3 @@ pub use texts::{
     COUNTER, COUNTER_TRACE, FOUR_PORTS, FOUR_PORTS_TRACE, PAIR, PAIR_TRACE, PASS, THREE_CYCLES,
     TOGGLE, memory,
 };
-pub use trial::{Trial, try_network};

@@ -1,9 +1,9 @@
 //! gg_measure: what is left to do in a network, and doing it in two orders.
-use crate::networks::Case;
+use crate::networks::{Case, is_network};
 use gg_build::Node;
 use gg_measure::{left, possible, run_to, run_to_end};
 use gg_net::{Event, Net, Refusal, Streams};
-use net_calls::{FOUR_PORTS, FOUR_PORTS_TRACE, PAIR, PAIR_TRACE, is_at_most, keeps, try_network};
+use net_calls::{FOUR_PORTS, FOUR_PORTS_TRACE, PAIR, PAIR_TRACE, is_at_most, keeps};
 use std::test::Fail;
 
 // Does the steps that `possible` answers, one after another. Returns how many were done, at most this many.
@@ -199,12 +199,11 @@ static WRITING: Case = Case {
 #[test]
 fn two_units_end_alike(rt: HostRuntime) -> Result<(), Fail> {
     assert!(rt;
-        try_network(
+        is_network(
             rt.alloc(),
             PAIR,
             "{\"units\":[\"a\",\"b\"]}",
             PAIR_TRACE,
-            1,
             &FEEDING
         )
     );
@@ -214,12 +213,11 @@ fn two_units_end_alike(rt: HostRuntime) -> Result<(), Fail> {
 #[test]
 fn a_memory_of_four_ports_ends_alike(rt: HostRuntime) -> Result<(), Fail> {
     assert!(rt;
-        try_network(
+        is_network(
             rt.alloc(),
             FOUR_PORTS,
             "{\"memories\":[\"m\"]}",
             FOUR_PORTS_TRACE,
-            1,
             &WRITING
         )
     );

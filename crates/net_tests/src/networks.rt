@@ -1,14 +1,18 @@
 //! gg_plan, gg_build, gg_net and gg_memunit: networks are built, and run to their end.
 ghost use Rattle.std.specs.Prelude.{◌≡◌, ◌<◌, length};
 ghost use Rattle.gg_build.specs.Build.{IsToRun};
+ghost use Rattle.gg_cut.specs.Fault.{IsSmall};
+ghost use Rattle.gg_moved.specs.KeepsToTree.{KeepsToTree};
+ghost use Rattle.gg_flat.specs.Run.{IsColumns};
 
 use crate::measures::end_alike;
 use gg_build::{Node, build};
 use gg_cut::Plan;
 use gg_net::{Event, Net, Refusal, Streams};
 use gg_trace::Trace;
-use net_calls::{COUNTER, COUNTER_TRACE, THREE_CYCLES, Trial, memory, try_network};
+use net_calls::{COUNTER, COUNTER_TRACE, THREE_CYCLES, design_of, inputs_of, memory, request_of};
 use std::alloc::{AllocError, Global};
+use std::marker::Brand;
 use std::test::Fail;
 
 // What is expected of a network.
@@ -191,28 +195,80 @@ fn is_built_twice<Z: Streams>(alloc: Global, plan: &Plan, inputs: &Trace, case: 
     }
 }
 
-impl Trial for Case {
-    fn holds<Z: Streams>(&self, alloc: Global, plan: &Plan, inputs: &Trace) -> bool {
-        is_built_once::<Z>(alloc, plan, inputs, self)
-            && is_built_twice::<Z>(alloc, plan, inputs, self)
+// Whether the network of a plan runs as expected.
+fn is_built<Z: Streams>(
+    alloc: Global,
+    design: &Design,
+    plan: &Plan,
+    inputs: &Trace,
+    case: &Case,
+) -> bool
+    requires { IsToRun plan.now inputs.now.columns inputs.now.rows Z.flow }
+{
+    let _ = design;
+    is_built_once::<Z>(alloc, plan, inputs, case) && is_built_twice::<Z>(alloc, plan, inputs, case)
+}
+
+// Whether the network of a design and a request runs as expected, for channels of capacity 1.
+fn is_cut(alloc: Global, design: &Design, request: &Request, inputs: &Trace, case: &Case) -> bool
+    requires small { IsSmall request.now }
+    requires keeps { KeepsToTree design.now.circuit design.now.tree }
+    requires fed { IsColumns design.now.circuit inputs.now.rows inputs.now.columns }
+{
+    // for the design's invariant on its parts
+    let _ = design.order();
+    let _ = design.piece();
+    let _ = inputs.rows();
+    match cut(alloc, design, request, 1) {
+        Ok(plan) => is_built::<Brand>(alloc, design, &plan, inputs, case),
+        Err(fault) => {
+            drop(fault);
+            false
+        }
+    }
+}
+
+// Whether the network of a design and a partition runs as expected on a trace.
+fn is_fed(alloc: Global, design: &Design, partition: &str, trace: &str, case: &Case) -> bool
+    requires { KeepsToTree design.now.circuit design.now.tree }
+{
+    match request_of(alloc, partition) {
+        Some(request) => match inputs_of(alloc, design, trace) {
+            Some(inputs) => is_cut(alloc, design, &request, &inputs, case),
+            None => false,
+        },
+        None => false,
+    }
+}
+
+// Whether the network of a circuit and a partition runs as expected on a trace.
+pub(crate) fn is_network(
+    alloc: Global,
+    circuit: &str,
+    partition: &str,
+    trace: &str,
+    case: &Case,
+) -> bool {
+    match design_of(alloc, circuit) {
+        Some(design) => is_fed(alloc, &design, partition, trace, case),
+        None => false,
     }
 }
 
 #[test]
 fn the_counter_runs(rt: HostRuntime) -> Result<(), Fail> {
-    assert!(rt; try_network(rt.alloc(), COUNTER, "{}", COUNTER_TRACE, 1, &COUNTING));
+    assert!(rt; is_network(rt.alloc(), COUNTER, "{}", COUNTER_TRACE, &COUNTING));
     Ok(())
 }
 
 // Whether the memory of latency 0 runs as a machine of its own.
 fn is_served(alloc: Global) -> Result<bool, AllocError> {
     let circuit = memory(alloc, "read-latency => 0", "read-under-write => undefined")?;
-    Ok(try_network(
+    Ok(is_network(
         alloc,
         circuit.as_str(),
         "{\"memories\":[\"m\"]}",
         THREE_CYCLES,
-        1,
         &SERVING,
     ))
 }

@@ -1,10 +1,14 @@
 //! Two workers run side by side, with queues.
-use crate::runs::{OverQueue, Run};
+use crate::runs::{Run, Texts, is_expected};
 use gg_io::Gate;
-use net_calls::{PAIR, PAIR_TRACE, try_network};
+use gg_ruled::Ruled;
+use net_calls::{PAIR, PAIR_TRACE};
+use std::alloc::Global;
+use std::sync::Wait;
 use std::sync::atomic::{AtomicU64, Ordering};
 use std::test::Fail;
 use std::thread;
+use std::thread::Threads;
 
 // The flags of one worker: whether it has begun, and whether it has seen that the other has.
 #[derive(Drop)]
@@ -61,19 +65,24 @@ static BOTH: Run = Run {
     kept: &[0x11, 0x83],
 };
 
+static PAIR_OF_UNITS: Texts = Texts {
+    circuit: PAIR,
+    partition: "{\"units\":[\"a\",\"b\"]}",
+    trace: PAIR_TRACE,
+};
+
+// Whether that run with queues, at this gate, leaves what is expected.
+fn meets<R: Threads + Wait + Copy + Send + Sync>(rt: R, alloc: Global, gate: &Meeting) -> bool {
+    is_expected::<R, Ruled<R>, Meeting>(&rt, rt, alloc, &PAIR_OF_UNITS, &BOTH, gate)
+}
+
 #[test]
 fn two_workers_meet(rt: HostRuntime) -> Result<(), Fail> {
     let gate = Meeting {
         first: new_flags(),
         second: new_flags(),
     };
-    let trial = OverQueue {
-        rt,
-        run: &BOTH,
-        gate: &gate,
-    };
-    let units = "{\"units\":[\"a\",\"b\"]}";
-    assert!(rt; try_network(rt.alloc(), PAIR, units, PAIR_TRACE, 1, &trial));
+    assert!(rt; meets(rt, rt.alloc(), &gate));
     assert!(rt; gate.first.met.load(Ordering::SeqCst) == 1);
     assert!(rt; gate.second.met.load(Ordering::SeqCst) == 1);
     Ok(())

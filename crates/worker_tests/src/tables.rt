@@ -1,9 +1,8 @@
 //! Runs with rings, from tables: few and many workers, cycles up to which machines are stepped, and channels of capacity 1.
-use crate::runs::{OverRing, Run};
+use crate::runs::{Run, Texts, is_expected};
 use gg_io::NoGate;
-use net_calls::{
-    FOUR_PORTS, FOUR_PORTS_TRACE, PAIR, PAIR_TRACE, THREE_CYCLES, TOGGLE, try_network,
-};
+use gg_ring::Ring;
+use net_calls::{FOUR_PORTS, FOUR_PORTS_TRACE, PAIR, PAIR_TRACE, THREE_CYCLES, TOGGLE};
 use std::alloc::Global;
 use std::test::Fail;
 use std::thread::Threads;
@@ -14,9 +13,7 @@ type Row = (u64, u32, u64, u64, u64);
 
 // A circuit with its partition and trace, what the last output is, and runs, each from the opening.
 struct Table {
-    circuit: &'static str,
-    partition: &'static str,
-    trace: &'static str,
+    texts: Texts,
     kept: &'static [u128],
     rows: &'static [Row],
 }
@@ -24,9 +21,11 @@ struct Table {
 static TABLES: [Table; 3] = [
     // two units that feed each other in one cycle: five hosts
     Table {
-        circuit: PAIR,
-        partition: "{\"units\":[\"a\",\"b\"]}",
-        trace: PAIR_TRACE,
+        texts: Texts {
+            circuit: PAIR,
+            partition: "{\"units\":[\"a\",\"b\"]}",
+            trace: PAIR_TRACE,
+        },
         kept: &[0x11, 0x83],
         rows: &[
             // no worker, or one, for all cycles or for one
@@ -44,17 +43,21 @@ static TABLES: [Table; 3] = [
     },
     // a memory that is served, by one worker and by three
     Table {
-        circuit: FOUR_PORTS,
-        partition: "{\"memories\":[\"m\"]}",
-        trace: FOUR_PORTS_TRACE,
+        texts: Texts {
+            circuit: FOUR_PORTS,
+            partition: "{\"memories\":[\"m\"]}",
+            trace: FOUR_PORTS_TRACE,
+        },
         kept: &[0, 0xf0, 0, 0],
         rows: &[(0, 1, 4, 0, 0), (2, 3, 4, 0, 87)],
     },
     // one channel, by one worker and by 64
     Table {
-        circuit: TOGGLE,
-        partition: "{}",
-        trace: THREE_CYCLES,
+        texts: Texts {
+            circuit: TOGGLE,
+            partition: "{}",
+            trace: THREE_CYCLES,
+        },
         kept: &[0, 1, 0],
         rows: &[(0, 1, 3, 0, 0), (0, 64, 3, 0, 11)],
     },
@@ -72,19 +75,7 @@ fn first_wrong<R: Threads + Sync + Copy>(rt: R, alloc: Global, table: &Table) ->
             most,
             kept: table.kept,
         };
-        let trial = OverRing {
-            rt,
-            run: &run,
-            gate: &NoGate,
-        };
-        if !try_network(
-            alloc,
-            table.circuit,
-            table.partition,
-            table.trace,
-            1,
-            &trial,
-        ) {
+        if !is_expected::<R, Ring, NoGate>(&rt, (), alloc, &table.texts, &run, &NoGate) {
             return Some(place);
         }
     }
