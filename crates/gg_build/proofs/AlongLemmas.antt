@@ -3,6 +3,7 @@ use Rattle.std.proofs.Common.{◌≡◌, ℕ, ◌<◌, ◌≤◌, List, None, re
 use Rattle.gg_flat.specs.Along.{rows_along}
 use Rattle.gg_flat.specs.Run.{IsColumns}
 use Rattle.gg_flat.proofs.AlongLemmas.{IsRun-along}
+use Rattle.gg_moved.specs.KeepsToTree.{KeepsToTree}
 use Rattle.gg_order.specs.Design.{IsDesign, Ordered}
 use Rattle.gg_partfile.specs.declared.request.Request.{Request}
 use Rattle.gg_cut.specs.Fault.{first_fault}
@@ -13,10 +14,10 @@ use Rattle.gg_net.specs.Net.{queue_limit}
 use Rattle.gg_sound.specs.Built.{IsGiven}
 use Rattle.gg_build.specs.Build.{IsToRun, flow_along}
 
-module _ (design : Ordered) (request : Request) (default : ℕ) (plan : Plan) (columns : List (List ℕ)) (n : ℕ) (is : IsDesign design) (faultless : first_fault design request ≡ None) (planned : IsPlan design request default plan)
+module _ (design : Ordered) (request : Request) (default : ℕ) (plan : Plan) (columns : List (List ℕ)) (n : ℕ) (is : IsDesign design) (keeps : KeepsToTree design.circuit design.tree) (faultless : first_fault design request ≡ None) (planned : IsPlan design request default plan)
     (some : 0 < default) (room : default ≤ queue_limit) (most : n ≤ cycle_limit) (fed : IsColumns design.circuit n columns) where
   pub given-along : IsGiven design request default plan columns n (rows_along design.circuit design.order columns n)
-  given-along = record { design_is = is; faultless = faultless; some = some; planned = planned; most = most; given = fed; run = IsRun-along design.circuit design.order columns n is.formed is.ordered fed }
+  given-along = record { design_is = is; keeps = keeps; faultless = faultless; some = some; planned = planned; most = most; given = fed; run = IsRun-along design.circuit design.order columns n is.formed is.ordered fed }
 
   pub to-run : IsToRun plan columns n (flow_along design plan columns n)
   to-run = record { design = design; request = request; default = default; rows = rows_along design.circuit design.order columns n; given = given-along; room = room; flow_is = refl }

@@ -86,7 +86,7 @@ module _ (plan : Plan) (columns : List (List ℕ)) (n : ℕ) (hosts : List Node)
   are-built =
       record {
         count = length-map stations (seated lists_of) ∙ are.places;
-        each = λ m lt. subst (IsBuilt columns n (machine_in plan m) (machine_in plan m).body) (sym (machine-is m no_station lt)) (seat-at m no_station lt).host.is;
+        each = λ m lt. subst (IsBuilt columns n (machine_in plan m).body) (sym (machine-is m no_station lt)) (seat-at m no_station lt).host.is;
       }
 
   -- ---- for a design, a request and a run

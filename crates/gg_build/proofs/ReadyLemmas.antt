@@ -10,13 +10,13 @@ use Rattle.gg_cut.specs.Listed.{listed_of}
 use Rattle.gg_closed.proofs.FaultlessLemmas.{faultless-few}
 use Rattle.gg_closed.proofs.EndLemmas.{few-machines}
 use Rattle.gg_sound.specs.Built.{IsGiven, machine_in}
-use Rattle.gg_sound.proofs.BodyLemmas.{unit-formed, unit-ordered, source-one, source-known}
+use Rattle.gg_sound.proofs.BodyLemmas.{unit-formed, unit-ordered, source-known}
 use Rattle.gg_sound.proofs.StandLemmas.{memory-formed, memory-chosen, memory-alone}
 use Rattle.gg_build.specs.Build.{IsFaultless, IsToRun}
 use Rattle.gg_build.specs.Hosts.{CanBuild, AllCanBuild}
 
 module _ (design : Ordered) (request : Request) (default : ℕ) (plan : Plan) (columns : List (List ℕ)) (n : ℕ) (rows : List (List ℕ)) (given : IsGiven design request default plan columns n rows) where
-  can-build : (m : ℕ) → m < length plan.machines → (body : Body) → (machine_in plan m).body ≡ body → CanBuild columns (machine_in plan m).outs body
+  can-build : (m : ℕ) → m < length plan.machines → (body : Body) → (machine_in plan m).body ≡ body → CanBuild columns body
   can-build m lt (Cut part) is =
       record {
         formed = unit-formed design request default plan columns n rows given m lt part is;
@@ -28,9 +28,7 @@ module _ (design : Ordered) (request : Request) (default : ℕ) (plan : Plan) (c
         chosen = memory-chosen design request default plan columns n rows given m part lt is;
         alone = λ alone cut. memory-alone design request default plan columns n rows given m part lt is alone cut;
       }
-  can-build m lt Source is =
-      let one = source-one design request default plan columns n rows given m lt is in
-      record { some = omega (arith, one); known = source-known design request default plan columns n rows given m lt is }
+  can-build m lt (Source place) is = source-known design request default plan columns n rows given m lt place is
   can-build m lt Tray is = tt
 
   all-can-build : AllCanBuild plan columns
@@ -44,7 +42,7 @@ module _ (plan : Plan) (columns : List (List ℕ)) (n : ℕ) (flow : Flow) (is :
 
   pub faultless : IsFaultless plan
   faultless =
-      record { design = is.design; request = is.request; default = is.default; design_is = is.given.design_is; faultless = is.given.faultless; some = is.given.some; planned = is.given.planned }
+      record { design = is.design; request = is.request; default = is.default; design_is = is.given.design_is; keeps = is.given.keeps; faultless = is.given.faultless; some = is.given.some; planned = is.given.planned }
 
   pub few : length plan.machines < 2 ^ 32
   few =

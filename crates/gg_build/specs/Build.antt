@@ -4,6 +4,7 @@
 use Rattle.std.specs.Prelude.{◌≡◌, ℕ, ◌<◌, ◌≤◌, List, None}
 use Rattle.gg_flat.specs.Along.{rows_along}
 use Rattle.gg_flat.specs.Streams.{Flow}
+use Rattle.gg_moved.specs.KeepsToTree.{KeepsToTree}
 use Rattle.gg_order.specs.Design.{Ordered, IsDesign}
 use Rattle.gg_partfile.specs.declared.request.Request.{Request}
 use Rattle.gg_cut.specs.declared.plan.Plan.{Plan}
@@ -14,12 +15,14 @@ use Rattle.gg_net.specs.Network.{Network}
 use Rattle.gg_net.specs.Net.{queue_limit, opening_net}
 use Rattle.gg_sound.specs.Built.{AreBuilt, IsGiven, flow_of, wires_of_plan}
 
--- The plan is that of a design and of a request without a fault for it. Its channels may hold at least one token each.
+-- The plan is that of a design whose circuit keeps to its tree, and of a request without a fault for it. Its channels may hold at
+-- least one token each.
 pub record IsFaultless (plan : Plan) : Type 0 where
   pub design : Ordered
   pub request : Request
   pub default : ℕ
   pub design_is : IsDesign design
+  pub keeps : KeepsToTree design.circuit design.tree
   pub faultless : first_fault design request ≡ None
   pub some : 0 < default
   pub planned : IsPlan design request default plan

@@ -2,7 +2,6 @@
 -- Source: ICCAD 2019 (units and memories of a target as models of their own, each on a host; memories that are served
 -- port by port).
 use Rattle.std.specs.Prelude.{◌≡◌, ℕ, ◌<◌, List, [], ◌∷◌, ◌++◌, length, map, slice_index_or, ⊤}
-use Rattle.gg_flat.specs.Line.{value_at}
 use Rattle.gg_flat.specs.WellFormed.{IsWellFormed}
 use Rattle.gg_part.specs.Choice.{IsChoice}
 use Rattle.gg_part.specs.InOrder.{IsInOrder}
@@ -34,21 +33,16 @@ pub record IsMemoryPart (part : Part) : Type 0 where
   pub chosen : IsChoice part.piece (part.piece.ins ++ part.piece.outs) part.piece.ins part.piece.outs (0 ∷ [])
   pub alone : (alone : Part) → IsCutAgain part alone → IsMemoryPiece alone.piece
 
--- A source gives a channel, and there is a column with the channel's number.
-pub record IsSourceOf (columns : List (List ℕ)) (outs : List ℕ) : Type 0 where
-  pub some : 0 < length outs
-  pub known : value_at outs 0 < length columns
-
--- a machine of the plan can be built, on these columns
-abbrev pub CanBuild : List (List ℕ) → List ℕ → Body → Type 0
-CanBuild columns outs (Cut part) = IsUnitPart part
-CanBuild columns outs (Memory part) = IsMemoryPart part
-CanBuild columns outs Source = IsSourceOf columns outs
-CanBuild columns outs Tray = ⊤
+-- A machine of the plan can be built, on these columns. For a source there is a column at its place.
+abbrev pub CanBuild : List (List ℕ) → Body → Type 0
+CanBuild columns (Cut part) = IsUnitPart part
+CanBuild columns (Memory part) = IsMemoryPart part
+CanBuild columns (Source place) = place < length columns
+CanBuild columns Tray = ⊤
 
 -- each machine of the plan can be built
 abbrev pub AllCanBuild : Plan → List (List ℕ) → Type 0
-AllCanBuild plan columns = (m : ℕ) → m < length plan.machines → CanBuild columns (machine_in plan m).outs (machine_in plan m).body
+AllCanBuild plan columns = (m : ℕ) → m < length plan.machines → CanBuild columns (machine_in plan m).body
 
 -- ---- what is built
 
@@ -59,7 +53,7 @@ pub record IsHost (Is : Machine → Type 0) (node : Node) (ports : List ServedPo
 
 -- The host and the station of machine m of a plan. Each machine has a host of its own, with the machine's number.
 pub record IsSeat (columns : List (List ℕ)) (n m : ℕ) (own : planned.Machine) (node : Node) (station : Station) : Type 0 where
-  pub host : IsHost (IsBuilt columns n own own.body) node station.ports
+  pub host : IsHost (IsBuilt columns n own.body) node station.ports
   pub number : station.host ≡ m
   pub thread : station.thread ≡ 0
   pub ins : station.ins ≡ own.ins

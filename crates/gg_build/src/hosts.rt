@@ -1,10 +1,9 @@
 //! The hosts of a plan's machines.
-ghost use Rattle.std.specs.Prelude.{◌≡◌, ◌++◌, ◌∷◌, [], None, false, IfOk, length, slice_index_or};
-ghost use Rattle.gg_flat.specs.Line.{value_at};
+ghost use Rattle.std.specs.Prelude.{◌≡◌, ◌<◌, ◌++◌, ◌∷◌, [], None, false, IfOk, length, slice_index_or};
 ghost use Rattle.gg_node.specs.Machine.{source_machine, tray_machine, cycle_limit};
 ghost use Rattle.gg_sound.specs.Alone.{IsCutAgain};
 ghost use Rattle.gg_sound.specs.Built.{IsUnitOf, IsMemoryOf, IsBuilt, tray_rows};
-ghost use Rattle.gg_build.specs.Hosts.{IsUnitPart, IsMemoryPart, IsSourceOf, CanBuild, IsHost};
+ghost use Rattle.gg_build.specs.Hosts.{IsUnitPart, IsMemoryPart, CanBuild, IsHost};
 
 use crate::node::Node;
 use crate::ports::ports_of;
@@ -85,12 +84,12 @@ fn memory_host<'a>(alloc: Global, part: &Part) -> Result<Hosted<'a>, AllocError>
     })
 }
 
-// The host of a source, which gives the channels `outs`.
-fn source_host<'a>(alloc: Global, trace: &Trace, outs: &[u32]) -> Result<Hosted<'a>, AllocError>
-    requires { IsSourceOf trace.now.columns outs.now }
-    ensures { IfOk result (λ made. IsHost (λ machine. machine ≡ source_machine (slice_index_or trace.now.columns (value_at outs.now 0) []) 0 (false ∷ [])) made.node made.ports.items) }
+// The host of a source, by its place among the top's inputs.
+fn source_host<'a>(alloc: Global, trace: &Trace, place: u32) -> Result<Hosted<'a>, AllocError>
+    requires { place < length trace.now.columns }
+    ensures { IfOk result (λ made. IsHost (λ machine. machine ≡ source_machine (slice_index_or trace.now.columns place []) 0 (false ∷ [])) made.node made.ports.items) }
 {
-    let column = trace.column(alloc, outs[0] as usize)?;
+    let column = trace.column(alloc, place as usize)?;
     Ok(Hosted {
         node: Node::Source(Source::new(column)),
         ports: Vec::new(alloc),
@@ -118,13 +117,13 @@ pub(crate) fn host_of<'a>(
     trace: &Trace,
     machine: &'a Machine,
 ) -> Result<Hosted<'a>, AllocError>
-    requires { CanBuild trace.now.columns machine.now.outs machine.now.body }
-    ensures { IfOk result (λ made. IsHost (IsBuilt trace.now.columns trace.now.rows machine.now machine.now.body) made.node made.ports.items) }
+    requires { CanBuild trace.now.columns machine.now.body }
+    ensures { IfOk result (λ made. IsHost (IsBuilt trace.now.columns trace.now.rows machine.now.body) made.node made.ports.items) }
 {
     match &machine.body {
         Body::Cut(part) => cut_host(alloc, part),
         Body::Memory(part) => memory_host(alloc, part),
-        Body::Source => source_host(alloc, trace, machine.outs.as_slice()),
+        Body::Source(place) => source_host(alloc, trace, *place),
         Body::Tray => tray_host(alloc, trace),
     }
 }

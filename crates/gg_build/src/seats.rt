@@ -57,7 +57,7 @@ fn add_seat<'a>(
     hosts: &mut Vec<Node<'a>>,
     stations: &mut Vec<Station>,
 ) -> Result<(), AllocError>
-    requires { CanBuild trace.now.columns machine.now.outs machine.now.body }
+    requires { CanBuild trace.now.columns machine.now.body }
     ensures { OnOk result (IsSeated trace.now.columns trace.now.rows number machine.now hosts.old.items hosts.new.items stations.old.items stations.new.items) }
 {
     let Hosted { node, ports } = host_of(alloc, trace, machine)?;

@@ -14,7 +14,8 @@ use Rattle.gg_order.specs.Design.{Ordered}
 use Rattle.gg_part.specs.Part.{IsPart, IsFrom}
 use Rattle.gg_part.specs.declared.part.Part.{Part}
 use Rattle.gg_partfile.specs.declared.request.Request.{Request}
-use Rattle.gg_cut.specs.Channels.{first_source, machine_count, wires_of, capacity_of}
+use Rattle.gg_cut.specs.Machines.{first_source, machine_count}
+use Rattle.gg_cut.specs.Channels.{wires_of, capacity_of}
 use Rattle.gg_cut.specs.Listed.{listed_of}
 use Rattle.gg_cut.specs.Plan.{AreNeedsOf, IsBody, IsChannel, IsCutPart, IsMachine, IsNeed, IsPlan, NeedsIn, channels_from, channels_to, signals_of, wire_at}
 use Rattle.gg_cut.specs.declared.listed.Listed.{Listed}
@@ -90,17 +91,17 @@ module _ (design : Ordered) (listed : Listed) (wires : List Wire) (m : ℕ) (par
     pub within : out < length part.globals
     pub same : value_at part.globals out ≡ s
 
-  out-of : (c : ℕ) → c < length wires → (wire_at wires c).producer ≡ m → IsOut (wire_at wires c).signal
+  out-of : (c : ℕ) → c < length wires → (wire_at wires c).producer ≡ m → IsOut (wire_at wires c).given
   out-of c lt e =
-      let has = Contains-map (λ k. (wire_at wires k).signal) (channels_from wires m) c (gives wires m c lt e) in
-      let found = made-of (value_at part.globals) part.piece.outs (wire_at wires c).signal (subst (λ l. Contains l (wire_at wires c).signal) (sym cut.outs) has) in
+      let has = Contains-map (λ k. (wire_at wires k).given) (channels_from wires m) c (gives wires m c lt e) in
+      let found = made-of (value_at part.globals) part.piece.outs (wire_at wires c).given (subst (λ l. Contains l (wire_at wires c).given) (sym cut.outs) has) in
       record { out = value_at part.piece.outs found.place; within = cut.is.outs found.place found.within; same = found.is }
 
   gets : Gets part.piece part.globals (signals_of wires (channels_to wires m))
   gets = piece-gets design.circuit part.piece part.globals part.held part.memories (signals_of wires (channels_to wires m)) cut.is cut.ins
 
   -- a need of the part is one in the circuit
-  need-out : (channels : List ℕ) (c d out : ℕ) → channels ≡ channels_to wires m → m < first_source listed → (wire_at wires c).producer ≡ m → value_at part.globals out ≡ (wire_at wires c).signal
+  need-out : (channels : List ℕ) (c d out : ℕ) → channels ≡ channels_to wires m → m < first_source listed → (wire_at wires c).producer ≡ m → value_at part.globals out ≡ (wire_at wires c).given
       → IsNeed part channels out d → NeedsChannel design.circuit listed wires c d
   need-out channels c d out same made e is need =
       let at : value_at (channels_to wires m) need.place ≡ d = ap (λ (l : List ℕ). value_at l need.place) (sym same) ∙ need.is in
@@ -114,20 +115,20 @@ module _ (design : Ordered) (listed : Listed) (wires : List Wire) (m : ℕ) (par
         taken = t.consumer ∙ sym e;
         path = map (value_at part.globals) need.reached.path;
         reads =
-            subst (λ k. IsPathInside design.circuit (signals_of wires (channels_to wires k)) (wire_at wires c).signal (map (value_at part.globals) need.reached.path) (wire_at wires d).signal) (sym e)
-            (subst (λ x. IsPathInside design.circuit (signals_of wires (channels_to wires m)) (wire_at wires c).signal (map (value_at part.globals) need.reached.path) x) (in-signal need.place need.known ∙ ap (λ x. (wire_at wires x).signal) at)
+            subst (λ k. IsPathInside design.circuit (signals_of wires (channels_to wires k)) (wire_at wires c).given (map (value_at part.globals) need.reached.path) (wire_at wires d).signal) (sym e)
+            (subst (λ x. IsPathInside design.circuit (signals_of wires (channels_to wires m)) (wire_at wires c).given (map (value_at part.globals) need.reached.path) x) (in-signal need.place need.known ∙ ap (λ x. (wire_at wires x).signal) at)
             (subst (λ x. IsPathInside design.circuit (signals_of wires (channels_to wires m)) x (map (value_at part.globals) need.reached.path) (value_at part.globals (value_at part.piece.ins need.place))) is inside));
       }
 
   -- a need in the circuit is one of the part
-  need-back : (channels : List ℕ) (c d out : ℕ) → channels ≡ channels_to wires m → (wire_at wires c).producer ≡ m → out < length part.globals → value_at part.globals out ≡ (wire_at wires c).signal
+  need-back : (channels : List ℕ) (c d out : ℕ) → channels ≡ channels_to wires m → (wire_at wires c).producer ≡ m → out < length part.globals → value_at part.globals out ≡ (wire_at wires c).given
       → NeedsChannel design.circuit listed wires c d → IsNeed part channels out d
   need-back channels c d out same e lt is needs =
       let has = takes wires m d needs.known (needs.taken ∙ e) in
       let within : has.0 < length part.piece.ins = omega (arith, has.1, in-count) in
       let at : value_at (channels_to wires m) has.0 ≡ d = get_or_default (channels_to wires m) has.0 0 d has.1 ∙ has.2 in
-      let reads = subst (λ k. IsPathInside design.circuit (signals_of wires (channels_to wires k)) (wire_at wires c).signal needs.path (wire_at wires d).signal) e needs.reads in
-      let back = path-back design.circuit part.piece part.globals part.held part.memories (signals_of wires (channels_to wires m)) cut.is gets out (wire_at wires c).signal (wire_at wires d).signal needs.path lt is reads in
+      let reads = subst (λ k. IsPathInside design.circuit (signals_of wires (channels_to wires k)) (wire_at wires c).given needs.path (wire_at wires d).signal) e needs.reads in
+      let back = path-back design.circuit part.piece part.globals part.held part.memories (signals_of wires (channels_to wires m)) cut.is gets out (wire_at wires c).given (wire_at wires d).signal needs.path lt is reads in
       let ends : value_at part.globals back.place ≡ value_at part.globals (value_at part.piece.ins has.0) =
       back.same ∙ ap (λ x. (wire_at wires x).signal) (sym at) ∙ sym (in-signal has.0 within) in
       let place : back.place ≡ value_at part.piece.ins has.0 = once-apart part.globals 0 cut.is.once back.place (value_at part.piece.ins has.0) back.within (cut.is.ins has.0 within).0 ends in
@@ -139,7 +140,7 @@ module _ (design : Ordered) (listed : Listed) (wires : List Wire) (m : ℕ) (par
       }
 
   part-needs : (channels : List ℕ) (c : ℕ) (needs : List ℕ) → channels ≡ channels_to wires m → m < first_source listed → c < length wires → (wire_at wires c).producer ≡ m
-      → ((out : ℕ) → out < length part.globals → value_at part.globals out ≡ (wire_at wires c).signal → AreNeedsOf part channels out needs)
+      → ((out : ℕ) → out < length part.globals → value_at part.globals out ≡ (wire_at wires c).given → AreNeedsOf part channels out needs)
       → (d : ℕ) → Contains needs d ↔ NeedsChannel design.circuit listed wires c d
   part-needs channels c needs same made lt e are d =
       let o = out-of c lt e in
@@ -155,20 +156,20 @@ none-needed circuit listed wires c needs none past d =
 
 body-needs : (design : Ordered) (listed : Listed) (wires : List Wire) (body : Body) (channels : List ℕ) (c : ℕ) (needs : List ℕ)
     → IsBody design listed wires (wire_at wires c).producer body → channels ≡ channels_to wires (wire_at wires c).producer → c < length wires
-    → NeedsIn body channels (wire_at wires c).signal needs → (d : ℕ) → Contains needs d ↔ NeedsChannel design.circuit listed wires c d
+    → NeedsIn body channels (wire_at wires c).given needs → (d : ℕ) → Contains needs d ↔ NeedsChannel design.circuit listed wires c d
 body-needs design listed wires (Cut part) channels c needs is same lt are =
     part-needs design listed wires (wire_at wires c).producer part is.1 channels c needs same (omega (arith, is.0)) lt refl are
 body-needs design listed wires (Memory part) channels c needs is same lt are =
     part-needs design listed wires (wire_at wires c).producer part is.2 channels c needs same is.1 lt refl are
-body-needs design listed wires Source channels c needs is same lt are = none-needed design.circuit listed wires c needs are is.0
+body-needs design listed wires (Source place) channels c needs is same lt are = none-needed design.circuit listed wires c needs are (omega (arith, is.1))
 body-needs design listed wires Tray channels c needs is same lt are = none-needed design.circuit listed wires c needs are (omega (arith, is))
 
 abbrev pub no_machine : Machine
-no_machine = record { name = []; host = 0; body = Source; ins = []; outs = [] }
+no_machine = record { name = []; host = 0; body = Tray; ins = []; outs = [] }
 
 needs-by : (design : Ordered) (request : Request) (listed : Listed) (wires : List Wire) (plan : Plan) (c : ℕ) (needs : List ℕ) → length plan.machines ≡ machine_count design.circuit listed
     → ((m : ℕ) → m < length plan.machines → IsMachine design request listed wires m (slice_index_or plan.machines m no_machine))
-    → c < length wires → NeedsIn (slice_index_or plan.machines (wire_at wires c).producer no_machine).body (slice_index_or plan.machines (wire_at wires c).producer no_machine).ins (wire_at wires c).signal needs
+    → c < length wires → NeedsIn (slice_index_or plan.machines (wire_at wires c).producer no_machine).body (slice_index_or plan.machines (wire_at wires c).producer no_machine).ins (wire_at wires c).given needs
     → ((wire_at wires c).producer < length plan.machines) ⊎ (length plan.machines ≤ (wire_at wires c).producer)
     → (d : ℕ) → Contains needs d ↔ NeedsChannel design.circuit listed wires c d
 needs-by design request listed wires plan c needs total machines lt are (inl below) =
@@ -176,7 +177,7 @@ needs-by design request listed wires plan c needs total machines lt are (inl bel
     body-needs design listed wires (slice_index_or plan.machines (wire_at wires c).producer no_machine).body (slice_index_or plan.machines (wire_at wires c).producer no_machine).ins c needs machine.body machine.ins lt are
 needs-by design request listed wires plan c needs total machines lt are (inr past) =
     none-needed design.circuit listed wires c needs
-    (subst (λ (x : Machine). NeedsIn x.body x.ins (wire_at wires c).signal needs) (get_or_past plan.machines (wire_at wires c).producer no_machine past) are)
+    (subst (λ (x : Machine). NeedsIn x.body x.ins (wire_at wires c).given needs) (get_or_past plan.machines (wire_at wires c).producer no_machine past) are)
     (omega (arith, past, total))
 
 -- the needs of a channel of the plan are its needs in the circuit

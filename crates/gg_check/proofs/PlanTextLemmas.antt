@@ -10,7 +10,8 @@ use Rattle.gg_flat.specs.Tree.{path_at}
 use Rattle.gg_flat.proofs.ListLemmas.{some-item}
 use Rattle.gg_order.specs.Design.{Ordered}
 use Rattle.gg_partfile.specs.declared.request.Request.{Request}
-use Rattle.gg_cut.specs.Channels.{capacity_of, machine_count, wires_of}
+use Rattle.gg_cut.specs.Machines.{machine_count}
+use Rattle.gg_cut.specs.Channels.{capacity_of, wires_of}
 use Rattle.gg_cut.specs.Listed.{listed_of, instance_of}
 use Rattle.gg_cut.specs.Plan.{IsChannel, IsPlan, machine_names, wire_at}
 use Rattle.gg_cut.specs.declared.listed.Listed.{Listed}

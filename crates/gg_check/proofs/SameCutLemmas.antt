@@ -7,7 +7,8 @@ use Rattle.gg_flat.specs.Tree.{InstanceTree}
 use Rattle.gg_flat.proofs.ListLemmas.{Contains-cases}
 use Rattle.gg_order.specs.Design.{Ordered}
 use Rattle.gg_partfile.specs.declared.request.Request.{Request}
-use Rattle.gg_cut.specs.Channels.{machine_count, wires_of}
+use Rattle.gg_cut.specs.Machines.{machine_count}
+use Rattle.gg_cut.specs.Channels.{wires_of}
 use Rattle.gg_cut.specs.Listed.{listed_of}
 use Rattle.gg_cut.specs.declared.listed.Listed.{Listed}
 use Rattle.gg_cut.specs.declared.wires.Wire.{Wire}

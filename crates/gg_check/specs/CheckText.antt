@@ -12,7 +12,8 @@ use Rattle.gg_flat.specs.Reads.{Reads}
 use Rattle.gg_flat.specs.Tree.{path_at}
 use Rattle.gg_order.specs.Design.{Ordered}
 use Rattle.gg_partfile.specs.declared.request.Request.{Request}
-use Rattle.gg_cut.specs.Channels.{wires_of, capacity_of, first_source, machine_count}
+use Rattle.gg_cut.specs.Machines.{first_source, machine_count}
+use Rattle.gg_cut.specs.Channels.{wires_of, capacity_of}
 use Rattle.gg_cut.specs.Hosts.{host_of}
 use Rattle.gg_cut.specs.Listed.{listed_of}
 use Rattle.gg_cut.specs.Plan.{channels_to, machine_names, signals_of, wire_at}
@@ -27,14 +28,14 @@ abbrev pub IsPathInside : FlatCircuit → List ℕ → ℕ → List ℕ → ℕ 
 IsPathInside circuit taken a [] b = a ≡ b
 IsPathInside circuit taken a (next ∷ path) b = (¬ Contains taken a) × Reads circuit a next × IsPathInside circuit taken next path b
 
--- Channel c needs channel d: the machine that gives c isn't a source and takes d, and c's signal reaches d's signal
--- by reads inside that machine.
+-- Channel c needs channel d: the machine that gives c isn't a source and takes d, and the signal by which it gives c reaches d's
+-- signal by reads inside that machine.
 pub record NeedsChannel (circuit : FlatCircuit) (listed : Listed) (wires : List Wire) (c d : ℕ) : Type 0 where
   pub made : (wire_at wires c).producer < first_source listed
   pub known : d < length wires
   pub taken : (wire_at wires d).consumer ≡ (wire_at wires c).producer
   pub path : List ℕ
-  pub reads : IsPathInside circuit (signals_of wires (channels_to wires (wire_at wires c).producer)) (wire_at wires c).signal path (wire_at wires d).signal
+  pub reads : IsPathInside circuit (signals_of wires (channels_to wires (wire_at wires c).producer)) (wire_at wires c).given path (wire_at wires d).signal
 
 -- exactly the channels that channel c needs, in their order
 pub record AreChannelNeeds (circuit : FlatCircuit) (listed : Listed) (wires : List Wire) (c : ℕ) (needs : List ℕ) : Type 0 where

@@ -1,7 +1,7 @@
 -- Edges of a rational clock, counted, and a clock that goes from tick to tick.
 -- Source: FIRRTL Specification, "Clock" types; ratios to a base tick are this program's own. When there is an edge is
 -- defined in gg_flat (`edge` in Clock).
-use Rattle.std.specs.Prelude.{ℕ, zero, suc, ◌+◌, ◌≤◌, if◌then◌else◌}
+use Rattle.std.specs.Prelude.{ℕ, zero, suc, ◌+◌, ◌≤◌, List, if◌then◌else◌}
 use Rattle.gg_flat.specs.Clock.{Ratio, edge}
 
 -- The numbers of a ratio are in range: there is an edge in at least one tick and in no more than all.
@@ -19,3 +19,8 @@ edge_count ratio (suc b) = edge_count ratio b + (if edge ratio b then 1 else 0)
 pub record Ticking : Type 0 where
   pub ratio : Ratio
   pub count : ℕ
+
+-- several clocks at a tick: the ratio of each, and the tick
+pub record Timed : Type 0 where
+  pub ratios : List Ratio
+  pub tick : ℕ

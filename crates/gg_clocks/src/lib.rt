@@ -7,13 +7,16 @@
 //! - `Ratio::new` returns a ratio exactly if its numbers are in that range;
 //! - `Ratio::edge` tells whether there is an edge at a tick, and `Ratio::edges_before` how many of the ticks before it
 //!   have one (`edge_count`, which counts them one by one);
-//! - each `Ticker::tick` tells the next tick's edge, from tick 0 on.
+//! - each `Ticker::tick` tells the next tick's edge, from tick 0 on;
+//! - a [`Timing`] stands at a tick, from any tick on, and tells the edges of several clocks in it.
 //!
-//! Nothing allocates.
+//! Only `Timing::new` allocates.
 #![tactic(auto)]
 
 mod ratio;
 mod ticker;
+mod timing;
 
 pub use ratio::Ratio;
 pub use ticker::Ticker;
+pub use timing::{Ratios, Timing};

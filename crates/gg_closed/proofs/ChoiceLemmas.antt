@@ -17,15 +17,16 @@ use Rattle.gg_flat.proofs.ListLemmas.{Contains-map}
 use Rattle.gg_part.specs.Choice.{IsChoice, NamesMemory}
 use Rattle.gg_cut.specs.declared.wires.Wire.{Wire}
 use Rattle.gg_cut.specs.declared.listed.Listed.{Listed}
-use Rattle.gg_cut.specs.Channels.{wires_of, channel_signals, first_source}
-use Rattle.gg_cut.specs.Plan.{wire_at, channels_to, channels_from, signals_of, Makes, Takes, HasMemory}
+use Rattle.gg_cut.specs.Machines.{first_source}
+use Rattle.gg_cut.specs.Channels.{wire, wires_of, channel_signals}
+use Rattle.gg_cut.specs.Plan.{wire_at, channels_to, channels_from, signals_of, givens_of, Makes, Takes, HasMemory}
 use Rattle.gg_cut.proofs.ChannelLemmas.{wires-signals}
 use Rattle.gg_cut.proofs.KnownLemmas.{signals-known, memory-known}
 use Rattle.gg_closed.specs.Apart.{AreApart}
 use Rattle.gg_closed.proofs.ListLemmas.{Somewhere, map-cases, AllPairs-map}
 use Rattle.gg_closed.proofs.TreeLemmas.{innermost-known}
 use Rattle.gg_closed.proofs.OnceLemmas.{wires-once}
-use Rattle.gg_closed.proofs.MakerLemmas.{Gets, chosen-out}
+use Rattle.gg_closed.proofs.MakerLemmas.{Gets, chosen-out, given-out}
 use Rattle.gg_closed.proofs.ClosedLemmas.{closed, register-closed, input-taken, fields-closed, words-made, banks-closed, reader-known}
 use Rattle.gg_closed.proofs.CountLemmas.{all-of}
 
@@ -49,7 +50,7 @@ module _ (circuit : FlatCircuit) (tree : InstanceTree) (listed : Listed) (formed
 
   pub gets-known : (m s : ℕ) → Gets circuit tree listed fits scoped apart m s → s < length circuit.signals
   gets-known m s (inl (inl own)) = own.0
-  gets-known m s (inl (inr h)) = let w = chosen-out (wires_of circuit tree listed) (λ (v : Wire). v.producer == m) s h in subst (λ t. t < length circuit.signals) w.is (wire-known w.wire w.among)
+  gets-known m s (inl (inr h)) = let w = given-out circuit tree listed m s h in subst (λ t. t < length circuit.signals) w.is (wire-known w.wire w.among)
   gets-known m s (inr h) = let w = chosen-out (wires_of circuit tree listed) (λ (v : Wire). v.consumer == m) s h in subst (λ t. t < length circuit.signals) w.is (wire-known w.wire w.among)
 
   chosen-once : (test : ℕ → Bool) → AllPairs (λ a b. a ≢ b) (signals_of (wires_of circuit tree listed) (filter test (range_with_len 0 (length (wires_of circuit tree listed)))))
@@ -61,7 +62,7 @@ module _ (circuit : FlatCircuit) (tree : InstanceTree) (listed : Listed) (formed
       number i d lt = get_or-range_with_len 0 (length (wires_of circuit tree listed)) i d lt ∙ (let same : 0 + i ≡ i = omega arith in same)
 
       signal : (i : ℕ) → i < length (wires_of circuit tree listed) → get_or (map (λ (w : Wire). w.signal) (wires_of circuit tree listed)) i 0 ≡ (wire_at (wires_of circuit tree listed) i).signal
-      signal i lt = get_or-map (λ (w : Wire). w.signal) (wires_of circuit tree listed) i (record { signal = 0; producer = 0; consumer = 0 }) 0 lt
+      signal i lt = get_or-map (λ (w : Wire). w.signal) (wires_of circuit tree listed) i (wire 0 0 0) 0 lt
 
       pairs : AllPairs (λ c d. (wire_at (wires_of circuit tree listed) c).signal ≢ (wire_at (wires_of circuit tree listed) d).signal) (range_with_len 0 (length (wires_of circuit tree listed)))
       pairs i j d less lt same =
@@ -85,7 +86,7 @@ module _ (circuit : FlatCircuit) (tree : InstanceTree) (listed : Listed) (formed
       below : All (λ x. x < length circuit.memories) (map (λ (memory : MemoryInstance). memory.memory) tree.memories)
       below i d inside =
           let within : i < length tree.memories = omega (arith, inside, length-map tree.memories (λ (memory : MemoryInstance). memory.memory)) in
-          subst (λ x. x < length circuit.memories) (sym (get_or-map (λ (memory : MemoryInstance). memory.memory) tree.memories i (record { instance = 0; memory = 0; ports = [] }) d within)) (memory-known circuit tree formed fits i within)
+          subst (λ x. x < length circuit.memories) (sym (get_or-map (λ (memory : MemoryInstance). memory.memory) tree.memories i (record { instance = 0; memory = 0; ports = []; clocks = [] }) d within)) (memory-known circuit tree formed fits i within)
 
   -- ---- the choice
 
@@ -112,7 +113,7 @@ module _ (circuit : FlatCircuit) (tree : InstanceTree) (listed : Listed) (formed
     bank s k h not-taken read =
         let word = reads s k (driver_at circuit s) refl read (known s h) in
         let at = place-of-memory k (reader-known circuit tree listed formed fits scoped apart k word.0 word.1.0) in
-        let same : (memory_at tree at.place).memory ≡ k = at.holds (record { instance = 0; memory = 0; ports = [] }) in
+        let same : (memory_at tree at.place).memory ≡ k = at.holds (record { instance = 0; memory = 0; ports = []; clocks = [] }) in
         (banks k).1
         (subst (λ n. HasMemory tree listed m n) same
         (banks-closed circuit tree listed formed fits scoped apart m s at.place word.0 (maker s h not-taken) at.within (subst (λ n. IsDataOf circuit n word.0 s) (sym same) word.1)))
@@ -124,7 +125,7 @@ module _ (circuit : FlatCircuit) (tree : InstanceTree) (listed : Listed) (formed
         let lt = innermost-known circuit tree fits (memory_at tree has.place).instance s (scoped.fields has.place s has.known own).own in
         (signals s).1 (fields-closed circuit tree listed formed fits scoped apart m k s has field lt)
 
-    pub choice : IsChoice circuit globals (signals_of (wires_of circuit tree listed) (channels_to (wires_of circuit tree listed) m)) (signals_of (wires_of circuit tree listed) (channels_from (wires_of circuit tree listed) m)) memories
+    pub choice : IsChoice circuit globals (signals_of (wires_of circuit tree listed) (channels_to (wires_of circuit tree listed) m)) (givens_of (wires_of circuit tree listed) (channels_from (wires_of circuit tree listed) m)) memories
     choice =
         record {
           within = λ i d lt. known (get_or globals i d) (Contains-get_or globals i d lt);
@@ -146,7 +147,7 @@ module _ (circuit : FlatCircuit) (tree : InstanceTree) (listed : Listed) (formed
         entries = signals_of (wires_of circuit tree listed) (channels_to (wires_of circuit tree listed) m)
 
         exits : List ℕ
-        exits = signals_of (wires_of circuit tree listed) (channels_from (wires_of circuit tree listed) m)
+        exits = givens_of (wires_of circuit tree listed) (channels_from (wires_of circuit tree listed) m)
 
         given : (s place : ℕ) → driver_at circuit s ≡ Input place → s < length circuit.signals → Gets circuit tree listed fits scoped apart m s → Takes (wires_of circuit tree listed) m s
         given s place e lt (inl makes) = absurd (input-taken circuit tree listed formed fits scoped apart m s place low lt e makes)

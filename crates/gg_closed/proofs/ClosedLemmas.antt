@@ -19,7 +19,8 @@ use Rattle.gg_flat.specs.Scoped.{IsScoped, IsFieldOf, memory_fields}
 use Rattle.gg_cut.specs.declared.wires.Wire.{Wire}
 use Rattle.gg_cut.specs.declared.listed.Listed.{Listed}
 use Rattle.gg_cut.specs.Listed.{owner_of_instance, memory_or}
-use Rattle.gg_cut.specs.Channels.{wire, wires_of, first_memory, first_source}
+use Rattle.gg_cut.specs.Machines.{first_memory, first_source}
+use Rattle.gg_cut.specs.Channels.{wire, wires_of}
 use Rattle.gg_cut.specs.Plan.{Makes, Takes, HasMemory, memory_owner}
 use Rattle.gg_cut.proofs.WireLemmas.{unit_or_hub-below}
 use Rattle.gg_closed.specs.Apart.{AreApart}
@@ -28,7 +29,7 @@ use Rattle.gg_closed.proofs.PlaceLemmas.{place-none, place-is}
 use Rattle.gg_closed.proofs.KindLemmas.{outside_memory, source-wire, memory-wire, data-wire, addr-wire, en-wire, word-field}
 use Rattle.gg_closed.proofs.NameLemmas.{port-no-field, field-one}
 use Rattle.gg_closed.proofs.OnceLemmas.{channel-one}
-use Rattle.gg_closed.proofs.MakerLemmas.{Gets, HasWire, IsOwned, find-unit, chosen-out, no-channel, gives, takes, owned, visible}
+use Rattle.gg_closed.proofs.MakerLemmas.{Gets, HasWire, IsOwned, find-unit, chosen-out, given-out, no-channel, gives, takes, owned, visible}
 use Rattle.gg_closed.proofs.WrittenLemmas.{IsWord, IsWrittenIn, made}
 
 -- the driver of a reader's data names only the reader's address and enable
@@ -100,7 +101,7 @@ module _ (circuit : FlatCircuit) (tree : InstanceTree) (listed : Listed) (formed
       by : Makes circuit tree listed (wires_of circuit tree listed) m s → ⊥
       by (inl own) = no-channel circuit tree listed fits scoped apart s (wire (value_at circuit.ins place) (first_source listed + place) 0) own.2 (source-wire circuit tree listed place input.0) input.1
       by (inr h) =
-          let w = chosen-out (wires_of circuit tree listed) (λ (v : Wire). v.producer == m) s h in
+          let w = given-out circuit tree listed m s h in
           let same = channel-one circuit tree listed fits scoped apart w.wire (wire (value_at circuit.ins place) (first_source listed + place) 0) w.among (source-wire circuit tree listed place input.0) (w.is ∙ sym input.1) in
           let from : w.wire.producer ≡ m = true-eqb w.wire.producer m (sym w.passes) in
           let number = ap (λ (v : Wire). v.producer) same in
@@ -199,7 +200,7 @@ module _ (circuit : FlatCircuit) (tree : InstanceTree) (listed : Listed) (formed
 
           at : Makes circuit tree listed (wires_of circuit tree listed) m s → owner_of_instance tree listed.units (memory_at tree j).instance ≡ m
           at (inl own) = sym o.owner ∙ own.1
-          at (inr h) = absurd (let w = chosen-out (wires_of circuit tree listed) (λ (v : Wire). v.producer == m) s h in no-channel circuit tree listed fits scoped apart s w.wire o.inner w.among w.is)
+          at (inr h) = absurd (let w = given-out circuit tree listed m s h in no-channel circuit tree listed fits scoped apart s w.wire o.inner w.among w.is)
       by (inl at) = has (ap (memory_owner tree listed) (at.holds 0) ∙ owner-listed at.place at.within ∙ from makes)
         where
           same : memory_of at.place ≡ (memory_at tree j).memory
@@ -217,6 +218,6 @@ module _ (circuit : FlatCircuit) (tree : InstanceTree) (listed : Listed) (formed
           from : Makes circuit tree listed (wires_of circuit tree listed) m s → first_memory listed + at.place ≡ m
           from (inl own) = absurd (no-channel circuit tree listed fits scoped apart s (wire (reader_at (readers_at circuit (memory_of at.place)) r).word (first_memory listed + at.place) (outside_memory tree listed at.place)) own.2 channel signal)
           from (inr h) =
-              let w = chosen-out (wires_of circuit tree listed) (λ (v : Wire). v.producer == m) s h in
+              let w = given-out circuit tree listed m s h in
               let one = channel-one circuit tree listed fits scoped apart w.wire (wire (reader_at (readers_at circuit (memory_of at.place)) r).word (first_memory listed + at.place) (outside_memory tree listed at.place)) w.among channel (w.is ∙ sym signal) in
               sym (ap (λ (v : Wire). v.producer) one) ∙ true-eqb w.wire.producer m (sym w.passes)

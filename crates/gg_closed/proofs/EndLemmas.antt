@@ -11,9 +11,10 @@ use Rattle.gg_cut.specs.declared.listed.Listed.{Listed}
 use Rattle.gg_cut.specs.Listed.{owner_of_instance, first_place, has_signal, unit_or_hub, memory_or}
 use Rattle.gg_flat.specs.Circuit.{readers_at}
 use Rattle.gg_flat.specs.Scoped.{memory_fields}
-use Rattle.gg_cut.specs.Channels.{wire, wires_of, channel_signals, port_signals, flattened, first_memory, machine_count}
+use Rattle.gg_cut.specs.Machines.{first_memory, machine_count}
+use Rattle.gg_cut.specs.Channels.{wire, wires_of, channel_signals, port_signals, flattened}
 use Rattle.gg_cut.specs.Plan.{memory_owner}
-use Rattle.gg_cut.proofs.WireLemmas.{unit_or_hub-below}
+use Rattle.gg_cut.proofs.WireLemmas.{unit-below, unit_or_hub-below, owner-below}
 use Rattle.gg_cut.proofs.ChannelLemmas.{wires-signals}
 use Rattle.gg_cut.proofs.PathLemmas.{first_place-Some}
 use Rattle.gg_closed.specs.Apart.{AreApart}
@@ -23,13 +24,6 @@ use Rattle.gg_closed.proofs.PlaceLemmas.{owner-outside}
 use Rattle.gg_closed.proofs.KindLemmas.{IsInto, IsWordWire, Kind, OfSource, OfPort, OfField, OfTray, outside_unit, outside_memory, kind-of}
 
 -- ---- machines are few
-
-unit-below : (test : ℕ → Bool) (units : List ℕ) → unit_or_hub (first_place test units) < suc (length units)
-unit-below test units = by (first_place test units) refl
-  where
-    by : (found : Option ℕ) → first_place test units ≡ found → unit_or_hub found < suc (length units)
-    by None e = omega arith
-    by (Some u) e = let at = first_place-Some test units u e in omega (arith, at.within)
 
 module _ (circuit : FlatCircuit) (tree : InstanceTree) (listed : Listed) where
   pub few-machines : AreFew circuit tree listed → machine_count circuit listed ≤ 16641
@@ -71,8 +65,9 @@ module _ (circuit : FlatCircuit) (tree : InstanceTree) (listed : Listed) (fits :
       (record { producer = omega (arith, known); consumer = omega arith; apart = λ e. absurd (omega (arith, e)) })
   ends-of w (OfTray f) =
       let known = f.known in
+      let low = owner-below circuit tree listed (value_at circuit.outs f.place) in
       subst (AreEnds (machine_count circuit listed)) (sym f.is)
-      (record { producer = omega arith; consumer = omega (arith, known); apart = λ e. absurd (omega (arith, e)) })
+      (record { producer = omega (arith, low); consumer = omega (arith, known); apart = λ e. absurd (omega (arith, low, e)) })
   ends-of w (OfPort p) = subst (AreEnds (machine_count circuit listed)) p.is (by p.port.is_input)
     where
       low : outside_unit tree listed p.unit < suc (length listed.units)

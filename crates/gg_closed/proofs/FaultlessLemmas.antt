@@ -10,32 +10,21 @@ use Rattle.std.proofs.lemmas.List.FromFn.{get_or-range_with_len, length-range_wi
 use Rattle.gg_flat.specs.Tree.{InstanceTree, IsTree, path_at}
 use Rattle.gg_partfile.specs.declared.request.Request.{Request}
 use Rattle.gg_order.specs.Design.{Ordered}
-use Rattle.gg_cut.specs.declared.fault.CutFault.TheVariants.{UnknownUnit, Doubled, UnknownChannel, OutOfRange, TooManyUnits, TooManyChannels}
+use Rattle.gg_cut.specs.declared.fault.CutFault.TheVariants.{UnknownUnit, Doubled, OutOfRange, TooManyUnits, TooManyChannels}
 use Rattle.gg_cut.specs.declared.listed.Listed.{Listed}
 use Rattle.gg_cut.specs.Listed.{is_among, is_lower, is_instance_path, instance_of, place_of, lies, listed_of}
 use Rattle.gg_cut.specs.Channels.{wires_of, channel_signals, capacity_of}
 use Rattle.gg_cut.specs.declared.wires.Wire.{Wire}
-use Rattle.gg_cut.specs.Fault.{or_else, unknown_unit, unshared, overlap, overlapping, first_clash, repeated, entries, unknown_channel, most_capacity, out_of_range, range_fault, too_many_units, too_many_channels, most_units, most_channels, entry_fault, kind_fault, channel_fault, first_fault}
-use Rattle.gg_cut.specs.Channels.{channel_names}
+use Rattle.gg_cut.specs.Fault.{unknown_unit, overlap, overlapping, first_clash, most_capacity, out_of_range, range_fault, too_many_units, too_many_channels, most_units, most_channels, entry_faults, channel_faults, first_fault}
 use Rattle.gg_cut.proofs.ChannelLemmas.{wires-signals}
 use Rattle.gg_cut.proofs.PathLemmas.{first_place-Some}
 use Rattle.gg_cut.proofs.RangeLemmas.{filter-below}
-use Rattle.gg_cut.proofs.FindLemmas.{none-map}
+use Rattle.gg_cut.proofs.FindLemmas.{none-at, none-front, none-back, none-map}
 use Rattle.gg_closed.specs.Apart.{AreApart}
 use Rattle.gg_closed.specs.Apart.{AreFew}
 use Rattle.gg_closed.proofs.ListLemmas.{AllPairs-map}
 use Rattle.std.specs.Prelude.{bytes_eq}
 use Rattle.std.proofs.lemmas.List.Elements.{All-map}
-
--- ---- neither of two has a fault
-
-pub none-first : {A : Type 0} (a b : Option A) → or_else a b ≡ None → a ≡ None
-none-first None b e = refl
-none-first (Some x) b e = absurd (cc)
-
-pub none-second : {A : Type 0} (a b : Option A) → or_else a b ≡ None → b ≡ None
-none-second None b e = e
-none-second (Some x) b e = absurd (cc)
 
 -- ---- nothing is found
 
@@ -157,33 +146,22 @@ module _ (design : Ordered) (request : Request) (none : first_fault design reque
   abbrev listed : Listed
   listed = listed_of design.tree request
 
-  entry-none : entry_fault design.tree request ≡ None
-  entry-none = none-first (entry_fault design.tree request) (or_else (kind_fault design.tree request) (channel_fault design.circuit request (listed_of design.tree request) (channel_signals design.circuit design.tree (listed_of design.tree request)))) none
+  -- the list of all faults is without one, so each of them is none
+  entries-none : (i : ℕ) → get_or (entry_faults design.tree request) i None ≡ None
+  entries-none i = none-at (entry_faults design.tree request) i (none-front (entry_faults design.tree request) (channel_faults design.circuit request (listed_of design.tree request) (channel_signals design.circuit design.tree (listed_of design.tree request))) none)
 
-  channel-none : channel_fault design.circuit request (listed_of design.tree request) (channel_signals design.circuit design.tree (listed_of design.tree request)) ≡ None
-  channel-none =
-      none-second (kind_fault design.tree request) (channel_fault design.circuit request (listed_of design.tree request) (channel_signals design.circuit design.tree (listed_of design.tree request)))
-      (none-second (entry_fault design.tree request) (or_else (kind_fault design.tree request) (channel_fault design.circuit request (listed_of design.tree request) (channel_signals design.circuit design.tree (listed_of design.tree request)))) none)
+  pub channels-none : (i : ℕ) → get_or (channel_faults design.circuit request (listed_of design.tree request) (channel_signals design.circuit design.tree (listed_of design.tree request))) i None ≡ None
+  channels-none i =
+      let faults = channel_faults design.circuit request (listed_of design.tree request) (channel_signals design.circuit design.tree (listed_of design.tree request)) in
+      none-at faults i (none-back (entry_faults design.tree request) faults none)
 
   -- each unit is an instance path
   pub faultless-known : All (λ path. is_instance_path design.tree path ≡ true) request.units
-  faultless-known =
-      none-found (is_instance_path design.tree) request.units
-      (none-map UnknownUnit (unknown_unit design.tree request.units)
-      (none-first (option_map UnknownUnit (unknown_unit design.tree request.units))
-      (or_else (option_map UnknownUnit (unshared request.units request.share)) (or_else (option_map Doubled (overlapping design.tree request.units)) (or_else (option_map Doubled (repeated (entries request.share))) (option_map Doubled (repeated request.memories)))))
-      entry-none))
+  faultless-known = none-found (is_instance_path design.tree) request.units (none-map UnknownUnit (unknown_unit design.tree request.units) (entries-none 0))
 
   pub faultless-apart : IsTree design.circuit design.tree → AreApart design.tree (listed_of design.tree request)
   faultless-apart fits =
-      let units = option_map UnknownUnit (unknown_unit tree request.units) in
-      let shares = option_map UnknownUnit (unshared request.units request.share) in
-      let overlaps = option_map Doubled (overlapping tree request.units) in
-      let rest = or_else (option_map Doubled (repeated (entries request.share))) (option_map Doubled (repeated request.memories)) in
-      let later = none-second units (or_else shares (or_else overlaps rest)) entry-none in
-      apart-from tree request fits.named
-      (none-map UnknownUnit (unknown_unit tree request.units) (none-first units (or_else shares (or_else overlaps rest)) entry-none))
-      (none-map Doubled (overlapping tree request.units) (none-first overlaps rest (none-second shares (or_else overlaps rest) later)))
+      apart-from tree request fits.named (none-map UnknownUnit (unknown_unit tree request.units) (entries-none 0)) (none-map Doubled (overlapping tree request.units) (entries-none 2))
 
   over : (limit n : ℕ) (m : ℕ) → (if nat_lt limit n then Some m else None) ≡ None → n ≤ limit
   over limit n m e = by (cases_lt limit n)
@@ -198,16 +176,11 @@ module _ (design : Ordered) (request : Request) (none : first_fault design reque
   pub faultless-few : AreFew design.circuit design.tree (listed_of design.tree request)
   faultless-few =
       let signals = channel_signals design.circuit design.tree (listed_of design.tree request) in
-      let names = option_map UnknownChannel (unknown_channel (channel_names design.circuit signals) request.capacity) in
-      let ranges = range_fault request.capacity in
-      let units = option_map TooManyUnits (too_many_units listed) in
-      let channels = option_map TooManyChannels (too_many_channels signals) in
-      let late = none-second ranges (or_else units channels) (none-second names (or_else ranges (or_else units channels)) channel-none) in
-      let many = over most_channels (length signals) (length signals) (none-map TooManyChannels (too_many_channels signals) (none-second units channels late)) in
+      let many = over most_channels (length signals) (length signals) (none-map TooManyChannels (too_many_channels signals) (channels-none 3)) in
       let count : length (wires_of design.circuit design.tree listed) ≡ length signals =
       sym (length-map (wires_of design.circuit design.tree listed) (λ (w : Wire). w.signal)) ∙ ap length (wires-signals design.circuit design.tree listed) in
       record {
-        units = over most_units (length listed.units + length listed.memories) (length listed.units + length listed.memories) (none-map TooManyUnits (too_many_units listed) (none-first units channels late));
+        units = over most_units (length listed.units + length listed.memories) (length listed.units + length listed.memories) (none-map TooManyUnits (too_many_units listed) (channels-none 2));
         channels = omega (arith, many, count);
       }
 
@@ -215,16 +188,7 @@ module _ (design : Ordered) (request : Request) (none : first_fault design reque
 
 -- the capacities of a request without a fault are in range
 pub range-free : (design : Ordered) (request : Request) → first_fault design request ≡ None → range_fault request.capacity ≡ None
-range-free design request none =
-    let circuit = design.circuit in
-    let tree = design.tree in
-    let listed = listed_of tree request in
-    let signals = channel_signals circuit tree listed in
-    let last = channel_fault circuit request listed signals in
-    let limits = or_else (option_map (λ n. TooManyUnits n) (too_many_units listed)) (option_map (λ n. TooManyChannels n) (too_many_channels signals)) in
-    none-first (range_fault request.capacity) limits
-    (none-second (option_map (λ p. UnknownChannel p) (unknown_channel (channel_names circuit signals) request.capacity)) (or_else (range_fault request.capacity) limits)
-    (none-second (kind_fault tree request) last (none-second (entry_fault tree request) (or_else (kind_fault tree request) last) none)))
+range-free design request none = channels-none design request none 1
 
 -- what holds of each number in the range of capacities, and of the default, holds of the capacity of a channel
 capacity-in-range : (P : ℕ → Type 0) → ((n : ℕ) → 0 < n → n ≤ most_capacity → P n) → (capacities : List (List ℕ × ℕ)) (default : ℕ) (name : List ℕ) → out_of_range capacities ≡ None → P default → P (capacity_of capacities default name)

@@ -13,8 +13,9 @@ use Rattle.gg_flat.specs.Scoped.{reader_fields, writer_fields, writers_at, memor
 use Rattle.gg_flat.proofs.ListLemmas.{Contains-map}
 use Rattle.gg_cut.specs.declared.wires.Wire.{Wire}
 use Rattle.gg_cut.specs.declared.listed.Listed.{Listed}
-use Rattle.gg_cut.specs.Listed.{owner_of_instance}
-use Rattle.gg_cut.specs.Channels.{wire, numbered, flattened, first_memory, first_source, first_tray, port_wire, port_wires, reader_wires, writer_wires, field_wires, source_wires, tray_wires, wires_of}
+use Rattle.gg_cut.specs.Listed.{owner_of_instance, owner_of}
+use Rattle.gg_cut.specs.Machines.{first_memory, first_source, first_tray}
+use Rattle.gg_cut.specs.Channels.{wire, numbered, flattened, port_wire, port_wires, reader_wires, writer_wires, field_wires, source_wires, tray_wires, wires_of}
 use Rattle.gg_closed.proofs.ListLemmas.{Somewhere, map-cases, flattened-in, flattened-cases, flat_map-is, numbered-in, numbered-cases}
 
 -- ---- fields
@@ -150,10 +151,10 @@ pub record IsSourceWire (circuit : FlatCircuit) (listed : Listed) (w : Wire) : T
   pub is : w ≡ wire (value_at circuit.ins place) (first_source listed + place) 0
 
 -- the channel of a top output
-pub record IsTrayWire (circuit : FlatCircuit) (listed : Listed) (w : Wire) : Type 0 where
+pub record IsTrayWire (circuit : FlatCircuit) (tree : InstanceTree) (listed : Listed) (w : Wire) : Type 0 where
   pub place : ℕ
   pub known : place < length circuit.outs
-  pub is : w ≡ wire (value_at circuit.outs place) 0 (first_tray circuit listed + place)
+  pub is : w ≡ wire (value_at circuit.outs place) (owner_of circuit tree listed (value_at circuit.outs place)) (first_tray circuit listed + place)
 
 -- the machine at the other end of a unit's channels, and of a listed memory's
 abbrev pub outside_unit : InstanceTree → Listed → ℕ → ℕ
@@ -182,7 +183,7 @@ pub data Kind (circuit : FlatCircuit) (tree : InstanceTree) (listed : Listed) (w
   OfSource : IsSourceWire circuit listed w → Kind circuit tree listed w
   OfPort : IsPortWire tree listed w → Kind circuit tree listed w
   OfField : IsFieldWire circuit tree listed w → Kind circuit tree listed w
-  OfTray : IsTrayWire circuit listed w → Kind circuit tree listed w
+  OfTray : IsTrayWire circuit tree listed w → Kind circuit tree listed w
 
 module _ (circuit : FlatCircuit) (tree : InstanceTree) (listed : Listed) where
   abbrev wires : List Wire
@@ -198,7 +199,7 @@ module _ (circuit : FlatCircuit) (tree : InstanceTree) (listed : Listed) where
   fields = numbered (field_wires circuit tree listed.units) (first_memory listed) listed.memories
 
   abbrev trays : List Wire
-  trays = numbered tray_wires (first_tray circuit listed) circuit.outs
+  trays = numbered (tray_wires circuit tree listed) (first_tray circuit listed) circuit.outs
 
   one-plus : (i : ℕ) → 1 + i ≡ suc i
   one-plus i = omega arith
@@ -245,8 +246,8 @@ module _ (circuit : FlatCircuit) (tree : InstanceTree) (listed : Listed) where
 
       tray : Contains trays w → Kind circuit tree listed w
       tray r =
-          let n = numbered-cases tray_wires (first_tray circuit listed) circuit.outs w r in
-          OfTray (record { place = n.place; known = n.within; is = sym (only (wire (value_at circuit.outs n.place) 0 (first_tray circuit listed + n.place)) w (n.among 0)) })
+          let n = numbered-cases (tray_wires circuit tree listed) (first_tray circuit listed) circuit.outs w r in
+          OfTray (record { place = n.place; known = n.within; is = sym (only (wire (value_at circuit.outs n.place) (owner_of circuit tree listed (value_at circuit.outs n.place)) (first_tray circuit listed + n.place)) w (n.among 0)) })
 
       third : Contains fields w ⊎ Contains trays w → Kind circuit tree listed w
       third (inl r) = field r
@@ -309,9 +310,9 @@ module _ (circuit : FlatCircuit) (tree : InstanceTree) (listed : Listed) where
     pub en-wire : Contains wires (wire (reader_at readers r).en (outside_memory tree listed i) (first_memory listed + i))
     en-wire = in-fields i (wire (reader_at readers r).en (outside_memory tree listed i) (first_memory listed + i)) lt (enable-wire readers writers (outside_memory tree listed i) (first_memory listed + i) r known)
 
-  pub tray-wire : (i : ℕ) → i < length circuit.outs → Contains wires (wire (value_at circuit.outs i) 0 (first_tray circuit listed + i))
+  pub tray-wire : (i : ℕ) → i < length circuit.outs → Contains wires (wire (value_at circuit.outs i) (owner_of circuit tree listed (value_at circuit.outs i)) (first_tray circuit listed + i))
   tray-wire i lt =
-      let w = wire (value_at circuit.outs i) 0 (first_tray circuit listed + i) in
+      let w = wire (value_at circuit.outs i) (owner_of circuit tree listed (value_at circuit.outs i)) (first_tray circuit listed + i) in
       Contains-append_right sources (ports ++ (fields ++ trays)) w
       (Contains-append_right ports (fields ++ trays) w
-      (Contains-append_right fields trays w (numbered-in tray_wires (first_tray circuit listed) circuit.outs i 0 w lt (0, omega arith, refl))))
+      (Contains-append_right fields trays w (numbered-in (tray_wires circuit tree listed) (first_tray circuit listed) circuit.outs i 0 w lt (0, omega arith, refl))))

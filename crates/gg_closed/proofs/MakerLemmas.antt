@@ -14,8 +14,10 @@ use Rattle.gg_flat.proofs.ListLemmas.{in-range, range-below, Contains-map, Conta
 use Rattle.gg_cut.specs.declared.wires.Wire.{Wire}
 use Rattle.gg_cut.specs.declared.listed.Listed.{Listed}
 use Rattle.gg_cut.specs.Listed.{first_place, owner_of_instance, owner_of, has_field, has_signal, memory_or, unit_or_hub}
-use Rattle.gg_cut.specs.Channels.{wire, wires_of, port_wire, first_memory, first_source, first_tray}
-use Rattle.gg_cut.specs.Plan.{wire_at, signals_of, IsInner, Makes, Takes}
+use Rattle.gg_cut.specs.Machines.{first_memory, first_source, first_tray}
+use Rattle.gg_cut.specs.Channels.{wire, wires_of, port_wire}
+use Rattle.gg_cut.specs.Plan.{wire_at, channels_from, signals_of, givens_of, IsInner, Makes, Takes}
+use Rattle.gg_cut.proofs.WireLemmas.{givens-same}
 use Rattle.gg_closed.specs.Apart.{AreApart}
 use Rattle.gg_closed.proofs.ListLemmas.{Somewhere, map-cases}
 use Rattle.gg_closed.proofs.TreeLemmas.{innermost-one, innermost-known}
@@ -120,6 +122,11 @@ any-contains (x ∷ xs) s e = by (x == s) refl e (λ f. any-contains xs s f)
     by false f e rest = let h = rest e in (suc h.0, omega (arith, h.1), h.2)
 
 module _ (circuit : FlatCircuit) (tree : InstanceTree) (listed : Listed) where
+  -- a machine that gives a channel by a signal gives the channel of the signal
+  pub given-out : (m s : ℕ) → Contains (givens_of (wires_of circuit tree listed) (channels_from (wires_of circuit tree listed) m)) s → HasWire (wires_of circuit tree listed) (λ w. w.producer == m) s
+  given-out m s h =
+      chosen-out (wires_of circuit tree listed) (λ (w : Wire). w.producer == m) s (subst (λ (l : List ℕ). Contains l s) (givens-same circuit tree listed (channels_from (wires_of circuit tree listed) m)) h)
+
   -- one of these memories has the signal as a field, or none of them has
   pub find-field-in : (places : List ℕ) (s : ℕ) → Somewhere (λ j. IsFieldOf circuit tree j s) places ⊎ All (λ j. IsFieldOf circuit tree j s → ⊥) places
   find-field-in [] s = inr (λ i d lt. absurd (omega (arith, lt)))
@@ -157,7 +164,7 @@ module _ (circuit : FlatCircuit) (tree : InstanceTree) (listed : Listed) (fits :
   Gets m s = Makes circuit tree listed (wires_of circuit tree listed) m s ⊎ Takes (wires_of circuit tree listed) m s
 
   pub gives : (s p c : ℕ) → Contains wires (wire s p c) → Makes circuit tree listed (wires_of circuit tree listed) p s
-  gives s p c h = inr (chosen-in wires (λ w. w.producer == p) (wire s p c) h (eq-eqb p p refl))
+  gives s p c h = inr (subst (λ (l : List ℕ). Contains l s) (sym (givens-same circuit tree listed (channels_from wires p))) (chosen-in wires (λ w. w.producer == p) (wire s p c) h (eq-eqb p p refl)))
 
   pub takes : (s p c : ℕ) → Contains wires (wire s p c) → Takes (wires_of circuit tree listed) c s
   takes s p c h = chosen-in wires (λ w. w.consumer == c) (wire s p c) h (eq-eqb c c refl)
@@ -224,6 +231,18 @@ module _ (circuit : FlatCircuit) (tree : InstanceTree) (listed : Listed) (fits :
   pub port-plain : (k s : ℕ) → IsPort tree k s → IsNoField circuit tree listed s
   port-plain k s port i d lt field = port-no-field circuit tree fits scoped k (get_or listed.memories i d) s (apart.memories i d lt) port field
 
+  -- a port belongs to the machine of its instance
+  pub port-owner : (k s : ℕ) → IsPort tree k s → owner_of circuit tree listed s ≡ owner_of_instance tree listed.units k
+  port-owner k s port = owner-signal k s (scoped.ports k s port).own (port-plain k s port)
+
+  pub top-owner : (s : ℕ) → IsPort tree 0 s → owner_of circuit tree listed s ≡ 0
+  top-owner s port = port-owner 0 s port ∙ owner-top circuit tree listed fits apart
+
+  pub output-owner : (i : ℕ) → i < length circuit.outs → owner_of circuit tree listed (value_at circuit.outs i) ≡ 0
+  output-owner i lt =
+      top-owner (value_at circuit.outs i) (top-port circuit tree listed fits scoped apart (value_at circuit.outs i) (λ port. not port.is_input)
+      (top-output circuit tree listed fits scoped apart (value_at circuit.outs i) (Contains-get_or circuit.outs i 0 lt)))
+
   -- ---- what is visible
 
   -- a unit's port has a channel between the unit and the machine outside
@@ -255,7 +274,10 @@ module _ (circuit : FlatCircuit) (tree : InstanceTree) (listed : Listed) (fits :
           (Contains-map (λ (port : InstancePort). port.signal) (filter (λ port. not port.is_input) (instance_at tree 0).ports) h.port (Contains-filter (λ port. not port.is_input) (instance_at tree 0).ports h.port h.among (ap not e)))))
         where
           at : Contains circuit.outs s → Gets 0 s
-          at c = inl (subst (λ t. Makes circuit tree listed (wires_of circuit tree listed) 0 t) (get_or_default circuit.outs c.0 0 s c.1 ∙ c.2) (gives (value_at circuit.outs c.0) 0 (first_tray circuit listed + c.0) (tray-wire circuit tree listed c.0 c.1)))
+          at c =
+              inl (subst (λ t. Makes circuit tree listed (wires_of circuit tree listed) 0 t) (get_or_default circuit.outs c.0 0 s c.1 ∙ c.2)
+              (subst (λ m. Makes circuit tree listed (wires_of circuit tree listed) m (value_at circuit.outs c.0)) (output-owner c.0 c.1)
+              (gives (value_at circuit.outs c.0) (owner_of circuit tree listed (value_at circuit.outs c.0)) (first_tray circuit listed + c.0) (tray-wire circuit tree listed c.0 c.1))))
 
   owned-gets : (k s : ℕ) → IsInnermost tree k s → IsOwned s k → Gets (owner_of_instance tree listed.units k) s
   owned-gets k s inner o = inl (inl (innermost-known circuit tree fits k s inner, o.owner, o.inner))

@@ -1,34 +1,28 @@
 -- The owner of a channel's signal is at one of the channel's ends.
 use Rattle.std.proofs.Common.{◌≡◌, ℕ, suc, ◌+◌, ◌<◌, length, get_or, Bool, true, false, refl, sym, ◌∙◌, ap, subst, inl, inr, ◌⊎◌, eq-eqb, arith}
-use Rattle.std.specs.Prelude.{◌==◌, if◌then◌else◌, not, All, Contains}
+use Rattle.std.specs.Prelude.{◌==◌, if◌then◌else◌, All, Contains}
 use Rattle.std.proofs.lemmas.List.{get_or_default}
 use Rattle.std.proofs.lemmas.List.Elements.{Contains-get_or}
 use Rattle.std.proofs.lemmas.List.Folds.{list_any_at}
 use Rattle.gg_flat.specs.Line.{value_at}
 use Rattle.gg_flat.specs.Circuit.{FlatCircuit, readers_at}
 use Rattle.gg_flat.specs.Tree.{InstanceTree, IsTree, memory_at}
-use Rattle.gg_flat.specs.Scoped.{IsScoped, IsPort, IsFieldOf, memory_fields}
+use Rattle.gg_flat.specs.Scoped.{IsScoped, IsFieldOf, memory_fields}
 use Rattle.gg_cut.specs.declared.wires.Wire.{Wire}
 use Rattle.gg_cut.specs.declared.listed.Listed.{Listed}
-use Rattle.gg_cut.specs.Listed.{first_place, unit_or_hub, owner_of_instance, owner_of, has_signal, has_field, memory_or}
-use Rattle.gg_cut.specs.Channels.{wire, wires_of, first_memory}
+use Rattle.gg_cut.specs.Listed.{first_place, unit_or_hub, owner_of, has_signal, has_field, memory_or}
+use Rattle.gg_cut.specs.Machines.{first_memory}
+use Rattle.gg_cut.specs.Channels.{wire, wires_of}
 use Rattle.gg_closed.specs.Apart.{AreApart, IsOwnerAtEnd}
-use Rattle.gg_closed.proofs.PlaceLemmas.{place-is, owner-unit, owner-top}
+use Rattle.gg_closed.proofs.PlaceLemmas.{place-is, owner-unit}
 use Rattle.gg_closed.proofs.KindLemmas.{IsInto, IsWordWire, Kind, OfSource, OfPort, OfField, OfTray, outside_unit, outside_memory, kind-of}
 use Rattle.gg_closed.proofs.NameLemmas.{field-one}
-use Rattle.gg_closed.proofs.OnceLemmas.{top-input, top-output, top-port}
-use Rattle.gg_closed.proofs.MakerLemmas.{owner-signal, any-contains, port-of, port-plain, field-listed}
+use Rattle.gg_closed.proofs.OnceLemmas.{top-input, top-port}
+use Rattle.gg_closed.proofs.MakerLemmas.{any-contains, port-of, port-owner, top-owner, field-listed}
 
 module _ (circuit : FlatCircuit) (tree : InstanceTree) (listed : Listed) (fits : IsTree circuit tree) (scoped : IsScoped circuit tree) (apart : AreApart tree listed) where
   abbrev owner : ℕ → ℕ
   owner s = owner_of circuit tree listed s
-
-  -- a port belongs to the machine of its instance
-  port-owner : (k s : ℕ) → IsPort tree k s → owner_of circuit tree listed s ≡ owner_of_instance tree listed.units k
-  port-owner k s port = owner-signal circuit tree listed fits scoped apart k s (scoped.ports k s port).own (port-plain circuit tree listed fits scoped apart k s port)
-
-  top-owner : (s : ℕ) → IsPort tree 0 s → owner_of circuit tree listed s ≡ 0
-  top-owner s port = port-owner 0 s port ∙ owner-top circuit tree listed fits apart
 
   -- a field of a listed memory belongs to that memory's machine
   field-owner : (i s : ℕ) → i < length listed.memories → IsFieldOf circuit tree (value_at listed.memories i) s → owner_of circuit tree listed s ≡ first_memory listed + i
@@ -56,16 +50,14 @@ module _ (circuit : FlatCircuit) (tree : InstanceTree) (listed : Listed) (fits :
   end-of : (w : Wire) → Contains (wires_of circuit tree listed) w → Kind circuit tree listed w → IsOwnerAtEnd circuit tree listed w
   end-of w h (OfSource f) =
       subst (IsOwnerAtEnd circuit tree listed) (sym f.is)
-      (inr (sym (top-owner (value_at circuit.ins f.place) (top-port circuit tree listed fits scoped apart (value_at circuit.ins f.place) (λ port. port.is_input)
+      (inr (sym (top-owner circuit tree listed fits scoped apart (value_at circuit.ins f.place) (top-port circuit tree listed fits scoped apart (value_at circuit.ins f.place) (λ port. port.is_input)
       (top-input circuit tree listed fits scoped apart (value_at circuit.ins f.place) (Contains-get_or circuit.ins f.place 0 f.known))))))
   end-of w h (OfTray f) =
-      subst (IsOwnerAtEnd circuit tree listed) (sym f.is)
-      (inl (sym (top-owner (value_at circuit.outs f.place) (top-port circuit tree listed fits scoped apart (value_at circuit.outs f.place) (λ port. not port.is_input)
-      (top-output circuit tree listed fits scoped apart (value_at circuit.outs f.place) (Contains-get_or circuit.outs f.place 0 f.known))))))
+      subst (IsOwnerAtEnd circuit tree listed) (sym f.is) (inl refl)
   end-of w h (OfPort p) = by p.port.is_input p.is
     where
       owns : owner_of circuit tree listed w.signal ≡ suc p.unit
-      owns = port-owner (value_at listed.units p.unit) w.signal (port-of circuit tree listed fits scoped apart w p) ∙ owner-unit circuit tree listed fits apart p.unit p.known
+      owns = port-owner circuit tree listed fits scoped apart (value_at listed.units p.unit) w.signal (port-of circuit tree listed fits scoped apart w p) ∙ owner-unit circuit tree listed fits apart p.unit p.known
 
       by : (b : Bool) → (if b then wire p.port.signal (outside_unit tree listed p.unit) (suc p.unit) else wire p.port.signal (suc p.unit) (outside_unit tree listed p.unit)) ≡ w → IsOwnerAtEnd circuit tree listed w
       by true e = inr (sym (ap (λ (v : Wire). v.consumer) e) ∙ sym owns)

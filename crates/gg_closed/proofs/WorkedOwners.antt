@@ -14,6 +14,7 @@ use Rattle.gg_flat.proofs.WorkedCircuits.{eight}
 use Rattle.gg_flat.proofs.WorkedForms.{only, both, three, apart}
 use Rattle.gg_order.specs.Design.{Ordered}
 use Rattle.gg_partfile.specs.declared.request.Request.{Request}
+use Rattle.gg_partfile.specs.Request.{no_request}
 use Rattle.gg_cut.specs.Listed.{listed_of, owner_of, owner_of_instance}
 use Rattle.gg_cut.specs.Fault.{rest_behind, fault_in}
 use Rattle.gg_cut.specs.Plan.{machine_names, memory_owner}
@@ -59,25 +60,29 @@ circuit =
       memories = memory 2 ∷ memory 5 ∷ [];
       ins = [];
       outs = 0 ∷ [];
+      clocks = 0;
     }
 
 abbrev instance : ℕ → ℕ → ℕ → ℕ → List ℕ → Instance
-instance above kind first end memories = record { parent = Some above; «module» = kind; first = first; end = end; ports = output first ∷ []; memories = memories }
+instance above kind first end memories = record { parent = Some above; «module» = kind; first = first; end = end; ports = output first ∷ []; memories = memories; clocks = [] }
 
 abbrev tree : InstanceTree
 tree =
     record {
       paths = [] ∷ codes "c" ∷ codes "c.d" ∷ codes "cc" ∷ [];
-      instances = record { parent = None; «module» = 0; first = 0; end = 10; ports = output 0 ∷ []; memories = [] } ∷ instance 0 1 1 9 (0 ∷ 1 ∷ []) ∷ instance 1 2 8 9 [] ∷ instance 0 3 9 10 [] ∷ [];
+      instances = record { parent = None; «module» = 0; first = 0; end = 10; ports = output 0 ∷ []; memories = []; clocks = [] } ∷ instance 0 1 1 9 (0 ∷ 1 ∷ []) ∷ instance 1 2 8 9 [] ∷ instance 0 3 9 10 [] ∷ [];
       memory_paths = codes "c.m" ∷ codes "c.n" ∷ [];
-      memories = record { instance = 1; memory = 0; ports = codes "r" ∷ [] } ∷ record { instance = 1; memory = 1; ports = codes "r" ∷ [] } ∷ [];
+      memories = record { instance = 1; memory = 0; ports = codes "r" ∷ []; clocks = [] } ∷ record { instance = 1; memory = 1; ports = codes "r" ∷ []; clocks = [] } ∷ [];
+      clocks = [];
+      register_clocks = [];
+      stops = [];
     }
 
 abbrev design : Ordered
 design = record { circuit = circuit; tree = tree; order = [] }
 
 abbrev asks : List (List ℕ) → List (List ℕ) → Request
-asks units memories = record { units = units; share = []; memories = memories; capacity = [] }
+asks units memories = record no_request { units = units; share = []; memories = memories; capacity = [] }
 
 -- the unit `c`, machine 1, and the memory `c.m` in it, machine 2
 abbrev one : Request

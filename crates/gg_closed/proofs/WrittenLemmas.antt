@@ -12,7 +12,8 @@ use Rattle.gg_flat.proofs.ListLemmas.{Contains-map, Contains-filter}
 use Rattle.gg_cut.specs.declared.wires.Wire.{Wire}
 use Rattle.gg_cut.specs.declared.listed.Listed.{Listed}
 use Rattle.gg_cut.specs.Listed.{owner_of_instance, owner_of}
-use Rattle.gg_cut.specs.Channels.{wire, wires_of, first_memory, first_source}
+use Rattle.gg_cut.specs.Machines.{first_memory, first_source}
+use Rattle.gg_cut.specs.Channels.{wire, wires_of}
 use Rattle.gg_cut.specs.Plan.{IsInner, Makes}
 use Rattle.gg_closed.specs.Apart.{AreApart}
 use Rattle.gg_closed.proofs.ListLemmas.{Somewhere}
@@ -21,7 +22,7 @@ use Rattle.gg_closed.proofs.PlaceLemmas.{owner-unit, owner-inner, owner-top}
 use Rattle.gg_closed.proofs.KindLemmas.{IsPortWire, IsFieldWire, IsInto, IsWordWire, Kind, OfSource, OfPort, OfField, OfTray, outside_unit, outside_memory, kind-of, source-wire, unit-wire, memory-wire}
 use Rattle.gg_closed.proofs.NameLemmas.{port-no-field}
 use Rattle.gg_closed.proofs.OnceLemmas.{top-output, top-port, port-one}
-use Rattle.gg_closed.proofs.MakerLemmas.{HasPort, HasWire, find-port, find-unit, find-field-in, IsNoField, chosen-out, no-channel, owner-signal}
+use Rattle.gg_closed.proofs.MakerLemmas.{HasPort, HasWire, find-port, find-unit, find-field-in, IsNoField, given-out, no-channel, owner-signal, output-owner}
 
 -- signal s is the data of a reader of a listed memory, whose machine is m
 pub record IsWord (circuit : FlatCircuit) (tree : InstanceTree) (listed : Listed) (m s : ℕ) : Type 0 where
@@ -223,7 +224,7 @@ module _ (circuit : FlatCircuit) (tree : InstanceTree) (listed : Listed) (fits :
   made m s low (inr h) = by (kind-of circuit tree listed w.wire w.among)
     where
       w : HasWire (wires_of circuit tree listed) (λ (v : Wire). v.producer == m) s
-      w = chosen-out (wires_of circuit tree listed) (λ (v : Wire). v.producer == m) s h
+      w = given-out circuit tree listed m s h
 
       from : w.wire.producer ≡ m
       from = true-eqb w.wire.producer m (sym w.passes)
@@ -232,4 +233,4 @@ module _ (circuit : FlatCircuit) (tree : InstanceTree) (listed : Listed) (fits :
       by (OfSource f) = absurd (let at = ap (λ (v : Wire). v.producer) f.is in omega (arith, at, from, low))
       by (OfPort p) = inl (port-written m s w.wire from w.is p)
       by (OfField f) = field-written m s w.wire from w.is f
-      by (OfTray f) = inl (subst (λ n. IsWrittenIn tree listed n s) (sym (ap (λ (v : Wire). v.producer) f.is) ∙ from) (tray-written s f.place f.known (sym (ap (λ (v : Wire). v.signal) f.is) ∙ w.is)))
+      by (OfTray f) = inl (subst (λ n. IsWrittenIn tree listed n s) (sym (output-owner circuit tree listed fits scoped apart f.place f.known) ∙ sym (ap (λ (v : Wire). v.producer) f.is) ∙ from) (tray-written s f.place f.known (sym (ap (λ (v : Wire). v.signal) f.is) ∙ w.is)))

@@ -1,5 +1,5 @@
 -- The signals of the channels: those of the wires; all in the circuit; and how channels are found by name.
-use Rattle.std.proofs.Common.{◌≡◌, ◌≢◌, ℕ, suc, ◌+◌, ◌<◌, List, [], ◌∷◌, ◌++◌, length, map, take, slice_get, Bool, true, false, true≢false, true-eqb, eq-eqb, refl, sym, ◌∙◌, ap, ap₂, Some, arith}
+use Rattle.std.proofs.Common.{◌≡◌, ◌≢◌, ℕ, suc, ◌<◌, List, [], ◌∷◌, ◌++◌, length, map, take, slice_get, Bool, true, false, true≢false, true-eqb, eq-eqb, refl, sym, ◌∙◌, ap, ap₂, Some, arith}
 use Rattle.std.specs.Prelude.{Contains, All, AllPairs, bytes_eq, ◌||◌, ◌==◌, if◌then◌else◌, flat_map}
 use Rattle.std.specs.List.{list_any}
 use Rattle.std.proofs.lemmas.List.{map-append, get_or_default}
@@ -12,7 +12,8 @@ use Rattle.gg_flat.proofs.ListLemmas.{once-apart}
 use Rattle.gg_cut.specs.declared.wires.Wire.{Wire}
 use Rattle.gg_cut.specs.declared.listed.Listed.{Listed}
 use Rattle.gg_cut.specs.Listed.{owner_of_instance, is_among, AreMarks}
-use Rattle.gg_cut.specs.Channels.{wire, numbered, flattened, first_memory, first_source, first_tray, port_wire, port_wires, reader_wires, writer_wires, field_wires, source_wires, tray_wires, wires_of, port_signals, channel_signals}
+use Rattle.gg_cut.specs.Machines.{first_memory, first_source, first_tray}
+use Rattle.gg_cut.specs.Channels.{wire, numbered, flattened, port_wire, port_wires, reader_wires, writer_wires, field_wires, source_wires, tray_wires, wires_of, port_signals, channel_signals}
 use Rattle.gg_cut.proofs.PathLemmas.{HoldsPath, holds-path}
 
 abbrev signal_of : Wire → ℕ
@@ -48,7 +49,7 @@ pub wires-signals : (circuit : FlatCircuit) (tree : InstanceTree) (listed : List
 wires-signals circuit tree listed =
     let units = numbered (port_wires tree listed.units) 1 listed.units in
     let memories = numbered (field_wires circuit tree listed.units) (first_memory listed) listed.memories in
-    let trays = numbered tray_wires (first_tray circuit listed) circuit.outs in
+    let trays = numbered (tray_wires circuit tree listed) (first_tray circuit listed) circuit.outs in
     map-append signal_of (numbered source_wires (first_source listed) circuit.ins) (units ++ (memories ++ trays))
     ∙ ap₂ (λ a b. a ++ b) (numbered-signals source_wires (λ s. s ∷ []) (first_source listed) circuit.ins (λ k s. refl) ∙ single circuit.ins)
     (map-append signal_of units (memories ++ trays)
@@ -62,7 +63,7 @@ wires-signals circuit tree listed =
     ∙ ap₂ (λ a b. a ++ b)
     (flattened-signals (reader_wires outside k) (λ reader. reader_fields reader) (readers_at circuit (memory_at tree j).memory) (λ reader. refl))
     (flattened-signals (writer_wires outside k) (λ writer. writer_fields writer) (writers_at circuit (memory_at tree j).memory) (λ writer. refl))))
-    (numbered-signals tray_wires (λ s. s ∷ []) (first_tray circuit listed) circuit.outs (λ k s. refl) ∙ single circuit.outs)))
+    (numbered-signals (tray_wires circuit tree listed) (λ s. s ∷ []) (first_tray circuit listed) circuit.outs (λ k s. refl) ∙ single circuit.outs)))
 
 -- ---- marks
 

@@ -1,12 +1,12 @@
 -- The first item of a list that fails a test, item by item.
-use Rattle.std.proofs.Common.{◌≡◌, ℕ, ◌+◌, ◌<◌, List, [], ◌∷◌, ◌++◌, length, get_or, drop, Bool, true, false, refl, sym, ◌∙◌, ap, ap₂, inl, inr, Some, None, add-one, drop-cons, append_assoc, arith}
+use Rattle.std.proofs.Common.{◌≡◌, ℕ, zero, suc, ◌+◌, ◌<◌, List, [], ◌∷◌, ◌++◌, length, get_or, drop, Bool, true, false, refl, sym, ◌∙◌, ap, ap₂, inl, inr, Some, None, add-one, drop-cons, append_assoc, arith}
 use Rattle.std.specs.Prelude.{Option, find, cond, option_map, not, if◌then◌else◌}
 use Rattle.std.specs.List.{list_any}
 use Rattle.gg_cut.specs.declared.fault.CutFault.{CutFault}
 use Rattle.gg_cut.specs.declared.fault.CutFault.TheVariants.{Doubled}
 use Rattle.std.proofs.lemmas.List.{length-append, append-nil}
 use Rattle.gg_cut.specs.Listed.{is_among}
-use Rattle.gg_cut.specs.Fault.{or_else, first_clash, same_path, repeated, entries, unshared, IsTold}
+use Rattle.gg_cut.specs.Fault.{or_else, first_of, first_clash, same_path, repeated, entries, unshared, IsTold}
 
 -- the items from place i on are the item at place i and those after it
 pub rest-at : {A : Type 0} (xs : List A) (i : ℕ) (x : A) → i < length xs → x ≡ get_or xs i x → drop i xs ≡ x ∷ drop (i + 1) xs
@@ -39,6 +39,34 @@ told-first a b cause (inr is) = inr (ap (λ f. or_else f b) is)
 pub told-same : (a b : Option CutFault) (cause : CutFault) → a ≡ b → IsTold a cause → IsTold b cause
 told-same a b cause same (inl memory) = inl memory
 told-same a b cause same (inr is) = inr (sym same ∙ is)
+
+-- ---- lists of faults
+
+none-first : {A : Type 0} (a b : Option A) → or_else a b ≡ None → a ≡ None
+none-first None b e = refl
+none-first (Some x) b e = absurd (cc)
+
+none-second : {A : Type 0} (a b : Option A) → or_else a b ≡ None → b ≡ None
+none-second None b e = e
+none-second (Some x) b e = absurd (cc)
+
+-- where a list has no fault, none of it is one
+pub none-at : {A : Type 0} (faults : List (Option A)) (i : ℕ) → first_of faults ≡ None → get_or faults i None ≡ None
+none-at [] i e = refl
+none-at (fault ∷ faults) zero e = none-first fault (first_of faults) e
+none-at (fault ∷ faults) (suc i) e = none-at faults i (none-second fault (first_of faults) e)
+
+-- the first fault of two lists, one behind the other
+pub first-append : {A : Type 0} (one other : List (Option A)) → first_of (one ++ other) ≡ or_else (first_of one) (first_of other)
+first-append [] other = refl
+first-append (None ∷ one) other = first-append one other
+first-append (Some fault ∷ one) other = refl
+
+pub none-front : {A : Type 0} (one other : List (Option A)) → first_of (one ++ other) ≡ None → first_of one ≡ None
+none-front one other e = none-first (first_of one) (first_of other) (sym (first-append one other) ∙ e)
+
+pub none-back : {A : Type 0} (one other : List (Option A)) → first_of (one ++ other) ≡ None → first_of other ≡ None
+none-back one other e = none-second (first_of one) (first_of other) (sym (first-append one other) ∙ e)
 
 -- ---- lists of lists
 

@@ -16,7 +16,7 @@ use Rattle.gg_cut.specs.declared.listed.Listed.{Listed}
 use Rattle.gg_cut.specs.Listed.{ParentsBefore}
 use Rattle.gg_partfile.specs.declared.request.Request.{Request}
 use Rattle.gg_cut.specs.Channels.{flattened, port_signals, channel_signals}
-use Rattle.gg_cut.specs.Fault.{channel_fault}
+use Rattle.gg_cut.specs.Fault.{first_of, channel_faults}
 
 -- each instance stands after its parent
 pub parents-before : (circuit : FlatCircuit) (tree : InstanceTree) → IsTree circuit tree → ParentsBefore tree
@@ -108,6 +108,6 @@ module _ (circuit : FlatCircuit) (tree : InstanceTree) (formed : IsWellFormed ci
 pub signals-of : (circuit : FlatCircuit) (tree : InstanceTree) (listed : Listed) (units memories signals : List ℕ) → units ≡ listed.units → memories ≡ listed.memories → signals ≡ channel_signals circuit tree (record { units = units; memories = memories }) → signals ≡ channel_signals circuit tree listed
 signals-of circuit tree listed units memories signals us ms is = is ∙ ap₂ (λ u m. channel_signals circuit tree (record { units = u; memories = m })) us ms
 
-pub channel-told : (circuit : FlatCircuit) (tree : InstanceTree) (request : Request) (listed other : Listed) (signals : List ℕ) → listed ≡ other → signals ≡ channel_signals circuit tree listed → channel_fault circuit request listed signals ≡ channel_fault circuit request other (channel_signals circuit tree other)
+pub channel-told : (circuit : FlatCircuit) (tree : InstanceTree) (request : Request) (listed other : Listed) (signals : List ℕ) → listed ≡ other → signals ≡ channel_signals circuit tree listed → first_of (channel_faults circuit request listed signals) ≡ first_of (channel_faults circuit request other (channel_signals circuit tree other))
 channel-told circuit tree request listed other signals same is =
-    ap (channel_fault circuit request listed) is ∙ ap (λ l. channel_fault circuit request l (channel_signals circuit tree l)) same
+    ap (λ s. first_of (channel_faults circuit request listed s)) is ∙ ap (λ l. first_of (channel_faults circuit request l (channel_signals circuit tree l))) same

@@ -1,5 +1,5 @@
 -- The columns of the circuit's run solve the plan.
-use Rattle.std.proofs.Common.{◌≡◌, ℕ, zero, suc, ◌+◌, ◌-◌, ◌<◌, List, [], ◌∷◌, length, map, get_or, Bool, true, false, refl, sym, ◌∙◌, ap, ap₂, subst, arith}
+use Rattle.std.proofs.Common.{◌≡◌, ℕ, zero, suc, ◌+◌, ◌<◌, List, [], ◌∷◌, length, map, get_or, Bool, true, false, refl, sym, ◌∙◌, ap, ap₂, subst, arith}
 use Rattle.std.specs.Prelude.{filter, cond, ◌==◌}
 use Rattle.std.specs.List.{range_with_len}
 use Rattle.std.proofs.lemmas.List.{get_or-map, length-map}
@@ -25,10 +25,10 @@ use Rattle.gg_cut.specs.declared.plan.Plan.{Plan}
 use Rattle.gg_cut.specs.declared.listed.Listed.{Listed}
 use Rattle.gg_cut.specs.Listed.{listed_of}
 use Rattle.gg_cut.specs.declared.wires.Wire.{Wire}
-use Rattle.gg_cut.specs.Channels.{wires_of, first_source}
-use Rattle.gg_cut.specs.Plan.{wire_at, channels_to, channels_from, signals_of, IsCutPart, IsBody, IsPlan}
+use Rattle.gg_cut.specs.Channels.{wires_of}
+use Rattle.gg_cut.specs.Plan.{wire_at, channels_to, channels_from, signals_of, givens_of, IsCutPart, IsBody, IsPlan}
 use Rattle.gg_cut.specs.Solves.{GivesColumns, Answers, lists_of, Solves, columns_of}
-use Rattle.gg_cut.proofs.WireLemmas.{source-gives, tray-gives}
+use Rattle.gg_cut.proofs.WireLemmas.{source-gives, tray-gives, givens-same}
 
 -- two functions that agree on the items of a list make the same list of it
 map-agree : {B : Type 0} (f g : ℕ → B) (xs : List ℕ) → ((i : ℕ) → i < length xs → f (value_at xs i) ≡ g (value_at xs i)) → map f xs ≡ map g xs
@@ -56,9 +56,9 @@ module _ (whole : FlatCircuit) (part : Part) (columns : List (List ℕ)) (n : �
       map-map (λ (row : List ℕ). value_at row s) (part_row part.globals) rows
       ∙ map-same (λ row. value_at (part_row part.globals row) s) (λ row. value_at row (value_at part.globals s)) rows (λ row. part_row-at part.globals row s lt)
 
-gives-columns : (design : Ordered) (listed : Listed) (wires : List Wire) (m : ℕ) (part : Part) (columns : List (List ℕ)) (n : ℕ) (rows : List (List ℕ)) → IsCutPart design listed wires m part → IsRun design.circuit columns n rows
+gives-columns : (design : Ordered) (listed : Listed) (wires : List Wire) (m : ℕ) (part : Part) (columns : List (List ℕ)) (n : ℕ) (rows : List (List ℕ)) → IsCutPart design listed wires m part → IsRun design.circuit columns n rows → givens_of wires (channels_from wires m) ≡ signals_of wires (channels_from wires m)
     → GivesColumns part n (map (column rows) (signals_of wires (channels_to wires m))) (map (column rows) (signals_of wires (channels_from wires m)))
-gives-columns design listed wires m part columns n rows cut run =
+gives-columns design listed wires m part columns n rows cut run same-signals =
     let ins : part_columns part.globals part.piece rows ≡ map (column rows) (signals_of wires (channels_to wires m)) =
     sym (map-map (column rows) (value_at part.globals) part.piece.ins) ∙ ap (map (column rows)) cut.ins in
     let own = subst (λ (given : List (List ℕ)). IsRun part.piece given n (part_rows part.globals rows)) ins (IsRun-part design.circuit part.piece part.globals part.held part.memories cut.is columns n rows run) in
@@ -71,7 +71,7 @@ gives-columns design listed wires m part columns n rows cut run =
           ap (λ (l : List (List ℕ)). map (column l) part.piece.outs) same
           ∙ map-agree (column (part_rows part.globals rows)) (λ s. column rows (value_at part.globals s)) part.piece.outs (λ i lt. column-part design.circuit part columns n rows (value_at part.piece.outs i) (cut.is.outs i lt))
           ∙ sym (map-map (column rows) (value_at part.globals) part.piece.outs)
-          ∙ ap (map (column rows)) cut.outs;
+          ∙ ap (map (column rows)) (cut.outs ∙ same-signals);
     }
 
 -- ---- a source
@@ -95,18 +95,15 @@ input-column design columns n rows i is given run lt =
 
 module _ (design : Ordered) (request : Request) (columns : List (List ℕ)) (n : ℕ) (rows : List (List ℕ)) (is : IsDesign design) (given : IsColumns design.circuit n columns) (run : IsRun design.circuit columns n rows) where
   answers : (listed : Listed) (m : ℕ) (body : Body) → IsBody design listed (wires_of design.circuit design.tree listed) m body
-      → Answers body n (get_or columns (m - first_source listed) []) (map (column rows) (signals_of (wires_of design.circuit design.tree listed) (channels_to (wires_of design.circuit design.tree listed) m))) (map (column rows) (signals_of (wires_of design.circuit design.tree listed) (channels_from (wires_of design.circuit design.tree listed) m)))
-  answers listed m (Cut part) body = gives-columns design listed (wires_of design.circuit design.tree listed) m part columns n rows body.1 run
-  answers listed m (Memory part) body = gives-columns design listed (wires_of design.circuit design.tree listed) m part columns n rows body.2 run
-  answers listed m Source body =
-      let i = m - first_source listed in
-      let place : m ≡ first_source listed + i = omega (arith, body.0) in
-      let lt : i < length design.circuit.ins = omega (arith, body.0, body.1) in
-      ap (map (column rows)) (source-gives design.circuit design.tree listed m i place lt)
-      ∙ ap (λ c. c ∷ []) (input-column design columns n rows i is given run lt)
+      → Answers body n columns (map (column rows) (signals_of (wires_of design.circuit design.tree listed) (channels_to (wires_of design.circuit design.tree listed) m))) (map (column rows) (signals_of (wires_of design.circuit design.tree listed) (channels_from (wires_of design.circuit design.tree listed) m)))
+  answers listed m (Cut part) body = gives-columns design listed (wires_of design.circuit design.tree listed) m part columns n rows body.1 run (givens-same design.circuit design.tree listed (channels_from (wires_of design.circuit design.tree listed) m))
+  answers listed m (Memory part) body = gives-columns design listed (wires_of design.circuit design.tree listed) m part columns n rows body.2 run (givens-same design.circuit design.tree listed (channels_from (wires_of design.circuit design.tree listed) m))
+  answers listed m (Source i) body =
+      ap (map (column rows)) (source-gives design.circuit design.tree listed m i body.1 body.0)
+      ∙ ap (λ c. c ∷ []) (input-column design columns n rows i is given run body.0)
   answers listed m Tray body = ap (map (column rows)) (tray-gives design.circuit design.tree listed m body)
 
-pub Solves-columns : (design : Ordered) (request : Request) (default : ℕ) (plan : Plan) (columns : List (List ℕ)) (n : ℕ) (rows : List (List ℕ)) → IsDesign design → IsPlan design request default plan → IsColumns design.circuit n columns → IsRun design.circuit columns n rows → Solves plan (λ m. get_or columns (m - first_source (listed_of design.tree request)) []) n (columns_of plan rows)
+pub Solves-columns : (design : Ordered) (request : Request) (default : ℕ) (plan : Plan) (columns : List (List ℕ)) (n : ℕ) (rows : List (List ℕ)) → IsDesign design → IsPlan design request default plan → IsColumns design.circuit n columns → IsRun design.circuit columns n rows → Solves plan columns n (columns_of plan rows)
 Solves-columns design request default plan columns n rows is planned given run =
     let listed = listed_of design.tree request in
     let wires = wires_of design.circuit design.tree listed in
@@ -122,7 +119,7 @@ Solves-columns design request default plan columns n rows is planned given run =
           let at = planned.machine m any lt in
           let ins = ap (lists_of lists) at.ins ∙ lists-signals lists rows wires (λ c. (wire_at wires c).consumer == m) 0 (length wires) list-at in
           let outs = ap (lists_of lists) at.outs ∙ lists-signals lists rows wires (λ c. (wire_at wires c).producer == m) 0 (length wires) list-at in
-          subst (λ (l : List (List ℕ)). Answers machine.body n (get_or columns (m - first_source listed) []) l (lists_of lists machine.outs)) (sym ins)
-          (subst (Answers machine.body n (get_or columns (m - first_source listed) []) (map (column rows) (signals_of wires (channels_to wires m)))) (sym outs)
+          subst (λ (l : List (List ℕ)). Answers machine.body n columns l (lists_of lists machine.outs)) (sym ins)
+          (subst (Answers machine.body n columns (map (column rows) (signals_of wires (channels_to wires m)))) (sym outs)
           (answers design request columns n rows is given run listed m machine.body at.body));
     }

@@ -11,11 +11,12 @@ use Rattle.gg_flat.specs.Circuit.{FlatCircuit, readers_at}
 use Rattle.gg_flat.specs.Tree.{InstanceTree, instance_at, memory_at, parent_place}
 use Rattle.gg_flat.specs.Scoped.{writers_at}
 use Rattle.gg_cut.specs.declared.listed.Listed.{Listed}
-use Rattle.gg_cut.specs.Listed.{unit_or_hub, owner_of_instance, lies, first_place}
+use Rattle.gg_cut.specs.Listed.{unit_or_hub, memory_or, owner_of_instance, owner_of, has_signal, has_field, lies, first_place}
 use Rattle.gg_cut.proofs.PathLemmas.{first_place-Some}
 use Rattle.gg_cut.specs.declared.wires.Wire.{Wire}
-use Rattle.gg_cut.specs.Channels.{wire, numbered, flattened, first_memory, first_source, first_tray, port_wire, port_wires, reader_wires, writer_wires, field_wires, source_wires, tray_wires, wires_of}
-use Rattle.gg_cut.specs.Plan.{wire_at, channels_from, signals_of}
+use Rattle.gg_cut.specs.Machines.{first_memory, first_source, first_tray}
+use Rattle.gg_cut.specs.Channels.{wire, numbered, flattened, port_wire, port_wires, reader_wires, writer_wires, field_wires, source_wires, tray_wires, wires_of}
+use Rattle.gg_cut.specs.Plan.{wire_at, channels_from, signals_of, givens_of}
 
 -- ---- a property of each wire, by recursion
 
@@ -77,12 +78,26 @@ other-number a b lt = ne_eqb a b (λ same. omega (arith, same, lt))
 abbrev Below : ℕ → Wire → Type 0
 Below n w = w.producer < n
 
-pub unit_or_hub-below : (tree : InstanceTree) (units : List ℕ) (k : ℕ) → owner_of_instance tree units k < suc (length units)
-unit_or_hub-below tree units k = by (first_place (λ unit. lies tree k unit) units) refl
+pub unit-below : (test : ℕ → Bool) (units : List ℕ) → unit_or_hub (first_place test units) < suc (length units)
+unit-below test units = by (first_place test units) refl
   where
-    by : (found : Option ℕ) → first_place (λ unit. lies tree k unit) units ≡ found → unit_or_hub found < suc (length units)
+    by : (found : Option ℕ) → first_place test units ≡ found → unit_or_hub found < suc (length units)
     by None e = omega arith
-    by (Some u) e = let lt = (first_place-Some (λ unit. lies tree k unit) units u e).within in omega (arith, lt)
+    by (Some u) e = let lt = (first_place-Some test units u e).within in omega (arith, lt)
+
+pub unit_or_hub-below : (tree : InstanceTree) (units : List ℕ) (k : ℕ) → owner_of_instance tree units k < suc (length units)
+unit_or_hub-below tree units k = unit-below (λ unit. lies tree k unit) units
+
+-- a signal belongs to a machine before the first source
+pub owner-below : (circuit : FlatCircuit) (tree : InstanceTree) (listed : Listed) (s : ℕ) → owner_of circuit tree listed s < first_source listed
+owner-below circuit tree listed s = by (first_place (has_field circuit tree s) listed.memories) refl
+  where
+    unit : ℕ
+    unit = unit_or_hub (first_place (has_signal tree s) listed.units)
+
+    by : (found : Option ℕ) → first_place (has_field circuit tree s) listed.memories ≡ found → memory_or (length listed.units) unit found < first_source listed
+    by None e = let low = unit-below (has_signal tree s) listed.units in omega (arith, low)
+    by (Some j) e = let lt = (first_place-Some (has_field circuit tree s) listed.memories j e).within in omega (arith, lt)
 
 port-below : (n outside unit : ℕ) → outside < n → unit < n → (port : InstancePort) → Below n (port_wire outside unit port)
 port-below n outside unit lo lu port = by port.is_input
@@ -102,7 +117,7 @@ module _ (circuit : FlatCircuit) (tree : InstanceTree) (listed : Listed) where
   rest_wires =
       numbered (port_wires tree listed.units) 1 listed.units
       ++ (numbered (field_wires circuit tree listed.units) (first_memory listed) listed.memories
-      ++ numbered tray_wires (first_tray circuit listed) circuit.outs)
+      ++ numbered (tray_wires circuit tree listed) (first_tray circuit listed) circuit.outs)
 
   -- a channel that isn't a source's is given by a machine before the first source
   pub rest-below : Each (Below (first_source listed)) rest_wires
@@ -120,7 +135,7 @@ module _ (circuit : FlatCircuit) (tree : InstanceTree) (listed : Listed) where
       Each-append (Below n) (flattened (reader_wires outside k) (readers_at circuit (memory_at tree j).memory)) (flattened (writer_wires outside k) (writers_at circuit (memory_at tree j).memory))
       (Each-flattened (Below n) (reader_wires outside k) (readers_at circuit (memory_at tree j).memory) (reader-below n outside k lo lt))
       (Each-flattened (Below n) (writer_wires outside k) (writers_at circuit (memory_at tree j).memory) (writer-below n outside k lo))))
-      (Each-numbered (Below n) tray_wires (first_tray circuit listed) circuit.outs (λ k s le lt. (omega arith, tt))))
+      (Each-numbered (Below n) (tray_wires circuit tree listed) (first_tray circuit listed) circuit.outs (λ k s le lt. (owner-below circuit tree listed s, tt))))
 
   other-rest : (m : ℕ) → first_source listed ≤ m → (xs : List Wire) → Each (Below (first_source listed)) xs → Each (λ w. (w.producer == m) ≡ false) xs
   other-rest m le [] each = tt
@@ -175,3 +190,45 @@ module _ (circuit : FlatCircuit) (tree : InstanceTree) (listed : Listed) where
       (filter-append (λ w. w.producer == m) (numbered source_wires (first_source listed) circuit.ins) rest_wires
       ∙ ap₂ (λ xs ys. xs ++ ys) (sources-below m (first_source listed) circuit.ins le)
       (filter-none (λ w. w.producer == m) rest_wires (other-rest m (omega arith) rest_wires rest-below)))
+
+-- ---- the signals by which channels are given
+
+abbrev IsSame : Wire → Type 0
+IsSame w = w.given ≡ w.signal
+
+port-same : (outside unit : ℕ) (port : InstancePort) → IsSame (port_wire outside unit port)
+port-same outside unit port = by port.is_input
+  where
+    by : (b : Bool) → IsSame (if b then wire port.signal outside unit else wire port.signal unit outside)
+    by true = refl
+    by false = refl
+
+module _ (circuit : FlatCircuit) (tree : InstanceTree) (listed : Listed) where
+  same-each : Each IsSame (wires_of circuit tree listed)
+  same-each =
+      Each-append IsSame (numbered source_wires (first_source listed) circuit.ins) _
+      (Each-numbered IsSame source_wires (first_source listed) circuit.ins (λ k s le lt. (refl, tt)))
+      (Each-append IsSame (numbered (port_wires tree listed.units) 1 listed.units) _
+      (Each-numbered IsSame (port_wires tree listed.units) 1 listed.units (λ k unit le lt.
+      let outside = owner_of_instance tree listed.units (parent_place (instance_at tree unit).parent) in
+      Each-map IsSame (port_wire outside k) (instance_at tree unit).ports (port-same outside k)))
+      (Each-append IsSame (numbered (field_wires circuit tree listed.units) (first_memory listed) listed.memories) _
+      (Each-numbered IsSame (field_wires circuit tree listed.units) (first_memory listed) listed.memories (λ k j le lt.
+      let outside = owner_of_instance tree listed.units (memory_at tree j).instance in
+      Each-append IsSame (flattened (reader_wires outside k) (readers_at circuit (memory_at tree j).memory)) (flattened (writer_wires outside k) (writers_at circuit (memory_at tree j).memory))
+      (Each-flattened IsSame (reader_wires outside k) (readers_at circuit (memory_at tree j).memory) (λ reader. (refl, (refl, (refl, tt)))))
+      (Each-flattened IsSame (writer_wires outside k) (writers_at circuit (memory_at tree j).memory) (λ writer. (refl, (refl, (refl, (refl, tt))))))))
+      (Each-numbered IsSame (tray_wires circuit tree listed) (first_tray circuit listed) circuit.outs (λ k s le lt. (refl, tt)))))
+
+  at-each : (wires : List Wire) → Each IsSame wires → (c : ℕ) → IsSame (wire_at wires c)
+  at-each [] each c = refl
+  at-each (w ∷ wires) each zero = each.0
+  at-each (w ∷ wires) each (suc c) = at-each wires each.1 c
+
+  -- a channel of a cut is given by the signal that its consumer takes
+  pub given-same : (c : ℕ) → (wire_at (wires_of circuit tree listed) c).given ≡ (wire_at (wires_of circuit tree listed) c).signal
+  given-same = at-each (wires_of circuit tree listed) same-each
+
+  pub givens-same : (channels : List ℕ) → givens_of (wires_of circuit tree listed) channels ≡ signals_of (wires_of circuit tree listed) channels
+  givens-same [] = refl
+  givens-same (c ∷ channels) = ap₂ (λ s l. s ∷ l) (given-same c) (givens-same channels)

@@ -12,6 +12,7 @@ use Rattle.gg_flat.specs.Circuit.{FlatCircuit}
 use Rattle.gg_flat.specs.Tree.{InstanceTree}
 use Rattle.gg_flat.proofs.WorkedCircuits.{eight}
 use Rattle.gg_partfile.specs.declared.request.Request.{Request}
+use Rattle.gg_partfile.specs.Request.{no_request}
 use Rattle.gg_cut.specs.declared.fault.CutFault.TheVariants.{Doubled, UnknownMemory, Unmatched}
 use Rattle.gg_cut.specs.declared.listed.Listed.{Listed}
 use Rattle.gg_cut.specs.Listed.{listed_of, owner_of, lies}
@@ -37,30 +38,34 @@ circuit =
       memories = cell_memory 2 ∷ cell_memory 11 ∷ cell_memory 20 ∷ [];
       ins = [];
       outs = 0 ∷ [];
+      clocks = 0;
     }
 
 abbrev cell : ℕ → ℕ → Instance
-cell s m = record { parent = Some 0; «module» = 1; first = s; end = s + 9; ports = output s ∷ []; memories = m ∷ [] }
+cell s m = record { parent = Some 0; «module» = 1; first = s; end = s + 9; ports = output s ∷ []; memories = m ∷ []; clocks = [] }
 
 abbrev inner : ℕ → ℕ → Instance
-inner above s = record { parent = Some above; «module» = 2; first = s; end = s + 1; ports = output s ∷ []; memories = [] }
+inner above s = record { parent = Some above; «module» = 2; first = s; end = s + 1; ports = output s ∷ []; memories = []; clocks = [] }
 
 abbrev held : ℕ → ℕ → MemoryInstance
-held k m = record { instance = k; memory = m; ports = codes "r" ∷ codes "s" ∷ [] }
+held k m = record { instance = k; memory = m; ports = codes "r" ∷ codes "s" ∷ []; clocks = [] }
 
 abbrev pub tree : InstanceTree
 tree =
     record {
       paths = [] ∷ codes "u" ∷ codes "u.in" ∷ codes "v" ∷ codes "v.in" ∷ codes "w" ∷ codes "w.in" ∷ codes "x" ∷ [];
       instances =
-          record { parent = None; «module» = 0; first = 0; end = 29; ports = output 0 ∷ []; memories = [] }
+          record { parent = None; «module» = 0; first = 0; end = 29; ports = output 0 ∷ []; memories = []; clocks = [] }
           ∷ cell 1 0 ∷ inner 1 9 ∷ cell 10 1 ∷ inner 3 18 ∷ cell 19 2 ∷ inner 5 27 ∷ inner 0 28 ∷ [];
       memory_paths = codes "u.m" ∷ codes "v.m" ∷ codes "w.m" ∷ [];
       memories = held 1 0 ∷ held 3 1 ∷ held 5 2 ∷ [];
+      clocks = [];
+      register_clocks = [];
+      stops = [];
     }
 
 abbrev asks : List (List ℕ) → List (List (List ℕ)) → List (List ℕ) → Request
-asks units share memories = record { units = units; share = share; memories = memories; capacity = [] }
+asks units share memories = record no_request { units = units; share = share; memories = memories; capacity = [] }
 
 -- ---- what lies in what
 

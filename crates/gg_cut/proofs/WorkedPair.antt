@@ -3,7 +3,7 @@
 -- The top has the input `x` and the output `q`, an instance `a` of module A with the inputs `x` and `k` and the outputs `p` and
 -- `q`, and an instance `b` of module B with the input `m` and the output `n`. A's `p` is its `x`, its `q` is `xor(x, k)`; B's
 -- `n` is its `m` one bit to the left. The top connects `a.x` to `x`, `a.k` to `b.n`, `b.m` to `a.p` and `q` to `a.q`.
-use Rattle.std.proofs.Common.{◌≡◌, ℕ, List, [], ◌∷◌, Some, None, true, false, refl}
+use Rattle.std.proofs.Common.{◌≡◌, ℕ, List, [], ◌∷◌, Some, None, true, false, refl, arith}
 use Rattle.std.specs.Prelude.{codes, map, replicate}
 use Rattle.gg_bits.specs.declared.ops.Op2.TheVariants.{Xor}
 use Rattle.gg_bits.specs.declared.ops.OpN.TheVariants.{Bits, Shl}
@@ -15,9 +15,12 @@ use Rattle.gg_flat.specs.Tree.{InstanceTree}
 use Rattle.gg_flat.proofs.WorkedCircuits.{eight, nine, node}
 use Rattle.gg_flat.proofs.WorkedMemories.{signal, copy}
 use Rattle.gg_partfile.specs.declared.request.Request.{Request}
+use Rattle.gg_partfile.specs.Request.{no_request}
 use Rattle.gg_cut.specs.declared.fault.CutFault.TheVariants.{UnknownUnit, Doubled, OtherModule, UnknownMemory, UnknownChannel, OutOfRange}
 use Rattle.gg_cut.specs.declared.listed.Listed.{Listed}
 use Rattle.gg_cut.specs.Listed.{listed_of, owner_of}
+use Rattle.gg_cut.specs.declared.numbering.Role.TheVariants.{Source, Tray}
+use Rattle.gg_cut.specs.Machines.{IsRole, first_unit, first_memory, first_source, first_tray, machine_count, numbering_of}
 use Rattle.gg_cut.specs.Channels.{wire, wires_of, channel_signals, channel_names, capacity_of}
 use Rattle.gg_cut.specs.Fault.{fault_in, too_many_units}
 
@@ -41,6 +44,7 @@ circuit =
       memories = [];
       ins = 0 ∷ [];
       outs = 1 ∷ [];
+      clocks = 0;
     }
 
 abbrev pub tree : InstanceTree
@@ -48,16 +52,19 @@ tree =
     record {
       paths = [] ∷ codes "a" ∷ codes "b" ∷ [];
       instances =
-          record { parent = None; «module» = 2; first = 0; end = 8; ports = input 0 ∷ output 1 ∷ []; memories = [] }
-          ∷ record { parent = Some 0; «module» = 0; first = 2; end = 6; ports = input 2 ∷ input 3 ∷ output 4 ∷ output 5 ∷ []; memories = [] }
-          ∷ record { parent = Some 0; «module» = 1; first = 6; end = 8; ports = input 6 ∷ output 7 ∷ []; memories = [] } ∷ [];
+          record { parent = None; «module» = 2; first = 0; end = 8; ports = input 0 ∷ output 1 ∷ []; memories = []; clocks = [] }
+          ∷ record { parent = Some 0; «module» = 0; first = 2; end = 6; ports = input 2 ∷ input 3 ∷ output 4 ∷ output 5 ∷ []; memories = []; clocks = [] }
+          ∷ record { parent = Some 0; «module» = 1; first = 6; end = 8; ports = input 6 ∷ output 7 ∷ []; memories = []; clocks = [] } ∷ [];
       memory_paths = [];
       memories = [];
+      clocks = [];
+      register_clocks = [];
+      stops = [];
     }
 
 -- a request for these units and lists that share a host
 abbrev pub asks : List (List ℕ) → List (List (List ℕ)) → Request
-asks units share = record { units = units; share = share; memories = []; capacity = [] }
+asks units share = record no_request { units = units; share = share; memories = []; capacity = [] }
 
 abbrev pub both_units : Request
 both_units = asks (codes "a" ∷ codes "b" ∷ []) []
@@ -82,6 +89,16 @@ owners = refl
 -- the hub is machine 0, `a` and `b` are 1 and 2, the source of `x` is 3, the tray of `q` is 4
 wires : wires_of circuit tree listed ≡ wire 0 3 0 ∷ wire 2 0 1 ∷ wire 3 0 1 ∷ wire 4 1 0 ∷ wire 5 1 0 ∷ wire 6 0 2 ∷ wire 7 2 0 ∷ wire 1 0 4 ∷ []
 wires = refl
+
+numbers : first_unit ∷ first_memory listed ∷ first_source listed ∷ first_tray circuit listed ∷ machine_count circuit listed ∷ [] ≡ 1 ∷ 3 ∷ 3 ∷ 4 ∷ 5 ∷ []
+numbers = refl
+
+the-source : IsRole (numbering_of circuit listed) 3 (Source 0)
+the-source = (omega arith, refl)
+
+-- nor is it the tray, which comes behind it
+no-tray : ¬ IsRole (numbering_of circuit listed) 3 (Tray 0)
+no-tray is = absurd (omega (arith, is.1))
 
 names : channel_names circuit (channel_signals circuit tree listed) ≡ codes "x" ∷ codes "a.x" ∷ codes "a.k" ∷ codes "a.p" ∷ codes "a.q" ∷ codes "b.m" ∷ codes "b.n" ∷ codes "q" ∷ []
 names = refl

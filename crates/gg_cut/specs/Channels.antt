@@ -1,7 +1,7 @@
 -- The channels of a cut: each carries the values of one signal from the machine that gives it to the machine that takes it.
 -- Source: MEMOCODE 2009 (channels between the nodes of a dataflow network); ICCAD 2019 (a cut at the ports of instances and
 -- of memories).
-use Rattle.std.specs.Prelude.{ℕ, suc, ◌+◌, List, [], ◌∷◌, ◌++◌, if◌then◌else◌, length, map, find, option_map, unwrap_or, bytes_eq}
+use Rattle.std.specs.Prelude.{ℕ, suc, List, [], ◌∷◌, ◌++◌, if◌then◌else◌, map, find, option_map, unwrap_or, bytes_eq}
 use Rattle.gg_flat.specs.declared.tree.InstancePort.{InstancePort}
 use Rattle.gg_flat.specs.declared.memory.Reader.{Reader}
 use Rattle.gg_flat.specs.declared.memory.Writer.{Writer}
@@ -10,33 +10,17 @@ use Rattle.gg_flat.specs.Tree.{InstanceTree, path_at, instance_at, memory_at, pa
 use Rattle.gg_flat.specs.Scoped.{writers_at, memory_fields}
 use Rattle.gg_cut.specs.declared.wires.Wire.{Wire}
 use Rattle.gg_cut.specs.declared.listed.Listed.{Listed}
-use Rattle.gg_cut.specs.Listed.{owner_of_instance}
+use Rattle.gg_cut.specs.Listed.{owner_of_instance, owner_of}
+use Rattle.gg_cut.specs.Machines.{first_unit, first_memory, first_source, first_tray}
 
--- a channel: its signal, and the machines at its two ends
+-- a channel of a signal, with the machines at its two ends: the producer gives the signal that the consumer takes
 abbrev pub wire : ℕ → ℕ → ℕ → Wire
-wire signal producer consumer = record { signal = signal; producer = producer; consumer = consumer }
+wire signal producer consumer = record { signal = signal; given = signal; producer = producer; consumer = consumer }
 
 -- the lists that f gives for each item and its number, joined; the first number is n
 abbrev pub numbered : {A B : Type 0} → (ℕ → A → List B) → ℕ → List A → List B
 numbered f n [] = []
 numbered f n (x ∷ xs) = f n x ++ numbered f (suc n) xs
-
--- ---- the machines by number: the hub, the units, the listed memories, a source for each top input, a tray for each top output
-
-abbrev pub first_unit : ℕ
-first_unit = 1
-
-abbrev pub first_memory : Listed → ℕ
-first_memory listed = suc (length listed.units)
-
-abbrev pub first_source : Listed → ℕ
-first_source listed = first_memory listed + length listed.memories
-
-abbrev pub first_tray : FlatCircuit → Listed → ℕ
-first_tray circuit listed = first_source listed + length circuit.ins
-
-abbrev pub machine_count : FlatCircuit → Listed → ℕ
-machine_count circuit listed = first_tray circuit listed + length circuit.outs
 
 -- ---- the channels
 
@@ -71,8 +55,9 @@ field_wires circuit tree units number j =
 abbrev pub source_wires : ℕ → ℕ → List Wire
 source_wires number signal = wire signal number 0 ∷ []
 
-abbrev pub tray_wires : ℕ → ℕ → List Wire
-tray_wires number signal = wire signal 0 number ∷ []
+-- a tray takes a top output from the machine that the signal belongs to
+abbrev pub tray_wires : FlatCircuit → InstanceTree → Listed → ℕ → ℕ → List Wire
+tray_wires circuit tree listed number signal = wire signal (owner_of circuit tree listed signal) number ∷ []
 
 -- The channels in their order: each top input; each unit's ports, in port order; each listed memory's fields; each
 -- top output.
@@ -81,7 +66,7 @@ wires_of circuit tree listed =
     numbered source_wires (first_source listed) circuit.ins
     ++ (numbered (port_wires tree listed.units) first_unit listed.units
     ++ (numbered (field_wires circuit tree listed.units) (first_memory listed) listed.memories
-    ++ numbered tray_wires (first_tray circuit listed) circuit.outs))
+    ++ numbered (tray_wires circuit tree listed) (first_tray circuit listed) circuit.outs))
 
 -- the signals of an instance's ports
 abbrev pub port_signals : InstanceTree → ℕ → List ℕ

@@ -8,7 +8,7 @@ use Rattle.gg_flat.specs.Tree.{InstanceTree, path_at, instance_at}
 use Rattle.gg_order.specs.Design.{Ordered}
 use Rattle.gg_partfile.specs.declared.request.Request.{Request}
 use Rattle.gg_cut.specs.declared.fault.CutFault.{CutFault}
-use Rattle.gg_cut.specs.declared.fault.CutFault.TheVariants.{UnknownUnit, Doubled, OtherModule, UnknownMemory, Unmatched, UnknownChannel, OutOfRange, TooManyUnits, TooManyChannels, NoMemory}
+use Rattle.gg_cut.specs.declared.fault.CutFault.TheVariants.{UnknownUnit, Doubled, OtherModule, UnknownMemory, Unmatched, UnknownChannel, OutOfRange, TooManyUnits, TooManyChannels, UnknownPipe, DoubledPipe, UnknownClock, WrongRatio, UnknownBridge, WrongPort, UnfitBridge, NoMemory}
 use Rattle.gg_cut.specs.Listed.{is_among, is_instance_path, is_memory_path, instance_of, lies, listed_of}
 use Rattle.gg_cut.specs.declared.listed.Listed.{Listed}
 use Rattle.gg_cut.specs.Channels.{channel_signals, channel_names}
@@ -23,10 +23,14 @@ most_channels = 16384
 abbrev pub most_capacity : ℕ
 most_capacity = 4096
 
--- the first fault of two
+-- the first fault of two, and of a list
 abbrev pub or_else : {A : Type 0} → Option A → Option A → Option A
 or_else None later = later
 or_else (Some fault) later = Some fault
+
+abbrev pub first_of : {A : Type 0} → List (Option A) → Option A
+first_of [] = None
+first_of (fault ∷ faults) = or_else fault (first_of faults)
 
 -- the entries of all lists of `share`, in order
 abbrev pub entries : List (List (List ℕ)) → List (List ℕ)
@@ -128,35 +132,34 @@ too_many_channels signals = if nat_lt most_channels (length signals) then Some (
 
 -- ---- the first of all faults
 
--- entries that name nothing, or occur twice
-abbrev pub entry_fault : InstanceTree → Request → Option CutFault
-entry_fault tree request =
-    or_else (option_map UnknownUnit (unknown_unit tree request.units))
-    (or_else (option_map UnknownUnit (unshared request.units request.share))
-    (or_else (option_map Doubled (overlapping tree request.units))
-    (or_else (option_map Doubled (repeated (entries request.share)))
-    (option_map Doubled (repeated request.memories)))))
+-- those of the entries: entries that name nothing, that occur twice, lists of units with different modules; memories
+abbrev pub entry_faults : InstanceTree → Request → List (Option CutFault)
+entry_faults tree request =
+    option_map UnknownUnit (unknown_unit tree request.units)
+    ∷ option_map UnknownUnit (unshared request.units request.share)
+    ∷ option_map Doubled (overlapping tree request.units)
+    ∷ option_map Doubled (repeated (entries request.share))
+    ∷ option_map Doubled (repeated request.memories)
+    ∷ option_map OtherModule (other_module tree request.share)
+    ∷ option_map UnknownMemory (unknown_memory tree request.memories)
+    ∷ option_map Unmatched (unmatched request.memories request.share)
+    ∷ []
 
--- lists of units with different modules; memories
-abbrev pub kind_fault : InstanceTree → Request → Option CutFault
-kind_fault tree request =
-    or_else (option_map OtherModule (other_module tree request.share))
-    (or_else (option_map UnknownMemory (unknown_memory tree request.memories))
-    (option_map Unmatched (unmatched request.memories request.share)))
+-- those of the channels: capacities, and the numbers of units and of channels
+abbrev pub channel_faults : FlatCircuit → Request → Listed → List ℕ → List (Option CutFault)
+channel_faults circuit request listed signals =
+    option_map UnknownChannel (unknown_channel (channel_names circuit signals) request.capacity)
+    ∷ range_fault request.capacity
+    ∷ option_map TooManyUnits (too_many_units listed)
+    ∷ option_map TooManyChannels (too_many_channels signals)
+    ∷ []
 
--- capacities, and the numbers of units and of channels
-abbrev pub channel_fault : FlatCircuit → Request → Listed → List ℕ → Option CutFault
-channel_fault circuit request listed signals =
-    or_else (option_map UnknownChannel (unknown_channel (channel_names circuit signals) request.capacity))
-    (or_else (range_fault request.capacity)
-    (or_else (option_map TooManyUnits (too_many_units listed))
-    (option_map TooManyChannels (too_many_channels signals))))
+-- all of them, in the order in which they are told
+abbrev pub faults_in : FlatCircuit → InstanceTree → Request → List (Option CutFault)
+faults_in circuit tree request = entry_faults tree request ++ channel_faults circuit request (listed_of tree request) (channel_signals circuit tree (listed_of tree request))
 
 abbrev pub fault_in : FlatCircuit → InstanceTree → Request → Option CutFault
-fault_in circuit tree request =
-    or_else (entry_fault tree request)
-    (or_else (kind_fault tree request)
-    (channel_fault circuit request (listed_of tree request) (channel_signals circuit tree (listed_of tree request))))
+fault_in circuit tree request = first_of (faults_in circuit tree request)
 
 -- The fault of a request for a design: the one with the least number. Among faults with the same number it is the
 -- first in `units`, then in `share`, then in `memories`. For capacities it is the one with the least name.
@@ -174,6 +177,13 @@ fault_text (UnknownChannel name) = codes "P7 " ++ name
 fault_text (OutOfRange name capacity) = codes "P8 " ++ name ++ codes " " ++ decimal capacity
 fault_text (TooManyUnits count) = codes "P9 units " ++ decimal count
 fault_text (TooManyChannels count) = codes "P9 channels " ++ decimal count
+fault_text (UnknownPipe name) = codes "P10 " ++ name
+fault_text (DoubledPipe name) = codes "P11 " ++ name
+fault_text (UnknownClock name) = codes "P12 " ++ name
+fault_text (WrongRatio name m d) = codes "P13 " ++ name ++ codes " " ++ decimal m ++ codes " " ++ decimal d
+fault_text (UnknownBridge name) = codes "P14 " ++ name
+fault_text (WrongPort name) = codes "P15 " ++ name
+fault_text (UnfitBridge name) = codes "P16 " ++ name
 fault_text NoMemory = codes "out of memory"
 
 -- ---- what a call that judges returns

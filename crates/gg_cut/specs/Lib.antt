@@ -1,3 +1,4 @@
+pub mod Machines
 pub mod Listed
 pub mod Fault
 pub mod Channels

@@ -9,6 +9,7 @@ use Rattle.gg_flat.specs.Tree.{InstanceTree, path_at, instance_at, memory_at}
 use Rattle.gg_flat.specs.Scoped.{memory_fields}
 use Rattle.gg_order.specs.Marks.{is_marked}
 use Rattle.gg_cut.specs.declared.listed.Listed.{Listed}
+use Rattle.gg_cut.specs.Machines.{unit_number, memory_after}
 use Rattle.gg_partfile.specs.declared.request.Request.{Request}
 
 -- ---- paths
@@ -82,7 +83,7 @@ listed_of tree request =
 -- the machine of a unit by its place among the units; the hub is machine 0
 abbrev pub unit_or_hub : Option ℕ → ℕ
 unit_or_hub None = 0
-unit_or_hub (Some u) = suc u
+unit_or_hub (Some u) = unit_number u
 
 -- the machine that an instance belongs to: the unit that it is in, else the hub
 abbrev pub owner_of_instance : InstanceTree → List ℕ → ℕ → ℕ
@@ -100,7 +101,7 @@ has_field circuit tree s j = list_any (λ t. t == s) (memory_fields circuit (mem
 -- machine
 abbrev pub memory_or : ℕ → ℕ → Option ℕ → ℕ
 memory_or units other None = other
-memory_or units other (Some j) = suc units + j
+memory_or units other (Some j) = memory_after units + j
 
 -- The machine that a signal belongs to: the listed memory that has it as a field, else the unit that has it, else the
 -- hub.

@@ -1,7 +1,7 @@
 -- The plan of a cut: its machines with their pieces, its channels, and what each channel needs.
 -- Source: MEMOCODE 2009 (a network of machines that are latency-insensitive: an output depends only on the inputs
 -- that it is computed from); ICCAD 2019 (instances and memories of a target as models of their own).
-use Rattle.std.specs.Prelude.{◌≡◌, ◌↔◌, ◌⊎◌, ℕ, ◌<◌, ◌≤◌, List, [], ◌∷◌, ◌++◌, ◌==◌, length, map, filter, codes, slice_index_or, Contains, AllPairs}
+use Rattle.std.specs.Prelude.{◌≡◌, ◌↔◌, ◌⊎◌, ℕ, ◌<◌, ◌≤◌, ◌+◌, List, [], ◌∷◌, ◌++◌, ◌==◌, length, map, filter, codes, slice_index_or, Contains, AllPairs}
 use Rattle.std.specs.List.{range_with_len}
 use Rattle.gg_bits.specs.Shape.{shape}
 use Rattle.gg_flat.specs.Line.{value_at, shape_at}
@@ -10,6 +10,7 @@ use Rattle.gg_flat.specs.Tree.{InstanceTree, path_at, memory_at}
 use Rattle.gg_order.specs.Design.{Ordered}
 use Rattle.gg_flat.specs.Reads.{Reaches}
 use Rattle.gg_part.specs.Part.{IsPart}
+use Rattle.gg_part.specs.Building.{AreHeld}
 use Rattle.gg_part.specs.InOrder.{IsInOrder}
 use Rattle.gg_part.specs.declared.part.Part.{Part}
 use Rattle.gg_partfile.specs.declared.request.Request.{Request}
@@ -21,7 +22,8 @@ use Rattle.gg_cut.specs.declared.plan.Plan.{Plan}
 use Rattle.gg_cut.specs.declared.listed.Listed.{Listed}
 use Rattle.gg_cut.specs.Listed.{listed_of, owner_of, owner_of_instance, memory_or, first_place}
 use Rattle.gg_cut.specs.declared.wires.Wire.{Wire}
-use Rattle.gg_cut.specs.Channels.{wire, wires_of, capacity_of, first_memory, first_source, first_tray, machine_count}
+use Rattle.gg_cut.specs.Machines.{first_memory, first_source, first_tray, machine_count}
+use Rattle.gg_cut.specs.Channels.{wire, wires_of, capacity_of}
 use Rattle.gg_cut.specs.Hosts.{host_of}
 
 -- ---- channels by machine
@@ -38,9 +40,13 @@ channels_to wires m = filter (λ c. (wire_at wires c).consumer == m) (range_with
 abbrev pub channels_from : List Wire → ℕ → List ℕ
 channels_from wires m = filter (λ c. (wire_at wires c).producer == m) (range_with_len 0 (length wires))
 
--- the signals of channels
+-- the signals that channels' consumers take
 abbrev pub signals_of : List Wire → List ℕ → List ℕ
 signals_of wires channels = map (λ c. (wire_at wires c).signal) channels
+
+-- the signals by which channels' producers give their values
+abbrev pub givens_of : List Wire → List ℕ → List ℕ
+givens_of wires channels = map (λ c. (wire_at wires c).given) channels
 
 -- ---- a machine's piece
 
@@ -48,9 +54,9 @@ signals_of wires channels = map (λ c. (wire_at wires c).signal) channels
 abbrev pub IsInner : List Wire → ℕ → Type 0
 IsInner wires s = (c : ℕ) → c < length wires → ¬ ((wire_at wires c).signal ≡ s)
 
--- Machine m gives signal s its value: it owns the signal and no channel carries it, or it gives the signal's channel.
+-- Machine m gives signal s its value: it owns the signal and no channel carries it, or it gives a channel by the signal.
 abbrev pub Makes : FlatCircuit → InstanceTree → Listed → List Wire → ℕ → ℕ → Type 0
-Makes circuit tree listed wires m s = ((s < length circuit.signals) × (owner_of circuit tree listed s ≡ m) × IsInner wires s) ⊎ Contains (signals_of wires (channels_from wires m)) s
+Makes circuit tree listed wires m s = ((s < length circuit.signals) × (owner_of circuit tree listed s ≡ m) × IsInner wires s) ⊎ Contains (givens_of wires (channels_from wires m)) s
 
 -- machine m gets signal s from outside: it takes the signal's channel
 abbrev pub Takes : List Wire → ℕ → ℕ → Type 0
@@ -68,21 +74,23 @@ pub record HasMemory (tree : InstanceTree) (listed : Listed) (m k : ℕ) : Type 
   pub is : (memory_at tree place).memory ≡ k
   pub owner : memory_owner tree listed place ≡ m
 
--- A machine's piece: exactly the signals that it makes or takes, in an order of evaluation, and the memories that
--- belong to it. The signals of its channels, in order, are its in-signals and its out-signals.
+-- A machine's piece: exactly the signals that it makes or takes, in an order of evaluation, exactly the registers that those hold
+-- which it doesn't take, and the memories that belong to it. The signals that it takes and those by which it gives, in the order of
+-- its channels, are its in-signals and its out-signals.
 pub record IsCutPart (design : Ordered) (listed : Listed) (wires : List Wire) (m : ℕ) (part : Part) : Type 0 where
   pub is : IsPart design.circuit part.piece part.globals part.held part.memories
   pub signals : (s : ℕ) → Contains part.globals s ↔ (Makes design.circuit design.tree listed wires m s ⊎ Takes wires m s)
   pub ins : map (value_at part.globals) part.piece.ins ≡ signals_of wires (channels_to wires m)
-  pub outs : map (value_at part.globals) part.piece.outs ≡ signals_of wires (channels_from wires m)
+  pub outs : map (value_at part.globals) part.piece.outs ≡ givens_of wires (channels_from wires m)
+  pub held : AreHeld design.circuit part.globals (signals_of wires (channels_to wires m)) part.held
   pub memories : (k : ℕ) → Contains part.memories k ↔ HasMemory design.tree listed m k
   pub ordered : IsInOrder part.piece
 
--- what machine m is, by its number: the hub or a unit, a listed memory, a source or a tray
+-- what machine m is, by its number: the hub or a unit, a listed memory, the source of the top input at a place, or a tray
 abbrev pub IsBody : Ordered → Listed → List Wire → ℕ → Body → Type 0
 IsBody design listed wires m (Cut part) = (m < first_memory listed) × IsCutPart design listed wires m part
 IsBody design listed wires m (Memory part) = (first_memory listed ≤ m) × (m < first_source listed) × IsCutPart design listed wires m part
-IsBody design listed wires m Source = (first_source listed ≤ m) × (m < first_tray design.circuit listed)
+IsBody design listed wires m (Source place) = (place < length design.circuit.ins) × (m ≡ first_source listed + place)
 IsBody design listed wires m Tray = first_tray design.circuit listed ≤ m
 
 -- ---- machines
@@ -116,12 +124,11 @@ pub record IsNeed (part : Part) (channels : List ℕ) (out c : ℕ) : Type 0 whe
 abbrev pub AreNeedsOf : Part → List ℕ → ℕ → List ℕ → Type 0
 AreNeedsOf part channels out needs = (c : ℕ) → Contains needs c ↔ IsNeed part channels out c
 
--- The needs of a channel that this machine gives: those of the out-signal that the channel carries. A source's
--- channel needs none.
+-- The needs of a channel that this machine gives by signal s: those of that out-signal. A source's channel needs none.
 abbrev pub NeedsIn : Body → List ℕ → ℕ → List ℕ → Type 0
 NeedsIn (Cut part) channels s needs = (out : ℕ) → out < length part.globals → value_at part.globals out ≡ s → AreNeedsOf part channels out needs
 NeedsIn (Memory part) channels s needs = (out : ℕ) → out < length part.globals → value_at part.globals out ≡ s → AreNeedsOf part channels out needs
-NeedsIn Source channels s needs = needs ≡ []
+NeedsIn (Source place) channels s needs = needs ≡ []
 NeedsIn Tray channels s needs = needs ≡ []
 
 -- channel c of the plan
@@ -133,12 +140,13 @@ pub record IsChannel (design : Ordered) (capacity : List ℕ → ℕ) (machines 
   pub consumer : channel.consumer ≡ w.consumer
   pub bound : channel.capacity ≡ capacity (path_at design.circuit.paths w.signal)
   pub ascending : AllPairs (λ a b. a < b) channel.needs
-  pub needs : (any : Machine) → NeedsIn (slice_index_or machines w.producer any).body (slice_index_or machines w.producer any).ins w.signal channel.needs
+  pub needs : (any : Machine) → NeedsIn (slice_index_or machines w.producer any).body (slice_index_or machines w.producer any).ins w.given channel.needs
 
 -- ---- the plan
 
 -- The plan of a design, a request and the capacity of the channels that the request doesn't name.
 pub record IsPlan (design : Ordered) (request : Request) (default : ℕ) (plan : Plan) : Type 0 where
+  pub listed : plan.listed ≡ listed_of design.tree request
   pub machine_total : length plan.machines ≡ machine_count design.circuit (listed_of design.tree request)
   pub channel_total : length plan.channels ≡ length (wires_of design.circuit design.tree (listed_of design.tree request))
   pub machine : (m : ℕ) (any : Machine) → m < length plan.machines → IsMachine design request (listed_of design.tree request) (wires_of design.circuit design.tree (listed_of design.tree request)) m (slice_index_or plan.machines m any)

@@ -14,12 +14,12 @@ pub record GivesColumns (part : Part) (n : ℕ) (ins outs : List (List ℕ)) : T
   pub run : IsRun part.piece ins n rows
   pub gives : (others : List (List ℕ)) → IsRun part.piece ins n others → map (column others) part.piece.outs ≡ outs
 
--- How a machine answers: its outputs are those of the run of its piece on its inputs. A source's output is the column
--- that it was given. A tray has no output.
-abbrev pub Answers : Body → ℕ → List ℕ → List (List ℕ) → List (List ℕ) → Type 0
+-- How a machine answers: its outputs are those of the run of its piece on its inputs. A source's output is its column of those
+-- that are given for the top inputs. A tray has no output.
+abbrev pub Answers : Body → ℕ → List (List ℕ) → List (List ℕ) → List (List ℕ) → Type 0
 Answers (Cut part) n given ins outs = GivesColumns part n ins outs
 Answers (Memory part) n given ins outs = GivesColumns part n ins outs
-Answers Source n given ins outs = outs ≡ given ∷ []
+Answers (Source place) n given ins outs = outs ≡ slice_index_or given place [] ∷ []
 Answers Tray n given ins outs = outs ≡ []
 
 -- the lists of these channels
@@ -27,10 +27,10 @@ abbrev pub lists_of : List (List ℕ) → List ℕ → List (List ℕ)
 lists_of lists channels = map (λ c. slice_index_or lists c []) channels
 
 -- The lists solve the plan: there is one for each channel, and each machine answers on the lists of its channels.
--- `given m` is the column that source m was given.
-pub record Solves (plan : Plan) (given : ℕ → List ℕ) (n : ℕ) (lists : List (List ℕ)) : Type 0 where
+-- `given` has a column for each top input.
+pub record Solves (plan : Plan) (given : List (List ℕ)) (n : ℕ) (lists : List (List ℕ)) : Type 0 where
   pub count : length lists ≡ length plan.channels
-  pub each : (m : ℕ) (any : Machine) → m < length plan.machines → Answers (slice_index_or plan.machines m any).body n (given m) (lists_of lists (slice_index_or plan.machines m any).ins) (lists_of lists (slice_index_or plan.machines m any).outs)
+  pub each : (m : ℕ) (any : Machine) → m < length plan.machines → Answers (slice_index_or plan.machines m any).body n given (lists_of lists (slice_index_or plan.machines m any).ins) (lists_of lists (slice_index_or plan.machines m any).outs)
 
 -- the columns of the channels' signals in the rows of the whole circuit
 abbrev pub columns_of : Plan → List (List ℕ) → List (List ℕ)

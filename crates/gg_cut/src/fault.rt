@@ -28,6 +28,20 @@ pub enum CutFault {
     TooManyUnits(u64),
     /// The number of channels, if it is above 16,384.
     TooManyChannels(u64),
+    /// A name in `pipe` that isn't that of a channel.
+    UnknownPipe(Name),
+    /// A name in `pipe` that equals an earlier one.
+    DoubledPipe(Name),
+    /// A name in `clocks` that isn't that of a Clock input of the top.
+    UnknownClock(Name),
+    /// A ratio `m`, `d` in `clocks` for which `1 <= m <= d <= 65535` doesn't hold, with its clock's name.
+    WrongRatio(Name, u64, u64),
+    /// The name of a bridge that isn't known, or that occurs twice.
+    UnknownBridge(Name),
+    /// A port of a bridge that isn't a port of the top of the right direction, or that is listed twice.
+    WrongPort(Name),
+    /// The name of a bridge whose ports don't fit its model.
+    UnfitBridge(Name),
     /// An allocation failed.
     NoMemory,
 }
@@ -57,6 +71,13 @@ impl fmt::Display for CutFault {
             CutFault::OutOfRange(name, capacity) => write!(f, "P8 {name} {capacity}"),
             CutFault::TooManyUnits(count) => write!(f, "P9 units {count}"),
             CutFault::TooManyChannels(count) => write!(f, "P9 channels {count}"),
+            CutFault::UnknownPipe(name) => write!(f, "P10 {name}"),
+            CutFault::DoubledPipe(name) => write!(f, "P11 {name}"),
+            CutFault::UnknownClock(name) => write!(f, "P12 {name}"),
+            CutFault::WrongRatio(name, m, d) => write!(f, "P13 {name} {m} {d}"),
+            CutFault::UnknownBridge(name) => write!(f, "P14 {name}"),
+            CutFault::WrongPort(name) => write!(f, "P15 {name}"),
+            CutFault::UnfitBridge(name) => write!(f, "P16 {name}"),
             CutFault::NoMemory => f.write_str("out of memory"),
         }
     }

@@ -1,5 +1,5 @@
 //! Laws: facts about the definitions. Each is the contract of a function with an empty body.
-ghost use Rattle.std.specs.Prelude.{◌≡◌, ℕ, ◌-◌, List, [], map, slice_index_or};
+ghost use Rattle.std.specs.Prelude.{◌≡◌, ℕ, List, map};
 ghost use Rattle.gg_flat.specs.Run.{IsRun, IsColumns};
 ghost use Rattle.gg_order.specs.Design.{Ordered, IsDesign};
 ghost use Rattle.gg_partfile.specs.declared.request.Request.{Request};
@@ -8,8 +8,7 @@ ghost use Rattle.gg_flat.specs.Circuit.{FlatCircuit};
 ghost use Rattle.gg_flat.specs.Tree.{InstanceTree};
 ghost use Rattle.gg_cut.specs.declared.listed.Listed.{Listed};
 ghost use Rattle.gg_cut.specs.declared.wires.Wire.{Wire};
-ghost use Rattle.gg_cut.specs.Channels.{first_source, wires_of, channel_signals};
-ghost use Rattle.gg_cut.specs.Listed.{listed_of};
+ghost use Rattle.gg_cut.specs.Channels.{wires_of, channel_signals};
 ghost use Rattle.gg_cut.specs.Plan.{IsPlan};
 ghost use Rattle.gg_cut.specs.Solves.{Solves, columns_of};
 
@@ -19,7 +18,7 @@ pub fn channels_agree()
     ensures { (circuit : FlatCircuit) (tree : InstanceTree) (listed : Listed) → map (λ (w : Wire). w.signal) (wires_of circuit tree listed) ≡ channel_signals circuit tree listed }
 {}
 
-/// The columns of the circuit's run solve the plan, if each source was given the column of its top input.
+/// The columns of the circuit's run solve the plan, if the sources were given the columns of the top inputs.
 pub fn columns_solve()
-    ensures { (design : Ordered) (request : Request) (default : ℕ) (plan : Plan) (columns : List (List ℕ)) (n : ℕ) (rows : List (List ℕ)) → IsDesign design → IsPlan design request default plan → IsColumns design.circuit n columns → IsRun design.circuit columns n rows → Solves plan (λ m. slice_index_or columns (m - first_source (listed_of design.tree request)) []) n (columns_of plan rows) }
+    ensures { (design : Ordered) (request : Request) (default : ℕ) (plan : Plan) (columns : List (List ℕ)) (n : ℕ) (rows : List (List ℕ)) → IsDesign design → IsPlan design request default plan → IsColumns design.circuit n columns → IsRun design.circuit columns n rows → Solves plan columns n (columns_of plan rows) }
 {}

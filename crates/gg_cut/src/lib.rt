@@ -5,6 +5,7 @@
 //!
 //! - what a request lists, by places in the tree of instances (Listed);
 //! - which faults it has, and in what order they are reported (Fault);
+//! - which machines there are, and what their numbers are (Machines);
 //! - which channels there are, and between which machines (Channels);
 //! - who shares a host (Hosts);
 //! - what the plan is: the machines with their pieces, the channels and their needs (Plan).
@@ -12,6 +13,7 @@
 //! The crate promises:
 //!
 //! - `judge` returns what a request lists exactly if it has no fault, and else its first fault;
+//! - a [`Numbering`] tells the number of each machine, and what the machine with a number is;
 //! - `owners_of` gives each instance its machine: the unit that the instance is in, else the hub;
 //! - the channels carry exactly the signals by which they are counted and named (`channels_agree`);
 //! - the columns of the circuit's one run solve the plan (`columns_solve`): in the run of its own piece on its
@@ -25,6 +27,7 @@ mod fault;
 mod laws;
 mod listed;
 mod marks;
+mod numbering;
 mod overlap;
 mod owners;
 mod paths;
@@ -36,6 +39,7 @@ mod wires;
 pub use fault::CutFault;
 pub use laws::{channels_agree, columns_solve};
 pub use listed::Listed;
+pub use numbering::{Numbering, Role};
 pub use owners::owners_of;
 pub use plan::{Body, Channel, Machine, Plan};
 pub use verdict::judge;

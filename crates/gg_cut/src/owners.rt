@@ -1,9 +1,10 @@
 //! The machine that each instance belongs to.
-ghost use Rattle.std.specs.Prelude.{◌≡◌, ℕ, ◌<◌, ◌-◌, ◌^◌, ◌==◌, length, replicate, All, IfOk};
+ghost use Rattle.std.specs.Prelude.{◌≡◌, ℕ, ◌<◌, ◌==◌, length, replicate, All, IfOk};
 ghost use Rattle.gg_flat.specs.Line.{value_at};
 ghost use Rattle.gg_cut.specs.Listed.{ParentsBefore, unit_or_hub, first_place, owner_of_instance};
 ghost use Rattle.gg_cut.specs.Owners.{earlier, above};
 
+use crate::numbering::Numbering;
 use crate::overlap::parent_of;
 use gg_flat::Tree;
 use std::alloc::{AllocError, Global};
@@ -14,29 +15,34 @@ use std::alloc::{AllocError, Global};
 /// # Errors
 ///
 /// Returns `AllocError` if an allocation fails.
-pub fn owners_of(alloc: Global, tree: &Tree, units: &[u32]) -> Result<Vec<u32>, AllocError>
+pub fn owners_of(
+    alloc: Global,
+    tree: &Tree,
+    numbering: &Numbering,
+    units: &[u32],
+) -> Result<Vec<u32>, AllocError>
     requires parents { ParentsBefore tree.now }
     requires known { All (λ unit. unit < length tree.now.instances) units.now }
-    requires few { length units.now < 2 ^ 32 - 1 }
+    requires units { numbering.now.units ≡ length units.now }
     ensures count { IfOk result (λ owners. length owners.items ≡ length tree.now.instances) }
     ensures owners { IfOk result (λ owners. (k : ℕ) → k < length tree.now.instances → value_at owners.items k ≡ owner_of_instance tree.now units.now k) }
 {
     let mut owners = zeros(alloc, tree.len())?;
-    fill_owners(tree, units, &mut owners);
+    fill_owners(tree, numbering, units, &mut owners);
     Ok(owners)
 }
 
 // Gives each instance its machine. At first all have 0.
-fn fill_owners(tree: &Tree, units: &[u32], owners: &mut [u32])
+fn fill_owners(tree: &Tree, numbering: &Numbering, units: &[u32], owners: &mut [u32])
     requires parents { ParentsBefore tree.now }
     requires known { All (λ unit. unit < length tree.now.instances) units.now }
-    requires few { length units.now < 2 ^ 32 - 1 }
+    requires units { numbering.now.units ≡ length units.now }
     requires zeros { (k : ℕ) → value_at owners.old k ≡ 0 }
     requires count { length owners.old ≡ length tree.now.instances }
     ensures count { length owners.new ≡ length owners.old }
     ensures owners { (k : ℕ) → k < length tree.now.instances → value_at owners.new k ≡ owner_of_instance tree.now units.now k }
 {
-    number_units(owners, units);
+    number_units(owners, numbering, units);
     for place in 0..tree.len() {
         let above = owner_above(tree, owners, place as u32);
         let owner = earlier_of(owners[place], above);
@@ -53,9 +59,9 @@ fn zeros(alloc: Global, count: usize) -> Result<Vec<u32>, AllocError>
 
 // Gives each unit its machine's number. At first all have 0. A unit that is listed twice gets the number of its first
 // place.
-fn number_units(owners: &mut [u32], units: &[u32])
+fn number_units(owners: &mut [u32], numbering: &Numbering, units: &[u32])
     requires known { All (λ unit. unit < length owners.old) units.now }
-    requires few { length units.now < 2 ^ 32 - 1 }
+    requires units { numbering.now.units ≡ length units.now }
     requires zeros { (k : ℕ) → value_at owners.old k ≡ 0 }
     ensures count { length owners.new ≡ length owners.old }
     ensures numbers { (k : ℕ) → value_at owners.new k ≡ unit_or_hub (first_place (λ unit. k == unit) units.now) }
@@ -63,7 +69,7 @@ fn number_units(owners: &mut [u32], units: &[u32])
     for number in 0..units.len() {
         let unit = units[number];
         if owners[unit as usize] == 0 {
-            owners[unit as usize] = number as u32 + 1;
+            owners[unit as usize] = numbering.unit(number);
         }
     }
 }

@@ -1,4 +1,5 @@
 //! `Plan`: what a cut makes of a design.
+use crate::listed::Listed;
 use gg_bits::{Ids, Items, Name, Ty};
 use gg_part::Part;
 
@@ -9,8 +10,8 @@ pub enum Body {
     Cut(Part),
     /// A listed memory: a part of the circuit that has just this memory. Its ports are served one by one.
     Memory(Part),
-    /// Gives the column of a top input.
-    Source,
+    /// Gives the column of a top input, which has this place among the top's inputs.
+    Source(u32),
     /// Keeps the values of a top output.
     Tray,
 }
@@ -49,11 +50,14 @@ pub struct Channel {
     pub needs: Ids,
 }
 
-/// The plan of a cut: the hub, the units, the listed memories, the sources and the trays; and the channels between them.
+/// The plan of a cut: the hub, the units, the listed memories, the sources and the trays; the channels between them; and what the
+/// request lists.
 #[derive(Drop)]
 pub struct Plan {
     /// The machines, by number.
     pub machines: Items<Machine>,
     /// The channels, by number.
     pub channels: Items<Channel>,
+    /// What the request lists.
+    pub listed: Listed,
 }

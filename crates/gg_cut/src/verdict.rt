@@ -2,9 +2,10 @@
 ghost use Rattle.std.specs.Prelude.{◌≡◌, ◌+◌, ◌<◌, ◌^◌, length, option_map, nat_lt, if◌then◌else◌, Some, None, All, IfOk, IfErr};
 ghost use Rattle.gg_flat.specs.Tree.{IsTree};
 ghost use Rattle.gg_flat.specs.WellFormed.{IsWellFormed};
+ghost use Rattle.gg_moved.specs.KeepsToTree.{KeepsToTree};
 ghost use Rattle.gg_cut.specs.Listed.{listed_of};
 ghost use Rattle.gg_cut.specs.Channels.{channel_signals};
-ghost use Rattle.gg_cut.specs.Fault.{IsSmall, Tells, entry_fault, kind_fault, channel_fault, fault_in, first_fault, too_many_channels, most_units};
+ghost use Rattle.gg_cut.specs.Fault.{IsSmall, Tells, first_of, entry_faults, channel_faults, fault_in, first_fault, too_many_channels, most_units};
 ghost use Rattle.gg_cut.specs.declared.fault.CutFault.TheVariants.{TooManyUnits, TooManyChannels, NoMemory};
 
 use crate::capacities::{capacities_in_range, channels_exist};
@@ -29,7 +30,7 @@ const MOST_UNITS: u64 = 256;
 /// The most channels.
 const MOST_CHANNELS: u64 = 16384;
 
-/// What a request lists of a design.
+/// What a request lists of a design whose circuit keeps to its tree.
 ///
 /// # Errors
 ///
@@ -37,6 +38,7 @@ const MOST_CHANNELS: u64 = 16384;
 /// an allocation fails.
 pub fn judge(alloc: Global, design: &Design, request: &Request) -> Result<Listed, CutFault>
     requires small { IsSmall request.now }
+    requires keeps { KeepsToTree design.now.circuit design.now.tree }
     ensures told { Tells (first_fault design.now request.now) result }
     ensures listed { IfOk result (λ listed. listed ≡ listed_of design.now.tree request.now) }
 {
@@ -57,11 +59,11 @@ fn judge_all(
     ensures listed { IfOk result (λ listed. listed ≡ listed_of tree.now request.now) }
 {
     judge_entries(alloc, piece, tree, request)?;
-    judge_kinds(alloc, tree, request)?;
     judge_channels(alloc, piece, tree, request)
 }
 
-// Checks for entries that name nothing, or occur twice.
+// Checks the entries: for those that name nothing, those that occur twice, lists of units with different modules, and the
+// memories.
 fn judge_entries(
     alloc: Global,
     piece: &Piece,
@@ -70,24 +72,18 @@ fn judge_entries(
 ) -> Result<(), CutFault>
     requires small { IsSmall request.now }
     requires fitting { IsTree piece.now tree.now }
-    ensures { Tells (entry_fault tree.now request.now) result }
+    ensures { Tells (first_of (entry_faults tree.now request.now)) result }
 {
     let _ = piece;
     units_exist(tree, request.units.as_slice())?;
     shared_are_units(alloc, request.units.as_slice(), request.share.as_slice())?;
     none_overlap(alloc, tree, request.units.as_slice())?;
     shared_once(alloc, request.share.as_slice())?;
-    none_repeated(alloc, request.memories.as_slice())
-}
-
-// Checks for lists of units with different modules, and checks the memories.
-fn judge_kinds(alloc: Global, tree: &Tree, request: &Request) -> Result<(), CutFault>
-    requires small { IsSmall request.now }
-    ensures { Tells (kind_fault tree.now request.now) result }
-{
+    none_repeated(alloc, request.memories.as_slice())?;
     one_module_each(tree, request.share.as_slice())?;
     memories_exist(tree, request.memories.as_slice())?;
-    memories_matched(alloc, request.memories.as_slice(), request.share.as_slice())
+    memories_matched(alloc, request.memories.as_slice(), request.share.as_slice())?;
+    Ok(())
 }
 
 // What is listed, by places in the tree.
@@ -120,7 +116,7 @@ fn judge_channels(
     requires small { IsSmall request.now }
     requires formed { IsWellFormed piece.now }
     requires fitting { IsTree piece.now tree.now }
-    ensures told { Tells (channel_fault piece.now request.now (listed_of tree.now request.now) (channel_signals piece.now tree.now (listed_of tree.now request.now))) result }
+    ensures told { Tells (first_of (channel_faults piece.now request.now (listed_of tree.now request.now) (channel_signals piece.now tree.now (listed_of tree.now request.now)))) result }
     ensures listed { IfOk result (λ listed. listed ≡ listed_of tree.now request.now) }
 {
     let listed = list(alloc, piece, tree, request)?;
@@ -149,7 +145,7 @@ fn judge_signals(
     requires known { All (λ s. s < length piece.now.signals) signals.now }
     requires units { length listed.now.units < 2 ^ 32 }
     requires memories { length listed.now.memories < 2 ^ 32 }
-    ensures { Tells (channel_fault piece.now request.now listed.now signals.now) result }
+    ensures { Tells (first_of (channel_faults piece.now request.now listed.now signals.now)) result }
 {
     let marks = channel_marks(alloc, piece.signals().len(), signals)?;
     channels_exist(piece, signals, &marks, request.capacity.as_slice())?;
@@ -158,7 +154,8 @@ fn judge_signals(
         listed.units.as_slice().len() as u64,
         listed.memories.as_slice().len() as u64,
     )?;
-    few_channels(signals)
+    few_channels(signals)?;
+    Ok(())
 }
 
 // Checks that there are at most 256 units and listed memories.

@@ -17,7 +17,8 @@ use Rattle.gg_cut.specs.declared.plan.Channel.{Channel}
 use Rattle.gg_cut.specs.declared.plan.Plan.{Plan}
 use Rattle.gg_cut.specs.declared.wires.Wire.{Wire}
 use Rattle.gg_cut.specs.Listed.{listed_of}
-use Rattle.gg_cut.specs.Channels.{first_memory, first_source, machine_count, wires_of}
+use Rattle.gg_cut.specs.Machines.{first_memory, first_source, machine_count}
+use Rattle.gg_cut.specs.Channels.{wires_of}
 use Rattle.gg_cut.specs.Plan.{wire_at, channels_to, channels_from, IsBody}
 use Rattle.gg_closed.specs.Apart.{AreApart, AreFew}
 use Rattle.gg_closed.proofs.FaultlessLemmas.{faultless-apart, faultless-few}
@@ -34,7 +35,8 @@ use Rattle.gg_sound.proofs.LinkLemmas.{AreLinks, length-wires, linked}
 use Rattle.gg_sound.proofs.PlanLemmas.{links}
 use Rattle.gg_sound.proofs.FitLemmas.{kind-is}
 use Rattle.gg_sound.proofs.MemoryPartLemmas.{memory-part}
-use Rattle.gg_layout.specs.CutLayout.{IsChannelLink, IsLayoutBy, IsLayoutOf, is_memory, machine_ports, machine_turns, memory_turns, memory_of}
+use Rattle.gg_cut.specs.Machines.{is_memory}
+use Rattle.gg_layout.specs.CutLayout.{IsChannelLink, IsLayoutBy, IsLayoutOf, machine_ports, machine_turns, memory_turns, memory_of}
 use Rattle.gg_layout.proofs.AscendingLemmas.{AreMadeOf, made-same}
 use Rattle.gg_layout.proofs.WireLemmas.{places-up, joint-capacity, place-at, joints-in-order, outs-in-order}
 use Rattle.gg_layout.proofs.MemoryLemmas.{memory-ports, memory-turns}
@@ -67,7 +69,7 @@ module _ (design : Ordered) (request : Request) (default : ℕ) (plan : Plan) (c
   frame = plan_frame plan machines n
 
   apart : AreApart design.tree listed
-  apart = faultless-apart design request given.faultless given.design_is.fitting
+  apart = faultless-apart design request given.faultless given.keeps.fitting
 
   few : AreFew design.circuit design.tree listed
   few = faultless-few design request given.faultless
@@ -150,7 +152,7 @@ module _ (design : Ordered) (request : Request) (default : ℕ) (plan : Plan) (c
         let any = some-item plan.channels c known in
         let machine = given.planned.machine p nameless below in
         subst (λ (link : Link). HasOutNeeds wires p c link.needs (kind_of (machine_at machines p))) (sym (link-is c any known))
-        (out-needs design listed given.design_is apart few p c (record { known = lt; producer = refl }) columns n (machine_in plan p) (machine_in plan p).body (machine_at machines p) (machine_in plan p).ins (get_or plan.channels c any).needs machine.body (built.each p below) machine.ins ((given.planned.channel c any known).needs nameless))
+        (out-needs design listed given.design_is given.keeps apart few p c (record { known = lt; producer = refl }) columns n (machine_in plan p).body (machine_at machines p) (machine_in plan p).ins (get_or plan.channels c any).needs machine.body (built.each p below) machine.ins ((given.planned.channel c any known).needs nameless))
 
     -- the place of a needed channel is its place among the channels that the machine takes
     place-is : (d : ℕ) → Contains needs d → place d ≡ place_in (channels_to wires p) d
@@ -216,15 +218,15 @@ module _ (design : Ordered) (request : Request) (default : ℕ) (plan : Plan) (c
     no-ports : (m < first_memory listed) ⊎ (first_source listed ≤ m) → ports_at m ≡ 0
     no-ports = otherwise (port_count design.circuit (memory_of design.tree listed m)) 0
 
-    body-ports : (body : Body) (machine : Machine) → IsBody design listed wires m body → IsBuilt columns n (machine_in plan m) body machine → ports_at m ≡ (kind_of machine).port_count
+    body-ports : (body : Body) (machine : Machine) → IsBody design listed wires m body → IsBuilt columns n body machine → ports_at m ≡ (kind_of machine).port_count
     body-ports (Cut part) machine body unit = subst (λ (t : Machine). ports_at m ≡ (kind_of t).port_count) (sym unit.is) (no-ports (inl body.0))
     body-ports (Memory part) machine body stands =
-        let outer = memory-part design listed m part given.design_is apart body.0 body.1 body.2 few in
+        let outer = memory-part design listed m part given.design_is given.keeps apart body.0 body.1 body.2 few in
         let inner = sole stands.alone.piece.memories stands.is_memory.one in
         subst (λ (t : Machine). ports_at m ≡ (kind_of t).port_count) (sym stands.is)
         (of-memory (port_count design.circuit (memory_of design.tree listed m)) 0 body.0 body.1
-        ∙ memory-ports design listed m part given.design_is apart body.0 body.1 body.2 machine stands outer.0 inner.0 outer.1 inner.1)
-    body-ports Source machine body is = subst (λ (t : Machine). ports_at m ≡ (kind_of t).port_count) (sym is) (no-ports (inr body.0))
+        ∙ memory-ports design listed m part given.design_is given.keeps apart body.0 body.1 body.2 machine stands outer.0 inner.0 outer.1 inner.1)
+    body-ports (Source place) machine body is = subst (λ (t : Machine). ports_at m ≡ (kind_of t).port_count) (sym is) (no-ports (inr (omega (arith, body.1))))
     body-ports Tray machine body is =
         let low : first_source listed ≤ m = omega (arith, body) in
         subst (λ (t : Machine). ports_at m ≡ (kind_of t).port_count) (sym is) (no-ports (inr low))
@@ -235,16 +237,16 @@ module _ (design : Ordered) (request : Request) (default : ℕ) (plan : Plan) (c
         subst (λ k. ports_at m ≡ k.port_count) (sym (kind-is machines m (omega (arith, below, built.count))))
         (body-ports (machine_in plan m).body (machine_at machines m) (given.planned.machine m nameless below).body (built.each m below))
 
-    body-turns : (body : Body) (machine : Machine) → IsBody design listed wires m body → IsBuilt columns n (machine_in plan m) body machine → AreTurnsOf frame m (kind_of machine).ports (turns_of m)
+    body-turns : (body : Body) (machine : Machine) → IsBody design listed wires m body → IsBuilt columns n body machine → AreTurnsOf frame m (kind_of machine).ports (turns_of m)
     body-turns (Cut part) machine body unit = subst (λ (t : Machine). AreTurnsOf frame m (kind_of t).ports (turns_of m)) (sym unit.is) (no-turns frame m (turns_of m) (not-memory (inl body.0)))
     body-turns (Memory part) machine body stands =
-        let outer = memory-part design listed m part given.design_is apart body.0 body.1 body.2 few in
+        let outer = memory-part design listed m part given.design_is given.keeps apart body.0 body.1 body.2 few in
         let inner = sole stands.alone.piece.memories stands.is_memory.one in
-        let are_turns = memory-turns design listed m part given.design_is apart body.0 body.1 body.2 machine stands outer.0 inner.0 outer.1 inner.1 plan are frame refl in
+        let are_turns = memory-turns design listed m part given.design_is given.keeps apart body.0 body.1 body.2 machine stands outer.0 inner.0 outer.1 inner.1 plan are frame refl in
         let same = of-memory (memory_turns design.circuit wires (memory_of design.tree listed m)) [] body.0 body.1 in
         subst (λ (t : Machine). AreTurnsOf frame m (kind_of t).ports (turns_of m)) (sym stands.is)
         (subst (λ (l : List Turn). AreTurnsOf frame m (kind_of (opening_unit stands.alone.piece)).ports l) (sym same) are_turns)
-    body-turns Source machine body is = subst (λ (t : Machine). AreTurnsOf frame m (kind_of t).ports (turns_of m)) (sym is) (no-turns frame m (turns_of m) (not-memory (inr body.0)))
+    body-turns (Source place) machine body is = subst (λ (t : Machine). AreTurnsOf frame m (kind_of t).ports (turns_of m)) (sym is) (no-turns frame m (turns_of m) (not-memory (inr (omega (arith, body.1)))))
     body-turns Tray machine body is =
         let low : first_source listed ≤ m = omega (arith, body) in
         subst (λ (t : Machine). AreTurnsOf frame m (kind_of t).ports (turns_of m)) (sym is) (no-turns frame m (turns_of m) (not-memory (inr low)))

@@ -15,6 +15,7 @@ use Rattle.gg_flat.specs.Memory.{LooksAmong}
 use Rattle.gg_flat.specs.Tree.{InstanceTree, port_count}
 use Rattle.gg_flat.specs.Scoped.{writers_at}
 use Rattle.gg_flat.specs.WellFormed.{AreDriven, reader_driver}
+use Rattle.gg_moved.specs.KeepsToTree.{KeepsToTree}
 use Rattle.gg_order.specs.Design.{Ordered, IsDesign}
 use Rattle.gg_part.specs.Part.{renamed_memory, renamed_reader, renamed_writer}
 use Rattle.gg_part.specs.declared.part.Part.{Part}
@@ -22,7 +23,8 @@ use Rattle.gg_part.proofs.FormedLemmas.{IsWellFormed-part}
 use Rattle.gg_cut.specs.declared.listed.Listed.{Listed}
 use Rattle.gg_cut.specs.declared.plan.Plan.{Plan}
 use Rattle.gg_cut.specs.declared.wires.Wire.{Wire}
-use Rattle.gg_cut.specs.Channels.{wire, flattened, numbered, field_wires, first_memory, first_source, first_tray, port_wires, reader_wires, source_wires, tray_wires, wires_of, writer_wires}
+use Rattle.gg_cut.specs.Machines.{first_memory, first_source, first_tray}
+use Rattle.gg_cut.specs.Channels.{wire, flattened, numbered, field_wires, port_wires, reader_wires, source_wires, tray_wires, wires_of, writer_wires}
 use Rattle.gg_cut.specs.Plan.{wire_at, channels_to, IsCutPart}
 use Rattle.gg_closed.specs.Apart.{AreApart}
 use Rattle.gg_closed.proofs.KindLemmas.{outside_memory}
@@ -47,7 +49,7 @@ use Rattle.gg_layout.proofs.ChannelLemmas.{channel-back}
 use Rattle.gg_layout.proofs.TurnLemmas.{number_of, reader_of, writer_of, turns-alone}
 use Rattle.gg_layout.proofs.ReachLemmas.{AreReached, late-needs, same-cycle-needs}
 
-module _ (design : Ordered) (listed : Listed) (m : ℕ) (part : Part) (is : IsDesign design) (apart : AreApart design.tree listed) (low : first_memory listed ≤ m) (high : m < first_source listed) (cut : IsCutPart design listed (wires_of design.circuit design.tree listed) m part) (machine : Machine) (stands : IsMemoryOf part machine) where
+module _ (design : Ordered) (listed : Listed) (m : ℕ) (part : Part) (is : IsDesign design) (keeps : KeepsToTree design.circuit design.tree) (apart : AreApart design.tree listed) (low : first_memory listed ≤ m) (high : m < first_source listed) (cut : IsCutPart design listed (wires_of design.circuit design.tree listed) m part) (machine : Machine) (stands : IsMemoryOf part machine) where
   abbrev circuit : FlatCircuit
   circuit = design.circuit
 
@@ -64,7 +66,7 @@ module _ (design : Ordered) (listed : Listed) (m : ℕ) (part : Part) (is : IsDe
   number = number_of part.globals stands.alone.globals
 
   wires-once : AllPairs (λ (v w : Wire). v.signal ≢ w.signal) wires
-  wires-once = pairs-once circuit tree listed is.formed is.fitting is.scoped apart
+  wires-once = pairs-once circuit tree listed is.formed keeps.fitting keeps.scoped apart
 
   -- ---- fields
 
@@ -120,10 +122,10 @@ module _ (design : Ordered) (listed : Listed) (m : ℕ) (part : Part) (is : IsDe
         ∙ ap (λ (l : List Memory). renamed_memory stands.alone.globals (get_or l 0 inner)) only
 
     there : k < length circuit.memories
-    there = known design listed m part is apart low high cut outer own.only
+    there = known design listed m part is keeps apart low high cut outer own.only
 
     whole-is : get_or circuit.memories k outer ≡ renamed_memory part.globals (renamed_memory stands.alone.globals inner)
-    whole-is = whole design listed m part is apart low high cut outer own.only ∙ ap (renamed_memory part.globals) inner-is
+    whole-is = whole design listed m part is keeps apart low high cut outer own.only ∙ ap (renamed_memory part.globals) inner-is
 
     latency-is : latency_at circuit k ≡ inner.latency
     latency-is = get_or-map (λ (x : Memory). x.latency) circuit.memories k outer Zero there ∙ ap (λ (x : Memory). x.latency) whole-is
@@ -211,7 +213,7 @@ module _ (design : Ordered) (listed : Listed) (m : ℕ) (part : Part) (is : IsDe
       fields = numbered (field_wires design.circuit design.tree listed.units) (first_memory listed) listed.memories
 
       abbrev trays : List Wire
-      trays = numbered tray_wires (first_tray design.circuit listed) design.circuit.outs
+      trays = numbered (tray_wires design.circuit design.tree listed) (first_tray design.circuit listed) design.circuit.outs
 
       abbrev ports : List Wire
       ports = numbered (port_wires design.tree listed.units) 1 listed.units

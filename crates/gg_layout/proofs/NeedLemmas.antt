@@ -3,14 +3,15 @@ use Rattle.std.proofs.Common.{◌≡◌, ℕ, zero, suc, ◌<◌, ◌≤◌, Lis
 use Rattle.std.specs.Prelude.{Contains, AllPairs, ◌==◌}
 use Rattle.std.proofs.lemmas.List.{get_or-map}
 use Rattle.gg_flat.specs.Line.{value_at}
+use Rattle.gg_moved.specs.KeepsToTree.{KeepsToTree}
 use Rattle.gg_order.specs.Design.{Ordered, IsDesign}
 use Rattle.gg_part.specs.declared.part.Part.{Part}
 use Rattle.gg_cut.specs.declared.listed.Listed.{Listed}
 use Rattle.gg_cut.specs.declared.plan.Body.{Body}
 use Rattle.gg_cut.specs.declared.plan.Body.TheVariants.{Cut, Memory, Source, Tray}
-use Rattle.gg_cut.specs.declared.plan.Machine as planned
 use Rattle.gg_cut.specs.declared.wires.Wire.{Wire}
-use Rattle.gg_cut.specs.Channels.{first_memory, first_source, wires_of}
+use Rattle.gg_cut.specs.Machines.{first_memory, first_source}
+use Rattle.gg_cut.specs.Channels.{wires_of}
 use Rattle.gg_cut.specs.Plan.{wire_at, channels_to, channels_from, AreNeedsOf, IsBody, IsCutPart, NeedsIn}
 use Rattle.gg_closed.specs.Apart.{AreApart, AreFew}
 use Rattle.gg_closed.proofs.ListLemmas.{pairs-nil}
@@ -41,15 +42,15 @@ module _ (design : Ordered) (listed : Listed) (wires : List Wire) (m : ℕ) (par
   pub out-low : out_of < length part.piece.outs
   out-low = let at = given-placed wires m c is in let within = at.within in omega (arith, within, outs-count design listed wires m part cut)
 
-  out-signal : value_at part.globals (value_at part.piece.outs out_of) ≡ (wire_at wires c).signal
+  out-signal : value_at part.globals (value_at part.piece.outs out_of) ≡ (wire_at wires c).given
   out-signal =
       let at = given-placed wires m c is in
       sym (get_or-map (value_at part.globals) part.piece.outs out_of 0 0 out-low)
       ∙ ap (λ (l : List ℕ). value_at l out_of) cut.outs
-      ∙ get_or-map (λ k. (wire_at wires k).signal) (channels_from wires m) out_of 0 0 at.within
-      ∙ ap (λ k. (wire_at wires k).signal) at.is
+      ∙ get_or-map (λ k. (wire_at wires k).given) (channels_from wires m) out_of 0 0 at.within
+      ∙ ap (λ k. (wire_at wires k).given) at.is
 
-  pub part-made : (channels needs own : List ℕ) → channels ≡ channels_to wires m → ((out : ℕ) → out < length part.globals → value_at part.globals out ≡ (wire_at wires c).signal → AreNeedsOf part channels out needs)
+  pub part-made : (channels needs own : List ℕ) → channels ≡ channels_to wires m → ((out : ℕ) → out < length part.globals → value_at part.globals out ≡ (wire_at wires c).given → AreNeedsOf part channels out needs)
       → AreReached part.piece (value_at part.piece.outs out_of) own → AreMadeOf (place_in (channels_to wires m)) needs own
   part-made channels needs own same are exact =
       let here = are (value_at part.piece.outs out_of) (cut.is.outs out_of out-low) out-signal in
@@ -85,7 +86,7 @@ source-needs (suc o) = refl
 
 -- ---- all machines
 
-module _ (design : Ordered) (listed : Listed) (is : IsDesign design) (apart : AreApart design.tree listed) (few : AreFew design.circuit design.tree listed) (m c : ℕ) (given : IsGivenBy (wires_of design.circuit design.tree listed) m c) where
+module _ (design : Ordered) (listed : Listed) (is : IsDesign design) (keeps : KeepsToTree design.circuit design.tree) (apart : AreApart design.tree listed) (few : AreFew design.circuit design.tree listed) (m c : ℕ) (given : IsGivenBy (wires_of design.circuit design.tree listed) m c) where
   abbrev wires : List Wire
   wires = wires_of design.circuit design.tree listed
 
@@ -93,27 +94,27 @@ module _ (design : Ordered) (listed : Listed) (is : IsDesign design) (apart : Ar
   o = place_in (channels_from (wires_of design.circuit design.tree listed) m) c
 
   unit-out-needs : (part : Part) (cut : IsCutPart design listed wires m part) (machine : Machine) → IsUnitOf part machine → (channels needs : List ℕ) → channels ≡ channels_to wires m
-      → ((out : ℕ) → out < length part.globals → value_at part.globals out ≡ (wire_at wires c).signal → AreNeedsOf part channels out needs) → HasOutNeeds wires m c needs (kind_of machine)
+      → ((out : ℕ) → out < length part.globals → value_at part.globals out ≡ (wire_at wires c).given → AreNeedsOf part channels out needs) → HasOutNeeds wires m c needs (kind_of machine)
   unit-out-needs part cut machine unit channels needs same are =
       let exact = unit.exact.each o (out-low design listed wires m part cut c given) in
       subst (λ (t : Machine). HasOutNeeds wires m c needs (kind_of t)) (sym unit.is)
       (record { up = exact.ascending; made = part-made design listed wires m part cut c given channels needs (needs_at unit.needs o) same are (record { ascending = exact.ascending; exact = exact.exact }) })
 
   memory-out-needs : (part : Part) (cut : IsCutPart design listed wires m part) (low : first_memory listed ≤ m) (high : m < first_source listed) (machine : Machine) → IsMemoryOf part machine → (channels needs : List ℕ) → channels ≡ channels_to wires m
-      → ((out : ℕ) → out < length part.globals → value_at part.globals out ≡ (wire_at wires c).signal → AreNeedsOf part channels out needs) → HasOutNeeds wires m c needs (kind_of machine)
+      → ((out : ℕ) → out < length part.globals → value_at part.globals out ≡ (wire_at wires c).given → AreNeedsOf part channels out needs) → HasOutNeeds wires m c needs (kind_of machine)
   memory-out-needs part cut low high machine stands channels needs same are =
-      let outer = memory-part design listed m part is apart low high cut few in
+      let outer = memory-part design listed m part is keeps apart low high cut few in
       let inner = sole stands.alone.piece.memories stands.is_memory.one in
-      let exact = memory-needs design listed m part is apart low high cut machine stands outer.0 inner.0 outer.1 inner.1 o (out-low design listed wires m part cut c given) in
+      let exact = memory-needs design listed m part is keeps apart low high cut machine stands outer.0 inner.0 outer.1 inner.1 o (out-low design listed wires m part cut c given) in
       subst (λ (t : Machine). HasOutNeeds wires m c needs (kind_of t)) (sym stands.is)
       (record { up = exact.ascending; made = part-made design listed wires m part cut c given channels needs (needs_at (needs_of stands.alone.piece.memories) o) same are exact })
 
-  pub out-needs : (columns : List (List ℕ)) (n : ℕ) (own : planned.Machine) (body : Body) (machine : Machine) (channels needs : List ℕ) → IsBody design listed wires m body → IsBuilt columns n own body machine → channels ≡ channels_to wires m → NeedsIn body channels (wire_at wires c).signal needs → HasOutNeeds wires m c needs (kind_of machine)
-  out-needs columns n own (Cut part) machine channels needs body built same are = unit-out-needs part body.1 machine built channels needs same are
-  out-needs columns n own (Memory part) machine channels needs body built same are = memory-out-needs part body.2 body.0 body.1 machine built channels needs same are
-  out-needs columns n own Source machine channels needs body built same none =
+  pub out-needs : (columns : List (List ℕ)) (n : ℕ) (body : Body) (machine : Machine) (channels needs : List ℕ) → IsBody design listed wires m body → IsBuilt columns n body machine → channels ≡ channels_to wires m → NeedsIn body channels (wire_at wires c).given needs → HasOutNeeds wires m c needs (kind_of machine)
+  out-needs columns n (Cut part) machine channels needs body built same are = unit-out-needs part body.1 machine built channels needs same are
+  out-needs columns n (Memory part) machine channels needs body built same are = memory-out-needs part body.2 body.0 body.1 machine built channels needs same are
+  out-needs columns n (Source place) machine channels needs body built same none =
       subst (λ (t : Machine). HasOutNeeds wires m c needs (kind_of t)) (sym built)
       (record { up = none-up (needs_at ([] ∷ []) o) (source-needs o); made = none-made (place_in (channels_to wires m)) needs (needs_at ([] ∷ []) o) none (source-needs o) })
-  out-needs columns n own Tray machine channels needs body built same none =
+  out-needs columns n Tray machine channels needs body built same none =
       subst (λ (t : Machine). HasOutNeeds wires m c needs (kind_of t)) (sym built)
       (record { up = none-up [] refl; made = none-made (place_in (channels_to wires m)) needs [] none refl })

@@ -22,6 +22,7 @@ use Rattle.gg_flat.proofs.WorkedMemories.{two, high, signal, copy, ports}
 use Rattle.gg_flat.proofs.WorkedForms.{five, same}
 use Rattle.gg_order.specs.Design.{Ordered}
 use Rattle.gg_partfile.specs.declared.request.Request.{Request}
+use Rattle.gg_partfile.specs.Request.{no_request}
 use Rattle.gg_cut.specs.declared.listed.Listed.{Listed}
 use Rattle.gg_cut.specs.declared.wires.Wire.{Wire}
 use Rattle.gg_cut.specs.Listed.{listed_of}
@@ -43,22 +44,26 @@ circuit =
       memories = late ∷ [];
       ins = 0 ∷ [];
       outs = 1 ∷ [];
+      clocks = 0;
     }
 
 abbrev tree : InstanceTree
 tree =
     record {
       paths = [] ∷ [];
-      instances = record { parent = None; «module» = 0; first = 0; end = 5; ports = input 0 ∷ output 1 ∷ []; memories = 0 ∷ [] } ∷ [];
+      instances = record { parent = None; «module» = 0; first = 0; end = 5; ports = input 0 ∷ output 1 ∷ []; memories = 0 ∷ []; clocks = [] } ∷ [];
       memory_paths = codes "m" ∷ [];
-      memories = record { instance = 0; memory = 0; ports = codes "r" ∷ [] } ∷ [];
+      memories = record { instance = 0; memory = 0; ports = codes "r" ∷ []; clocks = [] } ∷ [];
+      clocks = [];
+      register_clocks = [];
+      stops = [];
     }
 
 abbrev design : Ordered
 design = record { circuit = circuit; tree = tree; order = 0 ∷ 2 ∷ 3 ∷ 4 ∷ 1 ∷ [] }
 
 abbrev request : Request
-request = record { units = []; share = []; memories = codes "m" ∷ []; capacity = (codes "m.r.addr", 5) ∷ [] }
+request = record no_request { units = []; share = []; memories = codes "m" ∷ []; capacity = (codes "m.r.addr", 5) ∷ [] }
 
 abbrev listed : Listed
 listed = listed_of tree request

@@ -2,7 +2,7 @@
 -- ports of each machine, and the ports that it serves in a cycle, in their order.
 -- Sources: MEMOCODE 2009 for channels, their bounds and what an output of a machine depends on; ICCAD 2019 for memories
 -- of a target that are served port by port.
-use Rattle.std.specs.Prelude.{◌≡◌, ℕ, ◌-◌, ◌<◌, List, [], Bool, false, ◌==◌, ◌&&◌, if◌then◌else◌, length, map, nat_le, nat_lt, unwrap_or}
+use Rattle.std.specs.Prelude.{◌≡◌, ℕ, ◌-◌, ◌<◌, List, [], false, ◌==◌, if◌then◌else◌, length, map, unwrap_or}
 use Rattle.std.specs.List.{range_with_len}
 use Rattle.gg_flat.specs.Circuit.{FlatCircuit, latency_at, readers_at}
 use Rattle.gg_flat.specs.Line.{value_at}
@@ -13,7 +13,8 @@ use Rattle.gg_partfile.specs.declared.request.Request.{Request}
 use Rattle.gg_cut.specs.declared.listed.Listed.{Listed}
 use Rattle.gg_cut.specs.declared.wires.Wire.{Wire}
 use Rattle.gg_cut.specs.Listed.{first_place, listed_of}
-use Rattle.gg_cut.specs.Channels.{capacity_of, first_memory, first_source, machine_count, wires_of}
+use Rattle.gg_cut.specs.Machines.{first_memory, is_memory, machine_count}
+use Rattle.gg_cut.specs.Channels.{capacity_of, wires_of}
 use Rattle.gg_cut.specs.Plan.{wire_at}
 use Rattle.gg_check.specs.CheckText.{AreChannelNeeds, channel_name}
 use Rattle.gg_node.specs.Machine.{Port}
@@ -46,10 +47,6 @@ turn_of wires port = record { number = port.number; fields = map (channel_of wir
 -- the turns of memory k of the circuit: its ports in the order in which they are served
 abbrev pub memory_turns : FlatCircuit → List Wire → ℕ → List Turn
 memory_turns circuit wires k = map (turn_of wires) (ports_by (latency_at circuit k) (readers_at circuit k) (writers_at circuit k))
-
--- whether machine m is a listed memory
-abbrev pub is_memory : Listed → ℕ → Bool
-is_memory listed m = nat_le (first_memory listed) m && nat_lt m (first_source listed)
 
 -- the memory of the circuit that machine m is, if it is a listed memory
 abbrev pub memory_of : InstanceTree → Listed → ℕ → ℕ

@@ -34,6 +34,7 @@ piece =
       memories = memory ∷ [];
       ins = 0 ∷ 1 ∷ [];
       outs = 2 ∷ [];
+      clocks = 0;
     }
 
 -- a list of one element: what holds of the element holds of each

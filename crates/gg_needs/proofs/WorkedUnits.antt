@@ -26,6 +26,7 @@ unit =
       memories = [];
       ins = 0 ∷ 1 ∷ [];
       outs = 2 ∷ 3 ∷ [];
+      clocks = 0;
     }
 
 p-x : Reaches unit 2 0

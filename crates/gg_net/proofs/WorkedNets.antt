@@ -33,6 +33,7 @@ held =
       memories = [];
       ins = 0 ∷ [];
       outs = 1 ∷ [];
+      clocks = 0;
     }
 
 abbrev passed : FlatCircuit
@@ -44,6 +45,7 @@ passed =
       memories = [];
       ins = 0 ∷ [];
       outs = 1 ∷ [];
+      clocks = 0;
     }
 
 abbrev holds : ℕ → State

@@ -117,6 +117,7 @@ pair =
       memories = [];
       ins = 0 ∷ 1 ∷ [];
       outs = 2 ∷ [];
+      clocks = 0;
     }
 
 abbrev holds : ℕ → State

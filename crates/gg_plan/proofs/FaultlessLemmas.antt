@@ -10,7 +10,8 @@ use Rattle.gg_partfile.specs.declared.request.Request.{Request}
 use Rattle.gg_cut.specs.declared.wires.Wire.{Wire}
 use Rattle.gg_cut.specs.declared.fault.CutFault.TheVariants.{OutOfRange}
 use Rattle.gg_cut.specs.Listed.{listed_of}
-use Rattle.gg_cut.specs.Channels.{wire, machine_count, wires_of, channel_signals, capacity_of}
+use Rattle.gg_cut.specs.Machines.{machine_count}
+use Rattle.gg_cut.specs.Channels.{wire, wires_of, channel_signals, capacity_of}
 use Rattle.gg_cut.specs.Fault.{most_capacity, out_of_range, range_fault, first_fault}
 use Rattle.gg_cut.specs.Plan.{wire_at}
 use Rattle.gg_cut.proofs.KnownLemmas.{signals-known}

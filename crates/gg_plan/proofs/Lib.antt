@@ -6,6 +6,7 @@ pub mod NeedLemmas
 pub mod FaultlessLemmas
 pub mod PlanLemmas
 pub mod WorkedTests
+pub mod WorkedParts
 pub mod WorkedPlan
 pub mod WorkedNest
 pub mod WorkedMemory

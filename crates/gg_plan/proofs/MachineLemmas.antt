@@ -8,10 +8,11 @@ use Rattle.gg_flat.specs.Order.{IsOrder}
 use Rattle.gg_order.specs.Design.{Ordered}
 use Rattle.gg_part.specs.declared.part.Part.{Part}
 use Rattle.gg_part.specs.Part.{IsPart}
+use Rattle.gg_part.specs.Building.{AreHeld}
 use Rattle.gg_part.specs.InOrder.{IsAlong, IsInOrder}
 use Rattle.gg_cut.specs.declared.listed.Listed.{Listed}
 use Rattle.gg_cut.specs.declared.wires.Wire.{Wire}
-use Rattle.gg_cut.specs.Plan.{wire_at, channels_to, channels_from, signals_of, Makes, Takes, HasMemory, IsCutPart}
+use Rattle.gg_cut.specs.Plan.{wire_at, channels_to, channels_from, signals_of, givens_of, Makes, Takes, HasMemory, IsCutPart}
 use Rattle.gg_cut.proofs.RangeLemmas.{filter-below}
 use Rattle.gg_split.specs.declared.share.Share.{Share}
 use Rattle.gg_split.specs.Share.{IsShareOf}
@@ -30,16 +31,19 @@ from-below wires m channels is k d lt = let below = filter-below (λ c. (wire_at
 
 -- the part that a machine's share makes is the part that its plan asks for
 pub cut-part : (design : Ordered) (listed : Listed) (wires : List Wire) (m : ℕ) (share : Share) (whole : FlatCircuit) (part : Part) → IsShareOf design listed wires m share.ins share.outs share.globals share.memories → whole ≡ design.circuit → IsPart whole part.piece part.globals part.held part.memories → part.globals ≡ share.globals → part.memories ≡ share.memories
-    → map (value_at part.globals) part.piece.ins ≡ signals_of wires share.ins → map (value_at part.globals) part.piece.outs ≡ signals_of wires share.outs → IsOrder design.circuit design.order
+    → map (value_at part.globals) part.piece.ins ≡ signals_of wires share.ins → map (value_at part.globals) part.piece.outs ≡ givens_of wires share.outs → AreHeld whole part.globals (signals_of wires share.ins) part.held → IsOrder design.circuit design.order
     → ((whole part : FlatCircuit) (globals held memories order : List ℕ) → IsPart whole part globals held memories → IsOrder whole order → IsAlong order globals → IsInOrder part)
     → IsCutPart design listed wires m part
-cut-part design listed wires m share whole part own w is g ms i o ordered law =
+cut-part design listed wires m share whole part own w is g ms i o held ordered law =
     let here = subst (λ (all : FlatCircuit). IsPart all part.piece part.globals part.held part.memories) w is in
     record {
       is = here;
       signals = λ s. subst (λ (l : List ℕ). Contains l s ↔ (Makes design.circuit design.tree listed wires m s ⊎ Takes wires m s)) (sym g) (own.signals s);
       ins = i ∙ ap (signals_of wires) own.takes;
-      outs = o ∙ ap (signals_of wires) own.gives;
+      outs = o ∙ ap (givens_of wires) own.gives;
+      held =
+          subst (λ (all : FlatCircuit). AreHeld all part.globals (signals_of wires (channels_to wires m)) part.held) w
+          (subst (λ (l : List ℕ). AreHeld whole part.globals (signals_of wires l) part.held) own.takes held);
       memories = λ k. subst (λ (l : List ℕ). Contains l k ↔ HasMemory design.tree listed m k) (sym ms) (own.banks k);
       ordered = law design.circuit part.piece part.globals part.held part.memories design.order here ordered (subst (λ (l : List ℕ). IsAlong design.order l) (sym g) own.along);
     }

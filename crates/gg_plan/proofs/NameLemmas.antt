@@ -1,11 +1,12 @@
 -- The names of machines by their numbers.
-use Rattle.std.proofs.Common.{◌≡◌, ℕ, zero, suc, ◌+◌, ◌-◌, ◌<◌, ◌≤◌, List, [], ◌∷◌, ◌++◌, length, map, get_or, slice_get, codes, refl, sym, ◌∙◌, ap, None, arith}
+use Rattle.std.proofs.Common.{◌≡◌, ℕ, zero, suc, ◌+◌, ◌<◌, List, [], ◌∷◌, ◌++◌, length, map, get_or, slice_get, codes, refl, sym, ◌∙◌, ap, None, arith}
 use Rattle.std.proofs.lemmas.List.{get_or-map, get_or_append_left, get_or-append-add, length-append, length-map}
 use Rattle.gg_flat.specs.Circuit.{FlatCircuit}
 use Rattle.gg_flat.specs.Tree.{InstanceTree, path_at}
 use Rattle.gg_order.specs.Design.{Ordered}
 use Rattle.gg_partfile.specs.declared.request.Request.{Request}
 use Rattle.gg_cut.specs.declared.listed.Listed.{Listed}
+use Rattle.gg_cut.specs.Machines.{Counts, memory_after, source_after, tray_after, numbering_of}
 use Rattle.gg_cut.specs.Plan.{machine_names}
 
 -- where there is no path at a place, the path read there is empty
@@ -41,9 +42,6 @@ module _ (first : List ℕ) (units memories sources trays : List (List ℕ)) whe
       let place : length units + length memories + length sources + k ≡ length (units ++ memories ++ sources) + k = omega (arith, length-append units memories, length-append (units ++ memories) sources) in
       ap (path_at all) (is ∙ ap suc place) ∙ get_or-append-add (units ++ memories ++ sources) trays k []
 
-  pub all-count : length all ≡ suc (length units + length memories + length sources + length trays)
-  all-count = omega (arith, length-append units memories, length-append (units ++ memories) sources, length-append (units ++ memories ++ sources) trays)
-
 -- ---- the names by the numbers' ranges
 
 module _ (design : Ordered) (request : Request) (listed : Listed) where
@@ -59,34 +57,32 @@ module _ (design : Ordered) (request : Request) (listed : Listed) where
   abbrev kept : List (List ℕ)
   kept = map (λ s. codes "out:" ++ path_at paths s) design.circuit.outs
 
-  pub memory-name : (tree : InstanceTree) (units : List (List ℕ)) (memories : List ℕ) (n : ℕ) → tree ≡ design.tree → units ≡ request.units → memories ≡ listed.memories → 0 < n → length units ≤ n - 1 → n - 1 - length units < length memories
-      → path_at tree.memory_paths (get_or memories (n - 1 - length units) 0) ≡ path_at (machine_names design request listed) n
-  memory-name tree units memories n t u m some low lt =
-      let k = n - 1 - length units in
-      let inside : k < length listed.memories = omega (arith, lt, ap length m) in
-      ap (λ (all : InstanceTree). path_at all.memory_paths (get_or memories k 0)) t ∙ ap (λ l. path_at design.tree.memory_paths (get_or l k 0)) m
-      ∙ sym (get_or-map (path_at design.tree.memory_paths) listed.memories k 0 [] inside)
-      ∙ sym (at-memory (codes "hub:") request.units held given kept n k (omega (arith, ap length u)) (omega (arith, inside, length-map listed.memories (path_at design.tree.memory_paths))))
+  pub memory-name : (tree : InstanceTree) (memories : List ℕ) (counts : Counts) (n place : ℕ) → tree ≡ design.tree → memories ≡ listed.memories → counts ≡ numbering_of design.circuit listed → length listed.units ≡ length request.units → place < counts.memories → n ≡ memory_after counts.units + place
+      → path_at tree.memory_paths (get_or memories place 0) ≡ path_at (machine_names design request listed) n
+  memory-name tree memories counts n place t m c u lt is =
+      let inside : place < length listed.memories = omega (arith, lt, ap (λ (k : Counts). k.memories) c) in
+      ap (λ (all : InstanceTree). path_at all.memory_paths (get_or memories place 0)) t
+      ∙ ap (λ l. path_at design.tree.memory_paths (get_or l place 0)) m
+      ∙ sym (get_or-map (path_at design.tree.memory_paths) listed.memories place 0 [] inside)
+      ∙ sym (at-memory (codes "hub:") request.units held given kept n place (omega (arith, is, u, ap (λ (k : Counts). k.units) c)) (omega (arith, inside, length-map listed.memories (path_at design.tree.memory_paths))))
 
-  pub source-name : (circuit : FlatCircuit) (units : List (List ℕ)) (memories ins : List ℕ) (n : ℕ) → circuit ≡ design.circuit → units ≡ request.units → memories ≡ listed.memories → ins ≡ design.circuit.ins → 0 < n → length units ≤ n - 1 → length memories ≤ n - 1 - length units → n - 1 - length units - length memories < length ins
-      → codes "in:" ++ path_at circuit.paths (get_or ins (n - 1 - length units - length memories) 0) ≡ path_at (machine_names design request listed) n
-  source-name circuit units memories ins n c u m i some low high lt =
-      let k = n - 1 - length units - length memories in
-      let inside : k < length design.circuit.ins = omega (arith, lt, ap length i) in
-      ap (λ (all : FlatCircuit). codes "in:" ++ path_at all.paths (get_or ins k 0)) c ∙ ap (λ l. codes "in:" ++ path_at paths (get_or l k 0)) i
-      ∙ sym (get_or-map (λ s. codes "in:" ++ path_at paths s) design.circuit.ins k 0 [] inside)
-      ∙ sym (at-source (codes "hub:") request.units held given kept n k
-      (omega (arith, ap length u, ap length m, length-map listed.memories (path_at design.tree.memory_paths)))
+  pub source-name : (circuit : FlatCircuit) (ins : List ℕ) (counts : Counts) (n place : ℕ) → circuit ≡ design.circuit → ins ≡ circuit.ins → counts ≡ numbering_of design.circuit listed → length listed.units ≡ length request.units → place < counts.ins → n ≡ source_after counts.units counts.memories + place
+      → codes "in:" ++ path_at circuit.paths (get_or ins place 0) ≡ path_at (machine_names design request listed) n
+  source-name circuit ins counts n place f i c u lt is =
+      let inside : place < length design.circuit.ins = omega (arith, lt, ap (λ (k : Counts). k.ins) c) in
+      ap (λ l. codes "in:" ++ path_at circuit.paths (get_or l place 0)) i
+      ∙ ap (λ (all : FlatCircuit). codes "in:" ++ path_at all.paths (get_or all.ins place 0)) f
+      ∙ sym (get_or-map (λ s. codes "in:" ++ path_at paths s) design.circuit.ins place 0 [] inside)
+      ∙ sym (at-source (codes "hub:") request.units held given kept n place
+      (omega (arith, is, u, ap (λ (k : Counts). k.units) c, ap (λ (k : Counts). k.memories) c, length-map listed.memories (path_at design.tree.memory_paths)))
       (omega (arith, inside, length-map design.circuit.ins (λ s. codes "in:" ++ path_at paths s))))
 
-  pub tray-name : (circuit : FlatCircuit) (units : List (List ℕ)) (memories ins outs : List ℕ) (n : ℕ) → circuit ≡ design.circuit → units ≡ request.units → memories ≡ listed.memories → ins ≡ design.circuit.ins → outs ≡ design.circuit.outs → 0 < n → length units ≤ n - 1 → length memories ≤ n - 1 - length units → length ins ≤ n - 1 - length units - length memories → n < length (machine_names design request listed)
-      → codes "out:" ++ path_at circuit.paths (get_or outs (n - 1 - length units - length memories - length ins) 0) ≡ path_at (machine_names design request listed) n
-  tray-name circuit units memories ins outs n c u m i o some low high higher lt =
-      let k = n - 1 - length units - length memories - length ins in
-      let a = length-map listed.memories (path_at design.tree.memory_paths) in
-      let b = length-map design.circuit.ins (λ s. codes "in:" ++ path_at paths s) in
-      let d = length-map design.circuit.outs (λ s. codes "out:" ++ path_at paths s) in
-      let inside : k < length design.circuit.outs = omega (arith, lt, all-count (codes "hub:") request.units held given kept, a, b, d, ap length u, ap length m, ap length i) in
-      ap (λ (all : FlatCircuit). codes "out:" ++ path_at all.paths (get_or outs k 0)) c ∙ ap (λ l. codes "out:" ++ path_at paths (get_or l k 0)) o
-      ∙ sym (get_or-map (λ s. codes "out:" ++ path_at paths s) design.circuit.outs k 0 [] inside)
-      ∙ sym (at-tray (codes "hub:") request.units held given kept n k (omega (arith, ap length u, ap length m, ap length i, a, b)))
+  pub tray-name : (circuit : FlatCircuit) (outs : List ℕ) (counts : Counts) (n place : ℕ) → circuit ≡ design.circuit → outs ≡ circuit.outs → counts ≡ numbering_of design.circuit listed → length listed.units ≡ length request.units → place < counts.outs → n ≡ tray_after counts.units counts.memories counts.ins + place
+      → codes "out:" ++ path_at circuit.paths (get_or outs place 0) ≡ path_at (machine_names design request listed) n
+  tray-name circuit outs counts n place f o c u lt is =
+      let inside : place < length design.circuit.outs = omega (arith, lt, ap (λ (k : Counts). k.outs) c) in
+      ap (λ l. codes "out:" ++ path_at circuit.paths (get_or l place 0)) o
+      ∙ ap (λ (all : FlatCircuit). codes "out:" ++ path_at all.paths (get_or all.outs place 0)) f
+      ∙ sym (get_or-map (λ s. codes "out:" ++ path_at paths s) design.circuit.outs place 0 [] inside)
+      ∙ sym (at-tray (codes "hub:") request.units held given kept n place
+      (omega (arith, is, u, ap (λ (k : Counts). k.units) c, ap (λ (k : Counts). k.memories) c, ap (λ (k : Counts). k.ins) c, length-map listed.memories (path_at design.tree.memory_paths), length-map design.circuit.ins (λ s. codes "in:" ++ path_at paths s))))

@@ -55,26 +55,26 @@ map-ascending values places up along within = λ i j d lt inside.
 pub places-within : (wires : List Wire) (part : Part) (ins outs : List ℕ) (lists : List (List ℕ)) → IsServed wires part ins outs → AreNeedsOfOuts part.piece lists → (i : ℕ) → i < length outs → All (λ place. place < length ins) (get_or lists i [])
 places-within wires part ins outs lists served all i lt = λ k d inside.
     let count : length part.piece.ins ≡ length ins = sym (length-map part.piece.ins (value_at part.globals)) ∙ ap length served.ins ∙ length-map ins (λ c. (wire_at wires c).signal) in
-    let total : length part.piece.outs ≡ length outs = sym (length-map part.piece.outs (value_at part.globals)) ∙ ap length served.outs ∙ length-map outs (λ c. (wire_at wires c).signal) in
+    let total : length part.piece.outs ≡ length outs = sym (length-map part.piece.outs (value_at part.globals)) ∙ ap length served.outs ∙ length-map outs (λ c. (wire_at wires c).given) in
     let places = get_or lists i [] in
     let needs = all.each i (omega (arith, lt, total)) in
     let known = ((needs.exact (get_or places k d)).0 (Contains-get_or places k d inside)).0 in
     omega (arith, known, count)
 
 pub part-told : (wires : List Wire) (part : Part) (ins outs : List ℕ) (m : ℕ) (lists before table : List (List ℕ)) → IsServed wires part ins outs → ins ≡ channels_to wires m → outs ≡ channels_from wires m → AreNeedsOfOuts part.piece lists → ArePut ins outs lists before (length outs) table
-    → (c : ℕ) → c < length wires → (wire_at wires c).producer ≡ m → ArePartNeeds part ins (wire_at wires c).signal (get_or table c [])
+    → (c : ℕ) → c < length wires → (wire_at wires c).producer ≡ m → ArePartNeeds part ins (wire_at wires c).given (get_or table c [])
 part-told wires part ins outs m lists before table served taken given all put c known gives =
     let has = given-there wires m outs given c known gives in
     let i = has.0 in
     let here : value_at outs i ≡ c = get_or_default outs i 0 c has.1 ∙ has.2 in
     let places = get_or lists i [] in
-    let total : length part.piece.outs ≡ length outs = sym (length-map part.piece.outs (value_at part.globals)) ∙ ap length served.outs ∙ length-map outs (λ c. (wire_at wires c).signal) in
+    let total : length part.piece.outs ≡ length outs = sym (length-map part.piece.outs (value_at part.globals)) ∙ ap length served.outs ∙ length-map outs (λ c. (wire_at wires c).given) in
     let inside : i < length part.piece.outs = omega (arith, has.1, total) in
     let own = value_at part.piece.outs i in
     let needs = all.each i inside in
     let told : get_or table c [] ≡ map (value_at ins) places = ap (λ k. get_or table k []) (sym here) ∙ put.put i has.1 in
-    let signal : value_at part.globals own ≡ (wire_at wires c).signal =
-    sym (get_or-map (value_at part.globals) part.piece.outs i 0 0 inside) ∙ ap (λ l. value_at l i) served.outs ∙ get_or-map (λ k. (wire_at wires k).signal) outs i 0 0 has.1 ∙ ap (λ k. (wire_at wires k).signal) here in
+    let signal : value_at part.globals own ≡ (wire_at wires c).given =
+    sym (get_or-map (value_at part.globals) part.piece.outs i 0 0 inside) ∙ ap (λ l. value_at l i) served.outs ∙ get_or-map (λ k. (wire_at wires k).given) outs i 0 0 has.1 ∙ ap (λ k. (wire_at wires k).given) here in
     record {
       ascending = subst (λ (l : List ℕ). AllPairs (λ a b. a < b) l) (sym told) (map-ascending ins places (taken-ascending wires m ins taken) needs.ascending (places-within wires part ins outs lists served all i has.1));
       needs = λ out lt same.
@@ -110,16 +110,16 @@ others-left wires ins outs m lists before table given put c other =
 
 -- ---- machines
 
-pub given-cut : (machine : Machine) (w : Wire) (part : Part) (ins told : List ℕ) → machine.body ≡ Cut part → ins ≡ machine.ins → ArePartNeeds part ins w.signal told → AreGiven machine w told
+pub given-cut : (machine : Machine) (w : Wire) (part : Part) (ins told : List ℕ) → machine.body ≡ Cut part → ins ≡ machine.ins → ArePartNeeds part ins w.given told → AreGiven machine w told
 given-cut machine w part ins told is same needs =
     record {
       ascending = needs.ascending;
-      needs = subst (λ (b : Body). NeedsIn b machine.ins w.signal told) (sym is) (subst (λ (l : List ℕ). NeedsIn (Cut part) l w.signal told) same needs.needs);
+      needs = subst (λ (b : Body). NeedsIn b machine.ins w.given told) (sym is) (subst (λ (l : List ℕ). NeedsIn (Cut part) l w.given told) same needs.needs);
     }
 
-pub given-memory : (machine : Machine) (w : Wire) (part : Part) (ins told : List ℕ) → machine.body ≡ Memory part → ins ≡ machine.ins → ArePartNeeds part ins w.signal told → AreGiven machine w told
+pub given-memory : (machine : Machine) (w : Wire) (part : Part) (ins told : List ℕ) → machine.body ≡ Memory part → ins ≡ machine.ins → ArePartNeeds part ins w.given told → AreGiven machine w told
 given-memory machine w part ins told is same needs =
     record {
       ascending = needs.ascending;
-      needs = subst (λ (b : Body). NeedsIn b machine.ins w.signal told) (sym is) (subst (λ (l : List ℕ). NeedsIn (Memory part) l w.signal told) same needs.needs);
+      needs = subst (λ (b : Body). NeedsIn b machine.ins w.given told) (sym is) (subst (λ (l : List ℕ). NeedsIn (Memory part) l w.given told) same needs.needs);
     }

@@ -16,8 +16,9 @@ use Rattle.gg_cut.specs.declared.listed.Listed.{Listed}
 use Rattle.gg_cut.specs.declared.wires.Wire.{Wire}
 use Rattle.gg_cut.specs.Listed.{listed_of, instance_of}
 use Rattle.gg_cut.specs.Fault.{range_fault, first_fault}
-use Rattle.gg_cut.specs.Channels.{wires_of, capacity_of, machine_count}
-use Rattle.gg_cut.specs.Plan.{wire_at, channels_to, channels_from, signals_of, IsCutPart, IsBody, IsMachine, NeedsIn}
+use Rattle.gg_cut.specs.Machines.{machine_count}
+use Rattle.gg_cut.specs.Channels.{wires_of, capacity_of}
+use Rattle.gg_cut.specs.Plan.{wire_at, channels_to, channels_from, signals_of, givens_of, IsCutPart, IsBody, IsMachine, NeedsIn}
 use Rattle.gg_flat.specs.Tree.{IsTree, path_at}
 use Rattle.gg_plan.proofs.FaultlessLemmas.{capacity-sound, wires-given, wires-known}
 use Rattle.gg_plan.specs.Made.{IsCapacity, AreMachines, IsServed, IsServedBody, IsFit, AreTold, IsWired, AreWired, AreChannels}
@@ -36,13 +37,13 @@ module _ (design : Ordered) (listed : Listed) (wires : List Wire) (formed : IsWe
         once = cut.is.once;
         known = cut.is.outs;
         ins = cut.ins ∙ ap (signals_of wires) (sym to);
-        outs = cut.outs ∙ ap (signals_of wires) (sym from);
+        outs = cut.outs ∙ ap (givens_of wires) (sym from);
       }
 
   served-body : (body : Body) → IsBody design listed wires m body → IsServedBody wires body taken given
   served-body (Cut part) is = served part is.1
   served-body (Memory part) is = served part is.2
-  served-body Source is = tt
+  served-body (Source place) is = tt
   served-body Tray is = tt
 
 -- the needs of each machine can be computed
@@ -82,7 +83,7 @@ channels-made design whole capacity wires machines table channels same given tol
             consumer = is.consumer;
             bound = is.bound;
             ascending = subst (λ (l : List ℕ). AllPairs (λ a b. a < b) l) needs (with-some machines w.producer (given c known) (λ some. (told.each c some known).ascending));
-            needs = λ some. subst (λ (l : List ℕ). NeedsIn (get_or machines w.producer some).body (get_or machines w.producer some).ins w.signal l) needs (told.each c some known).needs;
+            needs = λ some. subst (λ (l : List ℕ). NeedsIn (get_or machines w.producer some).body (get_or machines w.producer some).ins w.given l) needs (told.each c some known).needs;
           };
     }
 

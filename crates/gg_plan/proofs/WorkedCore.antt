@@ -17,6 +17,7 @@ use Rattle.gg_order.specs.Design.{Ordered}
 use Rattle.gg_part.specs.Part.{IsPart}
 use Rattle.gg_part.specs.declared.part.Part.{Part}
 use Rattle.gg_partfile.specs.declared.request.Request.{Request}
+use Rattle.gg_partfile.specs.Request.{no_request}
 use Rattle.gg_cut.specs.declared.fault.CutFault.TheVariants.{UnknownUnit, Doubled, UnknownMemory, UnknownChannel, OutOfRange}
 use Rattle.gg_cut.specs.declared.plan.Body.TheVariants.{Cut, Tray}
 use Rattle.gg_cut.specs.declared.plan.Machine.{Machine}
@@ -28,7 +29,8 @@ use Rattle.gg_cut.specs.Channels.{wires_of, capacity_of}
 use Rattle.gg_cut.specs.Fault.{first_fault, fault_text}
 use Rattle.gg_cut.specs.Plan.{IsPlan, IsMachine, IsChannel, IsCutPart, wire_at}
 use Rattle.gg_cut.proofs.WorkedPair.{output, asks}
-use Rattle.gg_plan.proofs.WorkedTests.{ascending, names-below, is-part, no-memories, is-cut-part, has-needs}
+use Rattle.gg_plan.proofs.WorkedTests.{ascending, names-below, has-needs}
+use Rattle.gg_plan.proofs.WorkedParts.{is-part, no-memories, is-cut-part}
 
 abbrev nibble : Ty
 nibble = uint_type 4 (lit≤ tt) (lit≤ tt)
@@ -42,6 +44,7 @@ circuit =
       memories = [];
       ins = [];
       outs = 0 ∷ [];
+      clocks = 0;
     }
 
 abbrev pub tree : InstanceTree
@@ -49,11 +52,14 @@ tree =
     record {
       paths = [] ∷ codes "tile" ∷ codes "tile.core" ∷ [];
       instances =
-          record { parent = None; «module» = 2; first = 0; end = 3; ports = output 0 ∷ []; memories = [] }
-          ∷ record { parent = Some 0; «module» = 1; first = 1; end = 3; ports = output 1 ∷ []; memories = [] }
-          ∷ record { parent = Some 1; «module» = 0; first = 2; end = 3; ports = output 2 ∷ []; memories = [] } ∷ [];
+          record { parent = None; «module» = 2; first = 0; end = 3; ports = output 0 ∷ []; memories = []; clocks = [] }
+          ∷ record { parent = Some 0; «module» = 1; first = 1; end = 3; ports = output 1 ∷ []; memories = []; clocks = [] }
+          ∷ record { parent = Some 1; «module» = 0; first = 2; end = 3; ports = output 2 ∷ []; memories = []; clocks = [] } ∷ [];
       memory_paths = [];
       memories = [];
+      clocks = [];
+      register_clocks = [];
+      stops = [];
     }
 
 abbrev pub design : Ordered
@@ -83,6 +89,7 @@ hub =
             memories = [];
             ins = 0 ∷ [];
             outs = 2 ∷ [];
+            clocks = 0;
           };
       globals = 2 ∷ 1 ∷ 0 ∷ [];
       held = [];
@@ -101,6 +108,7 @@ core =
             memories = [];
             ins = [];
             outs = 0 ∷ [];
+            clocks = 0;
           };
       globals = 2 ∷ [];
       held = [];
@@ -120,10 +128,10 @@ core-part =
     tt refl refl refl
 
 hub-cut : IsCutPart design listed wires 0 hub
-hub-cut = is-cut-part design listed wires 0 hub hub-part refl refl refl refl refl refl (no-memories tree listed 0 refl) refl
+hub-cut = is-cut-part design listed wires 0 hub hub-part refl refl refl refl refl refl refl (no-memories tree listed 0 refl) refl
 
 core-cut : IsCutPart design listed wires 1 core
-core-cut = is-cut-part design listed wires 1 core core-part refl refl refl refl refl refl (no-memories tree listed 1 refl) refl
+core-cut = is-cut-part design listed wires 1 core core-part refl refl refl refl refl refl refl (no-memories tree listed 1 refl) refl
 
 abbrev pub machines : List Machine
 machines =
@@ -151,11 +159,11 @@ is-channel c any =
     (record { signal = refl; name = refl; type = refl; producer = refl; consumer = refl; bound = refl; ascending = ascending (0 ∷ []) refl; needs = λ other. has-needs hub (0 ∷ []) 0 (0 ∷ []) refl })
     c
 
-pub is-plan : IsPlan design request 2 (record { machines = machines; channels = channels })
-is-plan = record { machine_total = refl; channel_total = refl; machine = is-machine; channel = is-channel }
+pub is-plan : IsPlan design request 2 (record { machines = machines; channels = channels; listed = listed })
+is-plan = record { listed = refl; machine_total = refl; channel_total = refl; machine = is-machine; channel = is-channel }
 
 -- the plan for another default is another
-other-default : ¬ IsPlan design request 3 (record { machines = machines; channels = channels })
+other-default : ¬ IsPlan design request 3 (record { machines = machines; channels = channels; listed = listed })
 other-default is = let bound : 2 ≡ 3 = (is.channel 0 (record { signal = 0; name = []; ty = nibble; producer = 0; consumer = 0; capacity = 0; needs = [] }) (lit< tt)).bound in absurd (omega (arith, bound))
 
 -- ---- requests that are refused
@@ -173,13 +181,13 @@ nested = refl
 unknown-first : first_fault design (asks (codes "tile" ∷ codes "tile.core" ∷ codes "tile.cor" ∷ []) []) ≡ Some (UnknownUnit (codes "tile.cor"))
 unknown-first = refl
 
-no-memory : first_fault design (record { units = []; share = []; memories = codes "tile.m" ∷ []; capacity = [] }) ≡ Some (UnknownMemory (codes "tile.m"))
+no-memory : first_fault design (record no_request { units = []; share = []; memories = codes "tile.m" ∷ []; capacity = [] }) ≡ Some (UnknownMemory (codes "tile.m"))
 no-memory = refl
 
-no-channel : first_fault design (record { units = []; share = []; memories = []; capacity = (codes "oo", 1) ∷ [] }) ≡ Some (UnknownChannel (codes "oo"))
+no-channel : first_fault design (record no_request { units = []; share = []; memories = []; capacity = (codes "oo", 1) ∷ [] }) ≡ Some (UnknownChannel (codes "oo"))
 no-channel = refl
 
-no-room : first_fault design (record { units = []; share = []; memories = []; capacity = (codes "o", 0) ∷ [] }) ≡ Some (OutOfRange (codes "o") 0)
+no-room : first_fault design (record no_request { units = []; share = []; memories = []; capacity = (codes "o", 0) ∷ [] }) ≡ Some (OutOfRange (codes "o") 0)
 no-room = refl
 
 -- the texts of these faults

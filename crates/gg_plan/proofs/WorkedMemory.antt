@@ -21,6 +21,7 @@ use Rattle.gg_part.specs.Part.{IsPart, IsMemoryFrom, ReadsAmong}
 use Rattle.gg_part.specs.declared.part.Part.{Part}
 use Rattle.gg_bits.specs.declared.types.Ty.{Ty}
 use Rattle.gg_partfile.specs.declared.request.Request.{Request}
+use Rattle.gg_partfile.specs.Request.{no_request}
 use Rattle.gg_cut.specs.declared.plan.Body.TheVariants.{Cut, Memory, Source, Tray}
 use Rattle.gg_cut.specs.declared.plan.Machine.{Machine}
 use Rattle.gg_cut.specs.declared.plan.Channel.{Channel}
@@ -31,7 +32,8 @@ use Rattle.gg_cut.specs.Listed.{listed_of}
 use Rattle.gg_cut.specs.Channels.{wires_of, capacity_of}
 use Rattle.gg_cut.specs.Plan.{IsPlan, IsMachine, IsChannel, IsCutPart, HasMemory, memory_owner, wire_at}
 use Rattle.gg_cut.proofs.WorkedPair.{input, output}
-use Rattle.gg_plan.proofs.WorkedTests.{each-below, ascending, names-below, is-part, is-part-with, is-cut-part, has-needs, extra-need, lacks-need}
+use Rattle.gg_plan.proofs.WorkedTests.{each-below, ascending, names-below, has-needs, extra-need, lacks-need}
+use Rattle.gg_plan.proofs.WorkedParts.{is-part, is-part-with, is-cut-part}
 
 abbrev pub circuit : FlatCircuit
 circuit =
@@ -46,16 +48,19 @@ abbrev pub tree : InstanceTree
 tree =
     record {
       paths = [] ∷ [];
-      instances = record { parent = None; «module» = 0; first = 0; end = 18; ports = input 0 ∷ input 1 ∷ output 2 ∷ output 3 ∷ []; memories = 0 ∷ [] } ∷ [];
+      instances = record { parent = None; «module» = 0; first = 0; end = 18; ports = input 0 ∷ input 1 ∷ output 2 ∷ output 3 ∷ []; memories = 0 ∷ []; clocks = [] } ∷ [];
       memory_paths = codes "m" ∷ [];
-      memories = record { instance = 0; memory = 0; ports = codes "r" ∷ codes "s" ∷ codes "w" ∷ codes "x" ∷ [] } ∷ [];
+      memories = record { instance = 0; memory = 0; ports = codes "r" ∷ codes "s" ∷ codes "w" ∷ codes "x" ∷ []; clocks = [] } ∷ [];
+      clocks = [];
+      register_clocks = [];
+      stops = [];
     }
 
 abbrev pub design : Ordered
 design = record { circuit = circuit; tree = tree; order = ports_order }
 
 abbrev pub request : Request
-request = record { units = []; share = []; memories = codes "m" ∷ []; capacity = [] }
+request = record no_request { units = []; share = []; memories = codes "m" ∷ []; capacity = [] }
 
 abbrev pub listed : Listed
 listed = listed_of tree request
@@ -85,6 +90,7 @@ hub =
             memories = [];
             ins = 0 ∷ 1 ∷ 4 ∷ 7 ∷ [];
             outs = 2 ∷ 3 ∷ 5 ∷ 6 ∷ 8 ∷ 9 ∷ 10 ∷ 11 ∷ 12 ∷ 13 ∷ 14 ∷ 15 ∷ 16 ∷ 17 ∷ [];
+            clocks = 0;
           };
       globals = 0 ∷ 1 ∷ 4 ∷ 5 ∷ 6 ∷ 7 ∷ 8 ∷ 9 ∷ 10 ∷ 11 ∷ 12 ∷ 13 ∷ 14 ∷ 15 ∷ 16 ∷ 17 ∷ 2 ∷ 3 ∷ [];
       held = [];
@@ -117,6 +123,7 @@ memory =
                 ∷ [];
             ins = 0 ∷ 1 ∷ 3 ∷ 4 ∷ 6 ∷ 7 ∷ 8 ∷ 9 ∷ 10 ∷ 11 ∷ 12 ∷ 13 ∷ [];
             outs = 2 ∷ 5 ∷ [];
+            clocks = 0;
           };
       globals = 4 ∷ 5 ∷ 6 ∷ 7 ∷ 8 ∷ 9 ∷ 10 ∷ 11 ∷ 12 ∷ 13 ∷ 14 ∷ 15 ∷ 16 ∷ 17 ∷ [];
       held = [];
@@ -161,10 +168,10 @@ own-memories k = (
 )
 
 hub-cut : IsCutPart design listed wires 0 hub
-hub-cut = is-cut-part design listed wires 0 hub hub-part refl refl refl refl refl refl hub-memories refl
+hub-cut = is-cut-part design listed wires 0 hub hub-part refl refl refl refl refl refl refl hub-memories refl
 
 memory-cut : IsCutPart design listed wires 1 memory
-memory-cut = is-cut-part design listed wires 1 memory memory-part refl refl refl refl refl refl own-memories refl
+memory-cut = is-cut-part design listed wires 1 memory memory-part refl refl refl refl refl refl refl own-memories refl
 
 -- ---- the plan
 
@@ -178,8 +185,8 @@ abbrev pub machines : List Machine
 machines =
     record { name = codes "hub:"; host = 0; body = Cut hub; ins = hub_ins; outs = 2 ∷ 3 ∷ 5 ∷ 6 ∷ 8 ∷ 9 ∷ 10 ∷ 11 ∷ 12 ∷ 13 ∷ 14 ∷ 15 ∷ 16 ∷ 17 ∷ [] }
     ∷ record { name = codes "m"; host = 1; body = Memory memory; ins = memory_ins; outs = 4 ∷ 7 ∷ [] }
-    ∷ record { name = codes "in:a"; host = 2; body = Source; ins = []; outs = 0 ∷ [] }
-    ∷ record { name = codes "in:v"; host = 3; body = Source; ins = []; outs = 1 ∷ [] }
+    ∷ record { name = codes "in:a"; host = 2; body = Source 0; ins = []; outs = 0 ∷ [] }
+    ∷ record { name = codes "in:v"; host = 3; body = Source 1; ins = []; outs = 1 ∷ [] }
     ∷ record { name = codes "out:o0"; host = 4; body = Tray; ins = 16 ∷ []; outs = [] }
     ∷ record { name = codes "out:o1"; host = 5; body = Tray; ins = 17 ∷ []; outs = [] } ∷ []
 
@@ -210,7 +217,7 @@ channels =
     ∷ channel 3 (codes "o1") eight 0 5 (7 ∷ []) ∷ []
 
 abbrev pub plan : Plan
-plan = record { machines = machines; channels = channels }
+plan = record { machines = machines; channels = channels; listed = listed }
 
 is-machine : (m : ℕ) (any : Machine) → m < 6 → IsMachine design request listed wires m (slice_index_or machines m any)
 is-machine m any =
@@ -219,9 +226,9 @@ is-machine m any =
       (
         record { name = refl; host = refl; body = (lit≤ tt, lit< tt, memory-cut); ins = refl; outs = refl },
         (
-          record { name = refl; host = refl; body = (lit≤ tt, lit< tt); ins = refl; outs = refl },
+          record { name = refl; host = refl; body = (lit< tt, refl); ins = refl; outs = refl },
           (
-            record { name = refl; host = refl; body = (lit≤ tt, lit< tt); ins = refl; outs = refl },
+            record { name = refl; host = refl; body = (lit< tt, refl); ins = refl; outs = refl },
             (
               record { name = refl; host = refl; body = lit≤ tt; ins = refl; outs = refl },
               (record { name = refl; host = refl; body = lit≤ tt; ins = refl; outs = refl }, tt),
@@ -287,30 +294,30 @@ is-channel c any =
     ) c
 
 pub is-plan : IsPlan design request 2 plan
-is-plan = record { machine_total = refl; channel_total = refl; machine = is-machine; channel = is-channel }
+is-plan = record { listed = refl; machine_total = refl; channel_total = refl; machine = is-machine; channel = is-channel }
 
 -- ---- what is no plan of the cut
 
 abbrev any_machine : Machine
-any_machine = record { name = []; host = 0; body = Source; ins = []; outs = [] }
+any_machine = record { name = []; host = 0; body = Tray; ins = []; outs = [] }
 
 abbrev any_channel : Channel
 any_channel = channel 0 [] eight 0 0 []
 
 -- a reader's data needs its enable too, and nothing of the other reader or of a writer
-without-enable : ¬ IsPlan design request 2 (record { machines = machines; channels = set channels 4 (channel 6 (codes "m.r.data") eight 1 0 (2 ∷ [])) })
+without-enable : ¬ IsPlan design request 2 (record { machines = machines; channels = set channels 4 (channel 6 (codes "m.r.data") eight 1 0 (2 ∷ [])); listed = listed })
 without-enable is = lacks-need memory memory_ins 2 (2 ∷ []) 3 refl refl refl ((is.channel 4 any_channel (lit< tt)).needs any_machine 2 (lit< tt) refl)
 
-with-writer : ¬ IsPlan design request 2 (record { machines = machines; channels = set channels 4 (channel 6 (codes "m.r.data") eight 1 0 (2 ∷ 3 ∷ 8 ∷ [])) })
+with-writer : ¬ IsPlan design request 2 (record { machines = machines; channels = set channels 4 (channel 6 (codes "m.r.data") eight 1 0 (2 ∷ 3 ∷ 8 ∷ [])); listed = listed })
 with-writer is = extra-need memory memory_ins 2 (2 ∷ 3 ∷ 8 ∷ []) 8 refl refl refl ((is.channel 4 any_channel (lit< tt)).needs any_machine 2 (lit< tt) refl)
 
 -- a listed memory's machine isn't a `Cut`, as the hub's is
-as-cut : ¬ IsPlan design request 2 (record { machines = set machines 1 (record { name = codes "m"; host = 1; body = Cut memory; ins = memory_ins; outs = 4 ∷ 7 ∷ [] }); channels = channels })
+as-cut : ¬ IsPlan design request 2 (record { machines = set machines 1 (record { name = codes "m"; host = 1; body = Cut memory; ins = memory_ins; outs = 4 ∷ 7 ∷ [] }); channels = channels; listed = listed })
 as-cut is = let body = (is.machine 1 any_machine (lit< tt)).body in absurd (omega (arith, body.0))
 
 -- the hub doesn't have the memory
 abbrev keeping : Part
 keeping = record { piece = record hub.piece { memories = memory.piece.memories }; globals = hub.globals; held = []; memories = 0 ∷ [] }
 
-hub-keeps : ¬ IsPlan design request 2 (record { machines = set machines 0 (record { name = codes "hub:"; host = 0; body = Cut keeping; ins = hub_ins; outs = 2 ∷ 3 ∷ 5 ∷ 6 ∷ 8 ∷ 9 ∷ 10 ∷ 11 ∷ 12 ∷ 13 ∷ 14 ∷ 15 ∷ 16 ∷ 17 ∷ [] }); channels = channels })
+hub-keeps : ¬ IsPlan design request 2 (record { machines = set machines 0 (record { name = codes "hub:"; host = 0; body = Cut keeping; ins = hub_ins; outs = 2 ∷ 3 ∷ 5 ∷ 6 ∷ 8 ∷ 9 ∷ 10 ∷ 11 ∷ 12 ∷ 13 ∷ 14 ∷ 15 ∷ 16 ∷ 17 ∷ [] }); channels = channels; listed = listed })
 hub-keeps is = let body = (is.machine 0 any_machine (lit< tt)).body in let at = (hub-memories 0).1 ((body.1.memories 0).0 (0, lit< tt, refl)) in absurd (omega (arith, at.1))

@@ -25,7 +25,8 @@ use Rattle.gg_cut.specs.Listed.{listed_of}
 use Rattle.gg_cut.specs.Channels.{wires_of, capacity_of}
 use Rattle.gg_cut.specs.Plan.{IsPlan, IsMachine, IsChannel, IsCutPart, wire_at}
 use Rattle.gg_cut.proofs.WorkedPair.{input, output, asks}
-use Rattle.gg_plan.proofs.WorkedTests.{ascending, names-below, is-part, no-memories, is-cut-part, has-needs, lacks-need, foreign-signal, lost-signal}
+use Rattle.gg_plan.proofs.WorkedTests.{ascending, names-below, has-needs, lacks-need, foreign-signal, lost-signal}
+use Rattle.gg_plan.proofs.WorkedParts.{is-part, no-memories, is-cut-part}
 
 abbrev pub circuit : FlatCircuit
 circuit =
@@ -36,6 +37,7 @@ circuit =
       memories = [];
       ins = 0 ∷ [];
       outs = 1 ∷ [];
+      clocks = 0;
     }
 
 abbrev pub tree : InstanceTree
@@ -43,11 +45,14 @@ tree =
     record {
       paths = [] ∷ codes "u" ∷ codes "u.in" ∷ [];
       instances =
-          record { parent = None; «module» = 2; first = 0; end = 6; ports = input 0 ∷ output 1 ∷ []; memories = [] }
-          ∷ record { parent = Some 0; «module» = 1; first = 2; end = 6; ports = input 2 ∷ output 3 ∷ []; memories = [] }
-          ∷ record { parent = Some 1; «module» = 0; first = 4; end = 6; ports = input 4 ∷ output 5 ∷ []; memories = [] } ∷ [];
+          record { parent = None; «module» = 2; first = 0; end = 6; ports = input 0 ∷ output 1 ∷ []; memories = []; clocks = [] }
+          ∷ record { parent = Some 0; «module» = 1; first = 2; end = 6; ports = input 2 ∷ output 3 ∷ []; memories = []; clocks = [] }
+          ∷ record { parent = Some 1; «module» = 0; first = 4; end = 6; ports = input 4 ∷ output 5 ∷ []; memories = []; clocks = [] } ∷ [];
       memory_paths = [];
       memories = [];
+      clocks = [];
+      register_clocks = [];
+      stops = [];
     }
 
 abbrev pub design : Ordered
@@ -81,6 +86,7 @@ hub =
             memories = [];
             ins = 0 ∷ 2 ∷ [];
             outs = 1 ∷ 3 ∷ [];
+            clocks = 0;
           };
       globals = 0 ∷ 2 ∷ 3 ∷ 1 ∷ [];
       held = [];
@@ -100,6 +106,7 @@ unit =
             memories = [];
             ins = 0 ∷ [];
             outs = 3 ∷ [];
+            clocks = 0;
           };
       globals = 2 ∷ 4 ∷ 5 ∷ 3 ∷ [];
       held = [];
@@ -119,16 +126,16 @@ unit-part =
     ((lit< tt, refl), tt) refl refl refl
 
 hub-cut : IsCutPart design listed wires 0 hub
-hub-cut = is-cut-part design listed wires 0 hub hub-part refl refl refl refl refl refl (no-memories tree listed 0 refl) refl
+hub-cut = is-cut-part design listed wires 0 hub hub-part refl refl refl refl refl refl refl (no-memories tree listed 0 refl) refl
 
 unit-cut : IsCutPart design listed wires 1 unit
-unit-cut = is-cut-part design listed wires 1 unit unit-part refl refl refl refl refl refl (no-memories tree listed 1 refl) refl
+unit-cut = is-cut-part design listed wires 1 unit unit-part refl refl refl refl refl refl refl (no-memories tree listed 1 refl) refl
 
 abbrev machines : List Machine
 machines =
     record { name = codes "hub:"; host = 0; body = Cut hub; ins = 0 ∷ 2 ∷ []; outs = 1 ∷ 3 ∷ [] }
     ∷ record { name = codes "u"; host = 1; body = Cut unit; ins = 1 ∷ []; outs = 2 ∷ [] }
-    ∷ record { name = codes "in:x"; host = 2; body = Source; ins = []; outs = 0 ∷ [] }
+    ∷ record { name = codes "in:x"; host = 2; body = Source 0; ins = []; outs = 0 ∷ [] }
     ∷ record { name = codes "out:q"; host = 3; body = Tray; ins = 3 ∷ []; outs = [] } ∷ []
 
 abbrev channels : List Channel
@@ -143,7 +150,7 @@ is-machine m any =
     four (λ k. IsMachine design outer listed wires k (slice_index_or machines k any))
     (record { name = refl; host = refl; body = (lit< tt, hub-cut); ins = refl; outs = refl })
     (record { name = refl; host = refl; body = (lit< tt, unit-cut); ins = refl; outs = refl })
-    (record { name = refl; host = refl; body = (lit≤ tt, lit< tt); ins = refl; outs = refl })
+    (record { name = refl; host = refl; body = (lit< tt, refl); ins = refl; outs = refl })
     (record { name = refl; host = refl; body = lit≤ tt; ins = refl; outs = refl })
     m
 
@@ -156,19 +163,19 @@ is-channel c any =
     (record { signal = refl; name = refl; type = refl; producer = refl; consumer = refl; bound = refl; ascending = ascending (2 ∷ []) refl; needs = λ other. has-needs hub (0 ∷ 2 ∷ []) 1 (2 ∷ []) refl })
     c
 
-pub is-plan : IsPlan design outer 2 (record { machines = machines; channels = channels })
-is-plan = record { machine_total = refl; channel_total = refl; machine = is-machine; channel = is-channel }
+pub is-plan : IsPlan design outer 2 (record { machines = machines; channels = channels; listed = listed })
+is-plan = record { listed = refl; machine_total = refl; channel_total = refl; machine = is-machine; channel = is-channel }
 
 -- ---- what is no plan of the cut
 
 abbrev any_machine : Machine
-any_machine = record { name = []; host = 0; body = Source; ins = []; outs = [] }
+any_machine = record { name = []; host = 0; body = Tray; ins = []; outs = [] }
 
 abbrev any_channel : Channel
 any_channel = channel 0 [] 0 0 []
 
 -- the path from `u.q` to `u.x` goes through `in`
-missed-path : ¬ IsPlan design outer 2 (record { machines = machines; channels = set channels 2 (channel 3 (codes "u.q") 1 0 []) })
+missed-path : ¬ IsPlan design outer 2 (record { machines = machines; channels = set channels 2 (channel 3 (codes "u.q") 1 0 []); listed = listed })
 missed-path is = lacks-need unit (1 ∷ []) 3 [] 1 refl refl refl ((is.channel 2 any_channel (lit< tt)).needs any_machine 3 (lit< tt) refl)
 
 -- A hub that has `in.a` besides, with its driver.
@@ -186,6 +193,7 @@ greedy =
             memories = [];
             ins = 0 ∷ 3 ∷ [];
             outs = 1 ∷ 4 ∷ [];
+            clocks = 0;
           };
       globals = 0 ∷ 2 ∷ 4 ∷ 3 ∷ 1 ∷ [];
       held = [];
@@ -199,7 +207,7 @@ greedy-part =
     ((lit< tt, refl), ((lit< tt, refl), tt)) refl refl refl
 
 -- it is a part, but no part of this cut: `in.a` belongs to `u`
-inner-owned : ¬ IsPlan design outer 2 (record { machines = set machines 0 (record { name = codes "hub:"; host = 0; body = Cut greedy; ins = 0 ∷ 2 ∷ []; outs = 1 ∷ 3 ∷ [] }); channels = channels })
+inner-owned : ¬ IsPlan design outer 2 (record { machines = set machines 0 (record { name = codes "hub:"; host = 0; body = Cut greedy; ins = 0 ∷ 2 ∷ []; outs = 1 ∷ 3 ∷ [] }); channels = channels; listed = listed })
 inner-owned is = foreign-signal circuit tree listed wires 0 greedy.globals 4 refl refl (is.machine 0 any_machine (lit< tt)).body.1.signals
 
 -- a unit without `in.a`, which gets `in.b` from outside
@@ -215,6 +223,7 @@ hollow =
             memories = [];
             ins = 0 ∷ 1 ∷ [];
             outs = 2 ∷ [];
+            clocks = 0;
           };
       globals = 2 ∷ 5 ∷ 3 ∷ [];
       held = [];
@@ -227,7 +236,7 @@ hollow-part =
     ((lit< tt, refl), ((lit< tt, refl), ((names-below 3 (node eight (Ref 1) ∷ []) refl, refl), tt)))
     ((lit< tt, refl), ((lit< tt, refl), tt)) refl refl refl
 
-inner-lost : ¬ IsPlan design outer 2 (record { machines = set machines 1 (record { name = codes "u"; host = 1; body = Cut hollow; ins = 1 ∷ []; outs = 2 ∷ [] }); channels = channels })
+inner-lost : ¬ IsPlan design outer 2 (record { machines = set machines 1 (record { name = codes "u"; host = 1; body = Cut hollow; ins = 1 ∷ []; outs = 2 ∷ [] }); channels = channels; listed = listed })
 inner-lost is = lost-signal circuit tree listed wires 1 hollow.globals 4 (lit< tt) refl refl (is.machine 1 any_machine (lit< tt)).body.1.signals
 
 -- ---- `in` as a unit: the signals of `u` belong to the hub
@@ -254,6 +263,7 @@ around =
             memories = [];
             ins = 0 ∷ 3 ∷ [];
             outs = 2 ∷ 5 ∷ [];
+            clocks = 0;
           };
       globals = 0 ∷ 2 ∷ 4 ∷ 5 ∷ 3 ∷ 1 ∷ [];
       held = [];
@@ -272,6 +282,7 @@ within =
             memories = [];
             ins = 0 ∷ [];
             outs = 1 ∷ [];
+            clocks = 0;
           };
       globals = 4 ∷ 5 ∷ [];
       held = [];
@@ -291,16 +302,16 @@ within-part =
     ((lit< tt, refl), tt) refl refl refl
 
 around-cut : IsCutPart design lower_listed lower_wires 0 around
-around-cut = is-cut-part design lower_listed lower_wires 0 around around-part refl refl refl refl refl refl (no-memories tree lower_listed 0 refl) refl
+around-cut = is-cut-part design lower_listed lower_wires 0 around around-part refl refl refl refl refl refl refl (no-memories tree lower_listed 0 refl) refl
 
 within-cut : IsCutPart design lower_listed lower_wires 1 within
-within-cut = is-cut-part design lower_listed lower_wires 1 within within-part refl refl refl refl refl refl (no-memories tree lower_listed 1 refl) refl
+within-cut = is-cut-part design lower_listed lower_wires 1 within within-part refl refl refl refl refl refl refl (no-memories tree lower_listed 1 refl) refl
 
 abbrev lower_machines : List Machine
 lower_machines =
     record { name = codes "hub:"; host = 0; body = Cut around; ins = 0 ∷ 2 ∷ []; outs = 1 ∷ 3 ∷ [] }
     ∷ record { name = codes "u.in"; host = 1; body = Cut within; ins = 1 ∷ []; outs = 2 ∷ [] }
-    ∷ record { name = codes "in:x"; host = 2; body = Source; ins = []; outs = 0 ∷ [] }
+    ∷ record { name = codes "in:x"; host = 2; body = Source 0; ins = []; outs = 0 ∷ [] }
     ∷ record { name = codes "out:q"; host = 3; body = Tray; ins = 3 ∷ []; outs = [] } ∷ []
 
 abbrev lower_channels : List Channel
@@ -315,7 +326,7 @@ is-lower-machine m any =
     four (λ k. IsMachine design lower lower_listed lower_wires k (slice_index_or lower_machines k any))
     (record { name = refl; host = refl; body = (lit< tt, around-cut); ins = refl; outs = refl })
     (record { name = refl; host = refl; body = (lit< tt, within-cut); ins = refl; outs = refl })
-    (record { name = refl; host = refl; body = (lit≤ tt, lit< tt); ins = refl; outs = refl })
+    (record { name = refl; host = refl; body = (lit< tt, refl); ins = refl; outs = refl })
     (record { name = refl; host = refl; body = lit≤ tt; ins = refl; outs = refl })
     m
 
@@ -329,5 +340,5 @@ is-lower-channel c any =
     (record { signal = refl; name = refl; type = refl; producer = refl; consumer = refl; bound = refl; ascending = ascending (2 ∷ []) refl; needs = λ other. has-needs around (0 ∷ 2 ∷ []) 1 (2 ∷ []) refl })
     c
 
-pub is-lower-plan : IsPlan design lower 2 (record { machines = lower_machines; channels = lower_channels })
-is-lower-plan = record { machine_total = refl; channel_total = refl; machine = is-lower-machine; channel = is-lower-channel }
+pub is-lower-plan : IsPlan design lower 2 (record { machines = lower_machines; channels = lower_channels; listed = lower_listed })
+is-lower-plan = record { listed = refl; machine_total = refl; channel_total = refl; machine = is-lower-machine; channel = is-lower-channel }

@@ -15,6 +15,7 @@ use Rattle.gg_order.specs.Design.{Ordered}
 use Rattle.gg_part.specs.Part.{IsPart}
 use Rattle.gg_part.specs.declared.part.Part.{Part}
 use Rattle.gg_partfile.specs.declared.request.Request.{Request}
+use Rattle.gg_partfile.specs.Request.{no_request}
 use Rattle.gg_cut.specs.declared.fault.CutFault.TheVariants.{UnknownUnit, Doubled}
 use Rattle.gg_cut.specs.declared.plan.Body.TheVariants.{Cut, Source, Tray}
 use Rattle.gg_cut.specs.declared.plan.Machine.{Machine}
@@ -26,7 +27,8 @@ use Rattle.gg_cut.specs.Hosts.{host_of}
 use Rattle.gg_cut.specs.Fault.{Tells, first_fault}
 use Rattle.gg_cut.specs.Plan.{IsPlan, IsMachine, IsChannel, IsCutPart, wire_at}
 use Rattle.gg_cut.proofs.WorkedPair.{circuit, tree, asks, both_units, listed}
-use Rattle.gg_plan.proofs.WorkedTests.{Upto, each-below, ascending, names-below, is-part, no-memories, is-cut-part, has-needs, extra-need, lacks-need}
+use Rattle.gg_plan.proofs.WorkedTests.{Upto, each-below, ascending, names-below, has-needs, extra-need, lacks-need}
+use Rattle.gg_plan.proofs.WorkedParts.{is-part, no-memories, is-cut-part}
 
 abbrev pub design : Ordered
 design = record { circuit = circuit; tree = tree; order = 0 ∷ 2 ∷ 4 ∷ 6 ∷ 7 ∷ 3 ∷ 5 ∷ 1 ∷ [] }
@@ -47,6 +49,7 @@ hub =
             memories = [];
             ins = 0 ∷ 2 ∷ 6 ∷ 4 ∷ [];
             outs = 1 ∷ 5 ∷ 3 ∷ 7 ∷ [];
+            clocks = 0;
           };
       globals = 0 ∷ 2 ∷ 4 ∷ 6 ∷ 7 ∷ 3 ∷ 5 ∷ 1 ∷ [];
       held = [];
@@ -66,6 +69,7 @@ part_a =
             memories = [];
             ins = 0 ∷ 1 ∷ [];
             outs = 2 ∷ 3 ∷ [];
+            clocks = 0;
           };
       globals = 2 ∷ 3 ∷ 4 ∷ 5 ∷ [];
       held = [];
@@ -85,6 +89,7 @@ part_b =
             memories = [];
             ins = 0 ∷ [];
             outs = 1 ∷ [];
+            clocks = 0;
           };
       globals = 6 ∷ 7 ∷ [];
       held = [];
@@ -98,7 +103,7 @@ machines =
     record { name = codes "hub:"; host = 0; body = Cut hub; ins = 0 ∷ 3 ∷ 4 ∷ 6 ∷ []; outs = 1 ∷ 2 ∷ 5 ∷ 7 ∷ [] }
     ∷ record { name = codes "a"; host = 1; body = Cut part_a; ins = 1 ∷ 2 ∷ []; outs = 3 ∷ 4 ∷ [] }
     ∷ record { name = codes "b"; host = 2; body = Cut part_b; ins = 5 ∷ []; outs = 6 ∷ [] }
-    ∷ record { name = codes "in:x"; host = 3; body = Source; ins = []; outs = 0 ∷ [] }
+    ∷ record { name = codes "in:x"; host = 3; body = Source 0; ins = []; outs = 0 ∷ [] }
     ∷ record { name = codes "out:q"; host = 4; body = Tray; ins = 7 ∷ []; outs = [] } ∷ []
 
 -- a channel that carries eight bits
@@ -119,7 +124,7 @@ channels n =
     ∷ channel 1 (codes "q") 0 4 1 (4 ∷ []) ∷ []
 
 abbrev pub plan : Plan
-plan = record { machines = machines; channels = channels 1 }
+plan = record { machines = machines; channels = channels 1; listed = listed }
 
 -- ---- it is a plan of the cut
 
@@ -146,17 +151,17 @@ abbrev pub wires : List Wire
 wires = wires_of circuit tree listed
 
 hub-cut : IsCutPart design listed wires 0 hub
-hub-cut = is-cut-part design listed wires 0 hub hub-part refl refl refl refl refl refl (no-memories tree listed 0 refl) refl
+hub-cut = is-cut-part design listed wires 0 hub hub-part refl refl refl refl refl refl refl (no-memories tree listed 0 refl) refl
 
 a-cut : IsCutPart design listed wires 1 part_a
-a-cut = is-cut-part design listed wires 1 part_a a-part refl refl refl refl refl refl (no-memories tree listed 1 refl) refl
+a-cut = is-cut-part design listed wires 1 part_a a-part refl refl refl refl refl refl refl (no-memories tree listed 1 refl) refl
 
 b-cut : IsCutPart design listed wires 2 part_b
-b-cut = is-cut-part design listed wires 2 part_b b-part refl refl refl refl refl refl (no-memories tree listed 2 refl) refl
+b-cut = is-cut-part design listed wires 2 part_b b-part refl refl refl refl refl refl refl (no-memories tree listed 2 refl) refl
 
 -- a request for `a` and `b`, with these lists of shared hosts and these capacities
 abbrev pub asked : List (List (List ℕ)) → List (List ℕ × ℕ) → Request
-asked share capacity = record { units = codes "a" ∷ codes "b" ∷ []; share = share; memories = []; capacity = capacity }
+asked share capacity = record no_request { units = codes "a" ∷ codes "b" ∷ []; share = share; memories = []; capacity = capacity }
 
 -- for all lists of `share` by which `a` and `b` have hosts of their own
 module _ (share : List (List (List ℕ))) (hosts : Upto (λ m. host_of (codes "a" ∷ codes "b" ∷ []) share m ≡ m) 5) (capacity : List (List ℕ × ℕ)) where
@@ -169,7 +174,7 @@ module _ (share : List (List (List ℕ))) (hosts : Upto (λ m. host_of (codes "a
       (record { name = refl; host = host 0 (lit< tt); body = (lit< tt, hub-cut); ins = refl; outs = refl })
       (record { name = refl; host = host 1 (lit< tt); body = (lit< tt, a-cut); ins = refl; outs = refl })
       (record { name = refl; host = host 2 (lit< tt); body = (lit< tt, b-cut); ins = refl; outs = refl })
-      (record { name = refl; host = host 3 (lit< tt); body = (lit≤ tt, lit< tt); ins = refl; outs = refl })
+      (record { name = refl; host = host 3 (lit< tt); body = (lit< tt, refl); ins = refl; outs = refl })
       (record { name = refl; host = host 4 (lit< tt); body = lit≤ tt; ins = refl; outs = refl })
       m
 
@@ -205,12 +210,13 @@ is-channel capacity n b c any =
     ) c
 
 pub is-plan : IsPlan design both_units 1 plan
-is-plan = record { machine_total = refl; channel_total = refl; machine = is-machine [] (refl, (refl, (refl, (refl, (refl, tt))))) []; channel = is-channel (capacity_of [] 1) 1 (refl, refl, refl, refl, refl, refl, refl, refl) }
+is-plan = record { listed = refl; machine_total = refl; channel_total = refl; machine = is-machine [] (refl, (refl, (refl, (refl, (refl, tt))))) []; channel = is-channel (capacity_of [] 1) 1 (refl, refl, refl, refl, refl, refl, refl, refl) }
 
 -- a capacity of the file takes the place of the default
-of-the-file : IsPlan design (asked [] ((codes "a.x", 7) ∷ [])) 1 (record { machines = machines; channels = channels 7 })
+of-the-file : IsPlan design (asked [] ((codes "a.x", 7) ∷ [])) 1 (record { machines = machines; channels = channels 7; listed = listed })
 of-the-file =
     record {
+      listed = refl;
       machine_total = refl;
       channel_total = refl;
       machine = is-machine [] (refl, (refl, (refl, (refl, (refl, tt))))) ((codes "a.x", 7) ∷ []);
@@ -222,12 +228,12 @@ abbrev b_first : List (List (List ℕ))
 b_first = (codes "b" ∷ []) ∷ (codes "a" ∷ []) ∷ []
 
 by-machines : IsPlan design (asked b_first []) 1 plan
-by-machines = record { machine_total = refl; channel_total = refl; machine = is-machine b_first (refl, (refl, (refl, (refl, (refl, tt))))) []; channel = is-channel (capacity_of [] 1) 1 (refl, refl, refl, refl, refl, refl, refl, refl) }
+by-machines = record { listed = refl; machine_total = refl; channel_total = refl; machine = is-machine b_first (refl, (refl, (refl, (refl, (refl, tt))))) []; channel = is-channel (capacity_of [] 1) 1 (refl, refl, refl, refl, refl, refl, refl, refl) }
 
 -- ---- what is no plan of the cut
 
 abbrev any_machine : Machine
-any_machine = record { name = []; host = 0; body = Source; ins = []; outs = [] }
+any_machine = record { name = []; host = 0; body = Tray; ins = []; outs = [] }
 
 abbrev any_channel : Channel
 any_channel = channel 0 [] 0 0 0 []
@@ -244,6 +250,7 @@ in_share_order =
           set (set machines 1 (record { name = codes "a"; host = 2; body = Cut part_a; ins = 1 ∷ 2 ∷ []; outs = 3 ∷ 4 ∷ [] }))
           2 (record { name = codes "b"; host = 1; body = Cut part_b; ins = 5 ∷ []; outs = 6 ∷ [] });
       channels = channels 1;
+      listed = listed;
     }
 
 share-order : ¬ IsPlan design (asked b_first []) 1 in_share_order
@@ -251,7 +258,7 @@ share-order is = let host : 2 ≡ 1 = (is.machine 1 any_machine (lit< tt)).host 
 
 -- a plan in which a channel has other needs
 abbrev with_needs : ℕ → Channel → Plan
-with_needs c other = record { machines = machines; channels = set (channels 1) c other }
+with_needs c other = record { machines = machines; channels = set (channels 1) c other; listed = listed }
 
 -- `a.p` needs just one of the two inputs of `a`
 all-inputs : ¬ IsPlan design both_units 1 (with_needs 3 (channel 4 (codes "a.p") 1 0 1 (1 ∷ 2 ∷ [])))
@@ -283,6 +290,7 @@ given_p =
             memories = [];
             ins = 0 ∷ 1 ∷ 2 ∷ [];
             outs = 2 ∷ 3 ∷ [];
+            clocks = 0;
           };
       globals = 2 ∷ 3 ∷ 4 ∷ 5 ∷ [];
       held = [];
@@ -296,11 +304,11 @@ given-part =
     ((lit< tt, refl), ((lit< tt, refl), ((lit< tt, refl), ((names-below 4 (node eight (Ref 0) ∷ node eight (Ref 1) ∷ node eight (Two Xor 0 1) ∷ []) refl, refl), tt))))
     ((lit< tt, refl), ((lit< tt, refl), ((lit< tt, refl), tt))) refl refl refl
 
-out-taken : ¬ IsPlan design both_units 1 (record { machines = set machines 1 (record { name = codes "a"; host = 1; body = Cut given_p; ins = 1 ∷ 2 ∷ []; outs = 3 ∷ 4 ∷ [] }); channels = channels 1 })
+out-taken : ¬ IsPlan design both_units 1 (record { machines = set machines 1 (record { name = codes "a"; host = 1; body = Cut given_p; ins = 1 ∷ 2 ∷ []; outs = 3 ∷ 4 ∷ [] }); channels = channels 1; listed = listed })
 out-taken is = let body = (is.machine 1 any_machine (lit< tt)).body in let count : 3 ≡ 2 = ap (λ (l : List ℕ). length l) body.1.ins in absurd (omega (arith, count))
 
 -- nor with the out-channel among the in-channels
-out-channel-taken : ¬ IsPlan design both_units 1 (record { machines = set machines 1 (record { name = codes "a"; host = 1; body = Cut given_p; ins = 1 ∷ 2 ∷ 3 ∷ []; outs = 3 ∷ 4 ∷ [] }); channels = channels 1 })
+out-channel-taken : ¬ IsPlan design both_units 1 (record { machines = set machines 1 (record { name = codes "a"; host = 1; body = Cut given_p; ins = 1 ∷ 2 ∷ 3 ∷ []; outs = 3 ∷ 4 ∷ [] }); channels = channels 1; listed = listed })
 out-channel-taken is = let count : 3 ≡ 2 = ap (λ (l : List ℕ). length l) (is.machine 1 any_machine (lit< tt)).ins in absurd (omega (arith, count))
 
 -- ---- an entry that names nothing is reported before one that stands twice

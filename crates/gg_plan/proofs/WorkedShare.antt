@@ -19,6 +19,7 @@ use Rattle.gg_flat.proofs.WorkedMemories.{signal, copy}
 use Rattle.gg_flat.proofs.WorkedForms.{only}
 use Rattle.gg_order.specs.Design.{Ordered}
 use Rattle.gg_part.specs.Part.{IsPart, IsRegisterFrom}
+use Rattle.gg_part.specs.Building.{AreHeld}
 use Rattle.gg_part.specs.declared.part.Part.{Part}
 use Rattle.gg_partfile.specs.declared.request.Request.{Request}
 use Rattle.gg_cut.specs.declared.plan.Body.TheVariants.{Cut, Source, Tray}
@@ -30,7 +31,8 @@ use Rattle.gg_cut.specs.Listed.{listed_of}
 use Rattle.gg_cut.specs.Channels.{wires_of, capacity_of}
 use Rattle.gg_cut.specs.Plan.{IsPlan, IsMachine, IsChannel, IsCutPart, wire_at}
 use Rattle.gg_cut.proofs.WorkedPair.{input, output, asks}
-use Rattle.gg_plan.proofs.WorkedTests.{each-below, ascending, names-below, is-part, is-part-with, no-memories, is-cut-part, has-needs, extra-need}
+use Rattle.gg_plan.proofs.WorkedTests.{each-below, ascending, names-below, has-needs, extra-need}
+use Rattle.gg_plan.proofs.WorkedParts.{is-part, is-part-with, no-memories, is-cut-part, idle-register}
 
 -- a register that adds signal a up, and is itself signal r
 abbrev sum_of : ℕ → ℕ → List Node
@@ -51,6 +53,7 @@ circuit =
       memories = [];
       ins = 0 ∷ [];
       outs = 1 ∷ 2 ∷ [];
+      clocks = 0;
     }
 
 abbrev pub tree : InstanceTree
@@ -58,11 +61,14 @@ tree =
     record {
       paths = [] ∷ codes "u" ∷ codes "v" ∷ [];
       instances =
-          record { parent = None; «module» = 1; first = 0; end = 9; ports = input 0 ∷ output 1 ∷ output 2 ∷ []; memories = [] }
-          ∷ record { parent = Some 0; «module» = 0; first = 3; end = 6; ports = input 3 ∷ output 4 ∷ []; memories = [] }
-          ∷ record { parent = Some 0; «module» = 0; first = 6; end = 9; ports = input 6 ∷ output 7 ∷ []; memories = [] } ∷ [];
+          record { parent = None; «module» = 1; first = 0; end = 9; ports = input 0 ∷ output 1 ∷ output 2 ∷ []; memories = []; clocks = [] }
+          ∷ record { parent = Some 0; «module» = 0; first = 3; end = 6; ports = input 3 ∷ output 4 ∷ []; memories = []; clocks = [] }
+          ∷ record { parent = Some 0; «module» = 0; first = 6; end = 9; ports = input 6 ∷ output 7 ∷ []; memories = []; clocks = [] } ∷ [];
       memory_paths = [];
       memories = [];
+      clocks = [];
+      register_clocks = [];
+      stops = [];
     }
 
 abbrev pub design : Ordered
@@ -93,6 +99,7 @@ hub =
             memories = [];
             ins = 0 ∷ 1 ∷ 3 ∷ [];
             outs = 2 ∷ 4 ∷ 5 ∷ 6 ∷ [];
+            clocks = 0;
           };
       globals = 0 ∷ 4 ∷ 3 ∷ 7 ∷ 6 ∷ 1 ∷ 2 ∷ [];
       held = [];
@@ -112,6 +119,7 @@ part_u =
             memories = [];
             ins = 2 ∷ [];
             outs = 1 ∷ [];
+            clocks = 0;
           };
       globals = 5 ∷ 4 ∷ 3 ∷ [];
       held = 0 ∷ [];
@@ -130,6 +138,7 @@ part_v =
             memories = [];
             ins = 2 ∷ [];
             outs = 1 ∷ [];
+            clocks = 0;
           };
       globals = 8 ∷ 7 ∷ 6 ∷ [];
       held = 1 ∷ [];
@@ -171,13 +180,13 @@ v-part =
     ((lit< tt, refl), tt) refl refl v-register refl refl (λ m lt. absurd (omega arith))
 
 hub-cut : IsCutPart design listed wires 0 hub
-hub-cut = is-cut-part design listed wires 0 hub hub-part refl refl refl refl refl refl (no-memories tree listed 0 refl) refl
+hub-cut = is-cut-part design listed wires 0 hub hub-part refl refl refl refl refl refl refl (no-memories tree listed 0 refl) refl
 
 u-cut : IsCutPart design listed wires 1 part_u
-u-cut = is-cut-part design listed wires 1 part_u u-part refl refl refl refl refl refl (no-memories tree listed 1 refl) refl
+u-cut = is-cut-part design listed wires 1 part_u u-part refl refl refl refl refl refl refl (no-memories tree listed 1 refl) refl
 
 v-cut : IsCutPart design listed wires 2 part_v
-v-cut = is-cut-part design listed wires 2 part_v v-part refl refl refl refl refl refl (no-memories tree listed 2 refl) refl
+v-cut = is-cut-part design listed wires 2 part_v v-part refl refl refl refl refl refl refl (no-memories tree listed 2 refl) refl
 
 -- ---- the plan
 
@@ -187,7 +196,7 @@ machines =
     record { name = codes "hub:"; host = 0; body = Cut hub; ins = 0 ∷ 2 ∷ 4 ∷ []; outs = 1 ∷ 3 ∷ 5 ∷ 6 ∷ [] }
     ∷ record { name = codes "u"; host = 1; body = Cut part_u; ins = 1 ∷ []; outs = 2 ∷ [] }
     ∷ record { name = codes "v"; host = 1; body = Cut part_v; ins = 3 ∷ []; outs = 4 ∷ [] }
-    ∷ record { name = codes "in:x"; host = 2; body = Source; ins = []; outs = 0 ∷ [] }
+    ∷ record { name = codes "in:x"; host = 2; body = Source 0; ins = []; outs = 0 ∷ [] }
     ∷ record { name = codes "out:p"; host = 3; body = Tray; ins = 5 ∷ []; outs = [] }
     ∷ record { name = codes "out:q"; host = 4; body = Tray; ins = 6 ∷ []; outs = [] } ∷ []
 
@@ -215,7 +224,7 @@ is-machine m any =
         (
           record { name = refl; host = refl; body = (lit< tt, v-cut); ins = refl; outs = refl },
           (
-            record { name = refl; host = refl; body = (lit≤ tt, lit< tt); ins = refl; outs = refl },
+            record { name = refl; host = refl; body = (lit< tt, refl); ins = refl; outs = refl },
             (
               record { name = refl; host = refl; body = lit≤ tt; ins = refl; outs = refl },
               (record { name = refl; host = refl; body = lit≤ tt; ins = refl; outs = refl }, tt),
@@ -247,36 +256,40 @@ is-channel c any =
       ),
     ) c
 
-pub is-plan : IsPlan design request 2 (record { machines = machines; channels = channels })
-is-plan = record { machine_total = refl; channel_total = refl; machine = is-machine; channel = is-channel }
+pub is-plan : IsPlan design request 2 (record { machines = machines; channels = channels; listed = listed })
+is-plan = record { listed = refl; machine_total = refl; channel_total = refl; machine = is-machine; channel = is-channel }
 
 -- ---- what is no plan of the cut
 
 abbrev any_machine : Machine
-any_machine = record { name = []; host = 0; body = Source; ins = []; outs = [] }
+any_machine = record { name = []; host = 0; body = Tray; ins = []; outs = [] }
 
 abbrev any_channel : Channel
 any_channel = channel 0 [] 0 0 []
 
 -- needs that go on through a register
-through-register : ¬ IsPlan design request 2 (record { machines = machines; channels = set channels 2 (channel 4 (codes "u.s") 1 0 (1 ∷ [])) })
+through-register : ¬ IsPlan design request 2 (record { machines = machines; channels = set channels 2 (channel 4 (codes "u.s") 1 0 (1 ∷ [])); listed = listed })
 through-register is = extra-need part_u (1 ∷ []) 1 (1 ∷ []) 1 refl refl refl ((is.channel 2 any_channel (lit< tt)).needs any_machine 1 (lit< tt) refl)
 
 -- a host of its own for the second unit
-apart : ¬ IsPlan design request 2 (record { machines = set machines 2 (record { name = codes "v"; host = 2; body = Cut part_v; ins = 3 ∷ []; outs = 4 ∷ [] }); channels = channels })
+apart : ¬ IsPlan design request 2 (record { machines = set machines 2 (record { name = codes "v"; host = 2; body = Cut part_v; ins = 3 ∷ []; outs = 4 ∷ [] }); channels = channels; listed = listed })
 apart is = let host : 2 ≡ 1 = (is.machine 2 any_machine (lit< tt)).host in absurd (omega (arith, host))
 
 -- a host number left out before the machines that follow
-skipped : ¬ IsPlan design request 2 (record { machines = set machines 3 (record { name = codes "in:x"; host = 3; body = Source; ins = []; outs = 0 ∷ [] }); channels = channels })
+skipped : ¬ IsPlan design request 2 (record { machines = set machines 3 (record { name = codes "in:x"; host = 3; body = Source 0; ins = []; outs = 0 ∷ [] }); channels = channels; listed = listed })
 skipped is = let host : 3 ≡ 2 = (is.machine 3 any_machine (lit< tt)).host in absurd (omega (arith, host))
 
 -- `v` with the register of `u`
 abbrev mixed : Part
 mixed = record { piece = part_v.piece; globals = part_v.globals; held = 0 ∷ []; memories = [] }
 
-register-mixed : ¬ IsPlan design request 2 (record { machines = set machines 2 (record { name = codes "v"; host = 1; body = Cut mixed; ins = 3 ∷ []; outs = 4 ∷ [] }); channels = channels })
+register-mixed : ¬ IsPlan design request 2 (record { machines = set machines 2 (record { name = codes "v"; host = 1; body = Cut mixed; ins = 3 ∷ []; outs = 4 ∷ [] }); channels = channels; listed = listed })
 register-mixed is = let body = (is.machine 2 any_machine (lit< tt)).body in let from = body.1.is.drivers 0 (lit< tt) in let wrong : Held 1 ≡ Held 0 = from.1 in cc
 
+-- the registers of both units, of which the signals of `u` hold one
+register-idle : ¬ AreHeld circuit part_u.globals (3 ∷ []) (0 ∷ 1 ∷ [])
+register-idle = idle-register circuit part_u.globals (3 ∷ []) (0 ∷ 1 ∷ []) 1 refl refl
+
 -- both units with the part of `u`
-twice-u : ¬ IsPlan design request 2 (record { machines = set machines 2 (record { name = codes "v"; host = 1; body = Cut part_u; ins = 3 ∷ []; outs = 4 ∷ [] }); channels = channels })
+twice-u : ¬ IsPlan design request 2 (record { machines = set machines 2 (record { name = codes "v"; host = 1; body = Cut part_u; ins = 3 ∷ []; outs = 4 ∷ [] }); channels = channels; listed = listed })
 twice-u is = let body = (is.machine 2 any_machine (lit< tt)).body in let wrong : 3 ≡ 6 = ap (λ (l : List ℕ). value_at l 0) body.1.ins in absurd (omega (arith, wrong))

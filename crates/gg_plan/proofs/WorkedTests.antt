@@ -12,20 +12,20 @@ use Rattle.gg_flat.specs.declared.line.Op.{Op}
 use Rattle.gg_flat.specs.declared.line.Op.TheVariants.{Ref, Literal, One, Two, Fix, Mux}
 use Rattle.gg_flat.specs.declared.piece.Driver.{Driver}
 use Rattle.gg_flat.specs.declared.piece.Driver.TheVariants.{Input, Held, MemoryWord, ReadRegister, Computed}
-use Rattle.gg_flat.specs.Line.{value_at, shape_at}
-use Rattle.gg_flat.specs.Circuit.{FlatCircuit, driver_at, signal_shapes}
-use Rattle.gg_flat.specs.Tree.{InstanceTree, path_at}
+use Rattle.gg_flat.specs.Line.{value_at}
+use Rattle.gg_flat.specs.Circuit.{FlatCircuit, driver_at}
+use Rattle.gg_flat.specs.Tree.{InstanceTree}
 use Rattle.gg_flat.specs.Reads.{Names, NamesSignal, Reads, Reaches}
 use Rattle.gg_needs.proofs.ReachLemmas.{Reaches-on, along-reaches}
 use Rattle.gg_order.specs.Marks.{is_marked}
-use Rattle.gg_order.specs.Design.{Ordered}
-use Rattle.gg_part.specs.Part.{NamesBelow, IsPart, IsFrom, IsRegisterFrom, IsMemoryFrom}
+use Rattle.gg_part.specs.Part.{NamesBelow}
 use Rattle.gg_part.specs.InOrder.{IsInOrder}
 use Rattle.gg_part.specs.declared.part.Part.{Part}
 use Rattle.gg_cut.specs.declared.listed.Listed.{Listed}
 use Rattle.gg_cut.specs.declared.wires.Wire.{Wire}
 use Rattle.gg_cut.specs.Listed.{owner_of}
-use Rattle.gg_cut.specs.Plan.{channels_to, channels_from, signals_of, IsInner, Makes, Takes, HasMemory, IsCutPart, IsNeed, AreNeedsOf}
+use Rattle.gg_cut.specs.Channels.{wire}
+use Rattle.gg_cut.specs.Plan.{channels_to, channels_from, signals_of, givens_of, IsInner, Makes, Takes, IsNeed, AreNeedsOf}
 
 -- ---- numbers and lists
 
@@ -330,7 +330,7 @@ extra-need part channels out needs c closed not_needed told wrong =
 
 abbrev makes : FlatCircuit → InstanceTree → Listed → List Wire → ℕ → ℕ → Bool
 makes circuit tree listed wires m s =
-    ((owner_of circuit tree listed s == m) && not (has (map (λ w. w.signal) wires) s)) || has (signals_of wires (channels_from wires m)) s
+    ((owner_of circuit tree listed s == m) && not (has (map (λ w. w.signal) wires) s)) || has (givens_of wires (channels_from wires m)) s
 
 abbrev makes_or_takes : FlatCircuit → InstanceTree → Listed → List Wire → ℕ → ℕ → Bool
 makes_or_takes circuit tree listed wires m s = makes circuit tree listed wires m s || has (signals_of wires (channels_to wires m)) s
@@ -349,7 +349,7 @@ same-from false b is at = absurd (true≢false (sym at ∙ not-true b is))
 
 inner-test : (wires : List Wire) (s : ℕ) → has (map (λ w. w.signal) wires) s ≡ false → IsInner wires s
 inner-test wires s none c lt is =
-    true≢false (sym (contains-has (map (λ (w : Wire). w.signal) wires) s (c, omega (arith, lt, length-map wires (λ (w : Wire). w.signal)), get_or-map (λ (w : Wire). w.signal) wires c (record { signal = 0; producer = 0; consumer = 0 }) s lt ∙ is)) ∙ none)
+    true≢false (sym (contains-has (map (λ (w : Wire). w.signal) wires) s (c, omega (arith, lt, length-map wires (λ (w : Wire). w.signal)), get_or-map (λ (w : Wire). w.signal) wires c (wire 0 0 0) s lt ∙ is)) ∙ none)
 
 test-inner : (wires : List Wire) (s : ℕ) → IsInner wires s → has (map (λ w. w.signal) wires) s ≡ false
 test-inner wires s inner = by (has (map (λ w. w.signal) wires) s) refl
@@ -359,37 +359,37 @@ test-inner wires s inner = by (has (map (λ w. w.signal) wires) s) refl
     by true e =
         let at = has-contains (map (λ (w : Wire). w.signal) wires) s e in
         let lt : at.0 < length wires = omega (arith, at.1, length-map wires (λ (w : Wire). w.signal)) in
-        absurd (inner at.0 lt (sym (get_or-map (λ (w : Wire). w.signal) wires at.0 (record { signal = 0; producer = 0; consumer = 0 }) s lt) ∙ at.2))
+        absurd (inner at.0 lt (sym (get_or-map (λ (w : Wire). w.signal) wires at.0 (wire 0 0 0) s lt) ∙ at.2))
 
 makes-shows : (circuit : FlatCircuit) (tree : InstanceTree) (listed : Listed) (wires : List Wire) (m s : ℕ) → s < length circuit.signals → makes circuit tree listed wires m s ≡ true → Makes circuit tree listed wires m s
 makes-shows circuit tree listed wires m s known is =
-    elim (or_cases ((owner_of circuit tree listed s == m) && not (has (map (λ w. w.signal) wires) s)) (has (signals_of wires (channels_from wires m)) s) is) [
+    elim (or_cases ((owner_of circuit tree listed s == m) && not (has (map (λ w. w.signal) wires) s)) (has (givens_of wires (channels_from wires m)) s) is) [
       | inl own ↦
           let parts = and_parts (owner_of circuit tree listed s == m) (not (has (map (λ w. w.signal) wires) s)) own in
           inl (known, (Decides-eqb (owner_of circuit tree listed s) m).0 parts.0, inner-test wires s (not-true (has (map (λ w. w.signal) wires) s) parts.1))
-      | inr given ↦ inr (has-contains (signals_of wires (channels_from wires m)) s given)
+      | inr given ↦ inr (has-contains (givens_of wires (channels_from wires m)) s given)
     ]
 
 shows-makes : (circuit : FlatCircuit) (tree : InstanceTree) (listed : Listed) (wires : List Wire) (m s : ℕ) → Makes circuit tree listed wires m s → makes circuit tree listed wires m s ≡ true
 shows-makes circuit tree listed wires m s (inl (known, owner, inner)) =
-    or_left ((owner_of circuit tree listed s == m) && not (has (map (λ w. w.signal) wires) s)) (has (signals_of wires (channels_from wires m)) s)
+    or_left ((owner_of circuit tree listed s == m) && not (has (map (λ w. w.signal) wires) s)) (has (givens_of wires (channels_from wires m)) s)
     (and_from (owner_of circuit tree listed s == m) (not (has (map (λ w. w.signal) wires) s)) ((Decides-eqb (owner_of circuit tree listed s) m).1 owner) (ap not (test-inner wires s inner)))
 shows-makes circuit tree listed wires m s (inr given) =
-    or_right ((owner_of circuit tree listed s == m) && not (has (map (λ w. w.signal) wires) s)) (has (signals_of wires (channels_from wires m)) s)
-    (contains-has (signals_of wires (channels_from wires m)) s given)
+    or_right ((owner_of circuit tree listed s == m) && not (has (map (λ w. w.signal) wires) s)) (has (givens_of wires (channels_from wires m)) s)
+    (contains-has (givens_of wires (channels_from wires m)) s given)
 
 -- all are signals of the circuit
 abbrev pub are_known : FlatCircuit → List ℕ → Bool
 are_known circuit signals = list_all (λ s. nat_lt s (length circuit.signals)) signals
 
-known-at : (circuit : FlatCircuit) (signals : List ℕ) (s : ℕ) → are_known circuit signals ≡ true → Contains signals s → s < length circuit.signals
+pub known-at : (circuit : FlatCircuit) (signals : List ℕ) (s : ℕ) → are_known circuit signals ≡ true → Contains signals s → s < length circuit.signals
 known-at circuit signals s is at = ltb-true s (length circuit.signals) (test-of (λ t. nat_lt t (length circuit.signals)) signals is s at)
 
 -- just the signals that a machine makes or takes
 abbrev pub has_signals : FlatCircuit → InstanceTree → Listed → List Wire → ℕ → List ℕ → Bool
 has_signals circuit tree listed wires m globals = all_below (λ s. same_bool (has globals s) (makes_or_takes circuit tree listed wires m s)) (length circuit.signals)
 
-pub has-signals : (circuit : FlatCircuit) (tree : InstanceTree) (listed : Listed) (wires : List Wire) (m : ℕ) (globals : List ℕ) → has_signals circuit tree listed wires m globals ≡ true → are_known circuit globals ≡ true → are_known circuit (signals_of wires (channels_from wires m)) ≡ true → are_known circuit (signals_of wires (channels_to wires m)) ≡ true
+pub has-signals : (circuit : FlatCircuit) (tree : InstanceTree) (listed : Listed) (wires : List Wire) (m : ℕ) (globals : List ℕ) → has_signals circuit tree listed wires m globals ≡ true → are_known circuit globals ≡ true → are_known circuit (givens_of wires (channels_from wires m)) ≡ true → are_known circuit (signals_of wires (channels_to wires m)) ≡ true
     → (s : ℕ) → Contains globals s ↔ (Makes circuit tree listed wires m s ⊎ Takes wires m s)
 has-signals circuit tree listed wires m globals test own given taken s = (to, from)
   where
@@ -411,7 +411,7 @@ has-signals circuit tree listed wires m globals test own given taken s = (to, fr
     from (inl (inl (known, owner, inner))) =
         there known (or_left (makes circuit tree listed wires m s) (has (signals_of wires (channels_to wires m)) s) (shows-makes circuit tree listed wires m s (inl (known, owner, inner))))
     from (inl (inr gives)) =
-        there (known-at circuit (signals_of wires (channels_from wires m)) s given gives) (or_left (makes circuit tree listed wires m s) (has (signals_of wires (channels_to wires m)) s) (shows-makes circuit tree listed wires m s (inr gives)))
+        there (known-at circuit (givens_of wires (channels_from wires m)) s given gives) (or_left (makes circuit tree listed wires m s) (has (signals_of wires (channels_to wires m)) s) (shows-makes circuit tree listed wires m s (inr gives)))
     from (inr takes) =
         there (known-at circuit (signals_of wires (channels_to wires m)) s taken takes) (or_right (makes circuit tree listed wires m s) (has (signals_of wires (channels_to wires m)) s) (contains-has (signals_of wires (channels_to wires m)) s takes))
 
@@ -428,60 +428,3 @@ pub lost-signal : (circuit : FlatCircuit) (tree : InstanceTree) (listed : Listed
     → ¬ ((t : ℕ) → Contains globals t ↔ (Makes circuit tree listed wires m t ⊎ Takes wires m t))
 lost-signal circuit tree listed wires m globals s known made lost signals =
     true≢false (sym (contains-has globals s ((signals s).1 (inl (makes-shows circuit tree listed wires m s known made)))) ∙ lost)
-
--- ---- parts
-
--- a part, if its registers and memories are those of the whole
-pub is-part-with : (whole part : FlatCircuit) (globals held memories : List ℕ) → length part.signals ≡ length globals → are_known whole globals ≡ true → all_pairs (λ a b. not (a == b)) globals ≡ true
-    → part.paths ≡ map (path_at whole.paths) globals → signal_shapes part ≡ map (shape_at (signal_shapes whole)) globals
-    → Upto (λ s. IsFrom part.ins globals held memories s (driver_at whole (value_at globals s)) (driver_at part s)) (length globals)
-    → Upto (λ place. (value_at part.ins place < length globals) × (driver_at part (value_at part.ins place) ≡ Input place)) (length part.ins)
-    → list_all (λ s. nat_lt s (length globals)) part.outs ≡ true
-    → length part.registers ≡ length held → ((r : ℕ) → r < length held → IsRegisterFrom whole part globals held r)
-    → length part.memories ≡ length memories → all_pairs (λ a b. not (a == b)) memories ≡ true → ((m : ℕ) → m < length memories → IsMemoryFrom whole part globals memories m)
-    → IsPart whole part globals held memories
-is-part-with whole part globals held memories count known once paths types drivers ins outs register_count register_from memory_count memories_once memory_from =
-    record {
-      count = count;
-      within = λ s lt. known-at whole globals (value_at globals s) known (s, lt, get_or_default globals s (value_at globals s) 0 lt);
-      once = distinct globals once;
-      paths = paths;
-      types = types;
-      drivers = each-below (λ s. IsFrom part.ins globals held memories s (driver_at whole (value_at globals s)) (driver_at part s)) (length globals) drivers;
-      ins = each-below (λ place. (value_at part.ins place < length globals) × (driver_at part (value_at part.ins place) ≡ Input place)) (length part.ins) ins;
-      outs = λ place lt. ltb-true (value_at part.outs place) (length globals) (test-of (λ s. nat_lt s (length globals)) part.outs outs (value_at part.outs place) (place, lt, get_or_default part.outs place (value_at part.outs place) 0 lt));
-      register_count = register_count;
-      register_from = register_from;
-      memory_count = memory_count;
-      memories_once = distinct memories memories_once;
-      memory_from = memory_from;
-    }
-
--- a part without registers and memories
-pub is-part : (whole part : FlatCircuit) (globals : List ℕ) → length part.signals ≡ length globals → are_known whole globals ≡ true → all_pairs (λ a b. not (a == b)) globals ≡ true
-    → part.paths ≡ map (path_at whole.paths) globals → signal_shapes part ≡ map (shape_at (signal_shapes whole)) globals
-    → Upto (λ s. IsFrom part.ins globals [] [] s (driver_at whole (value_at globals s)) (driver_at part s)) (length globals)
-    → Upto (λ place. (value_at part.ins place < length globals) × (driver_at part (value_at part.ins place) ≡ Input place)) (length part.ins)
-    → list_all (λ s. nat_lt s (length globals)) part.outs ≡ true → length part.registers ≡ 0 → length part.memories ≡ 0
-    → IsPart whole part globals [] []
-is-part whole part globals count known once paths types drivers ins outs no_registers no_memories =
-    is-part-with whole part globals [] [] count known once paths types drivers ins outs no_registers (λ r lt. absurd (omega arith)) no_memories refl (λ m lt. absurd (omega arith))
-
--- a machine of a circuit without memories has none
-pub no-memories : (tree : InstanceTree) (listed : Listed) (m : ℕ) → length tree.memories ≡ 0 → (k : ℕ) → Contains [] k ↔ HasMemory tree listed m k
-no-memories tree listed m none k = (λ at. absurd (omega (arith, at.1)), λ h. absurd (omega (arith, h.known, none)))
-
-pub is-cut-part : (design : Ordered) (listed : Listed) (wires : List Wire) (m : ℕ) (part : Part) → IsPart design.circuit part.piece part.globals part.held part.memories
-    → has_signals design.circuit design.tree listed wires m part.globals ≡ true → are_known design.circuit part.globals ≡ true
-    → are_known design.circuit (signals_of wires (channels_from wires m)) ≡ true → are_known design.circuit (signals_of wires (channels_to wires m)) ≡ true
-    → map (value_at part.globals) part.piece.ins ≡ signals_of wires (channels_to wires m) → map (value_at part.globals) part.piece.outs ≡ signals_of wires (channels_from wires m)
-    → ((k : ℕ) → Contains part.memories k ↔ HasMemory design.tree listed m k) → in_order part.piece ≡ true → IsCutPart design listed wires m part
-is-cut-part design listed wires m part is test own given taken ins outs memories ordered =
-    record {
-      is = is;
-      signals = has-signals design.circuit design.tree listed wires m part.globals test own given taken;
-      ins = ins;
-      outs = outs;
-      memories = memories;
-      ordered = in-order part.piece ordered;
-    }

@@ -18,9 +18,9 @@ use Rattle.gg_cut.specs.declared.plan.Machine.{Machine}
 use Rattle.gg_cut.specs.declared.plan.Channel.{Channel}
 use Rattle.gg_cut.specs.declared.listed.Listed.{Listed}
 use Rattle.gg_cut.specs.declared.wires.Wire.{Wire}
-use Rattle.gg_cut.specs.Channels.{machine_count}
+use Rattle.gg_cut.specs.Machines.{machine_count}
 use Rattle.gg_cut.specs.Fault.{most_capacity}
-use Rattle.gg_cut.specs.Plan.{wire_at, channels_to, channels_from, signals_of, IsMachine, AreNeedsOf, NeedsIn, IsChannel}
+use Rattle.gg_cut.specs.Plan.{wire_at, channels_to, channels_from, signals_of, givens_of, IsMachine, AreNeedsOf, NeedsIn, IsChannel}
 
 -- how many tokens a channel may hold
 abbrev pub IsCapacity : ℕ → Type 0
@@ -39,12 +39,12 @@ pub record IsServed (wires : List Wire) (part : Part) (taken given : List ℕ) :
   pub once : AllPairs (λ a b. a ≢ b) part.globals
   pub known : (place : ℕ) → place < length part.piece.outs → value_at part.piece.outs place < length part.globals
   pub ins : map (value_at part.globals) part.piece.ins ≡ signals_of wires taken
-  pub outs : map (value_at part.globals) part.piece.outs ≡ signals_of wires given
+  pub outs : map (value_at part.globals) part.piece.outs ≡ givens_of wires given
 
 abbrev pub IsServedBody : List Wire → Body → List ℕ → List ℕ → Type 0
 IsServedBody wires (Cut part) taken given = IsServed wires part taken given
 IsServedBody wires (Memory part) taken given = IsServed wires part taken given
-IsServedBody wires Source taken given = Unit {0}
+IsServedBody wires (Source place) taken given = Unit {0}
 IsServedBody wires Tray taken given = Unit {0}
 
 -- machine m has its channels, and its needs can be computed
@@ -53,7 +53,7 @@ pub record IsFit (wires : List Wire) (m : ℕ) (machine : Machine) : Type 0 wher
   pub outs : machine.outs ≡ channels_from wires m
   pub body : IsServedBody wires machine.body machine.ins machine.outs
 
--- The needs, ascending, of the channel of signal s that a part gives.
+-- The needs, ascending, of the channel that a part gives by signal s.
 pub record ArePartNeeds (part : Part) (channels : List ℕ) (s : ℕ) (told : List ℕ) : Type 0 where
   pub ascending : AllPairs (λ a b. a < b) told
   pub needs : (out : ℕ) → out < length part.globals → value_at part.globals out ≡ s → AreNeedsOf part channels out told
@@ -68,7 +68,7 @@ pub record ArePut (taken given : List ℕ) (lists before : List (List ℕ)) (n :
 -- the needs of a channel that a machine gives
 pub record AreGiven (machine : Machine) (w : Wire) (told : List ℕ) : Type 0 where
   pub ascending : AllPairs (λ a b. a < b) told
-  pub needs : NeedsIn machine.body machine.ins w.signal told
+  pub needs : NeedsIn machine.body machine.ins w.given told
 
 -- a list of needs for each channel
 pub record AreTold (wires : List Wire) (machines : List Machine) (table : List (List ℕ)) : Type 0 where

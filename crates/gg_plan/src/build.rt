@@ -1,6 +1,7 @@
 //! The plan of a cut, and what its channels need.
 ghost use Rattle.std.specs.Prelude.{◌≡◌, ◌<◌, ◌≤◌, length, None, All, IfOk, slice_index_or};
 ghost use Rattle.gg_cut.specs.declared.plan.Channel.{Channel};
+ghost use Rattle.gg_moved.specs.KeepsToTree.{KeepsToTree};
 ghost use Rattle.gg_cut.specs.Listed.{listed_of};
 ghost use Rattle.gg_cut.specs.Fault.{IsSmall, Tells, first_fault, most_capacity};
 ghost use Rattle.gg_cut.specs.Plan.{IsPlan};
@@ -18,8 +19,8 @@ use gg_partfile::Request;
 use gg_split::split;
 use std::alloc::{AllocError, Global};
 
-/// The plan of a design and a request. `default_capacity` is the capacity of the channels that the request doesn't
-/// name. Each channel's capacity is from 1 to 4,096.
+/// The plan of a design, whose circuit keeps to its tree, and a request. `default_capacity` is the capacity of the channels that the
+/// request doesn't name. Each channel's capacity is from 1 to 4,096.
 ///
 /// # Errors
 ///
@@ -32,6 +33,7 @@ pub fn cut(
     default_capacity: u32,
 ) -> Result<Plan, CutFault>
     requires small { IsSmall request.now }
+    requires keeps { KeepsToTree design.now.circuit design.now.tree }
     requires some { 0 < default_capacity }
     requires bounded { default_capacity ≤ most_capacity }
     ensures told { Tells (first_fault design.now request.now) result }
@@ -39,10 +41,8 @@ pub fn cut(
     ensures capacities { IfOk result (λ plan. All (λ channel. IsCapacity channel.capacity) plan.channels) }
 {
     let listed = judge(alloc, design, request)?;
-    match plan_of(alloc, design, request, &listed, default_capacity) {
-        Ok(plan) => Ok(plan),
-        Err(_) => Err(CutFault::NoMemory),
-    }
+    let plan = plan_of(alloc, design, request, listed, default_capacity)?;
+    Ok(plan)
 }
 
 // The plan of a request without a fault.
@@ -50,23 +50,23 @@ fn plan_of(
     alloc: Global,
     design: &Design,
     request: &Request,
-    listed: &Listed,
+    listed: Listed,
     default_capacity: u32,
 ) -> Result<Plan, AllocError>
-    requires small { IsSmall request.now }
     requires capacity { IsCapacity default_capacity }
+    requires keeps { KeepsToTree design.now.circuit design.now.tree }
     requires faultless { first_fault design.now request.now ≡ None }
-    requires listed { listed.now ≡ listed_of design.now.tree request.now }
+    requires listed { listed ≡ listed_of design.now.tree request.now }
     ensures plan { IfOk result (λ plan. IsPlan design.now request.now default_capacity plan) }
     ensures capacities { IfOk result (λ plan. All (λ channel. IsCapacity channel.capacity) plan.channels) }
 {
-    let split = split(alloc, design, request, listed)?;
-    let machines = machines_of(alloc, design, request, listed, &split)?;
+    let split = split(alloc, design, request, &listed)?;
+    let machines = machines_of(alloc, design, request, &listed, &split)?;
     let channels = channels_for(
         alloc,
         design,
         request,
-        listed,
+        &listed,
         split.wires.as_slice(),
         &machines,
         default_capacity,
@@ -74,6 +74,7 @@ fn plan_of(
     Ok(Plan {
         machines: Items::from(machines),
         channels: Items::from(channels),
+        listed,
     })
 }
 
@@ -87,6 +88,7 @@ fn channels_for(
     machines: &[Machine],
     default_capacity: u32,
 ) -> Result<Vec<Channel>, AllocError>
+    requires keeps { KeepsToTree design.now.circuit design.now.tree }
     requires faultless { first_fault design.now request.now ≡ None }
     requires listed { listed.now ≡ listed_of design.now.tree request.now }
     requires wires { wires.now ≡ wires_of design.now.circuit design.now.tree listed.now }
@@ -94,7 +96,6 @@ fn channels_for(
     ensures { IfOk result (λ channels. AreChannels design.now (capacity_of request.now.capacity default_capacity) wires.now machines.now channels.items) }
 {
     let _ = listed;
-    let _ = design.tree();
     let _ = design.piece();
     part_formed();
     let mut table = needs_table(alloc, wires, machines)?;

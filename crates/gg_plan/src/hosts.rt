@@ -6,6 +6,7 @@ ghost use Rattle.gg_cut.specs.Hosts.{machine_of, least_machine, leader, host_of}
 
 use crate::lists::picked;
 use gg_bits::{Name, Names};
+use gg_cut::Numbering;
 use std::alloc::{AllocError, Global};
 
 /// The hosts of this many machines, by their numbers.
@@ -15,26 +16,30 @@ use std::alloc::{AllocError, Global};
 /// Returns `AllocError` if an allocation fails.
 pub(crate) fn hosts_of(
     alloc: Global,
+    numbering: &Numbering,
     units: &[Name],
     share: &[Names],
     count: usize,
 ) -> Result<Vec<u32>, AllocError>
+    requires numbering { numbering.now.units ≡ length units.now }
     requires units { length units.now < count }
     requires few { count < 2 ^ 32 }
     ensures count { IfOk result (λ hosts. length hosts.items ≡ count) }
     ensures hosts { IfOk result (λ hosts. (m : ℕ) → m < count → value_at hosts.items m ≡ host_of units.now share.now m) }
 {
-    let leaders = leaders_of(alloc, units, share, count)?;
+    let leaders = leaders_of(alloc, numbering, units, share, count)?;
     number_hosts(alloc, units, share, &leaders)
 }
 
 // The first machine of each machine's host.
 fn leaders_of(
     alloc: Global,
+    numbering: &Numbering,
     units: &[Name],
     share: &[Names],
     count: usize,
 ) -> Result<Vec<u32>, AllocError>
+    requires numbering { numbering.now.units ≡ length units.now }
     requires units { length units.now < count }
     requires few { count < 2 ^ 32 }
     ensures count { IfOk result (λ leaders. length leaders.items ≡ count) }
@@ -43,6 +48,7 @@ fn leaders_of(
     let mut leaders = numbers(alloc, count)?;
     for step in 0..share.len() {
         lead(
+            numbering,
             units,
             share[share.len() - 1 - step].as_slice(),
             &mut leaders,
@@ -65,49 +71,57 @@ fn numbers(alloc: Global, count: usize) -> Result<Vec<u32>, AllocError>
 }
 
 // Gives each machine of a list the least of these machines.
-fn lead(units: &[Name], group: &[Name], leaders: &mut Vec<u32>)
+fn lead(numbering: &Numbering, units: &[Name], group: &[Name], leaders: &mut Vec<u32>)
+    requires numbering { numbering.now.units ≡ length units.now }
     requires units { length units.now < length leaders.old.items }
     requires few { length leaders.old.items < 2 ^ 32 }
     ensures count { length leaders.new.items ≡ length leaders.old.items }
     ensures led { (m : ℕ) → m < length leaders.old.items → value_at leaders.new.items m ≡ (if list_any (λ path. machine_of units.now path == m) group.now then least_machine units.now group.now m else value_at leaders.old.items m) }
 {
-    let least = least_of(units, group, leaders.len() as u32);
-    set_all(units, group, least, leaders);
+    let least = least_of(numbering, units, group, leaders.len() as u32);
+    set_all(numbering, units, group, least, leaders);
 }
 
 // Gives the machines of a list a number.
-fn set_all(units: &[Name], group: &[Name], number: u32, leaders: &mut Vec<u32>)
+fn set_all(
+    numbering: &Numbering,
+    units: &[Name],
+    group: &[Name],
+    number: u32,
+    leaders: &mut Vec<u32>,
+)
+    requires numbering { numbering.now.units ≡ length units.now }
     requires units { length units.now < length leaders.old.items }
     requires few { length leaders.old.items < 2 ^ 32 }
     ensures count { length leaders.new.items ≡ length leaders.old.items }
     ensures set { (m : ℕ) → m < length leaders.old.items → value_at leaders.new.items m ≡ (if list_any (λ path. machine_of units.now path == m) group.now then number else value_at leaders.old.items m) }
 {
     for path in group {
-        leaders[machine_of(units, path) as usize] = number;
+        leaders[machine_of(numbering, units, path) as usize] = number;
     }
 }
 
 // The least of a number and the machines of a list.
-fn least_of(units: &[Name], group: &[Name], number: u32) -> u32
-    requires { length units.now < 2 ^ 32 - 1 }
+fn least_of(numbering: &Numbering, units: &[Name], group: &[Name], number: u32) -> u32
+    requires { numbering.now.units ≡ length units.now }
     ensures { result ≡ least_machine units.now group.now number }
 {
     let mut least = number;
     for path in group {
-        least = machine_of(units, path).min(least);
+        least = machine_of(numbering, units, path).min(least);
     }
     least
 }
 
 // The machine of the unit with a path, or the hub if there is none.
-fn machine_of(units: &[Name], path: &Name) -> u32
-    requires few { length units.now < 2 ^ 32 - 1 }
+fn machine_of(numbering: &Numbering, units: &[Name], path: &Name) -> u32
+    requires { numbering.now.units ≡ length units.now }
     ensures machine { result ≡ machine_of units.now path.now }
     ensures within { result ≤ length units.now }
 {
     for number in 0..units.len() {
         if *path == units[number] {
-            return number as u32 + 1;
+            return numbering.unit(number);
         }
     }
     0

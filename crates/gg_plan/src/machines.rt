@@ -1,7 +1,8 @@
 //! The machines of a plan.
 ghost use Rattle.std.specs.Prelude.{◌≡◌, ℕ, ◌+◌, ◌<◌, ◌^◌, length, IfOk, OnOk, slice_index_or};
 ghost use Rattle.gg_cut.specs.Hosts.{host_of};
-ghost use Rattle.gg_cut.specs.Channels.{machine_count, first_memory, first_source, first_tray, wires_of};
+ghost use Rattle.gg_cut.specs.Machines.{machine_count, numbering_of};
+ghost use Rattle.gg_cut.specs.Channels.{wires_of};
 ghost use Rattle.gg_cut.specs.Plan.{IsMachine, IsBody};
 ghost use Rattle.gg_cut.specs.declared.plan.Machine.{Machine};
 ghost use Rattle.gg_split.specs.Share.{IsShareOf};
@@ -11,7 +12,7 @@ ghost use Rattle.gg_plan.specs.Made.{AreMachines};
 use crate::hosts::hosts_of;
 use crate::names::machine_name;
 use crate::parts::{copied, cut_part};
-use gg_cut::{Body, Listed, Machine, Wire};
+use gg_cut::{Body, Listed, Machine, Numbering, Role, Wire};
 use gg_order::Design;
 use gg_partfile::Request;
 use gg_split::{Share, Split};
@@ -35,10 +36,12 @@ pub(crate) fn machines_of(
     requires few { machine_count design.now.circuit listed.now < 2 ^ 32 }
     ensures { IfOk result (λ machines. AreMachines design.now request.now listed.now split.now.wires machines.items) }
 {
+    let numbering = Numbering::of(design.piece(), listed);
     let shares = split.shares.as_slice();
     let wires = split.wires.as_slice();
     let hosts = hosts_of(
         alloc,
+        &numbering,
         request.units.as_slice(),
         request.share.as_slice(),
         shares.len(),
@@ -47,7 +50,9 @@ pub(crate) fn machines_of(
     for number in 0..shares.len() {
         let share = &shares[number];
         let host = hosts[number];
-        let machine = machine_at(alloc, design, request, listed, wires, share, host, number)?;
+        let machine = machine_at(
+            alloc, design, request, listed, &numbering, wires, share, host, number,
+        )?;
         machines.push(machine)?;
     }
     Ok(machines)
@@ -59,21 +64,23 @@ fn machine_at(
     design: &Design,
     request: &Request,
     listed: &Listed,
+    numbering: &Numbering,
     wires: &[Wire],
     share: &Share,
     host: u32,
     number: usize,
 ) -> Result<Machine, AllocError>
+    requires numbering { numbering.now ≡ numbering_of design.now.circuit listed.now }
     requires share { IsShareOf design.now listed.now wires.now number share.now.ins share.now.outs share.now.globals share.now.memories }
     requires units { length listed.now.units ≡ length request.now.units }
     requires known { number < machine_count design.now.circuit listed.now }
     requires host { host ≡ host_of request.now.units request.now.share number }
     ensures { IfOk result (λ machine. IsMachine design.now request.now listed.now wires.now number machine) }
 {
-    let name = machine_name(alloc, design, request, listed, number)?;
+    let name = machine_name(alloc, design, request, listed, numbering, number)?;
     let ins = copied(alloc, share.ins.as_slice())?;
     let outs = copied(alloc, share.outs.as_slice())?;
-    let body = body_at(alloc, design, listed, wires, share, number)?;
+    let body = body_at(alloc, design, listed, numbering, wires, share, number)?;
     Ok(Machine {
         name,
         host,
@@ -88,24 +95,21 @@ fn body_at(
     alloc: Global,
     design: &Design,
     listed: &Listed,
+    numbering: &Numbering,
     wires: &[Wire],
     share: &Share,
     number: usize,
 ) -> Result<Body, AllocError>
+    requires numbering { numbering.now ≡ numbering_of design.now.circuit listed.now }
+    requires known { number < machine_count design.now.circuit listed.now }
     requires share { IsShareOf design.now listed.now wires.now number share.now.ins share.now.outs share.now.globals share.now.memories }
     ensures { IfOk result (λ body. IsBody design.now listed.now wires.now number body) }
 {
-    let memory = listed.units.as_slice().len() + 1;
-    let source = memory + listed.memories.as_slice().len();
-    let tray = source + design.piece().ins().len();
-    if number < memory {
-        return Ok(Body::Cut(cut_part(alloc, design, listed, wires, share, number)?));
+    match numbering.role(number) {
+        Role::Hub => Ok(Body::Cut(cut_part(alloc, design, listed, wires, share, number)?)),
+        Role::Unit(_) => Ok(Body::Cut(cut_part(alloc, design, listed, wires, share, number)?)),
+        Role::Memory(_) => Ok(Body::Memory(cut_part(alloc, design, listed, wires, share, number)?)),
+        Role::Source(place) => Ok(Body::Source(place)),
+        Role::Tray(_) => Ok(Body::Tray),
     }
-    if number < source {
-        return Ok(Body::Memory(cut_part(alloc, design, listed, wires, share, number)?));
-    }
-    if number < tray {
-        return Ok(Body::Source);
-    }
-    Ok(Body::Tray)
 }

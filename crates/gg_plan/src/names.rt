@@ -1,10 +1,11 @@
 //! The names of the machines.
 ghost use Rattle.std.specs.Prelude.{◌≡◌, ◌<◌, length, codes, ◌++◌, IfOk};
 ghost use Rattle.gg_flat.specs.Tree.{path_at};
+ghost use Rattle.gg_cut.specs.Machines.{machine_count, numbering_of};
 ghost use Rattle.gg_cut.specs.Plan.{machine_names};
 
 use gg_bits::Name;
-use gg_cut::Listed;
+use gg_cut::{Listed, Numbering, Role};
 use gg_flat::{Piece, Tree};
 use gg_order::Design;
 use gg_partfile::Request;
@@ -20,31 +21,28 @@ pub(crate) fn machine_name(
     design: &Design,
     request: &Request,
     listed: &Listed,
+    numbering: &Numbering,
     number: usize,
 ) -> Result<Name, AllocError>
-    requires { number < length (machine_names design.now request.now listed.now) }
+    requires numbering { numbering.now ≡ numbering_of design.now.circuit listed.now }
+    requires units { length listed.now.units ≡ length request.now.units }
+    requires known { number < machine_count design.now.circuit listed.now }
     ensures { IfOk result (λ name. name ≡ path_at (machine_names design.now request.now listed.now) number) }
 {
-    let units = request.units.as_slice();
-    let memories = listed.memories.as_slice();
-    let ins = design.piece().ins();
-    let outs = design.piece().outs();
-    if number == 0 {
-        return Name::from_str(alloc, "hub:");
+    let piece = design.piece();
+    match numbering.role(number) {
+        Role::Hub => Name::from_str(alloc, "hub:"),
+        Role::Unit(place) => request.units.as_slice()[place as usize].clone(),
+        Role::Memory(place) => {
+            memory_name(
+                alloc,
+                design.tree(),
+                listed.memories.as_slice()[place as usize],
+            )
+        }
+        Role::Source(place) => port_name(alloc, "in:", piece, piece.ins()[place as usize]),
+        Role::Tray(place) => port_name(alloc, "out:", piece, piece.outs()[place as usize]),
     }
-    let unit = number - 1;
-    if unit < units.len() {
-        return units[unit].clone();
-    }
-    let memory = unit - units.len();
-    if memory < memories.len() {
-        return memory_name(alloc, design.tree(), memories[memory]);
-    }
-    let source = memory - memories.len();
-    if source < ins.len() {
-        return port_name(alloc, "in:", design.piece(), ins[source]);
-    }
-    port_name(alloc, "out:", design.piece(), outs[source - ins.len()])
 }
 
 // The path of a memory, by its place in the tree; the empty path if there is none.

@@ -64,7 +64,7 @@ fn tell_machine(
     match &machine.body {
         Body::Cut(part) => tell_part(alloc, wires, part, ins, outs, number, table),
         Body::Memory(part) => tell_part(alloc, wires, part, ins, outs, number, table),
-        Body::Source | Body::Tray => Ok(()),
+        Body::Source(_) | Body::Tray => Ok(()),
     }
 }
 
@@ -83,7 +83,7 @@ fn tell_part(
     requires outs { outs.now ≡ channels_from wires.now number }
     requires count { length table.old.items ≡ length wires.now }
     ensures count { OnOk result (length table.new.items ≡ length table.old.items) }
-    ensures told { OnOk result ((c : ℕ) → c < length wires.now → (wire_at wires.now c).producer ≡ number → ArePartNeeds part.now ins.now (wire_at wires.now c).signal (slice_index_or table.new.items c [])) }
+    ensures told { OnOk result ((c : ℕ) → c < length wires.now → (wire_at wires.now c).producer ≡ number → ArePartNeeds part.now ins.now (wire_at wires.now c).given (slice_index_or table.new.items c [])) }
     ensures others { OnOk result ((c : ℕ) → c < length wires.now → (wire_at wires.now c).producer ≢ number → slice_index_or table.new.items c [] ≡ slice_index_or table.old.items c []) }
 {
     let _ = wires;

@@ -1,7 +1,7 @@
 //! The parts of the circuit that the machines run.
 ghost use Rattle.std.specs.Prelude.{◌≡◌, ◌<◌, length, All, IfOk};
-ghost use Rattle.gg_cut.specs.Channels.{first_source};
-ghost use Rattle.gg_cut.specs.Plan.{signals_of, IsCutPart};
+ghost use Rattle.gg_cut.specs.Machines.{first_source};
+ghost use Rattle.gg_cut.specs.Plan.{signals_of, givens_of, IsCutPart};
 ghost use Rattle.gg_split.specs.Share.{IsShareOf};
 
 use gg_bits::Ids;
@@ -32,7 +32,7 @@ pub(crate) fn cut_part(
     let _ = design.order();
     part_in_order();
     let ins = signals(alloc, wires, share.ins.as_slice())?;
-    let outs = signals(alloc, wires, share.outs.as_slice())?;
+    let outs = givens(alloc, wires, share.outs.as_slice())?;
     let part = part_of(
         alloc,
         design.piece(),
@@ -44,7 +44,7 @@ pub(crate) fn cut_part(
     Ok(part)
 }
 
-// The signals of channels.
+// The signals that channels are taken with.
 fn signals(alloc: Global, wires: &[Wire], channels: &[u32]) -> Result<Vec<u32>, AllocError>
     requires { All (λ channel. channel < length wires.now) channels.now }
     ensures { IfOk result (λ signals. signals.items ≡ signals_of wires.now channels.now) }
@@ -54,6 +54,18 @@ fn signals(alloc: Global, wires: &[Wire], channels: &[u32]) -> Result<Vec<u32>, 
         signals.push(wires[*channel as usize].signal)?;
     }
     Ok(signals)
+}
+
+// The signals by which channels are given.
+fn givens(alloc: Global, wires: &[Wire], channels: &[u32]) -> Result<Vec<u32>, AllocError>
+    requires { All (λ channel. channel < length wires.now) channels.now }
+    ensures { IfOk result (λ givens. givens.items ≡ givens_of wires.now channels.now) }
+{
+    let mut givens = Vec::new(alloc);
+    for channel in channels {
+        givens.push(wires[*channel as usize].given)?;
+    }
+    Ok(givens)
 }
 
 /// A copy of a list of numbers.

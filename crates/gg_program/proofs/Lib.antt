@@ -6,4 +6,5 @@ pub mod EvaluateLemmas
 pub mod CycleLemmas
 pub mod ConeLemmas
 pub mod LawLemmas
+pub mod UnsetLemmas
 pub mod WorkedSlots

@@ -11,6 +11,7 @@ use Rattle.gg_needs.proofs.ReachLemmas.{Reaches-itself, along-reaches}
 use Rattle.gg_needs.proofs.WorkedUnits.{unit, q-k, In, copies, in-closed, p-k}
 use Rattle.gg_program.specs.Slots.{Slotted, IsDone, HasNeeded, HasInputs, with_input, DoneWith, inputs_in}
 use Rattle.gg_program.specs.Right.{AreRight, InCycle}
+use Rattle.gg_program.specs.Unset.{unset, IsConeDone}
 
 abbrev start : State
 start = record { registers = []; banks = [] }
@@ -69,6 +70,26 @@ not-another cycle = absurd (omega (arith, cycle.right.driven 2 (lit< tt) refl))
 
 not-alone : ¬ InCycle unit start (slots (5 ∷ 0 ∷ 5 ∷ 0 ∷ []) (false ∷ false ∷ true ∷ false ∷ []))
 not-alone cycle = true≢false (sym (cycle.right.closed 2 0 refl (record { signal = lit< tt; names = (0, lit< tt, refl) })))
+
+-- two signals have to be worked out, whether `x` was put or not; then one, then none
+abbrev with-q : Slotted
+with-q = slots (5 ∷ 3 ∷ 5 ∷ 6 ∷ []) (true ∷ true ∷ true ∷ true ∷ [])
+
+unset-empty : unset unit empty ≡ 2
+unset-empty = refl
+
+unset-first : unset unit with-x ≡ 2
+unset-first = refl
+
+unset-then : unset unit with-p ≡ 1
+unset-then = refl
+
+unset-last : unset unit with-q ≡ 0
+unset-last = refl
+
+-- what `q` reaches isn't all done when `p` is
+not-cone : ¬ IsConeDone unit 3 with-p
+not-cone done = true≢false (sym (done 3 (Reaches-itself unit 3)))
 
 -- `p` doesn't reach `q`, so `q` isn't done because `p` was worked out
 p-q : ¬ Reaches unit 2 3

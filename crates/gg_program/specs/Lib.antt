@@ -3,3 +3,4 @@ pub mod ConeValue
 pub mod Slots
 pub mod Right
 pub mod Search
+pub mod Unset

@@ -1,5 +1,5 @@
 //! Evaluates signals one after another, each into its place.
-ghost use Rattle.std.specs.Prelude.{◌≡◌, ◌⊎◌, ℕ, ◌<◌, ◌≤◌, List, [], length, Bool, true, All, Contains};
+ghost use Rattle.std.specs.Prelude.{◌≡◌, ◌⊎◌, ℕ, ◌+◌, ◌<◌, ◌≤◌, List, [], length, Bool, true, All, Contains};
 ghost use Rattle.gg_bits.specs.Shape.{shape, Fits};
 ghost use Rattle.gg_flat.specs.Line.{shape_at, value_at, AreTyped};
 ghost use Rattle.gg_flat.specs.Circuit.{signal_shapes, driver_at};
@@ -12,16 +12,20 @@ ghost use Rattle.gg_order.specs.Marks.{is_marked};
 ghost use Rattle.gg_program.specs.Slots.{inputs_in};
 ghost use Rattle.gg_program.specs.Right.{IsInner, AreRight};
 ghost use Rattle.gg_program.specs.Search.{StandBehind};
+ghost use Rattle.gg_program.specs.Unset.{unset_among};
 
+use crate::steps::Steps;
 use gg_flat::{Piece, Signal, State};
+use std::sync::ledger::Ledger;
 
-/// Evaluates these signals, each after all signals that it reads.
-pub(crate) fn work_out(
+/// Evaluates these signals, each after all signals that it reads. Each evaluation is a step.
+pub(crate) fn work_out<L: Ledger>(
     piece: &Piece,
     signals: &[u32],
     state: &State,
     values: &mut [u128],
     room: &mut [u128],
+    steps: &mut Steps<L>,
 )
     requires formed { IsWellFormed piece.now }
     requires ordered { IsInOrder piece.now }
@@ -32,20 +36,23 @@ pub(crate) fn work_out(
     ensures typed { AreTyped (signal_shapes piece.now) values.new }
     ensures inputs { inputs_in piece.now values.new ≡ inputs_in piece.now values.old }
     ensures right { (marks : List Bool) → StandBehind piece.now marks signals.now → AreRight piece.now state.now values.old (λ s. is_marked marks s ≡ true) → AreRight piece.now state.now values.new (λ s. (is_marked marks s ≡ true) ⊎ Contains signals.now s) }
+    ensures steps { steps.new ≡ steps.old + length signals.now }
 {
     for signal in signals {
-        let value = worked(piece, *signal, state, values, room);
+        let value = worked(piece, *signal, state, values, room, steps);
         values[*signal as usize] = value;
     }
 }
 
-/// Evaluates all signals that aren't marked, from the first to the last. The in-signals are marked.
-pub(crate) fn work_rest(
+/// Evaluates all signals that aren't marked, from the first to the last. The in-signals are marked. Each evaluation
+/// is a step.
+pub(crate) fn work_rest<L: Ledger>(
     piece: &Piece,
     marks: &[bool],
     state: &State,
     values: &mut [u128],
     room: &mut [u128],
+    steps: &mut Steps<L>,
 )
     requires formed { IsWellFormed piece.now }
     requires ordered { IsInOrder piece.now }
@@ -58,17 +65,25 @@ pub(crate) fn work_rest(
     ensures typed { AreTyped (signal_shapes piece.now) values.new }
     ensures inputs { inputs_in piece.now values.new ≡ inputs_in piece.now values.old }
     ensures right { AreRight piece.now state.now values.new (λ s. s < length piece.now.signals) }
+    ensures steps { steps.new ≤ steps.old + unset_among piece.now marks.now }
 {
     for signal in 0..piece.signal_count() {
         if !marks[signal] {
-            let value = worked(piece, signal as u32, state, values, room);
+            let value = worked(piece, signal as u32, state, values, room, steps);
             values[signal] = value;
         }
     }
 }
 
-// The value of a signal that isn't an in-signal, from the values of the signals that it reads.
-fn worked(piece: &Piece, signal: u32, state: &State, values: &[u128], room: &mut [u128]) -> u128
+// The value of a signal that isn't an in-signal, from the values of the signals that it reads. This is one step.
+fn worked<L: Ledger>(
+    piece: &Piece,
+    signal: u32,
+    state: &State,
+    values: &[u128],
+    room: &mut [u128],
+    steps: &mut Steps<L>,
+) -> u128
     requires formed { IsWellFormed piece.now }
     requires inner { IsInner piece.now signal }
     requires state { IsState piece.now state.now }
@@ -76,7 +91,9 @@ fn worked(piece: &Piece, signal: u32, state: &State, values: &[u128], room: &mut
     requires room { HasRoom piece.now (length room.old) }
     ensures value { result ≡ driver_value state.now [] values.now (shape_at (signal_shapes piece.now) signal) (driver_at piece.now signal) }
     ensures fits { Fits (shape_at (signal_shapes piece.now) signal) result }
+    ensures steps { steps.new ≡ steps.old + 1 }
 {
+    steps.tick();
     driven(&piece.signals()[signal as usize], state, values, room)
 }
 

@@ -2,14 +2,16 @@
 //!
 //! A [`Program`] is a well-formed circuit in an order of evaluation, with the needs of each out-signal. [`Slots`]
 //! hold the values of one cycle. A signal is done if its value of this cycle is in its place. An input is put into
-//! its place, and a signal that is done isn't evaluated again; no clause counts evaluations yet. The crate promises:
+//! its place, and a signal that is done isn't evaluated again. [`Steps`] count the evaluations. The crate promises:
 //!
 //! - `Program::needs` is exactly the in-signals to which a path of reads leads from the out-signal;
-//! - `Program::run_cone` gives the value that the out-signal has in every settled row of the state that has the
+//! - `Program::cone_once` gives the value that the out-signal has in every settled row of the state that has the
 //!   needed inputs. So the value depends on no other input (`one_cone_value`). Afterwards exactly those signals are
-//!   done that were done before or that the out-signal reaches;
-//! - `Program::run_next` goes to the next state by the settled values with the inputs that were put. Afterwards no
-//!   signal is done.
+//!   done that were done before or that the out-signal reaches. The steps, together with the signals that have still to
+//!   be evaluated (`unset`), are no more than those before. If all that it reaches was done, no step is taken;
+//! - `Program::next_once` goes to the next state by the settled values with the inputs that were put. It takes at most
+//!   `unset` steps. Afterwards no signal is done;
+//! - `run_cone` and `run_next` are the same without a count.
 //!
 //! Only `Program::of` and `Program::slots` allocate.
 #![tactic(auto)]
@@ -20,7 +22,9 @@ mod laws;
 mod program;
 mod search;
 mod slots;
+mod steps;
 
 pub use laws::one_cone_value;
 pub use program::{NoMemory, Program};
 pub use slots::Slots;
+pub use steps::Steps;

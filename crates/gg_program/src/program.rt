@@ -1,5 +1,5 @@
 //! `Program`: a piece in an order of evaluation, with the needs of each out-signal.
-ghost use Rattle.std.specs.Prelude.{◌≡◌, ℕ, ◌<◌, [], length, slice_index_or, slice_set, IfOk};
+ghost use Rattle.std.specs.Prelude.{◌≡◌, ℕ, ◌+◌, ◌<◌, ◌≤◌, [], length, slice_index_or, slice_set, IfOk};
 ghost use Rattle.gg_bits.specs.Shape.{Fits};
 ghost use Rattle.gg_flat.specs.Line.{shape_at, value_at};
 ghost use Rattle.gg_flat.specs.State.{State, IsState};
@@ -10,15 +10,18 @@ ghost use Rattle.gg_needs.specs.Needs.{AreNeeds, AreNeedsOfOuts};
 ghost use Rattle.gg_program.specs.ConeValue.{IsConeValue};
 ghost use Rattle.gg_program.specs.Slots.{NoneDone, HasInput, HasInputs, HasNeeded, AreSlots, inputs_in, with_input, DoneWith};
 ghost use Rattle.gg_program.specs.Right.{InCycle, IsCycle};
+ghost use Rattle.gg_program.specs.Unset.{unset, IsConeDone};
 
 use crate::slots::Slots;
+use crate::steps::Steps;
 use gg_bits::Ids;
 use gg_flat::{Piece, State};
 use gg_needs::needs_of;
 use std::alloc::{AllocError, Global};
 use std::error::Error;
 use std::fmt;
-use std::marker::Model;
+use std::marker::{Brand, Model};
+use std::sync::ledger::{Blank, Ledger};
 
 /// An allocation failed.
 #[derive(Clone, Copy, Debug, PartialEq, Eq)]
@@ -126,6 +129,7 @@ impl<'a> Program<'a> {
         ensures put { slots.new ≡ with_input self.now.circuit slots.old place input }
         ensures inputs { inputs_in self.now.circuit slots.new.values ≡ slice_set (inputs_in self.now.circuit slots.old.values) place input }
         ensures cycle { (state : State) → InCycle self.now.circuit state slots.old → InCycle self.now.circuit state slots.new }
+        ensures unset { unset self.now.circuit slots.new ≤ unset self.now.circuit slots.old }
     {
         let piece = self.piece;
         slots.put(piece.ins()[place as usize], input);
@@ -133,9 +137,58 @@ impl<'a> Program<'a> {
 
     /// The value of the out-signal at this place, in this state and with the inputs that it needs, which were put
     /// before. It depends on no other input. What the out-signal reaches is done then, in addition to what was done
-    /// before. Only what wasn't done is evaluated. It allocates nothing.
+    /// before. Each signal that wasn't done is evaluated at most once, and no other. It allocates nothing.
     ///
     /// State and slots are those of the program's circuit, in a cycle from this state.
+    pub fn cone_once<L: Ledger>(
+        &self,
+        state: &State,
+        slots: &mut Slots,
+        out: u32,
+        steps: &mut Steps<L>,
+    ) -> u128
+        requires out { out < length self.now.circuit.outs }
+        requires state { IsState self.now.circuit state.now }
+        requires cycle { InCycle self.now.circuit state.now slots.old }
+        requires needed { HasNeeded self.now.circuit slots.old (value_at self.now.circuit.outs out) }
+        ensures value { IsConeValue self.now.circuit state.now (inputs_in self.now.circuit slots.old.values) (value_at self.now.circuit.outs out) result }
+        ensures done { DoneWith self.now.circuit (value_at self.now.circuit.outs out) slots.old slots.new }
+        ensures inputs { inputs_in self.now.circuit slots.new.values ≡ inputs_in self.now.circuit slots.old.values }
+        ensures cycle { InCycle self.now.circuit state.now slots.new }
+        ensures steps { steps.new + unset self.now.circuit slots.new ≤ steps.old + unset self.now.circuit slots.old }
+        ensures still { IsConeDone self.now.circuit (value_at self.now.circuit.outs out) slots.old → steps.new ≡ steps.old }
+    {
+        let piece = self.piece;
+        let signal = piece.outs()[out as usize];
+        slots.reach(piece, state, signal, steps);
+        slots.value(signal)
+    }
+
+    /// Completes a cycle for which all inputs were put, with these edges. The state becomes the next one by the settled
+    /// values with these inputs, and no signal is done any more. Each signal that isn't done is evaluated at most once,
+    /// and no other. It allocates nothing.
+    ///
+    /// State and slots are those of the program's circuit, in a cycle from this state.
+    pub fn next_once<L: Ledger>(
+        &self,
+        state: &mut State,
+        slots: &mut Slots,
+        edges: &[bool],
+        steps: &mut Steps<L>,
+    )
+        requires state { IsState self.now.circuit state.old }
+        requires cycle { InCycle self.now.circuit state.old slots.old }
+        requires inputs { HasInputs self.now.circuit slots.old }
+        ensures next { IsCycle edges.now self.now.circuit state.old (inputs_in self.now.circuit slots.old.values) state.new }
+        ensures state { IsState self.now.circuit state.new }
+        ensures cycle { InCycle self.now.circuit state.new slots.new }
+        ensures none { NoneDone slots.new }
+        ensures steps { steps.new ≤ steps.old + unset self.now.circuit slots.old }
+    {
+        slots.next(self.piece, state, edges, steps);
+    }
+
+    /// `cone_once`, with nobody who looks at the steps.
     pub fn run_cone(&self, state: &State, slots: &mut Slots, out: u32) -> u128
         requires out { out < length self.now.circuit.outs }
         requires state { IsState self.now.circuit state.now }
@@ -146,17 +199,10 @@ impl<'a> Program<'a> {
         ensures inputs { inputs_in self.now.circuit slots.new.values ≡ inputs_in self.now.circuit slots.old.values }
         ensures cycle { InCycle self.now.circuit state.now slots.new }
     {
-        let piece = self.piece;
-        let signal = piece.outs()[out as usize];
-        slots.reach(piece, state, signal);
-        slots.value(signal)
+        self.cone_by::<Brand>(state, slots, out, Blank::new(1))
     }
 
-    /// Completes a cycle for which all inputs were put, with these edges. The state becomes the next one by the settled
-    /// values with these inputs, and no signal is done any more. Only what isn't done is evaluated. It allocates
-    /// nothing.
-    ///
-    /// State and slots are those of the program's circuit, in a cycle from this state.
+    /// `next_once`, with nobody who looks at the steps.
     pub fn run_next(&self, state: &mut State, slots: &mut Slots, edges: &[bool])
         requires state { IsState self.now.circuit state.old }
         requires cycle { InCycle self.now.circuit state.old slots.old }
@@ -166,6 +212,39 @@ impl<'a> Program<'a> {
         ensures cycle { InCycle self.now.circuit state.new slots.new }
         ensures none { NoneDone slots.new }
     {
-        slots.next(self.piece, state, edges);
+        self.next_by::<Brand>(state, slots, edges, Blank::new(1));
+    }
+
+    // `cone_once` with a new ledger.
+    fn cone_by<L: Ledger>(&self, state: &State, slots: &mut Slots, out: u32, blank: Blank) -> u128
+        requires name { blank.name ≡ L.name }
+        requires parts { blank.parts ≡ L.parts }
+        requires some { 0 < blank.parts }
+        requires out { out < length self.now.circuit.outs }
+        requires state { IsState self.now.circuit state.now }
+        requires cycle { InCycle self.now.circuit state.now slots.old }
+        requires needed { HasNeeded self.now.circuit slots.old (value_at self.now.circuit.outs out) }
+        ensures value { IsConeValue self.now.circuit state.now (inputs_in self.now.circuit slots.old.values) (value_at self.now.circuit.outs out) result }
+        ensures done { DoneWith self.now.circuit (value_at self.now.circuit.outs out) slots.old slots.new }
+        ensures inputs { inputs_in self.now.circuit slots.new.values ≡ inputs_in self.now.circuit slots.old.values }
+        ensures cycle { InCycle self.now.circuit state.now slots.new }
+    {
+        self.cone_once(state, slots, out, &mut Steps::<L>::new(blank))
+    }
+
+    // `next_once` with a new ledger.
+    fn next_by<L: Ledger>(&self, state: &mut State, slots: &mut Slots, edges: &[bool], blank: Blank)
+        requires name { blank.name ≡ L.name }
+        requires parts { blank.parts ≡ L.parts }
+        requires some { 0 < blank.parts }
+        requires state { IsState self.now.circuit state.old }
+        requires cycle { InCycle self.now.circuit state.old slots.old }
+        requires inputs { HasInputs self.now.circuit slots.old }
+        ensures next { IsCycle edges.now self.now.circuit state.old (inputs_in self.now.circuit slots.old.values) state.new }
+        ensures state { IsState self.now.circuit state.new }
+        ensures cycle { InCycle self.now.circuit state.new slots.new }
+        ensures none { NoneDone slots.new }
+    {
+        self.next_once(state, slots, edges, &mut Steps::<L>::new(blank));
     }
 }

@@ -1,17 +1,21 @@
 //! `Slots`: the values of a cycle, and which of them are there already.
-ghost use Rattle.std.specs.Prelude.{◌≡◌, ◌⊎◌, ℕ, ◌<◌, length, replicate, true, false, slice_set, IfOk};
+ghost use Rattle.std.specs.Prelude.{◌≡◌, ◌⊎◌, ℕ, ◌+◌, ◌<◌, ◌≤◌, length, replicate, true, false, slice_set, IfOk};
 ghost use Rattle.gg_flat.specs.Line.{value_at};
 ghost use Rattle.gg_flat.specs.WellFormed.{IsWellFormed};
 ghost use Rattle.gg_flat.specs.State.{State, IsState};
 ghost use Rattle.gg_part.specs.InOrder.{IsInOrder};
-ghost use Rattle.gg_program.specs.Slots.{inputs_in, HasInputs, HasNeeded, NoneDone, DoneWith};
+ghost use Rattle.gg_flat.specs.Circuit.{FlatCircuit};
+ghost use Rattle.gg_program.specs.Slots.{AreSlots, inputs_in, HasInputs, HasNeeded, NoneDone, DoneWith};
 ghost use Rattle.gg_program.specs.Right.{InCycle, IsCycle};
+ghost use Rattle.gg_program.specs.Unset.{unset, IsConeDone};
 
 use crate::evaluate::{work_out, work_rest};
 use crate::search::Search;
+use crate::steps::Steps;
 use gg_flat::{Piece, State};
 use std::alloc::{AllocError, Global};
 use std::marker::Model;
+use std::sync::ledger::Ledger;
 
 /// The values of a cycle. A contract sees the value of each signal, which of them are done, and the room for the
 /// nodes of a line.
@@ -57,14 +61,24 @@ impl Slots {
         })
     }
 
-    // Puts the value of a signal into its place. The signal is done then.
-    pub(crate) fn put(&mut self, signal: u32, value: u128)
+    /// Puts a value into the place of an in-signal, given by its number among the signals. The signal is done then.
+    /// All else stays.
+    pub fn put(&mut self, signal: u32, value: u128)
         requires value { signal < length self.old.values }
         requires done { signal < length self.old.done }
         ensures { self.new ≡ record { values = slice_set self.old.values signal value; done = slice_set self.old.done signal true; room = self.old.room } }
     {
         self.values[signal as usize] = value;
         self.search.mark(signal);
+    }
+
+    /// No signal is done any more. All else stays.
+    pub fn clear(&mut self)
+        ensures exact { self.new ≡ record { values = self.old.values; done = replicate (length self.old.done) false; room = self.old.room } }
+        ensures none { NoneDone self.new }
+        ensures cycle { (circuit : FlatCircuit) (state : State) → AreSlots circuit self.old → InCycle circuit state self.new }
+    {
+        self.search.clear();
     }
 
     // The value in the place of a signal.
@@ -76,7 +90,13 @@ impl Slots {
     }
 
     // Evaluates what a signal reaches and isn't done. All inputs that it needs are done.
-    pub(crate) fn reach(&mut self, piece: &Piece, state: &State, signal: u32)
+    pub(crate) fn reach<L: Ledger>(
+        &mut self,
+        piece: &Piece,
+        state: &State,
+        signal: u32,
+        steps: &mut Steps<L>,
+    )
         requires formed { IsWellFormed piece.now }
         requires ordered { IsInOrder piece.now }
         requires known { signal < length piece.now.signals }
@@ -86,6 +106,8 @@ impl Slots {
         ensures cycle { InCycle piece.now state.now self.new }
         ensures done { DoneWith piece.now signal self.old self.new }
         ensures inputs { inputs_in piece.now self.new.values ≡ inputs_in piece.now self.old.values }
+        ensures steps { steps.new + unset piece.now self.new ≤ steps.old + unset piece.now self.old }
+        ensures still { IsConeDone piece.now signal self.old → steps.new ≡ steps.old }
     {
         self.search.gather(piece, signal);
         self.search.sort();
@@ -95,12 +117,19 @@ impl Slots {
             state,
             self.values.as_mut_slice(),
             self.room.as_mut_slice(),
+            steps,
         );
         self.search.forget();
     }
 
     // Evaluates what isn't done, and goes to the next state. All inputs are done. Afterwards nothing is.
-    pub(crate) fn next(&mut self, piece: &Piece, state: &mut State, edges: &[bool])
+    pub(crate) fn next<L: Ledger>(
+        &mut self,
+        piece: &Piece,
+        state: &mut State,
+        edges: &[bool],
+        steps: &mut Steps<L>,
+    )
         requires formed { IsWellFormed piece.now }
         requires ordered { IsInOrder piece.now }
         requires state { IsState piece.now state.old }
@@ -110,6 +139,7 @@ impl Slots {
         ensures state { IsState piece.now state.new }
         ensures cycle { InCycle piece.now state.new self.new }
         ensures none { NoneDone self.new }
+        ensures steps { steps.new ≤ steps.old + unset piece.now self.old }
     {
         work_rest(
             piece,
@@ -117,6 +147,7 @@ impl Slots {
             state,
             self.values.as_mut_slice(),
             self.room.as_mut_slice(),
+            steps,
         );
         state.advance(
             piece,
@@ -124,6 +155,6 @@ impl Slots {
             self.values.as_slice(),
             self.room.as_mut_slice(),
         );
-        self.search.clear();
+        self.clear();
     }
 }

@@ -1,6 +1,6 @@
 -- The seats of all machines, after some passes, are again the seats of the network's links.
-use Rattle.std.proofs.Common.{◌≡◌, ℕ, ◌<◌, List, Some, length, sym, subst, arith}
-use Rattle.std.specs.Prelude.{slice_index_or, slice_get}
+use Rattle.std.proofs.Common.{◌≡◌, ℕ, ◌<◌, List, length, sym, subst, arith}
+use Rattle.std.specs.Prelude.{slice_index_or}
 use Rattle.std.proofs.lemmas.List.{get_or-map}
 use Rattle.std.proofs.lemmas.Option.{slice_get-get_or}
 use Rattle.gg_flat.specs.Line.{value_at}
@@ -8,37 +8,35 @@ use Rattle.gg_flat.specs.Streams.{Flow}
 use Rattle.gg_link.specs.Seats.{SeatState}
 use Rattle.gg_node.specs.Machine.{Machine, no_machine, machine_at}
 use Rattle.gg_net.specs.declared.shape.Station.{Station}
-use Rattle.gg_net.specs.Network.{Network, wire_at, kind_at, Frame, frame_of}
+use Rattle.gg_net.specs.Network.{Network, kind_at, Frame, frame_of}
 use Rattle.gg_net.specs.Kept.{MachineAt}
 use Rattle.gg_net.specs.Parted.{takes_by, enters_by}
 use Rattle.gg_net.specs.Queue.{Held}
 use Rattle.gg_net.specs.Seats.{seated, machines_by}
 use Rattle.gg_net.specs.Net.{IsListed}
-use Rattle.gg_seats.specs.Seats.{SeatCounts, Linked}
+use Rattle.gg_seats.specs.Seats.{SeatCounts, TakeSeatOf, PutSeatOf, Linked}
 use Rattle.gg_seats.specs.Pass.{IsDesk}
 
 module _ {X S T : Type 0} (takes_from : X → S → Type 0) (puts_into : X → T → Type 0) (taking : S → SeatState) (putting : T → SeatState) (flow : Flow) (net : Network) (machines : List Machine) (links : List X) where
   abbrev frame : Frame
   frame = frame_of net
 
-  -- a seat of the link of a channel, which counts what the channel's consumer counts
-  abbrev pub TakeSeatOf : ℕ → S → Type 0
-  TakeSeatOf c seat = ((link : X) → slice_get links c ≡ Some link → takes_from link seat) × SeatCounts flow net c (takes_by frame (machine_at machines (wire_at net.wires c).consumer) c) (taking seat)
+  abbrev IsTakeSeat : ℕ → S → Type 0
+  IsTakeSeat = TakeSeatOf takes_from puts_into taking putting flow net links machines
 
-  -- a seat of the link of a channel, which counts what the channel's producer counts
-  abbrev pub PutSeatOf : ℕ → T → Type 0
-  PutSeatOf c seat = ((link : X) → slice_get links c ≡ Some link → puts_into link seat) × SeatCounts flow net c (enters_by frame (machine_at machines (wire_at net.wires c).producer) c) (putting seat)
+  abbrev IsPutSeat : ℕ → T → Type 0
+  IsPutSeat = PutSeatOf takes_from puts_into taking putting flow net links machines
 
   module _ (m : ℕ) (station : Station) (listed : IsListed net.wires m (kind_at frame.kinds m) station) (take_seats : List S) (put_seats : List T) (desk : IsDesk takes_from puts_into taking putting flow net links m station.ins station.outs (machine_at machines m) take_seats put_seats) where
     -- the seats of a desk are those of the links of its machine's channels
-    pub desk-takes : (k : ℕ) (s : S) → k < length station.ins → TakeSeatOf (value_at station.ins k) (slice_index_or take_seats k s)
+    pub desk-takes : (k : ℕ) (s : S) → k < length station.ins → IsTakeSeat (value_at station.ins k) (slice_index_or take_seats k s)
     desk-takes k s lt =
         let c : ℕ = value_at station.ins k in (
           λ link there. desk.takes.belongs k s link lt there,
           subst (λ j. SeatCounts flow net c (takes_by frame (machine_at machines j) c) (taking (slice_index_or take_seats k s))) (sym (listed.into k (omega (arith, lt, listed.ins))).machine) (desk.takes.counts k s lt),
         )
 
-    pub desk-puts : (k : ℕ) (s : T) → k < length station.outs → PutSeatOf (value_at station.outs k) (slice_index_or put_seats k s)
+    pub desk-puts : (k : ℕ) (s : T) → k < length station.outs → IsPutSeat (value_at station.outs k) (slice_index_or put_seats k s)
     desk-puts k s lt =
         let c : ℕ = value_at station.outs k in (
           λ link there. desk.puts.belongs k s link lt there,
@@ -48,7 +46,7 @@ module _ {X S T : Type 0} (takes_from : X → S → Type 0) (puts_into : X → T
   -- Links for all channels, whose seats are there again, can be closed: the queues are those of the opening.
   pub linked-again : (before : List Machine) (old_puts : List T) (old_takes : List S) (queues : List Held) → Linked takes_from puts_into taking putting flow net before links old_puts old_takes queues → length links ≡ length net.wires
       → (put_seats : List T) (take_seats : List S) → length put_seats ≡ length links → length take_seats ≡ length links
-      → ((c : ℕ) (put : T) → c < length links → PutSeatOf c (slice_index_or put_seats c put)) → ((c : ℕ) (take : S) → c < length links → TakeSeatOf c (slice_index_or take_seats c take))
+      → ((c : ℕ) (put : T) → c < length links → IsPutSeat c (slice_index_or put_seats c put)) → ((c : ℕ) (take : S) → c < length links → IsTakeSeat c (slice_index_or take_seats c take))
       → Linked takes_from puts_into taking putting flow net machines links put_seats take_seats queues
   linked-again before old_puts old_takes queues h all put_seats take_seats puts_long takes_long puts_are takes_are =
       record {

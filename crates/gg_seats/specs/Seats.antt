@@ -1,6 +1,6 @@
 -- What the seats of a network's links count, while links stand for its first channels and queues for the others.
 -- Source: MEMOCODE 2009 (a queue holds the tokens that were put and not yet taken).
-use Rattle.std.specs.Prelude.{◌≡◌, ℕ, ◌+◌, ◌<◌, ◌≤◌, List, [], length, slice_index_or}
+use Rattle.std.specs.Prelude.{◌≡◌, ℕ, ◌+◌, ◌<◌, ◌≤◌, List, [], Some, length, slice_index_or, slice_get}
 use Rattle.gg_flat.specs.Streams.{Flow}
 use Rattle.gg_node.specs.Machine.{Machine, machine_at}
 use Rattle.gg_link.specs.Seats.{SeatState, stream_of}
@@ -15,6 +15,16 @@ pub record SeatCounts (flow : Flow) (net : Network) (c n : ℕ) (seat : SeatStat
   pub stream : seat.stream ≡ stream_of flow c (takes net c)
   pub capacity : seat.capacity ≡ (wire_at net.wires c).capacity
   pub count : takes net c + seat.count ≡ n
+
+-- The seats of the machines in this list.
+module _ {X S T : Type 0} (takes_from : X → S → Type 0) (puts_into : X → T → Type 0) (taking : S → SeatState) (putting : T → SeatState) (flow : Flow) (net : Network) (links : List X) (machines : List Machine) where
+  -- a seat of the link of a channel, which counts what the channel's consumer counts
+  abbrev pub TakeSeatOf : ℕ → S → Type 0
+  TakeSeatOf c seat = ((link : X) → slice_get links c ≡ Some link → takes_from link seat) × SeatCounts flow net c (takes_by (frame_of net) (machine_at machines (wire_at net.wires c).consumer) c) (taking seat)
+
+  -- a seat of the link of a channel, which counts what the channel's producer counts
+  abbrev pub PutSeatOf : ℕ → T → Type 0
+  PutSeatOf c seat = ((link : X) → slice_get links c ≡ Some link → puts_into link seat) × SeatCounts flow net c (enters_by (frame_of net) (machine_at machines (wire_at net.wires c).producer) c) (putting seat)
 
 -- a queue with these tokens in place of its own
 abbrev pub with_tokens : Held → List ℕ → Held

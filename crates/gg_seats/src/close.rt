@@ -15,7 +15,7 @@ use std::alloc::Global;
 use std::collections::VecDeque;
 use std::mem;
 
-// WithinCapacity a link. The tokens that are left in it move into the queue.
+// Closes a link. The tokens that are left in it move into the queue.
 fn close_one<L: Link>(
     alloc: Global,
     link: L,
@@ -37,7 +37,7 @@ fn close_one<L: Link>(
     queues[channel] = Queue::of(held);
 }
 
-/// WithinCapacity all links, the last first. Each queue then holds the tokens between the counts of the machines at these
+/// Closes all links, the last first. Each queue then holds the tokens between the counts of the machines at these
 /// stations.
 pub fn close_all<H: Host, L: Link, Z: Streams, E: Era>(
     alloc: Global,

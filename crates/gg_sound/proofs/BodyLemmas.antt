@@ -1,6 +1,5 @@
 -- What a plan's units and sources are.
 use Rattle.std.proofs.Common.{◌≡◌, ℕ, ◌<◌, List, length, ◌∙◌, ap, subst, arith}
-use Rattle.gg_flat.specs.Line.{value_at}
 use Rattle.gg_flat.specs.WellFormed.{IsWellFormed}
 use Rattle.gg_order.specs.Design.{Ordered}
 use Rattle.gg_partfile.specs.declared.request.Request.{Request}
@@ -15,7 +14,6 @@ use Rattle.gg_cut.specs.Channels.{wires_of}
 use Rattle.gg_cut.specs.Plan.{IsBody}
 use Rattle.gg_sound.specs.Built.{machine_in, nameless, IsGiven}
 use Rattle.gg_sound.proofs.SideLemmas.{source-gives-one}
-use Rattle.gg_sound.proofs.EdgeLemmas.{source-channel}
 
 module _ (design : Ordered) (request : Request) (default : ℕ) (plan : Plan) (columns : List (List ℕ)) (n : ℕ) (rows : List (List ℕ)) (given : IsGiven design request default plan columns n rows) (m : ℕ) (lt : m < length plan.machines) where
   body : (kind : Body) → (machine_in plan m).body ≡ kind → IsBody design (listed_of design.tree request) (wires_of design.circuit design.tree (listed_of design.tree request)) m kind
@@ -27,13 +25,12 @@ module _ (design : Ordered) (request : Request) (default : ℕ) (plan : Plan) (c
   pub unit-ordered : (part : Part) → (machine_in plan m).body ≡ Cut part → IsInOrder part.piece
   unit-ordered part is = (body (Cut part) is).1.ordered
 
-  pub source-one : (machine_in plan m).body ≡ Source → length (machine_in plan m).outs ≡ 1
-  source-one is =
-      let at = body Source is in
-      ap length (given.planned.machine m nameless lt).outs ∙ source-gives-one design.circuit design.tree (listed_of design.tree request) m at.0 at.1
+  pub source-one : (place : ℕ) → (machine_in plan m).body ≡ Source place → length (machine_in plan m).outs ≡ 1
+  source-one place is =
+      let at = body (Source place) is in
+      ap length (given.planned.machine m nameless lt).outs ∙ source-gives-one design.circuit design.tree (listed_of design.tree request) m place at.0 at.1
 
-  pub source-known : (machine_in plan m).body ≡ Source → value_at (machine_in plan m).outs 0 < length columns
-  source-known is =
-      let at = body Source is in
-      let place = ap (λ (l : List ℕ). value_at l 0) (given.planned.machine m nameless lt).outs ∙ source-channel design.circuit design.tree (listed_of design.tree request) m at.0 at.1 in
-      omega (arith, place, at.0, at.1, given.given.count)
+  pub source-known : (place : ℕ) → (machine_in plan m).body ≡ Source place → place < length columns
+  source-known place is =
+      let at = body (Source place) is in
+      omega (arith, at.0, given.given.count)

@@ -10,11 +10,11 @@ use Rattle.gg_part.specs.declared.part.Part.{Part}
 use Rattle.gg_cut.specs.declared.listed.Listed.{Listed}
 use Rattle.gg_cut.specs.declared.plan.Body.{Body}
 use Rattle.gg_cut.specs.declared.plan.Body.TheVariants.{Cut, Memory, Source, Tray}
-use Rattle.gg_cut.specs.declared.plan.Machine as planned
 use Rattle.gg_cut.specs.declared.plan.Plan.{Plan}
 use Rattle.gg_cut.specs.declared.wires.Wire.{Wire as Link}
 use Rattle.gg_cut.specs.Listed.{listed_of}
-use Rattle.gg_cut.specs.Channels.{wires_of, machine_count}
+use Rattle.gg_cut.specs.Machines.{machine_count}
+use Rattle.gg_cut.specs.Channels.{wires_of}
 use Rattle.gg_cut.specs.Plan.{wire_at as link_at, channels_to, channels_from, IsCutPart, IsBody, IsPlan}
 use Rattle.gg_memunit.specs.MemoryUnit.{count_of, needs_of, ports_of}
 use Rattle.gg_node.specs.Machine.{Machine, Port, machine_at, no_machine, needs_at}
@@ -41,7 +41,7 @@ module _ (design : Ordered) (listed : Listed) (links : List Link) (m : ℕ) (par
   ins-count = sym (length-map part.piece.ins (value_at part.globals)) ∙ ap length cut.ins ∙ length-map (channels_to links m) (λ c. (link_at links c).signal)
 
   pub outs-count : length part.piece.outs ≡ length (channels_from links m)
-  outs-count = sym (length-map part.piece.outs (value_at part.globals)) ∙ ap length cut.outs ∙ length-map (channels_from links m) (λ c. (link_at links c).signal)
+  outs-count = sym (length-map part.piece.outs (value_at part.globals)) ∙ ap length cut.outs ∙ length-map (channels_from links m) (λ c. (link_at links c).given)
 
   unit-fits : (machine : Machine) → IsUnitOf part machine → IsFitting links m (kind_of machine)
   unit-fits machine unit =
@@ -82,14 +82,14 @@ module _ (design : Ordered) (listed : Listed) (links : List Link) (m : ℕ) (par
 -- ---- all machines
 
 module _ (design : Ordered) (listed : Listed) (once : AllPairs (λ (v w : Link). v.signal ≢ w.signal) (wires_of design.circuit design.tree listed)) where
-  fits : (columns : List (List ℕ)) (n m : ℕ) (own : planned.Machine) (body : Body) (machine : Machine) → m < machine_count design.circuit listed → IsBody design listed (wires_of design.circuit design.tree listed) m body → IsBuilt columns n own body machine → IsFitting (wires_of design.circuit design.tree listed) m (kind_of machine)
-  fits columns n m own (Cut part) machine lt body built = unit-fits design listed (wires_of design.circuit design.tree listed) m part body.1 machine built
-  fits columns n m own (Memory part) machine lt body built = memory-fits design listed (wires_of design.circuit design.tree listed) m part body.2 machine built
-  fits columns n m own Source machine lt body built =
+  fits : (columns : List (List ℕ)) (n m : ℕ) (body : Body) (machine : Machine) → m < machine_count design.circuit listed → IsBody design listed (wires_of design.circuit design.tree listed) m body → IsBuilt columns n body machine → IsFitting (wires_of design.circuit design.tree listed) m (kind_of machine)
+  fits columns n m (Cut part) machine lt body built = unit-fits design listed (wires_of design.circuit design.tree listed) m part body.1 machine built
+  fits columns n m (Memory part) machine lt body built = memory-fits design listed (wires_of design.circuit design.tree listed) m part body.2 machine built
+  fits columns n m (Source place) machine lt body built =
       subst (λ (t : Machine). IsFitting (wires_of design.circuit design.tree listed) m (kind_of t)) (sym built)
       (record {
-        ins = sym (source-takes design.circuit design.tree listed m body.0 body.1);
-        outs = sym (source-gives-one design.circuit design.tree listed m body.0 body.1);
+        ins = sym (source-takes design.circuit design.tree listed m place body.0 body.1);
+        outs = sym (source-gives-one design.circuit design.tree listed m place body.0 body.1);
         needs = none;
         fields = no-ports-fields 0;
         numbers = no-ports-numbers;
@@ -98,7 +98,7 @@ module _ (design : Ordered) (listed : Listed) (once : AllPairs (λ (v w : Link).
       none : (o i : ℕ) → Contains (needs_at ([] ∷ []) o) i → i < 0
       none zero i has = absurd (omega (arith, has.1))
       none (suc o) i has = absurd (omega (arith, has.1))
-  fits columns n m own Tray machine lt body built =
+  fits columns n m Tray machine lt body built =
       subst (λ (t : Machine). IsFitting (wires_of design.circuit design.tree listed) m (kind_of t)) (sym built)
       (record {
         ins = sym (tray-takes design.circuit design.tree listed once m body lt);
@@ -120,5 +120,5 @@ fitting design request default plan columns n machines planned once built =
       total = length-map machines kind_of ∙ built.count;
       each = λ m lt.
           subst (IsFitting (wires_of design.circuit design.tree listed) m) (sym (kind-is machines m (omega (arith, lt, built.count))))
-          (fits design listed once columns n m (machine_in plan m) (machine_in plan m).body (machine_at machines m) (omega (arith, lt, planned.machine_total)) (planned.machine m nameless lt).body (built.each m lt));
+          (fits design listed once columns n m (machine_in plan m).body (machine_at machines m) (omega (arith, lt, planned.machine_total)) (planned.machine m nameless lt).body (built.each m lt));
     }

@@ -1,6 +1,6 @@
 -- The part of a listed memory: its memory, whose fields are just its in-signals and its out-signals.
-use Rattle.std.proofs.Common.{◌≡◌, ◌≢◌, ℕ, suc, ◌+◌, ◌-◌, ◌<◌, ◌≤◌, List, [], ◌∷◌, ◌++◌, length, map, get_or, Some, None, refl, sym, ◌∙◌, ap, subst, inl, inr, ◌⊎◌, arith}
-use Rattle.std.specs.Prelude.{Option, Bool, All, AllPairs, Contains, ◌==◌}
+use Rattle.std.proofs.Common.{◌≡◌, ◌≢◌, ℕ, ◌+◌, ◌-◌, ◌<◌, ◌≤◌, List, [], ◌∷◌, ◌++◌, length, map, get_or, refl, sym, ◌∙◌, ap, subst, inl, inr, ◌⊎◌, arith}
+use Rattle.std.specs.Prelude.{All, AllPairs, Contains, ◌==◌}
 use Rattle.std.proofs.lemmas.List.{length-map, get_or-map}
 use Rattle.std.proofs.lemmas.List.Elements.{Contains-append_left, Contains-append_right, Contains-get_or}
 use Rattle.gg_flat.specs.declared.memory.Reader.{Reader}
@@ -11,20 +11,21 @@ use Rattle.gg_flat.specs.Circuit.{FlatCircuit, readers_at}
 use Rattle.gg_flat.specs.Tree.{InstanceTree, memory_at}
 use Rattle.gg_flat.specs.Scoped.{writers_at}
 use Rattle.gg_flat.proofs.ListLemmas.{Contains-map}
+use Rattle.gg_moved.specs.KeepsToTree.{KeepsToTree}
 use Rattle.gg_order.specs.Design.{Ordered, IsDesign}
 use Rattle.gg_part.specs.Part.{IsMemoryFrom, MemoryBelow, renamed_memory, renamed_reader, renamed_writer}
 use Rattle.gg_part.specs.declared.part.Part.{Part}
 use Rattle.gg_cut.specs.declared.listed.Listed.{Listed}
 use Rattle.gg_cut.specs.declared.wires.Wire.{Wire as Link}
 use Rattle.gg_cut.specs.Listed.{first_place, unit_or_hub, memory_or, has_signal, owner_of, owner_of_instance}
-use Rattle.gg_cut.specs.Channels.{wire, flattened, first_memory, first_source, reader_wires, writer_wires, wires_of}
-use Rattle.gg_cut.specs.Plan.{wire_at as link_at, channels_to, channels_from, signals_of, IsInner, Makes, Takes, HasMemory, IsCutPart}
-use Rattle.gg_cut.proofs.PathLemmas.{first_place-Some}
-use Rattle.gg_cut.proofs.WireLemmas.{unit_or_hub-below}
+use Rattle.gg_cut.specs.Machines.{first_memory, first_source}
+use Rattle.gg_cut.specs.Channels.{wire, flattened, reader_wires, writer_wires, wires_of}
+use Rattle.gg_cut.specs.Plan.{wire_at as link_at, channels_to, channels_from, signals_of, givens_of, IsInner, Makes, Takes, HasMemory, IsCutPart}
+use Rattle.gg_cut.proofs.WireLemmas.{unit-below, unit_or_hub-below, givens-same}
 use Rattle.gg_closed.specs.Apart.{AreApart, AreFew}
 use Rattle.gg_closed.proofs.ListLemmas.{Somewhere, map-cases, flattened-in, AllPairs-append, AllPairs-map}
 use Rattle.gg_closed.proofs.KindLemmas.{outside_memory, in-fields}
-use Rattle.gg_closed.proofs.MakerLemmas.{find-unit, no-field-place, takes}
+use Rattle.gg_closed.proofs.MakerLemmas.{find-unit, no-field-place, output-owner, takes}
 use Rattle.gg_closed.proofs.WrittenLemmas.{inner-plain}
 use Rattle.gg_closed.proofs.ClosedLemmas.{owner-listed, owner-unlisted}
 use Rattle.gg_closed.proofs.ChoiceLemmas.{pairs-once}
@@ -57,14 +58,7 @@ pub record IsMemoryPart (part : Part) (memory : Memory) : Type 0 where
   pub ins_once : AllPairs (λ a b. a ≢ b) part.piece.ins
   pub once : AllPairs (λ a b. a ≢ b) (part.piece.ins ++ part.piece.outs)
 
-hub-below : {A : Type 0} (test : A → Bool) (xs : List A) → unit_or_hub (first_place test xs) < suc (length xs)
-hub-below test xs = by (first_place test xs) refl
-  where
-    by : (found : Option ℕ) → first_place test xs ≡ found → unit_or_hub found < suc (length xs)
-    by None e = omega arith
-    by (Some u) e = let lt = (first_place-Some test xs u e).within in omega (arith, lt)
-
-module _ (design : Ordered) (listed : Listed) (m : ℕ) (part : Part) (is : IsDesign design) (apart : AreApart design.tree listed) (low : first_memory listed ≤ m) (high : m < first_source listed) (cut : IsCutPart design listed (wires_of design.circuit design.tree listed) m part) where
+module _ (design : Ordered) (listed : Listed) (m : ℕ) (part : Part) (is : IsDesign design) (keeps : KeepsToTree design.circuit design.tree) (apart : AreApart design.tree listed) (low : first_memory listed ≤ m) (high : m < first_source listed) (cut : IsCutPart design listed (wires_of design.circuit design.tree listed) m part) where
   abbrev circuit : FlatCircuit
   circuit = design.circuit
 
@@ -86,21 +80,25 @@ module _ (design : Ordered) (listed : Listed) (m : ℕ) (part : Part) (is : IsDe
   number : first_memory listed + i ≡ m
   number = omega (arith, low)
 
+  -- the top's outputs are the hub's
+  outputs-apart : (k : ℕ) → k < length design.circuit.outs → owner_of design.circuit design.tree listed (value_at design.circuit.outs k) ≢ m
+  outputs-apart k lt same = omega (arith, same, output-owner circuit tree listed keeps.fitting keeps.scoped apart k lt, low)
+
   -- ---- the memory
 
   has : HasMemory tree listed m own
-  has = record { place = value_at listed.memories i; known = apart.memories i 0 there; is = refl; owner = owner-listed circuit tree listed is.formed is.fitting is.scoped apart i there ∙ number }
+  has = record { place = value_at listed.memories i; known = apart.memories i 0 there; is = refl; owner = owner-listed circuit tree listed is.formed keeps.fitting keeps.scoped apart i there ∙ number }
 
   own-only : (k : ℕ) → HasMemory tree listed m k → k ≡ own
   own-only k h = by (find-unit listed.memories h.place)
     where
       by : Somewhere (λ j. h.place ≡ j) listed.memories ⊎ All (λ j. h.place ≢ j) listed.memories → k ≡ own
       by (inl at) =
-          let to : first_memory listed + at.place ≡ m = sym (owner-listed circuit tree listed is.formed is.fitting is.scoped apart at.place at.within) ∙ ap (λ j. memory_or (length listed.units) (owner_of_instance tree listed.units (memory_at tree j).instance) (first_place (λ d. d == j) listed.memories)) (sym (at.holds 0)) ∙ h.owner in
+          let to : first_memory listed + at.place ≡ m = sym (owner-listed circuit tree listed is.formed keeps.fitting keeps.scoped apart at.place at.within) ∙ ap (λ j. memory_or (length listed.units) (owner_of_instance tree listed.units (memory_at tree j).instance) (first_place (λ d. d == j) listed.memories)) (sym (at.holds 0)) ∙ h.owner in
           let same : at.place ≡ i = omega (arith, to, number) in
           sym h.is ∙ ap (λ j. (memory_at tree j).memory) (at.holds 0 ∙ ap (value_at listed.memories) same)
       by (inr none) =
-          let to = sym (owner-unlisted circuit tree listed is.formed is.fitting is.scoped apart h.place (λ j d lt same. none j d lt (sym same))) ∙ h.owner in
+          let to = sym (owner-unlisted circuit tree listed is.formed keeps.fitting keeps.scoped apart h.place (λ j d lt same. none j d lt (sym same))) ∙ h.owner in
           let below = unit_or_hub-below tree listed.units (memory_at tree h.place).instance in
           absurd (omega (arith, to, below, low))
 
@@ -122,8 +120,8 @@ module _ (design : Ordered) (listed : Listed) (m : ℕ) (part : Part) (is : IsDe
   inner-low : (s : ℕ) → IsInner links s → owner_of circuit tree listed s < first_memory listed
   inner-low s inner =
       let other = unit_or_hub (first_place (has_signal tree s) listed.units) in
-      let none = ap (memory_or (length listed.units) other) (no-field-place circuit tree listed s (inner-plain circuit tree listed is.fitting is.scoped apart s inner)) in
-      let below = hub-below (has_signal tree s) listed.units in
+      let none = ap (memory_or (length listed.units) other) (no-field-place circuit tree listed s (inner-plain circuit tree listed keeps.fitting keeps.scoped apart s inner)) in
+      let below = unit-below (has_signal tree s) listed.units in
       omega (arith, none, below)
 
   sides : (s : ℕ) → s < length part.globals → Contains (part.piece.ins ++ part.piece.outs) s
@@ -131,12 +129,16 @@ module _ (design : Ordered) (listed : Listed) (m : ℕ) (part : Part) (is : IsDe
     where
       by : Makes circuit tree listed links m (value_at part.globals s) ⊎ Takes links m (value_at part.globals s) → Contains (part.piece.ins ++ part.piece.outs) s
       by (inl (inl inner)) = let below = inner-low (value_at part.globals s) inner.2 in absurd (omega (arith, below, inner.1, low))
-      by (inl (inr gives)) = Contains-append_right part.piece.ins part.piece.outs s (contains-back part.globals cut.is.once part.piece.outs (signals_of links (channels_from links m)) s cut.is.outs cut.outs lt gives)
+      by (inl (inr gives)) = Contains-append_right part.piece.ins part.piece.outs s (contains-back part.globals cut.is.once part.piece.outs (givens_of links (channels_from links m)) s cut.is.outs cut.outs lt gives)
       by (inr taken) = Contains-append_left part.piece.ins part.piece.outs s (in-part s lt taken)
+
+  -- the out-signals are the signals of the channels that the machine gives
+  outs-are : map (value_at part.globals) part.piece.outs ≡ signals_of links (channels_from links m)
+  outs-are = cut.outs ∙ givens-same circuit tree listed (channels_from links m)
 
   -- no two channels carry the same signal
   links-once : AllPairs (λ (v w : Link). v.signal ≢ w.signal) links
-  links-once = pairs-once circuit tree listed is.formed is.fitting is.scoped apart
+  links-once = pairs-once circuit tree listed is.formed keeps.fitting keeps.scoped apart
 
   ins-once : AllPairs (λ a b. a ≢ b) part.piece.ins
   ins-once =
@@ -150,7 +152,7 @@ module _ (design : Ordered) (listed : Listed) (m : ℕ) (part : Part) (is : IsDe
   outs-once : AllPairs (λ a b. a ≢ b) part.piece.outs
   outs-once =
       let channels = channels_from links m in
-      distinct-back (value_at part.globals) part.piece.outs (signals_of links channels) cut.outs
+      distinct-back (value_at part.globals) part.piece.outs (signals_of links channels) outs-are
       (AllPairs-map (λ a b. a ≢ b) (λ c. (link_at links c).signal) channels (λ j k d less lt same.
       let a = (given-is links m (get_or channels j d) (Contains-get_or channels j d (omega (arith, less, lt)))).known in
       let b = (given-is links m (get_or channels k d) (Contains-get_or channels k d lt)).known in
@@ -162,11 +164,11 @@ module _ (design : Ordered) (listed : Listed) (m : ℕ) (part : Part) (is : IsDe
       let to = channels_to links m in
       let from = channels_from links m in
       let c = map-cases (λ k. (link_at links k).signal) to (value_at part.globals x) (subst (λ (l : List ℕ). Contains l (value_at part.globals x)) cut.ins (Contains-map (value_at part.globals) part.piece.ins x p)) in
-      let d = map-cases (λ k. (link_at links k).signal) from (value_at part.globals y) (subst (λ (l : List ℕ). Contains l (value_at part.globals y)) cut.outs (Contains-map (value_at part.globals) part.piece.outs y q)) in
+      let d = map-cases (λ k. (link_at links k).signal) from (value_at part.globals y) (subst (λ (l : List ℕ). Contains l (value_at part.globals y)) outs-are (Contains-map (value_at part.globals) part.piece.outs y q)) in
       let taken = taken-is links m (get_or to c.place 0) (Contains-get_or to c.place 0 c.within) in
       let given = given-is links m (get_or from d.place 0) (Contains-get_or from d.place 0 d.within) in
       let one = link-one links (get_or to c.place 0) (get_or from d.place 0) links-once taken.known given.known (c.holds 0 ∙ ap (value_at part.globals) same ∙ sym (d.holds 0)) in
-      let end = ends circuit tree listed is.fitting apart (get_or from d.place 0) (wire 0 0 0) given.known in
+      let end = ends circuit tree listed keeps.fitting apart (get_or from d.place 0) (wire 0 0 0) given.known in
       end.apart (given.producer ∙ sym (ap (λ k. (link_at links k).consumer) (sym one) ∙ taken.consumer))
 
   once : AllPairs (λ a b. a ≢ b) (part.piece.ins ++ part.piece.outs)
@@ -228,7 +230,7 @@ module _ (design : Ordered) (listed : Listed) (m : ℕ) (part : Part) (is : IsDe
     -- a field that goes to the memory is an in-signal
     to-part : (s : ℕ) → s < length part.globals → Contains links (wire (value_at part.globals s) outside (first_memory listed + i)) → Contains part.piece.ins s
     to-part s lt h =
-        in-part s lt (subst (λ k. Takes links k (value_at part.globals s)) number (takes circuit tree listed is.fitting is.scoped apart (value_at part.globals s) outside (first_memory listed + i) h))
+        in-part s lt (subst (λ k. Takes links k (value_at part.globals s)) number (takes circuit tree listed keeps.fitting keeps.scoped apart (value_at part.globals s) outside (first_memory listed + i) h))
 
     looks : All (ReaderAmong part.piece.ins) memory.readers
     looks r any lt =
@@ -251,12 +253,12 @@ module _ (design : Ordered) (listed : Listed) (m : ℕ) (part : Part) (is : IsDe
     words : part.piece.outs ≡ map (λ (reader : Reader). reader.word) memory.readers
     words =
         words-back part.globals cut.is.once part.piece.outs memory.readers cut.is.outs below.readers
-        (cut.outs ∙ memory-gives circuit tree listed m i there number ∙ ap (map (λ (reader : Reader). reader.word)) readers)
+        (outs-are ∙ memory-gives circuit tree listed m i there number outputs-apart ∙ ap (map (λ (reader : Reader). reader.word)) readers)
 
     few : AreFew circuit tree listed → length memory.readers + length memory.writers ≤ 16384
     few are =
         let channels = are.channels in
-        let ports = memory-few circuit tree listed m i there number in
+        let ports = memory-few circuit tree listed m i there number outputs-apart in
         let reads : length (readers_at circuit own) ≡ length memory.readers = ap length readers ∙ length-map memory.readers (renamed_reader part.globals) in
         let writes : length (writers_at circuit own) ≡ length memory.writers = ap length writers ∙ length-map memory.writers (renamed_writer part.globals) in
         omega (arith, channels, ports, reads, writes)

@@ -11,9 +11,8 @@ use Rattle.gg_part.specs.declared.part.Part.{Part}
 use Rattle.gg_cut.specs.declared.listed.Listed.{Listed}
 use Rattle.gg_cut.specs.declared.plan.Body.{Body}
 use Rattle.gg_cut.specs.declared.plan.Body.TheVariants.{Cut, Memory, Source, Tray}
-use Rattle.gg_cut.specs.declared.plan.Machine as planned
 use Rattle.gg_cut.specs.declared.wires.Wire.{Wire as Link}
-use Rattle.gg_cut.specs.Plan.{channels_to, channels_from, signals_of, IsCutPart, IsBody}
+use Rattle.gg_cut.specs.Plan.{channels_to, channels_from, signals_of, givens_of, IsCutPart, IsBody}
 use Rattle.gg_memunit.specs.MemoryUnit.{needs_of}
 use Rattle.gg_node.specs.Machine.{Machine, needs_at}
 use Rattle.gg_net.specs.Network.{Kind, kind_of}
@@ -21,9 +20,9 @@ use Rattle.gg_sound.specs.Built.{IsUnitOf, IsMemoryOf, IsBuilt}
 use Rattle.gg_sound.proofs.PortLemmas.{needs-there, needs-count, piece-needs}
 use Rattle.gg_sound.proofs.RankLemmas.{reach-in}
 
--- in the circuit, the signal of the channel at out o of machine m reaches the signal of the channel at in i
+-- in the circuit, the signal by which the channel at out o of machine m is given reaches the signal of the channel at in i
 abbrev pub ReachesIn : FlatCircuit → List Link → ℕ → ℕ → ℕ → Type 0
-ReachesIn circuit links m o i = Reaches circuit (value_at (signals_of links (channels_from links m)) o) (value_at (signals_of links (channels_to links m)) i)
+ReachesIn circuit links m o i = Reaches circuit (value_at (givens_of links (channels_from links m)) o) (value_at (signals_of links (channels_to links m)) i)
 
 -- the signals of a machine's outs reach those of the ins that they need
 pub record HasNeeds (circuit : FlatCircuit) (links : List Link) (m : ℕ) (kind : Kind) : Type 0 where
@@ -34,7 +33,7 @@ module _ (design : Ordered) (listed : Listed) (links : List Link) (m : ℕ) (par
   part-reaches : (o i : ℕ) → o < length part.piece.outs → i < length part.piece.ins → Reaches part.piece (value_at part.piece.outs o) (value_at part.piece.ins i) → ReachesIn design.circuit links m o i
   part-reaches o i low less to =
       let whole = reach-in design.circuit part.piece part.globals part.held part.memories cut.is (value_at part.piece.outs o) (value_at part.piece.ins i) (cut.is.outs o low) to in
-      let out : value_at part.globals (value_at part.piece.outs o) ≡ value_at (signals_of links (channels_from links m)) o = sym (get_or-map (value_at part.globals) part.piece.outs o 0 0 low) ∙ ap (λ (l : List ℕ). value_at l o) cut.outs in
+      let out : value_at part.globals (value_at part.piece.outs o) ≡ value_at (givens_of links (channels_from links m)) o = sym (get_or-map (value_at part.globals) part.piece.outs o 0 0 low) ∙ ap (λ (l : List ℕ). value_at l o) cut.outs in
       let into : value_at part.globals (value_at part.piece.ins i) ≡ value_at (signals_of links (channels_to links m)) i = sym (get_or-map (value_at part.globals) part.piece.ins i 0 0 less) ∙ ap (λ (l : List ℕ). value_at l i) cut.ins in
       subst (λ (s : ℕ). Reaches design.circuit s (value_at (signals_of links (channels_to links m)) i)) out
       (subst (λ (s : ℕ). Reaches design.circuit (value_at part.globals (value_at part.piece.outs o)) s) into whole)
@@ -73,12 +72,12 @@ module _ (design : Ordered) (listed : Listed) (links : List Link) (m : ℕ) (par
       })
 
 -- this holds for each machine of the network
-pub has-needs : (design : Ordered) (listed : Listed) (links : List Link) (columns : List (List ℕ)) (n m : ℕ) (own : planned.Machine) (body : Body) (machine : Machine) → IsBody design listed links m body → IsBuilt columns n own body machine → HasNeeds design.circuit links m (kind_of machine)
-has-needs design listed links columns n m own (Cut part) machine body built = unit-needs design listed links m part body.1 machine built
-has-needs design listed links columns n m own (Memory part) machine body built = memory-needs design listed links m part body.2 machine built
-has-needs design listed links columns n m own Source machine body built = subst (λ (t : Machine). HasNeeds design.circuit links m (kind_of t)) (sym built) (record { reach = none })
+pub has-needs : (design : Ordered) (listed : Listed) (links : List Link) (columns : List (List ℕ)) (n m : ℕ) (body : Body) (machine : Machine) → IsBody design listed links m body → IsBuilt columns n body machine → HasNeeds design.circuit links m (kind_of machine)
+has-needs design listed links columns n m (Cut part) machine body built = unit-needs design listed links m part body.1 machine built
+has-needs design listed links columns n m (Memory part) machine body built = memory-needs design listed links m part body.2 machine built
+has-needs design listed links columns n m (Source place) machine body built = subst (λ (t : Machine). HasNeeds design.circuit links m (kind_of t)) (sym built) (record { reach = none })
   where
     none : (o i : ℕ) → Contains (needs_at ([] ∷ []) o) i → ReachesIn design.circuit links m o i
     none zero i has = absurd (omega (arith, has.1))
     none (suc o) i has = absurd (omega (arith, has.1))
-has-needs design listed links columns n m own Tray machine body built = subst (λ (t : Machine). HasNeeds design.circuit links m (kind_of t)) (sym built) (record { reach = λ o i has. absurd (omega (arith, has.1)) })
+has-needs design listed links columns n m Tray machine body built = subst (λ (t : Machine). HasNeeds design.circuit links m (kind_of t)) (sym built) (record { reach = λ o i has. absurd (omega (arith, has.1)) })

@@ -37,12 +37,12 @@ module _ (design : Ordered) (request : Request) (default : ℕ) (plan : Plan) (c
   links = wires_of design.circuit design.tree (listed_of design.tree request)
 
   -- a machine with this body begins in its part of the opening
-  opens : (m : ℕ) (own : planned.Machine) (body : Body) (machine : Machine) → IsBody design listed links m body → state_in (states_of plan (opening design.circuit)) m ≡ body_state body (opening design.circuit) → IsBuilt columns n own body machine → IsOpening (flow_of plan design rows) m machine
-  opens m own (Cut part) machine body begins unit =
+  opens : (m : ℕ) (body : Body) (machine : Machine) → IsBody design listed links m body → state_in (states_of plan (opening design.circuit)) m ≡ body_state body (opening design.circuit) → IsBuilt columns n body machine → IsOpening (flow_of plan design rows) m machine
+  opens m (Cut part) machine body begins unit =
       subst (IsOpening (flow_of plan design rows) m) (sym unit.is)
       (record { cycle = refl; state = unit-begins design.circuit part body.1.is ∙ sym begins; served = refl; latches = latches-of (length part.piece.ins); flags = flags-of (length part.piece.outs); kept = refl })
-  opens m own (Memory part) machine body begins memory =
-      let own = memory-part design listed m part given.design_is (faultless-apart design request given.faultless given.design_is.fitting) body.0 body.1 body.2 (faultless-few design request given.faultless) in
+  opens m (Memory part) machine body begins memory =
+      let own = memory-part design listed m part given.design_is given.keeps (faultless-apart design request given.faultless given.keeps.fitting) body.0 body.1 body.2 (faultless-few design request given.faultless) in
       subst (IsOpening (flow_of plan design rows) m) (sym memory.is)
       (record {
         cycle = refl;
@@ -52,11 +52,11 @@ module _ (design : Ordered) (request : Request) (default : ℕ) (plan : Plan) (c
         flags = flags-of (length memory.alone.piece.outs);
         kept = refl;
       })
-  opens m own Source machine body begins is = subst (IsOpening (flow_of plan design rows) m) (sym is) (record { cycle = refl; state = refl; served = refl; latches = refl; flags = refl; kept = refl })
-  opens m own Tray machine body begins is = subst (IsOpening (flow_of plan design rows) m) (sym is) (record { cycle = refl; state = refl; served = refl; latches = refl; flags = refl; kept = refl })
+  opens m (Source place) machine body begins is = subst (IsOpening (flow_of plan design rows) m) (sym is) (record { cycle = refl; state = refl; served = refl; latches = refl; flags = refl; kept = refl })
+  opens m Tray machine body begins is = subst (IsOpening (flow_of plan design rows) m) (sym is) (record { cycle = refl; state = refl; served = refl; latches = refl; flags = refl; kept = refl })
 
   pub built-opening : (m : ℕ) → m < length machines → IsOpening (flow_of plan design rows) m (machine_at machines m)
   built-opening m lt =
       let known : m < length plan.machines = omega (arith, lt, built.count) in
-      opens m (machine_in plan m) (machine_in plan m).body (machine_at machines m) (given.planned.machine m nameless known).body
+      opens m (machine_in plan m).body (machine_at machines m) (given.planned.machine m nameless known).body
       (get_or-map (λ (machine : planned.Machine). body_state machine.body (opening design.circuit)) plan.machines m nameless no_state known) (built.each m known)

@@ -7,6 +7,7 @@ use Rattle.gg_partfile.specs.declared.request.Request.{Request}
 use Rattle.gg_cut.specs.declared.plan.Plan.{Plan}
 use Rattle.gg_cut.specs.declared.wires.Wire.{Wire as Link}
 use Rattle.gg_cut.specs.Listed.{listed_of}
+use Rattle.gg_cut.proofs.WireLemmas.{given-same}
 use Rattle.gg_cut.specs.Channels.{wires_of}
 use Rattle.gg_cut.specs.Plan.{wire_at as link_at}
 use Rattle.gg_cut.proofs.RangeLemmas.{filter-few}
@@ -28,10 +29,10 @@ module _ (design : Ordered) (request : Request) (default : ℕ) (plan : Plan) (c
   pub links-once : AllPairs (λ (v w : Link). v.signal ≢ w.signal) (wires_of design.circuit design.tree (listed_of design.tree request))
   links-once =
       let is = given.design_is in
-      pairs-once design.circuit design.tree (listed_of design.tree request) is.formed is.fitting is.scoped (faultless-apart design request given.faultless is.fitting)
+      pairs-once design.circuit design.tree (listed_of design.tree request) is.formed given.keeps.fitting given.keeps.scoped (faultless-apart design request given.faultless given.keeps.fitting)
 
   pub links : AreLinks plan (wires_of design.circuit design.tree (listed_of design.tree request))
-  links = links-of design request default plan given.design_is given.faultless given.some given.planned
+  links = links-of design request default plan given.keeps given.faultless given.some given.planned
 
   pub fit : AreFitting (wires_of design.circuit design.tree (listed_of design.tree request)) (length plan.machines) (map kind_of machines)
   fit = fitting design request default plan columns n machines given.planned links-once built
@@ -62,7 +63,7 @@ module _ (design : Ordered) (request : Request) (default : ℕ) (plan : Plan) (c
       let listed = listed_of design.tree request in
       let all = wires_of design.circuit design.tree listed in
       subst (HasNeeds design.circuit all m) (sym (kind-is machines m (omega (arith, lt, built.count))))
-      (has-needs design listed all columns n m (machine_in plan m) (machine_in plan m).body (machine_at machines m) (given.planned.machine m nameless lt).body (built.each m lt))
+      (has-needs design listed all columns n m (machine_in plan m).body (machine_at machines m) (given.planned.machine m nameless lt).body (built.each m lt))
 
   pub plan-no-ring : HasNoRing (plan_frame plan machines n)
-  plan-no-ring = no-ring plan (wires_of design.circuit design.tree (listed_of design.tree request)) (map kind_of machines) n design.circuit design.order given.design_is.ordered links links-once needs
+  plan-no-ring = no-ring plan (wires_of design.circuit design.tree (listed_of design.tree request)) (map kind_of machines) n design.circuit design.order given.design_is.ordered links links-once (given-same design.circuit design.tree (listed_of design.tree request)) needs

@@ -9,7 +9,7 @@ use Rattle.gg_flat.specs.Order.{IsOrder}
 use Rattle.gg_cut.specs.declared.plan.Plan.{Plan}
 use Rattle.gg_cut.specs.declared.wires.Wire.{Wire as Link}
 use Rattle.gg_cut.specs.Channels.{wire}
-use Rattle.gg_cut.specs.Plan.{wire_at as link_at, channels_to, channels_from, signals_of}
+use Rattle.gg_cut.specs.Plan.{wire_at as link_at, channels_to, channels_from, signals_of, givens_of}
 use Rattle.gg_node.specs.Machine.{needs_at}
 use Rattle.gg_net.specs.Network.{wire_at, Kind, kind_at}
 use Rattle.gg_net.specs.Kept.{NeedsChannel, HasNoRing}
@@ -20,7 +20,7 @@ use Rattle.gg_sound.proofs.SideLemmas.{link-one}
 use Rattle.gg_sound.proofs.RankLemmas.{reach-lower}
 use Rattle.gg_sound.proofs.NeedLemmas.{HasNeeds}
 
-module _ (plan : Plan) (links : List Link) (kinds : List Kind) (end : ℕ) (circuit : FlatCircuit) (order : List ℕ) (ordered : IsOrder circuit order) (are : AreLinks plan links) (once : AllPairs (λ (v w : Link). v.signal ≢ w.signal) links)
+module _ (plan : Plan) (links : List Link) (kinds : List Kind) (end : ℕ) (circuit : FlatCircuit) (order : List ℕ) (ordered : IsOrder circuit order) (are : AreLinks plan links) (once : AllPairs (λ (v w : Link). v.signal ≢ w.signal) links) (given-same : (c : ℕ) → (link_at links c).given ≡ (link_at links c).signal)
     (needs : (m : ℕ) → m < length plan.machines → HasNeeds circuit links m (kind_at kinds m)) where
   -- the place of each link's signal in the order
   abbrev ranks : List ℕ
@@ -53,13 +53,13 @@ module _ (plan : Plan) (links : List Link) (kinds : List Kind) (end : ℕ) (circ
       (subst (λ k. Contains (needs_at (kind_at kinds p).needs k) need.place) from.out
       (subst (λ m. Contains (needs_at (kind_at kinds m).needs (wire_at (wires_of_plan plan) c).out) need.place) from.producer need.needed)) in
       let to = (needs p (are.ends c lc).producer).reach o i needed in
-      let out : value_at (signals_of links (channels_from links p)) o ≡ (link_at links c).signal = get_or-map (λ k. (link_at links k).signal) (channels_from links p) o 0 0 given.within ∙ ap (λ k. (link_at links k).signal) given.is in
+      let out : value_at (givens_of links (channels_from links p)) o ≡ (link_at links c).signal = get_or-map (λ k. (link_at links k).given) (channels_from links p) o 0 0 given.within ∙ ap (λ k. (link_at links k).given) given.is ∙ given-same c in
       let in_signal : value_at (signals_of links (channels_to links p)) i ≡ (link_at links d).signal = get_or-map (λ k. (link_at links k).signal) (channels_to links p) i 0 0 taken.within ∙ ap (λ k. (link_at links k).signal) taken.is in
       record {
         giver = lc;
         taker = ld;
         joined = joined;
-        reached = subst (λ (s : ℕ). Reaches circuit s (link_at links d).signal) out (subst (λ (s : ℕ). Reaches circuit (value_at (signals_of links (channels_from links p)) o) s) in_signal to);
+        reached = subst (λ (s : ℕ). Reaches circuit s (link_at links d).signal) out (subst (λ (s : ℕ). Reaches circuit (value_at (givens_of links (channels_from links p)) o) s) in_signal to);
       }
 
   lower : (c d : ℕ) → NeedsChannel (record { kinds = kinds; wires = wires_of_plan plan; end = end }) c d → value_at ranks d < value_at ranks c

@@ -10,7 +10,9 @@ use Rattle.gg_flat.specs.Tree.{InstanceTree, instance_at, memory_at, parent_plac
 use Rattle.gg_flat.specs.Scoped.{memory_fields}
 use Rattle.gg_cut.specs.declared.wires.Wire.{Wire as Link}
 use Rattle.gg_cut.specs.declared.listed.Listed.{Listed}
-use Rattle.gg_cut.specs.Channels.{wire, wires_of, first_memory, first_source, first_tray, machine_count}
+use Rattle.gg_cut.specs.Listed.{owner_of}
+use Rattle.gg_cut.specs.Machines.{first_memory, first_source, first_tray, machine_count}
+use Rattle.gg_cut.specs.Channels.{wire, wires_of}
 use Rattle.gg_cut.specs.Plan.{wire_at as link_at, channels_to, channels_from}
 use Rattle.gg_cut.proofs.WireLemmas.{unit_or_hub-below, source-gives, tray-gives}
 use Rattle.gg_closed.proofs.KindLemmas.{IsInto, IsWordWire, IsTrayWire, Kind, OfSource, OfPort, OfField, OfTray, outside_unit, outside_memory, kind-of, tray-wire}
@@ -28,7 +30,7 @@ link-one links c d once lc ld same = by (cases_lt c d) (cases_lt d c)
 
 module _ (circuit : FlatCircuit) (tree : InstanceTree) (listed : Listed) where
   -- each link but those of the top's outputs leads to a machine before the sources
-  consumer-low : (w : Link) → Kind circuit tree listed w → (w.consumer < first_source listed) ⊎ IsTrayWire circuit listed w
+  consumer-low : (w : Link) → Kind circuit tree listed w → (w.consumer < first_source listed) ⊎ IsTrayWire circuit tree listed w
   consumer-low w (OfSource f) = inl (omega (arith, ap (λ (v : Link). v.consumer) f.is))
   consumer-low w (OfTray f) = inr f
   consumer-low w (OfPort p) = inl (subst (λ (v : Link). v.consumer < first_source listed) p.is (by p.port.is_input))
@@ -46,21 +48,21 @@ module _ (circuit : FlatCircuit) (tree : InstanceTree) (listed : Listed) where
           omega (arith, low, ap (λ (v : Link). v.consumer) word.is)
 
   -- the same for a link by its number
-  consumer-at : (c : ℕ) → c < length (wires_of circuit tree listed) → ((link_at (wires_of circuit tree listed) c).consumer < first_source listed) ⊎ IsTrayWire circuit listed (link_at (wires_of circuit tree listed) c)
+  consumer-at : (c : ℕ) → c < length (wires_of circuit tree listed) → ((link_at (wires_of circuit tree listed) c).consumer < first_source listed) ⊎ IsTrayWire circuit tree listed (link_at (wires_of circuit tree listed) c)
   consumer-at c lt =
       let links = wires_of circuit tree listed in
       consumer-low (link_at links c) (kind-of circuit tree listed (link_at links c) (Contains-get_or links c (wire 0 0 0) lt))
 
   -- a source takes nothing
-  pub source-takes : (m : ℕ) → first_source listed ≤ m → m < first_tray circuit listed → length (channels_to (wires_of circuit tree listed) m) ≡ 0
-  source-takes m low high = none-in (channels_to links m) (λ c has. let taken = taken-is links m c has in by c taken.consumer (consumer-at c taken.known))
+  pub source-takes : (m place : ℕ) → place < length circuit.ins → m ≡ first_source listed + place → length (channels_to (wires_of circuit tree listed) m) ≡ 0
+  source-takes m place known from = none-in (channels_to links m) (λ c has. let taken = taken-is links m c has in by c taken.consumer (consumer-at c taken.known))
     where
       links : List Link
       links = wires_of circuit tree listed
 
-      by : (c : ℕ) → (link_at links c).consumer ≡ m → ((link_at links c).consumer < first_source listed) ⊎ IsTrayWire circuit listed (link_at links c) → ⊥
-      by c is (inl lt) = absurd (omega (arith, is, lt, low))
-      by c is (inr tray) = absurd (omega (arith, is, high, ap (λ (v : Link). v.consumer) tray.is))
+      by : (c : ℕ) → (link_at links c).consumer ≡ m → ((link_at links c).consumer < first_source listed) ⊎ IsTrayWire circuit tree listed (link_at links c) → ⊥
+      by c is (inl lt) = absurd (omega (arith, is, lt, from))
+      by c is (inr tray) = absurd (omega (arith, is, known, from, ap (λ (v : Link). v.consumer) tray.is))
 
   -- a tray takes one channel
   pub tray-takes : AllPairs (λ (v w : Link). v.signal ≢ w.signal) (wires_of circuit tree listed) → (m : ℕ) → first_tray circuit listed ≤ m → m < machine_count circuit listed → length (channels_to (wires_of circuit tree listed) m) ≡ 1
@@ -77,24 +79,23 @@ module _ (circuit : FlatCircuit) (tree : InstanceTree) (listed : Listed) where
       place : first_tray circuit listed + i ≡ m
       place = omega (arith, low)
 
-      has : Contains links (wire (value_at circuit.outs i) 0 (first_tray circuit listed + i))
+      has : Contains links (wire (value_at circuit.outs i) (owner_of circuit tree listed (value_at circuit.outs i)) (first_tray circuit listed + i))
       has = tray-wire circuit tree listed i (omega (arith, low, high))
 
-      here : link_at links has.0 ≡ wire (value_at circuit.outs i) 0 (first_tray circuit listed + i)
-      here = get_or_default links has.0 (wire 0 0 0) (wire (value_at circuit.outs i) 0 (first_tray circuit listed + i)) has.1 ∙ has.2
+      here : link_at links has.0 ≡ wire (value_at circuit.outs i) (owner_of circuit tree listed (value_at circuit.outs i)) (first_tray circuit listed + i)
+      here = get_or_default links has.0 (wire 0 0 0) (wire (value_at circuit.outs i) (owner_of circuit tree listed (value_at circuit.outs i)) (first_tray circuit listed + i)) has.1 ∙ has.2
 
-      by : (d : ℕ) → d < length links → (link_at links d).consumer ≡ m → ((link_at links d).consumer < first_source listed) ⊎ IsTrayWire circuit listed (link_at links d) → d ≡ has.0
+      by : (d : ℕ) → d < length links → (link_at links d).consumer ≡ m → ((link_at links d).consumer < first_source listed) ⊎ IsTrayWire circuit tree listed (link_at links d) → d ≡ has.0
       by d lt is (inl less) = absurd (omega (arith, is, less, low))
       by d lt is (inr tray) =
           let same : tray.place ≡ i = omega (arith, is, place, ap (λ (v : Link). v.consumer) tray.is) in
           link-one links d has.0 once lt has.1 (ap (λ (v : Link). v.signal) tray.is ∙ ap (value_at circuit.outs) same ∙ sym (ap (λ (v : Link). v.signal) here))
 
   -- a source gives one channel
-  pub source-gives-one : (m : ℕ) → first_source listed ≤ m → m < first_tray circuit listed → length (channels_from (wires_of circuit tree listed) m) ≡ 1
-  source-gives-one m low high =
+  pub source-gives-one : (m place : ℕ) → place < length circuit.ins → m ≡ first_source listed + place → length (channels_from (wires_of circuit tree listed) m) ≡ 1
+  source-gives-one m place known is =
       let links = wires_of circuit tree listed in
-      sym (length-map (channels_from links m) (λ c. (link_at links c).signal))
-      ∙ ap length (source-gives circuit tree listed m (m - first_source listed) (omega (arith, low)) (omega (arith, low, high)))
+      sym (length-map (channels_from links m) (λ c. (link_at links c).signal)) ∙ ap length (source-gives circuit tree listed m place is known)
 
   -- a tray gives nothing
   pub tray-gives-none : (m : ℕ) → first_tray circuit listed ≤ m → length (channels_from (wires_of circuit tree listed) m) ≡ 0

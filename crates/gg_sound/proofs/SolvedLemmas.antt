@@ -1,5 +1,5 @@
 -- The circuit's own run solves the network of a plan.
-use Rattle.std.proofs.Common.{◌≡◌, ℕ, ◌<◌, List, [], ◌∷◌, Option, length, map, get_or, false, refl, sym, ◌∙◌, ap, subst, arith}
+use Rattle.std.proofs.Common.{◌≡◌, ℕ, ◌<◌, List, [], Option, length, map, refl, sym, ◌∙◌, ap, subst, arith}
 use Rattle.std.proofs.lemmas.List.{length-map, get_or-map}
 use Rattle.std.proofs.lemmas.Option.{none-some}
 use Rattle.gg_flat.specs.Line.{value_at}
@@ -17,10 +17,12 @@ use Rattle.gg_cut.specs.declared.plan.Plan.{Plan}
 use Rattle.gg_cut.specs.declared.listed.Listed.{Listed}
 use Rattle.gg_cut.specs.declared.wires.Wire.{Wire as Link}
 use Rattle.gg_cut.specs.Listed.{listed_of}
-use Rattle.gg_cut.specs.Channels.{wires_of, machine_count}
+use Rattle.gg_cut.specs.Machines.{machine_count}
+use Rattle.gg_cut.specs.Channels.{wires_of}
 use Rattle.gg_cut.specs.Plan.{wire_at as link_at, channels_to, channels_from, signals_of, IsBody}
 use Rattle.gg_cut.specs.Solves.{columns_of}
-use Rattle.gg_node.specs.Machine.{Machine, machine_at, no_state, source_machine}
+use Rattle.gg_cut.proofs.WireLemmas.{givens-same}
+use Rattle.gg_node.specs.Machine.{Machine, machine_at, no_state}
 use Rattle.gg_net.specs.Network.{wire_at, entered_by, Kind, kind_of, kind_at}
 use Rattle.gg_net.specs.Kept.{list_at, rows_at, Answers, Asks, Solves}
 use Rattle.gg_net.proofs.StateLemmas.{column-at}
@@ -59,18 +61,17 @@ module _ (design : Ordered) (request : Request) (default : ℕ) (plan : Plan) (c
   out-count : (m : ℕ) → length (outs_of_machine m) ≡ length (channels_from all m)
   out-count m = length-map (channels_from all m) (λ c. (link_at all c).signal)
 
-  body-does : (m : ℕ) (own : planned.Machine) (body : Body) (machine : Machine) → m < machine_count design.circuit listed → own.outs ≡ channels_from all m → IsBody design listed all m body → IsBuilt columns n own body machine → DoesCycles rows n (ins_of_machine m) (outs_of_machine m) (kind_of machine) (body_state body (opening design.circuit)) (body_rows body rows)
-  body-does m own (Cut part) machine lt outs body is =
+  body-does : (m : ℕ) (body : Body) (machine : Machine) → m < machine_count design.circuit listed → IsBody design listed all m body → IsBuilt columns n body machine → DoesCycles rows n (ins_of_machine m) (outs_of_machine m) (kind_of machine) (body_state body (opening design.circuit)) (body_rows body rows)
+  body-does m (Cut part) machine lt body is =
       let cut = body.1 in
-      unit-does design.circuit part columns n rows (ins_of_machine m) (outs_of_machine m) given.design_is.formed cut.is (part-named design.circuit part.piece part.globals part.held part.memories (ins_of_machine m) (outs_of_machine m) cut.is cut.ins cut.outs) given.run given.most machine cut.ordered is
-  body-does m own (Memory part) machine lt outs body is =
+      unit-does design.circuit part columns n rows (ins_of_machine m) (outs_of_machine m) given.design_is.formed cut.is (part-named design.circuit part.piece part.globals part.held part.memories (ins_of_machine m) (outs_of_machine m) cut.is cut.ins (cut.outs ∙ givens-same design.circuit design.tree listed (channels_from all m))) given.run given.most machine cut.ordered is
+  body-does m (Memory part) machine lt body is =
       let cut = body.2 in
-      let memory = memory-part design listed m part given.design_is (faultless-apart design request given.faultless given.design_is.fitting) body.0 body.1 cut (faultless-few design request given.faultless) in
-      memory-does design.circuit part columns n rows (ins_of_machine m) (outs_of_machine m) given.design_is.formed cut.is (part-named design.circuit part.piece part.globals part.held part.memories (ins_of_machine m) (outs_of_machine m) cut.is cut.ins cut.outs) given.run given.most machine memory.1.count is
-  body-does m own Source machine lt outs body is =
-      source-does design.circuit design.tree listed m body.0 body.1 columns n rows (ins_of_machine m) machine given.design_is.formed given.given given.run (in-count m ∙ source-takes design.circuit design.tree listed m body.0 body.1)
-      (is ∙ ap (λ (l : List ℕ). source_machine (get_or columns (value_at l 0) []) 0 (false ∷ [])) outs)
-  body-does m own Tray machine lt outs body is =
+      let memory = memory-part design listed m part given.design_is given.keeps (faultless-apart design request given.faultless given.keeps.fitting) body.0 body.1 cut (faultless-few design request given.faultless) in
+      memory-does design.circuit part columns n rows (ins_of_machine m) (outs_of_machine m) given.design_is.formed cut.is (part-named design.circuit part.piece part.globals part.held part.memories (ins_of_machine m) (outs_of_machine m) cut.is cut.ins (cut.outs ∙ givens-same design.circuit design.tree listed (channels_from all m))) given.run given.most machine memory.1.count is
+  body-does m (Source place) machine lt body is =
+      source-does design.circuit design.tree listed m place body.0 body.1 columns n rows (ins_of_machine m) machine given.design_is.formed given.given given.run (in-count m ∙ source-takes design.circuit design.tree listed m place body.0 body.1) is
+  body-does m Tray machine lt body is =
       tray-does rows n (ins_of_machine m) (outs_of_machine m) machine
       (in-count m ∙ tray-takes design.circuit design.tree listed (plans.links-once design request default plan columns n rows machines given built) m body lt)
       (out-count m ∙ tray-gives-none design.circuit design.tree listed m body) given.most is
@@ -82,7 +83,7 @@ module _ (design : Ordered) (request : Request) (default : ℕ) (plan : Plan) (c
       subst (λ (kind : Kind). DoesCycles rows n (ins_of_machine m) (outs_of_machine m) kind (state_in (states_of plan (opening design.circuit)) m) (rows_at (rows_of plan rows) m)) (sym (kind-is machines m (omega (arith, lt, built.count))))
       (subst (λ (s : State). DoesCycles rows n (ins_of_machine m) (outs_of_machine m) (kind_of (machine_at machines m)) s (rows_at (rows_of plan rows) m)) (sym (get_or-map (λ (machine : planned.Machine). body_state machine.body (opening design.circuit)) plan.machines m nameless no_state lt))
       (subst (DoesCycles rows n (ins_of_machine m) (outs_of_machine m) (kind_of (machine_at machines m)) (body_state own.body (opening design.circuit))) (sym (get_or-map (λ (machine : planned.Machine). body_rows machine.body rows) plan.machines m nameless [] lt))
-      (body-does m own own.body (machine_at machines m) (omega (arith, lt, given.planned.machine_total)) at.outs at.body (built.each m lt))))
+      (body-does m own.body (machine_at machines m) (omega (arith, lt, given.planned.machine_total)) at.body (built.each m lt))))
 
   -- ---- channels
 

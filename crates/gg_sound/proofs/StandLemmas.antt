@@ -25,7 +25,7 @@ module _ (design : Ordered) (request : Request) (default : ℕ) (plan : Plan) (c
   body = subst (IsBody design (listed_of design.tree request) (wires_of design.circuit design.tree (listed_of design.tree request)) m) memory (given.planned.machine m nameless lt).body
 
   apart : AreApart design.tree (listed_of design.tree request)
-  apart = faultless-apart design request given.faultless given.design_is.fitting
+  apart = faultless-apart design request given.faultless given.keeps.fitting
 
   cut : IsCutPart design (listed_of design.tree request) (wires_of design.circuit design.tree (listed_of design.tree request)) m part
   cut = body.2
@@ -35,10 +35,10 @@ module _ (design : Ordered) (request : Request) (default : ℕ) (plan : Plan) (c
 
   pub memory-chosen : IsChoice part.piece (part.piece.ins ++ part.piece.outs) part.piece.ins part.piece.outs (0 ∷ [])
   memory-chosen =
-      let own = memory-part design (listed_of design.tree request) m part given.design_is apart body.0 body.1 cut (faultless-few design request given.faultless) in
+      let own = memory-part design (listed_of design.tree request) m part given.design_is given.keeps apart body.0 body.1 cut (faultless-few design request given.faultless) in
       chosen design.circuit part own.0 memory-formed cut.is own.1
 
   pub memory-alone : (alone : Part) → IsCutAgain part alone → IsMemoryPiece alone.piece
   memory-alone alone is =
-      let own = memory-part design (listed_of design.tree request) m part given.design_is apart body.0 body.1 cut (faultless-few design request given.faultless) in
+      let own = memory-part design (listed_of design.tree request) m part given.design_is given.keeps apart body.0 body.1 cut (faultless-few design request given.faultless) in
       stands-alone part alone own.0 memory-formed own.1 is

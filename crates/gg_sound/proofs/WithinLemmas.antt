@@ -16,7 +16,6 @@ use Rattle.gg_part.specs.declared.part.Part.{Part}
 use Rattle.gg_cut.specs.declared.listed.Listed.{Listed}
 use Rattle.gg_cut.specs.declared.plan.Body.{Body}
 use Rattle.gg_cut.specs.declared.plan.Body.TheVariants.{Cut, Memory as Listing, Source, Tray}
-use Rattle.gg_cut.specs.declared.plan.Machine as planned
 use Rattle.gg_cut.specs.declared.plan.Plan.{Plan}
 use Rattle.gg_cut.specs.declared.wires.Wire.{Wire as Link}
 use Rattle.gg_cut.specs.Listed.{listed_of}
@@ -66,19 +65,19 @@ module _ (design : Ordered) (request : Request) (default : ℕ) (plan : Plan) (c
   abbrev links : List Link
   links = wires_of design.circuit design.tree (listed_of design.tree request)
 
-  body-ports : (m : ℕ) (own : planned.Machine) (body : Body) (machine : Machine) → IsBody design listed links m body → IsBuilt columns n own body machine → length (kind_of machine).ports ≤ 16384
-  body-ports m own (Cut part) machine body is = subst (λ (t : Machine). length (kind_of t).ports ≤ 16384) (sym is.is) (omega arith)
-  body-ports m own (Listing part) machine body is =
-      let memory = memory-part design listed m part given.design_is (faultless-apart design request given.faultless given.design_is.fitting) body.0 body.1 body.2 (faultless-few design request given.faultless) in
+  body-ports : (m : ℕ) (body : Body) (machine : Machine) → IsBody design listed links m body → IsBuilt columns n body machine → length (kind_of machine).ports ≤ 16384
+  body-ports m (Cut part) machine body is = subst (λ (t : Machine). length (kind_of t).ports ≤ 16384) (sym is.is) (omega arith)
+  body-ports m (Listing part) machine body is =
+      let memory = memory-part design listed m part given.design_is given.keeps (faultless-apart design request given.faultless given.keeps.fitting) body.0 body.1 body.2 (faultless-few design request given.faultless) in
       memory-ports part memory.0 machine memory.1 is
-  body-ports m own Source machine body is = subst (λ (t : Machine). length (kind_of t).ports ≤ 16384) (sym is) (omega arith)
-  body-ports m own Tray machine body is = subst (λ (t : Machine). length (kind_of t).ports ≤ 16384) (sym is) (omega arith)
+  body-ports m (Source place) machine body is = subst (λ (t : Machine). length (kind_of t).ports ≤ 16384) (sym is) (omega arith)
+  body-ports m Tray machine body is = subst (λ (t : Machine). length (kind_of t).ports ≤ 16384) (sym is) (omega arith)
 
   machine-ports : All (λ (machine : Machine). length (kind_of machine).ports ≤ 16384) machines
   machine-ports m any lt =
       let known : m < length plan.machines = omega (arith, lt, built.count) in
       subst (λ (t : Machine). length (kind_of t).ports ≤ 16384) (get_or_default machines m no_machine any lt)
-      (body-ports m (machine_in plan m) (machine_in plan m).body (machine_at machines m) (given.planned.machine m nameless known).body (built.each m known))
+      (body-ports m (machine_in plan m).body (machine_at machines m) (given.planned.machine m nameless known).body (built.each m known))
 
   pub plan-within : default ≤ queue_limit → IsWithinLimits (plan_frame plan machines n)
   plan-within most =

@@ -1,5 +1,5 @@
 -- A listed memory gives the data of its readers, in their order; and its ports are no more than the channels.
-use Rattle.std.proofs.Common.{◌≡◌, ℕ, zero, suc, ◌+◌, ◌<◌, ◌≤◌, List, [], ◌∷◌, ◌++◌, length, map, Bool, true, false, true≢false, eq-eqb, refl, sym, ◌∙◌, ap, ap₂, arith}
+use Rattle.std.proofs.Common.{◌≡◌, ◌≢◌, ℕ, zero, suc, ◌+◌, ◌<◌, ◌≤◌, List, [], ◌∷◌, ◌++◌, length, map, Bool, true, false, true≢false, eq-eqb, refl, sym, ◌∙◌, ap, ap₂, arith}
 use Rattle.std.specs.Prelude.{filter, cond, ◌==◌, if◌then◌else◌}
 use Rattle.std.proofs.lemmas.Bool.{ne_eqb}
 use Rattle.std.proofs.lemmas.List.{append-nil, length-append}
@@ -14,8 +14,9 @@ use Rattle.gg_flat.specs.Tree.{InstanceTree, instance_at, memory_at, parent_plac
 use Rattle.gg_flat.specs.Scoped.{writers_at}
 use Rattle.gg_cut.specs.declared.listed.Listed.{Listed}
 use Rattle.gg_cut.specs.declared.wires.Wire.{Wire as Link}
-use Rattle.gg_cut.specs.Listed.{owner_of_instance}
-use Rattle.gg_cut.specs.Channels.{wire, numbered, flattened, first_memory, first_source, first_tray, port_wire, port_wires, reader_wires, writer_wires, field_wires, source_wires, tray_wires, wires_of}
+use Rattle.gg_cut.specs.Listed.{owner_of, owner_of_instance}
+use Rattle.gg_cut.specs.Machines.{first_memory, first_source, first_tray}
+use Rattle.gg_cut.specs.Channels.{wire, numbered, flattened, port_wire, port_wires, reader_wires, writer_wires, field_wires, source_wires, tray_wires, wires_of}
 use Rattle.gg_cut.specs.Plan.{channels_from, signals_of}
 use Rattle.gg_cut.proofs.WireLemmas.{Each, Each-append, Each-numbered, filter-none, signals-from, unit_or_hub-below}
 
@@ -94,7 +95,7 @@ writers-long : (outside m : ℕ) (writers : List Writer) → length writers ≤ 
 writers-long outside m [] = omega arith
 writers-long outside m (writer ∷ writers) = let rest = writers-long outside m writers in omega (arith, rest)
 
-module _ (circuit : FlatCircuit) (tree : InstanceTree) (listed : Listed) (m i : ℕ) (lt : i < length listed.memories) (is : first_memory listed + i ≡ m) where
+module _ (circuit : FlatCircuit) (tree : InstanceTree) (listed : Listed) (m i : ℕ) (lt : i < length listed.memories) (is : first_memory listed + i ≡ m) (apart : (k : ℕ) → k < length circuit.outs → owner_of circuit tree listed (value_at circuit.outs k) ≢ m) where
   abbrev own : ℕ
   own = (memory_at tree (value_at listed.memories i)).memory
 
@@ -111,7 +112,7 @@ module _ (circuit : FlatCircuit) (tree : InstanceTree) (listed : Listed) (m i : 
   fields = numbered (field_wires circuit tree listed.units) (first_memory listed) listed.memories
 
   abbrev trays : List Link
-  trays = numbered tray_wires (first_tray circuit listed) circuit.outs
+  trays = numbered (tray_wires circuit tree listed) (first_tray circuit listed) circuit.outs
 
   abbrev gives : Link → Bool
   gives w = w.producer == m
@@ -124,8 +125,12 @@ module _ (circuit : FlatCircuit) (tree : InstanceTree) (listed : Listed) (m i : 
       filter-none gives ports (Each-numbered (λ w. gives w ≡ false) (port_wires tree listed.units) 1 listed.units (λ k unit le high.
       port-other m (owner_of_instance tree listed.units (parent_place (instance_at tree unit).parent)) (below (parent_place (instance_at tree unit).parent)) k (λ same. omega (arith, same, high, is)) (instance_at tree unit).ports))
 
+  each-tray : (k : ℕ) (outs : List ℕ) → ((i : ℕ) → i < length outs → owner_of circuit tree listed (value_at outs i) ≢ m) → Each (λ w. gives w ≡ false) (numbered (tray_wires circuit tree listed) k outs)
+  each-tray k [] other = tt
+  each-tray k (s ∷ outs) other = (ne_eqb (owner_of circuit tree listed s) m (other 0 (omega arith)), each-tray (suc k) outs (λ i lt. other (suc i) (omega (arith, lt))))
+
   no-tray : filter gives trays ≡ []
-  no-tray = filter-none gives trays (Each-numbered (λ w. gives w ≡ false) tray_wires (first_tray circuit listed) circuit.outs (λ k s le high. (ne_eqb 0 m (λ same. omega (arith, same, is)), tt)))
+  no-tray = filter-none gives trays (each-tray (first_tray circuit listed) circuit.outs apart)
 
   other-memory : (k j : ℕ) → (k ≡ first_memory listed + i → ⊥) → Each (λ w. gives w ≡ false) (field_wires circuit tree listed.units k j)
   other-memory k j distinct =
@@ -140,13 +145,13 @@ module _ (circuit : FlatCircuit) (tree : InstanceTree) (listed : Listed) (m i : 
 
   own-words : filter gives (field_wires circuit tree listed.units m (value_at listed.memories i)) ≡ map (λ reader. wire reader.word m outer) (readers_at circuit own)
   own-words =
-      let apart = below (memory_at tree (value_at listed.memories i)).instance in
+      let inside = below (memory_at tree (value_at listed.memories i)).instance in
       let from_readers = flattened (reader_wires outer m) (readers_at circuit own) in
       let from_writers = flattened (writer_wires outer m) (writers_at circuit own) in
       filter-append gives from_readers from_writers
-      ∙ ap (λ (l : List Link). filter gives from_readers ++ l) (filter-none gives from_writers (writers-give m outer apart m (writers_at circuit own)))
+      ∙ ap (λ (l : List Link). filter gives from_readers ++ l) (filter-none gives from_writers (writers-give m outer inside m (writers_at circuit own)))
       ∙ append-nil (filter gives from_readers)
-      ∙ readers-give m outer apart (readers_at circuit own)
+      ∙ readers-give m outer inside (readers_at circuit own)
 
   -- the signals of the channels that the memory gives are the data of its readers
   pub memory-gives : signals_of (wires_of circuit tree listed) (channels_from (wires_of circuit tree listed) m) ≡ map (λ (reader : Reader). reader.word) (readers_at circuit own)

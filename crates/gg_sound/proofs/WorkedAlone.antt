@@ -33,6 +33,7 @@ part =
             memories = memory 1 0 ∷ [];
             ins = 1 ∷ 0 ∷ [];
             outs = 2 ∷ [];
+            clocks = 0;
           };
       globals = 4 ∷ 3 ∷ 5 ∷ [];
       held = [];
@@ -50,6 +51,7 @@ alone =
             memories = memory 0 1 ∷ [];
             ins = 0 ∷ 1 ∷ [];
             outs = 2 ∷ [];
+            clocks = 0;
           };
       globals = 1 ∷ 0 ∷ 2 ∷ [];
       held = [];

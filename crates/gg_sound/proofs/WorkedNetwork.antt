@@ -38,6 +38,7 @@ plan =
           ∷ channel 6 (codes "b.m") 0 2 1
           ∷ channel 7 (codes "b.n") 2 0 1
           ∷ channel 1 (codes "q") 0 4 1 ∷ [];
+      listed = record { units = 1 ∷ 2 ∷ []; memories = [] };
     }
 
 abbrev joins : ℕ → ℕ → ℕ → ℕ → ℕ → Wire

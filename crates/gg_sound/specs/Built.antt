@@ -7,6 +7,7 @@ use Rattle.gg_flat.specs.Line.{value_at}
 use Rattle.gg_flat.specs.Run.{IsRun, IsColumns}
 use Rattle.gg_flat.specs.State.{State, opening}
 use Rattle.gg_flat.specs.Streams.{Flow}
+use Rattle.gg_moved.specs.KeepsToTree.{KeepsToTree}
 use Rattle.gg_order.specs.Design.{Ordered, IsDesign}
 use Rattle.gg_partfile.specs.declared.request.Request.{Request}
 use Rattle.gg_needs.specs.Needs.{AreNeedsOfOuts}
@@ -89,18 +90,17 @@ pub record IsMemoryOf (part : Part) (machine : Machine) : Type 0 where
 abbrev pub tray_rows : ℕ → ℕ
 tray_rows n = max n 1
 
--- The machine of the network for a machine of the plan. `columns` are the columns of the top's inputs, by number of
--- channel: the channels of the top's inputs come first.
-abbrev pub IsBuilt : List (List ℕ) → ℕ → planned.Machine → Body → Machine → Type 0
-IsBuilt columns n own (Cut part) machine = IsUnitOf part machine
-IsBuilt columns n own (Memory part) machine = IsMemoryOf part machine
-IsBuilt columns n own Source machine = machine ≡ source_machine (slice_index_or columns (value_at own.outs 0) []) 0 (false ∷ [])
-IsBuilt columns n own Tray machine = machine ≡ tray_machine (tray_rows n) cycle_limit 0 [] None
+-- The machine of the network for a machine of the plan. `columns` are the columns of the top's inputs, by their places.
+abbrev pub IsBuilt : List (List ℕ) → ℕ → Body → Machine → Type 0
+IsBuilt columns n (Cut part) machine = IsUnitOf part machine
+IsBuilt columns n (Memory part) machine = IsMemoryOf part machine
+IsBuilt columns n (Source place) machine = machine ≡ source_machine (slice_index_or columns place []) 0 (false ∷ [])
+IsBuilt columns n Tray machine = machine ≡ tray_machine (tray_rows n) cycle_limit 0 [] None
 
 -- the machines of the network of a plan, by number
 pub record AreBuilt (plan : Plan) (columns : List (List ℕ)) (n : ℕ) (machines : List Machine) : Type 0 where
   pub count : length machines ≡ length plan.machines
-  pub each : (m : ℕ) → m < length plan.machines → IsBuilt columns n (machine_in plan m) (machine_in plan m).body (machine_at machines m)
+  pub each : (m : ℕ) → m < length plan.machines → IsBuilt columns n (machine_in plan m).body (machine_at machines m)
 
 -- ---- the network
 
@@ -124,7 +124,7 @@ pub record IsListedAt (plan : Plan) (m : ℕ) (kind : Kind) : Type 0 where
 abbrev pub body_rows : Body → List (List ℕ) → List (List ℕ)
 body_rows (Cut part) rows = part_rows part.globals rows
 body_rows (Memory part) rows = part_rows (map (value_at part.globals) (part.piece.ins ++ part.piece.outs)) rows
-body_rows Source rows = []
+body_rows (Source place) rows = []
 body_rows Tray rows = []
 
 -- the rows of the machines of a plan
@@ -135,7 +135,7 @@ rows_of plan rows = map (λ machine. body_rows machine.body rows) plan.machines
 abbrev pub body_state : Body → State → State
 body_state (Cut part) state = part_state part.held part.memories state
 body_state (Memory part) state = part_state [] part.memories state
-body_state Source state = no_state
+body_state (Source place) state = no_state
 body_state Tray state = no_state
 
 -- the states in which the machines of a plan begin
@@ -146,10 +146,11 @@ states_of plan state = map (λ machine. body_state machine.body state) plan.mach
 abbrev pub flow_of : Plan → Ordered → List (List ℕ) → Flow
 flow_of plan design rows = record { lists = columns_of plan rows; runs = rows_of plan rows; begin = 0; states = states_of plan (opening design.circuit) }
 
--- A design, a request that has no fault for it, their plan, whose channels may hold at least one token each, and the
+-- A design whose circuit keeps to its tree, a request that has no fault for it, their plan, whose channels may hold at least one token each, and the
 -- circuit's run of n cycles on the columns of its inputs.
 pub record IsGiven (design : Ordered) (request : Request) (default : ℕ) (plan : Plan) (columns : List (List ℕ)) (n : ℕ) (rows : List (List ℕ)) : Type 0 where
   pub design_is : IsDesign design
+  pub keeps : KeepsToTree design.circuit design.tree
   pub faultless : first_fault design request ≡ None
   pub some : 0 < default
   pub planned : IsPlan design request default plan

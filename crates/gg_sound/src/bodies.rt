@@ -1,6 +1,5 @@
 //! Laws: facts about a plan's units and sources, from which they can be built.
 ghost use Rattle.std.specs.Prelude.{◌≡◌, ℕ, ◌<◌, List, length};
-ghost use Rattle.gg_flat.specs.Line.{value_at};
 ghost use Rattle.gg_flat.specs.WellFormed.{IsWellFormed};
 ghost use Rattle.gg_order.specs.Design.{Ordered};
 ghost use Rattle.gg_partfile.specs.declared.request.Request.{Request};
@@ -16,8 +15,8 @@ pub fn unit_is_ordered()
     ensures ordered { (design : Ordered) (request : Request) (default : ℕ) (plan : Plan) (columns : List (List ℕ)) (n : ℕ) (rows : List (List ℕ)) → IsGiven design request default plan columns n rows → (m : ℕ) (part : Part) → m < length plan.machines → (machine_in plan m).body ≡ Cut part → IsInOrder part.piece }
 {}
 
-/// A source gives one channel, and there is a column with the channel's number.
+/// A source gives one channel, and there is a column at its place.
 pub fn source_has_column()
-    ensures one { (design : Ordered) (request : Request) (default : ℕ) (plan : Plan) (columns : List (List ℕ)) (n : ℕ) (rows : List (List ℕ)) → IsGiven design request default plan columns n rows → (m : ℕ) → m < length plan.machines → (machine_in plan m).body ≡ Source → length (machine_in plan m).outs ≡ 1 }
-    ensures known { (design : Ordered) (request : Request) (default : ℕ) (plan : Plan) (columns : List (List ℕ)) (n : ℕ) (rows : List (List ℕ)) → IsGiven design request default plan columns n rows → (m : ℕ) → m < length plan.machines → (machine_in plan m).body ≡ Source → value_at (machine_in plan m).outs 0 < length columns }
+    ensures one { (design : Ordered) (request : Request) (default : ℕ) (plan : Plan) (columns : List (List ℕ)) (n : ℕ) (rows : List (List ℕ)) → IsGiven design request default plan columns n rows → (m : ℕ) → m < length plan.machines → (place : ℕ) → (machine_in plan m).body ≡ Source place → length (machine_in plan m).outs ≡ 1 }
+    ensures known { (design : Ordered) (request : Request) (default : ℕ) (plan : Plan) (columns : List (List ℕ)) (n : ℕ) (rows : List (List ℕ)) → IsGiven design request default plan columns n rows → (m : ℕ) → m < length plan.machines → (place : ℕ) → (machine_in plan m).body ≡ Source place → place < length columns }
 {}

@@ -1,18 +1,20 @@
 -- What the steps of the split ask for and give, from what is read.
-use Rattle.std.proofs.Common.{◌≡◌, ℕ, ◌<◌, List, [], length, get_or, sym, ◌∙◌, ap, ap₂, subst, None, arith}
+use Rattle.std.proofs.Common.{◌≡◌, ℕ, ◌<◌, List, [], length, get_or, not, sym, ◌∙◌, ap, ap₂, subst, None, arith}
 use Rattle.std.specs.Prelude.{Option, slice_index_or, Contains, All}
 use Rattle.std.proofs.lemmas.List.{get_or_default}
 use Rattle.std.proofs.lemmas.List.Elements.{Contains-get_or}
 use Rattle.gg_flat.specs.Line.{value_at}
 use Rattle.gg_flat.specs.Circuit.{FlatCircuit}
 use Rattle.gg_flat.specs.Tree.{InstanceTree, IsTree}
+use Rattle.gg_moved.specs.KeepsToTree.{KeepsToTree}
 use Rattle.gg_order.specs.Design.{Ordered, IsDesign}
 use Rattle.gg_partfile.specs.declared.request.Request.{Request}
 use Rattle.gg_cut.specs.declared.wires.Wire.{Wire}
 use Rattle.gg_cut.specs.declared.listed.Listed.{Listed}
-use Rattle.gg_cut.specs.Listed.{first_place, has_signal, unit_or_hub, listed_of}
+use Rattle.gg_cut.specs.Listed.{first_place, has_signal, memory_or, owner_of, unit_or_hub, listed_of}
 use Rattle.gg_cut.specs.Fault.{first_fault}
-use Rattle.gg_cut.specs.Channels.{wires_of, machine_count}
+use Rattle.gg_cut.specs.Machines.{machine_count}
+use Rattle.gg_cut.specs.Channels.{wires_of}
 use Rattle.gg_cut.specs.Plan.{channels_to, channels_from, memory_owner}
 use Rattle.gg_split.specs.declared.share.Share.{Share}
 use Rattle.gg_closed.specs.Apart.{AreApart}
@@ -23,6 +25,8 @@ use Rattle.gg_split.specs.Spread.{AreLists, EachList, AreChannels, signals_among
 use Rattle.gg_closed.proofs.ChoiceLemmas.{wire-known}
 use Rattle.gg_closed.proofs.FaultlessLemmas.{faultless-apart, faultless-few}
 use Rattle.gg_closed.proofs.EndLemmas.{machine-below, owner-few, ends}
+use Rattle.gg_closed.proofs.OnceLemmas.{top-output, top-port}
+use Rattle.gg_closed.proofs.MakerLemmas.{no-field-place, port-plain}
 use Rattle.gg_split.proofs.ShareLemmas.{signals-are, memories-are, shared}
 
 module _ (circuit : FlatCircuit) (tree : InstanceTree) (listed : Listed) (fits : IsTree circuit tree) (apart : AreApart tree listed) where
@@ -56,6 +60,20 @@ module _ (circuit : FlatCircuit) (tree : InstanceTree) (listed : Listed) (fits :
       }
 
 module _ (circuit : FlatCircuit) (tree : InstanceTree) (order : List ℕ) (listed : Listed) (sound : CanSplit circuit tree order listed) where
+  -- a top output is no field of a listed memory, so it belongs to the machine of the instance that has it
+  pub outputs-held : (holders : List ℕ) → ((s : ℕ) → value_at holders s ≡ unit_or_hub (first_place (has_signal tree s) listed.units)) → All (λ s. value_at holders s ≡ owner_of circuit tree listed s) circuit.outs
+  outputs-held holders owns k d lt =
+      let s = get_or circuit.outs k d in
+      let port = top-port circuit tree listed sound.fitting sound.scoped sound.apart s (λ port. not port.is_input) (top-output circuit tree listed sound.fitting sound.scoped sound.apart s (Contains-get_or circuit.outs k d lt)) in
+      owns s
+      ∙ sym (ap (memory_or (length listed.units) (unit_or_hub (first_place (has_signal tree s) listed.units))) (no-field-place circuit tree listed s (port-plain circuit tree listed sound.fitting sound.scoped sound.apart 0 s port)))
+
+  pub outputs-known : (holders : List ℕ) → length holders ≡ length circuit.signals → All (λ s. s < length holders) circuit.outs
+  outputs-known holders many k d lt =
+      let known = sound.formed.outs k lt in
+      let read = get_or_default circuit.outs k d 0 lt in
+      omega (arith, known, read, many)
+
   pub wires-known : (wires : List Wire) (n : ℕ) → wires ≡ wires_of circuit tree listed → n ≡ length circuit.signals → All (λ w. w.signal < n) wires
   wires-known wires n is many k d lt =
       subst (λ j. (get_or wires k d).signal < j) (sym many)
@@ -97,18 +115,18 @@ module _ (circuit : FlatCircuit) (tree : InstanceTree) (order : List ℕ) (liste
 
 -- ---- a design and its request
 
-pub can-split : (design : Ordered) (request : Request) (circuit : FlatCircuit) (tree : InstanceTree) (order : List ℕ) (listed : Listed) → circuit ≡ design.circuit → tree ≡ design.tree → order ≡ design.order → listed ≡ listed_of design.tree request → IsDesign design → first_fault design request ≡ None → CanSplit circuit tree order listed
-can-split design request circuit tree order listed is fits along lists ready none =
+pub can-split : (design : Ordered) (request : Request) (circuit : FlatCircuit) (tree : InstanceTree) (order : List ℕ) (listed : Listed) → circuit ≡ design.circuit → tree ≡ design.tree → order ≡ design.order → listed ≡ listed_of design.tree request → IsDesign design → KeepsToTree design.circuit design.tree → first_fault design request ≡ None → CanSplit circuit tree order listed
+can-split design request circuit tree order listed is fits along lists ready keeps none =
     subst (λ k. CanSplit k tree order listed) (sym is)
     (subst (λ t. CanSplit design.circuit t order listed) (sym fits)
     (subst (λ o. CanSplit design.circuit design.tree o listed) (sym along)
     (subst (CanSplit design.circuit design.tree design.order) (sym lists)
     (record {
       formed = ready.formed;
-      fitting = ready.fitting;
-      scoped = ready.scoped;
+      fitting = keeps.fitting;
+      scoped = keeps.scoped;
       ordered = ready.ordered;
-      apart = faultless-apart design request none ready.fitting;
+      apart = faultless-apart design request none keeps.fitting;
       few = faultless-few design request none;
     }))))
 

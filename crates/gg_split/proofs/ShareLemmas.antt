@@ -20,7 +20,8 @@ use Rattle.gg_cut.specs.declared.listed.Listed.{Listed}
 use Rattle.gg_cut.specs.Listed.{owner_of, first_place, has_signal, unit_or_hub}
 use Rattle.gg_part.specs.Choice.{IsChoice}
 use Rattle.gg_cut.specs.Channels.{wires_of}
-use Rattle.gg_cut.specs.Plan.{wire_at, channels_to, channels_from, signals_of, HasMemory, memory_owner}
+use Rattle.gg_cut.proofs.WireLemmas.{givens-same}
+use Rattle.gg_cut.specs.Plan.{wire_at, channels_to, channels_from, signals_of, givens_of, HasMemory, memory_owner}
 use Rattle.gg_closed.specs.Apart.{AreApart}
 use Rattle.gg_split.specs.Share.{IsShareOf}
 use Rattle.gg_split.specs.Spread.{AreChannels, IsChannelBelow, has_by, has, signals_among, memories_below, AreSignals, AreMemories}
@@ -28,7 +29,7 @@ use Rattle.gg_closed.proofs.ListLemmas.{map-cases, AllPairs-map}
 use Rattle.gg_closed.proofs.TreeLemmas.{innermost}
 use Rattle.gg_closed.proofs.PlaceLemmas.{place-signal}
 use Rattle.gg_closed.proofs.OnceLemmas.{channel-one}
-use Rattle.gg_closed.proofs.MakerLemmas.{Gets, chosen-in, chosen-out, wire-among, no-channel, owner-signal}
+use Rattle.gg_closed.proofs.MakerLemmas.{Gets, chosen-in, chosen-out, given-out, wire-among, no-channel, owner-signal}
 use Rattle.gg_closed.proofs.WrittenLemmas.{inner-plain}
 use Rattle.gg_closed.proofs.ChoiceLemmas.{gets-known, choice}
 
@@ -64,7 +65,9 @@ module _ (circuit : FlatCircuit) (tree : InstanceTree) (order : List ℕ) (liste
     spread-gets s lt (Some c) at e = by (or_cases ((wire_at (wires_of circuit tree listed) c).producer == m) ((wire_at (wires_of circuit tree listed) c).consumer == m) e)
       where
         by : (((wire_at (wires_of circuit tree listed) c).producer == m) ≡ true) ⊎ (((wire_at (wires_of circuit tree listed) c).consumer == m) ≡ true) → Gets circuit tree listed fits scoped apart m s
-        by (inl p) = inl (inr (subst (λ t. Contains (signals_of (wires_of circuit tree listed) (channels_from (wires_of circuit tree listed) m)) t) at.1 (chosen-in (wires_of circuit tree listed) (λ w. w.producer == m) (wire_at (wires_of circuit tree listed) c) (wire-among (wires_of circuit tree listed) c at.0) p)))
+        by (inl p) =
+            inl (inr (subst (λ (l : List ℕ). Contains l s) (sym (givens-same circuit tree listed (channels_from (wires_of circuit tree listed) m)))
+            (subst (λ t. Contains (signals_of (wires_of circuit tree listed) (channels_from (wires_of circuit tree listed) m)) t) at.1 (chosen-in (wires_of circuit tree listed) (λ w. w.producer == m) (wire_at (wires_of circuit tree listed) c) (wire-among (wires_of circuit tree listed) c at.0) p))))
         by (inr p) = inr (subst (λ t. Contains (signals_of (wires_of circuit tree listed) (channels_to (wires_of circuit tree listed) m)) t) at.1 (chosen-in (wires_of circuit tree listed) (λ w. w.consumer == m) (wire_at (wires_of circuit tree listed) c) (wire-among (wires_of circuit tree listed) c at.0) p))
 
     same-wire : (s c : ℕ) (w : Wire) → c < length (wires_of circuit tree listed) → (wire_at (wires_of circuit tree listed) c).signal ≡ s → Contains (wires_of circuit tree listed) w → w.signal ≡ s → w ≡ wire_at (wires_of circuit tree listed) c
@@ -74,12 +77,12 @@ module _ (circuit : FlatCircuit) (tree : InstanceTree) (order : List ℕ) (liste
     gets-spread : (s : ℕ) → s < length circuit.signals → (found : Option ℕ) → IsChannelBelow (wires_of circuit tree listed) (length (wires_of circuit tree listed)) s found → Gets circuit tree listed fits scoped apart m s → has_by (wires_of circuit tree listed) (value_at owners s) m found ≡ true
     gets-spread s lt None inner (inl (inl own)) = eq-eqb (value_at owners s) m (sym (owner-is s lt inner) ∙ own.1)
     gets-spread s lt None inner (inl (inr h)) =
-        let w = chosen-out (wires_of circuit tree listed) (λ (v : Wire). v.producer == m) s h in absurd (no-channel circuit tree listed fits scoped apart s w.wire inner w.among w.is)
+        let w = given-out circuit tree listed m s h in absurd (no-channel circuit tree listed fits scoped apart s w.wire inner w.among w.is)
     gets-spread s lt None inner (inr h) =
         let w = chosen-out (wires_of circuit tree listed) (λ (v : Wire). v.consumer == m) s h in absurd (no-channel circuit tree listed fits scoped apart s w.wire inner w.among w.is)
     gets-spread s lt (Some c) at (inl (inl own)) = absurd (own.2 c at.0 at.1)
     gets-spread s lt (Some c) at (inl (inr h)) =
-        let w = chosen-out (wires_of circuit tree listed) (λ (v : Wire). v.producer == m) s h in
+        let w = given-out circuit tree listed m s h in
         or_left ((wire_at (wires_of circuit tree listed) c).producer == m) ((wire_at (wires_of circuit tree listed) c).consumer == m) (ap (λ (v : Wire). v.producer == m) (sym (same-wire s c w.wire at.0 at.1 w.among w.is)) ∙ w.passes)
     gets-spread s lt (Some c) at (inr h) =
         let w = chosen-out (wires_of circuit tree listed) (λ (v : Wire). v.consumer == m) s h in
@@ -132,7 +135,7 @@ module _ (circuit : FlatCircuit) (tree : InstanceTree) (listed : Listed) (fits :
       pairs i j d less lt same =
           let inside : j < length tree.memories = omega (arith, lt, length-range_with_len 0 (length tree.memories)) in
           let low : i < length tree.memories = omega (arith, less, inside) in
-          fits.once i j (record { instance = 0; memory = 0; ports = [] }) less inside
+          fits.once i j (record { instance = 0; memory = 0; ports = []; clocks = [] }) less inside
           (ap (λ p. (memory_at tree p).memory) (sym (number i d low)) ∙ same ∙ ap (λ p. (memory_at tree p).memory) (number j d inside))
 
       once : AllPairs (λ a b. a ≢ b) (memories_below tree machines (length tree.memories) m)
@@ -151,7 +154,7 @@ shared circuit tree order listed formed fits scoped ordered apart m ins outs glo
       along = signals.along;
       banks = banks.just;
       choice = λ low.
-          subst (λ l. IsChoice circuit globals (signals_of (wires_of circuit tree listed) l) (signals_of (wires_of circuit tree listed) outs) memories) (sym takes)
-          (subst (λ l. IsChoice circuit globals (signals_of (wires_of circuit tree listed) (channels_to (wires_of circuit tree listed) m)) (signals_of (wires_of circuit tree listed) l) memories) (sym gives)
+          subst (λ l. IsChoice circuit globals (signals_of (wires_of circuit tree listed) l) (givens_of (wires_of circuit tree listed) outs) memories) (sym takes)
+          (subst (λ l. IsChoice circuit globals (signals_of (wires_of circuit tree listed) (channels_to (wires_of circuit tree listed) m)) (givens_of (wires_of circuit tree listed) l) memories) (sym gives)
           (choice circuit tree listed formed fits scoped apart m globals memories low signals.just (along-once order globals ordered.once signals.along) banks.just banks.once));
     }

@@ -7,8 +7,8 @@ use Rattle.gg_part.specs.InOrder.{IsAlong}
 use Rattle.gg_part.specs.Choice.{IsChoice}
 use Rattle.gg_cut.specs.declared.listed.Listed.{Listed}
 use Rattle.gg_cut.specs.declared.wires.Wire.{Wire}
-use Rattle.gg_cut.specs.Channels.{first_source}
-use Rattle.gg_cut.specs.Plan.{channels_to, channels_from, signals_of, Makes, Takes, HasMemory}
+use Rattle.gg_cut.specs.Machines.{first_source}
+use Rattle.gg_cut.specs.Plan.{channels_to, channels_from, signals_of, givens_of, Makes, Takes, HasMemory}
 
 -- What machine m has: the channels that it takes and those that it gives, in order; exactly the signals that it makes
 -- or takes, along the order of evaluation; and exactly the memories that belong to it. If m is the hub, a unit or a
@@ -19,4 +19,4 @@ pub record IsShareOf (design : Ordered) (listed : Listed) (wires : List Wire) (m
   pub signals : (s : ℕ) → Contains globals s ↔ (Makes design.circuit design.tree listed wires m s ⊎ Takes wires m s)
   pub along : IsAlong design.order globals
   pub banks : (k : ℕ) → Contains memories k ↔ HasMemory design.tree listed m k
-  pub choice : m < first_source listed → IsChoice design.circuit globals (signals_of wires ins) (signals_of wires outs) memories
+  pub choice : m < first_source listed → IsChoice design.circuit globals (signals_of wires ins) (givens_of wires outs) memories

@@ -8,7 +8,7 @@ use Rattle.gg_cut.specs.declared.wires.Wire.{Wire}
 use Rattle.gg_flat.specs.Circuit.{FlatCircuit}
 use Rattle.gg_part.specs.InOrder.{IsAlong}
 use Rattle.gg_cut.specs.declared.listed.Listed.{Listed}
-use Rattle.gg_cut.specs.Channels.{wires_of}
+use Rattle.gg_cut.specs.Channels.{wire, wires_of}
 use Rattle.gg_cut.specs.Plan.{wire_at, Makes, Takes, HasMemory}
 
 -- one list for each machine; that of machine m is f m
@@ -20,6 +20,12 @@ pub record AreLists (f : ℕ → List ℕ) (count : ℕ) (lists : List (List ℕ
 pub record IsPut (test : ℕ → Bool) (number : ℕ) (old new : List (List ℕ)) : Type 0 where
   pub many : length new ≡ length old
   pub each : (m : ℕ) → m < length old → slice_index_or new m [] ≡ slice_index_or old m [] ++ (if test m then number ∷ [] else [])
+
+-- ---- channels
+
+-- the channel of a top output, from the machine that a table has for it
+abbrev pub held_wires : List ℕ → ℕ → ℕ → List Wire
+held_wires holders number signal = wire signal (value_at holders signal) number ∷ []
 
 -- ---- signals
 

@@ -1,17 +1,19 @@
 //! The channels, in their order.
-ghost use Rattle.std.specs.Prelude.{◌≡◌, ℕ, ◌<◌, ◌+◌, ◌-◌, ◌^◌, ◌++◌, length, map, All, OnOk, IfOk};
+ghost use Rattle.std.specs.Prelude.{◌≡◌, ℕ, ◌<◌, ◌++◌, length, map, All, OnOk, IfOk};
 ghost use Rattle.gg_flat.specs.Line.{value_at};
 ghost use Rattle.gg_flat.specs.Tree.{IsTree, instance_at, memory_at, parent_place};
-ghost use Rattle.gg_cut.specs.Listed.{owner_of_instance};
+ghost use Rattle.gg_cut.specs.Listed.{owner_of, owner_of_instance};
 ghost use Rattle.gg_flat.specs.Circuit.{readers_at};
 ghost use Rattle.gg_flat.specs.Scoped.{writers_at};
-ghost use Rattle.gg_cut.specs.Channels.{wire, numbered, flattened, first_unit, first_memory, first_source, first_tray, machine_count, port_wire, port_wires, reader_wires, writer_wires, field_wires, source_wires, tray_wires, wires_of};
+ghost use Rattle.gg_cut.specs.Machines.{first_unit, first_memory, source_after, tray_after, numbering_of};
+ghost use Rattle.gg_cut.specs.Channels.{wire, numbered, flattened, port_wire, port_wires, reader_wires, writer_wires, field_wires, source_wires, wires_of};
+ghost use Rattle.gg_split.specs.Spread.{held_wires};
 
-use gg_cut::{Listed, Wire};
+use gg_cut::{Listed, Numbering, Wire};
 use gg_flat::{InstancePort, Piece, Reader, Tree, Writer};
 use std::alloc::{AllocError, Global};
 
-/// The channels of a cut, in their order. `owners` has the machine of each instance.
+/// The channels of a cut, in their order. `owners` has the machine of each instance, and `holders` that of each top output.
 ///
 /// # Errors
 ///
@@ -20,48 +22,61 @@ pub(crate) fn channels(
     alloc: Global,
     piece: &Piece,
     tree: &Tree,
+    numbering: &Numbering,
     listed: &Listed,
     owners: &[u32],
+    holders: &[u32],
 ) -> Result<Vec<Wire>, AllocError>
     requires fitting { IsTree piece.now tree.now }
     requires units { All (λ unit. unit < length tree.now.instances) listed.now.units }
     requires memories { All (λ place. place < length tree.now.memories) listed.now.memories }
-    requires few { machine_count piece.now listed.now < 2 ^ 32 }
+    requires numbering { numbering.now ≡ numbering_of piece.now listed.now }
+    requires known { All (λ s. s < length holders.now) piece.now.outs }
+    requires holders { All (λ s. value_at holders.now s ≡ owner_of piece.now tree.now listed.now s) piece.now.outs }
     requires count { length owners.now ≡ length tree.now.instances }
     requires owners { (k : ℕ) → k < length tree.now.instances → value_at owners.now k ≡ owner_of_instance tree.now listed.now.units k }
     ensures { IfOk result (λ wires. wires.items ≡ wires_of piece.now tree.now listed.now) }
 {
-    let units = listed.units.as_slice();
-    let memories = listed.memories.as_slice();
-    let memory = units.len() as u32 + 1;
-    let source = memory + memories.len() as u32;
-    let tray = source + piece.ins().len() as u32;
     let mut wires = Vec::new(alloc);
-    push_sources(&mut wires, piece.ins(), source)?;
-    push_units(&mut wires, piece, tree, units, owners)?;
-    push_memories(&mut wires, piece, tree, listed, owners)?;
-    push_trays(&mut wires, piece.outs(), tray)?;
+    push_sources(&mut wires, numbering, piece.ins())?;
+    push_units(
+        &mut wires,
+        piece,
+        tree,
+        numbering,
+        listed.units.as_slice(),
+        owners,
+    )?;
+    push_memories(&mut wires, piece, tree, numbering, listed, owners)?;
+    push_trays(&mut wires, numbering, piece.outs(), holders)?;
     Ok(wires)
 }
 
 // Adds the channels of the top's inputs.
-fn push_sources(wires: &mut Vec<Wire>, ins: &[u32], first: u32) -> Result<(), AllocError>
-    requires { first + length ins.now < 2 ^ 32 }
-    ensures { OnOk result (wires.new.items ≡ wires.old.items ++ numbered source_wires first ins.now) }
+fn push_sources(wires: &mut Vec<Wire>, numbering: &Numbering, ins: &[u32]) -> Result<(), AllocError>
+    requires { numbering.now.ins ≡ length ins.now }
+    ensures { OnOk result (wires.new.items ≡ wires.old.items ++ numbered source_wires (source_after numbering.now.units numbering.now.memories) ins.now) }
 {
     for place in 0..ins.len() {
-        wires.push(to(ins[place], first + place as u32, 0))?;
+        wires.push(to(ins[place], numbering.source(place), 0))?;
     }
     Ok(())
 }
 
-// Adds the channels of the top's outputs.
-fn push_trays(wires: &mut Vec<Wire>, outs: &[u32], first: u32) -> Result<(), AllocError>
-    requires { first + length outs.now < 2 ^ 32 }
-    ensures { OnOk result (wires.new.items ≡ wires.old.items ++ numbered tray_wires first outs.now) }
+// Adds the channels of the top's outputs, from the machines that have them.
+fn push_trays(
+    wires: &mut Vec<Wire>,
+    numbering: &Numbering,
+    outs: &[u32],
+    holders: &[u32],
+) -> Result<(), AllocError>
+    requires count { numbering.now.outs ≡ length outs.now }
+    requires known { All (λ s. s < length holders.now) outs.now }
+    ensures { OnOk result (wires.new.items ≡ wires.old.items ++ numbered (held_wires holders.now) (tray_after numbering.now.units numbering.now.memories numbering.now.ins) outs.now) }
 {
     for place in 0..outs.len() {
-        wires.push(to(outs[place], 0, first + place as u32))?;
+        let signal = outs[place];
+        wires.push(to(signal, holders[signal as usize], numbering.tray(place)))?;
     }
     Ok(())
 }
@@ -71,12 +86,13 @@ fn push_units(
     wires: &mut Vec<Wire>,
     piece: &Piece,
     tree: &Tree,
+    numbering: &Numbering,
     units: &[u32],
     owners: &[u32],
 ) -> Result<(), AllocError>
     requires fitting { IsTree piece.now tree.now }
     requires known { All (λ unit. unit < length tree.now.instances) units.now }
-    requires few { length units.now < 2 ^ 32 - 1 }
+    requires units { numbering.now.units ≡ length units.now }
     requires count { length owners.now ≡ length tree.now.instances }
     requires owners { (k : ℕ) → k < length tree.now.instances → value_at owners.now k ≡ owner_of_instance tree.now units.now k }
     ensures { OnOk result (wires.new.items ≡ wires.old.items ++ numbered (port_wires tree.now units.now) first_unit units.now) }
@@ -85,7 +101,7 @@ fn push_units(
         let unit = units[place];
         let outside = outside_of(piece, tree, owners, unit);
         let ports = tree.instances()[unit as usize].ports.as_slice();
-        push_ports(wires, ports, outside, place as u32 + 1)?;
+        push_ports(wires, ports, outside, numbering.unit(place))?;
     }
     Ok(())
 }
@@ -135,22 +151,28 @@ fn push_memories(
     wires: &mut Vec<Wire>,
     piece: &Piece,
     tree: &Tree,
+    numbering: &Numbering,
     listed: &Listed,
     owners: &[u32],
 ) -> Result<(), AllocError>
     requires fitting { IsTree piece.now tree.now }
     requires known { All (λ place. place < length tree.now.memories) listed.now.memories }
-    requires few { first_source listed.now < 2 ^ 32 }
+    requires numbering { numbering.now ≡ numbering_of piece.now listed.now }
     requires count { length owners.now ≡ length tree.now.instances }
     requires owners { (k : ℕ) → k < length tree.now.instances → value_at owners.now k ≡ owner_of_instance tree.now listed.now.units k }
     ensures { OnOk result (wires.new.items ≡ wires.old.items ++ numbered (field_wires piece.now tree.now listed.now.units) (first_memory listed.now) listed.now.memories) }
 {
     let memories = listed.memories.as_slice();
-    let first = listed.units.as_slice().len() as u32 + 1;
     for place in 0..memories.len() {
         let memory = &tree.memories()[memories[place] as usize];
         let outside = owners[memory.instance as usize];
-        push_fields(wires, piece, memory.memory, outside, first + place as u32)?;
+        push_fields(
+            wires,
+            piece,
+            memory.memory,
+            outside,
+            numbering.memory(place),
+        )?;
     }
     Ok(())
 }
@@ -212,6 +234,7 @@ fn to(signal: u32, producer: u32, consumer: u32) -> Wire
 {
     Wire {
         signal,
+        given: signal,
         producer,
         consumer,
     }

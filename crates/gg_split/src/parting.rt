@@ -2,10 +2,12 @@
 ghost use Rattle.std.specs.Prelude.{◌≡◌, ℕ, ◌<◌, None, List, [], length, set, slice_index_or, IfOk};
 ghost use Rattle.gg_flat.specs.Line.{value_at};
 ghost use Rattle.gg_flat.specs.Tree.{IsTree};
-ghost use Rattle.gg_cut.specs.Listed.{listed_of, owner_of_instance};
+ghost use Rattle.gg_moved.specs.KeepsToTree.{KeepsToTree};
+ghost use Rattle.gg_cut.specs.Listed.{listed_of, first_place, has_signal, owner_of_instance, unit_or_hub};
 ghost use Rattle.gg_cut.specs.Fault.{first_fault};
-ghost use Rattle.gg_cut.specs.Channels.{wires_of, machine_count};
-ghost use Rattle.gg_closed.specs.Apart.{AreApart, AreFew};
+ghost use Rattle.gg_cut.specs.Machines.{machine_count, numbering_of};
+ghost use Rattle.gg_cut.specs.Channels.{wires_of};
+ghost use Rattle.gg_closed.specs.Apart.{AreApart};
 ghost use Rattle.gg_split.specs.Spread.{EachList, AreSignals, AreMemories};
 ghost use Rattle.gg_split.specs.CanSplit.{CanSplit};
 ghost use Rattle.gg_split.specs.IsShare.{AreShares, IsGathered, AreGathered};
@@ -16,7 +18,7 @@ use crate::share::{Share, Split};
 use crate::spread::{memories, put_channels, spread};
 use crate::tables::{channels_of, memory_owners, signal_owners};
 use gg_bits::{Ids, Items};
-use gg_cut::{Listed, Wire, owners_of};
+use gg_cut::{Listed, Numbering, Wire, owners_of};
 use gg_flat::{Piece, Tree};
 use gg_order::Design;
 use gg_partfile::Request;
@@ -33,6 +35,7 @@ pub fn split(
     request: &Request,
     listed: &Listed,
 ) -> Result<Split, AllocError>
+    requires keeps { KeepsToTree design.now.circuit design.now.tree }
     requires listed { listed.now ≡ listed_of design.now.tree request.now }
     requires faultless { first_fault design.now request.now ≡ None }
     ensures wires { IfOk result (λ split. split.wires ≡ wires_of design.now.circuit design.now.tree listed.now) }
@@ -55,50 +58,49 @@ fn split_all(
     ensures wires { IfOk result (λ split. split.wires ≡ wires_of piece.now tree.now listed.now) }
     ensures shares { IfOk result (λ split. AreShares (record { circuit = piece.now; tree = tree.now; order = order.now }) listed.now split.shares) }
 {
-    let owners = owners_of(alloc, tree, listed.units.as_slice())?;
-    let wires = channels(alloc, piece, tree, listed, &owners)?;
-    let shares = shares(alloc, piece, tree, order, listed, &owners, &wires)?;
+    let numbering = Numbering::of(piece, listed);
+    let units = listed.units.as_slice();
+    let owners = owners_of(alloc, tree, &numbering, units)?;
+    let holders = signal_owners(alloc, tree, &numbering, units, piece.signals().len())?;
+    let wires = channels(alloc, piece, tree, &numbering, listed, &owners, &holders)?;
+    let shares = shares(
+        alloc, piece, tree, order, &numbering, listed, &owners, &holders, &wires,
+    )?;
     Ok(Split {
         wires: Items::from(wires),
         shares,
     })
 }
 
-// What each machine has, from the channels and the machine of each instance.
+// What each machine has, from the channels, the machine of each instance, and the machine of each signal by its instance.
 fn shares(
     alloc: Global,
     piece: &Piece,
     tree: &Tree,
     order: &[u32],
+    numbering: &Numbering,
     listed: &Listed,
     owners: &[u32],
+    holders: &[u32],
     wires: &[Wire],
 ) -> Result<Items<Share>, AllocError>
     requires sound { CanSplit piece.now tree.now order.now listed.now }
+    requires numbering { numbering.now ≡ numbering_of piece.now listed.now }
+    requires held { length holders.now ≡ length piece.now.signals }
+    requires holders { (s : ℕ) → value_at holders.now s ≡ unit_or_hub (first_place (has_signal tree.now s) listed.now.units) }
     requires count { length owners.now ≡ length tree.now.instances }
     requires owners { (k : ℕ) → k < length tree.now.instances → value_at owners.now k ≡ owner_of_instance tree.now listed.now.units k }
     requires wires { wires.now ≡ wires_of piece.now tree.now listed.now }
     ensures { IfOk result (λ shares. AreShares (record { circuit = piece.now; tree = tree.now; order = order.now }) listed.now shares) }
 {
-    let count = machines(piece, tree, listed);
+    let count = numbering.count();
     let mut ins = piles(alloc, count)?;
     let mut outs = piles(alloc, count)?;
     put_channels(wires, &mut ins, &mut outs)?;
-    let mut globals = signals_of(alloc, piece, tree, order, listed, wires, count)?;
-    let mut memories = memories_of(alloc, piece, tree, listed, owners, count)?;
+    let mut globals = signals_of(alloc, piece, tree, order, listed, holders, wires, count)?;
+    let mut memories = memories_of(alloc, piece, tree, numbering, listed, owners, count)?;
     let shares = gather(alloc, &mut ins, &mut outs, &mut globals, &mut memories)?;
     Ok(shares)
-}
-
-// The number of machines.
-fn machines(piece: &Piece, tree: &Tree, listed: &Listed) -> usize
-    requires few { AreFew piece.now tree.now listed.now }
-    ensures { result ≡ machine_count piece.now listed.now }
-{
-    let _ = tree;
-    let units = listed.units.as_slice().len();
-    let memories = listed.memories.as_slice().len();
-    1 + units + memories + piece.ins().len() + piece.outs().len()
 }
 
 // The signals of each machine, along the order.
@@ -108,18 +110,21 @@ fn signals_of(
     tree: &Tree,
     order: &[u32],
     listed: &Listed,
+    holders: &[u32],
     wires: &[Wire],
     count: usize,
 ) -> Result<Vec<Pile>, AllocError>
     requires sound { CanSplit piece.now tree.now order.now listed.now }
+    requires held { length holders.now ≡ length piece.now.signals }
+    requires holders { (s : ℕ) → value_at holders.now s ≡ unit_or_hub (first_place (has_signal tree.now s) listed.now.units) }
     requires wires { wires.now ≡ wires_of piece.now tree.now listed.now }
     requires count { count ≡ machine_count piece.now listed.now }
     ensures { IfOk result (λ lists. EachList (AreSignals piece.now tree.now order.now listed.now) count lists.items) }
 {
-    let signals = piece.signals().len();
-    let owners = signal_owners(alloc, tree, listed.units.as_slice(), signals)?;
-    let channels = channels_of(alloc, wires, signals)?;
-    let lists = spread(alloc, wires, &owners, &channels, order, count)?;
+    let _ = tree;
+    let _ = listed;
+    let channels = channels_of(alloc, wires, piece.signals().len())?;
+    let lists = spread(alloc, wires, holders, &channels, order, count)?;
     Ok(lists)
 }
 
@@ -128,20 +133,21 @@ fn memories_of(
     alloc: Global,
     piece: &Piece,
     tree: &Tree,
+    numbering: &Numbering,
     listed: &Listed,
     owners: &[u32],
     count: usize,
 ) -> Result<Vec<Pile>, AllocError>
     requires fitting { IsTree piece.now tree.now }
     requires apart { AreApart tree.now listed.now }
-    requires few { AreFew piece.now tree.now listed.now }
+    requires numbering { numbering.now ≡ numbering_of piece.now listed.now }
     requires known { length owners.now ≡ length tree.now.instances }
     requires owners { (k : ℕ) → k < length tree.now.instances → value_at owners.now k ≡ owner_of_instance tree.now listed.now.units k }
     requires count { count ≡ machine_count piece.now listed.now }
     ensures { IfOk result (λ lists. EachList (AreMemories tree.now listed.now) count lists.items) }
 {
     let _ = piece;
-    let machines = memory_owners(alloc, tree, listed, owners)?;
+    let machines = memory_owners(alloc, tree, numbering, listed, owners)?;
     let lists = memories(alloc, tree, &machines, count)?;
     Ok(lists)
 }

@@ -1,12 +1,12 @@
 //! Tables: the machine of each signal, the channel of each signal, the machine of each memory.
-ghost use Rattle.std.specs.Prelude.{◌≡◌, ℕ, ◌<◌, ◌≤◌, ◌+◌, ◌-◌, ◌^◌, ◌==◌, ◌&&◌, nat_le, nat_lt, None, length, replicate, slice_index_or, All, AllPairs, IfOk};
+ghost use Rattle.std.specs.Prelude.{◌≡◌, ℕ, ◌<◌, ◌≤◌, ◌^◌, ◌==◌, ◌&&◌, nat_le, nat_lt, None, length, replicate, slice_index_or, All, AllPairs, IfOk};
 ghost use Rattle.gg_flat.specs.Line.{value_at};
 ghost use Rattle.gg_flat.specs.Tree.{IsTree, instance_at, memory_at};
 ghost use Rattle.gg_cut.specs.Listed.{first_place, unit_or_hub, has_signal, memory_or, owner_of_instance};
 ghost use Rattle.gg_cut.specs.Plan.{memory_owner, wire_at};
 ghost use Rattle.gg_split.specs.Spread.{claimed, AreChannels, IsChannelBelow};
 
-use gg_cut::{Listed, Wire};
+use gg_cut::{Listed, Numbering, Wire};
 use gg_flat::Tree;
 use std::alloc::{AllocError, Global};
 
@@ -18,17 +18,18 @@ use std::alloc::{AllocError, Global};
 pub(crate) fn signal_owners(
     alloc: Global,
     tree: &Tree,
+    numbering: &Numbering,
     units: &[u32],
     count: usize,
 ) -> Result<Vec<u32>, AllocError>
     requires known { All (λ unit. unit < length tree.now.instances) units.now }
     requires inside { All (λ unit. ((instance_at tree.now unit).first ≤ (instance_at tree.now unit).end) × ((instance_at tree.now unit).end ≤ count)) units.now }
-    requires few { length units.now < 2 ^ 32 - 1 }
+    requires units { numbering.now.units ≡ length units.now }
     ensures count { IfOk result (λ owners. length owners.items ≡ count) }
     ensures owners { IfOk result (λ owners. (s : ℕ) → value_at owners.items s ≡ unit_or_hub (first_place (has_signal tree.now s) units.now)) }
 {
     let mut owners = zeros(alloc, count)?;
-    claim_units(tree, units, &mut owners);
+    claim_units(tree, numbering, units, &mut owners);
     Ok(owners)
 }
 
@@ -40,16 +41,16 @@ fn zeros(alloc: Global, count: usize) -> Result<Vec<u32>, AllocError>
 }
 
 // Gives each unit its signals. At first all signals are the hub's.
-fn claim_units(tree: &Tree, units: &[u32], owners: &mut [u32])
+fn claim_units(tree: &Tree, numbering: &Numbering, units: &[u32], owners: &mut [u32])
     requires known { All (λ unit. unit < length tree.now.instances) units.now }
     requires inside { All (λ unit. ((instance_at tree.now unit).first ≤ (instance_at tree.now unit).end) × ((instance_at tree.now unit).end ≤ length owners.old)) units.now }
-    requires few { length units.now < 2 ^ 32 - 1 }
+    requires units { numbering.now.units ≡ length units.now }
     requires zeros { (s : ℕ) → value_at owners.old s ≡ 0 }
     ensures count { length owners.new ≡ length owners.old }
     ensures owners { (s : ℕ) → value_at owners.new s ≡ unit_or_hub (first_place (has_signal tree.now s) units.now) }
 {
     for number in 0..units.len() {
-        claim_unit(tree, units[number], number as u32 + 1, owners);
+        claim_unit(tree, units[number], numbering.unit(number), owners);
     }
 }
 
@@ -131,20 +132,21 @@ fn mark_channels(wires: &[Wire], channels: &mut [Option<u32>])
 pub(crate) fn memory_owners(
     alloc: Global,
     tree: &Tree,
+    numbering: &Numbering,
     listed: &Listed,
     owners: &[u32],
 ) -> Result<Vec<u32>, AllocError>
     requires held { (k : ℕ) → k < length tree.now.memories → (memory_at tree.now k).instance < length owners.now }
     requires known { All (λ place. place < length tree.now.memories) listed.now.memories }
     requires ascending { AllPairs (λ a b. a < b) listed.now.memories }
-    requires few { length listed.now.units + length listed.now.memories < 2 ^ 32 - 1 }
+    requires units { numbering.now.units ≡ length listed.now.units }
+    requires memories { numbering.now.memories ≡ length listed.now.memories }
     requires owners { (k : ℕ) → k < length owners.now → value_at owners.now k ≡ owner_of_instance tree.now listed.now.units k }
     ensures count { IfOk result (λ found. length found.items ≡ length tree.now.memories) }
     ensures owners { IfOk result (λ found. (place : ℕ) → place < length tree.now.memories → value_at found.items place ≡ memory_owner tree.now listed.now place) }
 {
     let mut found = holders(alloc, tree, owners)?;
-    let first = listed.units.as_slice().len() as u32 + 1;
-    number_memories(listed.memories.as_slice(), first, &mut found);
+    number_memories(numbering, listed.memories.as_slice(), &mut found);
     Ok(found)
 }
 
@@ -161,16 +163,15 @@ fn holders(alloc: Global, tree: &Tree, owners: &[u32]) -> Result<Vec<u32>, Alloc
     Ok(found)
 }
 
-// Gives each listed memory its machine's number, from `first` on.
-fn number_memories(memories: &[u32], first: u32, found: &mut [u32])
+// Gives each listed memory its machine's number.
+fn number_memories(numbering: &Numbering, memories: &[u32], found: &mut [u32])
     requires known { All (λ place. place < length found.old) memories.now }
     requires ascending { AllPairs (λ a b. a < b) memories.now }
-    requires few { first + length memories.now < 2 ^ 32 }
-    requires some { 0 < first }
+    requires memories { numbering.now.memories ≡ length memories.now }
     ensures count { length found.new ≡ length found.old }
-    ensures numbers { (place : ℕ) → value_at found.new place ≡ memory_or (first - 1) (value_at found.old place) (first_place (λ j. j == place) memories.now) }
+    ensures numbers { (place : ℕ) → value_at found.new place ≡ memory_or numbering.now.units (value_at found.old place) (first_place (λ j. j == place) memories.now) }
 {
     for number in 0..memories.len() {
-        found[memories[number] as usize] = first + number as u32;
+        found[memories[number] as usize] = numbering.memory(number);
     }
 }

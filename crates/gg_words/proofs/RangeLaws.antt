@@ -9,7 +9,7 @@ use Rattle.clap.specs.Simple.{subcommand_of}
 use Rattle.gg_words.specs.Line.{golden_app}
 use Rattle.gg_words.specs.Meaning.{FoundSays, IsCommand, capacity_of, check_of, is_set, replay_of, run_of, text_of, with_number, workers_of}
 use Rattle.gg_words.specs.Number.{number_of}
-use Rattle.gg_words.specs.Range.{AreInRange, IsWithin}
+use Rattle.gg_words.specs.Range.{AreInRange, IsCapacity, IsWithin, most_capacity, most_workers}
 use Rattle.gg_words.specs.declared.command.Cmd.{Cmd}
 use Rattle.gg_words.specs.declared.command.Cmd.TheVariants.{Run, Replay, Check}
 
@@ -32,11 +32,11 @@ number-within least most default within (Some text) n is =
     let v = digits_value 10 text in
     within-by least most (nat_lt 0 (length text) && all_ascii_digits text) (nat_lt 0 (length text) && all_ascii_digits text && nat_le least v && nat_le v most) v n text refl is
 
-capacity-within : (rows : List Row) (k : ℕ) → capacity_of rows ≡ Ok k → IsWithin 1 4096 k
-capacity-within rows k is = number-within 1 4096 2 (omega arith, omega arith) (first_of (codes "capacity") rows) k is
+capacity-within : (rows : List Row) (k : ℕ) → capacity_of rows ≡ Ok k → IsCapacity k
+capacity-within rows k is = number-within 1 most_capacity 2 (omega arith, omega arith) (first_of (codes "capacity") rows) k is
 
-workers-within : (rows : List Row) (w : ℕ) → workers_of rows ≡ Ok w → IsWithin 0 64 w
-workers-within rows w is = number-within 0 64 0 (omega arith, omega arith) (first_of (codes "workers") rows) w is
+workers-within : (rows : List Row) (w : ℕ) → workers_of rows ≡ Ok w → IsWithin 0 most_workers w
+workers-within rows w is = number-within 0 most_workers 0 (omega arith, omega arith) (first_of (codes "workers") rows) w is
 
 -- if a command depends on a number, the number was read, and the command is the one for this number
 from-number : {P : Type 0} (r : Result ℕ Text) (next : ℕ → Result Cmd Text) (cmd : Cmd) → ((n : ℕ) → r ≡ Ok n → next n ≡ Ok cmd → P) → with_number r next ≡ Ok cmd → P

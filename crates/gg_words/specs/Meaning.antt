@@ -9,6 +9,7 @@ use Rattle.clap.specs.Faults.{fault_of}
 use Rattle.clap.specs.Kinds.{IsAmong}
 use Rattle.gg_words.specs.Line.{golden_app}
 use Rattle.gg_words.specs.Number.{number_of}
+use Rattle.gg_words.specs.Range.{most_capacity, most_workers}
 use Rattle.gg_words.specs.declared.command.Cmd.{Cmd}
 use Rattle.gg_words.specs.declared.command.Cmd.TheVariants.{Run, Replay, Check}
 use Rattle.gg_words.specs.declared.command.WordFault.{WordFault}
@@ -24,11 +25,11 @@ is_set id rows = option_map_or (λ text. bytes_eq text (codes "true")) (first_of
 
 -- the capacity: 1 to 4,096, and 2 by default
 abbrev pub capacity_of : List Row → Result ℕ Text
-capacity_of rows = number_of 1 4096 2 (first_of (codes "capacity") rows)
+capacity_of rows = number_of 1 most_capacity 2 (first_of (codes "capacity") rows)
 
 -- the number of workers: 0 to 64, and 0 by default
 abbrev pub workers_of : List Row → Result ℕ Text
-workers_of rows = number_of 0 64 0 (first_of (codes "workers") rows)
+workers_of rows = number_of 0 most_workers 0 (first_of (codes "workers") rows)
 
 -- the result of a function of a number, or the value that isn't a number
 abbrev pub with_number : Result ℕ Text → (ℕ → Result Cmd Text) → Result Cmd Text

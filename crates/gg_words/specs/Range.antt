@@ -8,8 +8,19 @@ use Rattle.gg_words.specs.declared.command.Cmd.TheVariants.{Run, Replay, Check}
 abbrev pub IsWithin : (least most : ℕ) → ℕ → Type 0
 IsWithin least most n = (least ≤ n) × (n ≤ most)
 
+-- the greatest capacity of a channel, and the most workers
+abbrev pub most_capacity : ℕ
+most_capacity = 4096
+
+abbrev pub most_workers : ℕ
+most_workers = 64
+
+-- a capacity: at least 1
+abbrev pub IsCapacity : ℕ → Type 0
+IsCapacity n = IsWithin 1 most_capacity n
+
 -- each number of the command is in its range
 abbrev pub AreInRange : Cmd → Type 0
-AreInRange (Run circuit partition trace capacity workers mono) = IsWithin 1 4096 capacity × IsWithin 0 64 workers
-AreInRange (Replay circuit partition trace steps capacity) = IsWithin 1 4096 capacity
-AreInRange (Check circuit partition capacity) = IsWithin 1 4096 capacity
+AreInRange (Run circuit partition trace capacity workers mono) = IsCapacity capacity × IsWithin 0 most_workers workers
+AreInRange (Replay circuit partition trace steps capacity) = IsCapacity capacity
+AreInRange (Check circuit partition capacity) = IsCapacity capacity

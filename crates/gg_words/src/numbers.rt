@@ -3,6 +3,12 @@ ghost use Rattle.std.specs.Prelude.{◌≡◌, ◌≤◌, ◌<◌, ◌^◌};
 ghost use Rattle.std.specs.Str.{all_ascii_digits};
 ghost use Rattle.gg_words.specs.Number.{number_in};
 
+/// The greatest capacity of a channel.
+pub(crate) const MOST_CAPACITY: u32 = 4096;
+
+/// The most workers.
+pub(crate) const MOST_WORKERS: u32 = 64;
+
 // Whether all bytes of a text are decimal digits.
 fn are_digits(text: &str) -> bool
     ensures { result ≡ all_ascii_digits text.now }

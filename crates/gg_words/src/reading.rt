@@ -15,7 +15,7 @@ ghost use Rattle.gg_words.specs.declared.command.WordFault.{WordFault};
 use crate::command::{Cmd, WordFault};
 use crate::laws::{files_are_named, one_meaning};
 use crate::line::golden_line;
-use crate::numbers::number_in;
+use crate::numbers::{MOST_CAPACITY, MOST_WORKERS, number_in};
 use clap::error::ErrorKind;
 use clap::{ArgMatches, Error};
 use gg_bits::Name;
@@ -72,7 +72,7 @@ fn number_of(
 fn capacity_of(alloc: Global, matches: &ArgMatches<'_>) -> Result<u32, WordFault>
     ensures { Answers result (capacity_of (rows_of (found_of matches.now))) }
 {
-    number_of(alloc, matches, "capacity", 1, 4096, 2)
+    number_of(alloc, matches, "capacity", 1, MOST_CAPACITY, 2)
 }
 
 // The command `run`.
@@ -80,7 +80,7 @@ fn run_of(alloc: Global, matches: &ArgMatches<'_>) -> Result<Cmd, WordFault>
     ensures { Answers result (run_of (rows_of (found_of matches.now))) }
 {
     let capacity = capacity_of(alloc, matches)?;
-    let workers = number_of(alloc, matches, "workers", 0, 64, 0)?;
+    let workers = number_of(alloc, matches, "workers", 0, MOST_WORKERS, 0)?;
     Ok(Cmd::Run {
         circuit: name_of(alloc, matches, "circuit")?,
         partition: name_of(alloc, matches, "partition")?,

@@ -3,7 +3,6 @@ use Rattle.std.proofs.Common.{◌≡◌, ◌≢◌, ℕ, ◌<◌, List, [], ◌�
 use Rattle.std.specs.Prelude.{slice_index_or}
 use Rattle.std.proofs.lemmas.Bool.{cases_eq}
 use Rattle.std.proofs.lemmas.List.{length-append, get_or_append_left, get_or_at}
-use Rattle.std.specs.declared.vec.Vec.{Vec}
 use Rattle.gg_flat.specs.Line.{value_at}
 use Rattle.gg_flat.specs.Streams.{Flow}
 use Rattle.gg_link.specs.Seats.{SeatState}
@@ -17,7 +16,9 @@ use Rattle.gg_seats.specs.Pass.{IsDesk}
 use Rattle.gg_seats.specs.declared.desk.Desk.{Desk}
 use Rattle.gg_seats.proofs.AllLemmas.{in-listed, out-listed, ins-of, outs-of}
 use Rattle.gg_seats.proofs.AgainLemmas.{desk-takes, desk-puts}
-use Rattle.gg_workers.specs.Apart.{consumer_in, producer_in, DeskBack, DesksBack, RowsBack, TakeSeatOf, PutSeatOf, IsStaffed}
+use Rattle.gg_seats.specs.Seats.{TakeSeatOf, PutSeatOf}
+use Rattle.gg_workers.specs.declared.desks.HostDesks.{HostDesks}
+use Rattle.gg_workers.specs.Apart.{consumer_in, producer_in, DeskBack, DesksBack, RowsBack, IsStaffed}
 
 -- ---- one desk
 
@@ -65,25 +66,24 @@ module _ {S T A : Type 0} (end_of : ℕ → ℕ) (P : ℕ → A → Type 0) (cou
             (cases_eq k (length desks));
       }
 
-  module _ {Z : Type 0} where
-    pub rows-none : (all : List (Option A)) → RowsBack {S = S} {T = T} {A = A} {Z = Z} end_of P count [] all all
-    rows-none all = record { long = refl; keeps = λ c lt was. was; back = λ c j k r d lt none. absurd (omega (arith, none)) }
+  pub rows-none : (all : List (Option A)) → RowsBack {S = S} {T = T} {A = A} end_of P count [] all all
+  rows-none all = record { long = refl; keeps = λ c lt was. was; back = λ c j k r d lt none. absurd (omega (arith, none)) }
 
-    pub rows-more : (rows : List (Vec (Desk S T) Z)) (row : Vec (Desk S T) Z) (old mid new : List (Option A)) → RowsBack end_of P count rows old mid → DesksBack end_of P count row.items mid new → RowsBack end_of P count (rows ++ row ∷ []) old new
-    rows-more rows row old mid new before one =
-        record {
-          long = one.long ∙ before.long;
-          keeps = λ c lt was. one.keeps c lt (before.keeps c lt was);
-          back = λ c j k r d lt high within is. ⊎_elim
-              (λ (same : j ≡ length rows).
-              let at : slice_index_or (rows ++ row ∷ []) j r ≡ row = get_or_at rows row [] r j (sym same) in
-              one.back c k d lt (subst (λ (v : Vec (Desk S T) Z). k < length v.items) at within) (is ∙ ap (λ (v : Vec (Desk S T) Z). (slice_index_or v.items k d).machine) at))
-              (λ (other : j ≢ length rows).
-              let low : j < length rows = omega (arith, high, other, length-append rows (row ∷ [])) in
-              let at : slice_index_or (rows ++ row ∷ []) j r ≡ slice_index_or rows j r = get_or_append_left rows (row ∷ []) r j low in
-              one.keeps c lt (before.back c j k r d lt low (subst (λ (v : Vec (Desk S T) Z). k < length v.items) at within) (is ∙ ap (λ (v : Vec (Desk S T) Z). (slice_index_or v.items k d).machine) at)))
-              (cases_eq j (length rows));
-        }
+  pub rows-more : (rows : List (HostDesks S T)) (row : HostDesks S T) (old mid new : List (Option A)) → RowsBack end_of P count rows old mid → DesksBack end_of P count row.desks.items mid new → RowsBack end_of P count (rows ++ row ∷ []) old new
+  rows-more rows row old mid new before one =
+      record {
+        long = one.long ∙ before.long;
+        keeps = λ c lt was. one.keeps c lt (before.keeps c lt was);
+        back = λ c j k r d lt high within is. ⊎_elim
+            (λ (same : j ≡ length rows).
+            let at : slice_index_or (rows ++ row ∷ []) j r ≡ row = get_or_at rows row [] r j (sym same) in
+            one.back c k d lt (subst (λ (v : HostDesks S T). k < length v.desks.items) at within) (is ∙ ap (λ (v : HostDesks S T). (slice_index_or v.desks.items k d).machine) at))
+            (λ (other : j ≢ length rows).
+            let low : j < length rows = omega (arith, high, other, length-append rows (row ∷ [])) in
+            let at : slice_index_or (rows ++ row ∷ []) j r ≡ slice_index_or rows j r = get_or_append_left rows (row ∷ []) r j low in
+            one.keeps c lt (before.back c j k r d lt low (subst (λ (v : HostDesks S T). k < length v.desks.items) at within) (is ∙ ap (λ (v : HostDesks S T). (slice_index_or v.desks.items k d).machine) at)))
+            (cases_eq j (length rows));
+      }
 
 -- ---- a desk of the network
 

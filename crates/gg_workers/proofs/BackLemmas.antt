@@ -12,11 +12,11 @@ use Rattle.gg_net.specs.Queue.{Held}
 use Rattle.gg_net.specs.Seats.{hosted, seated, machines_by}
 use Rattle.gg_net.specs.Net.{AreListed, AreParts, joined}
 use Rattle.gg_seats.specs.Pass.{MachineWentOn, EventsDone}
-use Rattle.gg_seats.specs.Seats.{Linked, MayStand}
+use Rattle.gg_seats.specs.Seats.{Linked, MayStand, TakeSeatOf, PutSeatOf}
 use Rattle.gg_seats.proofs.AgainLemmas.{linked-again}
 use Rattle.gg_workers.specs.declared.booth.Booth.{Booth}
 use Rattle.gg_workers.specs.Booths.{DoneAt, AreBooths, AreNumbered}
-use Rattle.gg_workers.specs.Apart.{TakeSeatOf, PutSeatOf, WereSeated, WasJoined, WereLinked, AreSeats}
+use Rattle.gg_workers.specs.Apart.{WereSeated, WasJoined, WereLinked, AreSeats}
 use Rattle.gg_workers.specs.Work.{IsLater}
 use Rattle.gg_workers.proofs.WorkLemmas as work
 use Rattle.gg_workers.proofs.WorkLemmas.{net-again, net-later}

@@ -5,6 +5,7 @@ mod FillLemmas
 mod MakingLemmas
 mod TurnLemmas
 mod WorkedDesks
+mod WorkedRuns
 mod TogetherLemmas
 mod ApartLemmas
 mod WorkLemmas

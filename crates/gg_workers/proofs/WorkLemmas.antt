@@ -3,7 +3,6 @@ use Rattle.std.proofs.Common.{◌≡◌, ℕ, ◌<◌, List, [], Option, Some, l
 use Rattle.std.specs.Prelude.{slice_index_or}
 use Rattle.std.proofs.Math.ListN as exact
 use Rattle.std.proofs.lemmas.List.{length-map, ext_get_or, get_or-map}
-use Rattle.std.proofs.Common.{Vec, Global}
 use Rattle.gg_flat.specs.Line.{value_at}
 use Rattle.gg_flat.specs.Streams.{Flow}
 use Rattle.gg_link.specs.Seats.{SeatState}
@@ -26,8 +25,9 @@ use Rattle.gg_seats.proofs.EventLemmas.{some-of}
 use Rattle.gg_seats.proofs.NetLemmas.{closed-net}
 use Rattle.gg_seats.proofs.LaterLemmas.{cycles-rise, serves-rise, puts-rise, takes-rise, latch-rises, fire-rises, serve-rises, finish-rises}
 use Rattle.gg_workers.specs.declared.booth.Booth.{Booth}
+use Rattle.gg_workers.specs.declared.desks.HostDesks.{HostDesks}
 use Rattle.gg_workers.specs.Booths.{DoneAt, AreBooths, AreNumbered}
-use Rattle.gg_workers.specs.Apart.{RowsBack, IsStaffed, AllStaffed, AreSeats}
+use Rattle.gg_workers.specs.Apart.{row_of, RowsBack, IsStaffed, AllStaffed, AreSeats}
 use Rattle.gg_workers.specs.Work.{IsLater}
 
 module _ {H X S T : Type 0} (machines : H → List Machine) (takes_from : X → S → Type 0) (puts_into : X → T → Type 0) (taking : S → SeatState) (putting : T → SeatState) (flow : Flow) (net : Network) (stations : List Station) (links : List X) (upto : ℕ) (threads : List ℕ) (hosts : List (List Machine)) (placed : AreSeated hosts stations) (bs : List (Booth H S T))
@@ -93,12 +93,12 @@ module _ {H X S T : Type 0} (machines : H → List Machine) (takes_from : X → 
           seats = λ s. subst (λ (x : Machine). IsDesk takes_from puts_into taking putting flow net links desk.machine (slice_index_or stations desk.machine s).ins (slice_index_or stations desk.machine s).outs x desk.takes.items desk.puts.items) (sym machine-here) (done-here.at.seats s);
         }
 
-  pub all-staffed : AllStaffed takes_from puts_into taking putting flow net links now stations (map (λ (b : Booth H S T). b.desks) bs)
+  pub all-staffed : AllStaffed takes_from puts_into taking putting flow net links now stations (map row_of bs)
   all-staffed j r lt k d le =
-      let inside : j < length bs = omega (arith, lt, length-map bs (λ (b : Booth H S T). b.desks)) in
+      let inside : j < length bs = omega (arith, lt, length-map bs row_of) in
       let b : Booth H S T = some-of bs j inside in
-      let at = get_or-map (λ (b : Booth H S T). b.desks) bs j b r inside in
-      subst (λ v. IsStaffed takes_from puts_into taking putting flow net links now stations (slice_index_or v.items k d)) (sym at) (staffed-here j k b d inside (subst (λ v. k < length v.items) at le))
+      let at = get_or-map row_of bs j b r inside in
+      subst (λ v. IsStaffed takes_from puts_into taking putting flow net links now stations (slice_index_or v.desks.items k d)) (sym at) (staffed-here j k b d inside (subst (λ v. k < length v.desks.items) at le))
 
   -- ---- the desk of a machine
 
@@ -156,17 +156,17 @@ module _ {H X S T : Type 0} (machines : H → List Machine) (takes_from : X → 
 
   -- ---- all seats are back
 
-  module _ {A : Type 0} (end_of : ℕ → ℕ) (P : ℕ → A → Type 0) (wide : ℕ) (old new : List (Option A)) (rows : RowsBack end_of P wide (map (λ (b : Booth H S T). b.desks) bs) old new) (long : length old ≡ wide) (within : (c : ℕ) → c < wide → end_of c < length stations) where
+  module _ {A : Type 0} (end_of : ℕ → ℕ) (P : ℕ → A → Type 0) (wide : ℕ) (old new : List (Option A)) (rows : RowsBack end_of P wide (map row_of bs) old new) (long : length old ≡ wide) (within : (c : ℕ) → c < wide → end_of c < length stations) where
     are-back : AreBack end_of P (length stations) wide new
     are-back =
         record {
           long = rows.long ∙ long;
           back = λ c lt low.
               let at : HasDesk (end_of c) = has-desk (end_of c) low in
-              let v = (slice_index_or bs at.host at.booth).desks in
-              let is = get_or-map (λ (b : Booth H S T). b.desks) bs at.host at.booth v at.known in
-              rows.back c at.host at.thread v at.desk lt (omega (arith, at.known, length-map bs (λ (b : Booth H S T). b.desks))) (subst (λ w. at.thread < length w.items) (sym is) at.there)
-              (sym at.is ∙ ap (λ w. (slice_index_or w.items at.thread at.desk).machine) (sym is));
+              let v = row_of (slice_index_or bs at.host at.booth) in
+              let is = get_or-map row_of bs at.host at.booth v at.known in
+              rows.back c at.host at.thread v at.desk lt (omega (arith, at.known, length-map bs row_of)) (subst (λ (w : HostDesks S T). at.thread < length w.desks.items) (sym is) at.there)
+              (sym at.is ∙ ap (λ (w : HostDesks S T). (slice_index_or w.desks.items at.thread at.desk).machine) (sym is));
         }
 
     pub seats-there : AllThere new
@@ -180,14 +180,14 @@ module _ {H X S T : Type 0} (machines : H → List Machine) (takes_from : X → 
 
   -- the same, of hosts and rows as they were moved
 
-  pub rows-staffed : (hs : List H) (rows : List (Vec (Desk S T) Global)) → hs ≡ map (λ (b : Booth H S T). b.host) bs → rows ≡ map (λ (b : Booth H S T). b.desks) bs → AllStaffed takes_from puts_into taking putting flow net links (machines_by (map machines hs) stations) stations rows
+  pub rows-staffed : (hs : List H) (rows : List (HostDesks S T)) → hs ≡ map (λ (b : Booth H S T). b.host) bs → rows ≡ map row_of bs → AllStaffed takes_from puts_into taking putting flow net links (machines_by (map machines hs) stations) stations rows
   rows-staffed hs rows are_hosts are_rows =
       subst (λ (l : List H). AllStaffed takes_from puts_into taking putting flow net links (machines_by (map machines l) stations) stations rows) (sym are_hosts)
-      (subst (λ (l : List (Vec (Desk S T) Global)). AllStaffed takes_from puts_into taking putting flow net links now stations l) (sym are_rows) all-staffed)
+      (subst (λ (l : List (HostDesks S T)). AllStaffed takes_from puts_into taking putting flow net links now stations l) (sym are_rows) all-staffed)
 
-  module _ {A : Type 0} (end_of : ℕ → ℕ) (Q : List H → ℕ → A → Type 0) (wide : ℕ) (hs : List H) (rows : List (Vec (Desk S T) Global)) (are_hosts : hs ≡ map (λ (b : Booth H S T). b.host) bs) (are_rows : rows ≡ map (λ (b : Booth H S T). b.desks) bs) (old new : List (Option A)) (back : RowsBack end_of (Q hs) wide rows old new) (long : length old ≡ wide) (within : (c : ℕ) → c < wide → end_of c < length stations) where
-    back-here : RowsBack end_of (Q (map (λ (b : Booth H S T). b.host) bs)) wide (map (λ (b : Booth H S T). b.desks) bs) old new
-    back-here = subst (λ (l : List (Vec (Desk S T) Global)). RowsBack end_of (Q (map (λ (b : Booth H S T). b.host) bs)) wide l old new) are_rows (subst (λ (l : List H). RowsBack end_of (Q l) wide rows old new) are_hosts back)
+  module _ {A : Type 0} (end_of : ℕ → ℕ) (Q : List H → ℕ → A → Type 0) (wide : ℕ) (hs : List H) (rows : List (HostDesks S T)) (are_hosts : hs ≡ map (λ (b : Booth H S T). b.host) bs) (are_rows : rows ≡ map row_of bs) (old new : List (Option A)) (back : RowsBack end_of (Q hs) wide rows old new) (long : length old ≡ wide) (within : (c : ℕ) → c < wide → end_of c < length stations) where
+    back-here : RowsBack end_of (Q (map (λ (b : Booth H S T). b.host) bs)) wide (map row_of bs) old new
+    back-here = subst (λ (l : List (HostDesks S T)). RowsBack end_of (Q (map (λ (b : Booth H S T). b.host) bs)) wide l old new) are_rows (subst (λ (l : List H). RowsBack end_of (Q l) wide rows old new) are_hosts back)
 
     pub all-there : AllThere new
     all-there = seats-there end_of (Q (map (λ (b : Booth H S T). b.host) bs)) wide old new back-here long within

@@ -1,23 +1,23 @@
 -- Booths taken apart: their seats are put back to their channels.
 -- Source: this program's own.
-use Rattle.std.specs.Prelude.{◌≡◌, ℕ, ◌<◌, ◌≤◌, List, [], Option, Some, length, map, slice_get, slice_index_or}
+use Rattle.std.specs.Prelude.{◌≡◌, ℕ, ◌<◌, ◌≤◌, List, [], Option, length, map, slice_index_or}
 use Rattle.std.specs.Vec.{vec_capacity}
-use Rattle.std.specs.declared.vec.Vec.{Vec}
 use Rattle.gg_flat.specs.Streams.{Flow}
 use Rattle.gg_link.specs.Seats.{SeatState}
 use Rattle.gg_node.specs.Machine.{Machine, machine_at}
 use Rattle.gg_net.specs.declared.shape.Station.{Station}
 use Rattle.gg_net.specs.declared.shape.Shape.{Shape}
-use Rattle.gg_net.specs.Network.{Network, wire_at, frame_of}
-use Rattle.gg_net.specs.Parted.{takes_by, enters_by}
+use Rattle.gg_net.specs.Network.{Network, wire_at}
 use Rattle.gg_net.specs.Queue.{Held}
 use Rattle.gg_net.specs.Seats.{AreSeated}
 use Rattle.gg_net.specs.Net.{joined, AreParts}
 use Rattle.gg_seats.specs.Deal.{IsBack}
 use Rattle.gg_seats.specs.Pass.{IsDesk}
-use Rattle.gg_seats.specs.Seats.{SeatCounts, Linked}
+use Rattle.gg_seats.specs.Seats.{Linked}
 use Rattle.gg_seats.specs.declared.desk.Desk.{Desk}
 use Rattle.gg_workers.specs.declared.back.Spare.{Spare}
+use Rattle.gg_workers.specs.declared.booth.Booth.{Booth}
+use Rattle.gg_workers.specs.declared.desks.HostDesks.{HostDesks}
 
 -- the machines at the ends of a channel
 abbrev pub consumer_in : Network → ℕ → ℕ
@@ -39,21 +39,17 @@ pub record DesksBack {S T A : Type 0} (end_of : ℕ → ℕ) (P : ℕ → A → 
   pub keeps : (c : ℕ) → c < count → IsBack P c old → IsBack P c new
   pub back : (c k : ℕ) (d : Desk S T) → c < count → k < length desks → end_of c ≡ (slice_index_or desks k d).machine → IsBack P c new
 
--- the same, of the machines of some rows of desks
-pub record RowsBack {S T A Z : Type 0} (end_of : ℕ → ℕ) (P : ℕ → A → Type 0) (count : ℕ) (rows : List (Vec (Desk S T) Z)) (old new : List (Option A)) : Type 0 where
+-- the desks of a booth, as those of its host
+abbrev pub row_of : {H S T : Type 0} → Booth H S T → HostDesks S T
+row_of {H} {S} {T} booth = record { desks = booth.desks }
+
+-- the same, of the machines of some hosts
+pub record RowsBack {S T A : Type 0} (end_of : ℕ → ℕ) (P : ℕ → A → Type 0) (count : ℕ) (rows : List (HostDesks S T)) (old new : List (Option A)) : Type 0 where
   pub long : length new ≡ length old
   pub keeps : (c : ℕ) → c < count → IsBack P c old → IsBack P c new
-  pub back : (c j k : ℕ) (r : Vec (Desk S T) Z) (d : Desk S T) → c < count → j < length rows → k < length (slice_index_or rows j r).items → end_of c ≡ (slice_index_or (slice_index_or rows j r).items k d).machine → IsBack P c new
+  pub back : (c j k : ℕ) (r : HostDesks S T) (d : Desk S T) → c < count → j < length rows → k < length (slice_index_or rows j r).desks.items → end_of c ≡ (slice_index_or (slice_index_or rows j r).desks.items k d).machine → IsBack P c new
 
 module _ {X S T : Type 0} (takes_from : X → S → Type 0) (puts_into : X → T → Type 0) (taking : S → SeatState) (putting : T → SeatState) (flow : Flow) (net : Network) (links : List X) (machines : List Machine) where
-  -- a seat of the link of a channel, which counts what the channel's consumer counts
-  abbrev pub TakeSeatOf : ℕ → S → Type 0
-  TakeSeatOf c seat = ((link : X) → slice_get links c ≡ Some link → takes_from link seat) × SeatCounts flow net c (takes_by (frame_of net) (machine_at machines (wire_at net.wires c).consumer) c) (taking seat)
-
-  -- a seat of the link of a channel, which counts what the channel's producer counts
-  abbrev pub PutSeatOf : ℕ → T → Type 0
-  PutSeatOf c seat = ((link : X) → slice_get links c ≡ Some link → puts_into link seat) × SeatCounts flow net c (enters_by (frame_of net) (machine_at machines (wire_at net.wires c).producer) c) (putting seat)
-
   -- The desk is that of a station whose machine is in this list.
   pub record IsStaffed (stations : List Station) (desk : Desk S T) : Type 0 where
     pub known : desk.machine < length stations
@@ -62,8 +58,8 @@ module _ {X S T : Type 0} (takes_from : X → S → Type 0) (puts_into : X → T
   abbrev pub AreStaffed : List Station → List (Desk S T) → Type 0
   AreStaffed stations desks = (k : ℕ) (d : Desk S T) → k < length desks → IsStaffed stations (slice_index_or desks k d)
 
-  abbrev pub AllStaffed : {Z : Type 0} → List Station → List (Vec (Desk S T) Z) → Type 0
-  AllStaffed {Z} stations rows = (j : ℕ) (r : Vec (Desk S T) Z) → j < length rows → AreStaffed stations (slice_index_or rows j r).items
+  abbrev pub AllStaffed : List Station → List (HostDesks S T) → Type 0
+  AllStaffed stations rows = (j : ℕ) (r : HostDesks S T) → j < length rows → AreStaffed stations (slice_index_or rows j r).desks.items
 
 -- Hosts with so many threads have these stations.
 pub record WereSeated (stations : List Station) (threads : List ℕ) : Type 0 where

@@ -5,9 +5,11 @@ ghost use Rattle.gg_net.specs.Network.{frame_of};
 ghost use Rattle.gg_net.specs.Kept.{Kept};
 ghost use Rattle.gg_net.specs.Net.{AreListed};
 ghost use Rattle.gg_net.specs.Seats.{machines_by};
-ghost use Rattle.gg_workers.specs.Apart.{consumer_in, producer_in, DeskBack, DesksBack, TakeSeatOf, PutSeatOf, IsStaffed, AreStaffed, AllStaffed, RowsBack};
+ghost use Rattle.gg_seats.specs.Seats.{TakeSeatOf, PutSeatOf};
+ghost use Rattle.gg_workers.specs.Apart.{row_of, consumer_in, producer_in, DeskBack, DesksBack, IsStaffed, AreStaffed, AllStaffed, RowsBack};
 
 use crate::booth::Booth;
+use crate::desks::HostDesks;
 use gg_flat::Streams;
 use gg_link::Link;
 use gg_net::Station;
@@ -18,12 +20,12 @@ use gg_seats::{Desk, Era, gather_row};
 pub(crate) fn part_booths<H: Drop, S: Drop, T: Drop>(
     booths: Vec<Booth<H, S, T>>,
     hosts: &mut Vec<H>,
-    rows: &mut Vec<Vec<Desk<S, T>>>,
+    rows: &mut Vec<HostDesks<S, T>>,
 )
     requires none { (hosts.old.items ≡ []) × (rows.old.items ≡ []) }
     requires room { (length booths.items ≤ vec_capacity hosts.old) × (length booths.items ≤ vec_capacity rows.old) }
     ensures hosts { hosts.new.items ≡ map (λ b. b.host) booths.items }
-    ensures rows { rows.new.items ≡ map (λ b. b.desks) booths.items }
+    ensures rows { rows.new.items ≡ map row_of booths.items }
 {
     for booth in booths {
         let Booth {
@@ -32,7 +34,7 @@ pub(crate) fn part_booths<H: Drop, S: Drop, T: Drop>(
             desks,
         } = booth;
         hosts.push_reserved(host);
-        rows.push_reserved(desks);
+        rows.push_reserved(HostDesks { desks });
     }
 }
 
@@ -88,7 +90,7 @@ pub(crate) fn gather_rows<H: Host, L: Link, Z: Streams, E: Era>(
     links: &[L],
     stations: &[Station],
     hosts: &[H],
-    rows: Vec<Vec<Desk<L::TakeSeat, L::PutSeat>>>,
+    rows: Vec<HostDesks<L::TakeSeat, L::PutSeat>>,
     takes: &mut Vec<Option<L::TakeSeat>>,
     puts: &mut Vec<Option<L::PutSeat>>,
 )
@@ -99,7 +101,7 @@ pub(crate) fn gather_rows<H: Host, L: Link, Z: Streams, E: Era>(
     ensures takes { RowsBack (consumer_in E.start) (TakeSeatOf L.takes_from L.puts_into L.taking L.putting Z.flow E.start links.now (machines_by (map H.machines hosts.now) stations.now)) (length E.start.wires) rows.items takes.old.items takes.new.items }
     ensures puts { RowsBack (producer_in E.start) (PutSeatOf L.takes_from L.puts_into L.taking L.putting Z.flow E.start links.now (machines_by (map H.machines hosts.now) stations.now)) (length E.start.wires) rows.items puts.old.items puts.new.items }
 {
-    for desks in rows {
-        gather_desks::<H, L, Z, E>(links, stations, hosts, desks, takes, puts);
+    for row in rows {
+        gather_desks::<H, L, Z, E>(links, stations, hosts, row.desks, takes, puts);
     }
 }

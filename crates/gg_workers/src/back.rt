@@ -5,17 +5,19 @@ ghost use Rattle.gg_net.specs.Network.{frame_of};
 ghost use Rattle.gg_net.specs.Kept.{Kept};
 ghost use Rattle.gg_net.specs.Net.{AreListed, AreParts, joined};
 ghost use Rattle.gg_net.specs.Seats.{machines_by};
-ghost use Rattle.gg_workers.specs.Apart.{TakeSeatOf, PutSeatOf, WereSeated, WasJoined, WereLinked, AreSeats, IsSpare};
+ghost use Rattle.gg_seats.specs.Seats.{TakeSeatOf, PutSeatOf};
+ghost use Rattle.gg_workers.specs.Apart.{WereSeated, WasJoined, WereLinked, AreSeats, IsSpare};
 ghost use Rattle.gg_workers.specs.Booths.{DoneAt, AreBooths, AreNumbered};
 ghost use Rattle.gg_workers.specs.Work.{IsLater};
 
 use crate::apart::{gather_rows, part_booths};
 use crate::booth::Booth;
+use crate::desks::HostDesks;
 use gg_flat::Streams;
 use gg_link::Link;
 use gg_net::{Parts, Queue, Shape, Station};
 use gg_node::Host;
-use gg_seats::{Desk, Era, close_all, unwrap_all};
+use gg_seats::{Era, close_all, unwrap_all};
 use std::alloc::Global;
 
 // Takes booths apart: the hosts in their order, and the seats by channel. `takes` and `puts` are as long as the channels.
@@ -27,7 +29,7 @@ fn take_apart<H: Host, L: Link, Z: Streams, E: Era>(
     booths: Vec<Booth<H, L::TakeSeat, L::PutSeat>>,
     mut takes: Vec<Option<L::TakeSeat>>,
     mut puts: Vec<Option<L::PutSeat>>,
-    mut rows: Vec<Vec<Desk<L::TakeSeat, L::PutSeat>>>,
+    mut rows: Vec<HostDesks<L::TakeSeat, L::PutSeat>>,
     hosts: &mut Vec<H>,
     take_seats: &mut Vec<L::TakeSeat>,
     put_seats: &mut Vec<L::PutSeat>,
@@ -57,7 +59,7 @@ pub(crate) struct Spare<H, S, T> {
     // By host.
     pub(crate) hosts: Vec<H>,
     // The desks of each host, by host.
-    pub(crate) rows: Vec<Vec<Desk<S, T>>>,
+    pub(crate) rows: Vec<HostDesks<S, T>>,
     // The seats that take, by channel.
     pub(crate) takes: Vec<S>,
     // The seats that put, by channel.

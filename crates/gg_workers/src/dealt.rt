@@ -17,9 +17,9 @@ use gg_node::Host;
 use gg_seats::Era;
 use std::thread::Threads;
 
-/// Runs the machines of these hosts by the workers, host h by worker h mod the number of workers. Each worker ends before a
-/// turn where no machine of its hosts is below `upto`, or after 1,024 turns in a row without a step. Allocates nothing.
-pub fn run_dealt<R: Threads + Sync, H: Host, L: Link, Z: Streams, E: Era, G: Gate + Sync>(
+// Runs the machines of these hosts by the workers, host h by worker h mod the number of workers. Each worker ends before a
+// turn where no machine of its hosts is below `upto`, or after 1,024 turns in a row without a step. Allocates nothing.
+pub(crate) fn run_dealt<R: Threads + Sync, H: Host, L: Link, Z: Streams, E: Era, G: Gate + Sync>(
     rt: &R,
     links: &[L],
     stations: &[Station],

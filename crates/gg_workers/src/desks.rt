@@ -8,11 +8,11 @@ use gg_node::Host;
 use gg_seats::Desk;
 use std::alloc::{AllocError, Global};
 
-/// The desks of one host, by thread.
+// The desks of one host, by thread.
 #[derive(Drop)]
-pub struct HostDesks<S, T> {
-    /// The desk of each thread.
-    pub desks: Vec<Desk<S, T>>,
+pub(crate) struct HostDesks<S, T> {
+    // The desk of each thread.
+    pub(crate) desks: Vec<Desk<S, T>>,
 }
 
 // A desk with no seats, and with room for those of a station.
@@ -69,11 +69,11 @@ fn lay<S: Drop, T: Drop>(row: &mut HostDesks<S, T>, thread: u32, desk: Desk<S, T
     row.desks[thread as usize] = desk;
 }
 
-/// Makes a desk for each machine at these stations, with room for its seats.
-///
-/// # Errors
-///
-/// Returns `AllocError` if an allocation fails.
+// Makes a desk for each machine at these stations, with room for its seats.
+//
+// # Errors
+//
+// Returns `AllocError` if an allocation fails.
 pub(crate) fn reserve_desks<H: Host, S: Drop, T: Drop>(
     alloc: Global,
     hosts: &[H],

@@ -54,7 +54,7 @@ fn fill_row<S: Drop, T: Drop>(
     );
 }
 
-/// Moves the seats of all channels into the desks of their machines, by place.
+// Moves the seats of all channels into the desks of their machines, by place.
 pub(crate) fn fill_all<H: Host, S: Drop, T: Drop, E: Era>(
     _hosts: &[H],
     stations: &[Station],

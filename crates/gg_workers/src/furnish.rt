@@ -16,7 +16,7 @@ fn take_desks<S: Drop, T: Drop>(alloc: Global, row: &mut HostDesks<S, T>) -> Vec
     mem::replace(&mut row.desks, Vec::new(alloc))
 }
 
-/// Puts each host into a booth of its number, with its desks.
+// Puts each host into a booth of its number, with its desks.
 pub(crate) fn furnish<H: Drop, S: Drop, T: Drop>(
     alloc: Global,
     hosts: Vec<H>,

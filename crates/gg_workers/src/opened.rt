@@ -1,8 +1,14 @@
 // `Opened`: a network between its opening and its closing.
-ghost use Rattle.std.specs.Prelude.{◌≡◌, ℕ, ◌<◌, ◌≤◌, length, map, IfOk, IfErr};
+ghost use Rattle.std.specs.Prelude.{◌≡◌, ℕ, ◌^◌, ◌<◌, ◌≤◌, [], length, map, IfOk, IfErr};
+ghost use Rattle.std.specs.Vec.{vec_capacity};
 ghost use Rattle.gg_flat.specs.Line.{value_at};
-ghost use Rattle.gg_net.specs.Network.{takes};
-ghost use Rattle.gg_net.specs.Net.{AreParts, joined};
+ghost use Rattle.gg_net.specs.Network.{takes, frame_of};
+ghost use Rattle.gg_net.specs.Kept.{Kept};
+ghost use Rattle.gg_net.specs.Net.{AreListed, AreParts, joined};
+ghost use Rattle.gg_net.specs.Seats.{machines_by, AreSeated};
+ghost use Rattle.gg_seats.specs.Seats.{Linked, AreNew};
+ghost use Rattle.gg_workers.specs.Apart.{WasJoined, IsSpare};
+ghost use Rattle.gg_workers.specs.Making.{IsReserved};
 ghost use Rattle.gg_workers.specs.Opened.{IsOpened};
 
 use crate::back::Spare;
@@ -15,6 +21,21 @@ use gg_net::{Parts, Queue, Shape};
 use gg_node::Host;
 use gg_seats::Era;
 use std::alloc::{AllocError, Global};
+
+// All memory that an opening takes, but for the links' own. `X` are the links.
+#[derive(Drop)]
+struct Reserve<H, X, S, T> {
+    // What booths and workers need.
+    room: Room<H, S, T>,
+    // The lists for the way back.
+    spare: Spare<H, S, T>,
+    // With room for the link of each channel.
+    links: Vec<X>,
+    // With room for the seat of each channel that puts.
+    put_seats: Vec<T>,
+    // With room for the seat of each channel that takes.
+    take_seats: Vec<S>,
+}
 
 // A network with links in place of queues, and booths in place of hosts. `X` are the links.
 #[derive(Drop)]
@@ -39,80 +60,68 @@ pub(crate) struct Opened<H, X, S, T> {
     pub(crate) spare: Spare<H, S, T>,
 }
 
-// Opens a network for some workers. All memory for the run is taken here. `starts` is how many tokens were taken from each
-// channel.
-pub(crate) fn open_net<H: Host, L: Link, Z: Streams, E: Era>(
-    home: L::Home,
+// Takes the memory for the opening of a network of these hosts.
+fn reserve_all<H: Host, L: Link>(
+    alloc: Global,
+    hosts: &[H],
+    shape: &Shape,
+    workers: u32,
+) -> Result<Reserve<H, L, L::TakeSeat, L::PutSeat>, AllocError>
+    requires seated { AreSeated (map H.machines hosts.now) shape.now.stations.items }
+    requires few { length shape.now.stations.items < 2 ^ 32 }
+    ensures room { IfOk result (λ r. IsReserved (map H.machines hosts.now) shape.now.stations.items (length shape.now.wires.items) workers r.room) }
+    ensures spare { IfOk result (λ r. IsSpare (length hosts.now) (length shape.now.wires.items) r.spare) }
+    ensures none { IfOk result (λ r. (r.links.items ≡ []) × (r.put_seats.items ≡ []) × (r.take_seats.items ≡ [])) }
+    ensures wide { IfOk result (λ r. (length shape.now.wires.items ≤ vec_capacity r.links) × (length shape.now.wires.items ≤ vec_capacity r.put_seats) × (length shape.now.wires.items ≤ vec_capacity r.take_seats)) }
+{
+    let channels = shape.wires.len();
+    let room = reserve(alloc, hosts, &shape.stations, channels, workers)?;
+    let spare = new_spare(alloc, hosts.len(), channels)?;
+    Ok(Reserve {
+        room,
+        spare,
+        links: Vec::with_capacity(alloc, channels)?,
+        put_seats: Vec::with_capacity(alloc, channels)?,
+        take_seats: Vec::with_capacity(alloc, channels)?,
+    })
+}
+
+// The network with its links, once they are made. Allocates nothing.
+fn assemble<H: Host, L: Link, Z: Streams, E: Era>(
     alloc: Global,
     parts: Parts<H>,
-    starts: &[u64],
+    reserve: Reserve<H, L, L::TakeSeat, L::PutSeat>,
     workers: u32,
-) -> Result<Opened<H, L, L::TakeSeat, L::PutSeat>, (Parts<H>, AllocError)>
-    requires parts { AreParts Z.flow (map H.machines parts.hosts.items) parts.shape parts.queues.items }
-    requires start { E.start ≡ joined (map H.machines parts.hosts.items) parts.shape parts.queues.items }
-    requires starts { (length starts.now ≡ length E.start.wires) × ((c : ℕ) → c < length E.start.wires → value_at starts.now c ≡ takes E.start c) }
+) -> Opened<H, L, L::TakeSeat, L::PutSeat>
+    requires kept { Kept Z.flow E.start }
+    requires seated { AreSeated (map H.machines parts.hosts.items) parts.shape.stations.items }
+    requires machines { E.start.machines ≡ machines_by (map H.machines parts.hosts.items) parts.shape.stations.items }
+    requires listed { AreListed (frame_of E.start) parts.shape.stations.items }
+    requires joined { WasJoined Z.flow E.start parts.shape (map (λ own. length own) (map H.machines parts.hosts.items)) }
+    requires linked { Linked L.takes_from L.puts_into L.taking L.putting Z.flow E.start E.start.machines reserve.links.items reserve.put_seats.items reserve.take_seats.items parts.queues.items }
+    requires all { length reserve.links.items ≡ length E.start.wires }
+    requires new { AreNew L.taking L.putting E.start (length reserve.links.items) reserve.put_seats.items reserve.take_seats.items }
+    requires room { IsReserved (map H.machines parts.hosts.items) parts.shape.stations.items (length E.start.wires) workers reserve.room }
+    requires spare { IsSpare (length parts.hosts.items) (length E.start.wires) reserve.spare }
     requires few { (0 < workers) × (workers ≤ 64) }
-    ensures opened { IfOk result (λ o. IsOpened H.machines L.takes_from L.puts_into L.taking L.putting Z.flow E.start o) }
-    ensures parts { IfErr result (λ r. AreParts Z.flow (map H.machines r.0.hosts.items) r.0.shape r.0.queues.items) }
-    ensures refused { IfErr result (λ r. joined (map H.machines r.0.hosts.items) r.0.shape r.0.queues.items ≡ E.start) }
+    ensures { IsOpened H.machines L.takes_from L.puts_into L.taking L.putting Z.flow E.start result }
 {
-    let channels = parts.shape.wires.len();
-    let count = parts.hosts.len();
-    let Ok(mut room) = reserve::<H, L::TakeSeat, L::PutSeat>(
-        alloc,
-        &parts.hosts,
-        &parts.shape.stations,
-        channels,
-        workers,
-    ) else {
-        return Err((parts, AllocError));
-    };
-    let Ok(spare) = new_spare::<H, L::TakeSeat, L::PutSeat>(alloc, count, channels) else {
-        return Err((parts, AllocError));
-    };
-    let Ok(mut links) = Vec::with_capacity(alloc, channels) else {
-        return Err((parts, AllocError));
-    };
-    let Ok(mut put_seats) = Vec::with_capacity(alloc, channels) else {
-        return Err((parts, AllocError));
-    };
-    let Ok(mut take_seats) = Vec::with_capacity(alloc, channels) else {
-        return Err((parts, AllocError));
-    };
-    let Parts {
-        hosts,
-        shape,
-        mut queues,
-    } = parts;
-    let linked = open_links::<H, L, Z, E>(
-        home,
-        alloc,
-        &hosts,
-        &shape,
-        starts,
-        &mut links,
-        &mut put_seats,
-        &mut take_seats,
-        &mut queues,
-    );
-    if let Err(error) = linked {
-        return Err((
-            Parts {
-                hosts,
-                shape,
-                queues,
-            },
-            error,
-        ));
-    }
+    let Reserve {
+        mut room,
+        spare,
+        links,
+        put_seats,
+        take_seats,
+    } = reserve;
+    let hosts = parts.hosts;
     make::<H, L, Z, E>(
         alloc,
         hosts,
-        &shape.stations,
+        &parts.shape.stations,
         &links,
         put_seats,
         take_seats,
-        &queues,
+        &parts.queues,
         workers,
         &mut room,
     );
@@ -124,9 +133,9 @@ pub(crate) fn open_net<H: Host, L: Link, Z: Streams, E: Era>(
         booths,
         workers,
     } = room;
-    Ok(Opened {
-        shape,
-        queues,
+    Opened {
+        shape: parts.shape,
+        queues: parts.queues,
         links,
         threads,
         booths,
@@ -134,5 +143,42 @@ pub(crate) fn open_net<H: Host, L: Link, Z: Streams, E: Era>(
         takes,
         puts,
         spare,
-    })
+    }
+}
+
+// Opens a network for some workers. All memory for the run is taken here. `starts` is how many tokens were taken from each
+// channel.
+pub(crate) fn open_net<H: Host, L: Link, Z: Streams, E: Era>(
+    home: L::Home,
+    alloc: Global,
+    mut parts: Parts<H>,
+    starts: &[u64],
+    workers: u32,
+) -> Result<Opened<H, L, L::TakeSeat, L::PutSeat>, (Parts<H>, AllocError)>
+    requires parts { AreParts Z.flow (map H.machines parts.hosts.items) parts.shape parts.queues.items }
+    requires start { E.start ≡ joined (map H.machines parts.hosts.items) parts.shape parts.queues.items }
+    requires starts { (length starts.now ≡ length E.start.wires) × ((c : ℕ) → c < length E.start.wires → value_at starts.now c ≡ takes E.start c) }
+    requires few { (0 < workers) × (workers ≤ 64) }
+    ensures opened { IfOk result (λ o. IsOpened H.machines L.takes_from L.puts_into L.taking L.putting Z.flow E.start o) }
+    ensures parts { IfErr result (λ r. AreParts Z.flow (map H.machines r.0.hosts.items) r.0.shape r.0.queues.items) }
+    ensures refused { IfErr result (λ r. joined (map H.machines r.0.hosts.items) r.0.shape r.0.queues.items ≡ E.start) }
+{
+    let Ok(mut reserve) = reserve_all::<H, L>(alloc, &parts.hosts, &parts.shape, workers) else {
+        return Err((parts, AllocError));
+    };
+    let linked = open_links::<H, L, Z, E>(
+        home,
+        alloc,
+        &parts.hosts,
+        &parts.shape,
+        starts,
+        &mut reserve.links,
+        &mut reserve.put_seats,
+        &mut reserve.take_seats,
+        &mut parts.queues,
+    );
+    if let Err(error) = linked {
+        return Err((parts, error));
+    }
+    Ok(assemble::<H, L, Z, E>(alloc, parts, reserve, workers))
 }

@@ -20,21 +20,21 @@ use gg_node::Host;
 use gg_seats::Era;
 use std::alloc::{AllocError, Global};
 
-/// Memory for the booths and workers of a network, and then the booths and workers.
+// Memory for the booths and workers of a network, and then the booths and workers.
 #[derive(Drop)]
-pub struct Room<H, S, T> {
-    /// The number of threads of each host.
-    pub threads: Vec<u32>,
-    /// The desks, by host and thread.
-    pub rows: Vec<HostDesks<S, T>>,
-    /// The seats that take, by channel.
-    pub takes: Vec<Option<S>>,
-    /// The seats that put, by channel.
-    pub puts: Vec<Option<T>>,
-    /// The booths.
-    pub booths: Vec<Booth<H, S, T>>,
-    /// The workers.
-    pub workers: Vec<Worker<H, S, T>>,
+pub(crate) struct Room<H, S, T> {
+    // The number of threads of each host.
+    pub(crate) threads: Vec<u32>,
+    // The desks, by host and thread.
+    pub(crate) rows: Vec<HostDesks<S, T>>,
+    // The seats that take, by channel.
+    pub(crate) takes: Vec<Option<S>>,
+    // The seats that put, by channel.
+    pub(crate) puts: Vec<Option<T>>,
+    // The booths.
+    pub(crate) booths: Vec<Booth<H, S, T>>,
+    // The workers.
+    pub(crate) workers: Vec<Worker<H, S, T>>,
 }
 
 // The number of threads of each host.
@@ -64,11 +64,11 @@ fn idle_workers<H: Drop, S: Drop, T: Drop>(
     Ok(workers)
 }
 
-/// Takes the memory that booths and workers need.
-///
-/// # Errors
-///
-/// Returns `AllocError` if an allocation fails.
+// Takes the memory that booths and workers need.
+//
+// # Errors
+//
+// Returns `AllocError` if an allocation fails.
 pub(crate) fn reserve<H: Host, S: Drop, T: Drop>(
     alloc: Global,
     hosts: &[H],
@@ -96,7 +96,7 @@ pub(crate) fn reserve<H: Host, S: Drop, T: Drop>(
     })
 }
 
-/// Makes the booths of all hosts, with the seats of all channels. Allocates nothing.
+// Makes the booths of all hosts, with the seats of all channels. Allocates nothing.
 pub(crate) fn make<H: Host, L: Link, Z: Streams, E: Era>(
     alloc: Global,
     hosts: Vec<H>,

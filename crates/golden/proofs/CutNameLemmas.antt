@@ -14,9 +14,11 @@ use Rattle.gg_flat.specs.Scoped.{memory_fields}
 use Rattle.gg_flat.specs.Tree.{memory_at, path_at}
 use Rattle.gg_flat.specs.declared.tree.MemoryInstance.{MemoryInstance}
 use Rattle.gg_flat.proofs.ListLemmas.{once-apart}
+use Rattle.gg_moved.specs.KeepsToTree.{KeepsToTree}
 use Rattle.gg_order.specs.Design.{IsDesign, Ordered}
 use Rattle.gg_partfile.specs.declared.request.Request.{Request}
-use Rattle.gg_cut.specs.Channels.{channel_signals, first_memory, first_source, flattened, machine_count, port_signals, wire, wires_of}
+use Rattle.gg_cut.specs.Channels.{channel_signals, flattened, port_signals, wire, wires_of}
+use Rattle.gg_cut.specs.Machines.{first_memory, first_source, is_memory, machine_count}
 use Rattle.gg_cut.specs.Fault.{first_fault}
 use Rattle.gg_cut.specs.Listed.{lies, listed_of}
 use Rattle.gg_cut.specs.Plan.{machine_names, wire_at}
@@ -33,7 +35,6 @@ use Rattle.gg_closed.proofs.ListedLemmas.{listed-are, memory-paths}
 use Rattle.gg_closed.proofs.LongestLemmas.{Among, First, Behind, ArePaths, among}
 use Rattle.gg_closed.proofs.OnceLemmas.{signals-once}
 use Rattle.gg_check.specs.CheckText.{channel_name}
-use Rattle.gg_layout.specs.CutLayout.{is_memory}
 use Rattle.gg_paths.specs.Paths.{HavePaths, IsPath, is_path_byte}
 use Rattle.gg_steps.specs.Spelling.{AreUsable, IsUsable}
 use Rattle.golden.specs.Replay.{naming_of, port_names}
@@ -56,7 +57,7 @@ last-part xs ys apart i j d less lt same =
     (get_or-append-add xs ys i d ∙ same ∙ sym (get_or-append-add xs ys j d))
 
 abbrev no_memory : MemoryInstance
-no_memory = record { instance = 0; memory = 0; ports = [] }
+no_memory = record { instance = 0; memory = 0; ports = []; clocks = [] }
 
 abbrev head_of : List ℕ → ℕ
 head_of [] = 0
@@ -66,7 +67,7 @@ abbrev tail_of : List ℕ → List ℕ
 tail_of [] = []
 tail_of (b ∷ bytes) = bytes
 
-module _ (design : Ordered) (request : Request) (is : IsDesign design) (none : first_fault design request ≡ None) (have : HavePaths design.circuit design.tree) where
+module _ (design : Ordered) (request : Request) (is : IsDesign design) (keeps : KeepsToTree design.circuit design.tree) (none : first_fault design request ≡ None) (have : HavePaths design.circuit design.tree) where
   abbrev listed : Listed
   listed = listed_of design.tree request
 
@@ -74,7 +75,7 @@ module _ (design : Ordered) (request : Request) (is : IsDesign design) (none : f
   wires = wires_of design.circuit design.tree listed
 
   apart : AreApart design.tree listed
-  apart = faultless-apart design request none is.fitting
+  apart = faultless-apart design request none keeps.fitting
 
   no-pairs : AllPairs {X = List ℕ} (λ a b. a ≢ b) []
   no-pairs i j d less lt same = omega (arith, lt)
@@ -86,7 +87,7 @@ module _ (design : Ordered) (request : Request) (is : IsDesign design) (none : f
 
   signal-there : (c : ℕ) → c < length wires → (wire_at wires c).signal < length design.circuit.paths
   signal-there c lt =
-      let known = wire-known design.circuit design.tree listed is.formed is.fitting is.scoped apart (wire_at wires c) (Contains-get_or wires c (wire 0 0 0) lt) in
+      let known = wire-known design.circuit design.tree listed is.formed keeps.fitting keeps.scoped apart (wire_at wires c) (Contains-get_or wires c (wire 0 0 0) lt) in
       omega (arith, known, is.formed.named)
 
   channel-is : (c : ℕ) (d : List ℕ) → c < length wires → get_or channels c d ≡ path_at design.circuit.paths (wire_at wires c).signal
@@ -99,7 +100,7 @@ module _ (design : Ordered) (request : Request) (is : IsDesign design) (none : f
   channels-differ i j d less lt same =
       let below : j < length wires = channel-inside j lt in
       let before : i < length wires = omega (arith, less, below) in
-      pairs-once design.circuit design.tree listed is.formed is.fitting is.scoped apart i j (wire 0 0 0) less below
+      pairs-once design.circuit design.tree listed is.formed keeps.fitting keeps.scoped apart i j (wire 0 0 0) less below
       (once-apart design.circuit.paths [] is.formed.distinct (wire_at wires i).signal (wire_at wires j).signal (signal-there i before) (signal-there j below)
       (sym (channel-is i d before) ∙ same ∙ channel-is j d below))
 
@@ -117,13 +118,13 @@ module _ (design : Ordered) (request : Request) (is : IsDesign design) (none : f
   paths = listed_paths design.tree request
 
   are : ArePaths design.tree listed paths
-  are = listed-are design.tree request is.fitting.memory_named (faultless-known design request none)
+  are = listed-are design.tree request keeps.fitting.memory_named (faultless-known design request none)
 
   unit-there : (i : ℕ) → i < length listed.units → value_at listed.units i < length design.tree.paths
-  unit-there i lt = let known = apart.known i 0 lt in omega (arith, known, is.fitting.named)
+  unit-there i lt = let known = apart.known i 0 lt in omega (arith, known, keeps.fitting.named)
 
   memory-there : (i : ℕ) → i < length listed.memories → value_at listed.memories i < length design.tree.memory_paths
-  memory-there i lt = let known = apart.memories i 0 lt in omega (arith, known, is.fitting.memory_named)
+  memory-there i lt = let known = apart.memories i 0 lt in omega (arith, known, keeps.fitting.memory_named)
 
   place : (i : ℕ) → i < length paths → Among (length listed.units) (length listed.memories) i
   place i lt = among (length listed.units) (length listed.memories) i (omega (arith, lt, are.count))
@@ -136,11 +137,11 @@ module _ (design : Ordered) (request : Request) (is : IsDesign design) (none : f
   units-apart i j less lt same =
       let before : i < length listed.units = omega (arith, less, lt) in
       let one : value_at listed.units i ≡ value_at listed.units j =
-      once-apart design.tree.paths [] is.fitting.distinct (value_at listed.units i) (value_at listed.units j) (unit-there i before) (unit-there j lt)
+      once-apart design.tree.paths [] keeps.fitting.distinct (value_at listed.units i) (value_at listed.units j) (unit-there i before) (unit-there j lt)
       (sym (are.unit i before) ∙ same ∙ are.unit j lt) in
       let in_itself : lies design.tree (value_at listed.units i) (value_at listed.units j) ≡ true =
       subst (λ u. lies design.tree (value_at listed.units i) u ≡ true) one
-      (lies-self design.tree (parents-before design.circuit design.tree is.fitting) (value_at listed.units i) (apart.known i 0 before)) in
+      (lies-self design.tree (parents-before design.circuit design.tree keeps.fitting) (value_at listed.units i) (apart.known i 0 before)) in
       let clash : true ≡ false = sym in_itself ∙ (apart.apart i j 0 less lt).0 in
       absurd (cc)
 
@@ -150,14 +151,14 @@ module _ (design : Ordered) (request : Request) (is : IsDesign design) (none : f
       go : Among (length listed.units) (length listed.memories) i → Among (length listed.units) (length listed.memories) j → ⊥
       go (First a) (First b) = units-apart i j less b same
       go (First a) (Behind q b e) =
-          is.scoped.apart (value_at listed.units i) (value_at listed.memories q) (apart.known i 0 a) (apart.memories q 0 b)
+          keeps.scoped.apart (value_at listed.units i) (value_at listed.memories q) (apart.known i 0 a) (apart.memories q 0 b)
           (sym (are.unit i a) ∙ same ∙ memory-is j q b e)
       go (Behind p a e) (First b) = omega (arith, less, e, b)
       go (Behind p a e) (Behind q b f) =
           let order : p < q = omega (arith, less, e, f) in
           let up = apart.ascending p q 0 order b in
           let one : value_at listed.memories p ≡ value_at listed.memories q =
-          once-apart design.tree.memory_paths [] is.fitting.memory_distinct (value_at listed.memories p) (value_at listed.memories q) (memory-there p a) (memory-there q b)
+          once-apart design.tree.memory_paths [] keeps.fitting.memory_distinct (value_at listed.memories p) (value_at listed.memories q) (memory-there p a) (memory-there q b)
           (sym (memory-is i p a e) ∙ same ∙ memory-is j q b f) in
           omega (arith, up, one)
 
@@ -168,7 +169,7 @@ module _ (design : Ordered) (request : Request) (is : IsDesign design) (none : f
   -- the path of an instance below the top isn't empty
   instance-path : (k : ℕ) → 0 < k → k < length design.tree.paths → IsPath (path_at design.tree.paths k)
   instance-path k below lt =
-      record { some = some-bytes (path_at design.tree.paths k) (λ e. is.fitting.distinct 0 k [] below lt (is.fitting.top.path ∙ sym e)); bytes = have.instances k [] lt }
+      record { some = some-bytes (path_at design.tree.paths k) (λ e. keeps.fitting.distinct 0 k [] below lt (keeps.fitting.top.path ∙ sym e)); bytes = have.instances k [] lt }
     where
       some-bytes : (path : List ℕ) → path ≢ [] → 0 < length path
       some-bytes [] h = absurd (h refl)
@@ -199,7 +200,7 @@ module _ (design : Ordered) (request : Request) (is : IsDesign design) (none : f
   names = codes "hub:" ∷ ((paths ++ sources) ++ trays)
 
   names-are : machine_names design request listed ≡ names
-  names-are = ap (λ l. codes "hub:" ∷ (((request.units ++ l) ++ sources) ++ trays)) (memory-paths design.tree request is.fitting.memory_named)
+  names-are = ap (λ l. codes "hub:" ∷ (((request.units ++ l) ++ sources) ++ trays)) (memory-paths design.tree request keeps.fitting.memory_named)
 
   -- the signals of the units' ports and of the memories' fields
   abbrev unit_signals : List ℕ
@@ -210,10 +211,10 @@ module _ (design : Ordered) (request : Request) (is : IsDesign design) (none : f
 
   -- the signals of all channels
   once : AllPairs (λ a b. a ≢ b) (channel_signals design.circuit design.tree listed)
-  once = signals-once design.circuit design.tree listed is.fitting is.scoped apart
+  once = signals-once design.circuit design.tree listed keeps.fitting keeps.scoped apart
 
   known : All (λ s. s < length design.circuit.signals) (channel_signals design.circuit design.tree listed)
-  known = signals-known design.circuit design.tree is.formed is.fitting listed apart.known apart.memories
+  known = signals-known design.circuit design.tree is.formed keeps.fitting listed apart.known apart.memories
 
   in-signal : (i d : ℕ) → i < length design.circuit.ins → get_or design.circuit.ins i d < length design.circuit.paths
   in-signal i d lt =

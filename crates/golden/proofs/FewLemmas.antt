@@ -1,5 +1,5 @@
 -- The names of a cut are few enough for 32 bits.
-use Rattle.std.proofs.Common.{◌≡◌, ℕ, zero, suc, ◌+◌, ◌-◌, ◌<◌, ◌≤◌, ◌^◌, Bool, true, false, List, [], ◌∷◌, length, map, refl, ap, inl, inr, arith, nat_lt, nat_le}
+use Rattle.std.proofs.Common.{◌≡◌, ◌≢◌, ℕ, zero, suc, ◌+◌, ◌-◌, ◌<◌, ◌≤◌, ◌^◌, Bool, true, false, List, [], ◌∷◌, length, map, refl, sym, ap, subst, inl, inr, arith, nat_lt, nat_le}
 use Rattle.std.specs.Prelude.{None, if◌then◌else◌, slice_index_or}
 use Rattle.std.proofs.lemmas.Bool.{and_parts, cases_order, leb-true, ltb-true}
 use Rattle.std.proofs.lemmas.List.{get_or_past}
@@ -9,19 +9,21 @@ use Rattle.gg_flat.specs.Scoped.{writers_at}
 use Rattle.gg_flat.specs.Tree.{memory_at, port_count}
 use Rattle.gg_flat.specs.declared.memory.Memory.{Memory}
 use Rattle.gg_flat.specs.declared.tree.MemoryInstance.{MemoryInstance}
-use Rattle.gg_order.specs.Design.{IsDesign, Ordered}
+use Rattle.gg_moved.specs.KeepsToTree.{KeepsToTree}
+use Rattle.gg_order.specs.Design.{Ordered}
 use Rattle.gg_partfile.specs.declared.request.Request.{Request}
-use Rattle.gg_cut.specs.Channels.{first_memory, first_source, wires_of}
+use Rattle.gg_cut.specs.Channels.{wires_of}
+use Rattle.gg_cut.specs.Machines.{first_memory, first_source, is_memory}
 use Rattle.gg_cut.specs.Fault.{first_fault}
-use Rattle.gg_cut.specs.Listed.{listed_of}
+use Rattle.gg_cut.specs.Listed.{listed_of, owner_of}
 use Rattle.gg_cut.specs.Plan.{IsPlan}
 use Rattle.gg_cut.specs.declared.listed.Listed.{Listed}
 use Rattle.gg_cut.specs.declared.plan.Plan.{Plan}
 use Rattle.gg_cut.specs.declared.wires.Wire.{Wire}
 use Rattle.gg_closed.specs.Apart.{AreFew}
-use Rattle.gg_closed.proofs.FaultlessLemmas.{faultless-few}
+use Rattle.gg_closed.proofs.FaultlessLemmas.{faultless-apart, faultless-few}
+use Rattle.gg_closed.proofs.MakerLemmas.{output-owner}
 use Rattle.gg_closed.proofs.EndLemmas.{few-machines}
-use Rattle.gg_layout.specs.CutLayout.{is_memory}
 use Rattle.gg_sound.proofs.WordLemmas.{memory-few}
 use Rattle.golden.specs.Replay.{port_names}
 use Rattle.golden.specs.Replayed.{AreFewNames}
@@ -35,9 +37,9 @@ ports-counted (x ∷ xs) zero = refl
 ports-counted (x ∷ xs) (suc k) = ports-counted xs k
 
 abbrev no_memory : MemoryInstance
-no_memory = record { instance = 0; memory = 0; ports = [] }
+no_memory = record { instance = 0; memory = 0; ports = []; clocks = [] }
 
-module _ (design : Ordered) (request : Request) (default : ℕ) (plan : Plan) (is : IsDesign design) (faultless : first_fault design request ≡ None) (planned : IsPlan design request default plan) where
+module _ (design : Ordered) (request : Request) (default : ℕ) (plan : Plan) (keeps : KeepsToTree design.circuit design.tree) (faultless : first_fault design request ≡ None) (planned : IsPlan design request default plan) where
   abbrev listed : Listed
   listed = listed_of design.tree request
 
@@ -47,6 +49,12 @@ module _ (design : Ordered) (request : Request) (default : ℕ) (plan : Plan) (i
   few : AreFew design.circuit design.tree listed
   few = faultless-few design request faultless
 
+  -- the top's outputs are the hub's
+  outputs-apart : (i k : ℕ) → k < length design.circuit.outs → owner_of design.circuit design.tree listed (value_at design.circuit.outs k) ≢ first_memory listed + i
+  outputs-apart i k lt same =
+      let hub = output-owner design.circuit design.tree listed keeps.fitting keeps.scoped (faultless-apart design request faultless keeps.fitting) k lt in
+      omega (arith, same, hub)
+
   held-few : (i : ℕ) → i < length listed.memories → length (memory_at design.tree (value_at listed.memories i)).ports < 2 ^ 32
   held-few i lt =
       let place = value_at listed.memories i in
@@ -55,9 +63,9 @@ module _ (design : Ordered) (request : Request) (default : ℕ) (plan : Plan) (i
         | inl same ↦ past place (omega (arith, same))
         | inr other ↦ elim other [
           | inl known ↦
-              let ports : length (memory_at design.tree place).ports ≡ port_count design.circuit own = (is.fitting.held place known).ports in
+              let ports : length (memory_at design.tree place).ports ≡ port_count design.circuit own = (keeps.fitting.held place known).ports in
               let counted : port_count design.circuit own ≡ length (readers_at design.circuit own) + length (writers_at design.circuit own) = ports-counted design.circuit.memories own in
-              let most : length (readers_at design.circuit own) + length (writers_at design.circuit own) ≤ length wires_in = memory-few design.circuit design.tree listed (first_memory listed + i) i lt refl in
+              let most : length (readers_at design.circuit own) + length (writers_at design.circuit own) ≤ length wires_in = memory-few design.circuit design.tree listed (first_memory listed + i) i lt refl (outputs-apart i) in
               let channels = few.channels in
               omega (arith, ports, counted, most, channels)
           | inr above ↦ past place (omega (arith, above))
@@ -78,12 +86,12 @@ module _ (design : Ordered) (request : Request) (default : ℕ) (plan : Plan) (i
           held-few (m - first_memory listed) (omega (arith, low, high))
       by false e = omega arith
 
-  pub few-names : AreFewNames plan design.tree listed
+  pub few-names : AreFewNames plan design.tree
   few-names =
       let channels = few.channels in
       let machines = few-machines design.circuit design.tree listed few in
       record {
         channels = omega (arith, channels, planned.channel_total);
         machines = omega (arith, machines, planned.machine_total);
-        ports = ports-few;
+        ports = λ m. subst (λ (l : Listed). length (port_names design.tree l m) < 2 ^ 32) (sym planned.listed) (ports-few m);
       }

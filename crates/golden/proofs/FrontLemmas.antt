@@ -10,9 +10,11 @@ use Rattle.gg_front.specs.declared.fault.FrontFault.{FrontFault}
 use Rattle.gg_front.specs.declared.fault.FrontFault.TheVariants as front
 use Rattle.gg_front.proofs.AgreementLemmas.{OneFaultLine, read-once}
 use Rattle.gg_shape.specs.declared.fault.Fault.{Fault}
-use Rattle.golden.specs.Lines.{Said, TellsUnread, circuit_fault}
-use Rattle.golden.specs.Order.{IsExactFile}
+use Rattle.gg_told.specs.Said.{Said}
+use Rattle.golden.specs.Lines.{TellsUnread, circuit_fault}
+use Rattle.gg_told.specs.Order.{IsExactFile}
 use Rattle.golden.specs.Run.{TellsCircuit, circuit_file}
+use Rattle.gg_told.proofs.OrderLemmas.{exact-by}
 
 -- an accepted text has no fault
 abbrev pub NoFaultAccepted : Type 0
@@ -37,8 +39,5 @@ unread-once one apart bytes fault said other has tells (told, has', some, is) =
 
 -- nothing is reported for a circuit's bytes that are accepted, and all that is reported for others has the status 1
 pub circuit_file-exact : NoFaultAccepted → (name : List ℕ) → IsExactFile (circuit_file name)
-circuit_file-exact never name = record {
-  apart = λ bytes said accepts refuses. never bytes refuses.0 accepts refuses.2 refuses.1;
-  status = λ bytes said refuses. ap (λ (s : Said). s.status) refuses.3;
-  judges = inl refl;
-}
+circuit_file-exact never name =
+    exact-by 1 (inl refl) (λ bytes said accepts refuses. never bytes refuses.0 accepts refuses.2 refuses.1) (λ bytes said refuses. ap (λ (s : Said). s.status) refuses.3)

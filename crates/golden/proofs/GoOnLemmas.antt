@@ -7,9 +7,11 @@ use Rattle.std.proofs.lemmas.List.{get_or_past, length-map, map-append}
 use Rattle.std.proofs.lemmas.List.FromFn.{get_or-map-range_with_len, length-map-range_with_len}
 use Rattle.gg_flat.specs.Line.{value_at}
 use Rattle.gg_flat.specs.Tree.{memory_at, path_at, port_count}
+use Rattle.gg_moved.specs.KeepsToTree.{KeepsToTree}
 use Rattle.gg_order.specs.Design.{IsDesign, Ordered}
 use Rattle.gg_partfile.specs.declared.request.Request.{Request}
-use Rattle.gg_cut.specs.Channels.{first_memory, first_source, machine_count, wires_of}
+use Rattle.gg_cut.specs.Channels.{wires_of}
+use Rattle.gg_cut.specs.Machines.{first_memory, first_source, is_memory, machine_count}
 use Rattle.gg_cut.specs.Fault.{first_fault}
 use Rattle.gg_cut.specs.Listed.{listed_of}
 use Rattle.gg_cut.specs.Plan.{machine_names}
@@ -28,7 +30,7 @@ use Rattle.gg_progress.specs.Counts.{CanRun, IsAllowed, IsMarkingOf, counts_of}
 use Rattle.gg_progress.specs.Measure.{all_dues, left}
 use Rattle.gg_progress.proofs.EndLemmas.{level-shape, opening-allowed, opening-left}
 use Rattle.gg_progress.proofs.ReplayLemmas.{goes-past, left-longer, longer-left}
-use Rattle.gg_layout.specs.CutLayout.{IsLayoutOf, is_memory, machine_ports, memory_of}
+use Rattle.gg_layout.specs.CutLayout.{IsLayoutOf, machine_ports, memory_of}
 use Rattle.gg_paths.specs.Paths.{HavePaths}
 use Rattle.gg_steps.specs.Naming.{Naming, ports_at}
 use Rattle.gg_steps.specs.Spelling.{HasNames, IsLengthened}
@@ -52,7 +54,7 @@ last-free layout k old [] event new is = (old, (goes-past k (refusal layout old 
 last-free layout k old (x ∷ events) event new is =
     last-free layout (suc k) (after_step layout old x) events event new (goes-past k (step_refusal layout old x) (replayed_from layout (suc k) (after_step layout old x) (events ++ Some event ∷ [])) new is).1
 
-module _ (design : Ordered) (request : Request) (default n : ℕ) (is : IsDesign design) (none : first_fault design request ≡ None) (layout : Layout) (laid : IsLayoutOf design request default n layout) where
+module _ (design : Ordered) (request : Request) (default n : ℕ) (is : IsDesign design) (keeps : KeepsToTree design.circuit design.tree) (none : first_fault design request ≡ None) (layout : Layout) (laid : IsLayoutOf design request default n layout) where
   abbrev listed : Listed
   listed = listed_of design.tree request
 
@@ -88,8 +90,8 @@ module _ (design : Ordered) (request : Request) (default n : ℕ) (is : IsDesign
           let parts = and_parts (nat_le (first_memory listed) m) (nat_lt m (first_source listed)) e in
           let low : first_memory listed ≤ m = leb-true (first_memory listed) m parts.0 in
           let high : m < first_source listed = ltb-true m (first_source listed) parts.1 in
-          let known = (faultless-apart design request none is.fitting).memories (m - first_memory listed) 0 (omega (arith, low, high)) in
-          let ports = (is.fitting.held (value_at listed.memories (m - first_memory listed)) known).ports in
+          let known = (faultless-apart design request none keeps.fitting).memories (m - first_memory listed) 0 (omega (arith, low, high)) in
+          let ports = (keeps.fitting.held (value_at listed.memories (m - first_memory listed)) known).ports in
           omega (arith, lt, ports)
       go false e lt = absurd (omega (arith, lt))
 
@@ -155,7 +157,7 @@ module _ (design : Ordered) (request : Request) (default n : ℕ) (is : IsDesign
     spelt : (event : Event) (next : Marking) → replayed_from layout 1 opening (events ++ Some event ∷ []) ≡ Ok next → (line : List ℕ) × (longer : List ℕ) × Follows line longer
     spelt event next is_done =
         let free = last-free layout 1 opening events event next is_done in
-        let line = has-line naming event (names-usable design request is none have) (free-named free.0 event free.1) in
+        let line = has-line naming event (names-usable design request is keeps none have) (free-named free.0 event free.1) in
         let longer = lengthened line.0 line.1 steps in
         let same : steps_of naming longer.0 ≡ events ++ Some event ∷ [] =
         steps-more steps line.0 longer.0 longer.1 ∙ ap (λ x. events ++ x ∷ []) (step-read naming line.0 event line.2) in

@@ -1,19 +1,17 @@
 -- Lines that are put one by one.
-use Rattle.std.proofs.Common.{◌≡◌, ℕ, zero, suc, ◌+◌, ◌<◌, ◌≤◌, List, [], ◌∷◌, ◌++◌, length, take, get_or, refl, sym, ap, ◌∙◌, subst, append_assoc, append-nil}
-use Rattle.std.specs.Prelude.{Option, Result, Ok, Err, flat_map}
+use Rattle.std.proofs.Common.{◌≡◌, ℕ, zero, suc, ◌+◌, ◌<◌, List, [], ◌∷◌, ◌++◌, length, take, get_or, refl, sym, ap, ◌∙◌, subst, append_assoc}
+use Rattle.std.specs.Prelude.{Option, Result, Err, flat_map}
 use Rattle.std.specs.Io.KnownBytes.{append_known}
-use Rattle.gg_io.specs.Count.{Rose}
 use Rattle.gg_io.specs.declared.output.Sink
-use Rattle.golden.specs.declared.endings.Ending.{Ending}
+use Rattle.gg_told.specs.declared.endings.Ending.{Ending}
 use Rattle.gg_cut.specs.declared.plan.Machine.{Machine}
 use Rattle.gg_cut.specs.declared.plan.Plan.{Plan}
 use Rattle.gg_check.specs.PlanText.{channel_names, line_of_channel, line_of_machine, machine_names, plan_text}
-use Rattle.golden.specs.Outcome.{IsFront}
+use Rattle.gg_told.specs.Ends.{IsFront}
 use Rattle.gg_check.proofs.LineLemmas.{lines-more}
-use Rattle.golden.specs.Endings.{Prints, PrintsOn}
-use Rattle.golden.specs.WentOn.{SinkWentOn}
-use Rattle.golden.proofs.PrintingLemmas.{on-then, rose-earlier, stop-within}
-use Rattle.golden.proofs.WritingLemmas.{append_known-append, append_known-nil}
+use Rattle.gg_told.specs.Endings.{Prints, PrintsOn}
+use Rattle.gg_told.specs.WentOn.{SinkWentOn}
+use Rattle.gg_told.proofs.WritingLemmas.{on-then, prints-first, rose-earlier, stop-within, append_known-append}
 
 -- the first lines are a front part of all lines
 pub lines-front : {A : Type 0} (f : A → List ℕ) (xs : List A) (i : ℕ) → IsFront (flat_map f (take i xs)) (flat_map f xs)
@@ -47,19 +45,6 @@ module _ {A K : Type 0} {f : A → List ℕ} {xs : List A} {sink : Sink.Ghosts K
   lines-stop out'' {T = T} {ending = ending} e prints =
       rw e (stop-within T _ _ _ _ _ (flat_map f (take i xs)) (f x) (flat_map f xs) ending so.written (rose-earlier _ _ _ so.on.faults_stay_or_rise)
       (subst (λ l. IsFront l (flat_map f xs)) (sym lines-one) (lines-front f xs (i + 1))) prints)
-
--- if a text was printed after another, both together were printed
-pub prints-then : (T : Type 0) (before now now' : Option (List ℕ)) (b b' b'' : ℕ) (one other : List ℕ) (r : Result T Ending) → b ≤ b' → now ≡ append_known before one
-    → Prints now now' (Rose b' b'') other r → Prints before now' (Rose b b'') (one ++ other) r
-prints-then T before now now' b b' b'' one other (Ok done) le e prints = prints ∙ ap (λ w. append_known w other) e ∙ append_known-append before one other
-prints-then T before now now' b b' b'' one other (Err ending) le e prints =
-    stop-within T before now now' (Rose b' b'') (Rose b b'') one other (one ++ other) ending e (rose-earlier b b' b'' le) ([], append-nil (one ++ other)) prints
-
--- if the first of two texts stopped, both together stopped there
-pub prints-first : (T : Type 0) (before now : Option (List ℕ)) (failed : Type 0) (one other : List ℕ) (ending : Ending)
-    → Prints {T = T} before now failed one (Err ending) → Prints {T = T} before now failed (one ++ other) (Err ending)
-prints-first T before now failed one other ending prints =
-    stop-within T before before now failed failed [] one (one ++ other) ending (sym (append_known-nil before)) (λ x. x) (other, refl) prints
 
 -- if a plan's text stopped among the machines, the whole text stopped there
 pub plan-first : (T : Type 0) (before now : Option (List ℕ)) (failed : Type 0) (machines : List Machine) (plan : Plan) (ending : Ending) → machines ≡ plan.machines

@@ -8,9 +8,9 @@ use Rattle.gg_flat.specs.Streams.{Flow}
 use Rattle.gg_build.specs.Build.{IsToRun, IsOpeningOf}
 use Rattle.gg_cut.specs.declared.plan.Channel.{Channel}
 use Rattle.gg_cut.specs.declared.plan.Plan.{Plan}
-use Rattle.gg_io.specs.declared.output.Sink
 use Rattle.gg_node.specs.Machine.{machine_at}
 use Rattle.gg_net.specs.declared.event.Event.{Event}
+use Rattle.gg_net.specs.declared.event.Refusal.{Refusal}
 use Rattle.gg_net.specs.Kept.{Kept, list_at}
 use Rattle.gg_net.specs.Net.{IsOpening, opening_net}
 use Rattle.gg_net.specs.Network.{Frame, Network, puts, entered, takes}
@@ -24,14 +24,16 @@ use Rattle.gg_sound.specs.Built.{wires_of_plan}
 use Rattle.gg_sound.proofs.LinkLemmas.{length-from, free-from}
 use Rattle.gg_sound.proofs.OpeningLemmas.{built-opening}
 use Rattle.gg_steps.specs.Naming.{Naming}
-use Rattle.gg_steps.specs.Steps.{steps_of}
-use Rattle.golden.specs.declared.endings.Ending.{Ending}
-use Rattle.golden.specs.declared.endings.Ending.TheVariants.{NoMemory}
-use Rattle.golden.specs.Lines.{Said, line_of, step_fault}
-use Rattle.golden.specs.Endings.{IfRefused, PrintsOn}
+use Rattle.gg_told.specs.declared.endings.Ending.{Ending}
+use Rattle.gg_told.specs.declared.endings.Ending.TheVariants.{NoMemory}
+use Rattle.gg_told.specs.Said.{Said, line_of}
+use Rattle.golden.specs.Lines.{step_fault}
+use Rattle.gg_told.specs.Ends.{Puts}
+use Rattle.gg_told.specs.Endings.{IfRefused, PrintsOrStops, Stops}
 use Rattle.golden.specs.Replay.{stopped_by}
-use Rattle.golden.specs.Replayed.{NetEnds, NetWent, NetStops, name_in, net_line, net_text, width_in}
-use Rattle.golden.proofs.ReadingLemmas.{IfRefused-map}
+use Rattle.golden.specs.Replayed.{IsNetText, Opened, TellsStop, name_in, net_line, net_text, width_in}
+use Rattle.golden.specs.declared.case.Fed.{Fed}
+use Rattle.gg_told.proofs.EndingLemmas.{IfRefused-map}
 
 module _ (plan : Plan) (columns : List (List ℕ)) (n : ℕ) (flow : Flow) (net : Network) (opens : IsOpeningOf plan columns n net) where
   -- before the first cycle a log without tokens is right
@@ -51,27 +53,32 @@ module _ (plan : Plan) (columns : List (List ℕ)) (n : ℕ) (flow : Flow) (net 
   wires-stay events new steps =
       ap (λ (f : Frame). length f.wires) (steps-frame net events new steps) ∙ ap (λ (x : Network). length x.wires) opens.is ∙ length-from plan 0 plan.channels
 
-  module _ (kept : Kept flow net) (naming : Naming) (events : List (Option Event)) (new : Network) where
-    abbrev opening : Network
-    opening = opening_net opens.machines (wires_of_plan plan) n
+-- a refused step is reported by its number and cause, however these are written
+pub told-so : (naming : Naming) (events : List (Option Event)) (ending : Ending) (step step' : ℕ) (cause cause' : Refusal) → step ≡ step' → cause ≡ cause'
+    → IfRefused (λ said. said ≡ stopped_by naming events (record { step = step; cause = cause })) ending
+    → IfRefused (λ said. said ≡ stopped_by naming events (record { step = step'; cause = cause' })) ending
+told-so naming events ending step step' cause cause' e f =
+    IfRefused-map (λ said is. is ∙ ap (λ k. stopped_by naming events (record { step = k; cause = cause })) e ∙ ap (λ (x : Refusal). stopped_by naming events (record { step = step'; cause = x })) f) ending
 
-    opening-kept : Kept flow opening
-    opening-kept = subst (λ (x : Network). Kept flow x) opens.is kept
+-- ---- the network of a plan on a trace
 
-    pub net-went : {T K : Type 0} {sink : Sink.Ghosts K} {out out' : K} (r : Result T Ending) → Steps net events new → PrintsOn sink out out' (net_text plan flow new) r
-        → NetEnds plan columns n flow naming events sink out out' r
-    net-went r steps prints = NetWent opens.machines (record { built = opens.built; kept = opening-kept }) new (subst (λ (x : Network). Steps x events new) opens.is steps) prints
+module _ (fed : Fed) (flow : Flow) (net : Network) (opens : IsOpeningOf fed.case.cut.plan fed.trace.columns fed.trace.rows net) (kept : Kept flow net) (events : List (Option Event)) (new : Network) where
+  opened-so : Opened fed flow opens.machines
+  opened-so = record { built = opens.built; kept = subst (λ (x : Network). Kept flow x) opens.is kept }
 
-    pub net-stops : {T K : Type 0} {sink : Sink.Ghosts K} {out : K} (stopped : Stopped) (ending : Ending) → StopsAt 1 net events new stopped → IfRefused (λ said. said ≡ stopped_by naming events stopped) ending
-        → NetEnds {T = T} plan columns n flow naming events sink out out (Err ending)
-    net-stops stopped ending stops says =
-        NetStops opens.machines (record { built = opens.built; kept = opening-kept }) new stopped (subst (λ (x : Network). StopsAt 1 x events new stopped) opens.is stops) ending refl says refl
+  -- the text of the network is that of the steps that led to it
+  pub net-goes : Steps net events new → IsNetText fed flow events (net_text fed.case.cut.plan flow new)
+  net-goes steps = record { machines = opens.machines; opened = opened-so; net = new; steps = subst (λ (x : Network). Steps x events new) opens.is steps; is = refl }
 
--- how the steps end, for equal names and equal steps
-pub net-named : {plan : Plan} {columns : List (List ℕ)} {n : ℕ} {flow : Flow} {names own : Naming} {events : List (Option Event)}
-    {T K : Type 0} {sink : Sink.Ghosts K} {out out' : K} {r : Result T Ending} (text : List ℕ) → names ≡ own → events ≡ steps_of names text
-    → NetEnds plan columns n flow names events sink out out' r → NetEnds plan columns n flow own (steps_of own text) sink out out' r
-net-named text same is ended = rw (← same) (rw (← is) ended)
+  -- this is reported for the steps that stopped there
+  net-stops : (naming : Naming) (stopped : Stopped) (said : Said) → StopsAt 1 net events new stopped → said ≡ stopped_by naming events stopped → TellsStop fed flow naming events said
+  net-stops naming stopped said stops is =
+      record { machines = opens.machines; opened = opened-so; net = new; stopped = stopped; stops = subst (λ (x : Network). StopsAt 1 x events new stopped) opens.is stops; is = is }
+
+  -- so has it ended with this report, and nothing was written
+  pub net-stopped : {T : Type 0} {out : Puts} (naming : Naming) (stopped : Stopped) (ending : Ending) → out.after ≡ out.before → StopsAt 1 net events new stopped
+      → IfRefused (λ said. said ≡ stopped_by naming events stopped) ending → PrintsOrStops {T = T} out (IsNetText fed flow events) (TellsStop fed flow naming events) (Err ending)
+  net-stopped naming stopped ending same stops says = Stops ending refl (IfRefused-map (λ said. net-stops naming stopped said stops) ending says) same
 
 -- ---- lines
 

@@ -1,10 +1,11 @@
 -- A partition has at most one fault, whichever design the circuit's bytes are taken to mean.
-use Rattle.std.proofs.Common.{◌≡◌, ℕ, ◌++◌, List, None, Some, refl, sym, ap, ◌∙◌, subst, inl, inr}
+use Rattle.std.proofs.Common.{◌≡◌, ◌≢◌, ℕ, ◌++◌, List, None, Some, refl, sym, ap, ◌∙◌, subst, inl, inr}
 use Rattle.std.specs.Prelude.{codes}
 use Rattle.std.proofs.lemmas.Option.{same_Some}
 use Rattle.gg_cut.specs.Fault.{first_fault}
 use Rattle.gg_cut.specs.Fault as cut
 use Rattle.gg_cut.specs.declared.fault.CutFault.{CutFault}
+use Rattle.gg_cut.specs.declared.fault.CutFault.TheVariants as cut_fault
 use Rattle.gg_check.specs.Alike.{AreAlike}
 use Rattle.gg_check.proofs.SameCutLemmas.{fault-same}
 use Rattle.gg_flat.specs.Circuit.{FlatCircuit}
@@ -16,8 +17,13 @@ use Rattle.gg_partfile.proofs.OnceLemmas.{request-once}
 use Rattle.gg_partfile.specs.Partition.{IsPartition}
 use Rattle.gg_partfile.specs.declared.fault.PartFault.TheVariants as file_fault
 use Rattle.gg_partfile.specs.declared.request.Request.{Request}
-use Rattle.golden.specs.Lines.{Said, partition_fault}
-use Rattle.golden.specs.Order.{IsExactFile, IsUniqueFile, IsRefused}
+use Rattle.gg_told.specs.Said.{Said}
+use Rattle.gg_told.specs.Endings.{IfRefused}
+use Rattle.gg_told.specs.declared.endings.Ending.{Ending}
+use Rattle.gg_told.proofs.EndingLemmas.{IfRefused-map}
+use Rattle.golden.specs.Lines.{partition_fault}
+use Rattle.gg_told.specs.Order.{CanBe, IsExactFile, IsUniqueFile, IsRefused}
+use Rattle.gg_told.proofs.OrderLemmas.{exact-by}
 use Rattle.golden.specs.Partition.{Cuts, HasFault, OfFile, OfRequest, IsPartitionFor, TellsPartitionOf, TellsPartitionFor, partition_file_for, partition_file_of}
 
 -- ---- the fault of bytes
@@ -80,11 +86,15 @@ module _ (agree : DesignsAgree) (apart : FileApart) (key : OneKey) (circuit : Li
 
   -- nothing is reported for a partition without a fault, and all that is reported for others has the status 6
   pub partition_file-exact : (name : List ℕ) → IsExactFile (partition_file_for circuit name)
-  partition_file-exact name = record { apart = partition-apart; status = partition-status; judges = inr (inl refl) }
+  partition_file-exact name = exact-by 6 (inr (inl refl)) partition-apart partition-status
 
   -- at most one thing is reported for a partition
   pub partition_file-unique : (name : List ℕ) → IsUniqueFile (partition_file_for circuit name)
   partition_file-unique name = partition-once
+
+-- what can be a partition's file for a design can be one for some bytes
+pub partition-can : {files : List ℕ → Told} {circuit : List ℕ} {design : Ordered} {name bytes : List ℕ} → CanBe files (partition_file_of design name) bytes → CanBe files (partition_file_for circuit name) bytes
+partition-can can = record { held = can.held; within = can.within }
 
 -- a partition that is refused for a design that some bytes mean is refused for these bytes
 pub partition-refused : (files : List ℕ → Told) {lost cut : Type 0} {circuit : List ℕ} {design : Ordered} {name : List ℕ} → MeansDesign circuit design
@@ -105,3 +115,10 @@ pub request-refused : (design : Ordered) (bytes slice : List ℕ) (request : Req
     → (fault : CutFault) × (first_fault design request ≡ Some fault) × (said ≡ partition_fault (cut.fault_text fault)) → TellsPartitionOf design bytes said
 request-refused design bytes slice request said e asks (fault, first, is) =
     (cut.fault_text fault, OfRequest request (subst (λ (b : List ℕ). IsPartition b request) e asks) fault first refl, is)
+
+-- what is reported for the fault that was told is the request's first
+pub request-told : (design : Ordered) (request : Request) (fault : CutFault) (ending : Ending) → cut.IsTold (first_fault design request) fault
+    → IfRefused (λ said. (fault ≢ cut_fault.NoMemory) × (said ≡ partition_fault (cut.fault_text fault))) ending
+    → IfRefused (λ said. (first : CutFault) × (first_fault design request ≡ Some first) × (said ≡ partition_fault (cut.fault_text first))) ending
+request-told design request fault ending (inl wants) = IfRefused-map (λ said h. absurd (h.0 wants)) ending
+request-told design request fault ending (inr first) = IfRefused-map (λ said h. (fault, first, h.1)) ending

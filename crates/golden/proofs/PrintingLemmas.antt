@@ -1,6 +1,6 @@
 -- The rows of a run, one by one.
 use Rattle.std.proofs.Common.{◌≡◌, ℕ, zero, suc, ◌+◌, ◌<◌, ◌≤◌, List, [], ◌∷◌, ◌++◌, length, map, refl, sym, ap, ◌∙◌, subst, inl, inr, arith, append_assoc, append-nil}
-use Rattle.std.specs.Prelude.{Option, Result, Ok, Err, slice_index}
+use Rattle.std.specs.Prelude.{Option, Result, Err, slice_index}
 use Rattle.std.specs.Io.KnownBytes.{append_known}
 use Rattle.std.proofs.lemmas.List.{get_or-map}
 use Rattle.std.proofs.Math.Nat.{eq-or-lt_of_le}
@@ -16,14 +16,13 @@ use Rattle.gg_refsim.specs.Cycle.{Simulation, Cycle, outputs}
 use Rattle.gg_flat.specs.declared.ports.Port.{Port}
 use Rattle.gg_trace.specs.Printing.{header_line, row_line, trace_text}
 use Rattle.gg_trace.specs.Table.{Table, row_of}
-use Rattle.golden.specs.declared.endings.Ending.{Ending}
-use Rattle.golden.specs.declared.endings.Ending.TheVariants.{Refused, Unwritten, NoMemory}
-use Rattle.golden.specs.Outcome.{IsFront, StandsFront}
+use Rattle.gg_told.specs.declared.endings.Ending.{Ending}
+use Rattle.gg_told.specs.Ends.{IsFront}
 use Rattle.gg_flat.specs.Ports.{out_ports}
 use Rattle.golden.specs.RunText.{out_columns}
-use Rattle.golden.specs.Endings.{Prints, PrintsOn}
-use Rattle.golden.specs.WentOn.{SinkWentOn}
-use Rattle.golden.proofs.WritingLemmas.{append_known-append, append_known-nil}
+use Rattle.gg_told.specs.Endings.{Prints, PrintsOn}
+use Rattle.gg_told.specs.WentOn.{SinkWentOn}
+use Rattle.gg_told.proofs.WritingLemmas.{append_known-append, append_known-nil, on-then, rose-earlier, stop-within}
 
 -- the first `cycle` rows are on the output sink after the header, and the simulator is in the state before the next, in any run
 pub record PrintedTo {K : Type 0} (circuit : FlatCircuit) (inputs : Table) (ports : List Port) (sink : Sink.Ghosts K) (out out' : K) (cycle : ℕ) (mono : Simulation) (outs : List ℕ) : Type 0 where
@@ -94,40 +93,6 @@ cycle-follows once circuit order columns n rows t before after inputs printed or
       row = cycle.outputs_are ∙ ap (outputs circuit) row ∙ outputs-row circuit rows t within circuit.outs;
     }
 
--- a count that rose since some time rose since an earlier one
-pub rose-earlier : (a b c : ℕ) → a ≤ b → Rose b c → Rose a c
-rose-earlier a b c le rose = omega arith
-
--- an output that went on, and then went on, went on
-pub on-then : {K : Type 0} {sink : Sink.Ghosts K} {a b c : K} → SinkWentOn sink a b → SinkWentOn sink b c → SinkWentOn sink a c
-on-then one other =
-    let f = one.faults_stay_or_rise in
-    let g = other.faults_stay_or_rise in
-    let x = one.refused_stay_or_rise in
-    let y = other.refused_stay_or_rise in
-    record { faults_stay_or_rise = omega arith; refused_stay_or_rise = omega arith }
-
--- a front part of a row, after a text, is a front part of the whole text
-pub stands-within : (base now now' : Option (List ℕ)) (text row whole : List ℕ) → now ≡ append_known base text → IsFront (text ++ row) whole
-    → StandsFront now now' row → StandsFront base now' whole
-stands-within base now now' text row whole is front (part, rest, puts) = (
-  text ++ part,
-  (
-    rest.0 ++ front.0,
-    sym (append_assoc (text ++ part) rest.0 front.0)
-        ∙ ap (λ (x : List ℕ). x ++ front.0) (append_assoc text part rest.0 ∙ ap (λ (x : List ℕ). text ++ x) rest.1) ∙ front.1,
-  ),
-  puts ∙ ap (λ (w : Option (List ℕ)). append_known w part) is ∙ append_known-append base text part,
-)
-
--- if a row stops, a front part of the whole text is there
-pub stop-within : (T : Type 0) (base now now' : Option (List ℕ)) (failed failed' : Type 0) (text row whole : List ℕ) (ending : Ending)
-    → now ≡ append_known base text → (failed → failed') → IsFront (text ++ row) whole
-    → Prints {T = T} now now' failed row (Err ending) → Prints {T = T} base now' failed' whole (Err ending)
-stop-within T base now now' failed failed' text row whole (Refused said) is more front prints = prints
-stop-within T base now now' failed failed' text row whole Unwritten is more front prints = (more prints.0, stands-within base now now' text row whole is front prints.1)
-stop-within T base now now' failed failed' text row whole NoMemory is more front prints = stands-within base now now' text row whole is front prints
-
 module _ {K : Type 0} {circuit : FlatCircuit} {inputs : Table} {ports : List Port} {sink : Sink.Ghosts K} {out out' : K} {t : ℕ} {mono : Simulation} {outs outs' : List ℕ}
     (once : SettledOnce) (order : List ℕ) (ordered : IsOrder circuit order) (lt : t < inputs.rows) (row : List ℕ) (given : row ≡ row_of inputs.columns t)
     (printed : PrintedTo circuit inputs ports sink out out' t mono outs) (mono' : Simulation) (cycle : Cycle [] mono.circuit mono.state row outs' mono'.state) where
@@ -169,14 +134,6 @@ pub header-stop : (T : Type 0) (before now : Option (List ℕ)) (failed : Type 0
 header-stop T before now failed ports columns n piece ending e prints =
     stop-within T before before now failed failed [] (header_line ports) (trace_text ports columns n) ending (sym (append_known-nil before)) (λ x. x)
     (trace_text-front ports columns n 0 (omega arith)) (subst (λ (p : List ℕ). Prints {T = T} before now failed p (Err ending)) e prints)
-
--- a failed put of a part of a call is one of the whole call
-pub prints-more : (T : Type 0) (before now : Option (List ℕ)) (failed failed' : Type 0) (text : List ℕ) (r : Result T Ending) → (failed → failed')
-    → Prints before now failed text r → Prints before now failed' text r
-prints-more T before now failed failed' text (Ok done) more prints = prints
-prints-more T before now failed failed' text (Err (Refused said)) more prints = prints
-prints-more T before now failed failed' text (Err Unwritten) more prints = (more prints.0, prints.1)
-prints-more T before now failed failed' text (Err NoMemory) more prints = prints
 
 -- what is printed for the ports that were made and the simulated circuit is printed for the circuit, if they are the circuit's
 pub run-prints : (T : Type 0) (before now : Option (List ℕ)) (failed : Type 0) (r : Result T Ending) (circuit simulated : FlatCircuit) (ports : List Port) (columns : List (List ℕ)) (n : ℕ)

@@ -1,5 +1,5 @@
 -- Why a trace is refused.
-use Rattle.std.proofs.Common.{◌≡◌, ◌≢◌, ℕ, List, refl, sym, ap, ◌∙◌, subst, length}
+use Rattle.std.proofs.Common.{◌≡◌, ◌≢◌, ℕ, List, refl, sym, ap, ◌∙◌, subst, inl, inr, length}
 use Rattle.gg_flat.specs.Circuit.{FlatCircuit}
 use Rattle.gg_flat.specs.WellFormed.{IsWellFormed}
 use Rattle.gg_flat.specs.declared.ports.Port.{Port}
@@ -9,13 +9,14 @@ use Rattle.gg_trace.specs.declared.faults.TraceFault.{TraceFault}
 use Rattle.gg_trace.specs.declared.faults.TraceFault.TheVariants as trace
 use Rattle.gg_trace.specs.declared.faults.TraceFault.TheVariants.{Heading, RowNumber, NotHexadecimal, TooWide, FieldCount, TooManyRows}
 use Rattle.gg_flat.specs.Run.{IsColumns}
-use Rattle.golden.specs.declared.endings.Ending.{Ending}
-use Rattle.golden.specs.declared.endings.Ending.TheVariants.{Refused, Unwritten, NoMemory}
-use Rattle.golden.specs.Lines.{Said}
+use Rattle.gg_told.specs.Said.{Said}
+use Rattle.gg_told.specs.Order.{CanBe, IsRefused}
+use Rattle.golden.specs.Run.{trace_file_for, trace_file_of}
+use Rattle.gg_front.specs.Meaning.{Means}
+use Rattle.gg_io.specs.Told.{Told}
 use Rattle.gg_flat.specs.Ports.{in_ports, out_ports}
 use Rattle.golden.specs.RunText.{Feeds}
 use Rattle.golden.proofs.PortLemmas.{in_ports-distinct, out_ports-count, trace-columns}
-use Rattle.golden.specs.Endings.{IfRefused}
 
 -- a fault that isn't `NoMemory` is the trace's first
 pub first-of : (ports : List Port) (bytes : List ℕ) (fault : TraceFault) → fault ≢ trace.NoMemory → IfFirstFault ports bytes fault → IsFirstFault ports bytes fault
@@ -32,12 +33,6 @@ pub fault-of : (circuit : FlatCircuit) (ports : List Port) (bytes slice : List �
     → fault ≢ trace.NoMemory → IfFirstFault ports slice fault → IsFirstFault (in_ports circuit) bytes fault
 fault-of circuit ports bytes slice fault e f some h =
     subst (λ (p : List Port). IsFirstFault p bytes fault) e (subst (λ (b : List ℕ). IsFirstFault ports b fault) f (first-of ports slice fault some h))
-
--- what holds of a reported refusal may be replaced by what follows from it
-pub IfRefused-map : {P Q : Said → Type 0} → ((said : Said) → P said → Q said) → (ending : Ending) → IfRefused P ending → IfRefused Q ending
-IfRefused-map f (Refused said) h = f said h
-IfRefused-map f Unwritten h = h
-IfRefused-map f NoMemory h = h
 
 -- the ports that were made are those of a circuit's inputs
 pub ports-are : (circuit piece : FlatCircuit) (ports : List Port) → ports ≡ in_ports piece → piece ≡ circuit → ports ≡ in_ports circuit
@@ -74,3 +69,13 @@ pub ports-fed : (circuit : FlatCircuit) (ports : List Port) (bytes : List ℕ) (
     → Columns ports bytes n columns → HaveWidths ports n columns → IsColumns circuit n columns
 ports-fed circuit ports bytes n columns e formed =
     subst (λ (p : List Port). Columns p bytes n columns → HaveWidths p n columns → IsColumns circuit n columns) (sym e) (trace-columns circuit formed bytes n columns)
+
+-- what can be a trace's file for a flat circuit can be one for some bytes
+pub trace-can : {files : List ℕ → Told} {circuit : List ℕ} {name bytes : List ℕ} (flat : FlatCircuit) → CanBe files (trace_file_of flat name) bytes → CanBe files (trace_file_for circuit name) bytes
+trace-can flat can = record { held = can.held; within = can.within }
+
+-- a trace that is refused for a flat circuit that some bytes mean is refused for these bytes
+pub trace-refused : (files : List ℕ → Told) {lost cut : Type 0} {circuit : List ℕ} {flat : FlatCircuit} {name : List ℕ} → Means circuit flat
+    → (said : Said) → IsRefused files lost cut (trace_file_of flat name) said → IsRefused files lost cut (trace_file_for circuit name) said
+trace-refused files means said (inl load) = inl load
+trace-refused files {flat = flat} means said (inr (bytes, can, tells)) = inr (bytes, trace-can flat can, (flat, means, tells))

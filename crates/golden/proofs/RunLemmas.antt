@@ -6,10 +6,15 @@ use Rattle.gg_flat.specs.Ports.{in_ports}
 use Rattle.gg_trace.specs.FaultText.{fault_words}
 use Rattle.gg_trace.specs.Trace.{Columns, IsFirstFault}
 use Rattle.gg_trace.specs.declared.faults.TraceFault.{TraceFault}
-use Rattle.golden.specs.Lines.{Said, trace_fault}
-use Rattle.golden.specs.Order.{IsExact, IsExactFile, IsUnique, IsUniqueFile}
+use Rattle.gg_told.specs.Said.{Said}
+use Rattle.golden.specs.Lines.{trace_fault}
+use Rattle.gg_told.specs.Order.{IsExact, IsExactFile, IsUnique, IsUniqueFile, Load}
 use Rattle.golden.specs.Run.{trace_file_for, IsTraceFor, TellsTraceFor}
-use Rattle.golden.specs.Words.{Command, Run, Replay, Check, order_behind, order_of}
+use Rattle.gg_words.specs.declared.command.Cmd.{Cmd}
+use Rattle.gg_words.specs.declared.command.Cmd.TheVariants.{Run, Replay, Check}
+use Rattle.golden.specs.Commands.{asked_by, order_behind, order_of}
+use Rattle.golden.specs.Partition.{partition_file_for}
+use Rattle.gg_told.proofs.OrderLemmas.{exact-by}
 use Rattle.golden.proofs.FrontLemmas.{NoFaultAccepted, circuit_file-exact}
 use Rattle.golden.proofs.PartitionLemmas.{DesignsAgree, FileApart, OneKey, partition_file-exact, partition_file-unique}
 use Rattle.golden.proofs.SettingLemmas.{steps_file-exact, steps_file-unique}
@@ -39,24 +44,26 @@ module _ (agree : OneFlat) (once : OneFirstFault) (never : NoFault) (circuit : L
 
   -- nothing is reported for a trace without a fault, and all that is reported for others has the status 7
   trace_file-exact : (name : List ℕ) → IsExactFile (trace_file_for circuit name)
-  trace_file-exact name = record { apart = trace-apart; status = trace-status; judges = inr (inr (inl refl)) }
+  trace_file-exact name = exact-by 7 (inr (inr (inl refl))) trace-apart trace-status
 
   -- at most one thing is reported for a trace
   trace_file-unique : (name : List ℕ) → IsUniqueFile (trace_file_for circuit name)
   trace_file-unique name = trace-once
 
 module _ (designs : DesignsAgree) (apart : FileApart) (key : OneKey) (agree : OneFlat) (once : OneFirstFault) (none : NoFault) where
-  pub order-exact : NoFaultAccepted → (command : Command) → IsExact (order_of command)
-  order-exact never (Run circuit partition trace capacity workers mono) =
-      (circuit_file-exact never circuit, λ c. (partition_file-exact designs apart key c partition, λ p. (trace_file-exact agree once none c trace, λ t. tt)))
-  order-exact never (Replay circuit partition trace steps capacity) =
-      (circuit_file-exact never circuit, λ c. (partition_file-exact designs apart key c partition, λ p. (trace_file-exact agree once none c trace, λ t. (steps_file-exact designs c p t capacity steps, λ s. tt))))
-  order-exact never (Check circuit partition capacity) =
-      (circuit_file-exact never circuit, λ c. (partition_file-exact designs apart key c partition, λ p. tt))
+  behind-exact : (command : Cmd) (c p : List ℕ) → IsExact (order_behind command c p)
+  behind-exact (Run circuit partition trace capacity workers mono) c p = (trace_file-exact agree once none c trace, λ t. tt)
+  behind-exact (Replay circuit partition trace steps capacity) c p = (trace_file-exact agree once none c trace, λ t. (steps_file-exact designs c p t capacity steps, λ s. tt))
+  behind-exact (Check circuit partition capacity) c p = tt
 
-  pub order-unique : (command : Command) (circuit : List ℕ) → IsUnique (order_behind command circuit)
-  order-unique (Run name partition trace capacity workers mono) circuit =
-      (partition_file-unique designs apart key circuit partition, λ p. (trace_file-unique agree once none circuit trace, λ t. tt))
-  order-unique (Replay name partition trace steps capacity) circuit =
-      (partition_file-unique designs apart key circuit partition, λ p. (trace_file-unique agree once none circuit trace, λ t. (steps_file-unique designs circuit p t capacity steps, λ s. tt)))
-  order-unique (Check name partition capacity) circuit = (partition_file-unique designs apart key circuit partition, λ p. tt)
+  behind-unique : (command : Cmd) (c p : List ℕ) → IsUnique (order_behind command c p)
+  behind-unique (Run circuit partition trace capacity workers mono) c p = (trace_file-unique agree once none c trace, λ t. tt)
+  behind-unique (Replay circuit partition trace steps capacity) c p = (trace_file-unique agree once none c trace, λ t. (steps_file-unique designs c p t capacity steps, λ s. tt))
+  behind-unique (Check circuit partition capacity) c p = tt
+
+  pub order-exact : NoFaultAccepted → (command : Cmd) → IsExact (order_of command)
+  order-exact never command =
+      (circuit_file-exact never (asked_by command).circuit, λ c. (partition_file-exact designs apart key c (asked_by command).partition, behind-exact command c))
+
+  pub order-unique : (command : Cmd) (circuit : List ℕ) → IsUnique (Load (partition_file_for circuit (asked_by command).partition) (order_behind command circuit))
+  order-unique command circuit = (partition_file-unique designs apart key circuit (asked_by command).partition, behind-unique command circuit)

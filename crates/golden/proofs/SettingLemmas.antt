@@ -16,10 +16,11 @@ use Rattle.gg_layout.specs.CutLayout.{IsLayoutOf}
 use Rattle.gg_layout.proofs.OneLemmas.{one-layout}
 use Rattle.gg_steps.specs.Naming.{Naming}
 use Rattle.gg_steps.specs.Steps.{steps_of}
-use Rattle.golden.specs.Lines.{Said}
-use Rattle.golden.specs.Order.{IsExactFile, IsUniqueFile}
+use Rattle.gg_told.specs.Said.{Said}
+use Rattle.gg_told.specs.Order.{IsExactFile, IsUniqueFile}
 use Rattle.golden.specs.Replay.{AreDone, IsSetting, Setting, TellsSteps, naming_of, replay_text, replayed, steps_file_for, stopped_by, stopped_said}
 use Rattle.golden.specs.RunText.{FeedsOnly}
+use Rattle.gg_told.proofs.OrderLemmas.{exact-by}
 use Rattle.golden.proofs.PartitionLemmas.{DesignsAgree}
 use Rattle.golden.proofs.TextLemmas.{OneFlat, OneRun, same-run}
 
@@ -84,7 +85,7 @@ module _ (agree : DesignsAgree) (circuit partition trace : List ℕ) (capacity :
 
   -- nothing is reported for steps that may all be done, and all that is reported for others has the status 9
   pub steps_file-exact : (name : List ℕ) → IsExactFile (steps_file_for circuit partition trace capacity name)
-  steps_file-exact name = record { apart = steps-apart; status = steps-status; judges = inr (inr (inr refl)) }
+  steps_file-exact name = exact-by 9 (inr (inr (inr refl))) steps-apart steps-status
 
   -- at most one thing is reported for steps
   pub steps_file-unique : (name : List ℕ) → IsUniqueFile (steps_file_for circuit partition trace capacity name)

@@ -1,7 +1,9 @@
 -- What the contracts of the program speak of.
+pub mod Case
 pub mod Check
+pub mod Commands
+pub mod Limits
 pub mod Lines
-pub mod Order
 pub mod Outcome
 pub mod Partition
 pub mod Promised
@@ -9,6 +11,4 @@ pub mod Replay
 pub mod Replayed
 pub mod Run
 pub mod RunText
-pub mod Endings
-pub mod WentOn
 pub mod Words

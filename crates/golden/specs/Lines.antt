@@ -1,18 +1,10 @@
--- What a call reports if it doesn't write its whole text: its status, and a line on the error output. Source: this
--- program's own. The lines are those of docs/FORMATS.md.
-use Rattle.std.specs.Prelude.{◌≡◌, ◌≢◌, ℕ, List, [], ◌∷◌, ◌++◌, codes, decimal}
+-- What is reported for words, and for the files of a command. Source: this program's own. The lines are those of
+-- docs/FORMATS.md.
+use Rattle.std.specs.Prelude.{◌≡◌, ◌≢◌, ℕ, List, ◌++◌, codes, decimal}
 use Rattle.gg_read.specs.FaultText.{fault_text}
 use Rattle.gg_read.specs.declared.text.ReadFault.{ReadFault}
 use Rattle.gg_read.specs.declared.text.ReadFault.TheVariants.{NoMemory}
-
--- what is reported: a status and a line
-pub record Said : Type 0 where
-  pub status : ℕ
-  pub line : List ℕ
-
--- a text with the line feed that ends a line
-abbrev pub line_of : List ℕ → List ℕ
-line_of text = text ++ 10 ∷ []
+use Rattle.gg_told.specs.Said.{Said, line_of}
 
 -- the words aren't a command: `golden: words` followed by this text
 abbrev pub words_said : List ℕ → Said
@@ -45,19 +37,3 @@ trace_fault text = record { status = 7; line = line_of (codes "golden: trace: " 
 -- step k, counted from 1, is refused for the cause with this text
 abbrev pub step_fault : ℕ → List ℕ → Said
 step_fault k text = record { status = 9; line = line_of (codes "golden: step " ++ decimal k ++ codes ": " ++ text) }
-
--- the file with this name can't be loaded
-abbrev pub cannot_load : List ℕ → Said
-cannot_load name = record { status = 3; line = line_of (codes "golden: cannot load " ++ name) }
-
--- the file with this name has more bytes than this limit
-abbrev pub is_over : List ℕ → ℕ → Said
-is_over name limit = record { status = 8; line = line_of (codes "golden: " ++ name ++ (codes " is over " ++ decimal limit ++ codes " bytes")) }
-
--- the output can't be written
-abbrev pub cannot_write : Said
-cannot_write = record { status = 4; line = line_of (codes "golden: cannot write") }
-
--- an allocation failed
-abbrev pub out_of_memory : Said
-out_of_memory = record { status = 5; line = line_of (codes "golden: out of memory") }

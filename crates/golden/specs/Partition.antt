@@ -11,8 +11,10 @@ use Rattle.gg_partfile.specs.Fault as file
 use Rattle.gg_partfile.specs.Partition.{IsPartition}
 use Rattle.gg_partfile.specs.declared.fault.PartFault.TheVariants.{WrongKey}
 use Rattle.gg_partfile.specs.declared.request.Request.{Request}
-use Rattle.golden.specs.Lines.{Said, partition_fault}
-use Rattle.golden.specs.Order.{File}
+use Rattle.gg_told.specs.Said.{Said}
+use Rattle.golden.specs.Limits.{partition_limit}
+use Rattle.golden.specs.Lines.{partition_fault}
+use Rattle.gg_told.specs.Order.{File}
 
 -- The bytes hold this request, and it has no fault for the design.
 pub record Cuts (design : Ordered) (bytes : List ℕ) (request : Request) : Type 0 where
@@ -33,9 +35,9 @@ IsPartitionOf design bytes = (request : Request) × Cuts design bytes request
 abbrev pub TellsPartitionOf : (design : Ordered) (bytes : List ℕ) → Said → Type 0
 TellsPartitionOf design bytes said = (text : List ℕ) × HasFault design bytes text × (said ≡ partition_fault text)
 
--- a partition's file: at most 1,048,576 bytes
+-- a partition's file
 abbrev pub partition_file : (name : List ℕ) (IsGood : List ℕ → Type 0) (TellsFault : List ℕ → Said → Type 0) → File
-partition_file name IsGood TellsFault = record { name = name; limit = 1048576; status = 6; accepts = IsGood; refuses = TellsFault }
+partition_file name IsGood TellsFault = record { name = name; limit = partition_limit; accepts = IsGood; refuses = TellsFault }
 
 -- the file of a partition of a design
 abbrev pub partition_file_of : (design : Ordered) (name : List ℕ) → File

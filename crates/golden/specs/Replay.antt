@@ -1,4 +1,4 @@
--- The command `replay`: its four files, and the text that it writes.
+-- What a circuit, a partition and a trace mean, the file of steps, and the text that `replay` writes.
 -- Sources: MEMOCODE 2009 (the k-th token of each channel is the value of its signal in cycle k, in any order of steps).
 -- The lines and the forms of a steps file are this program's own.
 use Rattle.std.specs.Prelude.{◌≡◌, ◌↔◌, ℕ, ◌+◌, ◌-◌, ◌*◌, ◌<◌, List, [], None, Option, Result, Ok, Err, flat_map, if◌then◌else◌, length, map, slice_index_or, take}
@@ -10,7 +10,8 @@ use Rattle.gg_flat.specs.Tree.{InstanceTree, memory_at, path_at}
 use Rattle.gg_front.specs.Meaning.{MeansDesign}
 use Rattle.gg_order.specs.Design.{Ordered}
 use Rattle.gg_partfile.specs.declared.request.Request.{Request}
-use Rattle.gg_cut.specs.Channels.{first_memory, machine_count, wires_of}
+use Rattle.gg_cut.specs.Channels.{wires_of}
+use Rattle.gg_cut.specs.Machines.{first_memory, is_memory, machine_count}
 use Rattle.gg_cut.specs.Listed.{listed_of}
 use Rattle.gg_cut.specs.Plan.{machine_names, wire_at}
 use Rattle.gg_cut.specs.declared.listed.Listed.{Listed}
@@ -20,17 +21,18 @@ use Rattle.gg_net.specs.declared.event.Event.{Event}
 use Rattle.gg_marking.specs.Marking.{Layout, Marking, opening_marking, puts, takes}
 use Rattle.gg_marking.specs.Goes.{Stopped, replayed_from}
 use Rattle.gg_progress.specs.Measure.{all_dues}
-use Rattle.gg_layout.specs.CutLayout.{IsLayoutOf, is_memory}
+use Rattle.gg_layout.specs.CutLayout.{IsLayoutOf}
 use Rattle.gg_trace.specs.Fields.{text_lines}
 use Rattle.gg_steps.specs.Naming.{Naming}
 use Rattle.gg_steps.specs.Spelling.{IsLengthened}
 use Rattle.gg_steps.specs.Steps.{steps_of}
 use Rattle.gg_steps.specs.Cause.{cause_text}
 use Rattle.gg_replay.specs.ReplayText.{channel_line}
-use Rattle.golden.specs.Lines.{Said, step_fault}
-use Rattle.golden.specs.Order.{File, Order, Load, Write}
-use Rattle.golden.specs.Partition.{Cuts, partition_file_for}
-use Rattle.golden.specs.Run.{circuit_file, trace_file_for}
+use Rattle.gg_told.specs.Said.{Said}
+use Rattle.golden.specs.Limits.{steps_limit}
+use Rattle.golden.specs.Lines.{step_fault}
+use Rattle.gg_told.specs.Order.{File, IsOnly}
+use Rattle.golden.specs.Partition.{Cuts}
 use Rattle.golden.specs.RunText.{Feeds}
 
 -- ---- what a circuit, a partition and a trace mean
@@ -97,10 +99,10 @@ TellsSteps circuit partition trace capacity steps said =
     (setting : Setting) × IsSetting circuit partition trace capacity setting
     × ((stopped : Stopped) × (replayed setting steps ≡ Err stopped) × (said ≡ stopped_said setting steps stopped))
 
--- a steps file: at most 67,108,864 bytes
+-- a steps file
 abbrev pub steps_file_for : (circuit partition trace : List ℕ) (capacity : ℕ) (name : List ℕ) → File
 steps_file_for circuit partition trace capacity name =
-    record { name = name; limit = 67108864; status = 9; accepts = AreDone circuit partition trace capacity; refuses = TellsSteps circuit partition trace capacity }
+    record { name = name; limit = steps_limit; accepts = AreDone circuit partition trace capacity; refuses = TellsSteps circuit partition trace capacity }
 
 -- ---- how many steps there are
 
@@ -144,32 +146,11 @@ IsReplayText circuit partition trace capacity steps text =
     (setting : Setting) × IsSetting circuit partition trace capacity setting
     × ((marking : Marking) × (replayed setting steps ≡ Ok marking) × (text ≡ replay_text setting marking))
 
--- This is such a text, and the only one.
-pub record IsOnlyReplayText (circuit partition trace : List ℕ) (capacity : ℕ) (steps text : List ℕ) : Type 0 where
-  pub is : IsReplayText circuit partition trace capacity steps text
-  pub only : (other : List ℕ) → IsReplayText circuit partition trace capacity steps other → other ≡ text
-
--- This is the only text of the steps, and a line can be added to them exactly if they are fewer than all.
+-- This is the text of the steps, and a line can be added to them exactly if they are fewer than all.
 pub record IsReplayOf (circuit partition trace : List ℕ) (capacity : ℕ) (steps text : List ℕ) : Type 0 where
-  pub text_is : IsOnlyReplayText circuit partition trace capacity steps text
+  pub text_is : IsReplayText circuit partition trace capacity steps text
   pub goes_on : GoesOnUntilAll circuit partition trace capacity steps
 
--- ---- the order of refusals
-
--- the rest of the order, after a circuit, a partition and a trace with these bytes
-abbrev pub steps_order : (circuit partition trace : List ℕ) (capacity : ℕ) (steps : List ℕ) → Order
-steps_order circuit partition trace capacity steps =
-    Load (steps_file_for circuit partition trace capacity steps) (λ s. Write (IsReplayOf circuit partition trace capacity s))
-
--- the rest of the order, after a circuit and a partition with these bytes
-abbrev pub fed_order : (circuit partition : List ℕ) (trace steps : List ℕ) (capacity : ℕ) → Order
-fed_order circuit partition trace steps capacity = Load (trace_file_for circuit trace) (λ t. steps_order circuit partition t capacity steps)
-
--- the rest of the order, after a circuit with these bytes
-abbrev pub network_order : (circuit : List ℕ) (partition trace steps : List ℕ) (capacity : ℕ) → Order
-network_order circuit partition trace steps capacity = Load (partition_file_for circuit partition) (λ p. fed_order circuit p trace steps capacity)
-
--- The order of `replay`: the circuit, the partition, the trace and the steps are loaded and checked, each before the
--- next is loaded. Then the text is written.
-abbrev pub replay_order : (circuit partition trace steps : List ℕ) (capacity : ℕ) → Order
-replay_order circuit partition trace steps capacity = Load (circuit_file circuit) (λ c. network_order c partition trace steps capacity)
+-- each step may be done, and this is the text, the only one
+abbrev pub IsReplayed : (circuit partition trace : List ℕ) (capacity : ℕ) (steps text : List ℕ) → Type 0
+IsReplayed circuit partition trace capacity steps text = AreDone circuit partition trace capacity steps × IsOnly (IsReplayOf circuit partition trace capacity steps) text

@@ -1,21 +1,20 @@
 //! The top call.
 ghost use Rattle.std.specs.Prelude.{◌≡◌, ℕ, List};
-ghost use Rattle.gg_io.specs.Count.{Rose};
 ghost use Rattle.gg_words.specs.Meaning as command_line;
 ghost use Rattle.gg_words.specs.Meaning.{texts};
-ghost use Rattle.golden.specs.Endings.{CallEnded, said_by};
-ghost use Rattle.golden.specs.Outcome.{Answered, Reports, HasTrouble};
+ghost use Rattle.golden.specs.Outcome.{CallEnded, Answered};
+ghost use Rattle.gg_told.specs.Endings.{said_by};
+ghost use Rattle.gg_told.specs.Ends.{Reports, loads_of, puts_of};
 ghost use Rattle.golden.specs.Promised.{Promised};
-ghost use Rattle.golden.specs.WentOn.{ShelfWentOn, SinkWentOn};
+ghost use Rattle.gg_told.specs.WentOn.{ShelfWentOn, SinkWentOn};
 
 use crate::check::check;
-use crate::endings::Ending;
 use crate::laws::refusals_are_exact;
 use crate::replay::replay;
 use crate::run::run;
 use crate::words::end_at_words;
-use crate::writing::report;
 use gg_io::{Gate, Shelf, Sink};
+use gg_told::{Ending, report};
 use gg_words::{Cmd, numbers_are_in_range, one_meaning, words};
 use std::alloc::Global;
 
@@ -27,7 +26,7 @@ fn do_command<S: Shelf, K: Sink>(
     out: &mut K,
 ) -> Result<(), Ending>
     requires { (words : List (List ℕ)) × command_line.IsCommand words cmd.now }
-    ensures ended { (words : List (List ℕ)) → command_line.IsCommand words cmd.now → CallEnded S.Shelf K.Sink shelf.old shelf.new out.old out.new words result }
+    ensures ended { (words : List (List ℕ)) → command_line.IsCommand words cmd.now → CallEnded words (loads_of S.Shelf shelf.old shelf.new) (puts_of K.Sink out.old out.new) result }
     ensures shelf { ShelfWentOn S.Shelf shelf.old shelf.new }
     ensures out { SinkWentOn K.Sink out.old out.new }
 {
@@ -37,12 +36,14 @@ fn do_command<S: Shelf, K: Sink>(
             circuit,
             partition,
             trace,
+            capacity,
             ..
         } => run(
             alloc,
             circuit.as_str(),
             partition.as_str(),
             trace.as_str(),
+            *capacity,
             shelf,
             out,
         ),
@@ -84,7 +85,7 @@ fn command<S: Shelf, K: Sink>(
     shelf: &mut S,
     out: &mut K,
 ) -> Result<(), Ending>
-    ensures ended { CallEnded S.Shelf K.Sink shelf.old shelf.new out.old out.new (texts given.now) result }
+    ensures ended { CallEnded (texts given.now) (loads_of S.Shelf shelf.old shelf.new) (puts_of K.Sink out.old out.new) result }
     ensures shelf { ShelfWentOn S.Shelf shelf.old shelf.new }
     ensures out { SinkWentOn K.Sink out.old out.new }
 {
@@ -98,7 +99,7 @@ fn command<S: Shelf, K: Sink>(
 // line can't be written.
 fn status_of<E: Sink>(ended: &Result<(), Ending>, err: &mut E) -> u8
     ensures status { result ≡ (said_by ended.now).status }
-    ensures line { Reports (E.written err.old) (E.written err.new) (HasTrouble (E.faults err.old) (E.faults err.new) (E.refused err.old) (E.refused err.new)) (said_by ended.now).line }
+    ensures line { Reports (puts_of E.Sink err.old err.new) (said_by ended.now).line }
     ensures err { SinkWentOn E.Sink err.old err.new }
 {
     match ended {
@@ -115,10 +116,7 @@ fn answer<S: Shelf, K: Sink, E: Sink>(
     out: &mut K,
     err: &mut E,
 ) -> u8
-    ensures answered { Answered (texts words.now) (S.files shelf.old)
-        (Rose (S.faults shelf.old) (S.faults shelf.new)) (Rose (S.cuts shelf.old) (S.cuts shelf.new)) (Rose (K.faults out.old) (K.faults out.new))
-        (HasTrouble (E.faults err.old) (E.faults err.new) (E.refused err.old) (E.refused err.new))
-        (K.written out.old) (K.written out.new) (E.written err.old) (E.written err.new) result }
+    ensures answered { Answered (texts words.now) (loads_of S.Shelf shelf.old shelf.new) (puts_of K.Sink out.old out.new) (puts_of E.Sink err.old err.new) result }
     ensures shelf { ShelfWentOn S.Shelf shelf.old shelf.new }
     ensures out { SinkWentOn K.Sink out.old out.new }
     ensures err { SinkWentOn E.Sink err.old err.new }
@@ -159,10 +157,7 @@ pub fn golden<S: Shelf, K: Sink, E: Sink, G: Gate>(
     err: &mut E,
     gate: &G,
 ) -> u8
-    ensures promised { Promised (texts words.now) (S.files shelf.old)
-        (Rose (S.faults shelf.old) (S.faults shelf.new)) (Rose (S.cuts shelf.old) (S.cuts shelf.new)) (Rose (K.faults out.old) (K.faults out.new))
-        (HasTrouble (E.faults err.old) (E.faults err.new) (E.refused err.old) (E.refused err.new))
-        (K.written out.old) (K.written out.new) (E.written err.old) (E.written err.new) result }
+    ensures promised { Promised (texts words.now) (loads_of S.Shelf shelf.old shelf.new) (puts_of K.Sink out.old out.new) (puts_of E.Sink err.old err.new) result }
     ensures shelf { ShelfWentOn S.Shelf shelf.old shelf.new }
     ensures out { SinkWentOn K.Sink out.old out.new }
     ensures err { SinkWentOn E.Sink err.old err.new }

@@ -9,9 +9,9 @@
 //! - `outcome`: the status, the text on `out` and the line on `err` are those of one end of the command that the words
 //!   ask for, or of words that ask for none. A command is an order of files. It ends if a file is refused, after each
 //!   file before it was accepted; if a put fails; if an allocation fails; or with its whole text. With status 0 the
-//!   text on `out` is that of the circuit's own run on the trace (`IsOnlyText`). For any flat circuit that the bytes
-//!   mean, each of its runs on the trace has this text and no other. The same holds for the text of the cut
-//!   (`IsOnlyCutText`) and for the text of the marking that the steps lead to (`IsOnlyReplayText`). The tokens of each
+//!   text on `out` is that of the circuit's own run on the trace (`IsTextOf`). For any flat circuit that the bytes
+//!   mean, each of its runs on the trace has this text and no other (`IsOnly`). The same holds for the text of the cut
+//!   (`IsCutTextOf`) and for the text of the marking that the steps lead to (`IsReplayOf`). The tokens of each
 //!   channel are the first values of its signal in the circuit's own run.
 //! - Causes (`judged`, `no_command`, `not_loaded`, `not_written`, `over`): each status except 0 and 5 has its reason. A
 //!   load or a put that failed is counted by its shelf or output. `nothing_written`: a refusal leaves `out` as it was.
@@ -29,11 +29,11 @@
 #![tactic(auto)]
 
 mod call;
+mod case;
 mod check;
 mod checking;
-mod endings;
 mod laws;
-mod loading;
+mod limits;
 mod naming;
 mod network;
 mod partition;
@@ -42,7 +42,6 @@ mod reading;
 mod replay;
 mod run;
 mod words;
-mod writing;
 
 pub use call::golden;
 pub use laws::refusals_are_exact;

@@ -14,13 +14,9 @@ use std::alloc::{AllocError, Global};
 fn port_names<'a>(tree: &'a Tree, listed: &Listed, machine: usize) -> &'a [Name]
     ensures { result.now ≡ port_names tree.now listed.now machine }
 {
-    let units = listed.units.as_slice().len();
-    if machine <= units {
-        return &[];
-    }
-    match listed.memories.as_slice().get(machine - units - 1) {
+    match listed.memory_of(machine) {
         None => &[],
-        Some(place) => match tree.memories().get(*place as usize) {
+        Some(place) => match tree.memories().get(place as usize) {
             None => &[],
             Some(memory) => memory.ports.as_slice(),
         },
@@ -62,14 +58,13 @@ fn add_machines<'a>(
 pub(crate) fn names_of<'a>(
     alloc: Global,
     tree: &'a Tree,
-    listed: &Listed,
     plan: &'a Plan,
 ) -> Result<StepNames<'a>, AllocError>
-    requires { AreFewNames plan.now tree.now listed.now }
-    ensures { IfOk result (λ names. names ≡ plan_naming plan.now tree.now listed.now) }
+    requires { AreFewNames plan.now tree.now }
+    ensures { IfOk result (λ names. names ≡ plan_naming plan.now tree.now) }
 {
     let mut names = StepNames::new(alloc);
     add_channels(&mut names, plan.channels.as_slice())?;
-    add_machines(&mut names, tree, listed, plan.machines.as_slice())?;
+    add_machines(&mut names, tree, &plan.listed, plan.machines.as_slice())?;
     Ok(names)
 }

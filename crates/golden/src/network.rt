@@ -1,23 +1,21 @@
 //! The network of a plan: its steps, and the line of each channel.
 ghost use Rattle.std.specs.Prelude.{◌≡◌, ◌-◌, ◌<◌, ◌^◌, ◌++◌, IfOk, None, codes, decimal, length, slice_index_or, string_bytes};
-ghost use Rattle.gg_build.specs.Build.{IsToRun};
 ghost use Rattle.gg_replay.specs.Log.{AreFronts};
 ghost use Rattle.gg_steps.specs.Cause.{cause_text};
-ghost use Rattle.golden.specs.Endings.{IfRefused, PrintsOn};
+ghost use Rattle.gg_told.specs.Endings.{IfRefused, PrintsOn, PrintsOrStops};
 ghost use Rattle.golden.specs.Replay.{stopped_by};
-ghost use Rattle.golden.specs.Replayed.{NetEnds, net_line, net_text};
-ghost use Rattle.golden.specs.WentOn.{SinkWentOn};
+ghost use Rattle.golden.specs.Replayed.{IsNetText, IsToReplay, TellsStop, net_line, net_text};
+ghost use Rattle.gg_told.specs.Ends.{puts_of};
+ghost use Rattle.gg_told.specs.WentOn.{SinkWentOn};
 
-use crate::endings::{Ending, end_with, make_refusal, text_with_number};
-use crate::writing::put;
+use crate::case::Fed;
 use gg_build::{Node, build};
 use gg_cut::Plan;
 use gg_io::Sink;
 use gg_net::{Event, Net, Refusal, Streams};
-use gg_order::Design;
 use gg_replay::{Log, Stop, channel_line, replay};
 use gg_steps::{StepNames, cause_text};
-use gg_trace::Trace;
+use gg_told::{Ending, end_with, make_refusal, put, text_with_number};
 use std::alloc::{AllocError, Global};
 
 // Writes the line of a channel.
@@ -108,23 +106,21 @@ fn end_at_step(
     }
 }
 
-/// Does these steps on the network of a plan, and prints a line for each channel.
+/// Does these steps on the network of the plan, and prints a line for each channel.
 pub(crate) fn replay_net<Z: Streams, K: Sink>(
     alloc: Global,
-    design: &Design,
-    plan: &Plan,
-    inputs: &Trace,
+    fed: &Fed,
     names: &StepNames<'_>,
     events: &[Option<Event>],
     out: &mut K,
 ) -> Result<(), Ending>
-    requires few { length plan.now.channels < 2 ^ 32 }
-    requires run { IsToRun plan.now inputs.now.columns inputs.now.rows Z.flow }
-    ensures ended { NetEnds plan.now inputs.now.columns inputs.now.rows Z.flow names.now events.now K.Sink out.old out.new result }
+    requires few { length fed.now.case.cut.plan.channels < 2 ^ 32 }
+    requires run { IsToReplay fed.now Z.flow }
+    ensures ended { PrintsOrStops (puts_of K.Sink out.old out.new) (IsNetText fed.now Z.flow events.now) (TellsStop fed.now Z.flow names.now events.now) result }
     ensures out { SinkWentOn K.Sink out.old out.new }
 {
-    let _ = design;
-    let mut net = build::<Z>(alloc, plan, inputs)?;
+    let plan = &fed.case.cut.plan;
+    let mut net = build::<Z>(alloc, plan, &fed.trace)?;
     net.kept();
     let mut log = Log::new(alloc, net.channels())?;
     match replay(&mut net, events, &mut log) {

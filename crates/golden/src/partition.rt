@@ -1,27 +1,39 @@
-//! Reading of the partition's file, and its check for a circuit.
+//! Reading of the partition's file, and the cut of the circuit that it asks for.
 ghost use Rattle.std.specs.Prelude.{◌≡◌, ◌≢◌, ◌≤◌, ◌++◌, ℕ, List, IfOk, IfErr, Some, None, codes, length, string_bytes};
 ghost use Rattle.gg_cut.specs.Fault as cut;
+ghost use Rattle.gg_cut.specs.Plan.{IsPlan};
+ghost use Rattle.gg_moved.specs.KeepsToTree.{KeepsToTree};
+ghost use Rattle.gg_words.specs.Range.{IsCapacity};
 ghost use Rattle.gg_cut.specs.declared.fault.CutFault.{CutFault};
 ghost use Rattle.gg_cut.specs.declared.fault.CutFault.TheVariants as cut_fault;
 ghost use Rattle.gg_partfile.specs.Fault as file;
 ghost use Rattle.gg_partfile.specs.Partition.{IsPartition};
 ghost use Rattle.gg_partfile.specs.declared.fault.PartFault.TheVariants as file_fault;
-ghost use Rattle.golden.specs.Endings.{IfRefused, IsRefusedBy};
+ghost use Rattle.gg_told.specs.Endings.{IfRefused, IsRefusedBy};
+ghost use Rattle.golden.specs.Limits.{partition_limit};
 ghost use Rattle.golden.specs.Lines.{partition_fault};
-ghost use Rattle.golden.specs.Order.{CanBe};
+ghost use Rattle.gg_told.specs.Order.{CanBe};
 ghost use Rattle.golden.specs.Partition.{Cuts, partition_file_of};
-ghost use Rattle.golden.specs.WentOn.{ShelfWentOn};
+ghost use Rattle.gg_told.specs.Ends.{loads_of};
+ghost use Rattle.gg_told.specs.WentOn.{ShelfWentOn};
 
-use crate::endings::{Ending, end_with, make_refusal};
-use crate::loading::load;
-use gg_cut::{CutFault, judge};
+use crate::limits::PARTITION_LIMIT;
+use gg_cut::{CutFault, Plan};
 use gg_io::Shelf;
 use gg_order::Design;
 use gg_partfile::{PartFault, Request};
+use gg_plan::cut;
+use gg_told::{Ending, end_with, load, make_refusal};
 use std::alloc::{AllocError, Global};
 
-// The most bytes that a partition may have.
-const PARTITION_LIMIT: u64 = 1_048_576;
+/// A request without a fault for a design, and the plan of its cut.
+#[derive(Drop)]
+pub(crate) struct Cut {
+    /// The request.
+    pub(crate) request: Request,
+    /// The plan.
+    pub(crate) plan: Plan,
+}
 
 // The ending for a partition with the fault that has this text.
 fn end_at_fault(alloc: Global, text: &str) -> Ending
@@ -72,7 +84,7 @@ fn end_at_request(alloc: Global, fault: &CutFault) -> Ending
 
 // The request that the bytes of a partition's file hold.
 fn request_of(alloc: Global, bytes: &[u8]) -> Result<Request, Ending>
-    requires { length bytes.now ≤ 1048576 }
+    requires { length bytes.now ≤ partition_limit }
     ensures asks { IfOk result (IsPartition bytes.now) }
     ensures small { IfOk result cut.IsSmall }
     ensures refused { IfErr result (IfRefused (λ said. (key : List ℕ) × file.IsRefused bytes.now key × (said ≡ partition_fault (codes "P1 " ++ key)))) }
@@ -83,32 +95,44 @@ fn request_of(alloc: Global, bytes: &[u8]) -> Result<Request, Ending>
     }
 }
 
-// Checks that a request has no fault for a design.
-fn judge_request(alloc: Global, design: &Design, request: &Request) -> Result<(), Ending>
-    requires { cut.IsSmall request.now }
-    ensures faultless { IfOk result (λ _. cut.first_fault design.now request.now ≡ None) }
-    ensures refused { IfErr result (IfRefused (λ said. (fault : CutFault) × (cut.first_fault design.now request.now ≡ Some fault) × (said ≡ partition_fault (cut.fault_text fault)))) }
+// The cut of a design that a request asks for, if the request has no fault.
+fn cut_request(
+    alloc: Global,
+    design: &Design,
+    request: Request,
+    capacity: u32,
+) -> Result<Cut, Ending>
+    requires small { cut.IsSmall request }
+    requires keeps { KeepsToTree design.now.circuit design.now.tree }
+    requires range { IsCapacity capacity }
+    ensures faultless { IfOk result (λ _. cut.first_fault design.now request ≡ None) }
+    ensures request { IfOk result (λ cut. cut.request ≡ request) }
+    ensures planned { IfOk result (λ cut. IsPlan design.now request capacity cut.plan) }
+    ensures refused { IfErr result (IfRefused (λ said. (fault : CutFault) × (cut.first_fault design.now request ≡ Some fault) × (said ≡ partition_fault (cut.fault_text fault)))) }
 {
-    match judge(alloc, design, request) {
-        Ok(_) => Ok(()),
+    match cut(alloc, design, &request, capacity) {
+        Ok(plan) => Ok(Cut { request, plan }),
         Err(fault) => Err(end_at_request(alloc, &fault)),
     }
 }
 
-/// The request that the partition's file holds, if it has no fault for the design.
-pub(crate) fn read_partition<S: Shelf>(
+/// The cut that the partition's file asks for, if its request has no fault for the design.
+pub(crate) fn read_cut<S: Shelf>(
     alloc: Global,
     shelf: &mut S,
     name: &str,
     design: &Design,
-) -> Result<Request, Ending>
-    ensures accepted { IfOk result (λ request. (bytes : List ℕ) × CanBe (S.files shelf.old) (partition_file_of design.now name.now) bytes × Cuts design.now bytes request) }
-    ensures small { IfOk result cut.IsSmall }
-    ensures refused { IfErr result (IfRefused (IsRefusedBy S.Shelf shelf.old shelf.new (partition_file_of design.now name.now))) }
+    capacity: u32,
+) -> Result<Cut, Ending>
+    requires keeps { KeepsToTree design.now.circuit design.now.tree }
+    requires range { IsCapacity capacity }
+    ensures accepted { IfOk result (λ cut. (bytes : List ℕ) × CanBe (S.files shelf.old) (partition_file_of design.now name.now) bytes × Cuts design.now bytes cut.request) }
+    ensures planned { IfOk result (λ cut. IsPlan design.now cut.request capacity cut.plan) }
+    ensures refused { IfErr result (IfRefused (IsRefusedBy (loads_of S.Shelf shelf.old shelf.new) (partition_file_of design.now name.now))) }
     ensures shelf { ShelfWentOn S.Shelf shelf.old shelf.new }
 {
     let bytes = load(alloc, shelf, name, PARTITION_LIMIT)?;
     let request = request_of(alloc, bytes.as_slice())?;
-    judge_request(alloc, design, &request)?;
-    Ok(request)
+    let cut = cut_request(alloc, design, request, capacity)?;
+    Ok(cut)
 }

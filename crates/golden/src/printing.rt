@@ -10,15 +10,14 @@ ghost use Rattle.gg_refsim.specs.Cycle.{Cycle};
 ghost use Rattle.gg_trace.specs.Printing.{row_line, trace_text};
 ghost use Rattle.gg_flat.specs.Ports.{out_ports};
 ghost use Rattle.golden.specs.RunText.{out_columns};
-ghost use Rattle.golden.specs.Endings.{Prints, PrintsOn};
-ghost use Rattle.golden.specs.WentOn.{SinkWentOn};
+ghost use Rattle.gg_told.specs.Endings.{Prints, PrintsOn};
+ghost use Rattle.gg_told.specs.WentOn.{SinkWentOn};
 
-use crate::endings::Ending;
-use crate::writing::put;
 use gg_flat::{Ports, runs_along, settled_once};
 use gg_io::Sink;
 use gg_order::Design;
 use gg_refsim::Mono;
+use gg_told::{Ending, put};
 use gg_trace::{Trace, header_text, row_text};
 use std::alloc::Global;
 
@@ -109,6 +108,9 @@ pub(crate) fn print_run<K: Sink>(
     let _ = design.order();
     let piece = design.piece();
     let ports = piece.out_ports(alloc)?;
-    let mut mono = Mono::new(alloc, design)?;
+    let mut mono = match Mono::new(alloc, design) {
+        Ok(mono) => mono,
+        Err(_) => return Err(Ending::NoMemory),
+    };
     print_all(alloc, &mut mono, &ports, inputs, out)
 }

@@ -4,27 +4,24 @@ ghost use Rattle.gg_front.specs.Fault.{front_text};
 ghost use Rattle.gg_front.specs.Meaning.{MeansDesign};
 ghost use Rattle.gg_front.specs.declared.fault.FrontFault.TheVariants as front;
 ghost use Rattle.gg_flat.specs.Run.{IsColumns};
+ghost use Rattle.gg_moved.specs.KeepsToTree.{KeepsToTree};
 ghost use Rattle.gg_trace.specs.declared.faults.TraceFault.TheVariants.{NoMemory};
 ghost use Rattle.gg_trace.specs.FaultText.{fault_words};
 ghost use Rattle.golden.specs.Lines.{circuit_fault, trace_fault};
-ghost use Rattle.golden.specs.Order.{CanBe};
+ghost use Rattle.gg_told.specs.Order.{CanBe};
 ghost use Rattle.golden.specs.Run.{circuit_file, trace_file_of};
 ghost use Rattle.golden.specs.RunText.{FeedsOnly};
-ghost use Rattle.golden.specs.Endings.{IfRefused, IsRefusedBy};
-ghost use Rattle.golden.specs.WentOn.{ShelfWentOn};
+ghost use Rattle.gg_told.specs.Endings.{IfRefused, IsRefusedBy};
+ghost use Rattle.gg_told.specs.Ends.{loads_of};
+ghost use Rattle.gg_told.specs.WentOn.{ShelfWentOn};
 
-use crate::endings::{Ending, end_with, make_refusal};
-use crate::loading::load;
+use crate::limits::{CIRCUIT_LIMIT, TRACE_LIMIT};
 use gg_front::{FrontFault, front};
 use gg_io::Shelf;
 use gg_order::Design;
+use gg_told::{Ending, end_with, load, make_refusal};
 use gg_trace::{Trace, TraceFault, read_trace};
 use std::alloc::{AllocError, Global};
-
-// The most bytes that a circuit and a trace may have.
-const CIRCUIT_LIMIT: u64 = 4_194_304;
-
-const TRACE_LIMIT: u64 = 67_108_864;
 
 // The text of a fault of a circuit.
 fn fault_text(alloc: Global, fault: &FrontFault) -> Result<String, AllocError>
@@ -53,7 +50,8 @@ pub(crate) fn read_circuit<S: Shelf>(
     name: &str,
 ) -> Result<Design, Ending>
     ensures accepted { IfOk result (λ design. (bytes : List ℕ) × CanBe (S.files shelf.old) (circuit_file name.now) bytes × MeansDesign bytes design) }
-    ensures refused { IfErr result (IfRefused (IsRefusedBy S.Shelf shelf.old shelf.new (circuit_file name.now))) }
+    ensures keeps { IfOk result (λ design. KeepsToTree design.circuit design.tree) }
+    ensures refused { IfErr result (IfRefused (IsRefusedBy (loads_of S.Shelf shelf.old shelf.new) (circuit_file name.now))) }
     ensures shelf { ShelfWentOn S.Shelf shelf.old shelf.new }
 {
     let bytes = load(alloc, shelf, name, CIRCUIT_LIMIT)?;
@@ -86,7 +84,7 @@ pub(crate) fn read_inputs<S: Shelf>(
     ensures accepted { IfOk result (λ trace. (bytes : List ℕ) × CanBe (S.files shelf.old) (trace_file_of design.now.circuit name.now) bytes
         × FeedsOnly design.now.circuit bytes trace.rows trace.columns) }
     ensures fed { IfOk result (λ trace. IsColumns design.now.circuit trace.rows trace.columns) }
-    ensures refused { IfErr result (IfRefused (IsRefusedBy S.Shelf shelf.old shelf.new (trace_file_of design.now.circuit name.now))) }
+    ensures refused { IfErr result (IfRefused (IsRefusedBy (loads_of S.Shelf shelf.old shelf.new) (trace_file_of design.now.circuit name.now))) }
     ensures shelf { ShelfWentOn S.Shelf shelf.old shelf.new }
 {
     let bytes = load(alloc, shelf, name, TRACE_LIMIT)?;

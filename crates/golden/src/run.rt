@@ -1,56 +1,20 @@
 //! The command `run`.
-ghost use Rattle.std.specs.Prelude.{◌≡◌, ℕ, List};
-ghost use Rattle.gg_front.specs.Meaning.{Means, MeansDesign};
-ghost use Rattle.golden.specs.Run.{run_order, partition_order, trace_order};
-ghost use Rattle.golden.specs.Endings.{EndedOn};
-ghost use Rattle.golden.specs.WentOn.{ShelfWentOn, SinkWentOn};
+ghost use Rattle.std.specs.Prelude.{◌≤◌};
+ghost use Rattle.gg_words.specs.Range.{IsCapacity};
+ghost use Rattle.golden.specs.Commands.{asking, fed_order};
+ghost use Rattle.gg_told.specs.Endings.{EndedOn};
+ghost use Rattle.gg_told.specs.Order.{Write};
+ghost use Rattle.golden.specs.Run.{IsTextOf};
+ghost use Rattle.gg_told.specs.Ends.{loads_of, puts_of};
+ghost use Rattle.gg_told.specs.WentOn.{ShelfWentOn, SinkWentOn};
 
-use crate::endings::Ending;
-use crate::partition::read_partition;
+use crate::case::read_fed;
 use crate::printing::print_run;
-use crate::reading::{read_circuit, read_inputs};
 use gg_flat::run_once;
 use gg_front::one_meaning;
 use gg_io::{Shelf, Sink};
-use gg_order::Design;
+use gg_told::Ending;
 use std::alloc::Global;
-
-// `run`, after the circuit was read and the partition was accepted.
-fn run_trace<S: Shelf, K: Sink>(
-    alloc: Global,
-    design: &Design,
-    trace: &str,
-    shelf: &mut S,
-    out: &mut K,
-) -> Result<(), Ending>
-    ensures ended { (circuit : List ℕ) → Means circuit design.now.circuit → EndedOn S.Shelf K.Sink shelf.old shelf.new out.old out.new (trace_order circuit trace.now) result }
-    ensures shelf { ShelfWentOn S.Shelf shelf.old shelf.new }
-    ensures out { SinkWentOn K.Sink out.old out.new }
-{
-    one_meaning();
-    run_once();
-    // for the design's invariant on its order
-    let _ = design.order();
-    let inputs = read_inputs(alloc, shelf, trace, design)?;
-    print_run(alloc, design, &inputs, out)
-}
-
-// `run`, after the circuit was read.
-fn run_design<S: Shelf, K: Sink>(
-    alloc: Global,
-    design: &Design,
-    partition: &str,
-    trace: &str,
-    shelf: &mut S,
-    out: &mut K,
-) -> Result<(), Ending>
-    ensures ended { (circuit : List ℕ) → MeansDesign circuit design.now → EndedOn S.Shelf K.Sink shelf.old shelf.new out.old out.new (partition_order circuit partition.now trace.now) result }
-    ensures shelf { ShelfWentOn S.Shelf shelf.old shelf.new }
-    ensures out { SinkWentOn K.Sink out.old out.new }
-{
-    let _request = read_partition(alloc, shelf, partition, design)?;
-    run_trace(alloc, design, trace, shelf, out)
-}
 
 /// `run`: reads the circuit, the partition and the trace, and writes the text of the circuit's run.
 pub(crate) fn run<S: Shelf, K: Sink>(
@@ -58,13 +22,17 @@ pub(crate) fn run<S: Shelf, K: Sink>(
     circuit: &str,
     partition: &str,
     trace: &str,
+    capacity: u32,
     shelf: &mut S,
     out: &mut K,
 ) -> Result<(), Ending>
-    ensures ended { EndedOn S.Shelf K.Sink shelf.old shelf.new out.old out.new (run_order circuit.now partition.now trace.now) result }
+    requires { IsCapacity capacity }
+    ensures ended { EndedOn (loads_of S.Shelf shelf.old shelf.new) (puts_of K.Sink out.old out.new) (fed_order (asking circuit.now partition.now capacity) trace.now (λ c p t. Write (IsTextOf c t))) result }
     ensures shelf { ShelfWentOn S.Shelf shelf.old shelf.new }
     ensures out { SinkWentOn K.Sink out.old out.new }
 {
-    let design = read_circuit(alloc, shelf, circuit)?;
-    run_design(alloc, &design, partition, trace, shelf, out)
+    one_meaning();
+    run_once();
+    let fed = read_fed(alloc, shelf, circuit, partition, trace, capacity)?;
+    print_run(alloc, &fed.case.design, &fed.trace, out)
 }

@@ -1,11 +1,11 @@
 //! The words of a call that aren't a command.
 ghost use Rattle.std.specs.Prelude.{◌≡◌, ◌≢◌};
-ghost use Rattle.golden.specs.Endings.{IfRefused};
+ghost use Rattle.gg_told.specs.Endings.{IfRefused};
 ghost use Rattle.golden.specs.Lines.{bad_number, no_command};
 ghost use Rattle.golden.specs.Words.{TellsWords};
 ghost use Rattle.gg_words.specs.declared.command.WordFault.{WordFault};
 
-use crate::endings::{Ending, end_with, make_refusal};
+use gg_told::{Ending, end_with, make_refusal};
 use gg_words::WordFault;
 use std::alloc::Global;
 

@@ -9,8 +9,6 @@
 #[cfg(test)]
 mod clocks;
 #[cfg(test)]
-mod files;
-#[cfg(test)]
 mod logs;
 #[cfg(test)]
 mod measures;
@@ -22,7 +20,5 @@ mod networks;
 mod pieces;
 #[cfg(test)]
 mod simulators;
-#[cfg(test)]
-mod texts;
 #[cfg(test)]
 mod trays;

@@ -1,12 +1,9 @@
 //! gg_measure: what is left to do in a network, and doing it in two orders.
-ghost use Rattle.std.specs.Prelude.{◌≡◌, ◌<◌, ◌≤◌, ℕ, true, length};
-ghost use Rattle.gg_measure.specs.Nets.{cycle_at};
-
 use crate::networks::{Case, is_network};
-use crate::texts::{FOUR_PORTS, FOUR_PORTS_TRACE, PAIR, PAIR_TRACE};
 use gg_build::Node;
 use gg_measure::{left, possible, run_to, run_to_end};
 use gg_net::{Event, Net, Refusal, Streams};
+use net_calls::{FOUR_PORTS, FOUR_PORTS_TRACE, PAIR, PAIR_TRACE, is_at_most, keeps};
 use std::test::Fail;
 
 // Does the steps that `possible` answers, one after another. Returns how many were done, at most this many.
@@ -20,19 +17,6 @@ fn follow<Z: Streams>(net: &mut Net<Node<'_>, Z>, most: u64) -> u64 {
         }
     }
     most
-}
-
-// Whether no machine is above a cycle.
-fn is_at_most<Z: Streams>(net: &Net<Node<'_>, Z>, cycle: u64) -> bool
-    ensures { result ≡ true → (m : ℕ) → m < length net.now.machines → cycle_at net.now m ≤ cycle }
-{
-    net.within_limits();
-    for machine in 0..net.machines() {
-        if net.cycle(machine as u32) > cycle {
-            return false;
-        }
-    }
-    true
 }
 
 // Runs a network that is before its first cycle to cycle 1, and then to its end. Returns whether what was left at cycle
@@ -90,22 +74,6 @@ fn are_alike<Z: Streams>(one: &Net<Node<'_>, Z>, other: &Net<Node<'_>, Z>, case:
         }
     }
     true
-}
-
-// Whether the last machine of a network is a tray that keeps these values, one for each cycle from 0 on.
-fn keeps<Z: Streams>(net: &Net<Node<'_>, Z>, values: &[u128]) -> bool {
-    net.within_limits();
-    let machines = net.machines();
-    if machines == 0 {
-        return false;
-    }
-    let tray = net.host((machines - 1) as u32);
-    for (cycle, value) in values.iter().enumerate() {
-        if tray.value(cycle as u64) != Some(*value) {
-            return false;
-        }
-    }
-    tray.value(values.len() as u64).is_none()
 }
 
 // Whether two networks end alike, of which the one goes as `possible` answers and the other as `run_to` does. Both are

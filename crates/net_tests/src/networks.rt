@@ -2,11 +2,10 @@
 ghost use Rattle.std.specs.Prelude.{◌≡◌, ◌<◌, length};
 ghost use Rattle.gg_build.specs.Build.{IsToRun};
 ghost use Rattle.gg_cut.specs.Fault.{IsSmall};
+ghost use Rattle.gg_moved.specs.KeepsToTree.{KeepsToTree};
 ghost use Rattle.gg_flat.specs.Run.{IsColumns};
 
-use crate::files::{design_of, inputs_of, request_of};
 use crate::measures::end_alike;
-use crate::texts::{COUNTER, COUNTER_TRACE, THREE_CYCLES, memory};
 use gg_build::{Node, build};
 use gg_cut::Plan;
 use gg_net::{Event, Net, Refusal, Streams};
@@ -14,6 +13,7 @@ use gg_order::Design;
 use gg_partfile::Request;
 use gg_plan::cut;
 use gg_trace::Trace;
+use net_calls::{COUNTER, COUNTER_TRACE, THREE_CYCLES, design_of, inputs_of, memory, request_of};
 use std::alloc::{AllocError, Global};
 use std::marker::Brand;
 use std::test::Fail;
@@ -215,12 +215,12 @@ fn is_built<Z: Streams>(
 // Whether the network of a design and a request runs as expected, for channels of capacity 1.
 fn is_cut(alloc: Global, design: &Design, request: &Request, inputs: &Trace, case: &Case) -> bool
     requires small { IsSmall request.now }
+    requires keeps { KeepsToTree design.now.circuit design.now.tree }
     requires fed { IsColumns design.now.circuit inputs.now.rows inputs.now.columns }
 {
     // for the design's invariant on its parts
     let _ = design.order();
     let _ = design.piece();
-    let _ = design.tree();
     let _ = inputs.rows();
     match cut(alloc, design, request, 1) {
         Ok(plan) => is_built::<Brand>(alloc, design, &plan, inputs, case),
@@ -232,7 +232,9 @@ fn is_cut(alloc: Global, design: &Design, request: &Request, inputs: &Trace, cas
 }
 
 // Whether the network of a design and a partition runs as expected on a trace.
-fn is_fed(alloc: Global, design: &Design, partition: &str, trace: &str, case: &Case) -> bool {
+fn is_fed(alloc: Global, design: &Design, partition: &str, trace: &str, case: &Case) -> bool
+    requires { KeepsToTree design.now.circuit design.now.tree }
+{
     match request_of(alloc, partition) {
         Some(request) => match inputs_of(alloc, design, trace) {
             Some(inputs) => is_cut(alloc, design, &request, &inputs, case),

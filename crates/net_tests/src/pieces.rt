@@ -3,8 +3,6 @@ ghost use Rattle.std.specs.Prelude.{◌≡◌, [], length};
 ghost use Rattle.gg_flat.specs.WellFormed.{IsWellFormed};
 ghost use Rattle.gg_part.specs.InOrder.{IsInOrder};
 
-use crate::files::design_of;
-use crate::texts::{PASS, TOGGLE};
 use gg_bits::Name;
 use gg_fame1::{NoMemory, Unit};
 use gg_flat::{Piece, State};
@@ -12,6 +10,7 @@ use gg_needs::needs_of;
 use gg_node::Host;
 use gg_order::Design;
 use gg_program::Program;
+use net_calls::{PASS, TOGGLE, design_of};
 use std::alloc::{AllocError, Global};
 use std::test::Fail;
 

@@ -3,12 +3,13 @@ ghost use Rattle.std.specs.Prelude.{◌≡◌, ◌<◌, ◌+◌, length};
 ghost use Rattle.gg_flat.specs.Run.{IsColumns};
 ghost use Rattle.gg_flat.specs.Settled.{IsInputs};
 
-use crate::files::{design_of, inputs_of};
-use crate::texts::{COUNTER, COUNTER_TRACE, DUAL, HALT, SIX_CYCLES, THREE_CYCLES, memory};
 use gg_clocks::Ratio;
 use gg_order::Design;
 use gg_refsim::Mono;
 use gg_trace::Trace;
+use net_calls::{
+    COUNTER, COUNTER_TRACE, DUAL, HALT, SIX_CYCLES, THREE_CYCLES, design_of, inputs_of, memory,
+};
 use std::alloc::{AllocError, Global};
 use std::test::Fail;
 

@@ -2,13 +2,13 @@ use Rattle.gg_closed.proofs.OwnerLemmas.{signal-owner, instance-owner, memory-ow
 use Rattle.gg_closed.proofs.laws.owner_by_path.Goals as goal
 
 pub returns-clause-signals : goal.returns-clause-signals
-returns-clause-signals c = λ design request s m is none lt. signal-owner design request is none s m lt
+returns-clause-signals c = λ design request s m is keeps none lt. signal-owner design request keeps none s m lt
 
 pub returns-clause-instances : goal.returns-clause-instances
-returns-clause-instances c = λ design request k m is none lt. instance-owner design request is none k m lt
+returns-clause-instances c = λ design request k m is keeps none lt. instance-owner design request keeps none k m lt
 
 pub returns-clause-names : goal.returns-clause-names
-returns-clause-names c = λ design request k is lt. machine-name design request k is lt
+returns-clause-names c = λ design request k is keeps lt. machine-name design request k keeps lt
 
 pub returns-clause-memories : goal.returns-clause-memories
-returns-clause-memories c = λ design request j m is none lt. memory-owner design request is none j m lt
+returns-clause-memories c = λ design request j m is keeps none lt. memory-owner design request keeps none j m lt

@@ -3,14 +3,14 @@ use Rattle.std.specs.Prelude.{All}
 use Rattle.gg_cut.specs.declared.plan.Channel.{Channel}
 use Rattle.gg_plan.specs.Made.{IsCapacity}
 use Rattle.gg_cut.specs.declared.listed.Listed.{Listed}
-use Rattle.gg_cut.specs.Channels.{machine_count}
+use Rattle.gg_cut.specs.Machines.{machine_count}
 use Rattle.gg_closed.proofs.FaultlessLemmas.{range-free}
 use Rattle.gg_plan.proofs.FaultlessLemmas.{few-machines}
 use Rattle.gg_plan.proofs.PlanLemmas.{units-count, bounds-sound}
 use Rattle.gg_plan.proofs.build.plan_of.Goals as goal
 
 pub machines_of-requires-clause-units : goal.machines_of-requires-clause-units
-machines_of-requires-clause-units c = units-count c.args.design.now c.args.request.now c.args.listed.now c.requires.listed
+machines_of-requires-clause-units c = units-count c.args.design.now c.args.request.now c.args.listed c.requires.listed
 
 pub machines_of-requires-clause-few : goal.machines_of-requires-clause-few
 machines_of-requires-clause-few c =

@@ -1,21 +1,27 @@
 use Rattle.std.proofs.Common.{◌+◌, ◌<◌, length, subst, sym, arith}
 use Rattle.gg_program.proofs.EvaluateLemmas.{IsInner-unmarked, IsSettling, IsSettling-skip, IsSettling-step}
+use Rattle.gg_program.proofs.UnsetLemmas.{rest-step, rest-skip}
 use Rattle.gg_program.proofs.evaluate.work_rest.Goals as goal
 use Rattle.gg_program.proofs.evaluate.work_rest.Goals.{then-not-marks-signal, else-not-marks-signal}
 
 pub loop-signal-preserved : goal.loop-signal-preserved
-loop-signal-preserved c =
+loop-signal-preserved g c =
     let circuit = c.args.piece.now in
     let marks = c.args.marks.now in
     let k = c.loop-signal.signal in
     let known : k < length circuit.signals = omega (arith, c.loop-signal-test.true, c.signal_count-signal-end.ensures.count) in
+    let first = c.args.steps.now in
     elim c.if-not-marks-signal.branch [
       | then-not-marks-signal w ↦
-          subst (IsSettling circuit c.args.state.now marks c.args.values.now (k + 1)) (sym w.values-is)
-          (IsSettling-step circuit c.args.state.now marks c.args.values.now k c.loop-signal.values w.worked-value.result c.requires.formed c.requires.ordered
-          (IsInner-unmarked circuit marks k c.requires.formed c.requires.inputs known w.if-not-marks-signal.true)
-          w.worked-value.ensures.value w.worked-value.ensures.fits c.loop-signal.invariant)
-      | else-not-marks-signal w ↦
-          subst (IsSettling circuit c.args.state.now marks c.args.values.now (k + 1)) (sym w.values-is)
-          (IsSettling-skip circuit c.args.state.now marks c.args.values.now k c.loop-signal.values w.if-not-marks-signal.false c.loop-signal.invariant)
+          let inner = IsInner-unmarked circuit marks k c.requires.formed c.requires.inputs known w.if-not-marks-signal.true in (
+            subst (IsSettling circuit c.args.state.now marks c.args.values.now (k + 1)) (sym w.values-is)
+                (IsSettling-step circuit c.args.state.now marks c.args.values.now k c.loop-signal.values w.worked-value.result c.requires.formed c.requires.ordered inner
+                w.worked-value.ensures.value w.worked-value.ensures.fits c.loop-signal.invariant.0),
+            omega (arith, rest-step circuit marks first c.loop-signal.steps k inner w.if-not-marks-signal.true c.loop-signal.invariant.1, w.worked-value.ensures.steps, w.steps-is),
+          )
+      | else-not-marks-signal w ↦ (
+        subst (IsSettling circuit c.args.state.now marks c.args.values.now (k + 1)) (sym w.values-is)
+            (IsSettling-skip circuit c.args.state.now marks c.args.values.now k c.loop-signal.values w.if-not-marks-signal.false c.loop-signal.invariant.0),
+        omega (arith, rest-skip circuit marks first c.loop-signal.steps k c.loop-signal.invariant.1, w.steps-is),
+      )
     ]

@@ -10,7 +10,7 @@ use Rattle.gg_program.proofs.RightLemmas.{inner-source, IsInputs-values}
 use Rattle.gg_program.proofs.evaluate.worked.Goals as goal
 
 pub driven-requires-clause-source : goal.driven-requires-clause-source
-driven-requires-clause-source c =
+driven-requires-clause-source g c =
     let circuit = c.args.piece.now in
     let values = c.args.values.now in
     let state = c.args.state.now in

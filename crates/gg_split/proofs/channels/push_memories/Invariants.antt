@@ -1,5 +1,6 @@
 use Rattle.std.proofs.Common.{◌≡◌, ◌++◌, take}
-use Rattle.gg_cut.specs.Channels.{numbered, field_wires, first_memory}
+use Rattle.gg_cut.specs.Machines.{first_memory}
+use Rattle.gg_cut.specs.Channels.{numbered, field_wires}
 use Rattle.gg_split.proofs.channels.push_memories.Given as goal
 
 abbrev pub invariant-loop-place : goal.invariant-loop-place

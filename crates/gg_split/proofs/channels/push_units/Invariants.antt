@@ -1,5 +1,6 @@
 use Rattle.std.proofs.Common.{◌≡◌, ◌++◌, take}
-use Rattle.gg_cut.specs.Channels.{numbered, port_wires, first_unit}
+use Rattle.gg_cut.specs.Machines.{first_unit}
+use Rattle.gg_cut.specs.Channels.{numbered, port_wires}
 use Rattle.gg_split.proofs.channels.push_units.Given as goal
 
 abbrev pub invariant-loop-place : goal.invariant-loop-place

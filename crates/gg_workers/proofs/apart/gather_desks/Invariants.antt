@@ -1,6 +1,7 @@
 use Rattle.std.proofs.Common.{length, map}
 use Rattle.gg_net.specs.Seats.{machines_by}
-use Rattle.gg_workers.specs.Apart.{consumer_in, producer_in, DesksBack, TakeSeatOf, PutSeatOf}
+use Rattle.gg_seats.specs.Seats.{TakeSeatOf, PutSeatOf}
+use Rattle.gg_workers.specs.Apart.{consumer_in, producer_in, DesksBack}
 use Rattle.gg_workers.proofs.apart.gather_desks.Given as goal
 
 abbrev pub invariant-loop-desk : goal.invariant-loop-desk

@@ -1,11 +1,12 @@
 use Rattle.std.proofs.Common.{length, map}
 use Rattle.gg_net.specs.Seats.{machines_by}
-use Rattle.gg_workers.specs.Apart.{consumer_in, producer_in, TakeSeatOf, PutSeatOf}
+use Rattle.gg_seats.specs.Seats.{TakeSeatOf, PutSeatOf}
+use Rattle.gg_workers.specs.Apart.{consumer_in, producer_in}
 use Rattle.gg_workers.proofs.ApartLemmas.{rows-more}
 use Rattle.gg_workers.proofs.apart.gather_rows.Goals as goal
 
-pub loop-desks-preserved : goal.loop-desks-preserved
-loop-desks-preserved g c = (
-  rows-more (consumer_in g.E.Era.start) (TakeSeatOf g.L.Link.takes_from g.L.Link.puts_into g.L.Link.taking g.L.Link.putting g.Z.Streams.flow g.E.Era.start c.args.links.now (machines_by (map g.H.Host.machines c.args.hosts.now) c.args.stations.now)) (length g.E.Era.start.wires) c.loop-desks.yielded c.in-Some.desks c.args.takes.now.items c.loop-desks.takes.items c.gather_desks.new.takes.items c.loop-desks.invariant.0 c.gather_desks.ensures.takes,
-  rows-more (producer_in g.E.Era.start) (PutSeatOf g.L.Link.takes_from g.L.Link.puts_into g.L.Link.taking g.L.Link.putting g.Z.Streams.flow g.E.Era.start c.args.links.now (machines_by (map g.H.Host.machines c.args.hosts.now) c.args.stations.now)) (length g.E.Era.start.wires) c.loop-desks.yielded c.in-Some.desks c.args.puts.now.items c.loop-desks.puts.items c.gather_desks.new.puts.items c.loop-desks.invariant.1 c.gather_desks.ensures.puts,
+pub loop-row-preserved : goal.loop-row-preserved
+loop-row-preserved g c = (
+  rows-more (consumer_in g.E.Era.start) (TakeSeatOf g.L.Link.takes_from g.L.Link.puts_into g.L.Link.taking g.L.Link.putting g.Z.Streams.flow g.E.Era.start c.args.links.now (machines_by (map g.H.Host.machines c.args.hosts.now) c.args.stations.now)) (length g.E.Era.start.wires) c.loop-row.yielded c.in-Some.row c.args.takes.now.items c.loop-row.takes.items c.gather_desks.new.takes.items c.loop-row.invariant.0 c.gather_desks.ensures.takes,
+  rows-more (producer_in g.E.Era.start) (PutSeatOf g.L.Link.takes_from g.L.Link.puts_into g.L.Link.taking g.L.Link.putting g.Z.Streams.flow g.E.Era.start c.args.links.now (machines_by (map g.H.Host.machines c.args.hosts.now) c.args.stations.now)) (length g.E.Era.start.wires) c.loop-row.yielded c.in-Some.row c.args.puts.now.items c.loop-row.puts.items c.gather_desks.new.puts.items c.loop-row.invariant.1 c.gather_desks.ensures.puts,
 )

@@ -2,8 +2,8 @@ use Rattle.std.proofs.Common.{◌≡◌, [], length, map, sym, subst, ◌∙◌}
 use Rattle.gg_net.specs.Network.{frame_of}
 use Rattle.gg_net.specs.Net.{AreListed}
 use Rattle.gg_net.specs.Seats.{machines_by}
-use Rattle.gg_seats.specs.Seats.{Linked, MayStand}
-use Rattle.gg_workers.specs.Apart.{TakeSeatOf, PutSeatOf, AreSeats}
+use Rattle.gg_seats.specs.Seats.{Linked, MayStand, TakeSeatOf, PutSeatOf}
+use Rattle.gg_workers.specs.Apart.{AreSeats}
 use Rattle.gg_workers.specs.Booths.{DoneAt, AreBooths}
 use Rattle.gg_workers.proofs.BackLemmas.{count-start, listed-start, linked-back, stand-back, parts-back, later-back, seats-lent}
 use Rattle.gg_workers.proofs.back.close_booths.Goals as goal

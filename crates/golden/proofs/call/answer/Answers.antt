@@ -1,4 +1,4 @@
-use Rattle.golden.proofs.EndingLemmas.{status-answered}
+use Rattle.golden.proofs.CallLemmas.{status-answered}
 use Rattle.golden.proofs.call.answer.Goals as goal
 
 pub returns-clause-answered : goal.returns-clause-answered

@@ -1,4 +1,4 @@
-use Rattle.golden.proofs.OutcomeLemmas.{promised}
+use Rattle.golden.proofs.PromisedLemmas.{promised}
 use Rattle.golden.proofs.call.golden.Goals as goal
 
 pub returns-clause-promised : goal.returns-clause-promised

@@ -1,5 +1,5 @@
 use Rattle.std.proofs.Common.{sym, arith}
-use Rattle.golden.proofs.EndingLemmas.{exit-is}
+use Rattle.gg_told.proofs.EndingLemmas.{exit-is}
 use Rattle.golden.proofs.LineLemmas.{lines-next, lines-stop}
 use Rattle.golden.proofs.checking.print_channels.Goals as goal
 

@@ -1,5 +1,6 @@
-use Rattle.golden.proofs.EndingLemmas.{exit-is}
-use Rattle.golden.proofs.LineLemmas.{plan-first, prints-then}
+use Rattle.gg_told.proofs.EndingLemmas.{exit-is}
+use Rattle.golden.proofs.LineLemmas.{plan-first}
+use Rattle.gg_told.proofs.WritingLemmas.{prints-then}
 use Rattle.golden.proofs.checking.print_plan.Goals as goal
 
 pub returns-in_err-print_machines-clause-prints : goal.returns-in_err-print_machines-clause-prints

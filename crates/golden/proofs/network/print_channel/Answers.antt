@@ -1,9 +1,9 @@
 use Rattle.std.proofs.Common.{List, ℕ, refl, ap, ◌∙◌, subst}
 use Rattle.gg_cut.specs.declared.plan.Channel.{Channel}
-use Rattle.golden.specs.Endings.{PrintsOn}
-use Rattle.golden.proofs.EndingLemmas.{exit-is}
+use Rattle.gg_told.specs.Endings.{PrintsOn}
+use Rattle.gg_told.proofs.EndingLemmas.{exit-is}
 use Rattle.golden.proofs.NetLemmas.{line-of}
-use Rattle.golden.proofs.WritingLemmas.{none-front}
+use Rattle.gg_told.proofs.WritingLemmas.{none-front}
 use Rattle.golden.proofs.network.print_channel.Goals as goal
 
 pub returns-in_err-line-clause-prints : goal.returns-in_err-line-clause-prints

@@ -1,8 +1,8 @@
 use Rattle.std.proofs.Common.{ap, ◌∙◌, refl}
 use Rattle.std.specs.Io.KnownBytes.{append_known}
-use Rattle.golden.proofs.EndingLemmas.{exit-is}
-use Rattle.golden.proofs.PrintingLemmas.{header-stop, prints-more, rose-earlier}
-use Rattle.golden.proofs.WritingLemmas.{none-front}
+use Rattle.gg_told.proofs.EndingLemmas.{exit-is}
+use Rattle.golden.proofs.PrintingLemmas.{header-stop}
+use Rattle.gg_told.proofs.WritingLemmas.{prints-more, rose-earlier, none-front}
 use Rattle.golden.specs.RunText.{out_columns}
 use Rattle.golden.proofs.printing.print_all.Goals as goal
 

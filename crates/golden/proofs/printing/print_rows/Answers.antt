@@ -1,7 +1,7 @@
 use Rattle.std.proofs.Common.{◌≡◌, ◌<◌, ℕ, List, sym, subst, arith}
 use Rattle.gg_flat.specs.Circuit.{FlatCircuit}
 use Rattle.gg_flat.specs.Settled.{IsInputs}
-use Rattle.golden.proofs.EndingLemmas.{exit-is}
+use Rattle.gg_told.proofs.EndingLemmas.{exit-is}
 use Rattle.golden.proofs.PrintingLemmas.{printed-next, printed-stop}
 use Rattle.golden.proofs.printing.print_rows.Goals as goal
 

@@ -1,6 +1,6 @@
 use Rattle.std.proofs.Common.{inr, subst, List, ℕ}
 use Rattle.golden.specs.Run.{TellsCircuit}
-use Rattle.golden.proofs.ReadingLemmas.{IfRefused-map}
+use Rattle.gg_told.proofs.EndingLemmas.{IfRefused-map}
 use Rattle.golden.proofs.reading.read_circuit.Goals as goal
 
 pub returns-clause-refused : goal.returns-clause-refused

@@ -1,6 +1,7 @@
 use Rattle.std.proofs.Common.{◌≡◌, inr}
 use Rattle.gg_flat.specs.Ports.{in_ports}
-use Rattle.golden.proofs.ReadingLemmas.{IfRefused-map, ports-are, ports-distinct, fault-of, feeds-ports, ports-feed, ports-fed}
+use Rattle.gg_told.proofs.EndingLemmas.{IfRefused-map}
+use Rattle.golden.proofs.ReadingLemmas.{ports-are, ports-distinct, fault-of, feeds-ports, ports-feed, ports-fed}
 use Rattle.golden.proofs.reading.read_inputs.Goals as goal
 
 pub read_trace-requires : goal.read_trace-requires

@@ -1,11 +1,24 @@
 use Rattle.std.proofs.Common.{refl}
-use Rattle.golden.proofs.EndingLemmas.{exit-is, refused-ends, accepted-ends}
+use Rattle.gg_told.specs.Ends.{loads_of}
+use Rattle.gg_told.specs.Order.{Load, Write}
+use Rattle.gg_told.proofs.EndingLemmas.{IfRefused-map, exit-is, loads-on, stopped-ends}
+use Rattle.golden.specs.Commands.{asking}
+use Rattle.golden.specs.Replay.{IsReplayOf, steps_file_for}
+use Rattle.golden.proofs.CaseLemmas.{fed-ends, fed-stops}
 use Rattle.golden.proofs.replay.replay.Goals as goal
 
-pub returns-in_err-design-clause-ended : goal.returns-in_err-design-clause-ended
-returns-in_err-design-clause-ended g c = refused-ends refl (exit-is c.from_residual.ensures.1) c.in_err-design.ensures.refused
+pub replay_steps-requires : goal.replay_steps-requires
+replay_steps-requires g c = let read = c.in_ok-fed.ensures.read in (read.read.circuit, read.read.partition, read.bytes, c.args.capacity, read.is)
+
+pub returns-in_err-fed-clause-ended : goal.returns-in_err-fed-clause-ended
+returns-in_err-fed-clause-ended g c =
+    stopped-ends refl (exit-is c.from_residual.ensures.1)
+    (IfRefused-map
+    (λ said. fed-stops (loads_of g.S.Shelf c.args.shelf.now c.read_fed.new.shelf) (asking c.args.circuit.now c.args.partition.now c.args.capacity) c.args.trace.now
+    (λ b p t. Load (steps_file_for b p t c.args.capacity c.args.steps.now) (λ s. Write (IsReplayOf b p t c.args.capacity s))))
+    c.in_err-fed.field-0.0 c.in_err-fed.ensures.refused)
 
 pub returns-clause-ended : goal.returns-clause-ended
 returns-clause-ended g c =
-    let accepted = c.in_ok-design.ensures.accepted in
-    accepted-ends c.read_circuit.ensures.shelf accepted.0 accepted.1 accepted.2.means.text (c.replay_design.ensures.ended accepted.0 accepted.2)
+    let read = c.in_ok-fed.ensures.read in
+    fed-ends (loads-on c.replay_steps.new.shelf c.read_fed.ensures.shelf) read (c.replay_steps.ensures.ended read.read.circuit read.read.partition read.bytes c.args.capacity read.is)

@@ -1,5 +1,5 @@
-use Rattle.std.proofs.Common.{◌≡◌, ◌⊎◌, ℕ, List, Bool, true, length, subst, sym, ap, ◌∙◌, arith}
-use Rattle.std.specs.Prelude.{All, Contains}
+use Rattle.std.proofs.Common.{◌≡◌, ◌≢◌, ◌⊎◌, ℕ, List, Bool, true, length, subst, sym, ap, ◌∙◌, arith}
+use Rattle.std.specs.Prelude.{All, AllPairs, Contains}
 use Rattle.std.proofs.lemmas.List.{with_items_is}
 use Rattle.std.specs.Vec.{with_items}
 use Rattle.gg_order.specs.Marks.{is_marked}
@@ -8,10 +8,12 @@ use Rattle.gg_program.specs.Right.{AreRight, InCycle, IsInner}
 use Rattle.gg_program.specs.Search.{IsGathered, StandBehind}
 use Rattle.gg_program.proofs.GatherLemmas.{IsGathered-moved}
 use Rattle.gg_program.proofs.CycleLemmas.{StandBehind-sorted, found-inner, InCycle-reached}
+use Rattle.gg_program.specs.Unset.{unset_among}
+use Rattle.gg_program.proofs.UnsetLemmas.{unset-found, none-found}
 use Rattle.gg_program.proofs.slots.Slots.reach.Goals as goal
 
 pub work_out-requires-clause-inner : goal.work_out-requires-clause-inner
-work_out-requires-clause-inner c =
+work_out-requires-clause-inner g c =
     let circuit = c.args.piece.now in
     let out = c.args.signal in
     let slots = c.args.self.now in
@@ -21,7 +23,7 @@ work_out-requires-clause-inner c =
     subst (All (IsInner circuit)) (sym c.found.ensures) (found-inner circuit out slots search c.requires.formed c.requires.known c.requires.needed gathered)
 
 pub returns-clause-cycle : goal.returns-clause-cycle
-returns-clause-cycle c =
+returns-clause-cycle g c =
     let circuit = c.args.piece.now in
     let state = c.args.state.now in
     let out = c.args.signal in
@@ -43,3 +45,25 @@ returns-clause-cycle c =
     (subst (λ (l : List ℕ). InCycle circuit state (record { values = values; done = c.forget.new.self.marks; room = length l })) (sym (with_items_is c.self.inside.room room space))
     (subst (λ (l : List Bool). InCycle circuit state (record { values = values; done = l; room = length room })) (sym c.forget.ensures.marks)
     (InCycle-reached circuit state out slots search values (length room) c.requires.cycle.held same c.work_out.ensures.typed gathered right)))
+
+pub returns-clause-steps : goal.returns-clause-steps
+returns-clause-steps g c =
+    let circuit = c.args.piece.now in
+    let out = c.args.signal in
+    let slots = c.args.self.now in
+    let search = c.sort.new.self in
+    let moved = IsGathered-moved circuit out c.self.inside.search.marks c.gather.new.self search c.sort.ensures.marks c.sort.ensures.same c.gather.ensures in
+    let gathered : IsGathered circuit out slots.done search = subst (λ (s : Slotted). IsGathered circuit out s.done search) c.self.view_is moved in
+    let inner : All (IsInner circuit) search.found = found-inner circuit out slots search c.requires.formed c.requires.known c.requires.needed gathered in
+    let once : AllPairs (λ a b. a ≢ b) search.found = c.sort.ensures.once in
+    omega (arith, unset-found circuit out slots.done search once inner gathered, c.work_out.ensures.steps, ap (λ (l : List ℕ). length l) c.found.ensures, ap (unset_among circuit) c.forget.ensures.marks)
+
+pub returns-clause-still : goal.returns-clause-still
+returns-clause-still g c = λ done.
+    let circuit = c.args.piece.now in
+    let out = c.args.signal in
+    let slots = c.args.self.now in
+    let search = c.sort.new.self in
+    let moved = IsGathered-moved circuit out c.self.inside.search.marks c.gather.new.self search c.sort.ensures.marks c.sort.ensures.same c.gather.ensures in
+    let gathered : IsGathered circuit out slots.done search = subst (λ (s : Slotted). IsGathered circuit out s.done search) c.self.view_is moved in
+    omega (arith, none-found circuit out slots search gathered done, c.work_out.ensures.steps, ap (λ (l : List ℕ). length l) c.found.ensures)

@@ -1,0 +1,5 @@
+pub mod CircuitText
+pub mod PartitionText
+pub mod TraceText
+pub mod SummaryText
+pub mod Folded

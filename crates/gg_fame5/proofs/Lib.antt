@@ -1,0 +1,8 @@
+pub mod TokenLemmas
+pub mod ForkLemmas
+pub mod LaneLemmas
+pub mod OpeningLemmas
+pub mod SharedLemmas
+pub mod WorkedPair
+pub mod WorkedMemories
+pub mod WorkedThreads

@@ -1,0 +1,4 @@
+pub mod Machine
+pub mod Fork
+pub mod Lane
+pub mod Shared

@@ -1,0 +1,4 @@
+pub mod EndingLemmas
+pub mod EndsLemmas
+pub mod OrderLemmas
+pub mod WritingLemmas

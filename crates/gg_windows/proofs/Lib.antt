@@ -1,0 +1,5 @@
+pub mod FrameLemmas
+pub mod WindowLemmas
+pub mod TrayLemmas
+pub mod OutputLemmas
+mod WorkedWindows

@@ -1,0 +1,131 @@
+-- The trays of a plan's network have the circuit's outputs.
+use Rattle.std.proofs.Common.{◌≡◌, ℕ, ◌+◌, ◌-◌, ◌<◌, ◌≤◌, List, [], length, sym, ap, ◌∙◌, arith}
+use Rattle.std.proofs.lemmas.List.{get_or-map, get_or_default, length-map, ext_get_or}
+use Rattle.gg_flat.specs.Line.{value_at}
+use Rattle.gg_flat.proofs.ListLemmas.{some-item}
+use Rattle.gg_flat.specs.Run.{column, row_at}
+use Rattle.gg_flat.specs.Streams.{Flow}
+use Rattle.gg_order.specs.Design.{Ordered}
+use Rattle.gg_cut.specs.Channels.{wire, wires_of}
+use Rattle.gg_cut.specs.Machines.{first_tray}
+use Rattle.gg_cut.specs.Listed.{listed_of, owner_of}
+use Rattle.gg_cut.specs.Plan as planned
+use Rattle.gg_cut.specs.Plan.{IsPlan, IsChannel, IsBody}
+use Rattle.gg_cut.specs.declared.listed.Listed.{Listed}
+use Rattle.gg_cut.specs.declared.plan.Body.{Body}
+use Rattle.gg_cut.specs.declared.plan.Body.TheVariants.{Cut, Memory, Source, Tray}
+use Rattle.gg_cut.specs.declared.plan.Channel.{Channel}
+use Rattle.gg_cut.specs.declared.plan.Plan.{Plan}
+use Rattle.gg_cut.specs.declared.wires.Wire as cut
+use Rattle.gg_closed.proofs.KindLemmas.{tray-wire}
+use Rattle.gg_node.specs.Machine.{KeepsLast, Machine, machine_at}
+use Rattle.gg_net.specs.Network.{Network, Frame, Kind, frame_of, kind_of, kind_at, wire_at}
+use Rattle.gg_net.specs.Kept.{Kept, list_at}
+use Rattle.gg_measure.specs.Nets.{AllStandAt}
+use Rattle.gg_sound.specs.Built.{IsBuilt, machine_in, nameless, tray_rows, wires_of_plan}
+use Rattle.gg_sound.proofs.FitLemmas.{kind-is}
+use Rattle.gg_sound.proofs.LinkLemmas.{length-from, wire-from}
+use Rattle.gg_build.specs.Build.{IsToRun, IsOpeningOf}
+use Rattle.gg_windows.specs.Rows.{IsNetOfPlan, outputs_in, told_value}
+use Rattle.gg_windows.proofs.TrayLemmas.{tray-tells}
+
+pub opening-is-net : (plan : Plan) (columns : List (List ℕ)) (n : ℕ) (net : Network) → IsOpeningOf plan columns n net → IsNetOfPlan plan columns n net
+opening-is-net plan columns n net is = record { machines = is.machines; built = is.built; frame = ap frame_of is.is }
+
+pub net-stays : (plan : Plan) (columns : List (List ℕ)) (n : ℕ) (old new : Network) → IsNetOfPlan plan columns n old → frame_of new ≡ frame_of old → IsNetOfPlan plan columns n new
+net-stays plan columns n old new is same = record { machines = is.machines; built = is.built; frame = same ∙ is.frame }
+
+-- a machine of a plan from the first tray on is a tray
+tray-behaves : (design : Ordered) (listed : Listed) (wires : List cut.Wire) (columns : List (List ℕ)) (n m : ℕ) (body : Body) (machine : Machine) → first_tray design.circuit listed ≤ m → IsBody design listed wires m body → IsBuilt columns n body machine
+    → machine.behaviour ≡ KeepsLast (tray_rows n)
+tray-behaves design listed wires columns n m (Cut part) machine low is built = absurd (omega (arith, low, is.0))
+tray-behaves design listed wires columns n m (Memory part) machine low is built = absurd (omega (arith, low, is.1))
+tray-behaves design listed wires columns n m (Source place) machine low is built = absurd (omega (arith, low, is.0, is.1))
+tray-behaves design listed wires columns n m Tray machine low is built = ap (λ (x : Machine). x.behaviour) built
+
+-- ---- the tray of an output
+
+module _ (plan : Plan) (columns : List (List ℕ)) (n : ℕ) (flow : Flow) (run : IsToRun plan columns n flow) (net : Network) (is : IsNetOfPlan plan columns n net) (kept : Kept flow net) where
+  abbrev listed : Listed
+  listed = listed_of run.design.tree run.request
+
+  abbrev wires : List cut.Wire
+  wires = wires_of run.design.circuit run.design.tree listed
+
+  abbrev outs : List ℕ
+  outs = run.design.circuit.outs
+
+  abbrev tray : ℕ → ℕ
+  tray k = first_tray run.design.circuit listed + k
+
+  count : length net.machines ≡ first_tray run.design.circuit listed + length outs
+  count =
+      omega (
+        arith,
+        length-map net.machines kind_of,
+        length-map is.machines kind_of,
+        ap (λ (f : Frame). length f.kinds) is.frame,
+        is.built.count,
+        run.given.planned.machine_total,
+      )
+
+  planned-tray : (k : ℕ) → k < length outs → tray k < length plan.machines
+  planned-tray k lt = omega (arith, lt, run.given.planned.machine_total)
+
+  behaves : (k : ℕ) → k < length outs → (machine_at net.machines (tray k)).behaviour ≡ KeepsLast (tray_rows n)
+  behaves k lt =
+      let m = tray k in
+      let there : m < length plan.machines = planned-tray k lt in
+      let kinds : kind_of (machine_at net.machines m) ≡ kind_of (machine_at is.machines m) =
+      sym (kind-is net.machines m (omega (arith, lt, count))) ∙ ap (λ (f : Frame). kind_at f.kinds m) is.frame ∙ kind-is is.machines m (omega (arith, there, is.built.count)) in
+      ap (λ (kind : Kind). kind.behaviour) kinds
+      ∙ tray-behaves run.design listed wires columns n m (machine_in plan m).body (machine_at is.machines m) (omega arith)
+      (run.given.planned.machine m nameless there).body (is.built.each m there)
+
+  -- the channel of a tray
+  record IsTrayChannel (k c : ℕ) : Type 0 where
+    known : c < length net.wires
+    taken : (wire_at net.wires c).consumer ≡ tray k
+    list : list_at flow.lists c ≡ column run.rows (value_at outs k)
+
+  tray-channel : (k : ℕ) → k < length outs → (c : ℕ) × IsTrayChannel k c
+  tray-channel k lt =
+      let w = wire (value_at outs k) (owner_of run.design.circuit run.design.tree listed (value_at outs k)) (tray k) in
+      let has = tray-wire run.design.circuit run.design.tree listed k lt in
+      let c = has.0 in
+      let at : planned.wire_at wires c ≡ w = get_or_default wires c (wire 0 0 0) w has.1 ∙ has.2 in
+      let among : c < length plan.channels = omega (arith, has.1, run.given.planned.channel_total) in
+      let any : Channel = some-item plan.channels c among in
+      let channel = run.given.planned.channel c any among in
+      let same : net.wires ≡ wires_of_plan plan = ap (λ (f : Frame). f.wires) is.frame in (
+        c,
+        record {
+          known = omega (arith, among, ap length same, length-from plan 0 plan.channels);
+          taken = ap (λ l. (wire_at l c).consumer) same ∙ ap (λ v. v.consumer) (wire-from plan 0 plan.channels c any among) ∙ channel.consumer ∙ ap (λ (v : cut.Wire). v.consumer) at;
+          list = ap (λ (f : Flow). list_at f.lists c) run.flow_is ∙ get_or-map (λ (ch : Channel). column run.rows ch.signal) plan.channels c any [] among
+              ∙ ap (column run.rows) (channel.signal ∙ ap (λ (v : cut.Wire). v.signal) at);
+        },
+      )
+
+  -- what the tray of an output tells
+  tells : (k upto t : ℕ) → k < length outs → AllStandAt upto net → t < upto → upto ≤ t + tray_rows n → told_value (machine_at net.machines (tray k)) t ≡ value_at (row_at run.rows t) (value_at outs k)
+  tells k upto t lt all done near =
+      let m = tray k in
+      let there : m < length net.machines = omega (arith, lt, count) in
+      let found = tray-channel k lt in
+      let at = all m there in
+      let begin : flow.begin ≡ 0 = ap (λ (f : Flow). f.begin) run.flow_is in
+      let end : net.end ≡ n = ap (λ (f : Frame). f.end) is.frame in
+      let within : t < length run.rows = omega (arith, done, at, (kept.machines m there).within, end, run.given.run.count) in
+      tray-tells flow net m found.0 t kept
+      (record { there = there; known = found.1.known; taken = found.1.taken; rows = tray_rows n; tray = behaves k lt; begun = omega (arith, begin); done = omega (arith, done, at); last = omega (arith, near, at) })
+      ∙ ap (λ l. value_at l t) found.1.list ∙ get_or-map (λ row. value_at row (value_at outs k)) run.rows t [] 0 within
+
+  pub outputs-are : (upto t : ℕ) (values : List ℕ) → length values ≡ length outs → AllStandAt upto net → t < upto → upto ≤ t + tray_rows n
+      → ((k : ℕ) → k < length values → value_at values k ≡ told_value (machine_at net.machines (length net.machines - length values + k)) t) → values ≡ outputs_in run.design.circuit run.rows t
+  outputs-are upto t values same all done near told =
+      ext_get_or 0 values (outputs_in run.design.circuit run.rows t) (same ∙ sym (length-map outs (value_at (row_at run.rows t))))
+      (λ k lt.
+      let low : k < length outs = omega (arith, lt, same) in
+      let place : length net.machines - length values + k ≡ tray k = omega (arith, count, same) in
+      told k lt ∙ ap (λ m. told_value (machine_at net.machines m) t) place ∙ tells k upto t low all done near ∙ sym (get_or-map (value_at (row_at run.rows t)) outs k 0 0 low))

@@ -1,0 +1,46 @@
+-- What trays tell of a run, and the rows of a circuit's outputs.
+-- Source: MEMOCODE 2009 (the k-th token of a queue is the value of its signal in cycle k, so the sink of an output has the
+-- output's column); ICCAD 2019 (sinks at the outputs of a target).
+use Rattle.std.specs.Prelude.{◌≡◌, ℕ, ◌+◌, ◌<◌, ◌≤◌, List, Option, length, map, unwrap_or}
+use Rattle.gg_flat.specs.Circuit.{FlatCircuit}
+use Rattle.gg_flat.specs.Line.{value_at}
+use Rattle.gg_flat.specs.Run.{row_at}
+use Rattle.gg_cut.specs.declared.plan.Plan.{Plan}
+use Rattle.gg_node.specs.Machine.{Behaviour, RunsPiece, GivesColumn, KeepsLast, Machine, machine_at, kept_value}
+use Rattle.gg_net.specs.Network.{Network, frame_of, wire_at}
+use Rattle.gg_sound.specs.Built.{AreBuilt, plan_frame}
+
+-- ---- one tray
+
+-- what a machine tells of a cycle: the value that it keeps, and 0 if it keeps none or is no tray
+abbrev pub told_by : Behaviour → Option ℕ → ℕ
+told_by (RunsPiece piece) kept = 0
+told_by (GivesColumn column) kept = 0
+told_by (KeepsLast rows) kept = unwrap_or kept 0
+
+abbrev pub told_value : Machine → ℕ → ℕ
+told_value machine cycle = told_by machine.behaviour (kept_value machine cycle)
+
+-- Machine m is a tray at the end of channel c, and still has the value of a cycle: the cycle is one of the last before
+-- the one that it is in, as many as it keeps, and none before `begin`.
+pub record StillHas (net : Network) (m c begin cycle : ℕ) : Type 0 where
+  pub there : m < length net.machines
+  pub known : c < length net.wires
+  pub taken : (wire_at net.wires c).consumer ≡ m
+  pub rows : ℕ
+  pub tray : (machine_at net.machines m).behaviour ≡ KeepsLast rows
+  pub begun : begin ≤ cycle
+  pub done : cycle < (machine_at net.machines m).cycle
+  pub last : (machine_at net.machines m).cycle ≤ cycle + rows
+
+-- ---- the network of a plan
+
+-- A network of a plan, at any time of its run: its frame is that of the plan's network before its first cycle.
+pub record IsNetOfPlan (plan : Plan) (columns : List (List ℕ)) (n : ℕ) (net : Network) : Type 0 where
+  pub machines : List Machine
+  pub built : AreBuilt plan columns n machines
+  pub frame : frame_of net ≡ plan_frame plan machines n
+
+-- the values of a circuit's outputs in a row
+abbrev pub outputs_in : FlatCircuit → List (List ℕ) → ℕ → List ℕ
+outputs_in circuit rows t = map (value_at (row_at rows t)) circuit.outs

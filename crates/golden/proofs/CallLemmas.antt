@@ -1,0 +1,31 @@
+-- How a call ends whose command has ended, or whose words were no command.
+use Rattle.std.proofs.Common.{◌≡◌, ℕ, List, [], refl, sym, ◌∙◌}
+use Rattle.std.specs.Prelude.{Result, Err}
+use Rattle.gg_told.specs.Ends.{Loads, Puts, Reports}
+use Rattle.gg_told.specs.Endings.{IfRefused, EndedOn, said_by}
+use Rattle.gg_told.specs.declared.endings.Ending.{Ending}
+use Rattle.gg_told.specs.declared.endings.Ending.TheVariants.{Refused, Unwritten, NoMemory}
+use Rattle.gg_told.proofs.WritingLemmas.{append_known-nil}
+use Rattle.gg_words.specs.Meaning.{IsCommand}
+use Rattle.gg_words.specs.declared.command.Cmd.{Cmd}
+use Rattle.golden.specs.Commands.{order_of}
+use Rattle.golden.specs.Outcome.{Asked, Unasked, WantsMemoryFirst, Answered, CallEnded}
+use Rattle.golden.specs.Words.{AskForCommand, TellsUnasked}
+
+module _ {T : Type 0} {words : List (List ℕ)} {loads : Loads} {out : Puts} where
+  -- the words ask for this command, which has ended
+  pub asked-ends : {r : Result T Ending} {asked command : Cmd} → asked ≡ command → IsCommand words asked → EndedOn loads out (order_of command) r → CallEnded words loads out r
+  asked-ends {command = command} e asks ended = record { text = ended.text; written = ended.written; outcome = Asked command (rw (← e) asks) ended.ends }
+
+  -- the words were no command, or memory ran out while they were read, and nothing was written
+  pub unasked-ends : (ending : Ending) → out.after ≡ out.before → IfRefused (λ said. (¬ AskForCommand words) × TellsUnasked words said) ending
+      → CallEnded {T = T} words loads out (Err ending)
+  unasked-ends (Refused said) same refused = record { text = []; written = same ∙ sym (append_known-nil _); outcome = Unasked refused.0 said refused.1 (refl, refl) refl }
+  unasked-ends Unwritten same refused = absurd refused
+  unasked-ends NoMemory same refused = record { text = []; written = same ∙ sym (append_known-nil _); outcome = WantsMemoryFirst (refl, refl) refl }
+
+  -- a call that has ended, and whose line was reported, answers its status
+  pub status-answered : {err : Puts} {r : Result T Ending} {status : ℕ} → status ≡ (said_by r).status → CallEnded words loads out r → Reports err (said_by r).line
+      → Answered words loads out err status
+  status-answered {r = r} e ended reported =
+      rw e (record { text = ended.text; line = (said_by r).line; outcome = ended.outcome; written = ended.written; reported = reported })

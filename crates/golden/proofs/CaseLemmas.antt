@@ -1,0 +1,61 @@
+-- How a command ends whose first files are read: what it ends with behind them is how it ends.
+use Rattle.std.proofs.Common.{ℕ, List, inl, inr}
+use Rattle.std.specs.Prelude.{Result}
+use Rattle.gg_io.specs.Told.{Told}
+use Rattle.gg_told.specs.Said.{Said}
+use Rattle.gg_told.specs.Order.{Order}
+use Rattle.gg_told.specs.Ends.{Loads, Puts}
+use Rattle.gg_told.specs.Endings.{EndedOn, StopsBy}
+use Rattle.gg_told.specs.declared.endings.Ending.{Ending}
+use Rattle.gg_told.proofs.EndingLemmas.{GoOn, accepted-ends, later-stops, loads-same}
+use Rattle.golden.specs.Case.{CaseRead, FedRead, case_order, trace_order}
+use Rattle.golden.specs.Commands.{Asked, read_order, fed_order}
+use Rattle.golden.specs.Partition.{IsPartitionFor}
+use Rattle.golden.specs.Run.{IsTraceFor}
+use Rattle.golden.specs.declared.case.Case.{Case}
+use Rattle.golden.specs.declared.case.Fed.{Fed}
+
+-- ---- refusals
+
+-- what is reported for the first two files is reported whatever follows them
+pub case-stops : (loads : Loads) {said : Said} (asked : Asked) (next : (circuit partition : List ℕ) → Order) → StopsBy loads (case_order asked) said → StopsBy loads (read_order asked next) said
+case-stops loads asked next (inl h) = inl h
+case-stops loads asked next (inr (c, can, accepts, inl h)) = inr (c, can, accepts, inl h)
+case-stops loads asked next (inr (c, can, accepts, inr (p, can', accepts', h))) = absurd h
+
+-- the same of the first three
+pub fed-stops : (loads : Loads) {said : Said} (asked : Asked) (trace : List ℕ) (next : (circuit partition trace : List ℕ) → Order)
+    → StopsBy loads (trace_order asked trace) said → StopsBy loads (fed_order asked trace next) said
+fed-stops loads asked trace next (inl h) = inl h
+fed-stops loads asked trace next (inr (c, can, accepts, inl h)) = inr (c, can, accepts, inl h)
+fed-stops loads asked trace next (inr (c, can, accepts, inr (p, can', accepts', inl h))) = inr (c, can, accepts, inr (p, can', accepts', inl h))
+fed-stops loads asked trace next (inr (c, can, accepts, inr (p, can', accepts', inr (t, can'', accepts'', h)))) = absurd h
+
+-- ---- what was read
+
+-- the partition that was read is one of the circuit that was read
+case-fits : {files : List ℕ → Told} {asked : Asked} {case : Case} (read : CaseRead files asked case) → IsPartitionFor read.circuit read.partition
+case-fits {case = case} read = (case.design, read.is.means, (case.cut.request, read.is.cuts))
+
+-- and so is the trace
+fed-feeds : {files : List ℕ → Told} {asked : Asked} {trace : List ℕ} {fed : Fed} (read : FedRead files asked trace fed) → IsTraceFor read.read.circuit read.bytes
+fed-feeds {fed = fed} read = (fed.case.design.circuit, read.read.is.means.means, (fed.trace.rows, fed.trace.columns, read.is.feeds.feeds))
+
+module _ {whole rest : Loads} (on : GoOn whole rest) where
+  -- the first two files were read, and then one that follows them was refused
+  pub case-later : {asked : Asked} {case : Case} {said : Said} (next : (circuit partition : List ℕ) → Order) (read : CaseRead whole.files asked case)
+      → StopsBy rest (next read.circuit read.partition) said → StopsBy whole (read_order asked next) said
+  case-later next read stops = inr (read.circuit, read.at_circuit, read.is.means.means.text, later-stops on (next read.circuit) read.partition read.at_partition (case-fits read) stops)
+
+  module _ {T : Type 0} {out : Puts} {r : Result T Ending} where
+    -- the first two files were read, and what follows them has ended
+    pub case-ends : {asked : Asked} {case : Case} {next : (circuit partition : List ℕ) → Order} (read : CaseRead whole.files asked case)
+        → EndedOn rest out (next read.circuit read.partition) r → EndedOn whole out (read_order asked next) r
+    case-ends read ended = accepted-ends loads-same read.circuit read.at_circuit read.is.means.means.text (accepted-ends on read.partition read.at_partition (case-fits read) ended)
+
+    -- the first three files were read, and what follows them has ended
+    pub fed-ends : {asked : Asked} {trace : List ℕ} {fed : Fed} {next : (circuit partition trace : List ℕ) → Order} (read : FedRead whole.files asked trace fed)
+        → EndedOn rest out (next read.read.circuit read.read.partition read.bytes) r → EndedOn whole out (fed_order asked trace next) r
+    fed-ends read ended =
+        accepted-ends loads-same read.read.circuit read.read.at_circuit read.read.is.means.means.text
+        (accepted-ends loads-same read.read.partition read.read.at_partition (case-fits read.read) (accepted-ends on read.bytes read.at_trace (fed-feeds read) ended))

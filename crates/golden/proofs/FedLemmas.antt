@@ -1,0 +1,162 @@
+-- How the steps of a file end for what was read: the text that is printed is the only one, and what is reported is right.
+use Rattle.std.proofs.Common.{◌≡◌, ◌↔◌, ℕ, ◌+◌, ◌*◌, ◌<◌, List, length, sym, ap, ◌∙◌, subst}
+use Rattle.std.specs.Prelude.{Option, Result, Ok}
+use Rattle.gg_flat.specs.Along.{rows_along}
+use Rattle.gg_order.specs.Design.{Ordered}
+use Rattle.gg_partfile.specs.declared.request.Request.{Request}
+use Rattle.gg_cut.specs.declared.plan.Plan.{Plan}
+use Rattle.gg_net.specs.declared.event.Event.{Event}
+use Rattle.gg_marking.specs.Fits.{marking_of}
+use Rattle.gg_marking.specs.Marking.{Layout, Marking}
+use Rattle.gg_progress.specs.Measure.{all_dues}
+use Rattle.gg_paths.specs.Paths.{HavePaths}
+use Rattle.gg_paths.proofs.PortLemmas.{have-paths}
+use Rattle.gg_sound.specs.Built.{IsGiven}
+use Rattle.gg_build.proofs.AlongLemmas.{given-along, to-run}
+use Rattle.gg_steps.specs.Naming.{Naming}
+use Rattle.gg_steps.specs.Steps.{steps_of}
+use Rattle.gg_told.specs.Said.{Said}
+use Rattle.gg_told.specs.Ends.{Puts}
+use Rattle.gg_told.specs.Endings.{PrintsOrStops}
+use Rattle.gg_told.specs.declared.endings.Ending.{Ending}
+use Rattle.gg_told.proofs.EndingLemmas.{judged-map}
+use Rattle.gg_trace.specs.Fields.{text_lines}
+use Rattle.golden.specs.Case.{IsFed}
+use Rattle.golden.specs.Replay.{CanGoOn, GoesOnUntilAll, IsReplayText, IsReplayed, IsSetting, Setting, TellsSteps, all_steps, naming_of, replay_text, replayed}
+use Rattle.golden.specs.Replayed.{AreFewNames, IsNetText, IsToReplay, TellsStop, case_naming, fed_flow}
+use Rattle.golden.specs.declared.case.Fed.{Fed}
+use Rattle.golden.proofs.FewLemmas.{few-names}
+use Rattle.golden.proofs.GoOnLemmas.{follows-few, line-follows}
+use Rattle.golden.proofs.PartitionLemmas.{DesignsAgree}
+use Rattle.golden.proofs.ReplayLemmas.{AreSet, are-set, frame-has, laid, naming-is, setting_of, stopped-so, text-is, went, wires-count}
+use Rattle.golden.proofs.SettingLemmas.{designs-alike, layouts-same, leads-same, ok-same, requests-same, rows-same, texts-same}
+use Rattle.golden.proofs.TextLemmas.{OneFlat, OneRun}
+
+-- ---- what a circuit, a partition and a trace that were read give
+
+module _ (circuit partition trace : List ℕ) (capacity : ℕ) (fed : Fed) (is : IsFed circuit partition trace capacity fed) where
+  abbrev design : Ordered
+  design = fed.case.design
+
+  abbrev request : Request
+  request = fed.case.cut.request
+
+  abbrev plan : Plan
+  plan = fed.case.cut.plan
+
+  abbrev columns : List (List ℕ)
+  columns = fed.trace.columns
+
+  abbrev n : ℕ
+  n = fed.trace.rows
+
+  -- the circuit's run, computed along the design's order
+  abbrev rows : List (List ℕ)
+  rows = rows_along design.circuit design.order columns n
+
+  given : IsGiven design request capacity plan columns n rows
+  given = given-along design request capacity plan columns n is.case.designed is.case.keeps is.case.cuts.faultless is.case.planned is.case.bounded.0 is.case.bounded.1 is.most is.columns
+
+  -- the plan's network can be built
+  pub to-replay : IsToReplay fed (fed_flow fed)
+  to-replay = to-run design request capacity plan columns n is.case.designed is.case.keeps is.case.cuts.faultless is.case.planned is.case.bounded.0 is.case.bounded.1 is.most is.columns
+
+  -- its names are few
+  pub few-named : AreFewNames plan design.tree
+  few-named = few-names design request capacity plan is.case.keeps is.case.cuts.faultless is.case.planned
+
+  -- and are those of the cut
+  named : case_naming fed.case ≡ naming_of design request
+  named = naming-is design request capacity plan columns n rows given
+
+  abbrev setting : Layout → Setting
+  setting layout = setting_of design request n columns rows layout
+
+  own-setting : (layout : Layout) → AreSet design request capacity n columns rows layout → IsSetting circuit partition trace capacity (setting layout)
+  own-setting layout are = record { means = is.case.means; cuts = is.case.cuts; feeds = is.feeds.feeds; run = are.run; laid = are.laid }
+
+  module _ (agree : DesignsAgree) (flats : OneFlat) (once : OneRun) where
+    -- the text of the marking that the steps lead to is the only one
+    only-replay-text : (layout : Layout) (are : AreSet design request capacity n columns rows layout) (steps : List ℕ) (marking : Marking)
+        → replayed (setting layout) steps ≡ Ok marking → (other : List ℕ) → IsReplayText circuit partition trace capacity steps other
+        → other ≡ replay_text (setting layout) marking
+    only-replay-text layout are steps marking leads other (b, y, (another, led, told)) =
+        let a = setting layout in
+        let x = own-setting layout are in
+        let same = ok-same (replayed b steps) (replayed a steps) another marking (leads-same agree circuit partition trace capacity b a y x steps) led leads in
+        told ∙ texts-same b a another marking (designs-alike agree circuit partition trace capacity b a y x) (requests-same agree circuit partition trace capacity b a y x)
+        (layouts-same agree circuit partition trace capacity b a y x)
+        (rows-same flats once circuit partition trace capacity design.circuit design.order is.case.designed.ordered is.case.means.means n columns rows are.run is.feeds b y) same
+
+    -- a line can be added to the steps exactly if they are fewer than all
+    on-until-all : (layout : Layout) (are : AreSet design request capacity n columns rows layout) (steps : List ℕ) (marking : Marking)
+        → replayed (setting layout) steps ≡ Ok marking → GoesOnUntilAll circuit partition trace capacity steps
+    on-until-all layout are steps marking leads b y =
+        subst (λ k. (length (text_lines steps) < k) ↔ CanGoOn circuit partition trace capacity steps) same (goes, ends)
+      where
+        x : IsSetting circuit partition trace capacity (setting layout)
+        x = own-setting layout are
+
+        have : HavePaths design.circuit design.tree
+        have =
+            have-paths circuit is.case.means.means.text.circuit design.circuit design.tree is.case.means.means.text.spelt is.case.means.means.flattened is.case.means.grown
+            is.case.keeps.fitting is.case.keeps.scoped
+
+        same : all_steps (setting layout) ≡ all_steps b
+        same =
+            let layouts = layouts-same agree circuit partition trace capacity (setting layout) b x y in
+            let cycles : n ≡ b.cycles = sym are.laid.end ∙ ap (λ (l : Layout). l.end) layouts ∙ y.laid.end in
+            ap (λ k. k * (2 * length layout.links + length layout.turns + all_dues layout)) cycles
+            ∙ ap (λ (l : Layout). b.cycles * (2 * length l.links + length l.turns + all_dues l)) layouts
+
+        goes : length (text_lines steps) < all_steps (setting layout) → CanGoOn circuit partition trace capacity steps
+        goes lt =
+            let more = line-follows design request capacity n is.case.designed is.case.keeps is.case.cuts.faultless layout are.laid are.able have steps marking leads lt in
+            (more.0, more.1, more.2.0, (setting layout, x, more.2.1))
+
+        ends : CanGoOn circuit partition trace capacity steps → length (text_lines steps) < all_steps (setting layout)
+        ends (line, longer, more, (other, z, (next, led))) =
+            follows-few design request capacity n is.case.designed is.case.keeps is.case.cuts.faultless layout are.laid are.able have steps marking leads line longer
+            (more, (next, sym (leads-same agree circuit partition trace capacity other (setting layout) z x longer) ∙ led))
+
+    -- ---- a steps file
+
+    module _ (steps : List ℕ) where
+      -- the text of the network that the steps lead to is that of the marking that they lead to, and the only one
+      text-so : (text : List ℕ) → IsNetText fed (fed_flow fed) (steps_of (naming_of design request) steps) text
+          → IsReplayed circuit partition trace capacity steps text
+      text-so text goes =
+          let events = steps_of (naming_of design request) steps in
+          let own = laid design request capacity plan columns n rows given goes.machines goes.opened.built goes.opened.kept in
+          let are = are-set design request capacity plan columns n rows given goes.machines goes.opened.built goes.opened.kept in
+          let leads = went design request capacity plan columns n rows given goes.machines goes.opened.built goes.opened.kept events goes.net goes.steps in
+          let x = own-setting own.0 are in
+          let same : text ≡ replay_text (setting own.0) (marking_of goes.net) =
+          goes.is
+          ∙ text-is design request capacity plan columns n rows given own.0 goes.net own.1.0
+          (frame-has design request capacity plan columns n rows given goes.machines goes.opened.built goes.opened.kept events goes.net goes.steps)
+          (wires-count design request capacity plan columns n rows given goes.machines goes.opened.built goes.opened.kept events goes.net goes.steps) in (
+            (setting own.0, x, (marking_of goes.net, leads)),
+            record {
+              is = record { text_is = (setting own.0, x, (marking_of goes.net, leads, same)); goes_on = on-until-all own.0 are steps (marking_of goes.net) leads };
+              only = λ other told. only-replay-text own.0 are steps (marking_of goes.net) leads other told.text_is ∙ sym same;
+            },
+          )
+
+      -- what is reported for a step of the network is reported for the steps
+      stop-so : (said : Said) → TellsStop fed (fed_flow fed) (naming_of design request) (steps_of (naming_of design request) steps) said → TellsSteps circuit partition trace capacity steps said
+      stop-so said stops =
+          let events = steps_of (naming_of design request) steps in
+          let own = laid design request capacity plan columns n rows given stops.machines stops.opened.built stops.opened.kept in
+          let are = are-set design request capacity plan columns n rows given stops.machines stops.opened.built stops.opened.kept in
+          let leads = stopped-so design request capacity plan columns n rows given stops.machines stops.opened.built stops.opened.kept events stops.net stops.stopped stops.stops in
+          (setting own.0, own-setting own.0 are, (stops.stopped, leads, stops.is))
+
+      -- how the steps have ended
+      pub steps-judged : {T : Type 0} {out : Puts} {r : Result T Ending} (naming : Naming) (events : List (Option Event)) → naming ≡ case_naming fed.case → events ≡ steps_of naming steps
+          → PrintsOrStops out (IsNetText fed (fed_flow fed) events) (TellsStop fed (fed_flow fed) naming events) r
+          → PrintsOrStops out (IsReplayed circuit partition trace capacity steps) (TellsSteps circuit partition trace capacity steps) r
+      steps-judged {out = out} {r = r} naming events own spelt judged =
+          judged-map text-so stop-so
+          (subst (λ (x : Naming). PrintsOrStops out (IsNetText fed (fed_flow fed) (steps_of x steps)) (TellsStop fed (fed_flow fed) x (steps_of x steps)) r) (own ∙ named)
+          (subst (λ (x : List (Option Event)). PrintsOrStops out (IsNetText fed (fed_flow fed) x) (TellsStop fed (fed_flow fed) naming x) r) spelt judged))

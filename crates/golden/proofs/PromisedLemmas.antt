@@ -1,0 +1,180 @@
+-- What is promised of a call, clause by clause.
+use Rattle.std.proofs.Common.{◌≡◌, ◌≢◌, ℕ, List, ◌≤◌, length, refl, ap, sym, ◌∙◌, subst, inl, inr, ◌⊎◌}
+use Rattle.std.specs.Prelude.{Some, Err}
+use Rattle.std.specs.Io.KnownBytes.{append_known}
+use Rattle.std.proofs.lemmas.Option.{same_Some}
+use Rattle.gg_io.specs.Told.{Holds}
+use Rattle.gg_read.specs.Text.{HasReadFault}
+use Rattle.gg_read.specs.declared.text.ReadFault.{ReadFault}
+use Rattle.gg_flat.specs.Circuit.{FlatCircuit}
+use Rattle.gg_flat.specs.Ports.{in_ports}
+use Rattle.gg_front.specs.Accepted.{IsAcceptedText}
+use Rattle.gg_front.specs.Meaning.{Means, MeansDesign}
+use Rattle.gg_front.specs.declared.fault.FrontFault.TheVariants as front
+use Rattle.gg_marking.specs.Goes as goes
+use Rattle.gg_order.specs.Design.{Ordered}
+use Rattle.gg_told.specs.Said.{Said}
+use Rattle.gg_told.specs.Order.{Order, Load, Write, StopsAt, DueAt, IsExactFile, IsUnique, IsUniqueFile, IsJudgement}
+use Rattle.gg_told.specs.Ends.{Loads, Puts, Reports, Tells}
+use Rattle.gg_told.proofs.EndsLemmas.{SaysDue}
+use Rattle.gg_told.proofs.OrderLemmas.{IsOnlyDue, first-only, later-only}
+use Rattle.gg_told.proofs.WritingLemmas.{append_known-nil}
+use Rattle.gg_trace.specs.FaultText.{fault_words}
+use Rattle.gg_trace.specs.Trace.{IsFirstFault}
+use Rattle.gg_trace.specs.declared.faults.TraceFault.{TraceFault}
+use Rattle.gg_words.specs.Meaning.{IsCommand}
+use Rattle.gg_words.specs.declared.command.Cmd.{Cmd}
+use Rattle.gg_words.specs.declared.command.Cmd.TheVariants.{Run, Replay, Check}
+use Rattle.golden.specs.Commands.{asked_by, order_behind, order_of, trace_of}
+use Rattle.golden.specs.Limits.{circuit_limit, partition_limit, steps_limit, trace_limit}
+use Rattle.golden.specs.Lines.{TellsUnread, partition_fault, trace_fault}
+use Rattle.golden.specs.Outcome.{Answered}
+use Rattle.golden.specs.Partition.{HasFault, IsPartitionFor, TellsPartitionFor, partition_file_for}
+use Rattle.golden.specs.Promised.{Promised}
+use Rattle.golden.specs.Replay.{IsReplayOf, IsSetting, Setting, TellsSteps, replayed, steps_file_for, stopped_said}
+use Rattle.golden.specs.Run.{TellsCircuit, TellsTraceFor, circuit_file, trace_file_for}
+use Rattle.golden.specs.Words.{AskForCommand, TellsUnasked}
+use Rattle.golden.proofs.CauseLemmas.{Cause, ExactOrders, OneMeaning, cause, complete-status, cut-8, due-said, judged-file, lost-3, no_command-2, none-written, unasked-2, unasked-status, unwritten-4}
+
+-- if a text has a fault of reading, only this fault is reported
+abbrev pub OneReading : Type 0
+OneReading = (bytes : List ℕ) (fault : ReadFault) (said other : Said) → HasReadFault bytes fault → TellsUnread fault said → TellsCircuit bytes other → other ≡ said
+
+-- at most one thing is reported for each file that follows the circuit
+abbrev pub UniqueOrders : Type 0
+UniqueOrders = (command : Cmd) (circuit : List ℕ) → IsUnique (Load (partition_file_for circuit (asked_by command).partition) (order_behind command circuit))
+
+-- what is promised of a call that answered this status
+module _ {words : List (List ℕ)} {loads : Loads} {out err : Puts} {status : ℕ} (a : Answered words loads out err status) where
+  -- what has the status and the line of the call was reported
+  reported-as : (said : Said) → status ≡ said.status → a.line ≡ said.line → Tells err status said
+  reported-as said is e = record { is = is; reported = subst (λ (l : List ℕ). Reports err l) e a.reported }
+
+  module _ (exact : ExactOrders) where
+    caused : Cause loads out.failed words status a.text a.line
+    caused = cause loads out.failed exact words status a.text a.line a.outcome
+
+    judged : IsJudgement status
+        → (command : Cmd) × IsCommand words command × ((said : Said) × StopsAt loads.files ⊥ ⊥ (order_of command) said × Tells err status said)
+    judged is =
+        let why = judged-file loads out.failed words status a.text a.line caused is in
+        (why.0, why.1, (why.2.0, why.2.1, reported-as why.2.0 why.2.2 why.2.3))
+
+    no_command : status ≡ 2 → (¬ AskForCommand words) × ((said : Said) × TellsUnasked words said × Tells err status said)
+    no_command is =
+        let why = no_command-2 loads out.failed words status a.text a.line caused is in
+        (why.0, (why.1.0, why.1.1, reported-as why.1.0 (is ∙ sym (unasked-status words why.1.0 why.1.1)) why.1.2))
+
+    nothing_written : status ≢ 0 → status ≢ 4 → status ≢ 5 → out.after ≡ out.before
+    nothing_written x y z =
+        a.written ∙ ap (append_known out.before) (none-written loads out.failed words status a.text a.line caused x y z) ∙ append_known-nil out.before
+
+    module _ (once : OneMeaning) (none : loads.lost → ⊥) where
+      due-told : (order : Order) (due : Said) → SaysDue loads out.failed status a.line order due
+          → ((status ≡ due.status) × ((said : Said) × DueAt loads.files order said × Tells err status said)) ⊎ (status ≡ 5)
+      due-told order due (inl h) = inl (h.0, (h.1.0, h.1.1, reported-as h.1.0 h.1.2 h.1.3))
+      due-told order due (inr h) = inr h
+
+      tells-due : (command : Cmd) (due : Said) → IsCommand words command → DueAt loads.files (order_of command) due
+          → ((status ≡ due.status) × ((said : Said) × DueAt loads.files (order_of command) said × Tells err status said)) ⊎ (status ≡ 5)
+      tells-due command due asks d = due-told (order_of command) due (due-said loads out.failed words status a.text a.line exact once a.outcome none command due asks d)
+
+      -- if only this is due, this is what is reported
+      tells-only : (command : Cmd) (due : Said) → IsCommand words command → IsOnlyDue loads.files (order_of command) due → Tells err status due ⊎ (status ≡ 5)
+      tells-only command due asks only = by (tells-due command due asks only.is)
+        where
+          by : ((status ≡ due.status) × ((said : Said) × DueAt loads.files (order_of command) said × Tells err status said)) ⊎ (status ≡ 5) → Tells err status due ⊎ (status ≡ 5)
+          by (inl h) = inl (subst (λ (s : Said). Tells err status s) (only.only h.1.0 h.1.1) h.1.2)
+          by (inr h) = inr h
+
+      tells-unread : OneReading → (command : Cmd) (bytes : List ℕ) (fault : ReadFault) (said : Said)
+          → IsCommand words command → loads.files (asked_by command).circuit ≡ Holds bytes → length bytes ≤ circuit_limit
+          → HasReadFault bytes fault → TellsUnread fault said → Tells err status said ⊎ (status ≡ 5)
+      tells-unread one command bytes fault said asks told short has tells =
+          tells-only command said asks
+          (first-only loads.files (circuit_file (asked_by command).circuit) _ bytes said (exact command).0 told short (front.Read fault, (has, tells.0), (λ e. absurd (cc)), tells.1)
+          (λ other. one bytes fault said other has tells))
+
+      -- behind a circuit that is told and accepted
+      tells-behind : (command : Cmd) (c : List ℕ) (due : Said) → IsCommand words command → loads.files (asked_by command).circuit ≡ Holds c → length c ≤ circuit_limit → IsAcceptedText c
+          → IsOnlyDue loads.files (Load (partition_file_for c (asked_by command).partition) (order_behind command c)) due → Tells err status due ⊎ (status ≡ 5)
+      tells-behind command c due asks hc lc accepted later =
+          tells-only command due asks (later-only loads.files (circuit_file (asked_by command).circuit) (λ b. Load (partition_file_for b (asked_by command).partition) (order_behind command b)) c due (exact command).0 hc lc accepted later)
+
+      tells-partitioned : UniqueOrders → (command : Cmd) (c p : List ℕ) (design : Ordered) (fault : List ℕ) → IsCommand words command
+          → loads.files (asked_by command).circuit ≡ Holds c → length c ≤ circuit_limit → MeansDesign c design
+          → loads.files (asked_by command).partition ≡ Holds p → length p ≤ partition_limit → HasFault design p fault
+          → Tells err status (partition_fault fault) ⊎ (status ≡ 5)
+      tells-partitioned unique command c p design fault asks hc lc means hp lp has =
+          let said : Said = partition_fault fault in
+          let refuses : TellsPartitionFor c p said = (design, means, (fault, has, refl)) in
+          tells-behind command c said asks hc lc means.means.text
+          (first-only loads.files (partition_file_for c (asked_by command).partition) (order_behind command c) p said ((exact command).1 c).0 hp lp refuses
+          (λ other h. (unique command c).0 p other said h refuses))
+
+      -- behind a circuit and a partition that are told and accepted
+      tells-later : (command : Cmd) (c p : List ℕ) (due : Said) → IsCommand words command
+          → loads.files (asked_by command).circuit ≡ Holds c → length c ≤ circuit_limit → IsAcceptedText c
+          → loads.files (asked_by command).partition ≡ Holds p → length p ≤ partition_limit → IsPartitionFor c p
+          → IsOnlyDue loads.files (order_behind command c p) due → Tells err status due ⊎ (status ≡ 5)
+      tells-later command c p due asks hc lc accepted hp lp fits later =
+          tells-behind command c due asks hc lc accepted
+          (later-only loads.files (partition_file_for c (asked_by command).partition) (order_behind command c) p due ((exact command).1 c).0 hp lp fits later)
+
+      -- only the fault of a trace is due, whatever follows the trace
+      trace-only : (c t trace : List ℕ) (next : List ℕ → Order) (flat : FlatCircuit) (fault : TraceFault) → IsExactFile (trace_file_for c trace) → IsUniqueFile (trace_file_for c trace)
+          → Means c flat → loads.files trace ≡ Holds t → length t ≤ trace_limit → IsFirstFault (in_ports flat) t fault → IsOnlyDue loads.files (Load (trace_file_for c trace) next) (trace_fault (fault_words fault))
+      trace-only c t trace next flat fault exact_file unique_file means ht lt first =
+          let said : Said = trace_fault (fault_words fault) in
+          let refuses : TellsTraceFor c t said = (flat, means, (fault, first, refl)) in
+          first-only loads.files (trace_file_for c trace) next t said exact_file ht lt refuses (λ other h. unique_file t other said h refuses)
+
+      tells-traced : UniqueOrders → (command : Cmd) (c p t trace : List ℕ) (flat : FlatCircuit) (fault : TraceFault)
+          → IsCommand words command → trace_of command ≡ Some trace
+          → loads.files (asked_by command).circuit ≡ Holds c → length c ≤ circuit_limit → Means c flat
+          → loads.files (asked_by command).partition ≡ Holds p → length p ≤ partition_limit → IsPartitionFor c p
+          → loads.files trace ≡ Holds t → length t ≤ trace_limit → IsFirstFault (in_ports flat) t fault
+          → Tells err status (trace_fault (fault_words fault)) ⊎ (status ≡ 5)
+      tells-traced unique (Run circuit partition own capacity workers mono) c p t trace flat fault asks named hc lc means hp lp fits held lt first =
+          let command : Cmd = Run circuit partition own capacity workers mono in
+          tells-later command c p (trace_fault (fault_words fault)) asks hc lc means.text hp lp fits
+          (trace-only c t own _ flat fault (((exact command).1 c).1 p).0 ((unique command c).1 p).0 means (ap loads.files (same_Some own trace named) ∙ held) lt first)
+      tells-traced unique (Replay circuit partition own steps capacity) c p t trace flat fault asks named hc lc means hp lp fits held lt first =
+          let command : Cmd = Replay circuit partition own steps capacity in
+          tells-later command c p (trace_fault (fault_words fault)) asks hc lc means.text hp lp fits
+          (trace-only c t own _ flat fault (((exact command).1 c).1 p).0 ((unique command c).1 p).0 means (ap loads.files (same_Some own trace named) ∙ held) lt first)
+      tells-traced unique (Check circuit partition capacity) c p t trace flat fault asks named hc lc means hp lp fits held lt first = absurd (cc)
+
+      tells-stepped : UniqueOrders → (circuit partition trace steps : List ℕ) (capacity : ℕ) (c p t s : List ℕ) (setting : Setting) (stopped : goes.Stopped)
+          → IsCommand words (Replay circuit partition trace steps capacity)
+          → loads.files circuit ≡ Holds c → length c ≤ circuit_limit
+          → loads.files partition ≡ Holds p → length p ≤ partition_limit
+          → loads.files trace ≡ Holds t → length t ≤ trace_limit → IsSetting c p t capacity setting
+          → loads.files steps ≡ Holds s → length s ≤ steps_limit → replayed setting s ≡ Err stopped
+          → Tells err status (stopped_said setting s stopped) ⊎ (status ≡ 5)
+      tells-stepped unique circuit partition trace steps capacity c p t s setting stopped asks hc lc hp lp ht lt is hs ls stops =
+          let command : Cmd = Replay circuit partition trace steps capacity in
+          let said : Said = stopped_said setting s stopped in
+          let refuses : TellsSteps c p t capacity s said = (setting, is, (stopped, stops, refl)) in
+          tells-later command c p said asks hc lc is.means.means.text hp lp (setting.design, is.means, (setting.request, is.cuts))
+          (later-only loads.files (trace_file_for c trace) (λ b. Load (steps_file_for c p b capacity steps) (λ x. Write (IsReplayOf c p b capacity x))) t said (((exact command).1 c).1 p).0 ht lt
+          (setting.design.circuit, is.means.means, (setting.cycles, setting.columns, is.feeds))
+          (first-only loads.files (steps_file_for c p t capacity steps) _ s said ((((exact command).1 c).1 p).1 t).0 hs ls refuses (λ other h. (((unique command c).1 p).1 t).0 s other said h refuses)))
+
+    pub promised : OneMeaning → UniqueOrders → OneReading → Promised words loads out err status
+    promised once unique one = record {
+      outcome = a;
+      judged = judged;
+      no_command = no_command;
+      not_loaded = lost-3 loads out.failed words status a.text a.line caused;
+      not_written = unwritten-4 loads out.failed words status a.text a.line caused;
+      over = cut-8 loads out.failed words status a.text a.line caused;
+      nothing_written = nothing_written;
+      unasked = unasked-2 loads out.failed words status a.text a.line a.outcome;
+      due = tells-due once;
+      unread = λ none. tells-unread once none one;
+      partitioned = λ none. tells-partitioned once none unique;
+      traced = λ none. tells-traced once none unique;
+      stepped = λ none. tells-stepped once none unique;
+      complete = complete-status loads out.failed words status a.text a.line exact once a.outcome;
+    }

@@ -1,0 +1,5 @@
+use Rattle.golden.proofs.PartitionLemmas.{request-told}
+use Rattle.golden.proofs.partition.cut_request.Goals as goal
+
+pub returns-in-Err-clause-refused : goal.returns-in-Err-clause-refused
+returns-in-Err-clause-refused c = request-told c.args.design.now c.args.request c.in-Err.fault c.end_at_request.result c.in-Err.ensures.told c.end_at_request.ensures

@@ -1,0 +1,56 @@
+-- What the code has once the first files of a command are read.
+use Rattle.std.specs.Prelude.{ℕ, ◌≤◌, List}
+use Rattle.gg_cut.specs.Plan.{IsPlan}
+use Rattle.gg_flat.specs.Run.{IsColumns}
+use Rattle.gg_front.specs.Meaning.{MeansDesign}
+use Rattle.gg_io.specs.Told.{Told}
+use Rattle.gg_moved.specs.KeepsToTree.{KeepsToTree}
+use Rattle.gg_node.specs.Machine.{cycle_limit}
+use Rattle.gg_order.specs.Design.{IsDesign}
+use Rattle.gg_told.specs.Order.{CanBe, Order, Write}
+use Rattle.gg_words.specs.Range.{IsCapacity}
+use Rattle.golden.specs.Commands.{Asked, read_order, fed_order}
+use Rattle.golden.specs.Partition.{Cuts, partition_file_for}
+use Rattle.golden.specs.Run.{circuit_file, trace_file_for}
+use Rattle.golden.specs.RunText.{FeedsOnly}
+use Rattle.golden.specs.declared.case.Case.{Case}
+use Rattle.golden.specs.declared.case.Fed.{Fed}
+
+-- The bytes of a circuit and of a partition mean this design, which keeps to its tree, and this request. This is the plan
+-- of their cut, with this capacity of the channels that the request doesn't name.
+pub record IsCase (circuit partition : List ℕ) (capacity : ℕ) (case : Case) : Type 0 where
+  pub means : MeansDesign circuit case.design
+  pub designed : IsDesign case.design
+  pub keeps : KeepsToTree case.design.circuit case.design.tree
+  pub cuts : Cuts case.design partition case.cut.request
+  pub bounded : IsCapacity capacity
+  pub planned : IsPlan case.design case.cut.request capacity case.cut.plan
+
+-- the case is that of bytes that the first two files can have
+pub record CaseRead (files : List ℕ → Told) (asked : Asked) (case : Case) : Type 0 where
+  pub circuit : List ℕ
+  pub partition : List ℕ
+  pub at_circuit : CanBe files (circuit_file asked.circuit) circuit
+  pub at_partition : CanBe files (partition_file_for circuit asked.partition) partition
+  pub is : IsCase circuit partition asked.capacity case
+
+-- The bytes of a circuit, a partition and a trace mean this.
+pub record IsFed (circuit partition trace : List ℕ) (capacity : ℕ) (fed : Fed) : Type 0 where
+  pub case : IsCase circuit partition capacity fed.case
+  pub feeds : FeedsOnly fed.case.design.circuit trace fed.trace.rows fed.trace.columns
+  pub most : fed.trace.rows ≤ cycle_limit
+  pub columns : IsColumns fed.case.design.circuit fed.trace.rows fed.trace.columns
+
+-- the trace is that of bytes that the third file can have
+pub record FedRead (files : List ℕ → Told) (asked : Asked) (trace : List ℕ) (fed : Fed) : Type 0 where
+  pub read : CaseRead files asked fed.case
+  pub bytes : List ℕ
+  pub at_trace : CanBe files (trace_file_for read.circuit trace) bytes
+  pub is : IsFed read.circuit read.partition bytes asked.capacity fed
+
+-- the order of a command that only reads the first two files, or the first three
+abbrev pub case_order : Asked → Order
+case_order asked = read_order asked (λ c p. Write (λ text. Unit {0}))
+
+abbrev pub trace_order : Asked → (trace : List ℕ) → Order
+trace_order asked trace = fed_order asked trace (λ c p t. Write (λ text. Unit {0}))

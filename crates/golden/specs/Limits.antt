@@ -1,0 +1,14 @@
+-- The most bytes that each file of a command may have. Source: this program's own; docs/FORMATS.md has them.
+use Rattle.std.specs.Prelude.{ℕ}
+
+abbrev pub circuit_limit : ℕ
+circuit_limit = 4194304
+
+abbrev pub partition_limit : ℕ
+partition_limit = 1048576
+
+abbrev pub trace_limit : ℕ
+trace_limit = 67108864
+
+abbrev pub steps_limit : ℕ
+steps_limit = 67108864

@@ -1,0 +1,79 @@
+//! What the first files of a command hold: a circuit and the cut that a partition asks for, and a trace.
+ghost use Rattle.std.specs.Prelude.{◌≤◌, IfOk, IfErr};
+ghost use Rattle.gg_words.specs.Range.{IsCapacity};
+ghost use Rattle.golden.specs.Case.{CaseRead, FedRead, case_order, trace_order};
+ghost use Rattle.golden.specs.Commands.{asking};
+ghost use Rattle.gg_told.specs.Endings.{IfRefused, StopsBy};
+ghost use Rattle.gg_told.specs.Ends.{loads_of};
+ghost use Rattle.gg_told.specs.WentOn.{ShelfWentOn};
+
+use crate::partition::{Cut, read_cut};
+use crate::reading::{read_circuit, read_inputs};
+use gg_io::Shelf;
+use gg_order::Design;
+use gg_told::Ending;
+use gg_trace::Trace;
+use std::alloc::Global;
+
+/// A design and a cut of it.
+#[derive(Drop)]
+pub(crate) struct Case {
+    /// The design.
+    pub(crate) design: Design,
+    /// The cut.
+    pub(crate) cut: Cut,
+}
+
+/// The same, and a trace of the circuit's inputs.
+#[derive(Drop)]
+pub(crate) struct Fed {
+    /// The design and the cut.
+    pub(crate) case: Case,
+    /// The trace.
+    pub(crate) trace: Trace,
+}
+
+/// Reads a circuit and a partition.
+pub(crate) fn read_case<S: Shelf>(
+    alloc: Global,
+    shelf: &mut S,
+    circuit: &str,
+    partition: &str,
+    capacity: u32,
+) -> Result<Case, Ending>
+    requires { IsCapacity capacity }
+    ensures read { IfOk result (CaseRead (S.files shelf.old) (asking circuit.now partition.now capacity)) }
+    ensures refused { IfErr result (IfRefused (StopsBy (loads_of S.Shelf shelf.old shelf.new) (case_order (asking circuit.now partition.now capacity)))) }
+    ensures shelf { ShelfWentOn S.Shelf shelf.old shelf.new }
+{
+    let design = read_circuit(alloc, shelf, circuit)?;
+    let cut = read_cut(alloc, shelf, partition, &design, capacity)?;
+    // for the design's invariant
+    let _ = design.order();
+    let _ = design.piece();
+    Ok(Case { design, cut })
+}
+
+/// Reads a circuit, a partition and a trace.
+pub(crate) fn read_fed<S: Shelf>(
+    alloc: Global,
+    shelf: &mut S,
+    circuit: &str,
+    partition: &str,
+    trace: &str,
+    capacity: u32,
+) -> Result<Fed, Ending>
+    requires { IsCapacity capacity }
+    ensures read { IfOk result (FedRead (S.files shelf.old) (asking circuit.now partition.now capacity) trace.now) }
+    ensures refused { IfErr result (IfRefused (StopsBy (loads_of S.Shelf shelf.old shelf.new) (trace_order (asking circuit.now partition.now capacity) trace.now))) }
+    ensures shelf { ShelfWentOn S.Shelf shelf.old shelf.new }
+{
+    let case = read_case(alloc, shelf, circuit, partition, capacity)?;
+    let inputs = read_inputs(alloc, shelf, trace, &case.design)?;
+    // for the limit on its rows
+    let _ = inputs.rows();
+    Ok(Fed {
+        case,
+        trace: inputs,
+    })
+}

@@ -1,0 +1,17 @@
+//! Networks from texts, for tests: circuits, partitions and traces, read. It promises nothing: the
+//! contracts of the crates below say what each call does.
+//!
+//! A value of a design or a plan makes a proof long: it is dropped once for each way out of the function that owns it. So a function that
+//! owns one has a single way out, and all others take references.
+#![tactic(auto)]
+
+mod networks;
+mod reading;
+mod texts;
+
+pub use networks::{is_at_most, keeps};
+pub use reading::{design_of, inputs_of, request_of};
+pub use texts::{
+    COUNTER, COUNTER_TRACE, DUAL, FOUR_PORTS, FOUR_PORTS_TRACE, HALT, PAIR, PAIR_TRACE, PASS,
+    SIX_CYCLES, THREE_CYCLES, TOGGLE, memory,
+};

@@ -1,0 +1,57 @@
+//! Circuits as texts.
+use std::alloc::{AllocError, Global};
+
+/// The counter of examples/counter.fir.
+pub const COUNTER: &str =
+    "circuit Counter :\n  module Counter :\n    input clock : Clock\n    input reset : UInt<1>\n    output out : UInt<8>\n\n    reg c : UInt<8>, clock with :\n      reset => (UInt<1>(\"h0\"), c) @[Counter.scala 5:20]\n    node n = add(c, UInt<1>(\"h1\"))\n    out <= c\n    c <= mux(reset, UInt<8>(\"h0\"), bits(n, 7, 0))\n";
+
+/// The trace of examples/counter.trace.
+pub const COUNTER_TRACE: &str = "cycle reset\n0 1\n1 0\n2 0\n3 0\n";
+
+/// An output that is the input.
+pub const PASS: &str =
+    "circuit Pass :\nmodule Pass :\ninput i : UInt<8>\noutput o : UInt<8>\no <= i\n";
+
+/// A register of one bit that takes its complement in each cycle.
+pub const TOGGLE: &str =
+    "circuit Toggle :\nmodule Toggle :\ninput clock : Clock\noutput o : UInt<1>\nreg r : UInt<1>, clock\no <= r\nr <= not(r)\n";
+
+/// Two units that feed each other in one cycle.
+pub const PAIR: &str =
+    "circuit Pair :\nmodule A :\ninput clock : Clock\ninput x : UInt<8>\ninput k : UInt<8>\noutput p : UInt<8>\noutput q : UInt<8>\np <= x\nq <= xor(x, k)\nmodule B :\ninput m : UInt<8>\noutput n : UInt<8>\nn <= bits(shl(m, 1), 7, 0)\nmodule Pair :\ninput clock : Clock\ninput x : UInt<8>\noutput q : UInt<8>\ninst a of A\ninst b of B\na.clock <= clock\na.x <= x\nb.m <= a.p\na.k <= b.n\nq <= a.q\n";
+
+/// A trace of two cycles for the two units.
+pub const PAIR_TRACE: &str = "cycle x\n0 0f\n1 81\n";
+
+/// A memory of three words with two readers and two writers, all at one address.
+pub const FOUR_PORTS: &str =
+    "circuit Mem :\nmodule Mem :\ninput clock : Clock\ninput a : UInt<2>\ninput v : UInt<8>\noutput o0 : UInt<8>\noutput o1 : UInt<8>\nmem m :\ndata-type => UInt<8>\ndepth => 3\nread-latency => 0\nwrite-latency => 1\nreader => r\nreader => s\nwriter => w\nwriter => x\nread-under-write => undefined\nm.r.clk <= clock\nm.s.clk <= clock\nm.w.clk <= clock\nm.x.clk <= clock\nm.r.addr <= a\nm.s.addr <= a\nm.w.addr <= a\nm.x.addr <= a\nm.r.en <= UInt<1>(\"h1\")\nm.s.en <= bits(v, 0, 0)\nm.w.en <= UInt<1>(\"h1\")\nm.x.en <= UInt<1>(\"h1\")\nm.w.mask <= UInt<1>(\"h1\")\nm.x.mask <= UInt<1>(\"h1\")\nm.w.data <= v\nm.x.data <= not(v)\no0 <= m.r.data\no1 <= m.s.data\n";
+
+/// A trace of four cycles for that memory.
+pub const FOUR_PORTS_TRACE: &str = "cycle a v\n0 1 0f\n1 1 21\n2 3 55\n3 1 00\n";
+
+/// A trace of three cycles without inputs.
+pub const THREE_CYCLES: &str = "cycle\n0\n1\n2\n";
+
+/// A trace of six cycles without inputs.
+pub const SIX_CYCLES: &str = "cycle\n0\n1\n2\n3\n4\n5\n";
+
+/// A counter without outputs that asks for a stop at 2.
+pub const HALT: &str =
+    "circuit Halt :\nmodule Halt :\ninput clock : Clock\nreg c : UInt<4>, clock\nc <= tail(add(c, UInt<1>(\"h1\")), 1)\nstop(clock, eq(c, UInt<2>(\"h2\")), 1) : done\n";
+
+/// Two registers of two clocks. The second adds the first.
+pub const DUAL: &str =
+    "circuit Dual :\nmodule Dual :\ninput c1 : Clock\ninput c2 : Clock\noutput q : UInt<4>\nreg r : UInt<4>, c1\nreg s : UInt<4>, c2\nq <= s\nr <= tail(add(r, UInt<1>(\"h1\")), 1)\ns <= tail(add(s, r), 1)\n";
+
+// A memory of two words, up to its latency and behind it. Its reader reads address 0, and its writer writes 7 there in each cycle.
+const MEMORY_FRONT: &str =
+    "circuit Mem :\nmodule Mem :\ninput clock : Clock\noutput o : UInt<8>\nmem m :\ndata-type => UInt<8>\ndepth => 2\nwrite-latency => 1\nreader => r\nwriter => w\n";
+
+const MEMORY_REST: &str =
+    "m.r.clk <= clock\nm.r.addr <= UInt<1>(0)\nm.r.en <= UInt<1>(1)\nm.w.clk <= clock\nm.w.addr <= UInt<1>(0)\nm.w.en <= UInt<1>(1)\nm.w.data <= UInt<8>(7)\nm.w.mask <= UInt<1>(1)\no <= m.r.data\n";
+
+/// The memory with these two lines.
+pub fn memory(alloc: Global, latency: &str, under_write: &str) -> Result<String, AllocError> {
+    format!(in alloc; "{MEMORY_FRONT}{latency}\n{under_write}\n{MEMORY_REST}")
+}

@@ -1,0 +1,10 @@
+//! Tests of gg_workers: what no contract says, namely that `work` does its work where memory is ample, and that two workers run side by
+//! side. The networks are those of circuits as texts.
+#![tactic(auto)]
+
+#[cfg(test)]
+mod beside;
+#[cfg(test)]
+mod runs;
+#[cfg(test)]
+mod tables;

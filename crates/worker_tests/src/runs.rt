@@ -1,0 +1,159 @@
+//! Runs of a network by workers.
+ghost use Rattle.gg_build.specs.Build.{IsToRun};
+ghost use Rattle.gg_cut.specs.Fault.{IsSmall};
+ghost use Rattle.gg_flat.specs.Run.{IsColumns};
+ghost use Rattle.gg_moved.specs.KeepsToTree.{KeepsToTree};
+
+use gg_build::{Node, build};
+use gg_cut::Plan;
+use gg_io::Gate;
+use gg_link::Link;
+use gg_measure::{left, run_to, run_to_end};
+use gg_net::{Net, Streams};
+use gg_order::Design;
+use gg_partfile::Request;
+use gg_plan::cut;
+use gg_trace::Trace;
+use gg_workers::work;
+use net_calls::{design_of, inputs_of, is_at_most, keeps, request_of};
+use std::alloc::Global;
+use std::marker::Brand;
+use std::thread::Threads;
+
+/// A circuit with its partition and its trace.
+#[derive(Drop)]
+pub(crate) struct Texts {
+    pub(crate) circuit: &'static str,
+    pub(crate) partition: &'static str,
+    pub(crate) trace: &'static str,
+}
+
+/// A run by workers, and what is expected of it.
+#[derive(Drop)]
+pub(crate) struct Run {
+    // the cycle to which the network is brought before the run
+    pub(crate) begin: u64,
+    pub(crate) workers: u32,
+    pub(crate) upto: u64,
+    // how many steps are left after it, at least and at most
+    pub(crate) least: u64,
+    pub(crate) most: u64,
+    // what the last machine, a tray, keeps at the end
+    pub(crate) kept: &'static [u128],
+}
+
+// Brings a network to a cycle, if that lies before it.
+fn bring<Z: Streams>(net: &mut Net<Node<'_>, Z>, cycle: u64) {
+    if cycle <= net.end() && is_at_most(net, cycle) {
+        run_to(net, cycle);
+    }
+}
+
+// Whether a network is as expected after a run, and at its end.
+fn ends<Z: Streams>(net: &mut Net<Node<'_>, Z>, run: &Run) -> bool {
+    let rest = left(net);
+    run_to_end(net);
+    run.least <= rest && rest <= run.most && left(net) == 0 && keeps(net, run.kept)
+}
+
+// Whether a run of a network that is before its first cycle leaves what is expected.
+fn goes<R: Threads + Sync, L: Link, Z: Streams, G: Gate + Sync>(
+    rt: &R,
+    home: L::Home,
+    alloc: Global,
+    mut net: Net<Node<'_>, Z>,
+    run: &Run,
+    gate: &G,
+) -> bool {
+    bring(&mut net, run.begin);
+    let workers = run.workers.min(64);
+    match work::<R, Node<'_>, L, Z, G>(rt, home, alloc, net, workers, run.upto, gate) {
+        Ok(mut net) => ends(&mut net, run),
+        Err(_) => false,
+    }
+}
+
+// Whether a run of the network of a plan leaves what is expected. What it computes is picked where this is called, by the design.
+fn is_run<R: Threads + Sync, L: Link, Z: Streams, G: Gate + Sync>(
+    rt: &R,
+    home: L::Home,
+    alloc: Global,
+    _design: &Design,
+    plan: &Plan,
+    inputs: &Trace,
+    run: &Run,
+    gate: &G,
+) -> bool
+    requires { IsToRun plan.now inputs.now.columns inputs.now.rows Z.flow }
+{
+    match build::<Z>(alloc, plan, inputs) {
+        Ok(net) => goes::<R, L, Z, G>(rt, home, alloc, net, run, gate),
+        Err(_) => false,
+    }
+}
+
+// Whether a run of the network of a design and a request, whose channels have capacity 1, leaves what is expected.
+fn is_cut<R: Threads + Sync, L: Link, G: Gate + Sync>(
+    rt: &R,
+    home: L::Home,
+    alloc: Global,
+    design: &Design,
+    request: &Request,
+    inputs: &Trace,
+    run: &Run,
+    gate: &G,
+) -> bool
+    requires small { IsSmall request.now }
+    requires keeps { KeepsToTree design.now.circuit design.now.tree }
+    requires fed { IsColumns design.now.circuit inputs.now.rows inputs.now.columns }
+{
+    // for the design's invariant on its parts
+    let _ = design.order();
+    let _ = design.piece();
+    let _ = inputs.rows();
+    match cut(alloc, design, request, 1) {
+        Ok(plan) => { is_run::<R, L, Brand, G>(rt, home, alloc, design, &plan, inputs, run, gate) }
+        Err(fault) => {
+            drop(fault);
+            false
+        }
+    }
+}
+
+// Whether a run of the network of a design leaves what is expected.
+fn is_fed<R: Threads + Sync, L: Link, G: Gate + Sync>(
+    rt: &R,
+    home: L::Home,
+    alloc: Global,
+    design: &Design,
+    texts: &Texts,
+    run: &Run,
+    gate: &G,
+) -> bool
+    requires { KeepsToTree design.now.circuit design.now.tree }
+{
+    match request_of(alloc, texts.partition) {
+        Some(request) => match inputs_of(alloc, design, texts.trace) {
+            Some(inputs) => {
+                is_cut::<R, L, G>(rt, home, alloc, design, &request, &inputs, run, gate)
+            }
+            None => false,
+        },
+        None => false,
+    }
+}
+
+/// Whether a run of the network of a circuit and a partition leaves what is expected. False, too, if an allocation fails.
+pub(crate) fn is_expected<R: Threads + Sync, L: Link, G: Gate + Sync>(
+    rt: &R,
+    home: L::Home,
+    alloc: Global,
+    texts: &Texts,
+    run: &Run,
+    gate: &G,
+) -> bool {
+    match design_of(alloc, texts.circuit) {
+        Some(design) => is_fed::<R, L, G>(rt, home, alloc, &design, texts, run, gate),
+        None => false,
+    }
+}

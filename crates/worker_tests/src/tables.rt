@@ -1,0 +1,91 @@
+//! Runs with rings, from tables: few and many workers, cycles up to which machines are stepped, and channels of capacity 1.
+use crate::runs::{Run, Texts, is_expected};
+use gg_io::NoGate;
+use gg_ring::Ring;
+use net_calls::{FOUR_PORTS, FOUR_PORTS_TRACE, PAIR, PAIR_TRACE, THREE_CYCLES, TOGGLE};
+use std::alloc::Global;
+use std::test::Fail;
+use std::thread::Threads;
+
+// The cycle to which a network is brought before a run, the workers, the cycle up to which they step its machines, and how
+// many steps are left behind the run, at least and at most.
+type Row = (u64, u32, u64, u64, u64);
+
+// A circuit with its partition and trace, what the last output is, and runs, each from the opening.
+struct Table {
+    texts: Texts,
+    kept: &'static [u128],
+    rows: &'static [Row],
+}
+
+static TABLES: [Table; 3] = [
+    // two units that feed each other in one cycle: five hosts
+    Table {
+        texts: Texts {
+            circuit: PAIR,
+            partition: "{\"units\":[\"a\",\"b\"]}",
+            trace: PAIR_TRACE,
+        },
+        kept: &[0x11, 0x83],
+        rows: &[
+            // no worker, or one, for all cycles or for one
+            (0, 0, 2, 42, 42),
+            (0, 1, 2, 0, 0),
+            (0, 1, 1, 21, 21),
+            (1, 1, u64::MAX, 0, 0),
+            // a cycle that all machines have done, or are in
+            (1, 2, 0, 21, 21),
+            (1, 2, 1, 21, 21),
+            // fewer workers than hosts, and more
+            (0, 2, 2, 0, 41),
+            (0, 64, 2, 0, 41),
+        ],
+    },
+    // a memory that is served, by one worker and by three
+    Table {
+        texts: Texts {
+            circuit: FOUR_PORTS,
+            partition: "{\"memories\":[\"m\"]}",
+            trace: FOUR_PORTS_TRACE,
+        },
+        kept: &[0, 0xf0, 0, 0],
+        rows: &[(0, 1, 4, 0, 0), (2, 3, 4, 0, 87)],
+    },
+    // one channel, by one worker and by 64
+    Table {
+        texts: Texts {
+            circuit: TOGGLE,
+            partition: "{}",
+            trace: THREE_CYCLES,
+        },
+        kept: &[0, 1, 0],
+        rows: &[(0, 1, 3, 0, 0), (0, 64, 3, 0, 11)],
+    },
+];
+
+// The place of the first row of a table whose run isn't as expected.
+fn first_wrong<R: Threads + Sync + Copy>(rt: R, alloc: Global, table: &Table) -> Option<usize> {
+    for place in 0..table.rows.len() {
+        let (begin, workers, upto, least, most) = table.rows[place];
+        let run = Run {
+            begin,
+            workers,
+            upto,
+            least,
+            most,
+            kept: table.kept,
+        };
+        if !is_expected::<R, Ring, NoGate>(&rt, (), alloc, &table.texts, &run, &NoGate) {
+            return Some(place);
+        }
+    }
+    None
+}
+
+#[test]
+fn workers_leave_what_is_expected(rt: HostRuntime) -> Result<(), Fail> {
+    for table in &TABLES {
+        assert!(rt; first_wrong(rt, rt.alloc(), table) == None);
+    }
+    Ok(())
+}
