@@ -85,7 +85,7 @@ fn steps_copied<'a>(alloc: Global, steps: &[Step<'a>]) -> Result<Vec<Step<'a>>, 
 }
 
 // What is needed of a site for the instances that it holds.
-fn above<'a>(alloc: Global, here: &Place<'a>) -> Result<Above<'a>, AllocError>
+fn above_of<'a>(alloc: Global, here: &Place<'a>) -> Result<Above<'a>, AllocError>
     ensures { IfOk result (IsAbove here.now) }
 {
     Ok(Above {
@@ -161,7 +161,7 @@ fn add_site<'a>(
     }
     let parent = places.len() as u32;
     let number = here.number;
-    let above = above(alloc, &here)?;
+    let above = above_of(alloc, &here)?;
     places.reserve(1)?;
     places.push_reserved(here);
     if levels == 0 {
