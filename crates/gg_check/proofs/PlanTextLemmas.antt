@@ -13,12 +13,13 @@ use Rattle.gg_partfile.specs.declared.request.Request.{Request}
 use Rattle.gg_cut.specs.Machines.{machine_count}
 use Rattle.gg_cut.specs.Channels.{capacity_of, wires_of}
 use Rattle.gg_cut.specs.Listed.{listed_of, instance_of}
-use Rattle.gg_cut.specs.Plan.{IsChannel, IsPlan, machine_names, wire_at}
+use Rattle.gg_cut.specs.Plan.{IsChannel, IsPlan, machine_names, tray_names, wire_at}
 use Rattle.gg_cut.specs.declared.listed.Listed.{Listed}
 use Rattle.gg_cut.specs.declared.plan.Channel.{Channel}
 use Rattle.gg_cut.specs.declared.plan.Machine.{Machine}
 use Rattle.gg_cut.specs.declared.plan.Plan.{Plan}
 use Rattle.gg_cut.specs.declared.wires.Wire.{Wire}
+use Rattle.gg_cut.proofs.TrayLemmas.{trays-count}
 use Rattle.gg_check.specs.CheckText.{AreChannelNeeds, IsTextOfCut, channel_line, channel_name, channel_text, machine_line, machine_text}
 use Rattle.gg_check.specs.PlanText.{channel_names, line_of_channel, line_of_machine, plan_text}
 use Rattle.gg_check.specs.PlanText as plans
@@ -61,7 +62,7 @@ module _ (design : Ordered) (request : Request) (default : ℕ) (plan : Plan) (i
       let units = length-map request.units (instance_of design.tree) in
       let memories = map (path_at design.tree.memory_paths) the_listed.memories in
       let ins = map (λ s. codes "in:" ++ path_at design.circuit.paths s) design.circuit.ins in
-      let outs = map (λ s. codes "out:" ++ path_at design.circuit.paths s) design.circuit.outs in
+      let outs = tray_names design in
       let a = length-append (request.units ++ memories ++ ins) outs in
       let b = length-append (request.units ++ memories) ins in
       let d = length-append request.units memories in
@@ -74,7 +75,7 @@ module _ (design : Ordered) (request : Request) (default : ℕ) (plan : Plan) (i
         d,
         length-map the_listed.memories (path_at design.tree.memory_paths),
         length-map design.circuit.ins (λ s. codes "in:" ++ path_at design.circuit.paths s),
-        length-map design.circuit.outs (λ s. codes "out:" ++ path_at design.circuit.paths s),
+        trays-count design,
       )
 
   names-are : plans.machine_names plan.machines ≡ machine_names design request the_listed

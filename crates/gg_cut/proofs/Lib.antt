@@ -8,5 +8,6 @@ pub mod KnownLemmas
 pub mod OwnerLemmas
 pub mod RangeLemmas
 pub mod ChannelLemmas
+pub mod TrayLemmas
 pub mod WireLemmas
 pub mod SolveLemmas

@@ -1,7 +1,7 @@
 -- The plan of a cut: its machines with their pieces, its channels, and what each channel needs.
 -- Source: MEMOCODE 2009 (a network of machines that are latency-insensitive: an output depends only on the inputs
 -- that it is computed from); ICCAD 2019 (instances and memories of a target as models of their own).
-use Rattle.std.specs.Prelude.{◌≡◌, ◌↔◌, ◌⊎◌, ℕ, ◌<◌, ◌≤◌, ◌+◌, List, [], ◌∷◌, ◌++◌, ◌==◌, length, map, filter, codes, slice_index_or, Contains, AllPairs}
+use Rattle.std.specs.Prelude.{◌≡◌, ◌↔◌, ◌⊎◌, ℕ, ◌<◌, ◌≤◌, ◌+◌, ◌-◌, List, [], ◌∷◌, ◌++◌, ◌==◌, length, map, take, drop, filter, codes, slice_index_or, Contains, AllPairs}
 use Rattle.std.specs.List.{range_with_len}
 use Rattle.gg_bits.specs.Shape.{shape}
 use Rattle.gg_flat.specs.Line.{value_at, shape_at}
@@ -95,13 +95,23 @@ IsBody design listed wires m Tray = first_tray design.circuit listed ≤ m
 
 -- ---- machines
 
+-- how many out-signals of the circuit are outputs: the stops are behind them
+abbrev pub output_count : Ordered → ℕ
+output_count design = length design.circuit.outs - length design.tree.stops
+
+-- the names of the trays: of the outputs, and then of the stops
+abbrev pub tray_names : Ordered → List (List ℕ)
+tray_names design =
+    map (λ s. codes "out:" ++ path_at design.circuit.paths s) (take (output_count design) design.circuit.outs)
+    ++ map (λ s. codes "halt:" ++ path_at design.circuit.paths s) (drop (output_count design) design.circuit.outs)
+
 -- the names of the machines, in their order
 abbrev pub machine_names : Ordered → Request → Listed → List (List ℕ)
 machine_names design request listed =
     codes "hub:" ∷ (request.units
     ++ map (path_at design.tree.memory_paths) listed.memories
     ++ map (λ s. codes "in:" ++ path_at design.circuit.paths s) design.circuit.ins
-    ++ map (λ s. codes "out:" ++ path_at design.circuit.paths s) design.circuit.outs)
+    ++ tray_names design)
 
 -- machine m of the plan
 pub record IsMachine (design : Ordered) (request : Request) (listed : Listed) (wires : List Wire) (m : ℕ) (machine : Machine) : Type 0 where

@@ -1,13 +1,15 @@
 -- The names of machines by their numbers.
-use Rattle.std.proofs.Common.{◌≡◌, ℕ, zero, suc, ◌+◌, ◌<◌, List, [], ◌∷◌, ◌++◌, length, map, get_or, slice_get, codes, refl, sym, ◌∙◌, ap, None, arith}
+use Rattle.std.proofs.Common.{◌≡◌, ℕ, zero, suc, ◌+◌, ◌-◌, ◌<◌, ◌≤◌, List, [], ◌∷◌, ◌++◌, length, map, get_or, slice_get, codes, refl, sym, ◌∙◌, ap, inl, inr, None, arith}
 use Rattle.std.proofs.lemmas.List.{get_or-map, get_or_append_left, get_or-append-add, length-append, length-map}
+use Rattle.std.proofs.lemmas.Bool.{cases_lt}
 use Rattle.gg_flat.specs.Circuit.{FlatCircuit}
 use Rattle.gg_flat.specs.Tree.{InstanceTree, path_at}
 use Rattle.gg_order.specs.Design.{Ordered}
 use Rattle.gg_partfile.specs.declared.request.Request.{Request}
 use Rattle.gg_cut.specs.declared.listed.Listed.{Listed}
 use Rattle.gg_cut.specs.Machines.{Counts, memory_after, source_after, tray_after, numbering_of}
-use Rattle.gg_cut.specs.Plan.{machine_names}
+use Rattle.gg_cut.specs.Plan.{machine_names, output_count, tray_names}
+use Rattle.gg_cut.proofs.TrayLemmas.{halt-tray, out-tray}
 
 -- where there is no path at a place, the path read there is empty
 pub missing-path : (paths : List (List ℕ)) (k : ℕ) → slice_get paths k ≡ None → [] ≡ path_at paths k
@@ -54,9 +56,6 @@ module _ (design : Ordered) (request : Request) (listed : Listed) where
   abbrev given : List (List ℕ)
   given = map (λ s. codes "in:" ++ path_at paths s) design.circuit.ins
 
-  abbrev kept : List (List ℕ)
-  kept = map (λ s. codes "out:" ++ path_at paths s) design.circuit.outs
-
   pub memory-name : (tree : InstanceTree) (memories : List ℕ) (counts : Counts) (n place : ℕ) → tree ≡ design.tree → memories ≡ listed.memories → counts ≡ numbering_of design.circuit listed → length listed.units ≡ length request.units → place < counts.memories → n ≡ memory_after counts.units + place
       → path_at tree.memory_paths (get_or memories place 0) ≡ path_at (machine_names design request listed) n
   memory-name tree memories counts n place t m c u lt is =
@@ -64,7 +63,7 @@ module _ (design : Ordered) (request : Request) (listed : Listed) where
       ap (λ (all : InstanceTree). path_at all.memory_paths (get_or memories place 0)) t
       ∙ ap (λ l. path_at design.tree.memory_paths (get_or l place 0)) m
       ∙ sym (get_or-map (path_at design.tree.memory_paths) listed.memories place 0 [] inside)
-      ∙ sym (at-memory (codes "hub:") request.units held given kept n place (omega (arith, is, u, ap (λ (k : Counts). k.units) c)) (omega (arith, inside, length-map listed.memories (path_at design.tree.memory_paths))))
+      ∙ sym (at-memory (codes "hub:") request.units held given (tray_names design) n place (omega (arith, is, u, ap (λ (k : Counts). k.units) c)) (omega (arith, inside, length-map listed.memories (path_at design.tree.memory_paths))))
 
   pub source-name : (circuit : FlatCircuit) (ins : List ℕ) (counts : Counts) (n place : ℕ) → circuit ≡ design.circuit → ins ≡ circuit.ins → counts ≡ numbering_of design.circuit listed → length listed.units ≡ length request.units → place < counts.ins → n ≡ source_after counts.units counts.memories + place
       → codes "in:" ++ path_at circuit.paths (get_or ins place 0) ≡ path_at (machine_names design request listed) n
@@ -73,16 +72,31 @@ module _ (design : Ordered) (request : Request) (listed : Listed) where
       ap (λ l. codes "in:" ++ path_at circuit.paths (get_or l place 0)) i
       ∙ ap (λ (all : FlatCircuit). codes "in:" ++ path_at all.paths (get_or all.ins place 0)) f
       ∙ sym (get_or-map (λ s. codes "in:" ++ path_at paths s) design.circuit.ins place 0 [] inside)
-      ∙ sym (at-source (codes "hub:") request.units held given kept n place
+      ∙ sym (at-source (codes "hub:") request.units held given (tray_names design) n place
       (omega (arith, is, u, ap (λ (k : Counts). k.units) c, ap (λ (k : Counts). k.memories) c, length-map listed.memories (path_at design.tree.memory_paths)))
       (omega (arith, inside, length-map design.circuit.ins (λ s. codes "in:" ++ path_at paths s))))
 
-  pub tray-name : (circuit : FlatCircuit) (outs : List ℕ) (counts : Counts) (n place : ℕ) → circuit ≡ design.circuit → outs ≡ circuit.outs → counts ≡ numbering_of design.circuit listed → length listed.units ≡ length request.units → place < counts.outs → n ≡ tray_after counts.units counts.memories counts.ins + place
-      → codes "out:" ++ path_at circuit.paths (get_or outs place 0) ≡ path_at (machine_names design request listed) n
-  tray-name circuit outs counts n place f o c u lt is =
+  -- the names that a tray can get, by its place, are those of the plan
+  pub tray-name : (circuit : FlatCircuit) (tree : InstanceTree) (counts : Counts) (n place : ℕ) (name : List ℕ) → circuit ≡ design.circuit → tree ≡ design.tree → counts ≡ numbering_of design.circuit listed
+      → length listed.units ≡ length request.units → place < counts.outs → n ≡ tray_after counts.units counts.memories counts.ins + place
+      → (place < length circuit.outs - length tree.stops → name ≡ codes "out:" ++ path_at circuit.paths (get_or circuit.outs place 0))
+      → (length circuit.outs - length tree.stops ≤ place → name ≡ codes "halt:" ++ path_at circuit.paths (get_or circuit.outs place 0))
+      → name ≡ path_at (machine_names design request listed) n
+  tray-name circuit tree counts n place name f t c u lt is output stop =
       let inside : place < length design.circuit.outs = omega (arith, lt, ap (λ (k : Counts). k.outs) c) in
-      ap (λ l. codes "out:" ++ path_at circuit.paths (get_or l place 0)) o
-      ∙ ap (λ (all : FlatCircuit). codes "out:" ++ path_at all.paths (get_or all.outs place 0)) f
-      ∙ sym (get_or-map (λ s. codes "out:" ++ path_at paths s) design.circuit.outs place 0 [] inside)
-      ∙ sym (at-tray (codes "hub:") request.units held given kept n place
+      named inside ∙ sym (at-tray (codes "hub:") request.units held given (tray_names design) n place
       (omega (arith, is, u, ap (λ (k : Counts). k.units) c, ap (λ (k : Counts). k.memories) c, ap (λ (k : Counts). k.ins) c, length-map listed.memories (path_at design.tree.memory_paths), length-map design.circuit.ins (λ s. codes "in:" ++ path_at paths s))))
+    where
+      counted : length circuit.outs - length tree.stops ≡ output_count design
+      counted = ap (λ (all : FlatCircuit). length all.outs - length tree.stops) f ∙ ap (λ (all : InstanceTree). length design.circuit.outs - length all.stops) t
+
+      -- what a word gives in front of the signal's path
+      begun : (word : List ℕ) → word ++ path_at circuit.paths (get_or circuit.outs place 0) ≡ word ++ path_at paths (get_or design.circuit.outs place 0)
+      begun word = ap (λ (all : FlatCircuit). word ++ path_at all.paths (get_or all.outs place 0)) f
+
+      named : place < length design.circuit.outs → name ≡ path_at (tray_names design) place
+      named inside =
+          elim (cases_lt place (output_count design)) [
+            | inl less ↦ output (omega (arith, less, counted)) ∙ begun (codes "out:") ∙ out-tray design place less
+            | inr over ↦ stop (omega (arith, over, counted)) ∙ begun (codes "halt:") ∙ halt-tray design place over inside
+          ]

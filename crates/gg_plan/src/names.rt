@@ -1,5 +1,6 @@
 //! The names of the machines.
-ghost use Rattle.std.specs.Prelude.{◌≡◌, ◌<◌, length, codes, ◌++◌, IfOk};
+ghost use Rattle.std.specs.Prelude.{◌≡◌, ◌<◌, ◌≤◌, ◌-◌, length, codes, ◌++◌, IfOk};
+ghost use Rattle.gg_flat.specs.Line.{value_at};
 ghost use Rattle.gg_flat.specs.Tree.{path_at};
 ghost use Rattle.gg_cut.specs.Machines.{machine_count, numbering_of};
 ghost use Rattle.gg_cut.specs.Plan.{machine_names};
@@ -41,7 +42,7 @@ pub(crate) fn machine_name(
             )
         }
         Role::Source(place) => port_name(alloc, "in:", piece, piece.ins()[place as usize]),
-        Role::Tray(place) => port_name(alloc, "out:", piece, piece.outs()[place as usize]),
+        Role::Tray(place) => tray_name(alloc, piece, design.tree(), place as usize),
     }
 }
 
@@ -53,6 +54,19 @@ fn memory_name(alloc: Global, tree: &Tree, place: u32) -> Result<Name, AllocErro
         Some(path) => path.clone(),
         None => Name::from_str(alloc, ""),
     }
+}
+
+// The name of the tray of the out-signal at a place. The stops are behind the outputs.
+fn tray_name(alloc: Global, piece: &Piece, tree: &Tree, place: usize) -> Result<Name, AllocError>
+    requires { place < length piece.now.outs }
+    ensures { IfOk result (λ name.
+        (place < length piece.now.outs - length tree.now.stops → name ≡ codes "out:" ++ path_at piece.now.paths (value_at piece.now.outs place))
+        × (length piece.now.outs - length tree.now.stops ≤ place → name ≡ codes "halt:" ++ path_at piece.now.paths (value_at piece.now.outs place))) }
+{
+    let outs = piece.outs();
+    let outputs = outs.len().saturating_sub(tree.stops().len());
+    let word = if place < outputs { "out:" } else { "halt:" };
+    port_name(alloc, word, piece, outs[place])
 }
 
 // A word followed by the path of a signal.

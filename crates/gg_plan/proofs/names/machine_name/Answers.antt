@@ -1,4 +1,4 @@
-use Rattle.std.proofs.Common.{◌≡◌, ◌∙◌, get_or, codes, ◌++◌}
+use Rattle.std.proofs.Common.{◌≡◌, ◌∙◌, ◌<◌, ◌≤◌, ◌-◌, get_or, length, codes, ◌++◌}
 use Rattle.std.proofs.lemmas.Result.{IfOk-weaker}
 use Rattle.gg_flat.specs.Tree.{path_at}
 use Rattle.gg_cut.specs.Plan.{machine_names}
@@ -25,8 +25,11 @@ returns-in-Source c =
 pub returns-in-Tray : goal.returns-in-Tray
 returns-in-Tray c =
     let circuit = c.piece-piece.result.now in
-    let outs = c.outs.result.now in
+    let tree = c.tree-in-Tray.result.now in
     let is = c.in-Tray.ensures {u = tt} in
-    IfOk-weaker c.port_name-in-Tray.result (λ name. name ≡ codes "out:" ++ path_at circuit.paths (get_or outs c.in-Tray.place 0)) (λ name. name ≡ path_at (machine_names c.args.design.now c.args.request.now c.args.listed.now) c.args.number)
-    (λ name e. e ∙ tray-name c.args.design.now c.args.request.now c.args.listed.now circuit outs c.args.numbering.now c.args.number c.in-Tray.place c.piece-piece.ensures.circuit c.outs.ensures c.requires.numbering c.requires.units is.0 is.1)
-    c.port_name-in-Tray.ensures
+    IfOk-weaker c.tray_name.result
+    (λ name. (c.in-Tray.place < length circuit.outs - length tree.stops → name ≡ codes "out:" ++ path_at circuit.paths (get_or circuit.outs c.in-Tray.place 0))
+        × (length circuit.outs - length tree.stops ≤ c.in-Tray.place → name ≡ codes "halt:" ++ path_at circuit.paths (get_or circuit.outs c.in-Tray.place 0)))
+    (λ name. name ≡ path_at (machine_names c.args.design.now c.args.request.now c.args.listed.now) c.args.number)
+    (λ name e. tray-name c.args.design.now c.args.request.now c.args.listed.now circuit tree c.args.numbering.now c.args.number c.in-Tray.place name c.piece-piece.ensures.circuit c.tree-in-Tray.ensures.tree c.requires.numbering c.requires.units is.0 is.1 e.0 e.1)
+    c.tray_name.ensures
