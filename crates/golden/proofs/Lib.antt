@@ -10,6 +10,7 @@ pub mod GoOnLemmas
 pub mod LineLemmas
 pub mod NamingLemmas
 pub mod NetLemmas
+pub mod OutputLemmas
 pub mod PartitionLemmas
 pub mod PortLemmas
 pub mod PrintingLemmas

@@ -17,7 +17,7 @@ use Rattle.gg_flat.specs.declared.ports.Port.{Port}
 use Rattle.gg_trace.specs.Ports.{name_at, width_at, HasDistinctNames}
 use Rattle.gg_trace.specs.Table.{row_of}
 use Rattle.gg_trace.specs.Trace.{Columns, HaveWidths}
-use Rattle.gg_flat.specs.Ports.{port_with, port_at, ports_at, in_ports, out_ports}
+use Rattle.gg_flat.specs.Ports.{port_with, port_at, ports_at, in_ports}
 
 module _ (circuit : FlatCircuit) where
   -- the port of a signal: its name is the signal's path, its width the signal's
@@ -143,6 +143,6 @@ module _ (circuit : FlatCircuit) where
           inputs = row-inputs bytes n columns cols fit;
         }
 
-    -- there are as many output ports as outputs
-    pub out_ports-count : length (out_ports circuit) ≡ length circuit.outs
-    out_ports-count = (ports_at-are formed.named circuit.outs formed.outs).count
+    -- there are as many ports as signals, if the circuit has these signals
+    pub ports-count : (signals : List ℕ) → ((i : ℕ) → i < length signals → value_at signals i < length circuit.signals) → length (ports_at circuit signals) ≡ length signals
+    ports-count signals known = (ports_at-are formed.named signals known).count

@@ -1,8 +1,9 @@
 -- The rows of a run, one by one.
-use Rattle.std.proofs.Common.{◌≡◌, ℕ, zero, suc, ◌+◌, ◌<◌, ◌≤◌, List, [], ◌∷◌, ◌++◌, length, map, refl, sym, ap, ◌∙◌, subst, inl, inr, arith, append_assoc, append-nil}
+use Rattle.std.proofs.Common.{◌≡◌, ℕ, zero, suc, ◌+◌, ◌<◌, ◌≤◌, List, [], ◌∷◌, ◌++◌, length, map, take, refl, sym, ap, ◌∙◌, subst, inl, inr, arith, append_assoc, append-nil}
 use Rattle.std.specs.Prelude.{Option, Result, Err, slice_index}
 use Rattle.std.specs.Io.KnownBytes.{append_known}
-use Rattle.std.proofs.lemmas.List.{get_or-map}
+use Rattle.std.proofs.lemmas.List.{get_or-map, take-map}
+use Rattle.std.proofs.Math.Seq.{take-append_seam}
 use Rattle.std.proofs.Math.Nat.{eq-or-lt_of_le}
 use Rattle.gg_flat.specs.Circuit.{FlatCircuit}
 use Rattle.gg_flat.specs.Line.{value_at}
@@ -18,20 +19,28 @@ use Rattle.gg_trace.specs.Printing.{header_line, row_line, trace_text}
 use Rattle.gg_trace.specs.Table.{Table, row_of}
 use Rattle.gg_told.specs.declared.endings.Ending.{Ending}
 use Rattle.gg_told.specs.Ends.{IsFront}
-use Rattle.gg_flat.specs.Ports.{out_ports}
-use Rattle.golden.specs.RunText.{out_columns}
+use Rattle.gg_flat.specs.Ports.{output_ports}
+use Rattle.gg_flat.specs.Clock.{Ratio, edges_at}
+use Rattle.gg_flat.specs.Tree.{InstanceTree}
+use Rattle.golden.specs.RunText.{columns_of, outputs_of}
 use Rattle.gg_told.specs.Endings.{Prints, PrintsOn}
 use Rattle.gg_told.specs.WentOn.{SinkWentOn}
 use Rattle.gg_told.proofs.WritingLemmas.{append_known-append, append_known-nil, on-then, rose-earlier, stop-within}
 
+-- the columns of the first out-signals, one for each port
+abbrev pub shown_columns : FlatCircuit → List Port → List (List ℕ) → List (List ℕ)
+shown_columns circuit ports rows = columns_of (take (length ports) circuit.outs) rows
+
 -- the first `cycle` rows are on the output sink after the header, and the simulator is in the state before the next, in any run
 pub record PrintedTo {K : Type 0} (circuit : FlatCircuit) (inputs : Table) (ports : List Port) (sink : Sink.Ghosts K) (out out' : K) (cycle : ℕ) (mono : Simulation) (outs : List ℕ) : Type 0 where
   pub same : mono.circuit ≡ circuit
+  pub every : mono.ratios ≡ []
+  pub made : mono.cycle ≡ cycle
   pub count : length outs ≡ length circuit.outs
   pub state : (rows : List (List ℕ)) → IsRun circuit inputs.columns inputs.rows rows → mono.state ≡ state_at circuit (opening_start circuit) rows cycle
   pub written : (rows : List (List ℕ)) (base : Option (List ℕ)) → IsRun circuit inputs.columns inputs.rows rows
-      → sink.written out ≡ append_known base (trace_text ports (out_columns circuit rows) 0)
-      → sink.written out' ≡ append_known base (trace_text ports (out_columns circuit rows) cycle)
+      → sink.written out ≡ append_known base (trace_text ports (shown_columns circuit ports rows) 0)
+      → sink.written out' ≡ append_known base (trace_text ports (shown_columns circuit ports rows) cycle)
   pub on : SinkWentOn sink out out'
 
 -- the outputs of a row of a run are a row of their columns
@@ -78,7 +87,7 @@ trace_text-more ports columns t values e =
 -- what a cycle of a run leaves: the next state, and the outputs' row
 pub record Follows (circuit : FlatCircuit) (rows : List (List ℕ)) (t : ℕ) (after : State) (printed : List ℕ) : Type 0 where
   pub state : after ≡ state_at circuit (opening_start circuit) rows (t + 1)
-  pub row : printed ≡ row_of (out_columns circuit rows) t
+  pub row : (count : ℕ) → take count printed ≡ row_of (columns_of (take count circuit.outs) rows) t
 
 pub cycle-follows : SettledOnce → (circuit : FlatCircuit) (order : List ℕ) (columns : List (List ℕ)) (n : ℕ) (rows : List (List ℕ)) (t : ℕ)
     (before after : State) (inputs printed : List ℕ) → IsOrder circuit order → IsRun circuit columns n rows → t < n
@@ -90,42 +99,52 @@ cycle-follows once circuit order columns n rows t before after inputs printed or
     let within : t < length rows = omega arith in
     record {
       state = cycle.next ∙ ap (λ (s : State). next_state [] circuit s cycle.row) is ∙ ap (next_state [] circuit (state_at circuit (opening_start circuit) rows t)) row ∙ ap (state_at circuit (opening_start circuit) rows) turned;
-      row = cycle.outputs_are ∙ ap (outputs circuit) row ∙ outputs-row circuit rows t within circuit.outs;
+      row = λ count.
+          ap (take count) (cycle.outputs_are ∙ ap (outputs circuit) row)
+          ∙ take-map (λ s. value_at (row_at rows t) s) count circuit.outs
+          ∙ outputs-row circuit rows t within (take count circuit.outs);
     }
 
 module _ {K : Type 0} {circuit : FlatCircuit} {inputs : Table} {ports : List Port} {sink : Sink.Ghosts K} {out out' : K} {t : ℕ} {mono : Simulation} {outs outs' : List ℕ}
     (once : SettledOnce) (order : List ℕ) (ordered : IsOrder circuit order) (lt : t < inputs.rows) (row : List ℕ) (given : row ≡ row_of inputs.columns t)
-    (printed : PrintedTo circuit inputs ports sink out out' t mono outs) (mono' : Simulation) (cycle : Cycle [] mono.circuit mono.state row outs' mono'.state) where
+    (printed : PrintedTo circuit inputs ports sink out out' t mono outs) (mono' : Simulation) (cycle : Cycle (edges_at mono.ratios mono.cycle) mono.circuit mono.state row outs' mono'.state) where
   follows-so : (rows : List (List ℕ)) → IsRun circuit inputs.columns inputs.rows rows → Follows circuit rows t mono'.state outs'
   follows-so rows run =
       cycle-follows once circuit order inputs.columns inputs.rows rows t mono.state mono'.state row outs' ordered run lt (printed.state rows run) given
-      (subst (λ (c : FlatCircuit). Cycle [] c mono.state row outs' mono'.state) printed.same cycle)
+      (subst (λ (c : FlatCircuit). Cycle [] c mono.state row outs' mono'.state) printed.same
+      (subst (λ (ratios : List Ratio). Cycle (edges_at ratios mono.cycle) mono.circuit mono.state row outs' mono'.state) printed.every cycle))
+
+  -- the row that is written
+  abbrev shown : List ℕ
+  shown = take (length ports) outs'
 
   -- one more cycle
-  pub printed-next : {out'' : K} → mono'.circuit ≡ mono.circuit → sink.written out'' ≡ append_known (sink.written out') (row_line ports t outs')
+  pub printed-next : {out'' : K} → mono'.circuit ≡ mono.circuit → mono'.ratios ≡ mono.ratios → mono'.cycle ≡ mono.cycle + 1 → sink.written out'' ≡ append_known (sink.written out') (row_line ports t shown)
       → SinkWentOn sink out' out'' → length outs' ≡ length outs → PrintedTo circuit inputs ports sink out out'' (t + 1) mono' outs'
-  printed-next same puts on counted = record {
+  printed-next same every made puts on counted = record {
     same = same ∙ printed.same;
+    every = every ∙ printed.every;
+    made = made ∙ ap (λ k. k + 1) printed.made;
     count = counted ∙ printed.count;
     state = λ rows run. (follows-so rows run).state;
     written = λ rows base run begins.
-        puts ∙ ap (λ (w : Option (List ℕ)). append_known w (row_line ports t outs')) (printed.written rows base run begins)
-        ∙ append_known-append base (trace_text ports (out_columns circuit rows) t) (row_line ports t outs')
-        ∙ ap (append_known base) (trace_text-more ports (out_columns circuit rows) t outs' (follows-so rows run).row);
+        puts ∙ ap (λ (w : Option (List ℕ)). append_known w (row_line ports t shown)) (printed.written rows base run begins)
+        ∙ append_known-append base (trace_text ports (shown_columns circuit ports rows) t) (row_line ports t shown)
+        ∙ ap (append_known base) (trace_text-more ports (shown_columns circuit ports rows) t shown ((follows-so rows run).row (length ports)));
     on = on-then printed.on on;
   }
 
   -- if the row of a cycle stops, a front part of the whole text is there
-  pub printed-stop : (out'' : K) {T : Type 0} {r : Result T Ending} {ending : Ending} → r ≡ Err ending → PrintsOn {T = T} sink out' out'' (row_line ports t outs') (Err ending)
+  pub printed-stop : (out'' : K) {T : Type 0} {r : Result T Ending} {ending : Ending} → r ≡ Err ending → PrintsOn {T = T} sink out' out'' (row_line ports t shown) (Err ending)
       → (rows : List (List ℕ)) (base : Option (List ℕ)) → IsRun circuit inputs.columns inputs.rows rows
-      → sink.written out ≡ append_known base (trace_text ports (out_columns circuit rows) 0)
-      → Prints base (sink.written out'') (Rose (sink.faults out) (sink.faults out'')) (trace_text ports (out_columns circuit rows) inputs.rows) r
+      → sink.written out ≡ append_known base (trace_text ports (shown_columns circuit ports rows) 0)
+      → Prints base (sink.written out'') (Rose (sink.faults out) (sink.faults out'')) (trace_text ports (shown_columns circuit ports rows) inputs.rows) r
   printed-stop out'' {T = T} {ending = ending} e prints rows base run begins =
-      let whole = trace_text ports (out_columns circuit rows) inputs.rows in
-      let front = trace_text-front ports (out_columns circuit rows) inputs.rows (t + 1) (omega arith) in
-      rw e (stop-within T base _ _ _ _ (trace_text ports (out_columns circuit rows) t) (row_line ports t outs') whole ending (printed.written rows base run begins)
+      let whole = trace_text ports (shown_columns circuit ports rows) inputs.rows in
+      let front = trace_text-front ports (shown_columns circuit ports rows) inputs.rows (t + 1) (omega arith) in
+      rw e (stop-within T base _ _ _ _ (trace_text ports (shown_columns circuit ports rows) t) (row_line ports t shown) whole ending (printed.written rows base run begins)
       (rose-earlier _ _ _ printed.on.faults_stay_or_rise)
-      (subst (λ (x : List ℕ). IsFront x whole) (sym (trace_text-more ports (out_columns circuit rows) t outs' (follows-so rows run).row)) front)
+      (subst (λ (x : List ℕ). IsFront x whole) (sym (trace_text-more ports (shown_columns circuit ports rows) t shown ((follows-so rows run).row (length ports)))) front)
       prints)
 
 -- if the header stops, a front part of the whole text is there
@@ -135,11 +154,14 @@ header-stop T before now failed ports columns n piece ending e prints =
     stop-within T before before now failed failed [] (header_line ports) (trace_text ports columns n) ending (sym (append_known-nil before)) (λ x. x)
     (trace_text-front ports columns n 0 (omega arith)) (subst (λ (p : List ℕ). Prints {T = T} before now failed p (Err ending)) e prints)
 
--- what is printed for the ports that were made and the simulated circuit is printed for the circuit, if they are the circuit's
-pub run-prints : (T : Type 0) (before now : Option (List ℕ)) (failed : Type 0) (r : Result T Ending) (circuit simulated : FlatCircuit) (ports : List Port) (columns : List (List ℕ)) (n : ℕ)
-    → simulated ≡ circuit → ports ≡ out_ports circuit → (rows : List (List ℕ)) → IsRun circuit columns n rows
-    → ((rows : List (List ℕ)) → IsRun simulated columns n rows → Prints before now failed (trace_text ports (out_columns simulated rows) n) r)
-    → Prints before now failed (trace_text (out_ports circuit) (out_columns circuit rows) n) r
-run-prints T before now failed r circuit simulated ports columns n e f rows run prints =
-    subst (λ (p : List Port). Prints before now failed (trace_text p (out_columns circuit rows) n) r) f
-    (subst (λ (c : FlatCircuit). IsRun c columns n rows → Prints before now failed (trace_text ports (out_columns c rows) n) r) e (prints rows) run)
+-- what is printed for the ports that were made and the simulated circuit is printed for the circuit's outputs, if they are the first of its out-signals
+pub run-prints : (T : Type 0) (before now : Option (List ℕ)) (failed : Type 0) (r : Result T Ending) (circuit simulated : FlatCircuit) (tree : InstanceTree) (stops : List ℕ) (ports : List Port) (columns : List (List ℕ)) (n : ℕ)
+    → simulated ≡ circuit → outputs_of tree ++ stops ≡ circuit.outs → ports ≡ output_ports circuit tree → length ports ≡ length (outputs_of tree) → (rows : List (List ℕ)) → IsRun circuit columns n rows
+    → ((rows : List (List ℕ)) → IsRun simulated columns n rows → Prints before now failed (trace_text ports (shown_columns simulated ports rows) n) r)
+    → Prints before now failed (trace_text (output_ports circuit tree) (columns_of (outputs_of tree) rows) n) r
+run-prints T before now failed r circuit simulated tree stops ports columns n e outs f count rows run prints =
+    let shown : take (length ports) circuit.outs ≡ outputs_of tree =
+    ap (λ k. take k circuit.outs) count ∙ ap (take (length (outputs_of tree))) (sym outs) ∙ take-append_seam (outputs_of tree) stops in
+    subst (λ (signals : List ℕ). Prints before now failed (trace_text (output_ports circuit tree) (columns_of signals rows) n) r) shown
+    (subst (λ (p : List Port). Prints before now failed (trace_text p (columns_of (take (length ports) circuit.outs) rows) n) r) f
+    (subst (λ (c : FlatCircuit). IsRun c columns n rows → Prints before now failed (trace_text ports (shown_columns c ports rows) n) r) e (prints rows) run))

@@ -14,9 +14,9 @@ use Rattle.gg_told.specs.Order.{CanBe, IsRefused}
 use Rattle.golden.specs.Run.{trace_file_for, trace_file_of}
 use Rattle.gg_front.specs.Meaning.{Means}
 use Rattle.gg_io.specs.Told.{Told}
-use Rattle.gg_flat.specs.Ports.{in_ports, out_ports}
+use Rattle.gg_flat.specs.Ports.{in_ports}
 use Rattle.golden.specs.RunText.{Feeds}
-use Rattle.golden.proofs.PortLemmas.{in_ports-distinct, out_ports-count, trace-columns}
+use Rattle.golden.proofs.PortLemmas.{in_ports-distinct, trace-columns}
 
 -- a fault that isn't `NoMemory` is the trace's first
 pub first-of : (ports : List Port) (bytes : List ℕ) (fault : TraceFault) → fault ≢ trace.NoMemory → IfFirstFault ports bytes fault → IsFirstFault ports bytes fault
@@ -53,16 +53,6 @@ pub ports-feed : (circuit : FlatCircuit) (ports : List Port) (bytes slice : List
     → (n : ℕ) (columns : List (List ℕ)) → Columns ports slice n columns → Feeds circuit bytes n columns
 ports-feed circuit ports bytes slice e f n columns cols =
     subst (λ (p : List Port). Columns p bytes n columns) e (subst (λ (b : List ℕ). Columns ports b n columns) f cols)
-
--- the ports that were made are those of a circuit's outputs
-pub outs-are : (circuit piece : FlatCircuit) (ports : List Port) → ports ≡ out_ports piece → piece ≡ circuit → ports ≡ out_ports circuit
-outs-are circuit piece ports p r = p ∙ ap (λ (c : FlatCircuit). out_ports c) r
-
--- they are as many as the simulated circuit has outputs
-pub outs-count : (circuit simulated : FlatCircuit) (ports : List Port) → ports ≡ out_ports circuit → simulated ≡ circuit → IsWellFormed circuit
-    → length ports ≡ length simulated.outs
-outs-count circuit simulated ports p e formed =
-    ap (λ (x : List Port). length x) p ∙ out_ports-count circuit formed ∙ sym (ap (λ (c : FlatCircuit). length c.outs) e)
 
 -- the columns that the trace gives the ports are columns for the circuit
 pub ports-fed : (circuit : FlatCircuit) (ports : List Port) (bytes : List ℕ) (n : ℕ) (columns : List (List ℕ)) → ports ≡ in_ports circuit → IsWellFormed circuit

@@ -1,7 +1,8 @@
 -- The files of a circuit and of a trace, and the text that `run` writes.
 use Rattle.std.specs.Prelude.{◌≡◌, ◌≢◌, ℕ, List}
 use Rattle.gg_flat.specs.Circuit.{FlatCircuit}
-use Rattle.gg_front.specs.Meaning.{Means}
+use Rattle.gg_front.specs.Meaning.{Means, MeansDesign}
+use Rattle.gg_order.specs.Design.{Ordered}
 use Rattle.gg_front.specs.Accepted.{IsAcceptedText}
 use Rattle.gg_front.specs.Fault.{HasFrontFault, front_text}
 use Rattle.gg_front.specs.declared.fault.FrontFault.{FrontFault}
@@ -50,6 +51,6 @@ TellsTraceFor circuit trace said = (flat : FlatCircuit) × Means circuit flat ×
 abbrev pub trace_file_for : (circuit name : List ℕ) → File
 trace_file_for circuit name = trace_file name (IsTraceFor circuit) (TellsTraceFor circuit)
 
--- the text of a run of a flat circuit that these bytes mean, on this trace
+-- the text of the run of the circuit that these bytes mean, on this trace
 abbrev pub IsTextOf : (circuit trace text : List ℕ) → Type 0
-IsTextOf circuit trace text = (flat : FlatCircuit) × Means circuit flat × IsRunText flat trace text
+IsTextOf circuit trace text = (design : Ordered) × MeansDesign circuit design × IsRunText design.circuit design.tree trace text

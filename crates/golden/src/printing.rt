@@ -1,27 +1,30 @@
 //! Printing of the run of a circuit.
-ghost use Rattle.std.specs.Prelude.{◌≡◌, ℕ, List, [], length, Option};
+ghost use Rattle.std.specs.Prelude.{◌≡◌, ◌+◌, ◌++◌, ◌∷◌, ◌<◌, ◌≤◌, ℕ, List, [], length, take, Option, IfOk, OnOk};
 ghost use Rattle.std.specs.Io.KnownBytes.{append_known};
+ghost use Rattle.gg_flat.specs.Clock.{edges_at};
 ghost use Rattle.gg_flat.specs.Order.{IsOrder};
 ghost use Rattle.gg_flat.specs.Run.{IsRun, IsColumns};
+ghost use Rattle.gg_flat.specs.Scoped.{output_signals};
 ghost use Rattle.gg_flat.specs.Settled.{IsInputs};
 ghost use Rattle.gg_flat.specs.State.{opening};
 ghost use Rattle.gg_io.specs.Count.{Rose};
+ghost use Rattle.gg_moved.specs.KeepsToTree.{KeepsToTree};
 ghost use Rattle.gg_refsim.specs.Cycle.{Cycle};
 ghost use Rattle.gg_trace.specs.Printing.{row_line, trace_text};
-ghost use Rattle.gg_flat.specs.Ports.{out_ports};
-ghost use Rattle.golden.specs.RunText.{out_columns};
+ghost use Rattle.gg_flat.specs.Ports.{output_ports};
+ghost use Rattle.golden.specs.RunText.{columns_of, outputs_of};
 ghost use Rattle.gg_told.specs.Endings.{Prints, PrintsOn};
 ghost use Rattle.gg_told.specs.WentOn.{SinkWentOn};
 
-use gg_flat::{Ports, runs_along, settled_once};
+use gg_flat::{InstancePort, Ports, Tree, runs_along, settled_once};
 use gg_io::Sink;
 use gg_order::Design;
 use gg_refsim::Mono;
 use gg_told::{Ending, put};
 use gg_trace::{Trace, header_text, row_text};
-use std::alloc::Global;
+use std::alloc::{AllocError, Global};
 
-// Advances by one cycle, and writes its row.
+// Advances by one cycle, and writes its row: a value for each port, of the first out-signals.
 fn print_row<K: Sink>(
     alloc: Global,
     mono: &mut Mono<'_>,
@@ -31,16 +34,20 @@ fn print_row<K: Sink>(
     outs: &mut [u128],
     out: &mut K,
 ) -> Result<(), Ending>
+    requires few { mono.old.cycle < 1000000 }
     requires inputs { IsInputs mono.old.circuit inputs.now }
     requires outs { length outs.old ≡ length mono.old.circuit.outs }
-    requires ports { length ports.now ≡ length mono.old.circuit.outs }
+    requires ports { length ports.now ≤ length mono.old.circuit.outs }
     ensures circuit { mono.new.circuit ≡ mono.old.circuit }
-    ensures cycle { Cycle [] mono.old.circuit mono.old.state inputs.now outs.new mono.new.state }
-    ensures prints { PrintsOn K.Sink out.old out.new (row_line ports.now cycle outs.new) result }
+    ensures ratios { mono.new.ratios ≡ mono.old.ratios }
+    ensures count { mono.new.cycle ≡ mono.old.cycle + 1 }
+    ensures cycle { Cycle (edges_at mono.old.ratios mono.old.cycle) mono.old.circuit mono.old.state inputs.now outs.new mono.new.state }
+    ensures prints { PrintsOn K.Sink out.old out.new (row_line ports.now cycle (take (length ports.now) outs.new)) result }
     ensures out { SinkWentOn K.Sink out.old out.new }
 {
     mono.cycle(inputs, outs);
-    let text = row_text(alloc, ports, cycle, outs)?;
+    let shown = ports.as_slice().len();
+    let text = row_text(alloc, ports, cycle, &outs[..shown])?;
     put(out, text.as_bytes())
 }
 
@@ -54,13 +61,16 @@ fn print_rows<K: Sink>(
     out: &mut K,
 ) -> Result<(), Ending>
     requires opening { mono.old.state ≡ opening mono.old.circuit }
+    requires every { mono.old.ratios ≡ [] }
+    requires begun { mono.old.cycle ≡ 0 }
+    requires few { inputs.now.rows ≤ 1000000 }
     requires ordered { (order : List ℕ) × IsOrder mono.old.circuit order }
     requires fed { IsColumns mono.old.circuit inputs.now.rows inputs.now.columns }
     requires outs { length outs.old ≡ length mono.old.circuit.outs }
-    requires ports { length ports.now ≡ length mono.old.circuit.outs }
+    requires ports { length ports.now ≤ length mono.old.circuit.outs }
     ensures prints { (rows : List (List ℕ)) (base : Option (List ℕ)) → IsRun mono.old.circuit inputs.now.columns inputs.now.rows rows
-        → K.written out.old ≡ append_known base (trace_text ports.now (out_columns mono.old.circuit rows) 0)
-        → Prints base (K.written out.new) (Rose (K.faults out.old) (K.faults out.new)) (trace_text ports.now (out_columns mono.old.circuit rows) inputs.now.rows) result }
+        → K.written out.old ≡ append_known base (trace_text ports.now (columns_of (take (length ports.now) mono.old.circuit.outs) rows) 0)
+        → Prints base (K.written out.new) (Rose (K.faults out.old) (K.faults out.new)) (trace_text ports.now (columns_of (take (length ports.now) mono.old.circuit.outs) rows) inputs.now.rows) result }
     ensures out { SinkWentOn K.Sink out.old out.new }
 {
     settled_once();
@@ -79,10 +89,13 @@ fn print_all<K: Sink>(
     out: &mut K,
 ) -> Result<(), Ending>
     requires opening { mono.old.state ≡ opening mono.old.circuit }
+    requires every { mono.old.ratios ≡ [] }
+    requires begun { mono.old.cycle ≡ 0 }
+    requires few { inputs.now.rows ≤ 1000000 }
     requires fed { IsColumns mono.old.circuit inputs.now.rows inputs.now.columns }
-    requires ports { length ports.now ≡ length mono.old.circuit.outs }
+    requires ports { length ports.now ≤ length mono.old.circuit.outs }
     ensures prints { (rows : List (List ℕ)) → IsRun mono.old.circuit inputs.now.columns inputs.now.rows rows
-        → PrintsOn K.Sink out.old out.new (trace_text ports.now (out_columns mono.old.circuit rows) inputs.now.rows) result }
+        → PrintsOn K.Sink out.old out.new (trace_text ports.now (columns_of (take (length ports.now) mono.old.circuit.outs) rows) inputs.now.rows) result }
     ensures out { SinkWentOn K.Sink out.old out.new }
 {
     let mut outs = vec![in alloc; 0u128; mono.piece().outs().len()]?;
@@ -91,24 +104,56 @@ fn print_all<K: Sink>(
     print_rows(alloc, mono, ports, inputs, outs.as_mut_slice(), out)
 }
 
-/// Prints the run of a design on these inputs.
+// Adds the signal of a port, if it is an output.
+fn add_output(signals: &mut Vec<u32>, port: &InstancePort) -> Result<(), AllocError>
+    ensures { OnOk result (signals.new.items ≡ signals.old.items ++ output_signals (port.now ∷ [])) }
+{
+    if !port.is_input {
+        signals.push(port.signal)?;
+    }
+    Ok(())
+}
+
+// The signals of the outputs among these ports.
+fn outputs_among(alloc: Global, ports: &[InstancePort]) -> Result<Vec<u32>, AllocError>
+    ensures { IfOk result (λ signals. signals.items ≡ output_signals ports.now) }
+{
+    let mut signals = Vec::new(alloc);
+    for port in ports {
+        add_output(&mut signals, port)?;
+    }
+    Ok(signals)
+}
+
+// The top's outputs, in port order.
+fn top_outputs(alloc: Global, tree: &Tree) -> Result<Vec<u32>, AllocError>
+    requires { 0 < length tree.now.instances }
+    ensures { IfOk result (λ signals. signals.items ≡ outputs_of tree.now) }
+{
+    outputs_among(alloc, tree.instances()[0].ports.as_slice())
+}
+
+/// Prints the run of a design on these inputs: the top's outputs, cycle by cycle.
 pub(crate) fn print_run<K: Sink>(
     alloc: Global,
     design: &Design,
     inputs: &Trace,
     out: &mut K,
 ) -> Result<(), Ending>
+    requires keeps { KeepsToTree design.now.circuit design.now.tree }
+    requires few { inputs.now.rows ≤ 1000000 }
     requires fed { IsColumns design.now.circuit inputs.now.rows inputs.now.columns }
     ensures prints { (rows : List (List ℕ)) × IsRun design.now.circuit inputs.now.columns inputs.now.rows rows
-        × PrintsOn K.Sink out.old out.new (trace_text (out_ports design.now.circuit) (out_columns design.now.circuit rows) inputs.now.rows) result }
+        × PrintsOn K.Sink out.old out.new (trace_text (output_ports design.now.circuit design.now.tree) (columns_of (outputs_of design.now.tree) rows) inputs.now.rows) result }
     ensures out { SinkWentOn K.Sink out.old out.new }
 {
     runs_along();
     // for the design's invariant on its order
     let _ = design.order();
     let piece = design.piece();
-    let ports = piece.out_ports(alloc)?;
-    let mut mono = match Mono::new(alloc, design) {
+    let outputs = top_outputs(alloc, design.tree())?;
+    let ports = piece.ports(alloc, outputs.as_slice())?;
+    let mut mono = match Mono::with_clocks(alloc, design, &[]) {
         Ok(mono) => mono,
         Err(_) => return Err(Ending::NoMemory),
     };

@@ -13,6 +13,11 @@ print_row-requires-clause-inputs g c =
     subst (λ (circuit : FlatCircuit). IsInputs circuit c.row.result.now) (sym c.loop-cycle.invariant.same)
     (subst (λ (row : List ℕ). IsInputs c.args.mono.now.circuit row) (sym c.row.ensures.values) (c.requires.fed.inputs c.loop-cycle.cycle lt))
 
+pub print_row-requires-clause-few : goal.print_row-requires-clause-few
+print_row-requires-clause-few g c =
+    let below = c.loop-cycle-test.true in
+    omega (arith, below, c.rows-cycle-end.ensures.count, c.loop-cycle.invariant.made, c.requires.few)
+
 pub returns-in_err-print_row-clause-prints : goal.returns-in_err-print_row-clause-prints
 returns-in_err-print_row-clause-prints g c =
     let below = c.loop-cycle-test.true in
@@ -27,7 +32,7 @@ loop-cycle-preserved g c =
     let count = c.rows-cycle-end.ensures.count in
     let lt : c.loop-cycle.cycle < c.args.inputs.now.rows = omega arith in
     printed-next c.settled_once.ensures c.requires.ordered.0 c.requires.ordered.1 lt c.row.result.now c.row.ensures.values c.loop-cycle.invariant c.print_row.new.mono c.print_row.ensures.cycle
-    c.print_row.ensures.circuit c.in_ok-print_row.ensures.prints c.print_row.ensures.out c.print_row.auto.outs
+    c.print_row.ensures.circuit c.print_row.ensures.ratios c.print_row.ensures.count c.in_ok-print_row.ensures.prints c.print_row.ensures.out c.print_row.auto.outs
 
 pub returns-clause-prints : goal.returns-clause-prints
 returns-clause-prints g c =

@@ -9,7 +9,9 @@ use Rattle.golden.proofs.TextLemmas.{only-text}
 use Rattle.golden.proofs.run.run.Goals as goal
 
 pub print_run-requires : goal.print_run-requires
-print_run-requires g c = record { fed = c.in_ok-fed.ensures.read.is.columns }
+print_run-requires g c =
+    let read = c.in_ok-fed.ensures.read in
+    record { keeps = read.is.case.keeps; few = read.is.most; fed = read.is.columns }
 
 pub returns-in_err-fed-clause-ended : goal.returns-in_err-fed-clause-ended
 returns-in_err-fed-clause-ended g c = stopped-ends refl (exit-is c.from_residual.ensures.1) (IfRefused-map (λ said. fed-stops (loads_of g.S.Shelf c.args.shelf.now c.read_fed.new.shelf) (asking c.args.circuit.now c.args.partition.now c.args.capacity) c.args.trace.now (λ b p t. Write (IsTextOf b t))) c.in_err-fed.field-0.0 c.in_err-fed.ensures.refused)
@@ -18,18 +20,18 @@ pub returns-clause-ended : goal.returns-clause-ended
 returns-clause-ended g c =
     let fed = c.in_ok-fed.fed in
     let read = c.in_ok-fed.ensures.read in
-    let means = read.read.is.means.means in
+    let means = read.read.is.means in
     let prints = c.print_run.ensures.prints in
     fed-ends (loads-on c.read_fed.new.shelf c.read_fed.ensures.shelf) read
     (printed-ends _ c.print_run.result
     (record {
       is = (
-        fed.case.design.circuit,
+        fed.case.design,
         means,
         record { cycles = fed.trace.rows; columns = fed.trace.columns; rows = prints.0; feeds = read.is.feeds.feeds; run = prints.1; is = refl },
       );
       only =
-          only-text c.one_meaning.ensures.flat c.run_once.ensures.opening read.read.circuit read.bytes
-          fed.case.design.circuit fed.case.design.order read.read.is.designed.ordered means fed.trace.rows fed.trace.columns prints.0 prints.1 read.is.feeds;
+          only-text c.one_meaning.ensures.flat c.one_meaning.ensures.tree c.run_once.ensures.opening read.read.circuit read.bytes
+          fed.case.design read.read.is.designed.ordered means fed.trace.rows fed.trace.columns prints.0 prints.1 read.is.feeds;
     })
     prints.2)

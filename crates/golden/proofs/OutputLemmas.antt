@@ -1,0 +1,55 @@
+-- The top's outputs, and their ports.
+use Rattle.std.proofs.Common.{◌≡◌, ℕ, ◌+◌, ◌<◌, ◌≤◌, List, [], ◌∷◌, ◌++◌, length, map, take, get_or, not, sym, ap, ◌∙◌, subst, arith}
+use Rattle.std.specs.Prelude.{All, filter}
+use Rattle.std.proofs.lemmas.List.{get_or_append_left, get_or_default, length-append, map-append, take_more}
+use Rattle.std.proofs.lemmas.List.Elements.{filter-append}
+use Rattle.gg_flat.specs.Circuit.{FlatCircuit}
+use Rattle.gg_flat.specs.Line.{value_at}
+use Rattle.gg_flat.specs.Ports.{output_ports, ports_at}
+use Rattle.gg_flat.specs.Scoped.{output_signals}
+use Rattle.gg_flat.specs.Tree.{InstanceTree}
+use Rattle.gg_flat.specs.WellFormed.{IsWellFormed}
+use Rattle.gg_flat.specs.declared.ports.Port.{Port}
+use Rattle.gg_flat.specs.declared.tree.InstancePort.{InstancePort}
+use Rattle.golden.specs.RunText.{outputs_of}
+use Rattle.golden.proofs.PortLemmas.{ports-count}
+
+-- ---- the outputs among ports
+
+outputs-append : (front back : List InstancePort) → output_signals (front ++ back) ≡ output_signals front ++ output_signals back
+outputs-append front back =
+    ap (map (λ (port : InstancePort). port.signal)) (filter-append (λ (port : InstancePort). not port.is_input) front back)
+    ∙ map-append (λ (port : InstancePort). port.signal) (filter (λ (port : InstancePort). not port.is_input) front) (filter (λ (port : InstancePort). not port.is_input) back)
+
+-- one more port
+pub outputs-more : (ports : List InstancePort) (k : ℕ) (port : InstancePort) → k < length ports → port ≡ get_or ports k port → (before after : List ℕ) → before ≡ output_signals (take k ports)
+    → after ≡ before ++ output_signals (port ∷ []) → after ≡ output_signals (take (k + 1) ports)
+outputs-more ports k port lt is before after was more =
+    more
+    ∙ ap (λ l. l ++ output_signals (port ∷ [])) was
+    ∙ sym (outputs-append (take k ports) (port ∷ []))
+    ∙ ap (λ (p : InstancePort). output_signals (take k ports ++ p ∷ [])) is
+    ∙ sym (ap output_signals (take_more ports k port lt))
+
+-- ---- the top's outputs are the first out-signals
+
+module _ (circuit : FlatCircuit) (tree : InstanceTree) (stops : List ℕ) (outs : outputs_of tree ++ stops ≡ circuit.outs) (formed : IsWellFormed circuit) where
+  few : length (outputs_of tree) ≤ length circuit.outs
+  few = omega (arith, length-append (outputs_of tree) stops, ap (λ (l : List ℕ). length l) outs)
+
+  output-known : (k : ℕ) → k < length (outputs_of tree) → value_at (outputs_of tree) k < length circuit.signals
+  output-known k lt =
+      subst (λ s. s < length circuit.signals)
+      (ap (λ (l : List ℕ). value_at l k) (sym outs) ∙ get_or_append_left (outputs_of tree) stops 0 k lt)
+      (formed.outs k (omega (arith, lt, few)))
+
+  pub outputs-known : All (λ s. s < length circuit.signals) (outputs_of tree)
+  outputs-known k d lt = subst (λ s. s < length circuit.signals) (get_or_default (outputs_of tree) k 0 d lt) (output-known k lt)
+
+  -- there are as many ports as outputs, and no more than out-signals
+  pub output-ports-count : length (output_ports circuit tree) ≡ length (outputs_of tree)
+  output-ports-count = ports-count circuit formed (outputs_of tree) output-known
+
+  pub output-ports-few : (simulated : FlatCircuit) (ports : List Port) → simulated ≡ circuit → ports ≡ output_ports circuit tree → length ports ≤ length simulated.outs
+  output-ports-few simulated ports e f =
+      omega (arith, few, output-ports-count, ap (λ (p : List Port). length p) f, ap (λ (c : FlatCircuit). length c.outs) e)
