@@ -1,10 +1,10 @@
 -- The names of a cut can be used in the lines of a steps file.
-use Rattle.std.proofs.Common.{◌≡◌, ◌≢◌, ◌⊎◌, inl, inr, ℕ, suc, ◌+◌, ◌-◌, ◌<◌, ◌≤◌, Bool, true, false, List, [], ◌∷◌, ◌++◌, None, codes, length, get_or, map, refl, sym, ap, ◌∙◌, subst, arith, nat_le, nat_lt, length-append, ◌&&◌}
+use Rattle.std.proofs.Common.{◌≡◌, ◌≢◌, ◌⊎◌, inl, inr, ℕ, suc, ◌+◌, ◌-◌, ◌<◌, ◌≤◌, Bool, true, false, List, [], ◌∷◌, ◌++◌, None, codes, length, get_or, map, take, drop, refl, sym, ap, ◌∙◌, subst, arith, nat_le, nat_lt, length-append, ◌&&◌}
 use Rattle.std.specs.Prelude.{All, AllPairs, Contains, if◌then◌else◌, slice_index_or}
 use Rattle.std.specs.List.{list_all, range_with_len}
 use Rattle.std.proofs.lemmas.Bool.{and_parts, cases_lt, leb-true, ltb-true}
 use Rattle.std.proofs.Math.Seq.{get_or-append-add}
-use Rattle.std.proofs.lemmas.List.{ext_get_or, get_or_append_left, get_or_default, get_or_past, length-map}
+use Rattle.std.proofs.lemmas.List.{ext_get_or, get_or_append_left, get_or_default, get_or_past, length-map, take-append-drop}
 use Rattle.std.proofs.lemmas.List.Folds.{list_all-append}
 use Rattle.std.proofs.lemmas.List.Elements.{All-append, All-cons, All-contains, All-map, All-nil, Contains-append_cases, Contains-get_or}
 use Rattle.std.proofs.lemmas.List.FromFn.{get_or-map-range_with_len, length-map-range_with_len}
@@ -21,10 +21,11 @@ use Rattle.gg_cut.specs.Channels.{channel_signals, flattened, port_signals, wire
 use Rattle.gg_cut.specs.Machines.{first_memory, first_source, is_memory, machine_count}
 use Rattle.gg_cut.specs.Fault.{first_fault}
 use Rattle.gg_cut.specs.Listed.{lies, listed_of}
-use Rattle.gg_cut.specs.Plan.{machine_names, wire_at}
+use Rattle.gg_cut.specs.Plan.{machine_names, output_count, wire_at}
 use Rattle.gg_cut.specs.declared.listed.Listed.{Listed}
 use Rattle.gg_cut.specs.declared.wires.Wire.{Wire}
 use Rattle.gg_cut.proofs.ChainLemmas.{lies-self}
+use Rattle.gg_cut.proofs.TrayLemmas.{trays-count}
 use Rattle.gg_cut.proofs.KnownLemmas.{parents-before, signals-known}
 use Rattle.gg_closed.specs.Apart.{AreApart}
 use Rattle.gg_closed.specs.Longest.{listed_paths}
@@ -38,7 +39,7 @@ use Rattle.gg_check.specs.CheckText.{channel_name}
 use Rattle.gg_paths.specs.Paths.{HavePaths, IsPath, is_path_byte}
 use Rattle.gg_steps.specs.Spelling.{AreUsable, IsUsable}
 use Rattle.golden.specs.Replay.{naming_of, port_names}
-use Rattle.golden.proofs.UsableLemmas.{IsPlain, behind-plain, name-plain, path-plain, usable}
+use Rattle.golden.proofs.UsableLemmas.{IsPlain, behind-plain, name-plain, path-plain, signal-plain, usable}
 
 -- all that a function makes of numbers in order, if each number has the item of a list at its place
 numbered-list : (f : ℕ → List ℕ) (names : List (List ℕ)) (n : ℕ) → length names ≡ n → ((k : ℕ) → k < n → f k ≡ get_or names k []) → map f (range_with_len 0 n) ≡ names
@@ -107,7 +108,7 @@ module _ (design : Ordered) (request : Request) (is : IsDesign design) (keeps : 
   channels-plain : All IsPlain channels
   channels-plain c d lt =
       let below = channel-inside c lt in
-      subst IsPlain (sym (channel-is c d below)) (path-plain _ (have.signals (wire_at wires c).signal [] (signal-there c below)))
+      subst IsPlain (sym (channel-is c d below)) (signal-plain _ (have.signals (wire_at wires c).signal [] (signal-there c below)))
 
   channels-usable : AreUsable channels
   channels-usable = usable channels channels-differ channels-plain
@@ -187,14 +188,23 @@ module _ (design : Ordered) (request : Request) (is : IsDesign design) (keeps : 
   abbrev source_name : ℕ → List ℕ
   source_name s = codes "in:" ++ path_at design.circuit.paths s
 
-  abbrev tray_name : ℕ → List ℕ
-  tray_name s = codes "out:" ++ path_at design.circuit.paths s
+  abbrev out_name : ℕ → List ℕ
+  out_name s = codes "out:" ++ path_at design.circuit.paths s
+
+  abbrev halt_name : ℕ → List ℕ
+  halt_name s = codes "halt:" ++ path_at design.circuit.paths s
+
+  abbrev outputs : List ℕ
+  outputs = take (output_count design) design.circuit.outs
+
+  abbrev stops : List ℕ
+  stops = drop (output_count design) design.circuit.outs
 
   abbrev sources : List (List ℕ)
   sources = map source_name design.circuit.ins
 
   abbrev trays : List (List ℕ)
-  trays = map tray_name design.circuit.outs
+  trays = map out_name outputs ++ map halt_name stops
 
   abbrev names : List (List ℕ)
   names = codes "hub:" ∷ ((paths ++ sources) ++ trays)
@@ -238,12 +248,33 @@ module _ (design : Ordered) (request : Request) (is : IsDesign design) (keeps : 
       first-part design.circuit.ins _ once i j d less lt
       (signal-one _ _ (in-signal i d (omega (arith, less, lt))) (in-signal j d lt) (ap (λ l. tail_of (tail_of (tail_of l))) same)))
 
-  trays-differ : AllPairs (λ a b. a ≢ b) trays
-  trays-differ =
-      AllPairs-map (λ a b. a ≢ b) tray_name design.circuit.outs
+  outs-once : AllPairs (λ a b. a ≢ b) (outputs ++ stops)
+  outs-once =
+      subst (AllPairs (λ a b. a ≢ b)) (sym (take-append-drop (output_count design) design.circuit.outs))
+      (last-part memory_signals design.circuit.outs (last-part unit_signals (memory_signals ++ design.circuit.outs) (last-part design.circuit.ins (unit_signals ++ (memory_signals ++ design.circuit.outs)) once)))
+
+  outs-known : All (λ s. s < length design.circuit.paths) (outputs ++ stops)
+  outs-known = subst (All (λ s. s < length design.circuit.paths)) (sym (take-append-drop (output_count design) design.circuit.outs)) out-signal
+
+  outputs-known : All (λ s. s < length design.circuit.paths) outputs
+  outputs-known i d lt = subst (λ s. s < length design.circuit.paths) (get_or_append_left outputs stops d i lt) (outs-known i d (omega (arith, lt, length-append outputs stops)))
+
+  stops-known : All (λ s. s < length design.circuit.paths) stops
+  stops-known i d lt = subst (λ s. s < length design.circuit.paths) (get_or-append-add outputs stops i d) (outs-known (length outputs + i) d (omega (arith, lt, length-append outputs stops)))
+
+  outputs-differ : AllPairs (λ a b. a ≢ b) (map out_name outputs)
+  outputs-differ =
+      AllPairs-map (λ a b. a ≢ b) out_name outputs
       (λ i j d less lt same.
-      last-part memory_signals design.circuit.outs (last-part unit_signals (memory_signals ++ design.circuit.outs) (last-part design.circuit.ins (unit_signals ++ (memory_signals ++ design.circuit.outs)) once)) i j d less lt
-      (signal-one _ _ (out-signal i d (omega (arith, less, lt))) (out-signal j d lt) (ap (λ l. tail_of (tail_of (tail_of (tail_of l)))) same)))
+      first-part outputs stops outs-once i j d less lt
+      (signal-one _ _ (outputs-known i d (omega (arith, less, lt))) (outputs-known j d lt) (ap (λ l. tail_of (tail_of (tail_of (tail_of l)))) same)))
+
+  stops-differ : AllPairs (λ a b. a ≢ b) (map halt_name stops)
+  stops-differ =
+      AllPairs-map (λ a b. a ≢ b) halt_name stops
+      (λ i j d less lt same.
+      last-part outputs stops outs-once i j d less lt
+      (signal-one _ _ (stops-known i d (omega (arith, less, lt))) (stops-known j d lt) (ap (λ l. tail_of (tail_of (tail_of (tail_of (tail_of l))))) same)))
 
   -- what stands in front of the name of a source, and of a tray
   record BeginsWith (word name : List ℕ) : Type 0 where
@@ -255,10 +286,28 @@ module _ (design : Ordered) (request : Request) (is : IsDesign design) (keeps : 
       let at = map-cases source_name design.circuit.ins w c in
       record { rest = path_at design.circuit.paths (value_at design.circuit.ins at.place); is-all = sym (at.holds 0) }
 
-  of-tray : (w : List ℕ) → Contains trays w → BeginsWith (codes "out:") w
+  of-output : (w : List ℕ) → Contains (map out_name outputs) w → BeginsWith (codes "out:") w
+  of-output w c =
+      let at = map-cases out_name outputs w c in
+      record { rest = path_at design.circuit.paths (value_at outputs at.place); is-all = sym (at.holds 0) }
+
+  of-stop : (w : List ℕ) → Contains (map halt_name stops) w → BeginsWith (codes "halt:") w
+  of-stop w c =
+      let at = map-cases halt_name stops w c in
+      record { rest = path_at design.circuit.paths (value_at stops at.place); is-all = sym (at.holds 0) }
+
+  of-tray : (w : List ℕ) → Contains trays w → BeginsWith (codes "out:") w ⊎ BeginsWith (codes "halt:") w
   of-tray w c =
-      let at = map-cases tray_name design.circuit.outs w c in
-      record { rest = path_at design.circuit.paths (value_at design.circuit.outs at.place); is-all = sym (at.holds 0) }
+      elim (Contains-append_cases (map out_name outputs) (map halt_name stops) w c) [
+        | inl a ↦ inl (of-output w a)
+        | inr b ↦ inr (of-stop w b)
+      ]
+
+  trays-differ : AllPairs (λ a b. a ≢ b) trays
+  trays-differ =
+      AllPairs-append (λ a b. a ≢ b) (map out_name outputs) (map halt_name stops) outputs-differ stops-differ
+      (λ x y a b same.
+      let e : 111 ≡ 104 = ap head_of (sym (of-output x a).is-all ∙ same ∙ (of-stop y b).is-all) in omega (arith, e))
 
   -- a path has no colon
   no-path : (word w : List ℕ) → list_all is_path_byte word ≡ false → BeginsWith word w → Contains paths w → ⊥
@@ -271,8 +320,9 @@ module _ (design : Ordered) (request : Request) (is : IsDesign design) (keeps : 
       clash true y e f = absurd (cc)
       clash false y e f = absurd (cc)
 
-  source-tray : (w : List ℕ) → BeginsWith (codes "in:") w → BeginsWith (codes "out:") w → ⊥
-  source-tray w a b = let e : 105 ≡ 111 = ap head_of (sym a.is-all ∙ b.is-all) in omega (arith, e)
+  source-tray : (w : List ℕ) → BeginsWith (codes "in:") w → BeginsWith (codes "out:") w ⊎ BeginsWith (codes "halt:") w → ⊥
+  source-tray w a (inl b) = let e : 105 ≡ 111 = ap head_of (sym a.is-all ∙ b.is-all) in omega (arith, e)
+  source-tray w a (inr b) = let e : 105 ≡ 104 = ap head_of (sym a.is-all ∙ b.is-all) in omega (arith, e)
 
   front-differ : AllPairs (λ a b. a ≢ b) (paths ++ sources)
   front-differ =
@@ -282,10 +332,11 @@ module _ (design : Ordered) (request : Request) (is : IsDesign design) (keeps : 
   behind-differ : AllPairs (λ a b. a ≢ b) ((paths ++ sources) ++ trays)
   behind-differ =
       AllPairs-append (λ a b. a ≢ b) (paths ++ sources) trays front-differ trays-differ
-      (λ x y a b same. go x (subst (BeginsWith (codes "out:")) (sym same) (of-tray y b)) (Contains-append_cases paths sources x a))
+      (λ x y a b same. go x (subst (λ w. BeginsWith (codes "out:") w ⊎ BeginsWith (codes "halt:") w) (sym same) (of-tray y b)) (Contains-append_cases paths sources x a))
     where
-      go : (x : List ℕ) → BeginsWith (codes "out:") x → Contains paths x ⊎ Contains sources x → ⊥
-      go x b (inl a) = no-path (codes "out:") x refl b a
+      go : (x : List ℕ) → BeginsWith (codes "out:") x ⊎ BeginsWith (codes "halt:") x → Contains paths x ⊎ Contains sources x → ⊥
+      go x (inl b) (inl a) = no-path (codes "out:") x refl b a
+      go x (inr b) (inl a) = no-path (codes "halt:") x refl b a
       go x b (inr a) = source-tray x (of-source x a) b
 
   hub-apart : All (λ w. codes "hub:" ≢ w) ((paths ++ sources) ++ trays)
@@ -294,13 +345,17 @@ module _ (design : Ordered) (request : Request) (is : IsDesign design) (keeps : 
       hub : BeginsWith (codes "hub:") (get_or ((paths ++ sources) ++ trays) k d)
       hub = record { rest = []; is-all = sym same }
 
+      tray-case : BeginsWith (codes "out:") (get_or ((paths ++ sources) ++ trays) k d) ⊎ BeginsWith (codes "halt:") (get_or ((paths ++ sources) ++ trays) k d) → ⊥
+      tray-case (inl b) = let e : 104 ≡ 111 = ap head_of (same ∙ b.is-all) in omega (arith, e)
+      tray-case (inr b) = let e : 117 ≡ 97 = ap (λ l. head_of (tail_of l)) (same ∙ b.is-all) in omega (arith, e)
+
       front-case : Contains paths (get_or ((paths ++ sources) ++ trays) k d) ⊎ Contains sources (get_or ((paths ++ sources) ++ trays) k d) → ⊥
       front-case (inl a) = no-path (codes "hub:") _ refl hub a
       front-case (inr a) = let e : 104 ≡ 105 = ap head_of (same ∙ (of-source _ a).is-all) in omega (arith, e)
 
       go : Contains (paths ++ sources) (get_or ((paths ++ sources) ++ trays) k d) ⊎ Contains trays (get_or ((paths ++ sources) ++ trays) k d) → ⊥
       go (inl a) = front-case (Contains-append_cases paths sources _ a)
-      go (inr b) = let e : 104 ≡ 111 = ap head_of (same ∙ (of-tray _ b).is-all) in omega (arith, e)
+      go (inr b) = tray-case (of-tray _ b)
 
   names-differ : AllPairs (λ a b. a ≢ b) names
   names-differ = AllPairs-cons (λ a b. a ≢ b) (codes "hub:") ((paths ++ sources) ++ trays) hub-apart behind-differ
@@ -309,7 +364,10 @@ module _ (design : Ordered) (request : Request) (is : IsDesign design) (keeps : 
   sources-plain = All-map IsPlain source_name design.circuit.ins (λ i d lt. behind-plain (codes "in:") _ refl (have.signals (get_or design.circuit.ins i d) [] (in-signal i d lt)))
 
   trays-plain : All IsPlain trays
-  trays-plain = All-map IsPlain tray_name design.circuit.outs (λ i d lt. behind-plain (codes "out:") _ refl (have.signals (get_or design.circuit.outs i d) [] (out-signal i d lt)))
+  trays-plain =
+      All-append IsPlain (map out_name outputs) (map halt_name stops)
+      (All-map IsPlain out_name outputs (λ i d lt. behind-plain (codes "out:") _ refl (have.signals (get_or outputs i d) [] (outputs-known i d lt))))
+      (All-map IsPlain halt_name stops (λ i d lt. behind-plain (codes "halt:") _ refl (have.signals (get_or stops i d) [] (stops-known i d lt))))
 
   names-plain : All IsPlain names
   names-plain =
@@ -326,7 +384,7 @@ module _ (design : Ordered) (request : Request) (is : IsDesign design) (keeps : 
         length-append paths sources,
         are.count,
         length-map design.circuit.ins source_name,
-        length-map design.circuit.outs tray_name,
+        trays-count design,
       ) in all)
 
   machines-are : map (path_at (machine_names design request listed)) (range_with_len 0 (machine_count design.circuit listed)) ≡ names

@@ -6,7 +6,7 @@ use Rattle.std.proofs.lemmas.Bool.{and_from, and_parts, eqb-true}
 use Rattle.std.proofs.lemmas.List.Folds.{list_all-append}
 use Rattle.std.proofs.lemmas.List.Sums.{AllPass-from_list_all}
 use Rattle.gg_ast.specs.Names.{IsName}
-use Rattle.gg_paths.specs.Paths.{HasPathBytes, IsPath, is_path_byte}
+use Rattle.gg_paths.specs.Paths.{HasPathBytes, IsPath, IsSignalPath, is_path_byte, is_signal_byte}
 use Rattle.gg_paths.proofs.BytesLemmas.{name-path}
 use Rattle.gg_trace.specs.Fields.{is_blank}
 use Rattle.gg_trace.specs.Lined.{HasNoFeed}
@@ -15,7 +15,7 @@ use Rattle.gg_steps.specs.Spelling.{AreUsable}
 
 -- a byte of a path, or a colon
 abbrev pub is_plain_byte : ℕ → Bool
-is_plain_byte b = is_path_byte b || b == 58
+is_plain_byte = is_signal_byte
 
 -- A name that isn't empty, and has only such bytes.
 pub record IsPlain (name : List ℕ) : Type 0 where
@@ -73,10 +73,13 @@ path-plain path is = record { some = is.some; bytes = plain-bytes path is.bytes 
 pub name-plain : (name : List ℕ) → IsName name → IsPlain name
 name-plain name is = path-plain name (name-path name is)
 
--- a path behind a word of plain bytes
-pub behind-plain : (word path : List ℕ) → list_all is_plain_byte word ≡ true → IsPath path → IsPlain (word ++ path)
+pub signal-plain : (path : List ℕ) → IsSignalPath path → IsPlain path
+signal-plain path is = record { some = is.some; bytes = is.bytes }
+
+-- the path of a signal behind a word of plain bytes
+pub behind-plain : (word path : List ℕ) → list_all is_plain_byte word ≡ true → IsSignalPath path → IsPlain (word ++ path)
 behind-plain word path plain is =
     record {
       some = omega (arith, is.some, length-append word path);
-      bytes = list_all-append is_plain_byte word path ∙ and_from (list_all is_plain_byte word) (list_all is_plain_byte path) plain (plain-bytes path is.bytes);
+      bytes = list_all-append is_plain_byte word path ∙ and_from (list_all is_plain_byte word) (list_all is_plain_byte path) plain is.bytes;
     }
