@@ -1,5 +1,6 @@
 -- The network of a plan can be built for the circuit's run, which is computed along the design's order.
 use Rattle.std.proofs.Common.{◌≡◌, ℕ, ◌<◌, ◌≤◌, List, None, refl}
+use Rattle.gg_limits.specs.Limits.{capacity_limit, cycle_limit}
 use Rattle.gg_flat.specs.Along.{rows_along}
 use Rattle.gg_flat.specs.Run.{IsColumns}
 use Rattle.gg_flat.proofs.AlongLemmas.{IsRun-along}
@@ -9,13 +10,11 @@ use Rattle.gg_partfile.specs.declared.request.Request.{Request}
 use Rattle.gg_cut.specs.Fault.{first_fault}
 use Rattle.gg_cut.specs.Plan.{IsPlan}
 use Rattle.gg_cut.specs.declared.plan.Plan.{Plan}
-use Rattle.gg_node.specs.Machine.{cycle_limit}
-use Rattle.gg_net.specs.Net.{queue_limit}
 use Rattle.gg_sound.specs.Built.{IsGiven}
 use Rattle.gg_build.specs.Build.{IsToRun, flow_along}
 
 module _ (design : Ordered) (request : Request) (default : ℕ) (plan : Plan) (columns : List (List ℕ)) (n : ℕ) (is : IsDesign design) (keeps : KeepsToTree design.circuit design.tree) (faultless : first_fault design request ≡ None) (planned : IsPlan design request default plan)
-    (some : 0 < default) (room : default ≤ queue_limit) (most : n ≤ cycle_limit) (fed : IsColumns design.circuit n columns) where
+    (some : 0 < default) (room : default ≤ capacity_limit) (most : n ≤ cycle_limit) (fed : IsColumns design.circuit n columns) where
   pub given-along : IsGiven design request default plan columns n (rows_along design.circuit design.order columns n)
   given-along = record { design_is = is; keeps = keeps; faultless = faultless; some = some; planned = planned; most = most; given = fed; run = IsRun-along design.circuit design.order columns n is.formed is.ordered fed }
 

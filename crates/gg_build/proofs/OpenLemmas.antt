@@ -1,6 +1,7 @@
 -- The hosts and stations of a plan's machines open its network.
 use Rattle.std.proofs.Common.{◌≡◌, ℕ, ◌<◌, ◌≤◌, List, [], ◌∷◌, length, map, get_or, sym, ap, subst, ◌∙◌, arith}
 use Rattle.std.proofs.lemmas.List.{get_or-map, length-map}
+use Rattle.gg_limits.specs.Limits.{capacity_limit}
 use Rattle.gg_flat.specs.Line.{value_at}
 use Rattle.gg_flat.specs.Streams.{Flow}
 use Rattle.gg_order.specs.Design.{Ordered}
@@ -12,7 +13,7 @@ use Rattle.gg_net.specs.declared.shape.Station.{Station}
 use Rattle.gg_net.specs.Network.{Network, Kind, kind_of, kind_at, IsAtIn, IsAtOut}
 use Rattle.gg_net.specs.Seats.{hosted, seated, machines_by, IsSeated, HasStation, AreSeated}
 use Rattle.gg_net.specs.Kept.{IsSound}
-use Rattle.gg_net.specs.Net.{entry_of, IsListed, queue_limit, opening_net, Opens}
+use Rattle.gg_net.specs.Net.{entry_of, IsListed, opening_net, Opens}
 use Rattle.gg_sound.specs.Built.{machine_in, wires_of_plan, IsBuilt, AreBuilt, IsGiven, flow_of, plan_frame}
 use Rattle.gg_sound.proofs.PlanLemmas.{plan-listed, plan-wired, plan-no-ring}
 use Rattle.gg_sound.proofs.FitLemmas.{kind-is}
@@ -116,7 +117,7 @@ module _ (plan : Plan) (columns : List (List ℕ)) (n : ℕ) (hosts : List Node)
           solves = plan-solved design request default plan columns n rows machines given are-built;
         }
 
-    opens-plan : default ≤ queue_limit → Opens (flow_of plan design rows) lists_of stations (wires_of_plan plan) n
+    opens-plan : default ≤ capacity_limit → Opens (flow_of plan design rows) lists_of stations (wires_of_plan plan) n
     opens-plan most =
         let machines = machines_by lists_of stations in
         record {

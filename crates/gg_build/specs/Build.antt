@@ -2,6 +2,7 @@
 -- Source: MEMOCODE 2009 (a synchronous circuit as a network of its parts, whose streams are the circuit's own); ICCAD
 -- 2019 (units and memories of a target as models of their own).
 use Rattle.std.specs.Prelude.{◌≡◌, ℕ, ◌<◌, ◌≤◌, List, None}
+use Rattle.gg_limits.specs.Limits.{capacity_limit}
 use Rattle.gg_flat.specs.Along.{rows_along}
 use Rattle.gg_flat.specs.Streams.{Flow}
 use Rattle.gg_moved.specs.KeepsToTree.{KeepsToTree}
@@ -12,7 +13,7 @@ use Rattle.gg_cut.specs.Fault.{first_fault}
 use Rattle.gg_cut.specs.Plan.{IsPlan}
 use Rattle.gg_node.specs.Machine.{Machine}
 use Rattle.gg_net.specs.Network.{Network}
-use Rattle.gg_net.specs.Net.{queue_limit, opening_net}
+use Rattle.gg_net.specs.Net.{opening_net}
 use Rattle.gg_sound.specs.Built.{AreBuilt, IsGiven, flow_of, wires_of_plan}
 
 -- The plan is that of a design whose circuit keeps to its tree, and of a request without a fault for it. Its channels may hold at
@@ -36,7 +37,7 @@ pub record IsToRun (plan : Plan) (columns : List (List ℕ)) (n : ℕ) (flow : F
   pub default : ℕ
   pub rows : List (List ℕ)
   pub given : IsGiven design request default plan columns n rows
-  pub room : default ≤ queue_limit
+  pub room : default ≤ capacity_limit
   pub flow_is : flow ≡ flow_of plan design rows
 
 -- What the plan's network computes in the circuit's run on these columns. The run is computed along the design's order.

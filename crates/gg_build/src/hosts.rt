@@ -1,6 +1,7 @@
 //! The hosts of a plan's machines.
 ghost use Rattle.std.specs.Prelude.{◌≡◌, ◌<◌, ◌++◌, ◌∷◌, [], None, false, IfOk, length, slice_index_or};
-ghost use Rattle.gg_node.specs.Machine.{source_machine, tray_machine, cycle_limit};
+ghost use Rattle.gg_limits.specs.Limits.{cycle_limit};
+ghost use Rattle.gg_node.specs.Machine.{source_machine, tray_machine};
 ghost use Rattle.gg_sound.specs.Alone.{IsCutAgain};
 ghost use Rattle.gg_sound.specs.Built.{IsUnitOf, IsMemoryOf, IsBuilt, tray_rows};
 ghost use Rattle.gg_build.specs.Hosts.{IsUnitPart, IsMemoryPart, CanBuild, IsHost};

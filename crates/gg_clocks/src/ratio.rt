@@ -1,5 +1,6 @@
 //! `Ratio`: how often a clock has an edge.
 ghost use Rattle.std.specs.Prelude.{◌≡◌, ◌≤◌, IfSome, IfNone};
+ghost use Rattle.gg_limits.specs.Limits.{cycle_limit};
 ghost use Rattle.gg_flat.specs.Clock.{edge};
 ghost use Rattle.gg_clocks.specs.Edges.{IsRatio, edge_count};
 
@@ -58,7 +59,7 @@ impl Ratio {
 
     /// Whether the clock has an edge at tick `b`, which is at most 1,000,000.
     pub fn edge(&self, b: u64) -> bool
-        requires { b ≤ 1000000 }
+        requires { b ≤ cycle_limit }
         ensures { result ≡ edge self.now b }
     {
         b * self.m / self.d < (b + 1) * self.m / self.d
@@ -66,7 +67,7 @@ impl Ratio {
 
     /// How many of the ticks before tick `b` have an edge: the ticks from 0 to `b - 1`. The tick is at most 1,000,000.
     pub fn edges_before(&self, b: u64) -> u64
-        requires { b ≤ 1000000 }
+        requires { b ≤ cycle_limit }
         ensures { result ≡ edge_count self.now b }
     {
         b * self.m / self.d

@@ -1,5 +1,6 @@
 //! `Ticker`: a clock that goes from tick to tick.
 ghost use Rattle.std.specs.Prelude.{◌≡◌, ◌+◌, ◌≤◌};
+ghost use Rattle.gg_limits.specs.Limits.{cycle_limit};
 ghost use Rattle.gg_flat.specs.Clock.{edge};
 
 use crate::ratio::Ratio;
@@ -39,7 +40,7 @@ impl Ticker {
 
     /// Makes a tick, and returns whether the clock has an edge in it. At most 1,000,000 ticks were made before.
     pub fn tick(&mut self) -> bool
-        requires { self.old.count ≤ 1000000 }
+        requires { self.old.count ≤ cycle_limit }
         ensures edge { result ≡ edge self.old.ratio self.old.count }
         ensures count { self.new.count ≡ self.old.count + 1 }
         ensures ratio { self.new.ratio ≡ self.old.ratio }

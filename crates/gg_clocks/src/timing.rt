@@ -1,5 +1,6 @@
 //! `Timing`: which tick it is, and which clocks have an edge in it.
 ghost use Rattle.std.specs.Prelude.{◌≡◌, ◌+◌, ◌<◌, ◌≤◌, length, IfOk};
+ghost use Rattle.gg_limits.specs.Limits.{cycle_limit};
 ghost use Rattle.gg_flat.specs.Clock.{edges_at};
 
 use crate::ratio::Ratio;
@@ -33,7 +34,7 @@ impl Model for Timing {
 
 // Fills in the edges of these clocks at tick `b`.
 fn fill_edges(ratios: &[Ratio], b: u64, edges: &mut [bool])
-    requires tick { b ≤ 1000000 }
+    requires tick { b ≤ cycle_limit }
     requires count { length edges.old ≡ length ratios.now }
     ensures { edges.new ≡ edges_at ratios.now b }
 {
@@ -49,7 +50,7 @@ impl Timing {
     ///
     /// Returns `AllocError` if an allocation fails.
     pub fn new(alloc: Global, ratios: &[Ratio], tick: u64) -> Result<Timing, AllocError>
-        requires { tick ≤ 1000000 }
+        requires { tick ≤ cycle_limit }
         ensures { IfOk result (λ timing. timing ≡ record { ratios = ratios.now; tick = tick }) }
     {
         let ratios = Vec::from_slice(alloc, ratios)?;
@@ -78,7 +79,7 @@ impl Timing {
 
     /// Goes on to the next tick, which is at most 1,000,000.
     pub fn advance(&mut self)
-        requires { self.old.tick < 1000000 }
+        requires { self.old.tick < cycle_limit }
         ensures { self.new ≡ record { ratios = self.old.ratios; tick = self.old.tick + 1 } }
     {
         self.tick += 1;

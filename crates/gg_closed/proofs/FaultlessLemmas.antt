@@ -15,7 +15,7 @@ use Rattle.gg_cut.specs.declared.listed.Listed.{Listed}
 use Rattle.gg_cut.specs.Listed.{is_among, is_lower, is_instance_path, instance_of, place_of, lies, listed_of}
 use Rattle.gg_cut.specs.Channels.{wires_of, channel_signals, capacity_of}
 use Rattle.gg_cut.specs.declared.wires.Wire.{Wire}
-use Rattle.gg_cut.specs.Fault.{unknown_unit, overlap, overlapping, first_clash, most_capacity, out_of_range, range_fault, too_many_units, too_many_channels, most_units, most_channels, entry_faults, channel_faults, first_fault}
+use Rattle.gg_cut.specs.Fault.{unknown_unit, overlap, overlapping, first_clash, out_of_range, range_fault, too_many_units, too_many_channels, most_units, most_channels, entry_faults, channel_faults, first_fault}
 use Rattle.gg_cut.proofs.ChannelLemmas.{wires-signals}
 use Rattle.gg_cut.proofs.PathLemmas.{first_place-Some}
 use Rattle.gg_cut.proofs.RangeLemmas.{filter-below}
@@ -25,6 +25,7 @@ use Rattle.gg_closed.specs.Apart.{AreFew}
 use Rattle.gg_closed.proofs.ListLemmas.{AllPairs-map}
 use Rattle.std.specs.Prelude.{bytes_eq}
 use Rattle.std.proofs.lemmas.List.Elements.{All-map}
+use Rattle.gg_limits.specs.Limits.{capacity_limit}
 
 -- ---- nothing is found
 
@@ -191,10 +192,10 @@ pub range-free : (design : Ordered) (request : Request) → first_fault design r
 range-free design request none = channels-none design request none 1
 
 -- what holds of each number in the range of capacities, and of the default, holds of the capacity of a channel
-capacity-in-range : (P : ℕ → Type 0) → ((n : ℕ) → 0 < n → n ≤ most_capacity → P n) → (capacities : List (List ℕ × ℕ)) (default : ℕ) (name : List ℕ) → out_of_range capacities ≡ None → P default → P (capacity_of capacities default name)
+capacity-in-range : (P : ℕ → Type 0) → ((n : ℕ) → 0 < n → n ≤ capacity_limit → P n) → (capacities : List (List ℕ × ℕ)) (default : ℕ) (name : List ℕ) → out_of_range capacities ≡ None → P default → P (capacity_of capacities default name)
 capacity-in-range P range [] default name none own = own
 capacity-in-range P range (pair ∷ capacities) default name none own =
-    by ((pair.1 == 0) || nat_lt most_capacity pair.1) refl none (λ more. capacity-in-range P range capacities default name more own)
+    by ((pair.1 == 0) || nat_lt capacity_limit pair.1) refl none (λ more. capacity-in-range P range capacities default name more own)
   where
     some : (n : ℕ) → (n == 0) ≡ false → 0 < n
     some zero e = absurd (cc)
@@ -204,12 +205,12 @@ capacity-in-range P range (pair ∷ capacities) default name none own =
     either true here rest = here
     either false here rest = rest
 
-    by : (b : Bool) → ((pair.1 == 0) || nat_lt most_capacity pair.1) ≡ b → cond b (Some pair) (out_of_range capacities) ≡ None → (out_of_range capacities ≡ None → P (capacity_of capacities default name)) → P (capacity_of (pair ∷ capacities) default name)
+    by : (b : Bool) → ((pair.1 == 0) || nat_lt capacity_limit pair.1) ≡ b → cond b (Some pair) (out_of_range capacities) ≡ None → (out_of_range capacities ≡ None → P (capacity_of capacities default name)) → P (capacity_of (pair ∷ capacities) default name)
     by true e none rest = absurd (cc)
     by false e none rest =
         either (bytes_eq pair.0 name)
-        (range pair.1 (some pair.1 (or_parts (pair.1 == 0) (nat_lt most_capacity pair.1) e).0) (ltb-false most_capacity pair.1 (or_parts (pair.1 == 0) (nat_lt most_capacity pair.1) e).1))
+        (range pair.1 (some pair.1 (or_parts (pair.1 == 0) (nat_lt capacity_limit pair.1) e).0) (ltb-false capacity_limit pair.1 (or_parts (pair.1 == 0) (nat_lt capacity_limit pair.1) e).1))
         (rest none)
 
-pub capacity-is : (P : ℕ → Type 0) → ((n : ℕ) → 0 < n → n ≤ most_capacity → P n) → (capacities : List (List ℕ × ℕ)) (default : ℕ) (name : List ℕ) → range_fault capacities ≡ None → P default → P (capacity_of capacities default name)
+pub capacity-is : (P : ℕ → Type 0) → ((n : ℕ) → 0 < n → n ≤ capacity_limit → P n) → (capacities : List (List ℕ × ℕ)) (default : ℕ) (name : List ℕ) → range_fault capacities ≡ None → P default → P (capacity_of capacities default name)
 capacity-is P range capacities default name none own = capacity-in-range P range capacities default name (none-map (λ pair. OutOfRange pair.0 pair.1) (out_of_range capacities) none) own

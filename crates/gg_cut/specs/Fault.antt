@@ -3,6 +3,7 @@
 use Rattle.std.specs.Prelude.{◌≡◌, ◌⊎◌, ◌<◌, ◌^◌, Ok, Err, Result, ℕ, ◌+◌, List, [], ◌∷◌, ◌++◌, Bool, false, not, ◌||◌, ◌==◌, if◌then◌else◌, Option, Some, None, option_map, length, flat_map, find, codes, nat_lt, bytes_eq}
 use Rattle.std.specs.Fmt.{decimal}
 use Rattle.std.specs.List.{list_any}
+use Rattle.gg_limits.specs.Limits.{capacity_limit}
 use Rattle.gg_flat.specs.Circuit.{FlatCircuit}
 use Rattle.gg_flat.specs.Tree.{InstanceTree, path_at, instance_at}
 use Rattle.gg_order.specs.Design.{Ordered}
@@ -13,15 +14,12 @@ use Rattle.gg_cut.specs.Listed.{is_among, is_instance_path, is_memory_path, inst
 use Rattle.gg_cut.specs.declared.listed.Listed.{Listed}
 use Rattle.gg_cut.specs.Channels.{channel_signals, channel_names}
 
--- the most units and listed memories, channels, and tokens that a channel holds
+-- the most units and listed memories, and the most channels
 abbrev pub most_units : ℕ
 most_units = 256
 
 abbrev pub most_channels : ℕ
 most_channels = 16384
-
-abbrev pub most_capacity : ℕ
-most_capacity = 4096
 
 -- the first fault of two, and of a list
 abbrev pub or_else : {A : Type 0} → Option A → Option A → Option A
@@ -117,7 +115,7 @@ abbrev pub unknown_channel : List (List ℕ) → List (List ℕ × ℕ) → Opti
 unknown_channel names capacities = option_map (λ pair. pair.0) (find (λ pair. not (is_among names pair.0)) capacities)
 
 abbrev pub out_of_range : List (List ℕ × ℕ) → Option (List ℕ × ℕ)
-out_of_range capacities = find (λ pair. (pair.1 == 0) || nat_lt most_capacity pair.1) capacities
+out_of_range capacities = find (λ pair. (pair.1 == 0) || nat_lt capacity_limit pair.1) capacities
 
 abbrev pub range_fault : List (List ℕ × ℕ) → Option CutFault
 range_fault capacities = option_map (λ pair. OutOfRange pair.0 pair.1) (out_of_range capacities)

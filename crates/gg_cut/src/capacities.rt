@@ -10,9 +10,7 @@ ghost use Rattle.gg_cut.specs.declared.fault.CutFault.TheVariants.{UnknownChanne
 use crate::fault::CutFault;
 use gg_bits::Name;
 use gg_flat::Piece;
-
-/// The most tokens that a channel holds.
-const MOST_CAPACITY: u64 = 4096;
+use gg_limits::CAPACITY_LIMIT;
 
 /// Checks that each name is that of a channel. The channels have these signals.
 ///
@@ -62,7 +60,7 @@ pub(crate) fn capacities_in_range(capacities: &[(Name, u64)]) -> Result<(), CutF
     ensures { Tells (range_fault capacities.now) result }
 {
     for pair in capacities {
-        if pair.1 == 0 || pair.1 > MOST_CAPACITY {
+        if pair.1 == 0 || pair.1 > CAPACITY_LIMIT as u64 {
             return Err(CutFault::OutOfRange(pair.0.clone()?, pair.1));
         }
     }

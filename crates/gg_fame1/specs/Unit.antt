@@ -2,11 +2,12 @@
 -- Source: MEMOCODE 2009 (a node with a latch for each input and a flag for each output); ICCAD 2019 (units of a target
 -- that advance when their tokens allow it).
 use Rattle.std.specs.Prelude.{◌≡◌, ◌↔◌, ℕ, ◌<◌, List, [], Option, Some, None, Bool, false, IsSome, length, replicate}
+use Rattle.gg_limits.specs.Limits.{cycle_limit}
 use Rattle.gg_flat.specs.Clock.{Ratio}
 use Rattle.gg_flat.specs.Line.{value_at}
 use Rattle.gg_flat.specs.Circuit.{FlatCircuit}
 use Rattle.gg_flat.specs.State.{State, IsState, opening}
-use Rattle.gg_node.specs.Machine.{RunsPiece, Machine, latch_at, cycle_limit}
+use Rattle.gg_node.specs.Machine.{RunsPiece, Machine, latch_at}
 use Rattle.gg_program.specs.Programmed.{Programmed}
 use Rattle.gg_program.specs.Slots.{Slotted, HasInput, inputs_in}
 use Rattle.gg_program.specs.Right.{InCycle}

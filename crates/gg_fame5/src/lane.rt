@@ -1,7 +1,8 @@
 //! `Lane`: what one thread has of its own.
 ghost use Rattle.std.specs.Prelude.{◌≡◌, ◌+◌, ◌<◌, ◌≤◌, length, is_some, IfOk};
+ghost use Rattle.gg_limits.specs.Limits.{cycle_limit};
 ghost use Rattle.gg_flat.specs.State.{IsState};
-ghost use Rattle.gg_node.specs.Machine.{latch_at, flag_at, missing, cycle_limit};
+ghost use Rattle.gg_node.specs.Machine.{latch_at, flag_at, missing};
 ghost use Rattle.gg_node.specs.Token.{IsToken, IsNextState};
 ghost use Rattle.gg_node.specs.Step.{MayLatch, MayFire, MayFinish};
 ghost use Rattle.gg_program.specs.Slots.{AreSlots};

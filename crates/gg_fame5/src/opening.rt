@@ -1,8 +1,8 @@
 //! Lanes and states with which threads begin.
 ghost use Rattle.std.specs.Prelude.{◌≡◌, ◌<◌, ◌≤◌, ◌++◌, [], ◌∷◌, Some, All, length, replicate, slice_index_or, IfOk};
 ghost use Rattle.std.specs.Vec.{vec_capacity};
+ghost use Rattle.gg_limits.specs.Limits.{cycle_limit};
 ghost use Rattle.gg_flat.specs.State.{IsState, opening};
-ghost use Rattle.gg_node.specs.Machine.{cycle_limit};
 ghost use Rattle.gg_fame5.specs.Lane.{IsLane, started_lane};
 ghost use Rattle.gg_fame5.specs.Shared.{started_lanes};
 

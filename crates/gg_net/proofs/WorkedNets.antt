@@ -3,6 +3,7 @@
 use Rattle.std.proofs.Common.{◌≡◌, ℕ, zero, suc, ◌<◌, List, [], ◌∷◌, Option, Some, None, Bool, true, false, refl, arith, lit<}
 use Rattle.std.specs.Prelude.{◌+◌, ◌≤◌, slice_index_or, All, Contains, length}
 use Rattle.std.proofs.lemmas.Option.{none-some}
+use Rattle.gg_limits.specs.Limits.{capacity_limit}
 use Rattle.gg_flat.specs.declared.line.Op.TheVariants.{Ref}
 use Rattle.gg_flat.specs.declared.piece.Driver.TheVariants.{Input, Held, Computed}
 use Rattle.gg_flat.specs.Line.{value_at}
@@ -18,7 +19,7 @@ use Rattle.gg_net.specs.declared.event.Refusal.TheVariants.{Stranger, Ended, Fir
 use Rattle.gg_net.specs.Network.{Network, IsAtIn, puts, takes, entered_by, serves, frame_of, wire_at, IsAtOut, kind_at}
 use Rattle.gg_net.specs.Step.{CanFire, CanServe, after_latch, after_fire, after_serve, after_finish, LatchRefused, FireRefused, ServeRefused, FinishRefused}
 use Rattle.gg_net.specs.Kept.{list_at, rows_at, start_at, Runs, Answers, Asks, Solves, IsWired, NeedsChannel, HasNoRing, BetweenAt}
-use Rattle.gg_net.specs.Net.{IsWithinLimits, queue_limit, opening_net}
+use Rattle.gg_net.specs.Net.{IsWithinLimits, opening_net}
 use Rattle.gg_net.specs.declared.shape.Station.{Station}
 use Rattle.gg_flat.specs.Streams.{Flow}
 
@@ -369,7 +370,7 @@ fed-solved =
 
 -- it is within the limits, and isn't with one cycle above the limit
 pub within-limits : IsWithinLimits (frame_of fed)
-within-limits = record { cycles = omega arith; machines = omega arith; channels = omega arith; ports = omega arith; capacities = only (λ c. (wire_at fed.wires c).capacity ≤ queue_limit) (omega arith) }
+within-limits = record { cycles = omega arith; machines = omega arith; channels = omega arith; ports = omega arith; capacities = only (λ c. (wire_at fed.wires c).capacity ≤ capacity_limit) (omega arith) }
 
 too-long : IsWithinLimits (frame_of (record fed { end = 1000001 })) → ⊥
 too-long within = omega (arith, within.cycles)

@@ -2,10 +2,11 @@
 -- Source: MEMOCODE 2009 (a network before its first cycle: all latches and flags empty, and all queues but those that
 -- open with a token); ICCAD 2019 for hosts.
 use Rattle.std.specs.Prelude.{◌≡◌, ℕ, ◌^◌, ◌<◌, ◌≤◌, List, [], None, false, length, map, sum, replicate, slice_index_or}
+use Rattle.gg_limits.specs.Limits.{capacity_limit, cycle_limit}
 use Rattle.gg_flat.specs.Line.{value_at}
 use Rattle.gg_flat.specs.State.{State}
 use Rattle.gg_flat.specs.Streams.{Flow, state_in}
-use Rattle.gg_node.specs.Machine.{Behaviour, RunsPiece, GivesColumn, KeepsLast, Port, Machine, no_state, machine_at, cycle_limit}
+use Rattle.gg_node.specs.Machine.{Behaviour, RunsPiece, GivesColumn, KeepsLast, Port, Machine, no_state, machine_at}
 use Rattle.gg_node.specs.Step.{fields_of}
 use Rattle.gg_net.specs.declared.shape.Wire.{Wire}
 use Rattle.gg_net.specs.declared.shape.Station.{Station}
@@ -49,10 +50,6 @@ AreListed frame stations = (m : ℕ) (s : Station) → m < length stations → I
 abbrev pub HasRoom : List Wire → List Held → Type 0
 HasRoom wires queues = (c : ℕ) → c < length wires → (wire_at wires c).capacity ≤ (held_at queues c).room
 
--- the most tokens that a queue may hold: this program's limit
-abbrev pub queue_limit : ℕ
-queue_limit = 4096
-
 -- A network is within the limits: it has at most 1,000,000 cycles to do, numbers of 32 bits suffice for its machines,
 -- its channels, and all ports that are served in a cycle, and a queue may hold at most 4,096 tokens.
 pub record IsWithinLimits (frame : Frame) : Type 0 where
@@ -60,7 +57,7 @@ pub record IsWithinLimits (frame : Frame) : Type 0 where
   pub machines : length frame.kinds < 2 ^ 32
   pub channels : length frame.wires < 2 ^ 32
   pub ports : sum (map (λ kind. length kind.ports) frame.kinds) < 2 ^ 32
-  pub capacities : (c : ℕ) → c < length frame.wires → (wire_at frame.wires c).capacity ≤ queue_limit
+  pub capacities : (c : ℕ) → c < length frame.wires → (wire_at frame.wires c).capacity ≤ capacity_limit
 
 -- What holds of the parts of a network at all times.
 pub record IsNet (flow : Flow) (hosts : List (List Machine)) (stations : List Station) (wires : List Wire) (queues : List Held) (end : ℕ) : Type 0 where

@@ -43,10 +43,6 @@ pub record Machine : Type 0 where
   pub flags : List Bool
   pub kept : List ℕ
 
--- the number of cycles that a machine can do, unless it is a source: this program's limit
-abbrev pub cycle_limit : ℕ
-cycle_limit = 1000000
-
 -- the state of a machine that has no piece
 abbrev pub no_state : State
 no_state = record { registers = []; banks = [] }

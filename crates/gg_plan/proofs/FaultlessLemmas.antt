@@ -3,6 +3,7 @@ use Rattle.std.proofs.Common.{◌≡◌, ℕ, zero, suc, ◌^◌, ◌<◌, ◌�
 use Rattle.std.specs.Prelude.{cond, ◌||◌, ◌==◌, nat_lt, All}
 use Rattle.std.proofs.lemmas.List.{get_or-map, length-map}
 use Rattle.std.proofs.lemmas.Bool.{ltb-false, or_parts}
+use Rattle.gg_limits.specs.Limits.{capacity_limit}
 use Rattle.gg_flat.specs.WellFormed.{IsWellFormed}
 use Rattle.gg_flat.specs.Tree.{IsTree}
 use Rattle.gg_order.specs.Design.{Ordered}
@@ -12,7 +13,7 @@ use Rattle.gg_cut.specs.declared.fault.CutFault.TheVariants.{OutOfRange}
 use Rattle.gg_cut.specs.Listed.{listed_of}
 use Rattle.gg_cut.specs.Machines.{machine_count}
 use Rattle.gg_cut.specs.Channels.{wire, wires_of, channel_signals, capacity_of}
-use Rattle.gg_cut.specs.Fault.{most_capacity, out_of_range, range_fault, first_fault}
+use Rattle.gg_cut.specs.Fault.{out_of_range, range_fault, first_fault}
 use Rattle.gg_cut.specs.Plan.{wire_at}
 use Rattle.gg_cut.proofs.KnownLemmas.{signals-known}
 use Rattle.gg_cut.proofs.ChannelLemmas.{wires-signals}
@@ -25,14 +26,14 @@ use Rattle.gg_plan.specs.Made.{IsCapacity}
 
 in-range : (capacities : List (List ℕ × ℕ)) → out_of_range capacities ≡ None → All (λ pair. pair.1 < 2 ^ 32) capacities
 in-range [] none = λ k d lt. absurd (omega arith)
-in-range (pair ∷ capacities) none = by ((pair.1 == 0) || nat_lt most_capacity pair.1) refl none (in-range capacities)
+in-range (pair ∷ capacities) none = by ((pair.1 == 0) || nat_lt capacity_limit pair.1) refl none (in-range capacities)
   where
-    by : (b : Bool) → ((pair.1 == 0) || nat_lt most_capacity pair.1) ≡ b → cond b (Some pair) (out_of_range capacities) ≡ None → (out_of_range capacities ≡ None → All (λ pair. pair.1 < 2 ^ 32) capacities) → All (λ pair. pair.1 < 2 ^ 32) (pair ∷ capacities)
+    by : (b : Bool) → ((pair.1 == 0) || nat_lt capacity_limit pair.1) ≡ b → cond b (Some pair) (out_of_range capacities) ≡ None → (out_of_range capacities ≡ None → All (λ pair. pair.1 < 2 ^ 32) capacities) → All (λ pair. pair.1 < 2 ^ 32) (pair ∷ capacities)
     by true e none rest = absurd (cc)
     by false e none rest = first
       where
-        small : pair.1 ≤ most_capacity
-        small = ltb-false most_capacity pair.1 (or_parts (pair.1 == 0) (nat_lt most_capacity pair.1) e).1
+        small : pair.1 ≤ capacity_limit
+        small = ltb-false capacity_limit pair.1 (or_parts (pair.1 == 0) (nat_lt capacity_limit pair.1) e).1
 
         first : All (λ pair. pair.1 < 2 ^ 32) (pair ∷ capacities)
         first zero d lt = omega (arith, small)

@@ -3,6 +3,7 @@
 -- Source: MEMOCODE 2009 (a network of machines that are latency-insensitive); ICCAD 2019 (instances and memories of a
 -- target as models of their own).
 use Rattle.std.specs.Prelude.{◌≡◌, ◌≢◌, ℕ, ◌<◌, ◌≤◌, List, [], length, map, slice_index_or, AllPairs}
+use Rattle.gg_limits.specs.Limits.{capacity_limit}
 use Rattle.gg_bits.specs.Shape.{shape}
 use Rattle.gg_flat.specs.Line.{value_at, shape_at}
 use Rattle.gg_flat.specs.Circuit.{FlatCircuit, signal_shapes}
@@ -19,12 +20,11 @@ use Rattle.gg_cut.specs.declared.plan.Channel.{Channel}
 use Rattle.gg_cut.specs.declared.listed.Listed.{Listed}
 use Rattle.gg_cut.specs.declared.wires.Wire.{Wire}
 use Rattle.gg_cut.specs.Machines.{machine_count}
-use Rattle.gg_cut.specs.Fault.{most_capacity}
 use Rattle.gg_cut.specs.Plan.{wire_at, channels_to, channels_from, signals_of, givens_of, IsMachine, AreNeedsOf, NeedsIn, IsChannel}
 
 -- how many tokens a channel may hold
 abbrev pub IsCapacity : ℕ → Type 0
-IsCapacity n = (0 < n) × (n ≤ most_capacity)
+IsCapacity n = (0 < n) × (n ≤ capacity_limit)
 
 -- the machines of a plan
 pub record AreMachines (design : Ordered) (request : Request) (listed : Listed) (wires : List Wire) (machines : List Machine) : Type 0 where

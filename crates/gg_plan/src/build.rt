@@ -1,9 +1,10 @@
 //! The plan of a cut, and what its channels need.
 ghost use Rattle.std.specs.Prelude.{◌≡◌, ◌<◌, ◌≤◌, length, None, All, IfOk, slice_index_or};
+ghost use Rattle.gg_limits.specs.Limits.{capacity_limit};
 ghost use Rattle.gg_cut.specs.declared.plan.Channel.{Channel};
 ghost use Rattle.gg_moved.specs.KeepsToTree.{KeepsToTree};
 ghost use Rattle.gg_cut.specs.Listed.{listed_of};
-ghost use Rattle.gg_cut.specs.Fault.{IsSmall, Tells, first_fault, most_capacity};
+ghost use Rattle.gg_cut.specs.Fault.{IsSmall, Tells, first_fault};
 ghost use Rattle.gg_cut.specs.Plan.{IsPlan};
 ghost use Rattle.gg_cut.specs.Channels.{wires_of, capacity_of};
 ghost use Rattle.gg_plan.specs.Made.{IsCapacity, AreMachines, AreChannels};
@@ -35,7 +36,7 @@ pub fn cut(
     requires small { IsSmall request.now }
     requires keeps { KeepsToTree design.now.circuit design.now.tree }
     requires some { 0 < default_capacity }
-    requires bounded { default_capacity ≤ most_capacity }
+    requires bounded { default_capacity ≤ capacity_limit }
     ensures told { Tells (first_fault design.now request.now) result }
     ensures plan { IfOk result (λ plan. IsPlan design.now request.now default_capacity plan) }
     ensures capacities { IfOk result (λ plan. All (λ channel. IsCapacity channel.capacity) plan.channels) }

@@ -1,5 +1,6 @@
 //! `Mono`: the simulator of a whole circuit.
 ghost use Rattle.std.specs.Prelude.{◌≡◌, ℕ, ◌+◌, ◌<◌, ◌≤◌, List, [], length, map, IfOk};
+ghost use Rattle.gg_limits.specs.Limits.{cycle_limit};
 ghost use Rattle.gg_flat.specs.Clock.{edges_at};
 ghost use Rattle.gg_flat.specs.Line.{value_at};
 ghost use Rattle.gg_flat.specs.State.{State as StateValue, IsState};
@@ -127,7 +128,7 @@ impl<'a> Mono<'a> {
     ///
     /// The inputs are in port order, one for each in-signal, of its type. `outs` has a place for each out-signal.
     pub fn cycle(&mut self, inputs: &[u128], outs: &mut [u128])
-        requires few { self.old.cycle < 1000000 }
+        requires few { self.old.cycle < cycle_limit }
         requires inputs { IsInputs self.old.circuit inputs.now }
         requires outs { length outs.old ≡ length self.old.circuit.outs }
         ensures circuit { self.new.circuit ≡ self.old.circuit }
@@ -188,7 +189,7 @@ fn edges_with(alloc: Global, ratios: &[Ratio]) -> Result<Vec<bool>, AllocError>
 
 // Puts the edges of these clocks at tick `b`, which is at most 1,000,000, into `edges`.
 fn read_edges(ratios: &[Ratio], b: u64, edges: &mut [bool])
-    requires few { b ≤ 1000000 }
+    requires few { b ≤ cycle_limit }
     requires count { length edges.old ≡ length ratios.now }
     ensures { edges.new ≡ edges_at ratios.now b }
 {

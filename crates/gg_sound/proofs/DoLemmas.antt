@@ -3,6 +3,7 @@ use Rattle.std.proofs.Common.{◌≡◌, ℕ, ◌<◌, ◌≤◌, List, [], ◌+
 use Rattle.std.specs.Prelude.{Option}
 use Rattle.std.specs.List.{range_with_len}
 use Rattle.std.proofs.lemmas.List.{length-map, length-replicate, get_or-map}
+use Rattle.gg_limits.specs.Limits.{cycle_limit}
 use Rattle.gg_flat.specs.Line.{value_at}
 use Rattle.gg_flat.specs.Circuit.{FlatCircuit}
 use Rattle.gg_flat.specs.State.{State, opening}
@@ -16,7 +17,7 @@ use Rattle.gg_part.specs.InOrder.{IsInOrder}
 use Rattle.gg_part.specs.declared.part.Part.{Part}
 use Rattle.gg_part.proofs.FormedLemmas.{IsWellFormed-part}
 use Rattle.gg_part.proofs.AlongLemmas.{IsOrder-numbers}
-use Rattle.gg_node.specs.Machine.{RunsPiece, Machine, needs_at, cycle_limit}
+use Rattle.gg_node.specs.Machine.{RunsPiece, Machine, needs_at}
 use Rattle.gg_net.specs.Network.{Kind, kind_of}
 use Rattle.gg_net.specs.Kept.{in_columns, RunsRows, Runs, Answers, Asks}
 use Rattle.gg_fame1.specs.Unit as dataflow

@@ -2,6 +2,7 @@
 use Rattle.std.proofs.Common.{◌≡◌, ℕ, zero, suc, ◌+◌, ◌<◌, ◌≤◌, List, [], ◌∷◌, None, false, length, get_or, refl, sym, ◌∙◌, ap, subst, arith}
 use Rattle.std.proofs.Math.Nat.{le-max_right}
 use Rattle.std.proofs.lemmas.List.{get_or-map}
+use Rattle.gg_limits.specs.Limits.{cycle_limit}
 use Rattle.gg_flat.specs.Line.{value_at, shape_at}
 use Rattle.gg_flat.specs.Circuit.{FlatCircuit, signal_shapes}
 use Rattle.gg_flat.specs.Tree.{InstanceTree}
@@ -13,7 +14,7 @@ use Rattle.gg_cut.specs.Machines.{first_source}
 use Rattle.gg_cut.specs.Channels.{wires_of}
 use Rattle.gg_cut.specs.Plan.{channels_from, signals_of}
 use Rattle.gg_cut.proofs.WireLemmas.{source-gives}
-use Rattle.gg_node.specs.Machine.{Machine, no_state, source_machine, tray_machine, cycle_limit}
+use Rattle.gg_node.specs.Machine.{Machine, no_state, source_machine, tray_machine}
 use Rattle.gg_net.specs.Network.{kind_of}
 use Rattle.gg_sound.specs.Built.{tray_rows}
 use Rattle.gg_sound.proofs.DoLemmas.{DoesCycles}

@@ -4,6 +4,7 @@ use Rattle.std.specs.Prelude.{All, sum_by}
 use Rattle.std.proofs.lemmas.List.{length-map, get_or_default}
 use Rattle.std.proofs.lemmas.List.Sums.{sum_by-le, sum-map}
 use Rattle.std.proofs.lemmas.List.Elements.{All-map}
+use Rattle.gg_limits.specs.Limits.{capacity_limit}
 use Rattle.gg_flat.specs.declared.memory.Latency.{Latency}
 use Rattle.gg_flat.specs.declared.memory.Latency.TheVariants.{Zero, One}
 use Rattle.gg_flat.specs.declared.memory.Memory.{Memory}
@@ -29,7 +30,7 @@ use Rattle.gg_memunit.proofs.UnitLemmas.{sole}
 use Rattle.gg_node.specs.Machine.{Machine, machine_at, no_machine}
 use Rattle.gg_net.specs.declared.shape.Wire.{Wire}
 use Rattle.gg_net.specs.Network.{wire_at, Kind, kind_of}
-use Rattle.gg_net.specs.Net.{IsWithinLimits, queue_limit}
+use Rattle.gg_net.specs.Net.{IsWithinLimits}
 use Rattle.gg_sound.specs.Built.{machine_in, nameless, wire_of, wires_of_plan, IsMemoryOf, IsBuilt, AreBuilt, IsGiven, plan_frame}
 use Rattle.gg_sound.proofs.LinkLemmas.{length-from, length-wires, wire-from}
 use Rattle.gg_sound.proofs.MemoryPartLemmas.{IsMemoryPart, memory-part}
@@ -79,7 +80,7 @@ module _ (design : Ordered) (request : Request) (default : ℕ) (plan : Plan) (c
       subst (λ (t : Machine). length (kind_of t).ports ≤ 16384) (get_or_default machines m no_machine any lt)
       (body-ports m (machine_in plan m).body (machine_at machines m) (given.planned.machine m nameless known).body (built.each m known))
 
-  pub plan-within : default ≤ queue_limit → IsWithinLimits (plan_frame plan machines n)
+  pub plan-within : default ≤ capacity_limit → IsWithinLimits (plan_frame plan machines n)
   plan-within most =
       let few = faultless-few design request given.faultless in
       let total : length machines ≤ 16641 = omega (arith, few-machines design.circuit design.tree (listed_of design.tree request) few, given.planned.machine_total, built.count) in
@@ -97,7 +98,7 @@ module _ (design : Ordered) (request : Request) (default : ℕ) (plan : Plan) (c
             let known : c < length plan.channels = omega (arith, lt, length-from plan 0 plan.channels) in
             let any = some-item plan.channels c known in
             let is : wire_at (wires_of_plan plan) c ≡ wire_of plan c (get_or plan.channels c any) = wire-from plan 0 plan.channels c any known ∙ ap (λ k. wire_of plan k (get_or plan.channels c any)) (let same : 0 + c ≡ c = omega arith in same) in
-            subst (λ (w : Wire). w.capacity ≤ queue_limit) (sym is)
-            (subst (λ n. n ≤ queue_limit) (sym (given.planned.channel c any known).bound)
-            (capacity-is (λ n. n ≤ queue_limit) (λ n some low. low) request.capacity default (path_at design.circuit.paths (link_at links c).signal) (range-free design request given.faultless) most));
+            subst (λ (w : Wire). w.capacity ≤ capacity_limit) (sym is)
+            (subst (λ n. n ≤ capacity_limit) (sym (given.planned.channel c any known).bound)
+            (capacity-is (λ n. n ≤ capacity_limit) (λ n some low. low) request.capacity default (path_at design.circuit.paths (link_at links c).signal) (range-free design request given.faultless) most));
       }

@@ -3,6 +3,7 @@
 -- Source: MEMOCODE 2009 (a synchronous circuit as a network of its parts, whose streams are the circuit's own); ICCAD
 -- 2019 (units and memories of a target as models of their own, with sources for its inputs and sinks for its outputs).
 use Rattle.std.specs.Prelude.{◌≡◌, ℕ, suc, ◌^◌, ◌<◌, ◌≤◌, ◌==◌, ◌++◌, List, [], ◌∷◌, None, false, length, map, max, slice_index_or, unwrap_or}
+use Rattle.gg_limits.specs.Limits.{cycle_limit}
 use Rattle.gg_flat.specs.Line.{value_at}
 use Rattle.gg_flat.specs.Run.{IsRun, IsColumns}
 use Rattle.gg_flat.specs.State.{State, opening}
@@ -23,7 +24,7 @@ use Rattle.gg_cut.specs.Fault.{first_fault}
 use Rattle.gg_cut.specs.Listed.{first_place}
 use Rattle.gg_cut.specs.Plan.{IsPlan}
 use Rattle.gg_cut.specs.Solves.{columns_of}
-use Rattle.gg_node.specs.Machine.{Machine, machine_at, no_state, source_machine, tray_machine, cycle_limit}
+use Rattle.gg_node.specs.Machine.{Machine, machine_at, no_state, source_machine, tray_machine}
 use Rattle.gg_fame1.specs.Unit as dataflow
 use Rattle.gg_memunit.specs.MemoryUnit as memory
 use Rattle.gg_net.specs.declared.shape.Wire.{Wire}

@@ -1,11 +1,12 @@
 //! Laws: the circuit's own run solves the network.
 ghost use Rattle.std.specs.Prelude.{ℕ, ◌≤◌, List};
+ghost use Rattle.gg_limits.specs.Limits.{capacity_limit};
 ghost use Rattle.gg_order.specs.Design.{Ordered};
 ghost use Rattle.gg_partfile.specs.declared.request.Request.{Request};
 ghost use Rattle.gg_cut.specs.declared.plan.Plan.{Plan};
 ghost use Rattle.gg_node.specs.Machine.{Machine};
 ghost use Rattle.gg_net.specs.Kept.{Solves, IsSound};
-ghost use Rattle.gg_net.specs.Net.{IsWithinLimits, queue_limit};
+ghost use Rattle.gg_net.specs.Net.{IsWithinLimits};
 ghost use Rattle.gg_sound.specs.Built.{AreBuilt, IsGiven, flow_of, plan_frame};
 
 /// The circuit's run solves the network. Each channel's list is its signal's column, which its producer's rows give and
@@ -22,5 +23,5 @@ pub fn plan_is_sound()
 
 /// The network is within the limits, if a channel that the request doesn't name may hold as many tokens as a queue.
 pub fn plan_is_within()
-    ensures { (design : Ordered) (request : Request) (default : ℕ) (plan : Plan) (columns : List (List ℕ)) (n : ℕ) (rows : List (List ℕ)) (machines : List Machine) → IsGiven design request default plan columns n rows → AreBuilt plan columns n machines → default ≤ queue_limit → IsWithinLimits (plan_frame plan machines n) }
+    ensures { (design : Ordered) (request : Request) (default : ℕ) (plan : Plan) (columns : List (List ℕ)) (n : ℕ) (rows : List (List ℕ)) (machines : List Machine) → IsGiven design request default plan columns n rows → AreBuilt plan columns n machines → default ≤ capacity_limit → IsWithinLimits (plan_frame plan machines n) }
 {}

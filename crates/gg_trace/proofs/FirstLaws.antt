@@ -2,13 +2,13 @@
 use Rattle.std.proofs.Common.{◌≡◌, ◌≢◌, ℕ, ◌^◌, ◌<◌, zero, suc, List, [], length, get_or, decimal, ◌⊎◌, inl, inr, refl, sym, ap, ◌∙◌, subst, arith}
 use Rattle.std.proofs.lemmas.List.{ext_get_or}
 use Rattle.std.proofs.lemmas.Bool.{cases_order}
+use Rattle.gg_limits.specs.Limits.{cycle_limit}
 use Rattle.gg_flat.specs.declared.ports.Port.{Port}
 use Rattle.gg_trace.specs.declared.faults.TraceFault.{TraceFault}
 use Rattle.gg_trace.specs.declared.faults.TraceFault.TheVariants.{Heading, RowNumber, NotHexadecimal, TooWide, FieldCount, TooManyRows, NoMemory}
 use Rattle.gg_trace.specs.Cells.{IsHexadecimal, hexadecimal}
 use Rattle.gg_trace.specs.Ports.{IsNamed, width_at}
 use Rattle.gg_trace.specs.Header.{field, MayStand, IsHeader, HasHeaderFault}
-use Rattle.gg_trace.specs.Table.{row_limit}
 use Rattle.gg_trace.specs.Trace.{header_of, rows_of, row_at, IsValueField, IsRow, Columns, HasValueAt, IsTooWide, HasFault, ReachesRow, ReachesValue, IsFirstFault, IfFirstFault, HaveWidths}
 
 -- a header for the ports has no fault
@@ -83,7 +83,7 @@ one_row ports bytes r s here there = by_order (cases_order r s)
     by_order (inr (inr before)) = absurd (there.2 (here.0.before s before))
 
 -- a fault of a row contradicts that a later fault of the same row is reached
-limit_clash : (r s : ℕ) → r ≡ s → r ≡ row_limit → s < row_limit → ⊥
+limit_clash : (r s : ℕ) → r ≡ s → r ≡ cycle_limit → s < cycle_limit → ⊥
 limit_clash r s e limit below = omega (arith, e, limit, below)
 
 count_clash : (bytes : List ℕ) (r s c : ℕ) → r ≡ s → length (row_at bytes r) ≡ c → c ≢ length (header_of bytes) → length (row_at bytes s) ≡ length (header_of bytes) → ⊥

@@ -2,13 +2,13 @@
 use Rattle.std.proofs.Common.{◌≡◌, ℕ, ◌+◌, ◌^◌, ◌<◌, ◌≤◌, List, [], ◌∷◌, length, get_or, set, drop, ◌⊎◌, inl, inr, sym, ap, ◌∙◌, subst, arith, length-drop, decimal}
 use Rattle.std.proofs.lemmas.List.{get_or-set_same, get_or-set_other, length-set}
 use Rattle.std.proofs.lemmas.Bool.{cases_eq}
+use Rattle.gg_limits.specs.Limits.{cycle_limit}
 use Rattle.gg_flat.specs.declared.ports.Port.{Port}
 use Rattle.gg_trace.specs.declared.faults.TraceFault.{TraceFault}
 use Rattle.gg_trace.specs.declared.faults.TraceFault.TheVariants.{Heading, RowNumber, NotHexadecimal, TooWide, FieldCount, TooManyRows, NoMemory}
 use Rattle.gg_trace.specs.Cells.{IsCell, IsHexadecimal, hexadecimal}
 use Rattle.gg_trace.specs.Ports.{width_at}
 use Rattle.gg_trace.specs.Header.{field}
-use Rattle.gg_trace.specs.Table.{row_limit}
 use Rattle.gg_trace.specs.Places.{ArePlaces, AreCells, AreValues, StopsAt, HasValueFault, HasValuesFault, PassesCycle, ReadsRow, HasRowFault}
 use Rattle.gg_trace.proofs.ListLaws.{next_item}
 
@@ -87,11 +87,11 @@ reads_all_cells ports places cells values at reads =
     let ends : at ≡ length places = omega (arith, length-drop at cells, ap length reads.left, reads.count, reads.reached) in
     (subst (AreCells ports places cells) ends reads.good, subst (AreValues places cells values) ends reads.gives)
 
-passes : (places : List ℕ) (row : ℕ) (line cells : List (List ℕ)) (first : List ℕ) → line ≡ first ∷ cells → row < row_limit → length line ≡ length places + 1 → first ≡ decimal row → PassesCycle places row line
+passes : (places : List ℕ) (row : ℕ) (line cells : List (List ℕ)) (first : List ℕ) → line ≡ first ∷ cells → row < cycle_limit → length line ≡ length places + 1 → first ≡ decimal row → PassesCycle places row line
 passes places row line cells first e limit count is = record { limit = limit; count = count; is = ap (λ fields. field fields 0) e ∙ is }
 
 -- a row is read if its number and its cells were read
-pub row_reads : (ports : List Port) (places : List ℕ) (row : ℕ) (line cells : List (List ℕ)) (first values : List ℕ) → line ≡ first ∷ cells → row < row_limit → length line ≡ length places + 1 → first ≡ decimal row
+pub row_reads : (ports : List Port) (places : List ℕ) (row : ℕ) (line cells : List (List ℕ)) (first values : List ℕ) → line ≡ first ∷ cells → row < cycle_limit → length line ≡ length places + 1 → first ≡ decimal row
     → AreCells ports places cells (length places) × AreValues places cells values (length places) → ReadsRow ports places row line values
 row_reads ports places row line cells first values e limit count is read = record {
   passes = passes places row line cells first e limit count is;
@@ -100,7 +100,7 @@ row_reads ports places row line cells first values e limit count is read = recor
 }
 
 -- a fault of the row's cells is a fault of the row
-pub row_fault : (ports : List Port) (places : List ℕ) (row : ℕ) (line cells : List (List ℕ)) (first : List ℕ) (fault : TraceFault) → line ≡ first ∷ cells → row < row_limit → length line ≡ length places + 1 → first ≡ decimal row
+pub row_fault : (ports : List Port) (places : List ℕ) (row : ℕ) (line cells : List (List ℕ)) (first : List ℕ) (fault : TraceFault) → line ≡ first ∷ cells → row < cycle_limit → length line ≡ length places + 1 → first ≡ decimal row
     → HasValuesFault ports places cells row fault → HasRowFault ports places row line fault
 row_fault ports places row line cells first (NotHexadecimal r f) e limit count is h =
     (passes places row line cells first e limit count is, subst (λ rest. HasValuesFault ports places rest row (NotHexadecimal r f)) (sym (ap (drop 1) e)) h)

@@ -2,6 +2,7 @@
 use Rattle.std.proofs.Common.{◌≡◌, ℕ, ◌+◌, ◌*◌, ◌^◌, ◌<◌, ◌≤◌, zero, suc, List, [], ◌∷◌, ◌++◌, map, length, get_or, take, drop, ◌⊎◌, inl, inr, sym, ap, ◌∙◌, subst, arith, add-one, length-drop, length-append}
 use Rattle.std.proofs.lemmas.List.{get_or-drop, get_or-take, take_all, drop_at, take-append-le, drop-append-le}
 use Rattle.std.proofs.lemmas.Bool.{cases_eq}
+use Rattle.gg_limits.specs.Limits.{cycle_limit}
 use Rattle.gg_flat.specs.declared.ports.Port.{Port}
 use Rattle.gg_trace.specs.declared.faults.TraceFault.{TraceFault}
 use Rattle.gg_trace.specs.declared.faults.TraceFault.TheVariants.{Heading, RowNumber, NotHexadecimal, TooWide, FieldCount, TooManyRows, NoMemory}
@@ -10,7 +11,7 @@ use Rattle.gg_trace.specs.Fields.{fields}
 use Rattle.gg_trace.specs.Ports.{IsNamed, HasDistinctNames, width_at}
 use Rattle.gg_trace.specs.Header.{field}
 use Rattle.gg_trace.specs.Places.{IsHeading, AreCells, PassesCycle, ReadsRow, HasRowFault}
-use Rattle.gg_trace.specs.Table.{row_limit, table_of}
+use Rattle.gg_trace.specs.Table.{table_of}
 use Rattle.gg_trace.specs.Trace.{header_of, rows_of, row_at, IsValueField, IsRow, Columns, HasValueAt, ReachesRow, ReachesValue, IfFirstFault}
 use Rattle.gg_trace.proofs.ListLaws.{next_item}
 use Rattle.gg_trace.proofs.HeaderLaws.{one_port}
@@ -55,7 +56,7 @@ pub record ReadsRows (ports : List Port) (bytes : List ℕ) (lines : List (List 
   pub heading : IsHeading ports (header_of bytes) places
   pub left : drop rows (rows_of bytes) ≡ map fields lines
   pub reached : rows ≤ length (rows_of bytes)
-  pub limit : rows ≤ row_limit
+  pub limit : rows ≤ cycle_limit
   pub size : length values ≡ length ports
   pub room : length cells ≡ rows * length ports
   pub each : (r : ℕ) → r < rows → ReadsRow ports places r (row_at bytes r) (take (length ports) (drop (r * length ports) cells))
@@ -122,7 +123,7 @@ value_at_cell ports bytes places rows g heading row within = record { row = row;
 
 -- if the header and the rows before are good, a fault of this row is the text's first
 first_of_row : (ports : List Port) (bytes : List ℕ) (places : List ℕ) (rows : ℕ) (fault : TraceFault) → IsHeading ports (header_of bytes) places → HasDistinctNames ports → ReachesRow ports bytes rows
-    → rows ≤ row_limit → rows < length (rows_of bytes) → HasRowFault ports places rows (row_at bytes rows) fault → IfFirstFault ports bytes fault
+    → rows ≤ cycle_limit → rows < length (rows_of bytes) → HasRowFault ports places rows (row_at bytes rows) fault → IfFirstFault ports bytes fault
 first_of_row ports bytes places rows (Heading f) heading distinct before limit row h = absurd h
 first_of_row ports bytes places rows (RowNumber r) heading distinct before limit row h =
     subst (λ q. IfFirstFault ports bytes (RowNumber q)) (sym h.0)

@@ -12,12 +12,6 @@ use Rattle.gg_trace.specs.Ports.{IsNamed, width_at}
 use Rattle.gg_trace.specs.Header.{field, IsHeader, IsListed, MayStand}
 use Rattle.gg_trace.specs.Trace.{row_at, IsRow, IsValueField, Columns, IsFirstFault}
 use Rattle.gg_trace.specs.Printing.{trace_text}
-use Rattle.gg_trace.specs.Table.{row_limit}
-use Rattle.gg_trace.specs.declared.row_values.TheConstants.{ROW_LIMIT}
-
--- the limit of rows is the program's
-limit : row_limit ≡ ROW_LIMIT
-limit = refl
 
 -- A line ends with LF or CR LF, the last with the text too; a CR that no LF follows is part of its line.
 lines_of_both_ends : text_lines (97 ∷ 13 ∷ 10 ∷ 98 ∷ 10 ∷ 99 ∷ []) ≡ codes "a" ∷ codes "b" ∷ codes "c" ∷ []

@@ -4,6 +4,7 @@ use Rattle.std.specs.HashMap.{HashMap, get_by}
 use Rattle.std.specs.Str.{bytes_eq}
 use Rattle.std.specs.declared.hash.FoldHasher.{FoldHasher}
 use Rattle.std.specs.declared.hash.BuildHasherDefault.{BuildHasherDefault}
+use Rattle.gg_limits.specs.Limits.{cycle_limit}
 use denote.Ref.{Bor}
 use Rattle.gg_flat.specs.declared.ports.Port.{Port}
 use Rattle.gg_trace.specs.declared.faults.TraceFault.{TraceFault}
@@ -12,7 +13,6 @@ use Rattle.gg_trace.specs.declared.cells.CellFault.TheVariants as cell
 use Rattle.gg_trace.specs.Cells.{IsHexadecimal, hexadecimal, IsCell, HasCellFault}
 use Rattle.gg_trace.specs.Ports.{IsNamed, name_at, width_at}
 use Rattle.gg_trace.specs.Header.{field, IsHeader, HasHeaderFault}
-use Rattle.gg_trace.specs.Table.{row_limit}
 
 -- i is one of the places
 pub record IsPlace (places : List ℕ) (i : ℕ) : Type 0 where
@@ -86,7 +86,7 @@ HasValueFault width text row at NoMemory = ⊥
 
 -- the row is below the limit, has the header's count of fields, and begins with its number
 pub record PassesCycle (places : List ℕ) (row : ℕ) (line : List (List ℕ)) : Type 0 where
-  pub limit : row < row_limit
+  pub limit : row < cycle_limit
   pub count : length line ≡ length places + 1
   pub is : field line 0 ≡ decimal row
 
@@ -99,11 +99,11 @@ pub record ReadsRow (ports : List Port) (places : List ℕ) (row : ℕ) (line : 
 -- the fault is the first of this row
 abbrev pub HasRowFault : List Port → List ℕ → ℕ → List (List ℕ) → TraceFault → Type 0
 HasRowFault ports places row line (Heading f) = ⊥
-HasRowFault ports places row line (RowNumber r) = (r ≡ row) × (row < row_limit) × (length line ≡ length places + 1) × (field line 0 ≢ decimal row)
+HasRowFault ports places row line (RowNumber r) = (r ≡ row) × (row < cycle_limit) × (length line ≡ length places + 1) × (field line 0 ≢ decimal row)
 HasRowFault ports places row line (NotHexadecimal r f) = PassesCycle places row line × HasValuesFault ports places (drop 1 line) row (NotHexadecimal r f)
 HasRowFault ports places row line (TooWide r f) = PassesCycle places row line × HasValuesFault ports places (drop 1 line) row (TooWide r f)
-HasRowFault ports places row line (FieldCount r c) = (r ≡ row) × (row < row_limit) × (c ≡ length line) × (c ≢ length places + 1)
-HasRowFault ports places row line (TooManyRows r) = (r ≡ row) × (row_limit ≤ row)
+HasRowFault ports places row line (FieldCount r c) = (r ≡ row) × (row < cycle_limit) × (c ≡ length line) × (c ≢ length places + 1)
+HasRowFault ports places row line (TooManyRows r) = (r ≡ row) × (cycle_limit ≤ row)
 HasRowFault ports places row line NoMemory = ⊥
 
 -- a table by names: a look-up of any bytes finds one of the first n ports that has this name, or none if no port has it

@@ -2,10 +2,6 @@
 use Rattle.std.specs.Prelude.{ℕ, ◌+◌, ◌*◌, List, map, slice_index}
 use Rattle.std.specs.List.{range_with_len}
 
--- the limit of rows: each row's number is below it, counted from 0
-abbrev pub row_limit : ℕ
-row_limit = 1000000
-
 -- the count of rows, and for each port, in port order, its value in each row
 pub record Table : Type 0 where
   pub rows : ℕ

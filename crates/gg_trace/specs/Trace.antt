@@ -1,5 +1,6 @@
 -- The text of an input trace: its columns, or its first fault.
 use Rattle.std.specs.Prelude.{◌≡◌, ◌≢◌, ℕ, ◌<◌, ◌≤◌, ◌^◌, List, [], length, map, drop, decimal, slice_index, slice_index_or}
+use Rattle.gg_limits.specs.Limits.{cycle_limit}
 use Rattle.gg_flat.specs.declared.ports.Port.{Port}
 use Rattle.gg_trace.specs.declared.faults.TraceFault.{TraceFault}
 use Rattle.gg_trace.specs.declared.faults.TraceFault.TheVariants.{Heading, RowNumber, NotHexadecimal, TooWide, FieldCount, TooManyRows, NoMemory}
@@ -7,7 +8,6 @@ use Rattle.gg_trace.specs.Fields.{fields, text_lines}
 use Rattle.gg_trace.specs.Cells.{IsHexadecimal, hexadecimal, IsCell}
 use Rattle.gg_trace.specs.Ports.{IsNamed, width_at}
 use Rattle.gg_trace.specs.Header.{field, IsHeader, HasHeaderFault}
-use Rattle.gg_trace.specs.Table.{row_limit}
 
 -- the fields of each line
 abbrev pub line_fields : List ℕ → List (List (List ℕ))
@@ -31,7 +31,7 @@ pub record IsValueField (ports : List Port) (header row : List (List ℕ)) (f : 
 
 -- These are the fields of row r: the row's number, and a value for each port that the header names.
 pub record IsRow (ports : List Port) (header : List (List ℕ)) (r : ℕ) (row : List (List ℕ)) : Type 0 where
-  pub limit : r < row_limit
+  pub limit : r < cycle_limit
   pub count : length row ≡ length header
   pub number : field row 0 ≡ decimal r
   pub values : (f : ℕ) → 0 < f → f < length header → IsValueField ports header row f
@@ -67,7 +67,7 @@ HasFault ports bytes (RowNumber r) = (r < length (rows_of bytes)) × (field (row
 HasFault ports bytes (NotHexadecimal r f) = HasValueAt bytes r f × ¬ IsHexadecimal (field (row_at bytes r) f)
 HasFault ports bytes (TooWide r f) = HasValueAt bytes r f × IsTooWide ports bytes r f
 HasFault ports bytes (FieldCount r c) = (r < length (rows_of bytes)) × (length (row_at bytes r) ≡ c) × (c ≢ length (header_of bytes))
-HasFault ports bytes (TooManyRows r) = (r < length (rows_of bytes)) × (r ≡ row_limit)
+HasFault ports bytes (TooManyRows r) = (r < length (rows_of bytes)) × (r ≡ cycle_limit)
 HasFault ports bytes NoMemory = ⊥
 
 -- the header and each row before r are right
@@ -78,7 +78,7 @@ pub record ReachesRow (ports : List Port) (bytes : List ℕ) (r : ℕ) : Type 0 
 -- the same, and row r is below the limit
 pub record ReachesCount (ports : List Port) (bytes : List ℕ) (r : ℕ) : Type 0 where
   pub row : ReachesRow ports bytes r
-  pub limit : r < row_limit
+  pub limit : r < cycle_limit
 
 -- the same, and row r has as many fields as the header
 pub record ReachesNumber (ports : List Port) (bytes : List ℕ) (r : ℕ) : Type 0 where

@@ -12,10 +12,8 @@ use crate::faults::TraceFault;
 use crate::field_cuts::{Fields, count_fields};
 use crate::texts::same_bytes;
 use gg_flat::Port;
+use gg_limits::CYCLE_LIMIT;
 use itoa::Buffer;
-
-/// The limit of a trace's rows: it has at most this many.
-pub const ROW_LIMIT: u64 = 1_000_000;
 
 /// The value of a field, which is field `at` of row `row`.
 ///
@@ -97,7 +95,7 @@ pub fn read_row(
         (λ _. ReadsRow ports.now places.now row (fields line.now) values.new)
         (HasRowFault ports.now places.now row (fields line.now)) }
 {
-    if row >= ROW_LIMIT {
+    if row >= CYCLE_LIMIT {
         return Err(TraceFault::TooManyRows { row });
     }
     let count = count_fields(line);

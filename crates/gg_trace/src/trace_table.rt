@@ -2,7 +2,8 @@
 
 ghost use Rattle.std.specs.Prelude.{◌≡◌, ℕ, ◌+◌, ◌*◌, ◌<◌, ◌≤◌, [], IfOk, map, length, slice_index, slice_index_or};
 ghost use Rattle.std.specs.List.{range_with_len};
-ghost use Rattle.gg_trace.specs.Table.{row_limit, row_of, table_of};
+ghost use Rattle.gg_limits.specs.Limits.{cycle_limit};
+ghost use Rattle.gg_trace.specs.Table.{row_of, table_of};
 
 use std::alloc::{AllocError, Global};
 use std::marker::Model;
@@ -19,20 +20,20 @@ pub struct Trace {
 
 impl Model for Trace {
     ghost use Rattle.std.specs.Prelude.{◌≡◌, ◌*◌, ◌≤◌, length};
-    ghost use Rattle.gg_trace.specs.Table.{Table, row_limit, table_of};
+    ghost use Rattle.gg_trace.specs.Table.{Table, cycle_limit, table_of};
 
     ghost Value = { Table };
 
     ghost view = { λ a. table_of a.rows a.inputs a.cells.items };
 
-    ghost invariant = { λ a. (length a.cells.items ≡ a.rows * a.inputs) × (a.rows ≤ row_limit) };
+    ghost invariant = { λ a. (length a.cells.items ≡ a.rows * a.inputs) × (a.rows ≤ cycle_limit) };
 }
 
 impl Trace {
     /// The trace whose rows, of `inputs` values each, are in `cells`, one after another.
     pub(crate) fn of(rows: usize, inputs: usize, cells: Vec<u128>) -> Trace
         requires size { length cells.items ≡ rows * inputs }
-        requires limit { rows ≤ row_limit }
+        requires limit { rows ≤ cycle_limit }
         ensures { result ≡ table_of rows inputs cells.items }
     {
         Trace {
@@ -45,7 +46,7 @@ impl Trace {
     /// The number of rows, at most 1,000,000.
     pub fn rows(&self) -> u64
         ensures count { result ≡ self.now.rows }
-        ensures limit { result ≤ row_limit }
+        ensures limit { result ≤ cycle_limit }
     {
         self.rows as u64
     }

@@ -4,12 +4,13 @@ use Rattle.std.specs.Option.{option_map_or}
 use Rattle.std.specs.Str.{all_ascii_digits, bytes_eq}
 use Rattle.std.specs.Str.Parse.{digits_value}
 use Rattle.std.proofs.lemmas.Bool.{and_parts, leb-true}
+use Rattle.gg_limits.specs.Limits.{capacity_limit}
 use Rattle.clap.specs.Walk.{Row, Text, first_of}
 use Rattle.clap.specs.Simple.{subcommand_of}
 use Rattle.gg_words.specs.Line.{golden_app}
 use Rattle.gg_words.specs.Meaning.{FoundSays, IsCommand, capacity_of, check_of, is_set, replay_of, run_of, text_of, with_number, workers_of}
 use Rattle.gg_words.specs.Number.{number_of}
-use Rattle.gg_words.specs.Range.{AreInRange, IsCapacity, IsWithin, most_capacity, most_workers}
+use Rattle.gg_words.specs.Range.{AreInRange, IsCapacity, IsWithin, most_workers}
 use Rattle.gg_words.specs.declared.command.Cmd.{Cmd}
 use Rattle.gg_words.specs.declared.command.Cmd.TheVariants.{Run, Replay, Check}
 
@@ -33,7 +34,7 @@ number-within least most default within (Some text) n is =
     within-by least most (nat_lt 0 (length text) && all_ascii_digits text) (nat_lt 0 (length text) && all_ascii_digits text && nat_le least v && nat_le v most) v n text refl is
 
 capacity-within : (rows : List Row) (k : ℕ) → capacity_of rows ≡ Ok k → IsCapacity k
-capacity-within rows k is = number-within 1 most_capacity 2 (omega arith, omega arith) (first_of (codes "capacity") rows) k is
+capacity-within rows k is = number-within 1 capacity_limit 2 (omega arith, omega arith) (first_of (codes "capacity") rows) k is
 
 workers-within : (rows : List Row) (w : ℕ) → workers_of rows ≡ Ok w → IsWithin 0 most_workers w
 workers-within rows w is = number-within 0 most_workers 0 (omega arith, omega arith) (first_of (codes "workers") rows) w is

@@ -3,13 +3,14 @@
 use Rattle.std.specs.Prelude.{◌≡◌, ◌⊎◌, ℕ, Bool, true, false, List, [], ◌∷◌, Option, None, Some, is_some, Result, Ok, Err, MatchResult, String, codes, cond, map, string_bytes, unwrap_or, ⊤}
 use Rattle.std.specs.Option.{option_map_or}
 use Rattle.std.specs.Str.{bytes_eq}
+use Rattle.gg_limits.specs.Limits.{capacity_limit}
 use Rattle.clap.specs.Walk.{Row, Text, first_of}
 use Rattle.clap.specs.Simple.{subcommand_of}
 use Rattle.clap.specs.Faults.{fault_of}
 use Rattle.clap.specs.Kinds.{IsAmong}
 use Rattle.gg_words.specs.Line.{golden_app}
 use Rattle.gg_words.specs.Number.{number_of}
-use Rattle.gg_words.specs.Range.{most_capacity, most_workers}
+use Rattle.gg_words.specs.Range.{most_workers}
 use Rattle.gg_words.specs.declared.command.Cmd.{Cmd}
 use Rattle.gg_words.specs.declared.command.Cmd.TheVariants.{Run, Replay, Check}
 use Rattle.gg_words.specs.declared.command.WordFault.{WordFault}
@@ -25,7 +26,7 @@ is_set id rows = option_map_or (λ text. bytes_eq text (codes "true")) (first_of
 
 -- the capacity: 1 to 4,096, and 2 by default
 abbrev pub capacity_of : List Row → Result ℕ Text
-capacity_of rows = number_of 1 most_capacity 2 (first_of (codes "capacity") rows)
+capacity_of rows = number_of 1 capacity_limit 2 (first_of (codes "capacity") rows)
 
 -- the number of workers: 0 to 64, and 0 by default
 abbrev pub workers_of : List Row → Result ℕ Text

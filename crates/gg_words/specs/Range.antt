@@ -1,6 +1,7 @@
 -- The ranges of a command's numbers.
 -- Source: this program's own command line: K is 1 to 4,096, W is 0 to 64.
 use Rattle.std.specs.Prelude.{ℕ, ◌≤◌}
+use Rattle.gg_limits.specs.Limits.{capacity_limit}
 use Rattle.gg_words.specs.declared.command.Cmd.{Cmd}
 use Rattle.gg_words.specs.declared.command.Cmd.TheVariants.{Run, Replay, Check}
 
@@ -8,16 +9,13 @@ use Rattle.gg_words.specs.declared.command.Cmd.TheVariants.{Run, Replay, Check}
 abbrev pub IsWithin : (least most : ℕ) → ℕ → Type 0
 IsWithin least most n = (least ≤ n) × (n ≤ most)
 
--- the greatest capacity of a channel, and the most workers
-abbrev pub most_capacity : ℕ
-most_capacity = 4096
-
+-- the most workers
 abbrev pub most_workers : ℕ
 most_workers = 64
 
 -- a capacity: at least 1
 abbrev pub IsCapacity : ℕ → Type 0
-IsCapacity n = IsWithin 1 most_capacity n
+IsCapacity n = IsWithin 1 capacity_limit n
 
 -- each number of the command is in its range
 abbrev pub AreInRange : Cmd → Type 0

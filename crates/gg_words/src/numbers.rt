@@ -3,9 +3,6 @@ ghost use Rattle.std.specs.Prelude.{◌≡◌, ◌≤◌, ◌<◌, ◌^◌};
 ghost use Rattle.std.specs.Str.{all_ascii_digits};
 ghost use Rattle.gg_words.specs.Number.{number_in};
 
-/// The greatest capacity of a channel.
-pub(crate) const MOST_CAPACITY: u32 = 4096;
-
 /// The most workers.
 pub(crate) const MOST_WORKERS: u32 = 64;
 

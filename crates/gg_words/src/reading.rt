@@ -15,10 +15,11 @@ ghost use Rattle.gg_words.specs.declared.command.WordFault.{WordFault};
 use crate::command::{Cmd, WordFault};
 use crate::laws::{files_are_named, one_meaning};
 use crate::line::golden_line;
-use crate::numbers::{MOST_CAPACITY, MOST_WORKERS, number_in};
+use crate::numbers::{MOST_WORKERS, number_in};
 use clap::error::ErrorKind;
 use clap::{ArgMatches, Error};
 use gg_bits::Name;
+use gg_limits::CAPACITY_LIMIT;
 use std::alloc::{AllocError, Global};
 
 // The text that was given to an argument.
@@ -72,7 +73,7 @@ fn number_of(
 fn capacity_of(alloc: Global, matches: &ArgMatches<'_>) -> Result<u32, WordFault>
     ensures { Answers result (capacity_of (rows_of (found_of matches.now))) }
 {
-    number_of(alloc, matches, "capacity", 1, MOST_CAPACITY, 2)
+    number_of(alloc, matches, "capacity", 1, CAPACITY_LIMIT, 2)
 }
 
 // The command `run`.

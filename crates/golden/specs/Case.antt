@@ -1,11 +1,11 @@
 -- What the code has once the first files of a command are read.
 use Rattle.std.specs.Prelude.{ℕ, ◌≤◌, List}
+use Rattle.gg_limits.specs.Limits.{cycle_limit}
 use Rattle.gg_cut.specs.Plan.{IsPlan}
 use Rattle.gg_flat.specs.Run.{IsColumns}
 use Rattle.gg_front.specs.Meaning.{MeansDesign}
 use Rattle.gg_io.specs.Told.{Told}
 use Rattle.gg_moved.specs.KeepsToTree.{KeepsToTree}
-use Rattle.gg_node.specs.Machine.{cycle_limit}
 use Rattle.gg_order.specs.Design.{IsDesign}
 use Rattle.gg_told.specs.Order.{CanBe, Order, Write}
 use Rattle.gg_words.specs.Range.{IsCapacity}

@@ -1,6 +1,7 @@
 //! Printing of the run of a circuit.
 ghost use Rattle.std.specs.Prelude.{◌≡◌, ◌+◌, ◌++◌, ◌∷◌, ◌<◌, ◌≤◌, ℕ, List, [], length, take, Option, IfOk, OnOk};
 ghost use Rattle.std.specs.Io.KnownBytes.{append_known};
+ghost use Rattle.gg_limits.specs.Limits.{cycle_limit};
 ghost use Rattle.gg_flat.specs.Clock.{edges_at};
 ghost use Rattle.gg_flat.specs.Order.{IsOrder};
 ghost use Rattle.gg_flat.specs.Run.{IsRun, IsColumns};
@@ -34,7 +35,7 @@ fn print_row<K: Sink>(
     outs: &mut [u128],
     out: &mut K,
 ) -> Result<(), Ending>
-    requires few { mono.old.cycle < 1000000 }
+    requires few { mono.old.cycle < cycle_limit }
     requires inputs { IsInputs mono.old.circuit inputs.now }
     requires outs { length outs.old ≡ length mono.old.circuit.outs }
     requires ports { length ports.now ≤ length mono.old.circuit.outs }
@@ -63,7 +64,7 @@ fn print_rows<K: Sink>(
     requires opening { mono.old.state ≡ opening mono.old.circuit }
     requires every { mono.old.ratios ≡ [] }
     requires begun { mono.old.cycle ≡ 0 }
-    requires few { inputs.now.rows ≤ 1000000 }
+    requires few { inputs.now.rows ≤ cycle_limit }
     requires ordered { (order : List ℕ) × IsOrder mono.old.circuit order }
     requires fed { IsColumns mono.old.circuit inputs.now.rows inputs.now.columns }
     requires outs { length outs.old ≡ length mono.old.circuit.outs }
@@ -91,7 +92,7 @@ fn print_all<K: Sink>(
     requires opening { mono.old.state ≡ opening mono.old.circuit }
     requires every { mono.old.ratios ≡ [] }
     requires begun { mono.old.cycle ≡ 0 }
-    requires few { inputs.now.rows ≤ 1000000 }
+    requires few { inputs.now.rows ≤ cycle_limit }
     requires fed { IsColumns mono.old.circuit inputs.now.rows inputs.now.columns }
     requires ports { length ports.now ≤ length mono.old.circuit.outs }
     ensures prints { (rows : List (List ℕ)) → IsRun mono.old.circuit inputs.now.columns inputs.now.rows rows
@@ -141,7 +142,7 @@ pub(crate) fn print_run<K: Sink>(
     out: &mut K,
 ) -> Result<(), Ending>
     requires keeps { KeepsToTree design.now.circuit design.now.tree }
-    requires few { inputs.now.rows ≤ 1000000 }
+    requires few { inputs.now.rows ≤ cycle_limit }
     requires fed { IsColumns design.now.circuit inputs.now.rows inputs.now.columns }
     ensures prints { (rows : List (List ℕ)) × IsRun design.now.circuit inputs.now.columns inputs.now.rows rows
         × PrintsOn K.Sink out.old out.new (trace_text (output_ports design.now.circuit design.now.tree) (columns_of (outputs_of design.now.tree) rows) inputs.now.rows) result }

@@ -29,7 +29,7 @@ returns-in-Tray c =
     let is = c.in-Tray.ensures {u = tt} in
     IfOk-weaker c.tray_name.result
     (λ name. (c.in-Tray.place < length circuit.outs - length tree.stops → name ≡ codes "out:" ++ path_at circuit.paths (get_or circuit.outs c.in-Tray.place 0))
-        × (length circuit.outs - length tree.stops ≤ c.in-Tray.place → name ≡ codes "halt:" ++ path_at circuit.paths (get_or circuit.outs c.in-Tray.place 0)))
+    × (length circuit.outs - length tree.stops ≤ c.in-Tray.place → name ≡ codes "halt:" ++ path_at circuit.paths (get_or circuit.outs c.in-Tray.place 0)))
     (λ name. name ≡ path_at (machine_names c.args.design.now c.args.request.now c.args.listed.now) c.args.number)
     (λ name e. tray-name c.args.design.now c.args.request.now c.args.listed.now circuit tree c.args.numbering.now c.args.number c.in-Tray.place name c.piece-piece.ensures.circuit c.tree-in-Tray.ensures.tree c.requires.numbering c.requires.units is.0 is.1 e.0 e.1)
     c.tray_name.ensures

@@ -1,8 +1,8 @@
 use Rattle.std.proofs.Common.{rules, ◌≡◌, [], None, false, length, replicate, ap, subst, ◌∙◌}
 use Rattle.std.proofs.lemmas.List.{length-replicate}
+use Rattle.gg_limits.specs.Limits.{cycle_limit}
 use Rattle.gg_flat.specs.declared.memory.Memory.{Memory}
 use Rattle.gg_flat.specs.Memory.{read_count}
-use Rattle.gg_node.specs.Machine.{cycle_limit}
 use Rattle.gg_node.specs.Token.{IsNextState}
 use Rattle.gg_memunit.specs.MemoryUnit.{state_of}
 use Rattle.gg_memunit.proofs.UnitLemmas.{sole, of-sole, next-is, tokens-cleared}

@@ -1,8 +1,9 @@
 use Rattle.std.proofs.Common.{◌≡◌, ◌+◌, [], length, ap, ◌∙◌, arith}
+use Rattle.gg_limits.specs.Limits.{cycle_limit}
 use Rattle.gg_flat.specs.declared.memory.Memory.{Memory}
 use Rattle.gg_flat.specs.Memory.{read_count}
 use Rattle.gg_flat.specs.Served.{after_access}
-use Rattle.gg_node.specs.Machine.{cycle_limit, due}
+use Rattle.gg_node.specs.Machine.{due}
 use Rattle.gg_node.specs.Step.{with_served}
 use Rattle.gg_memunit.specs.MemoryUnit.{access_of, memory_machine, state_of}
 use Rattle.gg_memunit.proofs.UnitLemmas.{of-sole, served-few, late-reader, among-ports, serve-step}

@@ -1,8 +1,9 @@
 use Rattle.std.proofs.Common.{◌≡◌, ◌<◌, [], None, length, refl, ap, sym, subst, ◌∙◌, arith}
+use Rattle.gg_limits.specs.Limits.{cycle_limit}
 use Rattle.gg_flat.specs.Circuit.{reader_at}
 use Rattle.gg_flat.specs.Line.{value_at}
 use Rattle.gg_flat.specs.Memory.{found_word}
-use Rattle.gg_node.specs.Machine.{cycle_limit, latched_values, missing}
+use Rattle.gg_node.specs.Machine.{latched_values, missing}
 use Rattle.gg_node.specs.Token.{IsToken}
 use Rattle.gg_memunit.proofs.UnitLemmas.{out-count, same-token, late-token, looks-among}
 use Rattle.gg_memunit.proofs.unit.MemUnit.value.Goals as goal
