@@ -1,3 +1,4 @@
+pub mod HostLemmas
 pub mod PortLemmas
 pub mod PlaceLemmas
 pub mod WireLemmas

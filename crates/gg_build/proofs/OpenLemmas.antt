@@ -44,7 +44,7 @@ module _ (plan : Plan) (columns : List (List ℕ)) (n : ℕ) (hosts : List Node)
   hosted-is : (m : ℕ) (s : Station) (lt : m < length plan.machines) → hosted lists_of (get_or stations m s).host ≡ machine_of (get_or hosts m no_node) ∷ []
   hosted-is m s lt =
       let seat = seat-at m s lt in
-      ap (hosted lists_of) seat.number ∙ get_or-map machines_of hosts m no_node [] (omega (arith, lt, are.hosts))
+      ap (hosted lists_of) seat.number ∙ get_or-map machines_of hosts m no_node [] (omega (arith, lt, are.hosts)) ∙ seat.host.alone
 
   seated-is : (m : ℕ) (s : Station) (lt : m < length plan.machines) → seated lists_of (get_or stations m s) ≡ machine_of (get_or hosts m no_node)
   seated-is m s lt =
@@ -62,7 +62,7 @@ module _ (plan : Plan) (columns : List (List ℕ)) (n : ℕ) (hosts : List Node)
   has-station : (h t : ℕ) → h < length lists_of → t < length (hosted lists_of h) → HasStation stations h t
   has-station h t low thread =
       let known : h < length plan.machines = omega (arith, low, are.hosts, length-map hosts machines_of) in
-      let first : 0 ≡ t = omega (arith, thread, ap length (get_or-map machines_of hosts h no_node [] (omega (arith, known, are.hosts)))) in
+      let first : 0 ≡ t = omega (arith, thread, ap length (get_or-map machines_of hosts h no_node [] (omega (arith, known, are.hosts)) ∙ (seat-at h no_station known).host.alone)) in
       record {
         machine = h;
         known = omega (arith, known, are.places);

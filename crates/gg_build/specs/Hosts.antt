@@ -11,14 +11,14 @@ use Rattle.gg_cut.specs.declared.plan.Body.TheVariants.{Cut, Memory, Source, Tra
 use Rattle.gg_cut.specs.declared.plan.Machine as planned
 use Rattle.gg_cut.specs.declared.plan.Plan.{Plan}
 use Rattle.gg_memunit.specs.MemoryUnit.{IsMemoryPiece}
-use Rattle.gg_node.specs.Machine.{Machine}
+use Rattle.gg_node.specs.Machine.{Machine, machine_at}
 use Rattle.gg_net.specs.declared.shape.ServedPort.{ServedPort}
 use Rattle.gg_net.specs.declared.shape.Station.{Station}
 use Rattle.gg_net.specs.Net.{entry_of}
 use Rattle.gg_sound.specs.Alone.{IsCutAgain}
 use Rattle.gg_sound.specs.Built.{IsBuilt, machine_in}
 use Rattle.gg_build.specs.declared.node.Node.{Node}
-use Rattle.gg_build.specs.Node.{machine_of}
+use Rattle.gg_build.specs.Node.{machine_of, machines_of}
 
 -- ---- what a machine of a plan must have to be built
 
@@ -46,8 +46,14 @@ AllCanBuild plan columns = (m : ℕ) → m < length plan.machines → CanBuild c
 
 -- ---- what is built
 
--- The machine of a node has the property `Is`, and these are the ports that it serves.
+-- These machines are a single one, which has the property `Is`.
+pub record IsAlone (Is : Machine → Type 0) (machines : List Machine) : Type 0 where
+  pub alone : machines ≡ machine_at machines 0 ∷ []
+  pub is : Is (machine_at machines 0)
+
+-- A node has a single machine, which has the property `Is`, and these are the ports that it serves.
 pub record IsHost (Is : Machine → Type 0) (node : Node) (ports : List ServedPort) : Type 0 where
+  pub alone : machines_of node ≡ machine_of node ∷ []
   pub is : Is (machine_of node)
   pub served : ports ≡ map entry_of (machine_of node).ports
 

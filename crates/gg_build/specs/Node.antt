@@ -1,17 +1,18 @@
--- The machine of a node.
+-- The machines of a node.
 -- Source: ICCAD 2019 (units and memories of a target as models of their own, each on a host).
 use Rattle.std.specs.Prelude.{List, [], ◌∷◌}
-use Rattle.gg_node.specs.Machine.{Machine}
+use Rattle.gg_node.specs.Machine.{Machine, machine_at}
+use Rattle.gg_fame5.specs.Shared as shared
 use Rattle.gg_build.specs.declared.node.Node.{Node}
 use Rattle.gg_build.specs.declared.node.Node.TheVariants as node
 
--- the machine of a node of any kind
-abbrev pub machine_of : Node → Machine
-machine_of (node.Unit machine) = machine
-machine_of (node.Memory machine) = machine
-machine_of (node.Source machine) = machine
-machine_of (node.Tray machine) = machine
-
--- the machines of a node: only one
+-- the machines of a node of any kind
 abbrev pub machines_of : Node → List Machine
-machines_of node = machine_of node ∷ []
+machines_of (node.Unit unit) = shared.machines_of unit
+machines_of (node.Memory machine) = machine ∷ []
+machines_of (node.Source machine) = machine ∷ []
+machines_of (node.Tray machine) = machine ∷ []
+
+-- the machine of a node that has only one
+abbrev pub machine_of : Node → Machine
+machine_of node = machine_at (machines_of node) 0

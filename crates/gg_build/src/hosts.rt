@@ -1,10 +1,12 @@
 //! The hosts of a plan's machines.
 ghost use Rattle.std.specs.Prelude.{◌≡◌, ◌<◌, ◌++◌, ◌∷◌, [], None, false, IfOk, length, slice_index_or};
 ghost use Rattle.gg_limits.specs.Limits.{cycle_limit};
+ghost use Rattle.gg_flat.specs.Line.{value_at};
 ghost use Rattle.gg_node.specs.Machine.{source_machine, tray_machine};
+ghost use Rattle.gg_fame5.specs.Shared as units;
 ghost use Rattle.gg_sound.specs.Alone.{IsCutAgain};
 ghost use Rattle.gg_sound.specs.Built.{IsUnitOf, IsMemoryOf, IsBuilt, tray_rows};
-ghost use Rattle.gg_build.specs.Hosts.{IsUnitPart, IsMemoryPart, CanBuild, IsHost};
+ghost use Rattle.gg_build.specs.Hosts.{IsUnitPart, IsMemoryPart, CanBuild, IsAlone, IsHost};
 
 use crate::node::Node;
 use crate::ports::ports_of;
@@ -29,10 +31,10 @@ pub(crate) struct Hosted<'a> {
 // The unit of a part.
 fn unit_of<'a>(alloc: Global, part: &'a Part) -> Result<Unit<'a>, NoMemory>
     requires { IsUnitPart part.now }
-    ensures { IfOk result (λ unit. IsUnitOf part.now unit) }
+    ensures { IfOk result (λ unit. IsAlone (IsUnitOf part.now) (units.machines_of unit)) }
 {
     let program = Program::of(alloc, &part.piece)?;
-    let unit = Unit::new(alloc, program)?;
+    let unit = Unit::with_clocks(alloc, program, &[])?;
     Ok(unit)
 }
 
@@ -78,7 +80,7 @@ fn memory_host<'a>(alloc: Global, part: &Part) -> Result<Hosted<'a>, AllocError>
 {
     let alone = alone_of(alloc, part)?;
     let ports = ports_of(alloc, memory_of(&alone.piece))?;
-    let unit = MemUnit::new(alloc, alone.piece)?;
+    let unit = MemUnit::with_clocks(alloc, alone.piece, &[])?;
     Ok(Hosted {
         node: Node::Memory(unit),
         ports,

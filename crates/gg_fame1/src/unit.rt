@@ -1,180 +1,179 @@
 //! `Unit`: a piece of a cut circuit as a machine of its own.
-ghost use Rattle.std.specs.Prelude.{◌≡◌, ℕ, ◌<◌, List, [], ◌∷◌, All, None, false, length, replicate, is_some, slice_set, IfOk};
-ghost use Rattle.gg_node.specs.Machine.{RunsPiece, Machine, machine_at, latch_at, flag_at, first_empty, missing, due};
+ghost use Rattle.std.specs.Prelude.{◌≡◌, ℕ, ◌+◌, ◌<◌, ◌≤◌, [], ◌∷◌, length, is_some, slice_set, IfOk};
+ghost use Rattle.gg_flat.specs.State.{IsState};
+ghost use Rattle.gg_node.specs.Machine.{machine_at, latch_at, flag_at, missing, due, cycle_limit};
 ghost use Rattle.gg_node.specs.Token.{IsToken, IsNextState};
 ghost use Rattle.gg_node.specs.Step.{MayLatch, MayFire, MayServe, MayFinish, with_latch, with_flag, with_served, finished};
-ghost use Rattle.gg_fame1.specs.Unit.{opening_unit};
+ghost use Rattle.gg_fame5.specs.Machine.{opening_unit, started_unit};
+ghost use Rattle.gg_fame5.specs.Shared.{machines_of, unset_of, IsConeDoneOf};
 
-use gg_flat::{Piece, State, settled_once};
-use gg_node::{Host, clean, clear_flags, empty_latches, first_empty};
-use gg_program::{NoMemory, Program, Slots};
-use std::alloc::{AllocError, Global};
+use gg_clocks::Ratio;
+use gg_fame5::Shared;
+use gg_flat::{Piece, State};
+use gg_node::Host;
+use gg_program::{NoMemory, Program, Steps};
+use std::alloc::Global;
 use std::marker::Model;
+use std::sync::ledger::Ledger;
 
 /// A piece of a cut circuit as a machine of its own. It is a host of one thread. Its ins are the piece's in-signals,
-/// and its outs are the out-signals, both in port order. A contract sees it as this machine.
+/// and its outs are the out-signals, both in port order. A contract sees it as a host that several threads could share.
 #[derive(Drop)]
 pub struct Unit<'a> {
-    program: Program<'a>,
-    state: State,
-    // The token of an in is also in the slot of its in-signal.
-    slots: Slots,
-    latches: Vec<Option<u128>>,
-    flags: Vec<bool>,
-    cycle: u64,
+    shared: Shared<'a>,
 }
 
 impl<'a> Model for Unit<'a> {
-    ghost use Rattle.std.specs.Prelude.{[]};
-    ghost use Rattle.gg_node.specs.Machine.{Machine};
-    ghost use Rattle.gg_fame1.specs.Unit.{unit_machine, IsOfPiece};
+    ghost use Rattle.gg_fame5.specs.Shared.{Sharing};
 
-    ghost Value = { Machine };
+    ghost Value = { Sharing };
 
-    ghost view = { λ unit. unit_machine unit.program [] unit.cycle unit.state unit.latches.items unit.flags.items };
-
-    ghost invariant = { λ unit. IsOfPiece unit.program.circuit unit.state unit.slots unit.latches.items unit.flags.items };
+    ghost view = { λ unit. unit.shared };
 }
 
 impl<'a> Unit<'a> {
-    /// The unit of a program, before the first cycle.
+    /// The unit of a program before the first cycle, with a ratio for each clock of the piece.
     ///
     /// # Errors
     ///
     /// Returns `NoMemory` if an allocation fails.
-    pub fn new(alloc: Global, program: Program<'a>) -> Result<Unit<'a>, NoMemory>
-        ensures { IfOk result (λ unit. unit ≡ opening_unit program.entry) }
+    pub fn with_clocks(
+        alloc: Global,
+        program: Program<'a>,
+        ratios: &[Ratio],
+    ) -> Result<Unit<'a>, NoMemory>
+        ensures { IfOk result (λ unit. machines_of unit ≡ opening_unit program.entry ratios.now ∷ []) }
     {
-        let piece = program.piece();
-        let state = State::new(alloc, piece)?;
-        let slots = program.slots(alloc)?;
-        let latches = empty_latches(alloc, piece.ins().len())?;
-        let flags = clear_flags(alloc, piece.outs().len())?;
-        Ok(Unit {
-            program,
-            state,
-            slots,
-            latches,
-            flags,
-            cycle: 0,
-        })
+        let state = State::new(alloc, program.piece())?;
+        Unit::from_state(alloc, program, ratios, state, 0)
+    }
+
+    /// The unit of a program that begins in this state, with this cycle, which is at most 1,000,000. There is a ratio
+    /// for each clock of the piece.
+    ///
+    /// # Errors
+    ///
+    /// Returns `NoMemory` if an allocation fails.
+    pub fn from_state(
+        alloc: Global,
+        program: Program<'a>,
+        ratios: &[Ratio],
+        state: State,
+        cycle: u64,
+    ) -> Result<Unit<'a>, NoMemory>
+        requires state { IsState program.circuit state }
+        requires cycle { cycle ≤ cycle_limit }
+        ensures { IfOk result (λ unit. machines_of unit ≡ started_unit program.entry ratios.now state cycle ∷ []) }
+    {
+        let shared = Shared::alone(alloc, program, ratios, state, cycle)?;
+        Ok(Unit { shared })
     }
 
     /// The piece that it runs.
     pub fn piece(&self) -> &Piece
-        ensures { self.now.behaviour ≡ RunsPiece result.now }
+        ensures { result.now ≡ self.now.program.circuit }
     {
-        self.program.piece()
+        self.shared.piece()
     }
 
-    // The first in that an out needs and that has no token yet, if there is one.
-    fn missing_of(&self, out: u32) -> Option<u32>
-        requires { out < length self.now.flags }
-        ensures { result ≡ missing self.now out }
+    /// The state before its cycle. The only thread is thread 0.
+    pub fn state(&self, thread: u32) -> &State
+        requires { thread < length (machines_of self.now) }
+        ensures { result.now ≡ (machine_at (machines_of self.now) thread).state }
     {
-        first_empty(self.latches.as_slice(), self.program.needs(out))
+        self.shared.state(thread)
     }
 
-    // The token of an out.
-    fn value(&mut self, out: u32) -> u128
-        requires { MayFire self.old out }
-        ensures token { IsToken self.old out result }
-        ensures same { self.new ≡ self.old }
+    /// The token that an out would give. Changes no machine. The steps are evaluated assignments: together with those
+    /// that have still to be evaluated afterwards, there are no more than there were to be evaluated before. All that
+    /// the out reaches is done afterwards. If it was done before, nothing is evaluated.
+    pub fn token_once<L: Ledger>(&mut self, thread: u32, place: u32, steps: &mut Steps<L>) -> u128
+        requires thread { thread < length (machines_of self.old) }
+        requires may { MayFire (machine_at (machines_of self.old) thread) place }
+        ensures token { IsToken (machine_at (machines_of self.old) thread) place result }
+        ensures program { self.new.program ≡ self.old.program }
+        ensures lanes { self.new.lanes ≡ self.old.lanes }
+        ensures steps { steps.new + unset_of self.new thread ≤ steps.old + unset_of self.old thread }
+        ensures cone { IsConeDoneOf self.new thread place }
+        ensures still { IsConeDoneOf self.old thread place → steps.new ≡ steps.old }
     {
-        // for the program's invariant on its needs
-        let _ = self.program.piece();
-        self.program.run_cone(&self.state, &mut self.slots, out)
-    }
-
-    // Puts a token into the latch of an in.
-    fn put(&mut self, place: u32, token: u128)
-        requires { MayLatch self.old place token }
-        ensures { self.new ≡ with_latch self.old place token }
-    {
-        // for the program's invariant on its circuit
-        let _ = self.program.piece();
-        self.program.put(&mut self.slots, place, token);
-        self.latches[place as usize] = Some(token);
-    }
-
-    // Advances to the next cycle.
-    fn next_cycle(&mut self)
-        requires { MayFinish self.old }
-        ensures next { IsNextState self.old self.new.state }
-        ensures step { self.new ≡ finished self.old self.new.state }
-    {
-        // for the program's invariant on its circuit
-        let _ = self.program.piece();
-        settled_once();
-        self.program.run_next(&mut self.state, &mut self.slots, &[]);
-        clean(&mut self.latches, &mut self.flags);
-        self.cycle += 1;
+        self.shared.token_once(thread, place, steps)
     }
 }
 
-#[tactic(auto, using(gg_node::proofs::OneLemmas::only, gg_node::proofs::OneLemmas::only_set))]
 impl<'a> Host for Unit<'a> {
-    ghost machines = { λ machine. machine ∷ [] };
+    ghost machines = { machines_of };
 
     fn threads(&self) -> u32 {
-        1
+        self.shared.threads()
     }
 
     fn cycle(&self, thread: u32) -> u64 {
-        self.cycle
+        self.shared.cycle(thread)
     }
 
     fn latched(&self, thread: u32, place: u32) -> bool {
-        self.latches[place as usize].is_some()
+        self.shared.latched(thread, place)
     }
 
     fn fired(&self, thread: u32, place: u32) -> bool {
-        self.flags[place as usize]
+        self.shared.fired(thread, place)
     }
 
     fn missing(&self, thread: u32, place: u32) -> Option<u32> {
-        self.missing_of(place)
+        self.shared.missing(thread, place)
     }
 
     fn due(&self, thread: u32) -> Option<u32> {
-        let _ = &self.cycle;
-        None
+        self.shared.due(thread)
     }
 
     fn served(&self, thread: u32) -> u32 {
-        let _ = &self.cycle;
-        0
+        self.shared.served(thread)
     }
 
     fn dues(&self, thread: u32) -> u32 {
-        let _ = &self.cycle;
-        0
+        self.shared.dues(thread)
     }
 
     fn port_count(&self, thread: u32) -> u32 {
-        let _ = &self.cycle;
-        0
+        self.shared.port_count(thread)
     }
 
-    fn token(&mut self, thread: u32, place: u32) -> u128 {
-        self.value(place)
+    fn token(&mut self, thread: u32, place: u32) -> u128
+        requires thread { thread < length (machines_of self.old) }
+        requires may { MayFire (machine_at (machines_of self.old) thread) place }
+        ensures token { IsToken (machine_at (machines_of self.old) thread) place result }
+        ensures same { machines_of self.new ≡ machines_of self.old }
+        ensures unset { unset_of self.new thread ≤ unset_of self.old thread }
+    {
+        self.shared.token(thread, place)
     }
 
-    fn latch(&mut self, thread: u32, place: u32, value: u128) {
-        self.put(place, value);
+    fn latch(&mut self, thread: u32, place: u32, value: u128)
+        requires thread { thread < length (machines_of self.old) }
+        requires may { MayLatch (machine_at (machines_of self.old) thread) place value }
+        ensures step { machines_of self.new ≡ slice_set (machines_of self.old) thread (with_latch (machine_at (machines_of self.old) thread) place value) }
+        ensures unset { unset_of self.new thread ≤ unset_of self.old thread }
+    {
+        self.shared.latch(thread, place, value);
     }
 
-    fn fire(&mut self, thread: u32, place: u32) -> u128 {
-        let value = self.value(place);
-        self.flags[place as usize] = true;
-        value
+    fn fire(&mut self, thread: u32, place: u32) -> u128
+        requires thread { thread < length (machines_of self.old) }
+        requires may { MayFire (machine_at (machines_of self.old) thread) place }
+        ensures token { IsToken (machine_at (machines_of self.old) thread) place result }
+        ensures step { machines_of self.new ≡ slice_set (machines_of self.old) thread (with_flag (machine_at (machines_of self.old) thread) place) }
+        ensures unset { unset_of self.new thread ≤ unset_of self.old thread }
+    {
+        self.shared.fire(thread, place)
     }
 
     fn serve(&mut self, thread: u32, port: u32) {
-        let _ = &self.cycle;
+        self.shared.serve(thread, port);
     }
 
     fn finish(&mut self, thread: u32) {
-        self.next_cycle();
+        self.shared.finish(thread);
     }
 }

@@ -245,7 +245,7 @@ module _ (design : Ordered) (request : Request) (default : ℕ) (plan : Plan) (c
         let are_turns = memory-turns design listed m part given.design_is given.keeps apart body.0 body.1 body.2 machine stands outer.0 inner.0 outer.1 inner.1 plan are frame refl in
         let same = of-memory (memory_turns design.circuit wires (memory_of design.tree listed m)) [] body.0 body.1 in
         subst (λ (t : Machine). AreTurnsOf frame m (kind_of t).ports (turns_of m)) (sym stands.is)
-        (subst (λ (l : List Turn). AreTurnsOf frame m (kind_of (opening_unit stands.alone.piece)).ports l) (sym same) are_turns)
+        (subst (λ (l : List Turn). AreTurnsOf frame m (kind_of (opening_unit stands.alone.piece [])).ports l) (sym same) are_turns)
     body-turns (Source place) machine body is = subst (λ (t : Machine). AreTurnsOf frame m (kind_of t).ports (turns_of m)) (sym is) (no-turns frame m (turns_of m) (not-memory (inr (omega (arith, body.1)))))
     body-turns Tray machine body is =
         let low : first_source listed ≤ m = omega (arith, body) in

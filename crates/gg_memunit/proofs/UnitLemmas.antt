@@ -1,5 +1,5 @@
 -- The tokens, the accesses and the next state of a memory unit.
-use Rattle.std.proofs.Common.{◌≡◌, ℕ, zero, suc, ◌+◌, ◌<◌, ◌^◌, List, [], ◌∷◌, Option, None, Some, Bool, length, map, refl, sym, ap, subst, ◌∙◌, arith}
+use Rattle.std.proofs.Common.{◌≡◌, ℕ, zero, suc, ◌+◌, ◌<◌, ◌^◌, List, [], ◌∷◌, Option, None, Some, Bool, length, map, refl, sym, ap, ap₂, subst, ◌∙◌, arith}
 use Rattle.std.specs.Prelude.{All, replicate, slice_get, slice_index_or, slice_set}
 use Rattle.std.proofs.lemmas.List.{get_or-map, length-map, map-set, nil_from_length}
 use Rattle.gg_flat.specs.declared.memory.Latency.{Latency}
@@ -12,10 +12,11 @@ use Rattle.gg_flat.specs.declared.piece.Driver.TheVariants.{Input}
 use Rattle.gg_flat.specs.Clock.{Ratio, edges_at}
 use Rattle.gg_flat.specs.Line.{shape_at, value_at}
 use Rattle.gg_flat.specs.Circuit.{FlatCircuit, signal_shapes, driver_at, readers_at, latency_at, reader_at}
-use Rattle.gg_flat.specs.State.{next_registers, State}
+use Rattle.gg_bits.specs.Shape.{shape}
+use Rattle.gg_flat.specs.State.{next_registers, State, IsState}
 use Rattle.gg_flat.specs.Settled.{Settled, driver_value}
 use Rattle.gg_flat.specs.WellFormed.{AreDriven, reader_driver}
-use Rattle.gg_flat.specs.Memory.{Bank, found_word, read_word, next_words_from, next_reads, next_banks, read_count, LooksAmong}
+use Rattle.gg_flat.specs.Memory.{Bank, found_word, read_word, next_words_from, next_reads, next_banks, read_count, bank_at, LooksAmong}
 use Rattle.gg_flat.specs.Served.{after_access}
 use Rattle.gg_node.specs.Machine.{RunsPiece, Port, Machine, latch_at, latched_value, latched_values, first_empty, needs_at, port_number}
 use Rattle.gg_node.specs.Token.{AgreesOn, IsTokenOf, IsNextOf, accessed}
@@ -187,3 +188,25 @@ tokens-set inputs latches place token same = ap (λ inputs. slice_set inputs pla
 -- the fields of a memory's readers are numbers of in-signals
 pub looks-among : (piece : FlatCircuit) (memory : Memory) → IsMemoryPiece piece → piece.memories ≡ memory ∷ [] → (n : ℕ) → n ≡ length piece.ins → All (LooksAmong n) memory.readers
 looks-among piece memory is only n same = subst (λ n. All (LooksAmong n) memory.readers) (sym same) (of-sole (λ memory. All (LooksAmong (length piece.ins)) memory.readers) piece.memories memory only is.readers)
+
+-- ---- a state of a memory's piece
+
+-- it is what its only memory holds
+pub state-alone : (piece : FlatCircuit) (state : State) → IsMemoryPiece piece → IsState piece state → state ≡ state_of (bank_at state.banks 0)
+state-alone piece state is typed = ap₂ (λ (registers : List ℕ) (banks : List Bank). record { registers = registers; banks = banks }) (nil_from_length state.registers none) (one state.banks (typed.held.count ∙ is.one))
+  where
+    none : length state.registers ≡ 0
+    none = typed.typed.count ∙ length-map piece.registers (λ register. shape register.ty) ∙ ap length is.alone
+
+    one : (banks : List Bank) → length banks ≡ 1 → banks ≡ bank_at banks 0 ∷ []
+    one [] same = absurd (omega (arith, same))
+    one (bank ∷ []) same = refl
+    one (bank ∷ other ∷ banks) same = absurd (omega (arith, same))
+
+-- it has a read register for each late reader
+pub held-alone : (piece : FlatCircuit) (state : State) (reads : List ℕ) → IsMemoryPiece piece → IsState piece state → reads ≡ (bank_at state.banks 0).reads → All (λ memory. length reads ≡ read_count memory.latency memory.readers) piece.memories
+held-alone piece state reads is typed same = by
+  where
+    by : (m : ℕ) (any : Memory) → m < length piece.memories → length reads ≡ read_count (slice_index_or piece.memories m any).latency (slice_index_or piece.memories m any).readers
+    by zero any below = ap (λ (l : List ℕ). length l) same ∙ (typed.held.each 0 any below).reads.count
+    by (suc m) any below = absurd (omega (arith, below, is.one))

@@ -111,9 +111,13 @@ memory_machine piece ratios limit cycle state served latches flags =
 abbrev pub accessed_by : List Bool → List (Option ℕ) → State → List Port → State
 accessed_by edges latches state ports = fold (λ state port. accessed edges latches state (Some port)) state ports
 
--- a memory unit before its first cycle; each clock of its piece has an edge in each cycle
-abbrev pub opening_unit : FlatCircuit → Machine
-opening_unit piece = memory_machine piece [] cycle_limit 0 (opening piece) 0 (replicate (length piece.ins) None) (replicate (length piece.outs) false)
+-- a memory unit that begins in this state, with this cycle: its latches are empty and its flags clear
+abbrev pub started_unit : FlatCircuit → List Ratio → State → ℕ → Machine
+started_unit piece ratios state cycle = memory_machine piece ratios cycle_limit cycle state 0 (replicate (length piece.ins) None) (replicate (length piece.outs) false)
+
+-- a memory unit before its first cycle
+abbrev pub opening_unit : FlatCircuit → List Ratio → Machine
+opening_unit piece ratios = started_unit piece ratios (opening piece) 0
 
 -- The fields of a unit belong to its piece: there is a read register for each late reader, a latch for each in-signal
 -- and a flag for each out-signal, and the inputs are the tokens in the latches.

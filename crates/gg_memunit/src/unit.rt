@@ -1,13 +1,16 @@
 //! `MemUnit`: a memory whose ports are served one by one.
-ghost use Rattle.std.specs.Prelude.{◌≡◌, ℕ, ◌<◌, List, [], ◌∷◌, length, is_some, slice_set, IfOk};
+ghost use Rattle.std.specs.Prelude.{◌≡◌, ℕ, ◌<◌, ◌≤◌, List, [], ◌∷◌, None, false, All, length, replicate, is_some, slice_set, IfOk};
 ghost use Rattle.gg_limits.specs.Limits.{cycle_limit};
+ghost use Rattle.gg_flat.specs.Memory.{read_count};
+ghost use Rattle.gg_flat.specs.State.{IsState};
 ghost use Rattle.gg_node.specs.Machine.{RunsPiece, Machine, machine_at, latch_at, flag_at, missing, due};
 ghost use Rattle.gg_node.specs.Token.{IsToken, IsNextState};
 ghost use Rattle.gg_node.specs.Step.{MayLatch, MayFire, MayServe, MayFinish, with_latch, with_flag, with_served, finished};
-ghost use Rattle.gg_memunit.specs.MemoryUnit.{IsMemoryPiece, opening_unit};
+ghost use Rattle.gg_memunit.specs.MemoryUnit.{IsMemoryPiece, memory_machine, state_of, opening_unit, started_unit};
 
 use crate::{access, ports};
-use gg_flat::{Bank, Latency, Memory, Piece};
+use gg_clocks::{Ratio, Timing};
+use gg_flat::{Bank, Latency, Memory, Piece, State};
 use gg_node::{Host, clean, clear_flags, empty_latches};
 use std::alloc::{AllocError, Global};
 use std::marker::Model;
@@ -22,18 +25,18 @@ pub struct MemUnit {
     inputs: Vec<u128>,
     latches: Vec<Option<u128>>,
     flags: Vec<bool>,
-    cycle: u64,
+    // its tick is the cycle
+    timing: Timing,
     served: u32,
 }
 
 impl Model for MemUnit {
-    ghost use Rattle.std.specs.Prelude.{[]};
     ghost use Rattle.gg_node.specs.Machine.{Machine, cycle_limit};
     ghost use Rattle.gg_memunit.specs.MemoryUnit.{memory_machine, state_of, IsOfPiece};
 
     ghost Value = { Machine };
 
-    ghost view = { λ unit. memory_machine unit.piece [] cycle_limit unit.cycle (state_of unit.bank) unit.served unit.latches.items unit.flags.items };
+    ghost view = { λ unit. memory_machine unit.piece unit.timing.ratios cycle_limit unit.timing.tick (state_of unit.bank) unit.served unit.latches.items unit.flags.items };
 
     ghost invariant = { λ unit. IsOfPiece unit.piece unit.bank unit.inputs.items unit.latches.items unit.flags.items };
 }
@@ -47,28 +50,76 @@ fn memory_of(piece: &Piece) -> &Memory
 }
 
 impl MemUnit {
-    /// The unit of a piece that is only a memory, before the first cycle.
+    /// The unit of a piece that is only a memory, before the first cycle, with a ratio for each clock of the piece.
     ///
     /// # Errors
     ///
     /// Returns `AllocError` if an allocation fails.
-    pub fn new(alloc: Global, piece: Piece) -> Result<MemUnit, AllocError>
+    pub fn with_clocks(alloc: Global, piece: Piece, ratios: &[Ratio]) -> Result<MemUnit, AllocError>
         requires { IsMemoryPiece piece }
-        ensures { IfOk result (λ unit. unit ≡ opening_unit piece) }
+        ensures { IfOk result (λ unit. unit ≡ opening_unit piece ratios.now) }
     {
         let bank = Bank::new(alloc, memory_of(&piece))?;
+        MemUnit::with_bank(alloc, piece, ratios, bank, 0)
+    }
+
+    /// The unit of a piece that is only a memory. It begins in this state, with this cycle, which is at most 1,000,000.
+    /// There is a ratio for each clock of the piece.
+    ///
+    /// # Errors
+    ///
+    /// Returns `AllocError` if an allocation fails.
+    pub fn from_state(
+        alloc: Global,
+        piece: Piece,
+        ratios: &[Ratio],
+        state: &State,
+        cycle: u64,
+    ) -> Result<MemUnit, AllocError>
+        requires memory { IsMemoryPiece piece }
+        requires state { IsState piece state.now }
+        requires cycle { cycle ≤ cycle_limit }
+        ensures { IfOk result (λ unit. unit ≡ started_unit piece ratios.now state.now cycle) }
+    {
+        let held = &state.banks()[0];
+        let words = Vec::from_slice(alloc, held.words())?;
+        let reads = Vec::from_slice(alloc, held.reads())?;
+        MemUnit::with_bank(alloc, piece, ratios, Bank::of(words, reads), cycle)
+    }
+
+    // The unit of a piece whose memory holds this, at the beginning of a cycle.
+    fn with_bank(
+        alloc: Global,
+        piece: Piece,
+        ratios: &[Ratio],
+        bank: Bank,
+        cycle: u64,
+    ) -> Result<MemUnit, AllocError>
+        requires memory { IsMemoryPiece piece }
+        requires held { All (λ memory. length bank.reads ≡ read_count memory.latency memory.readers) piece.memories }
+        requires cycle { cycle ≤ cycle_limit }
+        ensures { IfOk result (λ unit. unit ≡ memory_machine piece ratios.now cycle_limit cycle (state_of bank) 0 (replicate (length piece.ins) None) (replicate (length piece.outs) false)) }
+    {
         let inputs = vec![in alloc; 0; piece.ins().len()]?;
         let latches = empty_latches(alloc, piece.ins().len())?;
         let flags = clear_flags(alloc, piece.outs().len())?;
+        let timing = Timing::new(alloc, ratios, cycle)?;
         Ok(MemUnit {
             piece,
             bank,
             inputs,
             latches,
             flags,
-            cycle: 0,
+            timing,
             served: 0,
         })
+    }
+
+    /// What the memory holds, as the accesses so far have made it.
+    pub fn bank(&self) -> &Bank
+        ensures { self.now.state ≡ state_of result.now }
+    {
+        &self.bank
     }
 
     /// The piece that it runs.
@@ -144,7 +195,8 @@ impl MemUnit {
         ensures { self.new ≡ with_served self.old }
     {
         let memory = memory_of(&self.piece);
-        access::serve(&mut self.bank, memory, port, &[], &self.inputs);
+        let edges = self.timing.edges();
+        access::serve(&mut self.bank, memory, port, edges, &self.inputs);
         self.served += 1;
     }
 
@@ -156,7 +208,7 @@ impl MemUnit {
     {
         self.inputs.fill(0);
         clean(&mut self.latches, &mut self.flags);
-        self.cycle += 1;
+        self.timing.advance();
         self.served = 0;
     }
 }
@@ -170,7 +222,7 @@ impl Host for MemUnit {
     }
 
     fn cycle(&self, thread: u32) -> u64 {
-        self.cycle
+        self.timing.tick()
     }
 
     fn latched(&self, thread: u32, place: u32) -> bool {

@@ -20,7 +20,7 @@ use Rattle.gg_part.proofs.AlongLemmas.{IsOrder-numbers}
 use Rattle.gg_node.specs.Machine.{RunsPiece, Machine, needs_at}
 use Rattle.gg_net.specs.Network.{Kind, kind_of}
 use Rattle.gg_net.specs.Kept.{in_columns, RunsRows, Runs, Answers, Asks}
-use Rattle.gg_fame1.specs.Unit as dataflow
+use Rattle.gg_fame5.specs.Machine as dataflow
 use Rattle.gg_memunit.specs.MemoryUnit as memory_unit
 use Rattle.gg_memunit.proofs.UnitLemmas.{sole}
 use Rattle.gg_memunit.proofs.DependLemmas.{memory-once, memory-suffices}
@@ -108,7 +108,7 @@ module _ (whole : FlatCircuit) (part : Part) (columns : List (List ℕ)) (n : �
       let along = IsOrder-numbers part.piece ordered in
       let nothing : Option ℕ = None in
       subst (λ (t : Machine). DoesCycles rows n ins outs (kind_of t) (part_state part.held part.memories (opening whole)) own) (sym unit.is)
-      (subst (λ (s : State). DoesCycles rows n ins outs (kind_of (dataflow.opening_unit (record { circuit = part.piece; needs = unit.needs }))) s own) (unit-begins whole part is)
+      (subst (λ (s : State). DoesCycles rows n ins outs (kind_of (dataflow.opening_unit (record { circuit = part.piece; needs = unit.needs }) [])) s own) (unit-begins whole part is)
       (piece-does part.globals part.piece rows n ins outs _ (opening part.piece) own refl most (shown part.globals) named
       (record {
         formed = part-formed;
@@ -134,8 +134,8 @@ module _ (whole : FlatCircuit) (part : Part) (columns : List (List ℕ)) (n : �
       let alone_run = own-run part.piece piece alone.globals alone.held alone.memories memory.is_part (in_columns part.piece (part_rows part.globals rows)) n (part_rows part.globals rows) part-run in
       let own_run = subst (λ (l : List (List ℕ)). IsRun piece (in_columns piece l) n l) (sym (rows-twice part.globals alone.globals rows below)) alone_run in
       subst (λ (t : Machine). DoesCycles rows n ins outs (kind_of t) begins (part_rows (map (value_at part.globals) (part.piece.ins ++ part.piece.outs)) rows)) (sym memory.is)
-      (subst (λ (l : List ℕ). DoesCycles rows n ins outs (kind_of (memory_unit.opening_unit piece)) begins (part_rows (map (value_at part.globals) l) rows)) memory.globals
-      (subst (λ (s : State). DoesCycles rows n ins outs (kind_of (memory_unit.opening_unit piece)) s own) (memory-begins whole part alone is memory.is_part memory.memories memory.is_memory.alone one)
+      (subst (λ (l : List ℕ). DoesCycles rows n ins outs (kind_of (memory_unit.opening_unit piece [])) begins (part_rows (map (value_at part.globals) l) rows)) memory.globals
+      (subst (λ (s : State). DoesCycles rows n ins outs (kind_of (memory_unit.opening_unit piece [])) s own) (memory-begins whole part alone is memory.is_part memory.memories memory.is_memory.alone one)
       (piece-does globals piece rows n ins outs _ (opening piece) own refl most (shown globals) (named-twice part.globals alone.globals part.piece piece ins outs named inner)
       (record {
         formed = memory.is_memory.formed;

@@ -25,7 +25,7 @@ use Rattle.gg_cut.specs.Listed.{first_place}
 use Rattle.gg_cut.specs.Plan.{IsPlan}
 use Rattle.gg_cut.specs.Solves.{columns_of}
 use Rattle.gg_node.specs.Machine.{Machine, machine_at, no_state, source_machine, tray_machine}
-use Rattle.gg_fame1.specs.Unit as dataflow
+use Rattle.gg_fame5.specs.Machine as dataflow
 use Rattle.gg_memunit.specs.MemoryUnit as memory
 use Rattle.gg_net.specs.declared.shape.Wire.{Wire}
 use Rattle.gg_net.specs.Network.{IsAtIn, IsAtOut, Kind, Frame, frame_of}
@@ -72,7 +72,7 @@ wires_of_plan plan = wires_from plan 0 plan.channels
 pub record IsUnitOf (part : Part) (machine : Machine) : Type 0 where
   pub needs : List (List ℕ)
   pub exact : AreNeedsOfOuts part.piece needs
-  pub is : machine ≡ dataflow.opening_unit (record { circuit = part.piece; needs = needs })
+  pub is : machine ≡ dataflow.opening_unit (record { circuit = part.piece; needs = needs }) []
 
 -- The machine of a listed memory. It is a memory unit, whose piece is a part of the listed memory's part. The piece has
 -- the in-signals followed by the out-signals, and the memory. As the piece of a memory unit it has the in-signals
@@ -85,7 +85,7 @@ pub record IsMemoryOf (part : Part) (machine : Machine) : Type 0 where
   pub outs : map (value_at alone.globals) alone.piece.outs ≡ part.piece.outs
   pub memories : alone.memories ≡ 0 ∷ []
   pub is_memory : memory.IsMemoryPiece alone.piece
-  pub is : machine ≡ memory.opening_unit alone.piece
+  pub is : machine ≡ memory.opening_unit alone.piece []
 
 -- the most values that the tray of a network with n cycles keeps: all that it gets, but at least one
 abbrev pub tray_rows : ℕ → ℕ

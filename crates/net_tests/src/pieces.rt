@@ -79,8 +79,17 @@ fn first_missing(alloc: Global, piece: &Piece) -> Result<Option<u32>, NoMemory>
     requires ordered { IsInOrder piece.now }
     requires outs { length piece.now.outs ≡ 1 }
 {
-    let unit = Unit::new(alloc, Program::of(alloc, piece)?)?;
+    let unit = Unit::with_clocks(alloc, Program::of(alloc, piece)?, &[])?;
     Ok(unit.missing(0, 0))
+}
+
+// Whether there are slots for the program of a piece.
+fn has_slots(alloc: Global, piece: &Piece) -> Result<bool, NoMemory>
+    requires formed { IsWellFormed piece.now }
+    requires ordered { IsInOrder piece.now }
+{
+    let program = Program::of(alloc, piece)?;
+    Ok(program.slots(alloc).is_ok())
 }
 
 // Whether the only output of a design with two signals, in this order, waits for the first input.
@@ -89,7 +98,9 @@ fn waits(alloc: Global, design: &Design) -> bool {
     if piece.outs().len() != 1 || design.order() != [0, 1].as_slice() {
         return false;
     }
-    matches!(needs_it(alloc, piece), Ok(true)) && matches!(first_missing(alloc, piece), Ok(Some(0)))
+    matches!(needs_it(alloc, piece), Ok(true))
+        && matches!(first_missing(alloc, piece), Ok(Some(0)))
+        && matches!(has_slots(alloc, piece), Ok(true))
 }
 
 // Whether an output that is the input waits for it.

@@ -1,4 +1,4 @@
-use Rattle.std.proofs.Common.{◌+◌, ◌^◌, ◌<◌, length, sym, ap, subst, ◌∙◌, map, arith}
+use Rattle.std.proofs.Common.{◌+◌, ◌^◌, ◌<◌, length, refl, sym, ap, subst, ◌∙◌, map, arith}
 use Rattle.std.specs.Prelude.{All}
 use Rattle.gg_flat.specs.declared.memory.Memory.{Memory}
 use Rattle.gg_node.specs.Machine.{Machine}
@@ -17,6 +17,7 @@ returns c =
     let cut = c.in_ok-alone.ensures in
     let unit = c.in_ok-unit.unit in
     record {
+      alone = refl;
       is = record {
         alone = alone;
         is_part = cut.is_part;

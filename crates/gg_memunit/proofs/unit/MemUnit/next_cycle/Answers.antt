@@ -30,4 +30,4 @@ returns-clause-next c =
     let only = sole unit.piece.memories kept.memory.one in
     let held = of-sole (λ (memory : Memory). length unit.bank.reads ≡ read_count memory.latency memory.readers) unit.piece.memories only.0 only.1 kept.held in
     subst (λ machine. IsNextState machine (state_of unit.bank)) c.self.view_is
-    (next-is unit.piece only.0 kept.memory only.1 [] cycle_limit unit.cycle unit.served unit.bank unit.latches.items unit.flags.items held)
+    (next-is unit.piece only.0 kept.memory only.1 unit.timing.ratios cycle_limit unit.timing.tick unit.served unit.bank unit.latches.items unit.flags.items held)

@@ -1,6 +1,7 @@
 use Rattle.std.proofs.Common.{◌≡◌, ◌+◌, [], length, ap, ◌∙◌, arith}
 use Rattle.gg_limits.specs.Limits.{cycle_limit}
 use Rattle.gg_flat.specs.declared.memory.Memory.{Memory}
+use Rattle.gg_flat.specs.Clock.{edges_at}
 use Rattle.gg_flat.specs.Memory.{read_count}
 use Rattle.gg_flat.specs.Served.{after_access}
 use Rattle.gg_node.specs.Machine.{due}
@@ -31,6 +32,6 @@ returns c =
     let kept = c.self.invariant in
     let memory = c.memory_of-memory.result.now in
     let access = access_of memory.readers memory.writers c.args.port in
-    ap (λ bank. memory_machine unit.piece [] cycle_limit unit.cycle (state_of bank) (unit.served + 1) unit.latches.items unit.flags.items) (c.serve.ensures ∙ ap (λ inputs. after_access [] inputs unit.bank access) (c.deref.ensures.value ∙ kept.tokens))
-    ∙ serve-step unit.piece memory kept.memory c.memory_of-memory.ensures unit.served c.args.port (ap due c.self.view_is ∙ c.requires.due) [] cycle_limit unit.cycle unit.bank unit.latches.items unit.flags.items
+    ap (λ bank. memory_machine unit.piece unit.timing.ratios cycle_limit unit.timing.tick (state_of bank) (unit.served + 1) unit.latches.items unit.flags.items) (c.serve.ensures ∙ ap (λ edges. after_access edges c.deref.result.now unit.bank access) c.edges.ensures ∙ ap (λ inputs. after_access (edges_at unit.timing.ratios unit.timing.tick) inputs unit.bank access) (c.deref.ensures.value ∙ kept.tokens))
+    ∙ serve-step unit.piece memory kept.memory c.memory_of-memory.ensures unit.served c.args.port (ap due c.self.view_is ∙ c.requires.due) unit.timing.ratios cycle_limit unit.timing.tick unit.bank unit.latches.items unit.flags.items
     ∙ ap with_served c.self.view_is

@@ -23,7 +23,7 @@ returns-in-Zero c =
     c.find.ensures ∙ ap (λ readers. found_word c.deref.result.now unit.bank.words (reader_at readers place)) c.as_slice.ensures ∙ ap (λ inputs. found_word inputs unit.bank.words reader) (c.deref.ensures.value ∙ kept.tokens) in
     subst (λ value. IsToken c.args.self.now place value) (sym found)
     (subst (λ machine. IsToken machine place (found_word (latched_values unit.latches.items) unit.bank.words reader)) c.self.view_is
-    (same-token unit.piece memory kept.memory only [] cycle_limit unit.cycle unit.served unit.bank unit.latches.items unit.flags.items place below c.in-Zero.is looks.0 looks.1 needed))
+    (same-token unit.piece memory kept.memory only unit.timing.ratios cycle_limit unit.timing.tick unit.served unit.bank unit.latches.items unit.flags.items place below c.in-Zero.is looks.0 looks.1 needed))
 
 pub returns-in-One : goal.returns-in-One
 returns-in-One c =
@@ -35,4 +35,4 @@ returns-in-One c =
     let below : place < length memory.readers = omega (arith, c.requires.there, ap (λ machine. length machine.flags) c.self.view_is, kept.outs, out-count unit.piece memory kept.memory only) in
     subst (λ value. IsToken c.args.self.now place value) (sym (ap (λ reads. value_at reads place) c.reads.ensures))
     (subst (λ machine. IsToken machine place (value_at unit.bank.reads place)) c.self.view_is
-    (late-token unit.piece memory kept.memory only [] cycle_limit unit.cycle unit.served unit.bank unit.latches.items unit.flags.items place below c.in-One.field-0 c.in-One.is))
+    (late-token unit.piece memory kept.memory only unit.timing.ratios cycle_limit unit.timing.tick unit.served unit.bank unit.latches.items unit.flags.items place below c.in-One.field-0 c.in-One.is))

@@ -1,3 +1,0 @@
-pub mod UnitLemmas
-pub mod WorkedPair
-pub mod WorkedMemories
