@@ -3,7 +3,7 @@ use Rattle.std.specs.Prelude.{IfOk}
 use Rattle.std.proofs.lemmas.List.{get_or_default}
 use Rattle.gg_flat.specs.Memory.{Bank, bank_at}
 use Rattle.gg_flat.specs.State.{State}
-use Rattle.gg_node.specs.Machine.{cycle_limit}
+use Rattle.gg_limits.specs.Limits.{cycle_limit}
 use Rattle.gg_memunit.specs.MemoryUnit.{memory_machine, state_of}
 use Rattle.gg_memunit.proofs.UnitLemmas.{state-alone, held-alone}
 use Rattle.gg_memunit.proofs.unit.MemUnit.from_state.Goals as goal
