@@ -28,7 +28,8 @@ pub struct MemUnit {
 
 impl Model for MemUnit {
     ghost use Rattle.std.specs.Prelude.{[]};
-    ghost use Rattle.gg_node.specs.Machine.{Machine, cycle_limit};
+    ghost use Rattle.gg_limits.specs.Limits.{cycle_limit};
+    ghost use Rattle.gg_node.specs.Machine.{Machine};
     ghost use Rattle.gg_memunit.specs.MemoryUnit.{memory_machine, state_of, IsOfPiece};
 
     ghost Value = { Machine };

@@ -24,7 +24,8 @@ pub struct Tray {
 }
 
 impl Model for Tray {
-    ghost use Rattle.gg_node.specs.Machine.{Machine, cycle_limit, tray_machine};
+    ghost use Rattle.gg_limits.specs.Limits.{cycle_limit};
+    ghost use Rattle.gg_node.specs.Machine.{Machine, tray_machine};
     ghost use Rattle.gg_node.specs.Tray.{IsWindow};
 
     ghost Value = { Machine };
