@@ -20,7 +20,8 @@ pub struct Trace {
 
 impl Model for Trace {
     ghost use Rattle.std.specs.Prelude.{◌≡◌, ◌*◌, ◌≤◌, length};
-    ghost use Rattle.gg_trace.specs.Table.{Table, cycle_limit, table_of};
+    ghost use Rattle.gg_limits.specs.Limits.{cycle_limit};
+    ghost use Rattle.gg_trace.specs.Table.{Table, table_of};
 
     ghost Value = { Table };
 
