@@ -1,10 +1,7 @@
 -- Two instances of one module in a flat circuit: the signals of the one are those of the other, with other numbers.
-use Rattle.std.proofs.Common.{◌≡◌, ◌≢◌, ℕ, zero, suc, ◌+◌, ◌-◌, ◌<◌, ◌≤◌, min, List, [], ◌∷◌, ◌++◌, length, length-append, map, take, get_or, Bool, Option, Some, None, refl, sym, ap, ap₂, ◌∙◌, subst, subst₂, arith, inl, inr, ◌⊎◌, lit≤}
-use Rattle.std.proofs.lemmas.Bool.{cases_lt}
-use Rattle.std.specs.Prelude.{Contains, flat_map, slice_get, slice_index_or, codes}
-use Rattle.std.proofs.lemmas.List.{get_or_default, get_or-map, ext_get_or, length-map, length-take, take-append-drop, take-append-le}
-use Rattle.std.proofs.lemmas.Grind.{flat_map-append}
-use Rattle.std.proofs.Math.Seq.{take-append-add}
+use Rattle.std.proofs.Common.{◌≡◌, ℕ, ◌+◌, ◌-◌, ◌<◌, ◌≤◌, List, [], ◌∷◌, length, map, get_or, Bool, Option, Some, None, refl, sym, ap, ap₂, ◌∙◌, subst, subst₂, arith, inl, inr, ◌⊎◌, lit≤}
+use Rattle.std.specs.Prelude.{Contains, slice_get, slice_index_or, codes}
+use Rattle.std.proofs.lemmas.List.{get_or_default, get_or-map, ext_get_or, length-map}
 use Rattle.std.proofs.lemmas.List.Elements.{Contains-get_or}
 use Rattle.std.proofs.lemmas.Option.{same_Some, get_or_from_slice_get, slice_get-get_or}
 use Rattle.gg_bits.specs.declared.types.Kind.TheVariants.{UInt}
@@ -20,14 +17,13 @@ use Rattle.gg_flat.specs.declared.memory.Memory.{Memory}
 use Rattle.gg_flat.specs.declared.piece.Driver.TheVariants.{Held}
 use Rattle.gg_flat.specs.declared.piece.Register.{Register}
 use Rattle.gg_flat.specs.declared.tree.InstancePort.{InstancePort}
-use Rattle.gg_flat.specs.declared.tree.StopInstance.{StopInstance}
 use Rattle.gg_flat.specs.Circuit.{FlatCircuit, signal_shapes, driver_at}
 use Rattle.gg_flat.specs.Line.{shape_at}
 use Rattle.gg_flat.specs.Reads.{NamesSignal, RegisterNames}
 use Rattle.gg_flat.specs.Scoped.{IsScoped, IsInputOf}
-use Rattle.gg_flat.specs.Tree.{InstanceTree, IsTree, Holds, instance_at, memory_at, path_at, stop_at, joined}
+use Rattle.gg_flat.specs.Tree.{InstanceTree, IsTree, Holds, instance_at, memory_at, path_at, joined}
 use Rattle.gg_flat.proofs.ListLemmas.{some-item}
-use Rattle.gg_count.specs.Sites.{Site, module_at, sites, sites_of, top_site}
+use Rattle.gg_count.specs.Sites.{Site, module_at, sites_of}
 use Rattle.gg_flattened.specs.Flat.{stop_paths, Answers, FlatSignal, flat_signal, FlatMemory, flat_signals, flat_memories, memories_at}
 use Rattle.gg_flattened.specs.IsFlat.{IsFlat, IsMemoryOf, memory_paths, top_ports, count_before, is_register}
 use Rattle.gg_flattened.specs.Known.{types_of}
@@ -35,32 +31,30 @@ use Rattle.gg_flattened.specs.Signals.{Cause, FromOutside, Answered, Own, cause_
 use Rattle.gg_flattened.proofs.AmongLemmas.{Element, element-at, MadeOf, from-map, from-flat_map}
 use Rattle.gg_formed.proofs.BankFieldLemmas.{AnswerAmong, answer-among}
 use Rattle.gg_flattened.proofs.NameLemmas.{place_of-at}
-use Rattle.gg_flattened.specs.Clocks.{own_clocks}
-use Rattle.gg_flattened.proofs.FollowLemmas.{around-length, input_count}
 use Rattle.gg_tree.specs.IsTreeOf.{IsTreeOf, IsPortFor, Pairwise, clocks_held, signal_paths, signal_ports, memories_of}
 use Rattle.gg_tree.proofs.HeldMemoryLemmas.{memory-count}
-use Rattle.gg_tree.proofs.StopLemmas.{AskedPlace, asked-place, before_stops, holder-of, signal-of, stop-again}
 use Rattle.gg_tree.proofs.CauseLemmas.{IsNamed}
 use Rattle.gg_tree.proofs.DriverLemmas.{own-cases, port-is-input, port-own-cause, goes-in}
-use Rattle.gg_tree.proofs.InstanceLemmas.{signals_in, sites-are, stands, ranges, instance-for}
+use Rattle.gg_tree.proofs.InstanceLemmas.{signals_in, stands, ranges, instance-for}
 use Rattle.gg_tree.proofs.OwnLemmas.{own_in, own-place, placed-known, Pairwise-at}
 use Rattle.gg_tree.proofs.PairwiseLemmas.{Pairwise-length}
-use Rattle.gg_tree.proofs.PlaceLemmas.{Placed, within, within-some}
-use Rattle.gg_tree.proofs.RangeLemmas.{Ranges, count_to, count-le, placed-at, placed-count, placed-inside, placed-same}
+use Rattle.gg_tree.proofs.PlaceLemmas.{Placed, within}
+use Rattle.gg_tree.proofs.RangeLemmas.{Ranges, count_to, placed-count}
 use Rattle.gg_tree.proofs.ScopeOfTreeLemmas.{HasApartNames}
 use Rattle.gg_tree.proofs.TreeLemmas.{HasDistinctPaths, HasPlainNames, no_own, no_port, port-at, path-is}
 use Rattle.gg_tree.proofs.VisibleLemmas.{HasKnownNames}
-use Rattle.gg_moved.specs.Moved.{IsMoved, moved_driver, moved_register, moved_memory, moved_port, moved_stop, shifted, unclocked_memory, unclocked_register}
-use Rattle.gg_moved.specs.Copies.{LiesIn, Start, IsCopy, HasCopies}
-use Rattle.gg_copies.proofs.LikeSites.{AreLikeSites, AreLikeSignals, AreLikeMemories}
-use Rattle.gg_copies.proofs.CopyLemmas.{HasSomeNames, whole-like, signals-like, memories-like}
+use Rattle.gg_moved.specs.Moved.{IsMoved, moved_driver, moved_register, moved_memory, moved_port, shifted, unclocked_memory, unclocked_register}
+use Rattle.gg_moved.specs.Copies.{Start, IsCopy, HasCopies}
+use Rattle.gg_copies.proofs.LikeSites.{AreLikeSignals, AreLikeMemories}
+use Rattle.gg_copies.proofs.CopyBelowLemmas.{sites_like, instance-moved, own-clocks, clocks-moved, stop-moved}
+use Rattle.gg_copies.proofs.CopyLemmas.{HasSomeNames, signals-like, memories-like}
 use Rattle.gg_copies.proofs.CopyLineLemmas.{SamePaths}
 use Rattle.gg_copies.proofs.CopyDriverLemmas.{Stretch, AtInput, driver-moved, held-copied, memory-copied, none, path-there, paths-same, shapes-same, stretch-at, stretch-inside, stretch-map, stretch-paths}
 use Rattle.gg_copies.proofs.CopyFieldLemmas.{AnswerParts, answer-parts, there-of, own-there, bank-there, reader-there, writer-there}
-use Rattle.gg_copies.proofs.CopyPlaceLemmas.{AreRanked, placed-stretch, levels-same, rank-left}
-use Rattle.gg_copies.proofs.CopyClockLemmas.{clocks-alike, own-same}
+use Rattle.gg_copies.proofs.CopyPlaceLemmas.{AreRanked, placed-stretch}
+use Rattle.gg_copies.proofs.CopyClockLemmas.{clocks-alike}
 use Rattle.gg_copies.proofs.CopyClosedLemmas.{driver-in, register-in}
-use Rattle.gg_copies.proofs.CopyInsideLemmas.{instance-inside, memory-inside}
+use Rattle.gg_copies.proofs.CopyInsideLemmas.{memory-inside}
 
 -- a register for where there is none
 abbrev some_register : Register
@@ -97,21 +91,7 @@ module _ (circuit : CircuitTree) (flat : FlatCircuit) (tree : InstanceTree) (top
         memories = count_to (memories_at circuit.modules) (sites_of circuit) k;
       }
 
-  rank-at : (k : ℕ) (x : Site) → Stands k x → rank x.number ≤ length circuit.modules - x.depth
-  rank-at k x p =
-      let c : Contains (sites_of circuit) x = (k, placed-known circuit k x p, placed-at (length circuit.modules) circuit.modules (sites_of circuit) k x x p) in
-      let r = rank-left circuit.modules rank ranked (length circuit.modules - 0) (top_site top) x (subst (λ (l : List Site). Contains l x) (sites-are circuit tree top known_top) c) in
-      omega (arith, r, rank_top)
-
   module _ (i j : ℕ) (u v : Site) (at_i : Stands i u) (at_j : Stands j v) (same : u.number ≡ v.number) where
-    levels : below v ≡ sites (length circuit.modules - u.depth) circuit.modules v
-    levels =
-        levels-same circuit.modules rank ranked (length circuit.modules - v.depth) (length circuit.modules - u.depth) v (rank-at j v at_j)
-        (subst (λ (n : ℕ). rank n ≤ length circuit.modules - u.depth) same (rank-at i u at_i))
-
-    sites_like : Pairwise (AreLikeSites u v) (below u) (below v)
-    sites_like = subst (λ (l : List Site). Pairwise (AreLikeSites u v) (below u) l) (sym levels) (whole-like circuit.modules some u v same (length circuit.modules - u.depth))
-
     abbrev p : List FlatSignal
     p = flat_signals (types_of circuit) circuit.modules (below u)
 
@@ -119,7 +99,7 @@ module _ (circuit : CircuitTree) (flat : FlatCircuit) (tree : InstanceTree) (top
     q = flat_signals (types_of circuit) circuit.modules (below v)
 
     like : Pairwise (AreLikeSignals (types_of circuit) circuit.modules u v) p q
-    like = signals-like circuit.modules some u v (types_of circuit) (below u) (below v) sites_like
+    like = signals-like circuit.modules some u v (types_of circuit) (below u) (below v) (sites_like circuit flat tree top known_top is_flat is_tree distinct plain names rank ranked rank_top some i j u v at_i at_j same)
 
     one : Stretch all (from_site i) p
     one = placed-stretch (signals_in circuit) (length circuit.modules) circuit.modules (sites_of circuit) i u at_i
@@ -215,7 +195,7 @@ module _ (circuit : CircuitTree) (flat : FlatCircuit) (tree : InstanceTree) (top
     mq = flat_memories circuit.modules (below v)
 
     banks-like : Pairwise (AreLikeMemories u v) mp mq
-    banks-like = memories-like circuit.modules some u v (below u) (below v) sites_like
+    banks-like = memories-like circuit.modules some u v (below u) (below v) (sites_like circuit flat tree top known_top is_flat is_tree distinct plain names rank ranked rank_top some i j u v at_i at_j same)
 
     banks-same : SamePaths (memory_paths (memories_of circuit)) u.path v.path (from_memory i) (from_memory j) (length mp)
     banks-same =
@@ -542,208 +522,6 @@ module _ (circuit : CircuitTree) (flat : FlatCircuit) (tree : InstanceTree) (top
               ∙ ap (λ (a : List ℕ). joined a l.0) (sym (path-is circuit flat tree top known_top is_flat is_tree distinct j v at_j));
         }
 
-    -- ---- the instances below
-
-    sites-stretch : (k : ℕ) (x : Site) → Stands k x → Stretch (sites_of circuit) k (below x)
-    sites-stretch k x at = record {
-      before = take k (sites_of circuit);
-      after = at.rest;
-      is = sym (take-append-drop k (sites_of circuit)) ∙ ap (λ l. take k (sites_of circuit) ++ l) at.is;
-      at = length-take k (sites_of circuit) ∙ (let lt = placed-known circuit k x at in min-left k (length (sites_of circuit)) (omega (arith, lt)));
-    }
-      where
-        min-left : (a b : ℕ) → a ≤ b → min a b ≡ a
-        min-left a b le = omega (arith, le)
-
-    below-same : length (below u) ≡ length (below v)
-    below-same = Pairwise-length (AreLikeSites u v) (below u) (below v) sites_like
-
-    -- how many signals stand before the site at a place below
-    starts-at : (k : ℕ) (x : Site) → Stands k x → (n : ℕ) → n ≤ length (below x) → from_site (k + n) ≡ from_site k + length (flat_map (signals_in circuit) (take n (below x)))
-    unfolding sites-stretch
-    starts-at k x at n le =
-        let s = sites-stretch k x at in
-        ap₂ (λ (l : List Site) (i : ℕ). length (flat_map (signals_in circuit) (take (i + n) l))) s.is (sym s.at)
-        ∙ ap (λ l. length (flat_map (signals_in circuit) l)) (take-append-add s.before (below x ++ s.after) n ∙ ap (λ l. s.before ++ l) (take-append-le n (below x) s.after le))
-        ∙ ap length (flat_map-append (signals_in circuit) s.before (take n (below x)))
-        ∙ length-append (flat_map (signals_in circuit) s.before) (flat_map (signals_in circuit) (take n (below x)))
-
-    Pairwise-take : {A B : Type 0} (R : A → B → Type 0) (n : ℕ) (xs : List A) (ys : List B) → Pairwise R xs ys → Pairwise R (take n xs) (take n ys)
-    Pairwise-take R zero [] [] h = tt
-    Pairwise-take R zero [] (y ∷ ys) h = absurd h
-    Pairwise-take R zero (x ∷ xs) [] h = absurd h
-    Pairwise-take R zero (x ∷ xs) (y ∷ ys) h = tt
-    Pairwise-take R (suc n) [] [] h = tt
-    Pairwise-take R (suc n) [] (y ∷ ys) h = absurd h
-    Pairwise-take R (suc n) (x ∷ xs) [] h = absurd h
-    Pairwise-take R (suc n) (x ∷ xs) (y ∷ ys) h = (h.0, Pairwise-take R n xs ys h.1)
-
-    instance-copied : (k : ℕ) → k < length (below u) → ((instance_at tree (j + k)).«module» ≡ (instance_at tree (i + k)).«module») × ((instance_at tree (j + k)).first ≡ to_there (instance_at tree (i + k)).first)
-    instance-copied k lt = (
-      (instance-for circuit tree top known_top is_tree distinct.of_sites (j + k) y.0 y.1).number ∙ sym numbers ∙ sym (instance-for circuit tree top known_top is_tree distinct.of_sites (i + k) x.0 x.1).number,
-      omega (arith, tells.begins (i + k) lt_i, tells.begins (j + k) lt_j, starts-at i u at_i k (omega (arith, lt)), starts-at j v at_j k (omega (arith, lt, below-same)), counts),
-    )
-      where
-        lt_v : k < length (below v)
-        lt_v = omega (arith, lt, below-same)
-
-        lt_i : i + k < length (sites_of circuit)
-        lt_i = omega (arith, lt, placed-inside (length circuit.modules) circuit.modules (sites_of circuit) i u at_i)
-
-        lt_j : j + k < length (sites_of circuit)
-        lt_j = omega (arith, lt_v, placed-inside (length circuit.modules) circuit.modules (sites_of circuit) j v at_j)
-
-        x : (z : Site) × Stands (i + k) z
-        x = stands circuit tree top known_top (i + k) lt_i
-
-        y : (z : Site) × Stands (j + k) z
-        y = stands circuit tree top known_top (j + k) lt_j
-
-        site-x : get_or (below u) k u ≡ x.0
-        site-x = sym (stretch-at (sites_of circuit) i (below u) (sites-stretch i u at_i) k u lt) ∙ placed-at (length circuit.modules) circuit.modules (sites_of circuit) (i + k) x.0 u x.1
-
-        site-y : get_or (below v) k v ≡ y.0
-        site-y = sym (stretch-at (sites_of circuit) j (below v) (sites-stretch j v at_j) k v lt_v) ∙ placed-at (length circuit.modules) circuit.modules (sites_of circuit) (j + k) y.0 v y.1
-
-        numbers : x.0.number ≡ y.0.number
-        numbers = ap (λ (z : Site). z.number) (sym site-x) ∙ (Pairwise-at (AreLikeSites u v) (below u) (below v) k u v sites_like lt).number ∙ ap (λ (z : Site). z.number) site-y
-
-        counts : length (flat_map (signals_in circuit) (take k (below u))) ≡ length (flat_map (signals_in circuit) (take k (below v)))
-        counts =
-            Pairwise-length (AreLikeSignals (types_of circuit) circuit.modules u v) (flat_map (signals_in circuit) (take k (below u))) (flat_map (signals_in circuit) (take k (below v)))
-            (signals-like circuit.modules some u v (types_of circuit) (take k (below u)) (take k (below v)) (Pairwise-take (AreLikeSites u v) k (below u) (below v) sites_like))
-
-    -- an instance that lies in the one lies as far behind the other
-    instance-moved : (k : ℕ) → k < length tree.instances → LiesIn tree i k → ((instance_at tree (shifted i j k)).«module» ≡ (instance_at tree k).«module») × ((instance_at tree (shifted i j k)).first ≡ to_there (instance_at tree k).first)
-    instance-moved k lt lies =
-        let x = stands circuit tree top known_top k (omega (arith, lt, tells.same)) in
-        let h = instance-inside circuit tree top known_top is_tree distinct i u at_i lies.levels k lies.is x.0 x.1 in
-        let some_site = within-some (length circuit.modules - x.0.depth) circuit.modules x.0 in
-        let here : i + (k - i) ≡ k = omega (arith, h.0) in
-        let there : j + (k - i) ≡ shifted i j k = omega arith in
-        subst₂ (λ (a b : ℕ). ((instance_at tree b).«module» ≡ (instance_at tree a).«module») × ((instance_at tree b).first ≡ to_there (instance_at tree a).first)) here there
-        (instance-copied (k - i) (omega (arith, h.0, h.1, some_site)))
-
-    -- ---- clocks and stops
-
-    own-clocks : length (instance_at tree j).clocks ≡ length (instance_at tree i).clocks
-    own-clocks =
-        ap (λ (l : List (Option ℕ)). length l) (instance-for circuit tree top known_top is_tree distinct.of_sites j v at_j).clocks
-        ∙ around-length circuit.modules v.number v.steps
-        ∙ ap (λ n. input_count (module_at circuit.modules n)) (sym same)
-        ∙ sym (around-length circuit.modules u.number u.steps)
-        ∙ sym (ap (λ (l : List (Option ℕ)). length l) (instance-for circuit tree top known_top is_tree distinct.of_sites i u at_i).clocks)
-
-    -- A site below the one instance, and the same one below the other.
-    record Below (k : ℕ) : Type 0 where
-      here : Site
-      there : Site
-      at_here : Stands k here
-      at_there : Stands (shifted i j k) there
-      numbers : here.number ≡ there.number
-      low : i ≤ k
-      inside : k - i < length (below u)
-      is_here : get_or (below u) (k - i) u ≡ here
-      is_there : get_or (below v) (k - i) v ≡ there
-
-    below-at : (k : ℕ) → k < length (sites_of circuit) → LiesIn tree i k → Below k
-    below-at k lt lies = record {
-      here = x.0;
-      there = y.0;
-      at_here = x.1;
-      at_there = subst (λ n. Stands n y.0) there y.1;
-      numbers = ap (λ (z : Site). z.number) (sym is_here) ∙ (Pairwise-at (AreLikeSites u v) (below u) (below v) (k - i) u v sites_like inside).number ∙ ap (λ (z : Site). z.number) is_there;
-      low = h.0;
-      inside = inside;
-      is_here = is_here;
-      is_there = is_there;
-    }
-      where
-        x : (z : Site) × Stands k z
-        x = stands circuit tree top known_top k lt
-
-        h : (i ≤ k) × (k + length (below x.0) ≤ i + length (below u))
-        h = let r = instance-inside circuit tree top known_top is_tree distinct i u at_i lies.levels k lies.is x.0 x.1 in (omega (arith, r.0), omega (arith, r.1))
-
-        inside : k - i < length (below u)
-        inside = let some_site = within-some (length circuit.modules - x.0.depth) circuit.modules x.0 in omega (arith, h.0, h.1, some_site)
-
-        here : i + (k - i) ≡ k
-        here = omega (arith, h.0)
-
-        there : j + (k - i) ≡ shifted i j k
-        there = omega arith
-
-        lt_there : j + (k - i) < length (sites_of circuit)
-        lt_there = omega (arith, inside, below-same, placed-inside (length circuit.modules) circuit.modules (sites_of circuit) j v at_j)
-
-        y : (z : Site) × Stands (j + (k - i)) z
-        y = stands circuit tree top known_top (j + (k - i)) lt_there
-
-        is_here : get_or (below u) (k - i) u ≡ x.0
-        is_here =
-            sym (stretch-at (sites_of circuit) i (below u) (sites-stretch i u at_i) (k - i) u inside)
-            ∙ ap (λ n. get_or (sites_of circuit) n u) here
-            ∙ placed-at (length circuit.modules) circuit.modules (sites_of circuit) k x.0 u x.1
-
-        is_there : get_or (below v) (k - i) v ≡ y.0
-        is_there =
-            sym (stretch-at (sites_of circuit) j (below v) (sites-stretch j v at_j) (k - i) v (omega (arith, inside, below-same)))
-            ∙ placed-at (length circuit.modules) circuit.modules (sites_of circuit) (j + (k - i)) y.0 v y.1
-
-    -- below the two, what the Clock inputs of an instance follow is the same
-    clocks-moved : (k : ℕ) → k < length tree.instances → LiesIn tree i k → k ≢ i → (instance_at tree (shifted i j k)).clocks ≡ (instance_at tree k).clocks
-    clocks-moved k lt lies other =
-        let b = below-at k (omega (arith, lt, tells.same)) lies in
-        let least : 0 < k - i = above-least i k b.low other in
-        (instance-for circuit tree top known_top is_tree distinct.of_sites (shifted i j k) b.there b.at_there).clocks
-        ∙ ap (own_clocks circuit.modules) (sym b.is_there ∙ ap (λ (l : List Site). get_or l (k - i) v) levels)
-        ∙ sym (own-same circuit.modules (length circuit.modules - u.depth) u v same (k - i) u v least b.inside)
-        ∙ ap (own_clocks circuit.modules) b.is_here
-        ∙ sym (instance-for circuit tree top known_top is_tree distinct.of_sites k b.here b.at_here).clocks
-      where
-        above-least : (a b : ℕ) → a ≤ b → b ≢ a → 0 < b - a
-        above-least a b le differ = go (cases_lt a b)
-          where
-            go : (a < b) ⊎ (b ≤ a) → 0 < b - a
-            go (inl lt) = omega (arith, lt)
-            go (inr ge) = let is : b ≡ a = omega (arith, le, ge) in absurd (differ is)
-
-    -- a stop of what lies in the one is a stop of the same in the other
-    stop-moved : (n : ℕ) → n < length tree.stops → LiesIn tree i (stop_at tree n).instance → Contains tree.stops (moved_stop (shifted i j) to_there (stop_at tree n))
-    stop-moved n lt lies = subst (λ (s : StopInstance). Contains tree.stops s) is (stop-again circuit flat tree top known_top is_flat is_tree distinct plain names n a (shifted i j a.holder) b.there b.at_there number)
-      where
-        a : AskedPlace circuit tree n
-        a = asked-place circuit tree top known_top is_tree n lt
-
-        holder : (stop_at tree n).instance ≡ a.holder
-        holder = holder-of circuit flat tree top known_top is_flat is_tree distinct plain names n a
-
-        b : Below a.holder
-        b = below-at a.holder (placed-known circuit a.holder a.site a.placed) (subst (λ k. LiesIn tree i k) holder lies)
-
-        site : a.site ≡ b.here
-        site = placed-same (length circuit.modules) circuit.modules (sites_of circuit) a.holder a.site b.here a.placed b.at_here
-
-        number : a.site.number ≡ b.there.number
-        number = ap (λ (z : Site). z.number) site ∙ b.numbers
-
-        start-same : from_site (shifted i j a.holder) ≡ to_there (from_site a.holder)
-        start-same =
-            let m = instance-moved a.holder (omega (arith, placed-known circuit a.holder a.site a.placed, tells.same)) (subst (λ k. LiesIn tree i k) holder lies) in
-            sym (tells.begins (shifted i j a.holder) (placed-known circuit (shifted i j a.holder) b.there b.at_there))
-            ∙ m.1
-            ∙ ap to_there (tells.begins a.holder (placed-known circuit a.holder a.site a.placed))
-
-        after : from_site i ≤ from_site a.holder
-        after = count-le (signals_in circuit) (sites_of circuit) i a.holder b.low
-
-        signal : from_site (shifted i j a.holder) + (length (before_stops circuit a.site) + a.offset) ≡ to_there (stop_at tree n).signal
-        signal = omega (arith, start-same, after, signal-of circuit flat tree top known_top is_flat is_tree distinct plain names n a)
-
-        is : (record { instance = shifted i j a.holder; signal = from_site (shifted i j a.holder) + (length (before_stops circuit a.site) + a.offset); clock = (stop_at tree n).clock }) ≡ moved_stop (shifted i j) to_there (stop_at tree n)
-        is = λ w. record { instance = shifted i j (sym holder w); signal = signal w; clock = (stop_at tree n).clock }
-
     pub is-copy : IsCopy flat tree i j (start i) (start j)
     is-copy = record {
       size = omega (arith, stop-i, stop-j, size-same);
@@ -753,13 +531,13 @@ module _ (circuit : CircuitTree) (flat : FlatCircuit) (tree : InstanceTree) (top
       register = λ s r any h inner held. (register-again s r any h inner held).0;
       register_clock = register-clock;
       ports = ports-copied;
-      instance = instance-moved;
+      instance = instance-moved circuit flat tree top known_top is_flat is_tree distinct plain names rank ranked rank_top some i j u v at_i at_j same;
       memory_path = λ m lt lies. let h = memory-inside circuit tree top known_top is_tree distinct i u at_i m lt lies in memory-path-copied m h.0 h.1;
       memory = λ m any lt lies. let h = memory-inside circuit tree top known_top is_tree distinct i u at_i m lt lies in memory-at m any h.0 h.1;
       memory_clocks = λ m lt lies. let h = memory-inside circuit tree top known_top is_tree distinct i u at_i m lt lies in memory-clocks m lt h.0 h.1;
-      own_clocks = own-clocks;
-      clocks = clocks-moved;
-      stop = stop-moved;
+      own_clocks = own-clocks circuit flat tree top known_top is_flat is_tree distinct plain names rank ranked rank_top some i j u v at_i at_j same;
+      clocks = clocks-moved circuit flat tree top known_top is_flat is_tree distinct plain names rank ranked rank_top some i j u v at_i at_j same;
+      stop = stop-moved circuit flat tree top known_top is_flat is_tree distinct plain names rank ranked rank_top some i j u v at_i at_j same;
     }
 
   pub has-copies : HasCopies flat tree

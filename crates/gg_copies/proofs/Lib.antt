@@ -1,3 +1,4 @@
+pub mod CopyBelowLemmas
 pub mod CopyClockLemmas
 pub mod CopyClosedLemmas
 pub mod CopyDriverLemmas

@@ -7,9 +7,10 @@ use Rattle.gg_flat.specs.Tree.{InstanceTree}
 use Rattle.gg_flat.specs.declared.tree.Instance.{Instance}
 use Rattle.gg_flat.specs.declared.tree.InstancePort.{InstancePort}
 use Rattle.gg_flat.specs.declared.tree.MemoryInstance.{MemoryInstance}
+use Rattle.gg_flat.specs.declared.tree.StopInstance.{StopInstance}
 use Rattle.gg_count.specs.Sites.{Site, Outer, module_at, sites_of}
 use Rattle.gg_flattened.specs.Flat.{FlatMemory, memories_at, signals_at}
-use Rattle.gg_tree.specs.IsTreeOf.{IsAt, Pairwise, IsParent, IsPortFor, IsMemoryAt, IsInstanceFor, AreInstances, IsMemoryFor, HeldMemory, held_memories, IsTreeOf, signal_ports, site_paths}
+use Rattle.gg_tree.specs.IsTreeOf.{IsAt, Pairwise, IsParent, IsPortFor, IsMemoryAt, IsInstanceFor, AreInstances, IsMemoryFor, HeldMemory, held_memories, IsStopFor, HeldStop, held_stops, IsTreeOf, signal_ports, site_paths}
 use Rattle.gg_flattened.specs.Known.{types_of}
 
 -- ---- places
@@ -50,18 +51,19 @@ port-same circuit site port a b p q = ports-equal a b (at-same _ _ a.signal b.si
 memory-number-same : (circuit : CircuitTree) (said : FlatMemory) (a b : ℕ) → IsMemoryAt circuit said a → IsMemoryAt circuit said b → a ≡ b
 memory-number-same circuit said a b p q = at-same _ _ a b p.number q.number
 
-abbrev pub instance_made : Option ℕ → ℕ → ℕ → ℕ → List InstancePort → List ℕ → Instance
-instance_made parent number first end ports memories =
-    record { parent = parent; «module» = number; first = first; end = end; ports = ports; memories = memories; clocks = [] }
+abbrev pub instance_made : Option ℕ → ℕ → ℕ → ℕ → List InstancePort → List ℕ → List (Option ℕ) → Instance
+instance_made parent number first end ports memories clocks =
+    record { parent = parent; «module» = number; first = first; end = end; ports = ports; memories = memories; clocks = clocks }
 
-instances-equal : (a b : Instance) → a.parent ≡ b.parent → a.«module» ≡ b.«module» → a.first ≡ b.first → a.end ≡ b.end → a.ports ≡ b.ports → a.memories ≡ b.memories → a ≡ b
-instances-equal a b p n f e o m =
-    ap (λ (x : Option ℕ). instance_made x a.«module» a.first a.end a.ports a.memories) p
-    ∙ ap (λ (x : ℕ). instance_made b.parent x a.first a.end a.ports a.memories) n
-    ∙ ap (λ (x : ℕ). instance_made b.parent b.«module» x a.end a.ports a.memories) f
-    ∙ ap (λ (x : ℕ). instance_made b.parent b.«module» b.first x a.ports a.memories) e
-    ∙ ap (λ (x : List InstancePort). instance_made b.parent b.«module» b.first b.end x a.memories) o
-    ∙ ap (λ (x : List ℕ). instance_made b.parent b.«module» b.first b.end b.ports x) m
+instances-equal : (a b : Instance) → a.parent ≡ b.parent → a.«module» ≡ b.«module» → a.first ≡ b.first → a.end ≡ b.end → a.ports ≡ b.ports → a.memories ≡ b.memories → a.clocks ≡ b.clocks → a ≡ b
+instances-equal a b p n f e o m c =
+    ap (λ (x : Option ℕ). instance_made x a.«module» a.first a.end a.ports a.memories a.clocks) p
+    ∙ ap (λ (x : ℕ). instance_made b.parent x a.first a.end a.ports a.memories a.clocks) n
+    ∙ ap (λ (x : ℕ). instance_made b.parent b.«module» x a.end a.ports a.memories a.clocks) f
+    ∙ ap (λ (x : ℕ). instance_made b.parent b.«module» b.first x a.ports a.memories a.clocks) e
+    ∙ ap (λ (x : List InstancePort). instance_made b.parent b.«module» b.first b.end x a.memories a.clocks) o
+    ∙ ap (λ (x : List ℕ). instance_made b.parent b.«module» b.first b.end b.ports x a.clocks) m
+    ∙ ap (λ (x : List (Option ℕ)). instance_made b.parent b.«module» b.first b.end b.ports b.memories x) c
 
 instance-same : (circuit : CircuitTree) (first : ℕ) (site : Site) (a b : Instance) → IsInstanceFor circuit first site a → IsInstanceFor circuit first site b → a ≡ b
 instance-same circuit first site a b p q =
@@ -70,6 +72,7 @@ instance-same circuit first site a b p q =
     (p.number ∙ sym q.number) (p.begins ∙ sym q.begins) (p.ends ∙ sym q.ends)
     (Pairwise-same (IsPortFor circuit site) (port-same circuit site) (signal_ports (module_at circuit.modules site.number)) a.ports b.ports p.ports q.ports)
     (Pairwise-same (IsMemoryAt circuit) (memory-number-same circuit) (memories_at circuit.modules site) a.memories b.memories p.memories q.memories)
+    (p.clocks ∙ sym q.clocks)
 
 instances-same : (circuit : CircuitTree) (first : ℕ) (all : List Site) (xs ys : List Instance) → AreInstances circuit first all xs → AreInstances circuit first all ys → xs ≡ ys
 instances-same circuit first [] [] [] p q = refl
@@ -83,21 +86,38 @@ instances-same circuit first (site ∷ rest) (x ∷ xs) (y ∷ ys) p q =
 
 -- ---- memories
 
-abbrev pub memory_made : ℕ → ℕ → List (List ℕ) → MemoryInstance
-memory_made holder number ports = record { instance = holder; memory = number; ports = ports; clocks = [] }
+abbrev pub memory_made : ℕ → ℕ → List (List ℕ) → List (Option ℕ) → MemoryInstance
+memory_made holder number ports clocks = record { instance = holder; memory = number; ports = ports; clocks = clocks }
 
-memories-equal : (a b : MemoryInstance) → a.instance ≡ b.instance → a.memory ≡ b.memory → a.ports ≡ b.ports → a ≡ b
-memories-equal a b h n o =
-    ap (λ (x : ℕ). memory_made x a.memory a.ports) h ∙ ap (λ (x : ℕ). memory_made b.instance x a.ports) n ∙ ap (λ (x : List (List ℕ)). memory_made b.instance b.memory x) o
+memories-equal : (a b : MemoryInstance) → a.instance ≡ b.instance → a.memory ≡ b.memory → a.ports ≡ b.ports → a.clocks ≡ b.clocks → a ≡ b
+memories-equal a b h n o c =
+    ap (λ (x : ℕ). memory_made x a.memory a.ports a.clocks) h
+    ∙ ap (λ (x : ℕ). memory_made b.instance x a.ports a.clocks) n
+    ∙ ap (λ (x : List (List ℕ)). memory_made b.instance b.memory x a.clocks) o
+    ∙ ap (λ (x : List (Option ℕ)). memory_made b.instance b.memory b.ports x) c
 
 memory-same : (circuit : CircuitTree) (h : HeldMemory) (a b : MemoryInstance) → IsMemoryFor circuit h.site h.said a → IsMemoryFor circuit h.site h.said b → a ≡ b
 memory-same circuit h a b p q =
-    memories-equal a b (at-same _ _ a.instance b.instance p.holder q.holder) (at-same _ _ a.memory b.memory p.number q.number) (p.ports ∙ sym q.ports)
+    memories-equal a b (at-same _ _ a.instance b.instance p.holder q.holder) (at-same _ _ a.memory b.memory p.number q.number) (p.ports ∙ sym q.ports) (p.clocks ∙ sym q.clocks)
+
+-- ---- stops
+
+abbrev pub stop_made : ℕ → ℕ → Option ℕ → StopInstance
+stop_made holder signal clock = record { instance = holder; signal = signal; clock = clock }
+
+stops-equal : (a b : StopInstance) → a.instance ≡ b.instance → a.signal ≡ b.signal → a.clock ≡ b.clock → a ≡ b
+stops-equal a b h s c =
+    ap (λ (x : ℕ). stop_made x a.signal a.clock) h ∙ ap (λ (x : ℕ). stop_made b.instance x a.clock) s ∙ ap (λ (x : Option ℕ). stop_made b.instance b.signal x) c
+
+stop-same : (circuit : CircuitTree) (h : HeldStop) (a b : StopInstance) → IsStopFor circuit h.site h.said a → IsStopFor circuit h.site h.said b → a ≡ b
+stop-same circuit h a b p q =
+    stops-equal a b (at-same _ _ a.instance b.instance p.holder q.holder) (at-same _ _ a.signal b.signal p.signal q.signal) (p.clock ∙ sym q.clock)
 
 -- ---- the tree
 
-abbrev pub tree_made : List (List ℕ) → List Instance → List (List ℕ) → List MemoryInstance → InstanceTree
-tree_made paths instances memory_paths memories = record { paths = paths; instances = instances; memory_paths = memory_paths; memories = memories; clocks = []; register_clocks = []; stops = [] }
+abbrev pub tree_made : List (List ℕ) → List Instance → List (List ℕ) → List MemoryInstance → List (List ℕ) → List (Option ℕ) → List StopInstance → InstanceTree
+tree_made paths instances memory_paths memories clocks register_clocks stops =
+    record { paths = paths; instances = instances; memory_paths = memory_paths; memories = memories; clocks = clocks; register_clocks = register_clocks; stops = stops }
 
 pub tree-same : (circuit : CircuitTree) (a b : InstanceTree) → IsTreeOf circuit a → IsTreeOf circuit b → a ≡ b
 tree-same circuit a b p q =
@@ -106,7 +126,12 @@ tree-same circuit a b p q =
     let names : a.memory_paths ≡ b.memory_paths = p.memory_names ∙ sym q.memory_names in
     let memories : a.memories ≡ b.memories =
     Pairwise-same (λ (h : HeldMemory) (memory : MemoryInstance). IsMemoryFor circuit h.site h.said memory) (memory-same circuit) (flat_map (held_memories circuit.modules) (sites_of circuit)) a.memories b.memories p.memories q.memories in
-    ap (λ (x : List (List ℕ)). tree_made x a.instances a.memory_paths a.memories) paths
-    ∙ ap (λ (x : List Instance). tree_made b.paths x a.memory_paths a.memories) instances
-    ∙ ap (λ (x : List (List ℕ)). tree_made b.paths b.instances x a.memories) names
-    ∙ ap (λ (x : List MemoryInstance). tree_made b.paths b.instances b.memory_paths x) memories
+    let stops : a.stops ≡ b.stops =
+    Pairwise-same (λ (h : HeldStop) (stop : StopInstance). IsStopFor circuit h.site h.said stop) (stop-same circuit) (flat_map (held_stops circuit.modules) (sites_of circuit)) a.stops b.stops p.stops q.stops in
+    ap (λ (x : List (List ℕ)). tree_made x a.instances a.memory_paths a.memories a.clocks a.register_clocks a.stops) paths
+    ∙ ap (λ (x : List Instance). tree_made b.paths x a.memory_paths a.memories a.clocks a.register_clocks a.stops) instances
+    ∙ ap (λ (x : List (List ℕ)). tree_made b.paths b.instances x a.memories a.clocks a.register_clocks a.stops) names
+    ∙ ap (λ (x : List MemoryInstance). tree_made b.paths b.instances b.memory_paths x a.clocks a.register_clocks a.stops) memories
+    ∙ ap (λ (x : List (List ℕ)). tree_made b.paths b.instances b.memory_paths b.memories x a.register_clocks a.stops) (p.clocks ∙ sym q.clocks)
+    ∙ ap (λ (x : List (Option ℕ)). tree_made b.paths b.instances b.memory_paths b.memories b.clocks x a.stops) (p.register_clocks ∙ sym q.register_clocks)
+    ∙ ap (λ (x : List StopInstance). tree_made b.paths b.instances b.memory_paths b.memories b.clocks b.register_clocks x) stops

@@ -168,7 +168,7 @@ copies = record {
 
     stops : (p : ℕ) → p < 2 → (levels : ℕ) → above tree levels (stop_at tree p).instance ≡ Some 1 → Contains tree.stops (moved_stop (shifted 1 2) (shifted 0 4) (stop_at tree p))
     stops zero lt levels is = (1, lit< tt, refl)
-    stops (suc zero) lt levels is = let same : 2 ≡ 1 = alone 2 (lit< tt) levels is in omega (arith, same)
+    stops (suc zero) lt levels is = let same : 2 ≡ 1 = alone 2 (lit< tt) levels is in absurd (omega (arith, same))
     stops (suc (suc p)) lt levels is = absurd (omega (arith, lt))
 
     instances : (k : ℕ) → k < 3 → (levels : ℕ) → above tree levels k ≡ Some 1 → ((instance_at tree (shifted 1 2 k)).«module» ≡ (instance_at tree k).«module») × ((instance_at tree (shifted 1 2 k)).first ≡ shifted 0 4 (instance_at tree k).first)
@@ -188,7 +188,7 @@ shares h = let held : Held 0 ≡ Held 1 = h.driver 2 (lit≤ tt, lit< tt) last-n
 
 -- its register follows no Clock input
 unclocked : IsCopy circuit (tree_with (Some 0 ∷ None ∷ []) (stop 1 3 ∷ stop 2 7 ∷ [])) 1 2 from to → ⊥
-unclocked h = let same : None ≡ Some 0 = h.register_clock 2 0 (lit≤ tt, lit< tt) (λ i. last-no-input (again i)) refl in cc
+unclocked h = let same : ◌≡◌ {A = Option ℕ} None (Some 0) = h.register_clock 2 0 (lit≤ tt, lit< tt) (λ i. last-no-input (again i)) refl in cc
   where
     again : IsInputOf (tree_with (Some 0 ∷ None ∷ []) (stop 1 3 ∷ stop 2 7 ∷ [])) 1 2 → IsInputOf tree 1 2
     again i = record { known = i.known; port = i.port; listed = i.listed; is = i.is; input = i.input }

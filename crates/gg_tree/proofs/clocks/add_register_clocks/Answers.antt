@@ -33,4 +33,4 @@ loop-place-preserved c =
 pub add_all_kept-requires : goal.add_all_kept-requires
 add_all_kept-requires c =
     let inside : IsPlaceIn c.args.typed.now.circuit.modules c.place-item.result = subst (λ (x : Place). IsPlaceIn c.args.typed.now.circuit.modules x) (sym c.place-item.is) (c.requires.within c.loop-place.place-index c.place-item.result (omega arith)) in
-    record { requires = inside.own }
+    inside.own
