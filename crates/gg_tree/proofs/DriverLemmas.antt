@@ -17,6 +17,7 @@ use Rattle.gg_ast.specs.declared.statement.Reset as given
 use Rattle.gg_ast.specs.Places.{place_of}
 use Rattle.gg_ast.specs.Term.{Term, NamedTerm, ConstantTerm, UnaryTerm, BinaryTerm, FixedTerm, MuxTerm}
 use Rattle.gg_ast.specs.Tree.{CircuitTree, module_names}
+use Rattle.gg_flat.specs.Clocked.{clock_at}
 use Rattle.gg_flat.specs.Circuit.{FlatCircuit, driver_at}
 use Rattle.gg_flat.specs.Line.{shape_at}
 use Rattle.gg_flat.specs.Reads.{NamesSignal, ResetNames, NextNames, RegisterNames}
@@ -33,6 +34,7 @@ use Rattle.gg_flat.specs.Scoped.{IsScoped, IsVisible, IsWritten, IsOwnSink, IsCh
 use Rattle.gg_flat.proofs.ListLemmas.{some-item}
 use Rattle.gg_names.specs.Scope.{written}
 use Rattle.gg_count.specs.Sites.{Site, site_below, module_at, sites_of}
+use Rattle.gg_flattened.specs.Clocks.{clock_of, site_clocks}
 use Rattle.gg_flattened.specs.Connection.{Connection, ConnectedTo, Zeroed, connection_in}
 use Rattle.gg_flattened.specs.Flat.{scope_at, Drive, Outside, FlatSignal, flat_signal, flat_signals, drive_of}
 use Rattle.gg_flattened.specs.IsFlat.{IsFlat, bindings_of, IsDrivenBy, IsRegisterOf, HasReset, HasNext, answer, number_of, drive_at, signals_of, memory_paths, count_before, is_outside, is_register}
@@ -153,9 +155,9 @@ module _ (circuit : CircuitTree) (flat : FlatCircuit) (tree : InstanceTree) (top
   next-visible k x p sink (Some c) None h is t n = absurd is
   next-visible k x p sink (Some c) (Some line) h is t n = connection-visible k x p (Some c) h t ((is.names t).0 n)
 
-  register-visible : (k : ℕ) (x : Site) → Stands k x → (sink : Shape) (name : List ℕ) (asked : Option given.Reset) (register : Register) → IfSome asked AreNamesOfReset → IsRegisterOf (context_at x) sink asked (connection_in (module_at circuit.modules x.number).statements name) register → (t : ℕ) → RegisterNames register t → IsVisible tree k t
-  register-visible k x p sink name asked register h is t (inl n) = reset-visible k x p sink asked register.reset h is.reset_is t n
-  register-visible k x p sink name asked register h is t (inr n) =
+  register-visible : (k : ℕ) (x : Site) → Stands k x → (sink : Shape) (name : List ℕ) (asked : Option given.Reset) (clock : Option ℕ) (register : Register) → IfSome asked AreNamesOfReset → IsRegisterOf (context_at x) sink asked (connection_in (module_at circuit.modules x.number).statements name) clock register → (t : ℕ) → RegisterNames register t → IsVisible tree k t
+  register-visible k x p sink name asked clock register h is t (inl n) = reset-visible k x p sink asked register.reset h is.reset_is t n
+  register-visible k x p sink name asked clock register h is t (inr n) =
       next-visible k x p sink (connection_in (module_at circuit.modules x.number).statements name) register.next (connected-names (module_at circuit.modules x.number).statements name (statements_of x)) is.next_is t n
 
   abbrev is_held : Driver → Bool
@@ -182,8 +184,9 @@ module _ (circuit : CircuitTree) (flat : FlatCircuit) (tree : InstanceTree) (top
   cause-register k x p s name (Kept clock reset) h driver is r register held at t n =
       let number = same-held r (count_before is_register (flat_signals (types_of circuit) circuit.modules (sites_of circuit)) s) (sym held ∙ is.held) in
       let same : slice_index_or flat.registers (count_before is_register (flat_signals (types_of circuit) circuit.modules (sites_of circuit)) s) register ≡ register = ap (λ i. get_or flat.registers i register) (sym number) ∙ get_or_from_slice_get flat.registers r register register at in
-      register-visible k x p (shape_at all_signals.shapes s) name reset register h
-      (subst (λ y. IsRegisterOf (context_at x) (shape_at all_signals.shapes s) reset (connection_in (module_at circuit.modules x.number).statements name) y) same (is.register register)) t n
+      let led = clock_at (site_clocks circuit.modules x) (clock_of (module_at circuit.modules x.number) clock) in
+      register-visible k x p (shape_at all_signals.shapes s) name reset led register h
+      (subst (λ y. IsRegisterOf (context_at x) (shape_at all_signals.shapes s) reset (connection_in (module_at circuit.modules x.number).statements name) led y) same (is.register register)) t n
   cause-register k x p s name (Answered memory port place latency) h driver is r register held at t n =
       absurd (not-held driver (answer latency (number_of (memory_paths (memories_of circuit)) (joined x.path memory)) place (number_of (signal_paths circuit) (joined x.path (field_name memory port (codes "addr")))) (number_of (signal_paths circuit) (joined x.path (field_name memory port (codes "en"))))) r is
       (answer-not-held latency (number_of (memory_paths (memories_of circuit)) (joined x.path memory)) place (number_of (signal_paths circuit) (joined x.path (field_name memory port (codes "addr")))) (number_of (signal_paths circuit) (joined x.path (field_name memory port (codes "en"))))) held)
