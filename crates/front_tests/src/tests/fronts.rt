@@ -4,7 +4,7 @@ ghost use Rattle.std.specs.Prelude.{◌<◌, ◌^◌, length};
 
 use super::calls::{Call, Row, check_all};
 use super::circuits::{CLOCKS, COUNTER, LATE, LOOP, MEM, PAIR, SECOND, TOP, WIDE};
-use super::sources::Source::{Bytes, Chain, Edited};
+use super::sources::Source::{Bytes, Chain, Edited, Repeated};
 use gg_front::front;
 use gg_order::Design;
 use std::alloc::{AllocError, Global};
@@ -33,7 +33,7 @@ fn put_design(out: &mut String, design: &Design) -> Result<(), AllocError> {
 }
 
 /// Circuits with a line changed, and bytes that are no text.
-static CIRCUITS: [Row; 58] = [
+static CIRCUITS: [Row; 62] = [
     (Bytes(b"\xff"), "not text"),
     (Edited(COUNTER, 0, ""), "4 signals 1 in 1 out 1 instances"),
     (Edited(SECOND, 0, ""), "4 signals 1 in 1 out 1 instances"),
@@ -120,6 +120,11 @@ static CIRCUITS: [Row; 58] = [
         "F9 line 11 stop",
     ),
     (Edited(CLOCKS, 0, ""), "8 signals 1 in 2 out 3 instances"),
+    // each instance of a module has its stops
+    (
+        Edited(CLOCKS, 8, "o <= r\nstop(k, v, 1)\nstop(k, v, 1)"),
+        "10 signals 1 in 4 out 3 instances",
+    ),
     (
         Edited(CLOCKS, 14, "leaf.k is invalid"),
         "F14 line 14 leaf.k",
@@ -127,6 +132,19 @@ static CIRCUITS: [Row; 58] = [
     (
         Edited(CLOCKS, 26, "stop(v, v, 1) : done"),
         "F9 line 26 stop",
+    ),
+    // a wire of type Clock is no signal
+    (
+        Edited(CLOCKS, 26, "wire w : Clock\nw <= slow\nstop(w, v, 1)"),
+        "8 signals 1 in 2 out 3 instances",
+    ),
+    (
+        Edited(CLOCKS, 26, "wire w : Clock\nw <= w\nstop(w, v, 1)"),
+        "F14 line 27 w",
+    ),
+    (
+        Edited(COUNTER, 6, "output k : Clock\nk <= clock"),
+        "F14 line 6 k",
     ),
     (Edited(COUNTER, 10, "out <= out"), "F16 out"),
     (
@@ -193,8 +211,14 @@ const WIRE: &str = "wire w : UInt<1>\nw <= UInt<1>(\"h0\")\n";
 const WORDS: &str =
     "mem m :\ndata-type => UInt<8>\ndepth => 65536\nread-latency => 0\nwrite-latency => 1\nread-under-write => undefined\n";
 
+/// The lines before the stops of a circuit of one input.
+const STOPPED: &str = "circuit Top :\nmodule Top :\ninput clock : Clock\ninput v : UInt<1>\n";
+
+/// A stop.
+const STOP: &str = "stop(clock, v, 1)\n";
+
 /// Circuits at the limits of depth, signals, words and instances, and beyond them.
-static CHAINS: [Row; 7] = [
+static CHAINS: [Row; 9] = [
     (
         Chain(17, 2, WIRE),
         "131072 signals 0 in 0 out 262143 instances",
@@ -205,6 +229,14 @@ static CHAINS: [Row; 7] = [
     (Chain(32, 2, ""), "F15 instances 8589934590"),
     (Chain(1, 16, WORDS), "0 signals 0 in 0 out 17 instances"),
     (Chain(1, 17, WORDS), "F15 words 1114112"),
+    (
+        Repeated(&[(STOPPED, 1), (STOP, 199_999)]),
+        "200000 signals 1 in 199999 out 1 instances",
+    ),
+    (
+        Repeated(&[(STOPPED, 1), (STOP, 200_000)]),
+        "F15 signals 200001",
+    ),
 ];
 
 #[test]

@@ -71,9 +71,13 @@ fn put_paths(out: &mut String, piece: &Piece, signals: &[u32]) -> Result<(), All
 
 /// Circuits with a line changed, and a chain that is too deep. Signals are counted by hand: of `STORE` three ports of
 /// the top without its clock's, three of `Store`, three fields of the reader and four of the writer without `clk`.
-static STAGES: [Row; 12] = [
+static STAGES: [Row; 14] = [
     (Edited(COUNTER, 0, ""), "4 signals 4 in order"),
     (Edited(STORE, 0, ""), "13 signals 13 in order"),
+    (
+        Edited(COUNTER, 10, "out <= c\nstop(clock, reset, 1)"),
+        "5 signals 5 in order",
+    ),
     (Edited(COUNTER, 9, "node n add(c, c)"), "syntax line 9"),
     (Edited(COUNTER, 10, "skip"), "shape: F5 line 5 out"),
     (
@@ -83,6 +87,10 @@ static STAGES: [Row; 12] = [
     (Edited(STORE, 9, "depth => 0"), "shape: F8 line 7 depth"),
     (Edited(COUNTER, 11, "c <= n"), "types: F13 line 11 9 8"),
     (Edited(STORE, 30, "s.at <= v"), "types: F13 line 30 8 2"),
+    (
+        Edited(COUNTER, 10, "out <= c\nstop(clock, c, 1)"),
+        "types: F9 line 11 stop",
+    ),
     (
         Edited(STORE, 9, "depth => 65537"),
         "flatten: F15 memory 65537",
