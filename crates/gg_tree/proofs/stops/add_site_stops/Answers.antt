@@ -14,7 +14,7 @@ use Rattle.gg_tree.proofs.stops.add_site_stops.Goals as goal
 
 pub loop-own-preserved : goal.loop-own-preserved
 loop-own-preserved c =
-    let added = c.in_ok-add_stop.ensures {u = tt} in (
+    let added = c.in_ok-add_stop.ensures.ok in (
       λ said p q h.
           subst (λ (l : List StopInstance). Pairwise (IsAskedFor c.args.typed.now.circuit) (said ++ map (stop_at_place c.args.place.now) (take (c.loop-own.own-index + 1) c.args.stops.now)) l) (sym (ap (λ (t : InstanceTree). t.stops) added))
           (subst (λ (l : List HeldStop). Pairwise (IsAskedFor c.args.typed.now.circuit) l (c.loop-own.tree.stops ++ c.in_ok-made.made ∷ [])) (seam (stop_at_place c.args.place.now) said c.args.stops.now c.loop-own.own-index c.own-item.result (omega arith) c.own-item.is)
