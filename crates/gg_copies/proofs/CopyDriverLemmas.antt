@@ -378,7 +378,7 @@ module _ (types : Types) (modules : List ModuleTree) (u v : Site) (all : List Fl
     -- of its own site.
     pub record IsHeldAgain (r : ℕ) (any : Register) : Type 0 where
       pub own : Option ℕ
-      pub same : unclocked_register (slice_index_or flat.registers (shifted (registers_before f) (registers_before g) r) any) ≡ unclocked_register (moved_register to_there (slice_index_or flat.registers r any))
+      pub again : unclocked_register (slice_index_or flat.registers (shifted (registers_before f) (registers_before g) r) any) ≡ unclocked_register (moved_register to_there (slice_index_or flat.registers r any))
       pub here : get_or (clocks_held all) r None ≡ own
       pub there : get_or (clocks_held all) (shifted (registers_before f) (registers_before g) r) None ≡ own
 
@@ -423,7 +423,7 @@ module _ (types : Types) (modules : List ModuleTree) (u v : Site) (all : List Fl
             let r_there : count_before is_register all (g + s) ≡ shifted (registers_before f) (registers_before g) r = register-moved s lt ∙ ap (shifted (registers_before f) (registers_before g)) r_is in
             inr (record {
               own = own;
-              same =
+              again =
                   ap (λ (k : ℕ). unclocked_register (slice_index_or flat.registers k any)) (sym r_there)
                   ∙ register-copied s lt a b reset next own clock clock' l d e any
                   (subst (λ (k : ℕ). ClosedBy (RegisterNames (slice_index_or flat.registers k any)) f) (sym r_is) (here (subst (λ (k : ℕ). k < length flat.registers) r_is hu.within)))

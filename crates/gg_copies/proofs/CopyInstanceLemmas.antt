@@ -350,7 +350,7 @@ module _ (circuit : CircuitTree) (flat : FlatCircuit) (tree : InstanceTree) (top
     register-again s r any h inner held =
         elim (held-copied (types_of circuit) circuit.modules u v all (memories_of circuit) (top_ports circuit.modules (place_of circuit.name (module_names circuit))) (stop_paths circuit.modules (sites_of circuit)) flat is_flat distinct.of_signals (from_site i) (from_site j) p q one other like (from_memory i) (from_memory j) (length mp) distinct.of_memories banks-same fields k.place r k.inside held-here any here there) [
           | inl at ↦ absurd (inner (subst (λ (n : ℕ). IsInputOf tree i n) k.here (input-here k.place k.inside at)))
-          | inr e ↦ (e.same, e.there ∙ sym e.here)
+          | inr e ↦ (e.again, e.there ∙ sym e.here)
         ]
       where
         k : InPlace s
