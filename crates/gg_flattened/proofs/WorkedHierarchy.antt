@@ -1,5 +1,6 @@
 -- The flat circuit of the circuit in WorkedText, and circuits that aren't flat circuits of it.
 use Rattle.std.proofs.Common.{◌≡◌, ℕ, zero, suc, ◌<◌, List, [], ◌∷◌, ◌++◌, length, take, drop, true, Bool, Some, None, codes, refl, ap, ◌∙◌, arith, lit≤}
+use Rattle.std.proofs.lemmas.Option.{none-some}
 use Rattle.std.specs.Prelude.{slice_index_or, is_some}
 use Rattle.gg_bits.specs.declared.types.Kind.TheVariants as kinds
 use Rattle.gg_bits.specs.declared.types.Ty.{Ty}
@@ -344,7 +345,7 @@ children_first h =
 -- with a register that goes on in every tick it isn't
 unclocked : IsFlat circuit (record flat { registers = record (register 4) { clock = None } ∷ register 14 ∷ [] }) → ⊥
 unfolding types_of
-unclocked h = let same : None ≡ Some 0 = ((h.drivers 13 (lit≤ tt)).register (register 4)).clocked in cc
+unclocked h = none-some 0 ((h.drivers 13 (lit≤ tt)).register (register 4)).clocked
 
 -- with a second clock it isn't
 second_clock : IsFlat circuit (record flat { clocks = 2 }) → ⊥

@@ -108,7 +108,7 @@ fn below<'a>(
 ) -> Result<Place<'a>, AllocError>
     requires digests { AreDigests (types_of typed.now.circuit) typed.now.circuit.modules digests.now }
     requires number { above.now.number < length typed.now.circuit.modules }
-    requires instance { instance.entry.number < length typed.now.circuit.modules }
+    requires instance { instance.number < length typed.now.circuit.modules }
     requires depth { above.now.depth + 1 < 2 ^ 32 }
     ensures number { IfOk result (λ place. place.number ≡ instance.entry.number) }
     ensures depth { IfOk result (λ place. place.depth ≡ above.now.depth + 1) }

@@ -33,6 +33,7 @@ fn add_stop<'a>(
 ) -> Result<u32, AllocError>
     ensures stops { IfOk result (λ _. map own_stop_of stops.new.items ≡ map own_stop_of stops.old.items ++ numbered number (option_to_list (stop_of_kind kind.now))) }
     ensures next { IfOk result (λ next. next ≡ number + length (option_to_list (stop_of_kind kind.now))) }
+    ensures few { IfOk result (λ next. next < 2 ^ 32) }
 {
     match kind {
         StmtKind::Stop {
