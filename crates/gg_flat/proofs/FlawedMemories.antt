@@ -1,5 +1,5 @@
 -- A circuit with a memory is well formed, and those whose memories have one flaw each are not.
-use Rattle.std.proofs.Common.{◌≡◌, ℕ, List, [], ◌∷◌, Some, None, refl, ap, inl, arith, lit<, lit≤}
+use Rattle.std.proofs.Common.{◌≡◌, ℕ, ◌<◌, List, [], ◌∷◌, Some, None, refl, ap, inl, arith, lit<, lit≤}
 use Rattle.std.specs.Prelude.{slice_index_or}
 use Rattle.gg_bits.specs.Shape.{Shape, shape}
 use Rattle.gg_flat.specs.declared.line.Op.TheVariants.{Literal}

@@ -3,7 +3,7 @@ use Rattle.std.proofs.Common.{◌≡◌, ◌≢◌, ℕ, zero, suc, ◌+◌, ◌
 use Rattle.std.specs.Prelude.{filter, cond, Contains, AllPairs}
 use Rattle.std.specs.List.{range_with_len}
 use Rattle.std.proofs.lemmas.Bool.{cases_lt, cases_Bool}
-use Rattle.std.proofs.lemmas.List.{length-map, get_or-map}
+use Rattle.std.proofs.lemmas.List.{length-map, get_or-map, get_or_default}
 use Rattle.std.proofs.lemmas.List.FromFn.{get_or-range_with_len, length-range_with_len}
 use Rattle.std.proofs.lemmas.List.Kept.{AllPairs-filter}
 
@@ -30,6 +30,16 @@ Contains-map f xs x c = (c.0, omega (arith, c.1, length-map xs f), get_or-map f 
 pub map-same : {A B : Type 0} (f g : A → B) (xs : List A) → ((x : A) → f x ≡ g x) → map f xs ≡ map g xs
 map-same f g [] same = refl
 map-same f g (x ∷ xs) same = ap₂ (λ y l. y ∷ l) (same x) (map-same f g xs same)
+
+-- what holds of the first i items holds of one more, if it holds of the next item
+pub first-more : {X : Type 0} (P : X → Type 0) (xs : List X) (i : ℕ) (x : X) → i < length xs → x ≡ get_or xs i x → P x → ((k : ℕ) (d : X) → k < i → P (get_or xs k d)) → (k : ℕ) (d : X) → k < i + 1 → P (get_or xs k d)
+first-more P xs i x lt is holds before k d low = go (cases_lt k i)
+  where
+    go : (k < i) ⊎ (i ≤ k) → P (get_or xs k d)
+    go (inl less) = before k d less
+    go (inr ge) =
+        let last : i ≡ k = omega (arith, ge, low) in
+        subst P (is ∙ get_or_default xs i x d lt ∙ ap (λ n. get_or xs n d) last) holds
 
 -- ---- what a filter leaves
 

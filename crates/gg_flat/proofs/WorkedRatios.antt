@@ -1,5 +1,5 @@
 -- Two registers that follow two clocks, worked by hand over six ticks.
-use Rattle.std.proofs.Common.{◌≡◌, ℕ, List, [], ◌∷◌, Some, None, take, refl, ap, arith, lit<, lit≤}
+use Rattle.std.proofs.Common.{◌≡◌, ℕ, ◌<◌, List, [], ◌∷◌, Some, None, take, refl, ap, arith, lit<, lit≤}
 use Rattle.std.specs.Prelude.{Contains, slice_index_or}
 use Rattle.gg_bits.specs.declared.types.Ty.{Ty}
 use Rattle.gg_bits.specs.declared.ops.Op2.TheVariants.{Add}

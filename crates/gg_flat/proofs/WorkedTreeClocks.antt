@@ -60,17 +60,17 @@ of-u = refl
 of-v : top_clocks tree 2 ≡ Some 1 ∷ []
 of-v = refl
 
+same : {a b : ℕ} → Some a ≡ Some b → a ≡ b
+same e = ap parent_place e
+
 -- the Clock input of `v` isn't the top's of the same number
 near-own-number : top_clocks tree 2 ≢ Some 0 ∷ []
-near-own-number e = let never : Some 1 ≡ Some 0 = ap (λ l. slice_index_or l 0 None) e in cc
+near-own-number e = apart 1 0 refl (same (ap (λ l. slice_index_or l 0 None) e))
 
 -- ---- the instance that each signal belongs to
 
 none-some : {k : ℕ} {A : Type 0} → None ≡ Some k → A
 none-some e = absurd (cc)
-
-same : {a b : ℕ} → Some a ≡ Some b → a ≡ b
-same e = ap parent_place e
 
 inner-u : IsInnermost tree 1 0
 inner-u = record { known = lit< tt; holds = (lit≤ tt, lit< tt); deeper = deeper }
@@ -106,7 +106,7 @@ above-known (suc (suc (suc k))) above lt is = absurd (omega arith)
 abbrev Follows : ℕ → ℕ → Type 0
 Follows k s = (r : ℕ) (found : Register) → driver_at circuit s ≡ Held r → slice_get circuit.registers r ≡ Some found → found.clock ≡ clock_at (top_clocks tree k) (slice_index_or tree.register_clocks r None)
 
-clock_in : Option Register → Option ℕ
+abbrev clock_in : Option Register → Option ℕ
 clock_in None = None
 clock_in (Some found) = found.clock
 
@@ -135,7 +135,7 @@ clocked = record {
 
 -- a register under the wrong one of two clocks
 wrong-clock : ¬ IsClocked (with (Some 1) (Some 1)) tree
-wrong-clock is = let never : Some 1 ≡ Some 0 = is.registers 1 0 0 (register (Some 1)) inner-u refl refl in cc
+wrong-clock is = apart 1 0 refl (same (is.registers 1 0 0 (register (Some 1)) inner-u refl refl))
 
 -- a Clock input of `u` that would follow a third one of the top
 no-third : ¬ IsClocked circuit (tree_with (Some 2 ∷ Some 0 ∷ []))

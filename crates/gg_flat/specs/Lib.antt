@@ -5,6 +5,7 @@ pub mod Memory
 pub mod WellFormed
 pub mod Reads
 pub mod State
+pub mod Lent
 pub mod Settled
 pub mod Depends
 pub mod Run

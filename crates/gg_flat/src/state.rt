@@ -1,7 +1,9 @@
 //! `State`: the state of a flat circuit between two cycles.
-ghost use Rattle.std.specs.Prelude.{◌≡◌, ◌≤◌, length, map, replicate, All, IfOk};
+ghost use Rattle.std.specs.Prelude.{◌≡◌, ◌<◌, ◌≤◌, length, map, replicate, All, IfOk};
 ghost use Rattle.gg_flat.specs.State.{opening, next_state, next_registers, IsState};
-ghost use Rattle.gg_flat.specs.Memory.{opening_bank, next_banks, AreBanks};
+ghost use Rattle.std.specs.Borrow.{sem};
+ghost use Rattle.gg_flat.specs.Lent.{LendsBank};
+ghost use Rattle.gg_flat.specs.Memory.{bank_at, opening_bank, next_banks, AreBanks};
 ghost use Rattle.gg_flat.specs.WellFormed.{IsWellFormed, IsRegister, IsMemory};
 ghost use Rattle.gg_flat.specs.Room.{HasRoom, register_length};
 ghost use Rattle.gg_flat.specs.Circuit.{signal_shapes};
@@ -70,6 +72,15 @@ impl State {
         ensures { result.now ≡ self.now.banks }
     {
         self.banks.as_slice()
+    }
+
+    /// What the memory at this place holds, to be changed. All else stays as it is.
+    pub fn bank_mut(&mut self, place: usize) -> &mut Bank
+        requires { place < length self.old.banks }
+        ensures* writes_back { sem 𝓛 (LendsBank self.entry place result) }
+        ensures value { result.now ≡ bank_at self.old.banks place }
+    {
+        &mut self.banks[place]
     }
 
     /// Advances to the state after a tick with these edges, in which the signals have these values. Edges are given by
