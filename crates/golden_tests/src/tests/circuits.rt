@@ -7,7 +7,7 @@ use std::alloc::{AllocError, Global};
 use std::test::Fail;
 
 // Circuits of one module, a trace of each, and the text of its run.
-static RUNS: [(&str, &str, &str); 17] = [
+static RUNS: [(&str, &str, &str); 18] = [
     // the counter with lines that end with CR LF, comments, tabs and file information
     (
         "circuit Counter :\r\nmodule Counter : ; the top\r\n\tinput clock : Clock\r\ninput reset : UInt<1> @[a b] @[c]\r\noutput out : UInt<8>\r\nreg c : UInt<8> , clock with : (reset => (UInt<1>(\"h0\"), c)) ; @[ no\r\nnode n = add(c,UInt<1>(\"h1\"))\r\nout<=c\r\nc <= mux(reset, UInt<8>(\"h0\"), bits(n, 7, 0))",
@@ -41,6 +41,12 @@ static RUNS: [(&str, &str, &str); 17] = [
         "circuit Counter :\n  module Counter :\n    input clock : Clock\n    input reset : UInt<1>\n    output out : UInt<8>\n    regreset c : UInt<8>, clock, UInt<1>(\"h0\"), c\n    node n = add(c, UInt<1>(0d1))\n    out <= c\n    connect c, mux(reset, UInt<8>(0), bits(n, 7, 0))\n",
         TRACE,
         TEXT,
+    ),
+    // a circuit that asks for a stop in the second cycle: stops are printed nowhere, and end no run
+    (
+        "circuit Halt :\nmodule Halt :\ninput clock : Clock\ninput x : UInt<2>\noutput y : UInt<2>\ny <= x\nstop(clock, eq(x, UInt<2>(3)), 1) : done\n",
+        "cycle x\n0 1\n1 3\n2 0\n",
+        "cycle y\n0 1\n1 3\n2 0\n",
     ),
     // a register that isn't reset
     (

@@ -31,8 +31,12 @@ const TABLE: &str =
 const LEVELS: &str =
     "circuit Top :\nmodule Cell :\ninput clock : Clock\ninput i : UInt<1>\noutput o : UInt<1>\nmem m :\ndata-type => UInt<1>\ndepth => 2\nread-latency => 1\nwrite-latency => 1\nreader => r\nm.r.clk <= clock\nm.r.addr <= i\nm.r.en <= UInt<1>(1)\no <= m.r.data\nmodule Top :\ninput clock : Clock\noutput y : UInt<1>\nmem t :\ndata-type => UInt<1>\ndepth => 2\nread-latency => 0\nwrite-latency => 1\nreader => r\ninst c of Cell\nc.clock <= clock\nt.r.clk <= clock\nt.r.addr <= c.o\nt.r.en <= UInt<1>(1)\nc.i <= t.r.data\ny <= t.r.data\n";
 
+// A stop in an instance, and one in the top.
+const STOPS: &str =
+    "circuit Top :\nmodule Cell :\ninput clock : Clock\ninput i : UInt<2>\nstop(clock, eq(i, UInt<2>(1)), 1) : done\nmodule Top :\ninput clock : Clock\ninput x : UInt<2>\noutput y : UInt<2>\ninst c of Cell\nc.clock <= clock\nc.i <= x\ny <= x\nstop(clock, eq(x, UInt<2>(3)), 0) : last\n";
+
 // Words, a circuit, a partition, and the text.
-static CUTS: [(&str, &str, &str, &str); 19] = [
+static CUTS: [(&str, &str, &str, &str); 20] = [
     (
         "golden check k1.fir p.json --capacity 1",
         PAIR,
@@ -153,6 +157,13 @@ static CUTS: [(&str, &str, &str, &str); 19] = [
         PAIR,
         "{}",
         "machine hub: host 0\nmachine in:x host 1\nmachine out:q host 2\nchannel x in:x hub: UInt<8> capacity 2 needs -\nchannel q hub: out:q UInt<8> capacity 2 needs x\n",
+    ),
+    // stops: each has a channel and a tray, behind those of the outputs
+    (
+        "golden check k1.fir p.json",
+        STOPS,
+        "{\"units\":[\"c\"]}",
+        "machine hub: host 0\nmachine c host 1\nmachine in:x host 2\nmachine out:y host 3\nmachine halt:stop:0 host 4\nmachine halt:c.stop:0 host 5\nchannel x in:x hub: UInt<2> capacity 2 needs -\nchannel c.i hub: c UInt<2> capacity 2 needs x\nchannel y hub: out:y UInt<2> capacity 2 needs x\nchannel stop:0 hub: halt:stop:0 UInt<1> capacity 2 needs x\nchannel c.stop:0 c halt:c.stop:0 UInt<1> capacity 2 needs c.i\n",
     ),
     // two units and their memories, which have no ports
     (
