@@ -1,6 +1,8 @@
 -- The tree of the circuit in WorkedStops, and two that aren't its tree.
-use Rattle.std.proofs.Common.{ℕ, List, [], ◌∷◌, Option, Some, None, false, true, codes, refl}
-use Rattle.std.specs.Fmt.{digits, decimal_digit}
+use Rattle.std.proofs.Common.{◌≡◌, ℕ, List, [], ◌∷◌, Option, Some, None, false, true, codes, refl, ap, arith}
+use Rattle.std.proofs.lemmas.Option.{same_Some}
+use Rattle.std.specs.Fmt.{digits}
+use Rattle.std.specs.Prelude.{slice_index_or}
 use Rattle.gg_flat.specs.declared.tree.StopInstance.{StopInstance}
 use Rattle.gg_flat.specs.Tree.{InstanceTree}
 use Rattle.gg_flattened.specs.Known.{types_of}
@@ -41,7 +43,7 @@ stops =
 
 -- this is the tree of the circuit
 right : IsTreeOf circuit (tree_with (Some 1 ∷ Some 0 ∷ []) stops)
-unfolding types_of digits decimal_digit
+unfolding types_of digits
 right = record {
   paths = refl;
   instances = (
@@ -77,10 +79,10 @@ right = record {
 
 -- it isn't, where the clocks of `mid` aren't exchanged
 same_order : IsTreeOf circuit (tree_with (Some 0 ∷ Some 1 ∷ []) stops) → ⊥
-unfolding types_of digits decimal_digit
-same_order h = let clocks = h.instances.1.0.clocks in cc
+unfolding types_of digits
+same_order h = let first : ◌≡◌ {A = ℕ} 0 1 = same_Some 0 1 (ap (λ (l : List (Option ℕ)). slice_index_or l 0 None) h.instances.1.0.clocks) in omega (arith, first)
 
 -- nor without the stop of `mid.low`
 no_low : IsTreeOf circuit (tree_with (Some 1 ∷ Some 0 ∷ []) (record { instance = 0; signal = 3; clock = Some 0 } ∷ record { instance = 0; signal = 4; clock = Some 1 } ∷ record { instance = 1; signal = 6; clock = Some 1 } ∷ [])) → ⊥
-unfolding types_of digits decimal_digit
+unfolding types_of digits
 no_low h = h.stops.1.1.1
