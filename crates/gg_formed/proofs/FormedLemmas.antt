@@ -1,19 +1,17 @@
 -- The flat circuit of a circuit is well formed, if its lines and registers fit and no two paths are the same.
-use Rattle.std.proofs.Common.{◌≡◌, ◌⊎◌, inl, inr, ℕ, zero, suc, ◌<◌, Bool, true, false, List, [], ◌∷◌, ◌++◌, Option, Some, None, length, get_or, map, refl, sym, ap, ◌∙◌, subst, subst₂, arith, codes, unwrap_or}
+use Rattle.std.proofs.Common.{◌≡◌, ◌⊎◌, inl, inr, ℕ, zero, suc, ◌<◌, List, [], ◌∷◌, ◌++◌, None, length, get_or, map, refl, sym, ap, ◌∙◌, subst, subst₂, arith, codes}
 use Rattle.std.specs.Prelude.{All, Contains, flat_map, filter_map}
 use Rattle.std.proofs.lemmas.List.{length-map, get_or-map}
 use Rattle.std.proofs.lemmas.List.Elements.{Contains-append_cases, Contains-append_left, Contains-append_right}
-use Rattle.std.proofs.lemmas.Option.{slice_get-get_or}
 use Rattle.gg_bits.specs.Shape.{Shape, shape, uint}
 use Rattle.gg_ast.specs.declared.module.Direction.TheVariants as direction
 use Rattle.gg_ast.specs.declared.statement.Stmt.{Stmt}
-use Rattle.gg_ast.specs.Places.{place_of}
-use Rattle.gg_ast.specs.Tree.{ModuleTree, CircuitTree, module_names}
+use Rattle.gg_ast.specs.Tree.{ModuleTree}
 use Rattle.gg_flat.specs.declared.memory.Latency.{Latency}
-use Rattle.gg_flat.specs.declared.memory.Latency.TheVariants.{Zero, One}
+use Rattle.gg_flat.specs.declared.memory.Latency.TheVariants.{Zero}
 use Rattle.gg_flat.specs.declared.memory.Memory.{Memory}
 use Rattle.gg_flat.specs.declared.memory.Reader.{Reader}
-use Rattle.gg_flat.specs.declared.piece.Driver.TheVariants.{Input, MemoryWord, Computed}
+use Rattle.gg_flat.specs.declared.piece.Driver.TheVariants.{Input, Computed}
 use Rattle.gg_flat.specs.declared.piece.Register.{Register}
 use Rattle.gg_flat.specs.declared.piece.Signal.{Signal}
 use Rattle.gg_flat.specs.Circuit.{FlatCircuit, signal_shapes, driver_at, readers_at, latency_at, reader_at}
@@ -22,96 +20,19 @@ use Rattle.gg_flat.specs.Memory.{address_width}
 use Rattle.gg_flat.specs.Tree.{joined}
 use Rattle.gg_flat.specs.WellFormed.{IsDataOf, MayDrive, IsReader, IsWriter, IsMemory, reader_driver, AreDriven, IsWellFormed}
 use Rattle.gg_flat.proofs.ListLemmas.{Contains-map}
-use Rattle.gg_count.specs.Sites.{Site, Outer, top_site, module_at, all_sites, sites_from, sites_of, sites}
+use Rattle.gg_count.specs.Sites.{Site, top_site, module_at, all_sites, sites}
 use Rattle.gg_formed.specs.Fitting.{FitsDriver, AreFitting}
 use Rattle.gg_flattened.specs.Flat.{Drive, Outside, Gets, Holds, Answers, drive_of, FlatSignal, flat_signal, signals_at, flat_signals, FlatMemory, flat_memory, memories_at, flat_memories, stop_paths, stop_paths_at}
-use Rattle.gg_flattened.specs.IsFlat.{bindings_of, IsDrivenBy, IsMemoryOf, IsFlatOf, IsFlat, answer, number_of, field_number, reader_of, writer_of, is_outside, is_register, drive_at, count_before, signals_of, memory_paths, port_names, top_ports}
-use Rattle.gg_flattened.specs.Known.{types_of}
-use Rattle.gg_flattened.specs.Signals.{Types, Cause, FromOutside, Connected, Expressed, Kept, Answered, Own, own, own_of_port, own_of_kind, own_signals, own_stops, OwnStop, statement_signals, stop_signal, OwnBank, own_banks, field_name, reader_signals, writer_signals}
+use Rattle.gg_flattened.specs.IsFlat.{bindings_of, IsDrivenBy, IsMemoryOf, IsFlatOf, answer, number_of, field_number, reader_of, writer_of, is_outside, is_register, drive_at, count_before, signals_of, memory_paths, port_names}
+use Rattle.gg_flattened.specs.Signals.{Types, Cause, Connected, Answered, Own, own, own_of_port, own_of_kind, own_signals, own_stops, OwnStop, statement_signals, stop_signal, OwnBank, own_banks, field_name, reader_signals, writer_signals}
 use Rattle.gg_flattened.proofs.AmongLemmas.{Element, element-at, MadeOf, from-map, in-flat_map, from-flat_map}
 use Rattle.gg_formed.proofs.ClockFormLemmas.{registers-clocked, memories-clocked}
 use Rattle.gg_formed.proofs.BankFieldLemmas.{bank-signal, reader-among, writer-among, bank-depth, AnswerAmong, answer-among}
 use Rattle.gg_tree.proofs.JoinLemmas.{joined-behind}
-use Rattle.gg_flattened.proofs.NameLemmas.{Differ, place_of-at}
+use Rattle.gg_flattened.proofs.NameLemmas.{Differ}
 use Rattle.gg_formed.proofs.OutsideLemmas.{inputs-are, port-named}
 use Rattle.gg_flattened.proofs.PassingLemmas.{passing, passed-at, Passes, passing-at, passing-map}
-
--- ---- elements by their paths
-
--- the number of an element's path is the element's place
-pub number-at : {A : Type 0} (path : A → List ℕ) (xs : List A) (s : ℕ) (d : A) → Differ (map path xs) → s < length xs → number_of (map path xs) (path (get_or xs s d)) ≡ s
-number-at path xs s d differ lt =
-    ap (λ o. unwrap_or o 0)
-    (place_of-at (map path xs) (path (get_or xs s d)) s (slice_get-get_or (map path xs) s [] (omega (arith, lt, length-map xs path)) ∙ ap Some (get_or-map path xs s d [] lt)) differ)
-
--- Element x stands at place n.
-pub record Stands {A : Type 0} (xs : List A) (x : A) (n : ℕ) : Type 0 where
-  pub inside : n < length xs
-  pub is : (d : A) → get_or xs n d ≡ x
-
-pub stands-at : {A : Type 0} (path : A → List ℕ) (xs : List A) (x : A) → Differ (map path xs) → Contains xs x → Stands xs x (number_of (map path xs) (path x))
-stands-at path xs x differ c =
-    let e = element-at xs c.0 c.1 in
-    let is : (d : _) → get_or xs c.0 d ≡ x = λ d. e.is d ∙ sym (e.is x) ∙ c.2 in
-    subst (Stands xs x) (sym (ap (λ y. number_of (map path xs) (path y)) (sym c.2) ∙ number-at path xs c.0 x differ c.1)) (record { inside = c.1; is = is })
-
--- ---- what a drive says
-
-abbrev memory_read : List ℕ → Drive → List ℕ
-memory_read d Outside = d
-memory_read d (Gets scope c) = d
-memory_read d (Holds scope reset next own clock) = d
-memory_read d (Answers memory place latency addr en) = memory
-
-abbrev place_read : ℕ → Drive → ℕ
-place_read d Outside = d
-place_read d (Gets scope c) = d
-place_read d (Holds scope reset next own clock) = d
-place_read d (Answers memory place latency addr en) = place
-
-abbrev latency_read : Latency → Drive → Latency
-latency_read d Outside = d
-latency_read d (Gets scope c) = d
-latency_read d (Holds scope reset next own clock) = d
-latency_read d (Answers memory place latency addr en) = latency
-
-abbrev answers : Drive → Bool
-answers Outside = false
-answers (Gets scope c) = false
-answers (Holds scope reset next own clock) = false
-answers (Answers memory place latency addr en) = true
-
--- The cause of a signal whose drive is a reader's answer.
-record AnswerCause (x : Site) (cause : Cause) (memory : List ℕ) (place : ℕ) (latency : Latency) : Type 0 where
-  said : List ℕ
-  port : List ℕ
-  is : cause ≡ Answered said port place latency
-  path : memory ≡ joined x.path said
-
-answer-cause : (modules : List ModuleTree) (x : Site) (name : List ℕ) (cause : Cause) (memory : List ℕ) (place : ℕ) (latency : Latency) (addr en : List ℕ) → drive_of modules x name cause ≡ Answers memory place latency addr en → AnswerCause x cause memory place latency
-answer-cause modules x name FromOutside memory place latency addr en e = go x.outer e
-  where
-    go : (o : Option Outer) → drive_of modules (record x { outer = o }) name FromOutside ≡ Answers memory place latency addr en → AnswerCause x FromOutside memory place latency
-    go None e = let never : false ≡ true = ap answers e in absurd (cc)
-    go (Some outer) e = let never : false ≡ true = ap answers e in absurd (cc)
-answer-cause modules x name Connected memory place latency addr en e = let never : false ≡ true = ap answers e in absurd (cc)
-answer-cause modules x name (Expressed value) memory place latency addr en e = let never : false ≡ true = ap answers e in absurd (cc)
-answer-cause modules x name (Kept clock reset) memory place latency addr en e = let never : false ≡ true = ap answers e in absurd (cc)
-answer-cause modules x name (Answered said port at late) memory place latency addr en e = record {
-  said = said;
-  port = port;
-  is = ap (λ n. Answered said port n late) (ap (place_read 0) e) ∙ ap (λ l. Answered said port place l) (ap (latency_read late) e);
-  path = sym (ap (memory_read memory) e);
-}
-
--- a reader's driver, by its latency
-answer-is : (latency : Latency) (m r addr en : ℕ) (reader : Reader) → reader.addr ≡ addr → reader.en ≡ en → answer latency m r addr en ≡ reader_driver latency m r reader
-answer-is Zero m r addr en reader a e = ap (λ n. MemoryWord m r n en) (sym a) ∙ ap (λ n. MemoryWord m r reader.addr n) (sym e)
-answer-is (One under) m r addr en reader a e = refl
-
-data-drives : (flat : FlatCircuit) (latency : Latency) (m r addr en s : ℕ) → IsDataOf flat m r s → MayDrive flat s (answer latency m r addr en)
-data-drives flat Zero m r addr en s h = h
-data-drives flat (One under) m r addr en s h = h
+use Rattle.gg_formed.proofs.DriveLemmas.{AnswerCause, Stands, answer-cause, answer-is, data-drives, number-at, outside-is, stands-at}
 
 -- ---- the flat circuit
 
@@ -375,12 +296,6 @@ module _ (types : Types) (modules : List ModuleTree) (top : ℕ) (flat : FlatCir
       let same : length flat.ins ≡ length (passing is_outside 0 (map (λ (y : FlatSignal). y.drive) all)) = ap (λ (l : List ℕ). length l) inputs in
       (omega (arith, p.0, same), ap (λ (l : List ℕ). value_at l (count_before is_outside all s)) inputs ∙ p.1 ∙ omega arith)
 
-  outside-is : (drive : Drive) → is_outside drive ≡ true → drive ≡ Outside
-  outside-is Outside h = refl
-  outside-is (Gets scope c) h = absurd (cc)
-  outside-is (Holds scope reset next own clock) h = absurd (cc)
-  outside-is (Answers memory place latency addr en) h = absurd (cc)
-
   ins-are : (place : ℕ) → place < length flat.ins → (value_at flat.ins place < length flat.signals) × (driver_at flat (value_at flat.ins place) ≡ Input place)
   ins-are place lt =
       subst (λ s. (s < length flat.signals) × (driver_at flat s ≡ Input place)) (sym at)
@@ -476,14 +391,3 @@ module _ (types : Types) (modules : List ModuleTree) (top : ℕ) (flat : FlatCir
     register_clocks = registers-clocked types modules top flat is_flat;
     memory_clocks = memories-clocked types modules top flat is_flat;
   }
-
--- the flat circuit of a circuit with a top is well formed
-pub circuit-formed : (circuit : CircuitTree) (flat : FlatCircuit) (top : ℕ) → place_of circuit.name (module_names circuit) ≡ Some top → IsFlat circuit flat → AreFitting flat → Differ flat.paths → Differ (memory_paths (flat_memories circuit.modules (sites_of circuit))) → IsWellFormed flat
-circuit-formed circuit flat top known is_flat fits signals memories =
-    formed (types_of circuit) circuit.modules top flat at_top fits (subst Differ at_top.paths signals) (subst (λ (l : List Site). Differ (memory_paths (flat_memories circuit.modules l))) same memories)
-  where
-    same : sites_of circuit ≡ all_sites circuit.modules top
-    same = ap (λ (o : Option ℕ). sites_from circuit.modules o) known
-
-    at_top : IsFlatOf (types_of circuit) (flat_signals (types_of circuit) circuit.modules (all_sites circuit.modules top)) (flat_memories circuit.modules (all_sites circuit.modules top)) (module_at circuit.modules top).ports (stop_paths circuit.modules (all_sites circuit.modules top)) flat
-    at_top = subst (λ (o : Option ℕ). IsFlatOf (types_of circuit) (flat_signals (types_of circuit) circuit.modules (sites_from circuit.modules o)) (flat_memories circuit.modules (sites_from circuit.modules o)) (top_ports circuit.modules o) (stop_paths circuit.modules (sites_from circuit.modules o)) flat) known is_flat

@@ -1,7 +1,9 @@
 pub mod ApartLemmas
 pub mod BankFieldLemmas
+pub mod CircuitFormedLemmas
 pub mod ClockFormLemmas
 pub mod DifferLemmas
+pub mod DriveLemmas
 pub mod FormedLemmas
 pub mod HeldLemmas
 pub mod ModuleNameLemmas

@@ -34,9 +34,11 @@ word-count ss = length-map (map stop_signal (own_stops ss)) (λ (o : Own). o.nam
 
 word-at : (ss : List Stmt) (i : ℕ) (d : List ℕ) (any : OwnStop) → i < length (own_stops ss) → get_or (stop_words ss) i d ≡ stop_name i
 word-at ss i d any lt =
+    let same : 0 + i ≡ i = omega arith in
     ap (λ (l : List (List ℕ)). get_or l i d) (words-are ss)
     ∙ get_or-map (λ (s : OwnStop). s.name) (own_stops ss) i any d lt
     ∙ numbered-at 0 (filter_map (λ (s : Stmt). stop_of_kind s.kind) ss) i any lt
+    ∙ ap stop_name same
 
 stop-once : (m n : ℕ) → m < 2 ^ 64 → n < 2 ^ 64 → stop_name m ≡ stop_name n → m ≡ n
 stop-once m n p q e = decimal_injective m n p q (ap (λ (l : List ℕ). drop 5 l) e)

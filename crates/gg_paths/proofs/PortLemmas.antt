@@ -24,7 +24,7 @@ use Rattle.gg_tree.specs.IsTreeOf.{HeldMemory, IsMemoryFor, IsTreeOf, held_memor
 use Rattle.gg_tree.proofs.OwnLemmas.{Pairwise-at}
 use Rattle.gg_tree.proofs.PairwiseLemmas.{Pairwise-length}
 use Rattle.gg_formed.proofs.DifferLemmas.{Differ-append, Differ-none}
-use Rattle.gg_formed.proofs.FormedLemmas.{Stands, stands-at}
+use Rattle.gg_formed.proofs.DriveLemmas.{Stands, stands-at}
 use Rattle.gg_read.specs.Text.{Spells}
 use Rattle.gg_paths.specs.Paths.{HavePaths}
 use Rattle.gg_paths.proofs.PathLemmas.{IsBankOf, bank-of, flat-paths, tree-memory-paths, tree-paths}

@@ -7,7 +7,7 @@ use Rattle.gg_flattened.specs.Flat.{flat_signals, flat_memories, stop_paths}
 use Rattle.gg_flattened.specs.IsFlat.{top_ports}
 use Rattle.gg_flattened.specs.Known.{types_of}
 use Rattle.gg_names.specs.Repetitions.{repetitions}
-use Rattle.gg_formed.proofs.FormedLemmas.{circuit-formed}
+use Rattle.gg_formed.proofs.CircuitFormedLemmas.{circuit-formed}
 use Rattle.gg_formed.proofs.HeldLemmas.{held-once}
 use Rattle.gg_formed.proofs.ModuleNameLemmas.{memory-paths-differ}
 use Rattle.gg_tree.proofs.ElementLemmas.{some-of}
