@@ -15,7 +15,7 @@ use Rattle.gg_count.specs.Sites.{Site, Outer}
 use Rattle.gg_flattened.specs.Flat.{Drive, Outside, Gets, Holds, Answers, drive_of}
 use Rattle.gg_flattened.specs.IsFlat.{answer, number_of, is_outside}
 use Rattle.gg_flattened.specs.Signals.{Cause, FromOutside, Connected, Expressed, Kept, Answered}
-use Rattle.gg_flattened.proofs.AmongLemmas.{Element, element-at}
+use Rattle.gg_flattened.proofs.AmongLemmas.{element-at}
 use Rattle.gg_flattened.proofs.NameLemmas.{Differ, place_of-at}
 
 -- ---- elements by their paths
