@@ -1,7 +1,7 @@
 -- The tokens, the accesses and the next state of a memory unit.
-use Rattle.std.proofs.Common.{◌≡◌, ℕ, zero, suc, ◌+◌, ◌<◌, ◌^◌, List, [], ◌∷◌, Option, None, Some, Bool, length, map, refl, sym, ap, ap₂, subst, ◌∙◌, arith}
-use Rattle.std.specs.Prelude.{All, replicate, slice_get, slice_index_or, slice_set}
-use Rattle.std.proofs.lemmas.List.{get_or-map, length-map, map-set, nil_from_length}
+use Rattle.std.proofs.Common.{◌≡◌, ℕ, zero, suc, ◌+◌, ◌<◌, ◌^◌, List, [], ◌∷◌, Option, None, Some, Bool, true, false, length, map, refl, sym, ap, ap₂, subst, ◌∙◌, arith}
+use Rattle.std.specs.Prelude.{All, replicate, slice_get, slice_index_or, slice_set, if◌then◌else◌}
+use Rattle.std.proofs.lemmas.List.{get_or-map, length-map, length-set, map-set, nil_from_length}
 use Rattle.gg_flat.specs.declared.memory.Latency.{Latency}
 use Rattle.gg_flat.specs.declared.memory.Latency.TheVariants.{Zero, One}
 use Rattle.gg_flat.specs.declared.memory.UnderWrite.{UnderWrite}
@@ -9,7 +9,8 @@ use Rattle.gg_flat.specs.declared.memory.Reader.{Reader}
 use Rattle.gg_flat.specs.declared.memory.Writer.{Writer}
 use Rattle.gg_flat.specs.declared.memory.Memory.{Memory}
 use Rattle.gg_flat.specs.declared.piece.Driver.TheVariants.{Input}
-use Rattle.gg_flat.specs.Clock.{Ratio, edges_at}
+use Rattle.gg_flat.specs.declared.piece.Register.{Register}
+use Rattle.gg_flat.specs.Clock.{Ratio, edges_at, ticks}
 use Rattle.gg_flat.specs.Line.{shape_at, value_at}
 use Rattle.gg_flat.specs.Circuit.{FlatCircuit, signal_shapes, driver_at, readers_at, latency_at, reader_at}
 use Rattle.gg_bits.specs.Shape.{shape}
@@ -17,7 +18,8 @@ use Rattle.gg_flat.specs.State.{next_registers, State, IsState}
 use Rattle.gg_flat.specs.Settled.{Settled, driver_value}
 use Rattle.gg_flat.specs.WellFormed.{AreDriven, reader_driver}
 use Rattle.gg_flat.specs.Memory.{Bank, found_word, read_word, next_words_from, next_reads, next_banks, read_count, bank_at, LooksAmong}
-use Rattle.gg_flat.specs.Served.{after_access}
+use Rattle.gg_flat.specs.Served.{Access, ByReader, ByWriter, after_access}
+use Rattle.gg_flat.specs.Lent.{with_bank}
 use Rattle.gg_node.specs.Machine.{RunsPiece, Port, Machine, latch_at, latched_value, latched_values, first_empty, needs_at, port_number}
 use Rattle.gg_node.specs.Token.{AgreesOn, IsTokenOf, IsNextOf, accessed}
 use Rattle.gg_node.specs.Step.{with_served}
@@ -191,22 +193,46 @@ looks-among piece memory is only n same = subst (λ n. All (LooksAmong n) memory
 
 -- ---- a state of a memory's piece
 
--- it is what its only memory holds
-pub state-alone : (piece : FlatCircuit) (state : State) → IsMemoryPiece piece → IsState piece state → state ≡ state_of (bank_at state.banks 0)
-state-alone piece state is typed = ap₂ (λ (registers : List ℕ) (banks : List Bank). record { registers = registers; banks = banks }) (nil_from_length state.registers none) (one state.banks (typed.held.count ∙ is.one))
-  where
-    none : length state.registers ≡ 0
-    none = typed.typed.count ∙ length-map piece.registers (λ register. shape register.ty) ∙ ap length is.alone
+abbrev state-with : List ℕ → List Bank → State
+state-with registers banks = record { registers = registers; banks = banks }
 
-    one : (banks : List Bank) → length banks ≡ 1 → banks ≡ bank_at banks 0 ∷ []
-    one [] same = absurd (omega (arith, same))
-    one (bank ∷ []) same = refl
-    one (bank ∷ other ∷ banks) same = absurd (omega (arith, same))
+-- a state of one bank alone
+pub of-bank : (state : State) (bank : Bank) → state.registers ≡ [] → state.banks ≡ bank ∷ [] → state ≡ state_of bank
+of-bank state bank none one = ap₂ state-with none one
+
+pub of-first : (state : State) → state.registers ≡ [] → length state.banks ≡ 1 → state ≡ state_of (bank_at state.banks 0)
+of-first state none one = of-bank state (bank_at state.banks 0) none (first state.banks one)
+  where
+    first : (banks : List Bank) → length banks ≡ 1 → banks ≡ bank_at banks 0 ∷ []
+    first [] same = absurd (omega (arith, same))
+    first (bank ∷ []) same = refl
+    first (bank ∷ other ∷ banks) same = absurd (omega (arith, same))
+
+-- such a state with another bank in its place
+pub of-put : (state : State) (bank : Bank) → state.registers ≡ [] → length state.banks ≡ 1 → with_bank state 0 bank ≡ state_of bank
+of-put state bank none one = ap₂ state-with none (put state.banks one)
+  where
+    put : (banks : List Bank) → length banks ≡ 1 → slice_set banks 0 bank ≡ bank ∷ []
+    put [] same = absurd (omega (arith, same))
+    put (old ∷ []) same = refl
+    put (old ∷ other ∷ banks) same = absurd (omega (arith, same))
+
+pub no-registers : (piece : FlatCircuit) (state : State) → IsMemoryPiece piece → IsState piece state → state.registers ≡ []
+no-registers piece state is typed = nil_from_length state.registers (typed.typed.count ∙ length-map piece.registers (λ (register : Register). shape register.ty) ∙ ap (λ (l : List Register). length l) is.alone)
 
 -- it has a read register for each late reader
-pub held-alone : (piece : FlatCircuit) (state : State) (reads : List ℕ) → IsMemoryPiece piece → IsState piece state → reads ≡ (bank_at state.banks 0).reads → All (λ memory. length reads ≡ read_count memory.latency memory.readers) piece.memories
-held-alone piece state reads is typed same = by
+pub held-first : (piece : FlatCircuit) (state : State) → IsMemoryPiece piece → IsState piece state → All (λ memory. length (bank_at state.banks 0).reads ≡ read_count memory.latency memory.readers) piece.memories
+held-first piece state is typed = each
   where
-    by : (m : ℕ) (any : Memory) → m < length piece.memories → length reads ≡ read_count (slice_index_or piece.memories m any).latency (slice_index_or piece.memories m any).readers
-    by zero any below = ap (λ (l : List ℕ). length l) same ∙ (typed.held.each 0 any below).reads.count
-    by (suc m) any below = absurd (omega (arith, below, is.one))
+    each : (m : ℕ) (any : Memory) → m < length piece.memories → length (bank_at state.banks 0).reads ≡ read_count (slice_index_or piece.memories m any).latency (slice_index_or piece.memories m any).readers
+    each zero any below = (typed.held.each 0 any below).reads.count
+    each (suc m) any below = absurd (omega (arith, below, is.one))
+
+-- an access leaves as many read registers as there were
+pub reads-after : (edges : List Bool) (signals : List ℕ) (bank : Bank) (access : Access) → length (after_access edges signals bank access).reads ≡ length bank.reads
+reads-after edges signals bank (ByWriter w writer) = refl
+reads-after edges signals bank (ByReader r reader) = by (ticks edges reader.clock)
+  where
+    by : (b : Bool) → length (if b then slice_set bank.reads r (found_word signals bank.words reader) else bank.reads) ≡ length bank.reads
+    by true = length-set bank.reads r (found_word signals bank.words reader)
+    by false = refl

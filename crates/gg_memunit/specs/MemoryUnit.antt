@@ -13,7 +13,7 @@ use Rattle.gg_flat.specs.Clock.{Ratio}
 use Rattle.gg_flat.specs.Line.{value_at}
 use Rattle.gg_flat.specs.Circuit.{FlatCircuit, reader_at}
 use Rattle.gg_flat.specs.State.{State, opening}
-use Rattle.gg_flat.specs.Memory.{Bank, LooksAmong, WritesAmong, read_count}
+use Rattle.gg_flat.specs.Memory.{Bank, LooksAmong, WritesAmong, read_count, bank_at}
 use Rattle.gg_flat.specs.Served.{Access, ByReader, ByWriter, due_of}
 use Rattle.gg_flat.specs.WellFormed.{IsWellFormed}
 use Rattle.gg_node.specs.Machine.{RunsPiece, Port, Machine, latched_values}
@@ -119,11 +119,14 @@ started_unit piece ratios state cycle = memory_machine piece ratios cycle_limit 
 abbrev pub opening_unit : FlatCircuit → List Ratio → Machine
 opening_unit piece ratios = started_unit piece ratios (opening piece) 0
 
--- The fields of a unit belong to its piece: there is a read register for each late reader, a latch for each in-signal
--- and a flag for each out-signal, and the inputs are the tokens in the latches.
-pub record IsOfPiece (piece : FlatCircuit) (bank : Bank) (inputs : List ℕ) (latches : List (Option ℕ)) (flags : List Bool) : Type 0 where
+-- The fields of a unit belong to its piece: its state is what its only memory holds, with a read register for each late
+-- reader; there is a latch for each in-signal and a flag for each out-signal, and the inputs are the tokens in the
+-- latches.
+pub record IsOfPiece (piece : FlatCircuit) (state : State) (inputs : List ℕ) (latches : List (Option ℕ)) (flags : List Bool) : Type 0 where
   pub memory : IsMemoryPiece piece
-  pub held : All (λ memory. length bank.reads ≡ read_count memory.latency memory.readers) piece.memories
+  pub none : state.registers ≡ []
+  pub one : length state.banks ≡ 1
+  pub held : All (λ memory. length (bank_at state.banks 0).reads ≡ read_count memory.latency memory.readers) piece.memories
   pub ins : length latches ≡ length piece.ins
   pub outs : length flags ≡ length piece.outs
   pub tokens : inputs ≡ latched_values latches

@@ -1,12 +1,11 @@
 //! `MemUnit`: a memory whose ports are served one by one.
-ghost use Rattle.std.specs.Prelude.{◌≡◌, ℕ, ◌<◌, ◌≤◌, List, [], ◌∷◌, None, false, All, length, replicate, is_some, slice_set, IfOk};
+ghost use Rattle.std.specs.Prelude.{◌≡◌, ℕ, ◌<◌, ◌≤◌, List, [], ◌∷◌, length, is_some, slice_set, IfOk};
 ghost use Rattle.gg_limits.specs.Limits.{cycle_limit};
-ghost use Rattle.gg_flat.specs.Memory.{read_count};
 ghost use Rattle.gg_flat.specs.State.{IsState};
 ghost use Rattle.gg_node.specs.Machine.{RunsPiece, Machine, machine_at, latch_at, flag_at, missing, due};
 ghost use Rattle.gg_node.specs.Token.{IsToken, IsNextState};
 ghost use Rattle.gg_node.specs.Step.{MayLatch, MayFire, MayServe, MayFinish, with_latch, with_flag, with_served, finished};
-ghost use Rattle.gg_memunit.specs.MemoryUnit.{IsMemoryPiece, memory_machine, state_of, opening_unit, started_unit};
+ghost use Rattle.gg_memunit.specs.MemoryUnit.{IsMemoryPiece, opening_unit, started_unit};
 
 use crate::{access, ports};
 use gg_clocks::{Ratio, Timing};
@@ -20,7 +19,8 @@ use std::marker::Model;
 #[derive(Drop)]
 pub struct MemUnit {
     piece: Piece,
-    bank: Bank,
+    // what its memory holds, as the accesses so far have made it
+    state: State,
     // The token in each latch; 0 if the latch is empty.
     inputs: Vec<u128>,
     latches: Vec<Option<u128>>,
@@ -33,13 +33,13 @@ pub struct MemUnit {
 impl Model for MemUnit {
     ghost use Rattle.gg_limits.specs.Limits.{cycle_limit};
     ghost use Rattle.gg_node.specs.Machine.{Machine};
-    ghost use Rattle.gg_memunit.specs.MemoryUnit.{memory_machine, state_of, IsOfPiece};
+    ghost use Rattle.gg_memunit.specs.MemoryUnit.{memory_machine, IsOfPiece};
 
     ghost Value = { Machine };
 
-    ghost view = { λ unit. memory_machine unit.piece unit.timing.ratios cycle_limit unit.timing.tick (state_of unit.bank) unit.served unit.latches.items unit.flags.items };
+    ghost view = { λ unit. memory_machine unit.piece unit.timing.ratios cycle_limit unit.timing.tick unit.state unit.served unit.latches.items unit.flags.items };
 
-    ghost invariant = { λ unit. IsOfPiece unit.piece unit.bank unit.inputs.items unit.latches.items unit.flags.items };
+    ghost invariant = { λ unit. IsOfPiece unit.piece unit.state unit.inputs.items unit.latches.items unit.flags.items };
 }
 
 // The only memory of a piece.
@@ -48,6 +48,14 @@ fn memory_of(piece: &Piece) -> &Memory
     ensures { piece.now.memories ≡ result.now ∷ [] }
 {
     &piece.memories()[0]
+}
+
+// What the only memory of a state holds.
+fn bank_of(state: &State) -> &Bank
+    requires { length state.now.banks ≡ 1 }
+    ensures { state.now.banks ≡ result.now ∷ [] }
+{
+    &state.banks()[0]
 }
 
 impl MemUnit {
@@ -60,8 +68,8 @@ impl MemUnit {
         requires { IsMemoryPiece piece }
         ensures { IfOk result (λ unit. unit ≡ opening_unit piece ratios.now) }
     {
-        let bank = Bank::new(alloc, memory_of(&piece))?;
-        MemUnit::with_bank(alloc, piece, ratios, bank, 0)
+        let state = State::new(alloc, &piece)?;
+        MemUnit::from_state(alloc, piece, ratios, state, 0)
     }
 
     /// The unit of a piece that is only a memory. It begins in this state, with this cycle, which is at most 1,000,000.
@@ -74,32 +82,13 @@ impl MemUnit {
         alloc: Global,
         piece: Piece,
         ratios: &[Ratio],
-        state: &State,
+        state: State,
         cycle: u64,
     ) -> Result<MemUnit, AllocError>
         requires memory { IsMemoryPiece piece }
-        requires state { IsState piece state.now }
+        requires state { IsState piece state }
         requires cycle { cycle ≤ cycle_limit }
-        ensures { IfOk result (λ unit. unit ≡ started_unit piece ratios.now state.now cycle) }
-    {
-        let held = &state.banks()[0];
-        let words = Vec::from_slice(alloc, held.words())?;
-        let reads = Vec::from_slice(alloc, held.reads())?;
-        MemUnit::with_bank(alloc, piece, ratios, Bank::of(words, reads), cycle)
-    }
-
-    // The unit of a piece whose memory holds this, at the beginning of a cycle.
-    fn with_bank(
-        alloc: Global,
-        piece: Piece,
-        ratios: &[Ratio],
-        bank: Bank,
-        cycle: u64,
-    ) -> Result<MemUnit, AllocError>
-        requires memory { IsMemoryPiece piece }
-        requires held { All (λ memory. length bank.reads ≡ read_count memory.latency memory.readers) piece.memories }
-        requires cycle { cycle ≤ cycle_limit }
-        ensures { IfOk result (λ unit. unit ≡ memory_machine piece ratios.now cycle_limit cycle (state_of bank) 0 (replicate (length piece.ins) None) (replicate (length piece.outs) false)) }
+        ensures { IfOk result (λ unit. unit ≡ started_unit piece ratios.now state cycle) }
     {
         let inputs = vec![in alloc; 0; piece.ins().len()]?;
         let latches = empty_latches(alloc, piece.ins().len())?;
@@ -107,7 +96,7 @@ impl MemUnit {
         let timing = Timing::new(alloc, ratios, cycle)?;
         Ok(MemUnit {
             piece,
-            bank,
+            state,
             inputs,
             latches,
             flags,
@@ -116,11 +105,12 @@ impl MemUnit {
         })
     }
 
-    /// What the memory holds, as the accesses so far have made it.
-    pub fn bank(&self) -> &Bank
-        ensures { self.now.state ≡ state_of result.now }
+    /// The state before its cycle, as the accesses of the cycle so far have changed it. The only thread is thread 0.
+    pub fn state(&self, thread: u32) -> &State
+        requires { thread < 1 }
+        ensures { result.now ≡ self.now.state }
     {
-        &self.bank
+        &self.state
     }
 
     /// The piece that it runs.
@@ -172,12 +162,13 @@ impl MemUnit {
         ensures { IsToken self.now place result }
     {
         let memory = memory_of(&self.piece);
+        let bank = bank_of(&self.state);
         match memory.latency {
             Latency::Zero => {
                 let reader = &memory.readers.as_slice()[place as usize];
-                access::find(&self.bank, reader, &self.inputs)
+                access::find(bank, reader, &self.inputs)
             }
-            Latency::One(_) => self.bank.reads()[place as usize],
+            Latency::One(_) => bank.reads()[place as usize],
         }
     }
 
@@ -197,7 +188,7 @@ impl MemUnit {
     {
         let memory = memory_of(&self.piece);
         let edges = self.timing.edges();
-        access::serve(&mut self.bank, memory, port, edges, &self.inputs);
+        access::serve(self.state.bank_mut(0), memory, port, edges, &self.inputs);
         self.served += 1;
     }
 

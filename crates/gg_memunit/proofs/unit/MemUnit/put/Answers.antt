@@ -9,6 +9,8 @@ invariant_of-self c =
     let kept = c.self.invariant in
     record {
       memory = kept.memory;
+      none = kept.none;
+      one = kept.one;
       held = kept.held;
       ins = length-set unit.latches.items c.args.place (Some c.args.token) ∙ kept.ins;
       outs = kept.outs;
