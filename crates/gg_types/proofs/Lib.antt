@@ -5,6 +5,7 @@ pub mod WayLemmas
 pub mod ClockLemmas
 pub mod InputLemmas
 pub mod OwnLemmas
+pub mod TellLemmas
 pub mod StepLemmas
 pub mod KnownLemmas
 pub mod WidthLemmas

@@ -14,8 +14,8 @@ pub returns-in_err-judge_all-clause-answers : goal.returns-in_err-judge_all-clau
 returns-in_err-judge_all-clause-answers c =
     let circuit = c.args.names.now in
     let m = module_at circuit.modules c.args.number in
-    let traced = flagged (names_in m) c.in_ok-trace.field-0.flags.items in
-    let t : traced ≡ leads_to_input m = λ i. λ name. c.in_ok-trace.ensures.flags name i in
+    let traced = flagged (names_in m) c.in_ok-flags.field-0.flags.items in
+    let t : traced ≡ leads_to_input m = λ i. λ name. c.in_ok-flags.ensures.flags name i in
     let p = c.ports.ensures ∙ ap (λ (x : ModuleTree). x.ports) c.module_of-here.ensures in
     let s = c.statements.ensures ∙ ap (λ (x : ModuleTree). x.statements) c.module_of-here.ensures in
     let same = faults-same circuit m traced c.ports.result.now c.statements.result.now t p s in
@@ -26,8 +26,8 @@ pub returns-clause-answers : goal.returns-clause-answers
 returns-clause-answers c =
     let circuit = c.args.names.now in
     let m = module_at circuit.modules c.args.number in
-    let traced = flagged (names_in m) c.in_ok-trace.field-0.flags.items in
-    let t : traced ≡ leads_to_input m = λ i. λ name. c.in_ok-trace.ensures.flags name i in
+    let traced = flagged (names_in m) c.in_ok-flags.field-0.flags.items in
+    let t : traced ≡ leads_to_input m = λ i. λ name. c.in_ok-flags.ensures.flags name i in
     let p = c.ports.ensures ∙ ap (λ (x : ModuleTree). x.ports) c.module_of-here.ensures in
     let s = c.statements.ensures ∙ ap (λ (x : ModuleTree). x.statements) c.module_of-here.ensures in
     sym (faults-same circuit m traced c.ports.result.now c.statements.result.now t p s) ∙ c.in_ok-judge_all.ensures.answers
@@ -36,8 +36,8 @@ pub returns-clause-own : goal.returns-clause-own
 returns-clause-own c =
     let circuit = c.args.names.now in
     let m = module_at circuit.modules c.args.number in
-    let traced = flagged (names_in m) c.in_ok-trace.field-0.flags.items in
-    let t : traced ≡ leads_to_input m = λ i. λ name. c.in_ok-trace.ensures.flags name i in
+    let traced = flagged (names_in m) c.in_ok-flags.field-0.flags.items in
+    let t : traced ≡ leads_to_input m = λ i. λ name. c.in_ok-flags.ensures.flags name i in
     let p = c.ports.ensures ∙ ap (λ (x : ModuleTree). x.ports) c.module_of-here.ensures in
     let s = c.statements.ensures ∙ ap (λ (x : ModuleTree). x.statements) c.module_of-here.ensures in
     let new = c.judge_all.new.known in
