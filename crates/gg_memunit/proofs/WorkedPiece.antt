@@ -10,10 +10,11 @@ use Rattle.gg_flat.specs.declared.memory.Reader.{Reader}
 use Rattle.gg_flat.specs.declared.memory.Writer.{Writer}
 use Rattle.gg_flat.specs.declared.memory.Memory.{Memory}
 use Rattle.gg_flat.specs.declared.piece.Driver.TheVariants.{Input, MemoryWord}
+use Rattle.gg_flat.specs.declared.piece.Register.{Register}
 use Rattle.gg_flat.specs.Line.{value_at, HasType}
 use Rattle.gg_flat.specs.Circuit.{FlatCircuit, signal_shapes, driver_at, latency_at, readers_at, reader_at}
 use Rattle.gg_flat.specs.Memory.{LooksAmong, WritesAmong}
-use Rattle.gg_flat.specs.WellFormed.{MayDrive, IsReader, IsWriter, IsMemory, AreDriven, reader_driver, IsRegister, IsWellFormed}
+use Rattle.gg_flat.specs.WellFormed.{MayDrive, IsReader, IsWriter, IsMemory, AreDriven, reader_driver, IsRegister, IsClock, IsClockedMemory, IsWellFormed}
 use Rattle.gg_flat.proofs.WorkedCircuits.{one, eight}
 use Rattle.gg_flat.proofs.WorkedForms.{only, both, three, pair, differ}
 use Rattle.gg_memunit.specs.MemoryUnit.{IsMemoryPiece, outs_of, count_of, ports_of}
@@ -64,6 +65,13 @@ formed =
             writers = All-nil (IsWriter (HasType (signal_shapes piece)) (shape eight) 2);
           });
       reads = only (λ m. AreDriven (driver_at piece) m (latency_at piece m) (readers_at piece m)) (only (λ r. driver_at piece (reader_at (reader ∷ []) r).word ≡ reader_driver Zero 0 r (reader_at (reader ∷ []) r)) refl);
+      register_clocks = All-nil (λ (register : Register). IsClock 0 register.clock);
+      memory_clocks =
+          one-of (IsClockedMemory 0) memory
+          (record {
+            readers = one-of (λ (reader : Reader). IsClock 0 reader.clock) reader tt;
+            writers = All-nil (λ (writer : Writer). IsClock 0 writer.clock);
+          });
     }
 
 abbrev no-writers : List (List Writer)

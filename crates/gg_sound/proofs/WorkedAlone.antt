@@ -82,6 +82,7 @@ is-part =
       drivers = three (λ s. IsFrom alone.piece.ins alone.globals [] (0 ∷ []) s (driver_at part.piece (value_at alone.globals s)) (driver_at alone.piece s)) (lit< tt, refl) (lit< tt, refl) (lit< tt, lit< tt, lit< tt, refl);
       ins = both (λ place. (value_at alone.piece.ins place < 3) × (driver_at alone.piece (value_at alone.piece.ins place) ≡ Input place)) (lit< tt, refl) (lit< tt, refl);
       outs = only (λ place. value_at alone.piece.outs place < 3) (lit< tt);
+      clocks = refl;
       register_count = refl;
       register_from = λ r lt. absurd (omega (arith, lt));
       memory_count = refl;
