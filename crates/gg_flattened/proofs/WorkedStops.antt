@@ -28,9 +28,10 @@
 --     26      reg r : UInt<1>, d
 --     27      y <= r
 --     28      stop(d, r, 4)
-use Rattle.std.proofs.Common.{◌≡◌, ◌≢◌, ℕ, List, [], ◌∷◌, map, None, Some, codes, refl, ap}
+use Rattle.std.proofs.Common.{◌≡◌, ◌≢◌, ℕ, List, [], ◌∷◌, Option, map, None, Some, codes, refl, sym, ap, ◌∙◌, arith}
+use Rattle.std.proofs.lemmas.Option.{same_Some}
 use Rattle.std.specs.Prelude.{slice_index_or}
-use Rattle.std.specs.Fmt.{digits, decimal_digit}
+use Rattle.std.specs.Fmt.{digits}
 use Rattle.gg_bits.specs.Shape.{uint}
 use Rattle.gg_ast.specs.declared.expression.Reference.TheVariants.{Local, PortOf}
 use Rattle.gg_ast.specs.declared.module.Direction.TheVariants as direction
@@ -107,17 +108,19 @@ all = flat_signals known circuit.modules (sites_of circuit)
 
 -- stops are numbered in their module, and come behind its other signals and before those of its instances
 paths : map (λ (x : FlatSignal). x.path) all ≡ codes "x" ∷ codes "y" ∷ codes "r" ∷ codes "stop:0" ∷ codes "stop:1" ∷ codes "mid.x" ∷ codes "mid.stop:0" ∷ codes "mid.low.x" ∷ codes "mid.low.stop:0" ∷ []
-unfolding digits decimal_digit
+unfolding digits
 paths = refl
 
 stops : stop_paths circuit.modules (sites_of circuit) ≡ codes "stop:0" ∷ codes "stop:1" ∷ codes "mid.stop:0" ∷ codes "mid.low.stop:0" ∷ []
-unfolding digits decimal_digit
+unfolding digits
 stops = refl
+
+differ : codes "mid.stop:0" ≢ codes "mid.stop:2"
+differ e = let last : ◌≡◌ {A = ℕ} 48 50 = ap (λ (l : List ℕ). slice_index_or l 9 0) e in omega arith
 
 -- they aren't numbered over the whole circuit
 near-over-all : stop_paths circuit.modules (sites_of circuit) ≢ codes "stop:0" ∷ codes "stop:1" ∷ codes "mid.stop:2" ∷ codes "mid.low.stop:3" ∷ []
-unfolding digits decimal_digit
-near-over-all e = let same : codes "mid.stop:0" ≡ codes "mid.stop:2" = ap (λ l. slice_index_or l 2 []) e in cc
+near-over-all e = differ (ap (λ (l : List (List ℕ)). slice_index_or l 2 []) (sym stops ∙ e))
 
 -- a stop's signal is its condition, and a register follows the clock of the circuit that its Clock input leads to
 drives : map (λ (x : FlatSignal). x.drive) all
@@ -131,7 +134,7 @@ drives : map (λ (x : FlatSignal). x.drive) all
     ∷ Gets (record { path = codes "mid"; number = 1 }) (Some (ConnectedTo (of (codes "x"))))
     ∷ Gets (record { path = codes "mid.low"; number = 0 }) (Some (ConnectedTo (of (codes "x"))))
     ∷ []
-unfolding digits decimal_digit
+unfolding digits
 drives = refl
 
 -- ---- clocks
@@ -146,4 +149,4 @@ led = refl
 
 -- the clock of `mid.low` isn't the top's of the same number
 near-own-number : slice_index_or (map (site_clocks circuit.modules) (sites_of circuit)) 2 [] ≢ Some 0 ∷ []
-near-own-number e = let never : Some 1 ≡ Some 0 = ap (λ l. slice_index_or l 0 None) e in cc
+near-own-number e = let never : ◌≡◌ {A = ℕ} 1 0 = same_Some 1 0 (ap (λ (l : List (Option ℕ)). slice_index_or l 0 None) e) in omega arith
