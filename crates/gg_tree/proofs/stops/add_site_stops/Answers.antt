@@ -1,4 +1,4 @@
-use Rattle.std.proofs.Common.{ℕ, ◌+◌, List, ◌++◌, ◌∷◌, [], map, take, subst, sym, ap, arith}
+use Rattle.std.proofs.Common.{◌+◌, List, ◌++◌, ◌∷◌, [], map, take, subst, sym, ap, arith}
 use Rattle.std.specs.Prelude.{Contains}
 use Rattle.std.proofs.lemmas.List.Elements.{All-contains}
 use Rattle.gg_flat.specs.declared.tree.StopInstance.{StopInstance}

@@ -3,7 +3,7 @@ use Rattle.gg_ast.specs.Places.{place_of}
 use Rattle.gg_ast.specs.Tree.{module_names}
 use Rattle.gg_flat.specs.Tree.{InstanceTree}
 use Rattle.gg_types.specs.Clocks.{clock_inputs}
-use Rattle.gg_count.specs.Sites.{Site, sites_of}
+use Rattle.gg_count.specs.Sites.{Site}
 use Rattle.gg_flattened.specs.Flat.{flat_memories, flat_signals}
 use Rattle.gg_flattened.specs.IsFlat.{memory_paths}
 use Rattle.gg_flattened.specs.Known.{types_of}
