@@ -9,7 +9,7 @@ ghost use Rattle.gg_flat.specs.Order.{IsOrder};
 ghost use Rattle.gg_flat.specs.WellFormed.{IsWellFormed};
 ghost use Rattle.gg_refsim.specs.Cycle.{Cycle, begun};
 
-use gg_clocks::Ratio;
+use gg_clocks::{Ratio, Timing};
 use gg_flat::{Piece, State};
 use gg_order::Design;
 use std::alloc::{AllocError, Global};
@@ -47,14 +47,11 @@ impl Error for NoMemory {}
 #[derive(Drop)]
 pub struct Mono<'a> {
     design: &'a Design,
-    ratios: Vec<Ratio>,
-    // The cycles that were made.
-    count: u64,
+    // The ratios of the clocks. Its tick is the number of cycles that were made.
+    timing: Timing,
     state: State,
     signals: Vec<u128>,
     scratch: Vec<u128>,
-    // The edges of a cycle, for each clock with a ratio.
-    edges: Vec<bool>,
 }
 
 impl<'a> Model for Mono<'a> {
@@ -64,9 +61,9 @@ impl<'a> Model for Mono<'a> {
 
     ghost Value = { Simulation };
 
-    ghost view = { λ mono. record { circuit = mono.design.now.circuit; ratios = mono.ratios.items; cycle = mono.count; state = mono.state } };
+    ghost view = { λ mono. record { circuit = mono.design.now.circuit; ratios = mono.timing.ratios; cycle = mono.timing.tick; state = mono.state } };
 
-    ghost invariant = { λ mono. IsKept mono.design.now mono.state mono.signals.items (length mono.scratch.items) (length mono.ratios.items) (length mono.edges.items) };
+    ghost invariant = { λ mono. IsKept mono.design.now mono.state mono.signals.items (length mono.scratch.items) };
 }
 
 impl<'a> Mono<'a> {
@@ -98,16 +95,13 @@ impl<'a> Mono<'a> {
         let state = State::new(alloc, piece)?;
         let signals = piece.zeros(alloc)?;
         let scratch = piece.scratch(alloc)?;
-        let ratios = ratios_copied(alloc, ratios)?;
-        let edges = edges_with(alloc, ratios.as_slice())?;
+        let timing = Timing::new(alloc, ratios, 0)?;
         Ok(Mono {
             design,
-            ratios,
-            count: 0,
+            timing,
             state,
             signals,
             scratch,
-            edges,
         })
     }
 
@@ -146,10 +140,10 @@ impl<'a> Mono<'a> {
             &mut self.scratch,
         );
         read_outs(piece.outs(), &self.signals, outs);
-        read_edges(&self.ratios, self.count, &mut self.edges);
+        let edges = self.timing.edges();
         self.state
-            .advance(piece, &self.edges, &self.signals, &mut self.scratch);
-        self.count += 1;
+            .advance(piece, edges, &self.signals, &mut self.scratch);
+        self.timing.advance();
     }
 }
 
@@ -161,39 +155,5 @@ fn read_outs(places: &[u32], signals: &[u128], outs: &mut [u128])
 {
     for k in 0..places.len() {
         outs[k] = signals[places[k] as usize];
-    }
-}
-
-// A copy of ratios.
-fn ratios_copied(alloc: Global, ratios: &[Ratio]) -> Result<Vec<Ratio>, AllocError>
-    ensures { IfOk result (λ copies. copies.items ≡ ratios.now) }
-{
-    let mut copies = Vec::new(alloc);
-    for ratio in ratios {
-        copies.push(*ratio)?;
-    }
-    Ok(copies)
-}
-
-// Room for an edge of each of these clocks.
-fn edges_with(alloc: Global, ratios: &[Ratio]) -> Result<Vec<bool>, AllocError>
-    ensures { IfOk result (λ edges. length edges.items ≡ length ratios.now) }
-{
-    let mut edges = Vec::new(alloc);
-    for ratio in ratios {
-        let _ = ratio;
-        edges.push(false)?;
-    }
-    Ok(edges)
-}
-
-// Puts the edges of these clocks at tick `b`, which is at most 1,000,000, into `edges`.
-fn read_edges(ratios: &[Ratio], b: u64, edges: &mut [bool])
-    requires few { b ≤ cycle_limit }
-    requires count { length edges.old ≡ length ratios.now }
-    ensures { edges.new ≡ edges_at ratios.now b }
-{
-    for k in 0..ratios.len() {
-        edges[k] = ratios[k].edge(b);
     }
 }

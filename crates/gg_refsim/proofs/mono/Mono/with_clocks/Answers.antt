@@ -1,5 +1,4 @@
-use Rattle.std.proofs.Common.{List, length, ap, ◌∙◌, subst}
-use Rattle.gg_flat.specs.Clock.{Ratio}
+use Rattle.std.proofs.Common.{length, subst}
 use Rattle.gg_flat.specs.Circuit.{FlatCircuit, signal_shapes}
 use Rattle.gg_flat.specs.Line.{AreTyped}
 use Rattle.gg_flat.specs.State.{IsState}
@@ -11,5 +10,4 @@ invariant_of-result c = record {
   state_typed = subst (λ (k : FlatCircuit). IsState k c.in_ok-state.state) c.piece-piece.ensures.circuit c.in_ok-state.ensures.typed;
   signals_typed = subst (λ (k : FlatCircuit). AreTyped (signal_shapes k) c.in_ok-signals.signals.items) c.piece-piece.ensures.circuit c.in_ok-signals.ensures.typed;
   room = subst (λ (k : FlatCircuit). HasRoom k (length c.in_ok-scratch.scratch.items)) c.piece-piece.ensures.circuit c.in_ok-scratch.ensures;
-  even = c.in_ok-edges.ensures ∙ ap (λ (l : List Ratio). length l) c.as_slice.ensures.value;
 }
