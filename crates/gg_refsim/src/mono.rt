@@ -67,17 +67,6 @@ impl<'a> Model for Mono<'a> {
 }
 
 impl<'a> Mono<'a> {
-    /// The simulator of a design each of whose clocks has an edge in every cycle, in the state before the first cycle.
-    ///
-    /// # Errors
-    ///
-    /// Returns `NoMemory` if an allocation fails.
-    pub fn new(alloc: Global, design: &'a Design) -> Result<Mono<'a>, NoMemory>
-        ensures { IfOk result (λ mono. mono ≡ begun design.now.circuit []) }
-    {
-        Mono::with_clocks(alloc, design, &[])
-    }
-
     /// The simulator of a design whose clocks have these ratios, in the order in which the circuit lists them, in the
     /// state before the first cycle. A clock past the end of the list has an edge in every cycle.
     ///
