@@ -1,5 +1,5 @@
 -- What is counted along the graph of modules is what is counted over the sites.
-use Rattle.std.proofs.Common.{◌≡◌, ℕ, zero, suc, ◌+◌, ◌-◌, ◌<◌, ◌≤◌, ◌^◌, min, max, List, [], ◌∷◌, length, get_or, drop, map, Option, Some, None, refl, sym, ap, ◌∙◌, subst, arith, true, false, true≢false, Bool, if◌then◌else◌, ◌||◌, inl, inr, ◌⊎◌, eq-eqb, replicate}
+use Rattle.std.proofs.Common.{◌≡◌, ◌≢◌, ℕ, zero, suc, ◌+◌, ◌-◌, ◌<◌, ◌≤◌, ◌^◌, min, max, List, [], ◌∷◌, length, get_or, drop, map, Option, Some, None, refl, sym, ap, ◌∙◌, subst, arith, true, false, true≢false, Bool, if◌then◌else◌, ◌||◌, inl, inr, ◌⊎◌, eq-eqb, replicate}
 use Rattle.std.specs.Prelude.{fold, sum_by, Contains, nat_eq, nat_lt, is_some, option_map}
 use Rattle.std.specs.List.{flat_map, cons_option}
 use Rattle.std.proofs.lemmas.List.{length-map, length-drop, get_or-map, get_or-replicate}
