@@ -22,16 +22,21 @@ outputs-append front back =
     ∙ map-append (λ (port : InstancePort). port.signal) (filter (λ (port : InstancePort). not port.is_input) front) (filter (λ (port : InstancePort). not port.is_input) back)
 
 -- one more port
-pub outputs-more : (ports : List InstancePort) (k : ℕ) (port : InstancePort) → k < length ports → port ≡ get_or ports k port → (before after : List ℕ) → before ≡ output_signals (take k ports)
-    → after ≡ before ++ output_signals (port ∷ []) → after ≡ output_signals (take (k + 1) ports)
-outputs-more ports k port lt is before after was more =
+pub outputs-more : (ports : List InstancePort) (k : ℕ) (d : InstancePort) → k < length ports → (before after : List ℕ) → before ≡ output_signals (take k ports)
+    → after ≡ before ++ output_signals (get_or ports k d ∷ []) → after ≡ output_signals (take (k + 1) ports)
+outputs-more ports k d lt before after was more =
     more
-    ∙ ap (λ l. l ++ output_signals (port ∷ [])) was
-    ∙ sym (outputs-append (take k ports) (port ∷ []))
-    ∙ ap (λ (p : InstancePort). output_signals (take k ports ++ p ∷ [])) is
-    ∙ sym (ap output_signals (take_more ports k port lt))
+    ∙ ap (λ l. l ++ output_signals (get_or ports k d ∷ [])) was
+    ∙ sym (outputs-append (take k ports) (get_or ports k d ∷ []))
+    ∙ sym (ap output_signals (take_more ports k d lt))
 
 -- ---- the top's outputs are the first out-signals
+
+-- the ports that were made are those of the top's outputs
+pub output-ports-are : {circuit piece : FlatCircuit} {tree seen : InstanceTree} {signals : List ℕ} {ports : List Port} → piece ≡ circuit → seen ≡ tree → signals ≡ outputs_of seen
+    → ports ≡ ports_at piece signals → ports ≡ output_ports circuit tree
+output-ports-are {circuit = circuit} {signals = signals} c t s p =
+    p ∙ ap (λ (f : FlatCircuit). ports_at f signals) c ∙ ap (ports_at circuit) (s ∙ ap outputs_of t)
 
 module _ (circuit : FlatCircuit) (tree : InstanceTree) (stops : List ℕ) (outs : outputs_of tree ++ stops ≡ circuit.outs) (formed : IsWellFormed circuit) where
   few : length (outputs_of tree) ≤ length circuit.outs
