@@ -28,7 +28,7 @@ use Rattle.gg_closed.proofs.ListLemmas.{Somewhere}
 use Rattle.gg_closed.proofs.PlaceLemmas.{place-none, place-is}
 use Rattle.gg_closed.proofs.KindLemmas.{outside_memory, source-wire, memory-wire, data-wire, addr-wire, en-wire, word-field}
 use Rattle.gg_closed.proofs.NameLemmas.{port-no-field, field-one}
-use Rattle.gg_closed.proofs.OnceLemmas.{channel-one}
+use Rattle.gg_closed.proofs.OnceLemmas.{channel-one, stop-field}
 use Rattle.gg_closed.proofs.MakerLemmas.{Gets, HasWire, IsOwned, find-unit, chosen-out, given-out, no-channel, gives, takes, owned, visible}
 use Rattle.gg_closed.proofs.WrittenLemmas.{IsWord, IsWrittenIn, made}
 
@@ -137,6 +137,7 @@ module _ (circuit : FlatCircuit) (tree : InstanceTree) (listed : Listed) (formed
   unlisted-owned j s lt none field =
       owned circuit tree listed fits scoped apart (memory_at tree j).instance s (scoped.fields j s lt field).own
       (λ i d inside other. none i d inside (field-one circuit tree fits scoped j (get_or listed.memories i d) s lt (apart.memories i d inside) field other))
+      (λ stop. stop-field circuit tree listed fits scoped apart j s lt stop field)
       (λ port. absurd (port-no-field circuit tree fits scoped (memory_at tree j).instance j s lt port field))
 
   -- a machine makes or takes the fields of its memories

@@ -4,12 +4,12 @@ use Rattle.std.specs.Prelude.{◌||◌, ◌==◌, if◌then◌else◌, filter, C
 use Rattle.std.specs.List.{range_with_len, list_any}
 use Rattle.std.proofs.lemmas.Bool.{cases_eq}
 use Rattle.std.proofs.lemmas.List.{get_or_default}
-use Rattle.std.proofs.lemmas.List.Elements.{Contains-get_or}
+use Rattle.std.proofs.lemmas.List.Elements.{Contains-append_left, Contains-append_right, Contains-get_or}
 use Rattle.gg_flat.specs.declared.tree.InstancePort.{InstancePort}
 use Rattle.gg_flat.specs.Line.{value_at}
 use Rattle.gg_flat.specs.Circuit.{FlatCircuit, readers_at}
 use Rattle.gg_flat.specs.Tree.{InstanceTree, IsTree, IsInnermost, instance_at, memory_at, parent_place}
-use Rattle.gg_flat.specs.Scoped.{IsScoped, IsPort, IsFieldOf, IsVisible, memory_fields}
+use Rattle.gg_flat.specs.Scoped.{IsScoped, IsPort, IsFieldOf, IsVisible, memory_fields, output_signals, stop_signals}
 use Rattle.gg_flat.proofs.ListLemmas.{in-range, range-below, Contains-map, Contains-filter, filter-cases}
 use Rattle.gg_cut.specs.declared.wires.Wire.{Wire}
 use Rattle.gg_cut.specs.declared.listed.Listed.{Listed}
@@ -24,7 +24,8 @@ use Rattle.gg_closed.proofs.TreeLemmas.{innermost-one, innermost-known}
 use Rattle.gg_closed.proofs.PlaceLemmas.{IsNoUnit, place-none, owner-unit, owner-inner, owner-top, place-signal}
 use Rattle.gg_closed.proofs.KindLemmas.{IsPortWire, IsFieldWire, IsInto, IsWordWire, Kind, OfSource, OfPort, OfField, OfTray, outside_unit, outside_memory, kind-of, source-wire, unit-wire, memory-wire, tray-wire, word-field}
 use Rattle.gg_closed.proofs.NameLemmas.{port-no-field}
-use Rattle.gg_closed.proofs.OnceLemmas.{top-input, top-output, top-port}
+use Rattle.gg_cut.proofs.WireLemmas.{unit-below}
+use Rattle.gg_closed.proofs.OnceLemmas.{IsStopSignal, out-cases, stop-field, stop-in, stop-port, top-input, top-port}
 
 -- ---- channels by number and by what they are
 
@@ -203,8 +204,8 @@ module _ (circuit : FlatCircuit) (tree : InstanceTree) (listed : Listed) (fits :
       ap (memory_or (length listed.units) (unit_or_hub (first_place (has_signal tree s) listed.units))) (no-field-place circuit tree listed s none)
       ∙ place-signal circuit tree listed fits apart k s inner
 
-  pub owned : (k s : ℕ) → IsInnermost tree k s → IsNoField circuit tree listed s → (IsPort tree k s → IsNoUnit circuit tree listed fits apart k × (0 < k)) → IsOwned s k
-  owned k s inner none lower = record { inner = λ c lt e. at (wire_at wires c) (wire-among wires c lt) e; owner = owner-signal k s inner none }
+  pub owned : (k s : ℕ) → IsInnermost tree k s → IsNoField circuit tree listed s → (IsStopSignal tree s → ⊥) → (IsPort tree k s → IsNoUnit circuit tree listed fits apart k × (0 < k)) → IsOwned s k
+  owned k s inner none no-stop lower = record { inner = λ c lt e. at (wire_at wires c) (wire-among wires c lt) e; owner = owner-signal k s inner none }
     where
       port-at : (j : ℕ) → IsPort tree j s → (IsPort tree k s) × (k ≡ j)
       port-at j port = let same = innermost-one circuit tree fits k j s inner (scoped.ports j s port).own in (subst (λ i. IsPort tree i s) (sym same) port, same)
@@ -220,8 +221,10 @@ module _ (circuit : FlatCircuit) (tree : InstanceTree) (listed : Listed) (fits :
               top (top-port circuit tree listed fits scoped apart s (λ port. port.is_input)
               (top-input circuit tree listed fits scoped apart s (f.place, f.known, get_or_default circuit.ins f.place s 0 f.known ∙ ap (λ (v : Wire). v.signal) (sym f.is) ∙ e)))
           by (OfTray f) =
-              top (top-port circuit tree listed fits scoped apart s (λ port. not port.is_input)
-              (top-output circuit tree listed fits scoped apart s (f.place, f.known, get_or_default circuit.outs f.place s 0 f.known ∙ ap (λ (v : Wire). v.signal) (sym f.is) ∙ e)))
+              elim (out-cases circuit tree listed fits scoped apart s (f.place, f.known, get_or_default circuit.outs f.place s 0 f.known ∙ ap (λ (v : Wire). v.signal) (sym f.is) ∙ e)) [
+                | inl out ↦ top (top-port circuit tree listed fits scoped apart s (λ port. not port.is_input) out)
+                | inr stop ↦ no-stop stop
+              ]
           by (OfPort p) =
               let port = port-at (value_at listed.units p.unit) (subst (IsPort tree (value_at listed.units p.unit)) e (port-of w p)) in
               absurd ((lower port.0).0 p.unit 0 p.known port.1)
@@ -238,10 +241,22 @@ module _ (circuit : FlatCircuit) (tree : InstanceTree) (listed : Listed) (fits :
   pub top-owner : (s : ℕ) → IsPort tree 0 s → owner_of circuit tree listed s ≡ 0
   top-owner s port = port-owner 0 s port ∙ owner-top circuit tree listed fits apart
 
-  pub output-owner : (i : ℕ) → i < length circuit.outs → owner_of circuit tree listed (value_at circuit.outs i) ≡ 0
-  output-owner i lt =
-      top-owner (value_at circuit.outs i) (top-port circuit tree listed fits scoped apart (value_at circuit.outs i) (λ port. not port.is_input)
-      (top-output circuit tree listed fits scoped apart (value_at circuit.outs i) (Contains-get_or circuit.outs i 0 lt)))
+  -- an out-signal is no field of a listed memory
+  pub out-plain : (s : ℕ) → Contains circuit.outs s → IsNoField circuit tree listed s
+  out-plain s h =
+      elim (out-cases circuit tree listed fits scoped apart s h) [
+        | inl out ↦ port-plain 0 s (top-port circuit tree listed fits scoped apart s (λ port. not port.is_input) out)
+        | inr stop ↦ (λ i d lt field. stop-field circuit tree listed fits scoped apart (get_or listed.memories i d) s (apart.memories i d lt) stop field)
+      ]
+
+  -- so it belongs to the hub or to a unit
+  pub out-owner : (i : ℕ) → i < length circuit.outs → owner_of circuit tree listed (value_at circuit.outs i) < first_memory listed
+  out-owner i lt =
+      let s = value_at circuit.outs i in
+      let is : owner_of circuit tree listed s ≡ unit_or_hub (first_place (has_signal tree s) listed.units) =
+      ap (memory_or (length listed.units) (unit_or_hub (first_place (has_signal tree s) listed.units))) (no-field-place circuit tree listed s (out-plain s (Contains-get_or circuit.outs i 0 lt))) in
+      let low = unit-below (has_signal tree s) listed.units in
+      omega (arith, is, low)
 
   -- ---- what is visible
 
@@ -260,6 +275,13 @@ module _ (circuit : FlatCircuit) (tree : InstanceTree) (listed : Listed) (fits :
           inr (subst (λ t. Contains wires (wire t (suc i) (outside_unit tree listed i))) h.is
           (subst (λ b. Contains wires (if b then wire h.port.signal (outside_unit tree listed i) (suc i) else wire h.port.signal (suc i) (outside_unit tree listed i))) e w))
 
+  -- the owner of an out-signal gives it to a tray
+  out-gets : (s : ℕ) → Contains circuit.outs s → Gets (owner_of circuit tree listed s) s
+  out-gets s c =
+      let is : value_at circuit.outs c.0 ≡ s = get_or_default circuit.outs c.0 0 s c.1 ∙ c.2 in
+      inl (subst (λ t. Makes circuit tree listed (wires_of circuit tree listed) (owner_of circuit tree listed t) t) is
+      (gives (value_at circuit.outs c.0) (owner_of circuit tree listed (value_at circuit.outs c.0)) (first_tray circuit listed + c.0) (tray-wire circuit tree listed c.0 c.1)))
+
   -- a top port has a channel from its source to the hub, or from the hub to its tray
   top-ends : (s : ℕ) → HasPort (instance_at tree 0).ports s → Gets 0 s
   top-ends s h = by h.port.is_input refl
@@ -270,14 +292,11 @@ module _ (circuit : FlatCircuit) (tree : InstanceTree) (listed : Listed) (fits :
         where
           at : Contains circuit.ins s → Gets 0 s
           at c = inr (subst (λ t. Takes (wires_of circuit tree listed) 0 t) (get_or_default circuit.ins c.0 0 s c.1 ∙ c.2) (takes (value_at circuit.ins c.0) (first_source listed + c.0) 0 (source-wire circuit tree listed c.0 c.1)))
-      by false e = at (subst (λ (l : List ℕ). Contains l s) scoped.outs (subst (λ t. Contains (map (λ (port : InstancePort). port.signal) (filter (λ port. not port.is_input) (instance_at tree 0).ports)) t) h.is
-          (Contains-map (λ (port : InstancePort). port.signal) (filter (λ port. not port.is_input) (instance_at tree 0).ports) h.port (Contains-filter (λ port. not port.is_input) (instance_at tree 0).ports h.port h.among (ap not e)))))
+      by false e = at (subst (λ (l : List ℕ). Contains l s) scoped.outs (Contains-append_left (output_signals (instance_at tree 0).ports) (stop_signals tree) s (subst (λ t. Contains (map (λ (port : InstancePort). port.signal) (filter (λ port. not port.is_input) (instance_at tree 0).ports)) t) h.is
+          (Contains-map (λ (port : InstancePort). port.signal) (filter (λ port. not port.is_input) (instance_at tree 0).ports) h.port (Contains-filter (λ port. not port.is_input) (instance_at tree 0).ports h.port h.among (ap not e))))))
         where
           at : Contains circuit.outs s → Gets 0 s
-          at c =
-              inl (subst (λ t. Makes circuit tree listed (wires_of circuit tree listed) 0 t) (get_or_default circuit.outs c.0 0 s c.1 ∙ c.2)
-              (subst (λ m. Makes circuit tree listed (wires_of circuit tree listed) m (value_at circuit.outs c.0)) (output-owner c.0 c.1)
-              (gives (value_at circuit.outs c.0) (owner_of circuit tree listed (value_at circuit.outs c.0)) (first_tray circuit listed + c.0) (tray-wire circuit tree listed c.0 c.1))))
+          at c = subst (λ m. Gets m s) (top-owner s (record { known = fits.top.there; port = h.port; listed = h.among; is = h.is })) (out-gets s c)
 
   owned-gets : (k s : ℕ) → IsInnermost tree k s → IsOwned s k → Gets (owner_of_instance tree listed.units k) s
   owned-gets k s inner o = inl (inl (innermost-known circuit tree fits k s inner, o.owner, o.inner))
@@ -299,7 +318,7 @@ module _ (circuit : FlatCircuit) (tree : InstanceTree) (listed : Listed) (fits :
           (unit at.place at.within (unit-ends at.place s at.within (subst (λ j. HasPort (instance_at tree j).ports s) same h)))
       by (inr none) (inl zeroth) =
           subst (λ m. Gets m s) (sym (ap (λ j. owner_of_instance tree listed.units j) zeroth ∙ owner-top circuit tree listed fits apart)) (top-ends s (subst (λ j. HasPort (instance_at tree j).ports s) zeroth h))
-      by (inr none) (inr ne) = owned-gets k s inner (owned k s inner (port-plain k s port) (λ p. (none, positive k ne)))
+      by (inr none) (inr ne) = owned-gets k s inner (owned k s inner (port-plain k s port) (λ stop. stop-port circuit tree listed fits scoped apart k s stop port) (λ p. (none, positive k ne)))
         where
           positive : (n : ℕ) → (n ≡ 0 → ⊥) → 0 < n
           positive zero f = absurd (f refl)
@@ -325,7 +344,15 @@ module _ (circuit : FlatCircuit) (tree : InstanceTree) (listed : Listed) (fits :
       by : HasPort (instance_at tree k).ports s ⊎ (HasPort (instance_at tree k).ports s → ⊥) → Somewhere (λ j. IsFieldOf circuit tree j s) listed.memories ⊎ All (λ j. IsFieldOf circuit tree j s → ⊥) listed.memories → Gets (owner_of_instance tree listed.units k) s
       by (inl h) q = own-port k s inner h
       by (inr no-port) (inl at) = own-field k s inner at
-      by (inr no-port) (inr none) = owned-gets k s inner (owned k s inner none (λ p. absurd (no-port (record { port = p.port; among = p.listed; is = p.is }))))
+      by (inr no-port) (inr none) =
+          elim (find-number (stop_signals tree) s) [
+            | inl stop ↦
+                subst (λ m. Gets m s) (owner-signal k s inner none)
+                (out-gets s (subst (λ (l : List ℕ). Contains l s) scoped.outs (Contains-append_right (output_signals (instance_at tree 0).ports) (stop_signals tree) s stop)))
+            | inr no-stop ↦
+                owned-gets k s inner
+                (owned k s inner none (λ stop. no-stop (stop-in tree s stop)) (λ p. absurd (no-port (record { port = p.port; among = p.listed; is = p.is }))))
+          ]
 
   -- the machine of an instance makes or takes the ports of the instances that this one holds
   pub child-port : (k c s : ℕ) → (instance_at tree c).parent ≡ Some k → IsPort tree c s → Gets (owner_of_instance tree listed.units k) s
@@ -350,7 +377,7 @@ module _ (circuit : FlatCircuit) (tree : InstanceTree) (listed : Listed) (fits :
       by (inr none) =
           let inner = (scoped.ports c s port).own in
           subst (λ m. Gets m s) (owner-inner circuit tree listed fits apart c k port.known parent none)
-          (owned-gets c s inner (owned c s inner (port-plain c s port) (λ p. (none, lower c parent))))
+          (owned-gets c s inner (owned c s inner (port-plain c s port) (λ stop. stop-port circuit tree listed fits scoped apart c s stop port) (λ p. (none, lower c parent))))
 
   -- the machine of an instance makes or takes what is visible in the instance
   pub visible : (k t : ℕ) → IsVisible tree k t → Gets (owner_of_instance tree listed.units k) t

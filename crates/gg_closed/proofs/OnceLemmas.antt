@@ -1,5 +1,5 @@
 -- Each signal has at most one channel.
-use Rattle.std.proofs.Common.{◌≡◌, ◌≢◌, ℕ, ◌<◌, ◌≤◌, List, ◌++◌, length, map, get_or, Bool, true, false, not, sym, ◌∙◌, ap, subst, inl, inr, ◌⊎◌, arith}
+use Rattle.std.proofs.Common.{◌≡◌, ◌≢◌, ℕ, ◌<◌, ◌≤◌, List, ◌++◌, length, map, get_or, Bool, true, false, not, sym, ◌∙◌, ap, subst, inl, inr, ◌⊎◌, None, arith}
 use Rattle.std.specs.Prelude.{filter, Contains, AllPairs}
 use Rattle.std.proofs.lemmas.Bool.{cases_lt, both_ways}
 use Rattle.std.proofs.lemmas.List.{get_or-map, length-map, get_or_default}
@@ -8,8 +8,9 @@ use Rattle.std.proofs.lemmas.List.Kept.{AllPairs-filter}
 use Rattle.gg_flat.specs.declared.tree.InstancePort.{InstancePort}
 use Rattle.gg_flat.specs.Line.{value_at}
 use Rattle.gg_flat.specs.Circuit.{FlatCircuit}
-use Rattle.gg_flat.specs.Tree.{InstanceTree, IsTree, instance_at, memory_at}
-use Rattle.gg_flat.specs.Scoped.{IsScoped, IsPort, IsFieldOf, memory_fields}
+use Rattle.gg_flat.specs.Tree.{InstanceTree, IsTree, instance_at, memory_at, stop_at}
+use Rattle.gg_flat.specs.declared.tree.StopInstance.{StopInstance}
+use Rattle.gg_flat.specs.Scoped.{IsScoped, IsPort, IsFieldOf, memory_fields, output_signals, stop_signals}
 use Rattle.gg_flat.proofs.ListLemmas.{filter-cases, once-apart}
 use Rattle.gg_cut.specs.declared.wires.Wire.{Wire}
 use Rattle.gg_cut.specs.declared.listed.Listed.{Listed}
@@ -39,12 +40,44 @@ chosen ports test s h =
     let kept = filter-cases test ports (get_or (filter test ports) at.place some-port) (Contains-get_or (filter test ports) at.place some-port at.within) in
     record { port = get_or (filter test ports) at.place some-port; among = kept.among; passes = kept.passes; is = at.holds some-port }
 
+not-both : (b : Bool) → b ≡ true → not b ≡ true → ⊥
+not-both true e f = absurd (cc)
+not-both false e f = absurd (cc)
+
+-- signal s is that of a stop
+pub record IsStopSignal (tree : InstanceTree) (s : ℕ) : Type 0 where
+  pub place : ℕ
+  pub known : place < length tree.stops
+  pub is : (stop_at tree place).signal ≡ s
+
+pub stop-among : (tree : InstanceTree) (s : ℕ) → Contains (stop_signals tree) s → IsStopSignal tree s
+stop-among tree s h =
+    let at = map-cases (λ (stop : StopInstance). stop.signal) tree.stops s h in
+    record { place = at.place; known = at.within; is = at.holds (record { instance = 0; signal = 0; clock = None }) }
+
+pub stop-in : (tree : InstanceTree) (s : ℕ) → IsStopSignal tree s → Contains (stop_signals tree) s
+stop-in tree s stop =
+    let inside : stop.place < length (stop_signals tree) = omega (arith, stop.known, length-map tree.stops (λ (stop : StopInstance). stop.signal)) in
+    (stop.place, inside, get_or-map (λ (stop : StopInstance). stop.signal) tree.stops stop.place (record { instance = 0; signal = 0; clock = None }) s stop.known ∙ stop.is)
+
 module _ (circuit : FlatCircuit) (tree : InstanceTree) (listed : Listed) (fits : IsTree circuit tree) (scoped : IsScoped circuit tree) (apart : AreApart tree listed) where
   pub top-input : (s : ℕ) → Contains circuit.ins s → IsChosen (instance_at tree 0).ports (λ port. port.is_input) s
   top-input s h = chosen (instance_at tree 0).ports (λ port. port.is_input) s (subst (λ (l : List ℕ). Contains l s) (sym scoped.ins) h)
 
-  pub top-output : (s : ℕ) → Contains circuit.outs s → IsChosen (instance_at tree 0).ports (λ port. not port.is_input) s
-  top-output s h = chosen (instance_at tree 0).ports (λ port. not port.is_input) s (subst (λ (l : List ℕ). Contains l s) (sym scoped.outs) h)
+  -- an out-signal is an output of the top, or that of a stop
+  pub out-cases : (s : ℕ) → Contains circuit.outs s → IsChosen (instance_at tree 0).ports (λ port. not port.is_input) s ⊎ IsStopSignal tree s
+  out-cases s h =
+      elim (Contains-append_cases (output_signals (instance_at tree 0).ports) (stop_signals tree) s (subst (λ (l : List ℕ). Contains l s) (sym scoped.outs) h)) [
+        | inl output ↦ inl (chosen (instance_at tree 0).ports (λ port. not port.is_input) s output)
+        | inr stop ↦ inr (stop-among tree s stop)
+      ]
+
+  -- a stop's signal is no port, and no field of a memory
+  pub stop-port : (k s : ℕ) → IsStopSignal tree s → IsPort tree k s → ⊥
+  stop-port k s stop port = (scoped.stops stop.place stop.known).no_port k (subst (λ t. IsPort tree k t) (sym stop.is) port)
+
+  pub stop-field : (j s : ℕ) → j < length tree.memories → IsStopSignal tree s → IsFieldOf circuit tree j s → ⊥
+  stop-field j s lt stop field = (scoped.stops stop.place stop.known).no_field j lt (subst (λ t. IsFieldOf circuit tree j t) (sym stop.is) field)
 
   pub top-port : (s : ℕ) (test : InstancePort → Bool) → IsChosen (instance_at tree 0).ports test s → IsPort tree 0 s
   top-port s test c = record { known = fits.top.there; port = c.port; listed = c.among; is = c.is }
@@ -145,11 +178,18 @@ module _ (circuit : FlatCircuit) (tree : InstanceTree) (listed : Listed) (fits :
       let at = memory-of s h in
       port-no-field circuit tree fits scoped k (value_at listed.memories at.place) s (apart.memories at.place 0 at.within) port (at.holds 0)
 
+  -- the out-signals are distinct
+  outs-once : AllPairs (λ a b. a ≢ b) circuit.outs
+  outs-once =
+      subst (AllPairs (λ a b. a ≢ b)) scoped.outs
+      (AllPairs-append (λ a b. a ≢ b) (output_signals (instance_at tree 0).ports) (stop_signals tree) (tops-once (λ port. not port.is_input)) scoped.stops_once
+      (λ a b x y same. stop-port 0 a (subst (IsStopSignal tree) (sym same) (stop-among tree b y)) (top-port a (λ port. not port.is_input) (chosen (instance_at tree 0).ports (λ port. not port.is_input) a x))))
+
   pub signals-once : AllPairs (λ a b. a ≢ b) (channel_signals circuit tree listed)
   signals-once =
       AllPairs-append (λ a b. a ≢ b) circuit.ins (units ++ (memories ++ circuit.outs)) (subst (AllPairs (λ a b. a ≢ b)) scoped.ins (tops-once (λ port. port.is_input)))
       (AllPairs-append (λ a b. a ≢ b) units (memories ++ circuit.outs) ports-once
-      (AllPairs-append (λ a b. a ≢ b) memories circuit.outs fields-once (subst (AllPairs (λ a b. a ≢ b)) scoped.outs (tops-once (λ port. not port.is_input)))
+      (AllPairs-append (λ a b. a ≢ b) memories circuit.outs fields-once outs-once
       (λ a b x y same. memory-tray a x (subst (λ s. Contains circuit.outs s) (sym same) y)))
       (λ a b x y same. unit-rest a x (subst (λ s. Contains (memories ++ circuit.outs) s) (sym same) y)))
       (λ a b x y same. source-rest a x (subst (λ s. Contains (units ++ (memories ++ circuit.outs)) s) (sym same) y))
@@ -160,32 +200,41 @@ module _ (circuit : FlatCircuit) (tree : InstanceTree) (listed : Listed) (fits :
       memories : List ℕ
       memories = flattened (λ j. memory_fields circuit (memory_at tree j).memory) listed.memories
 
-      output : (s : ℕ) → Contains circuit.outs s → IsPort tree 0 s
-      output s y = top-port s (λ port. not port.is_input) (top-output s y)
+      output : (s : ℕ) → IsChosen (instance_at tree 0).ports (λ port. not port.is_input) s → IsPort tree 0 s
+      output s y = top-port s (λ port. not port.is_input) y
 
       input : (s : ℕ) → Contains circuit.ins s → IsPort tree 0 s
       input s y = top-port s (λ port. port.is_input) (top-input s y)
 
       memory-tray : (s : ℕ) → Contains memories s → Contains circuit.outs s → ⊥
-      memory-tray s x y = no-field 0 s (output s y) x
+      memory-tray s x y =
+          elim (out-cases s y) [
+            | inl out ↦ no-field 0 s (output s out) x
+            | inr stop ↦ (let at = memory-of s x in stop-field (value_at listed.memories at.place) s (apart.memories at.place 0 at.within) stop (at.holds 0))
+          ]
 
       unit-rest : (s : ℕ) → Contains units s → Contains (memories ++ circuit.outs) s → ⊥
       unit-rest s x y = by (Contains-append_cases memories circuit.outs s y)
         where
           by : Contains memories s ⊎ Contains circuit.outs s → ⊥
           by (inl m) = let at = unit-of s x in no-field (value_at listed.units at.place) s (at.holds 0).1 m
-          by (inr o) = no-unit s (output s o) x
+          by (inr o) =
+              elim (out-cases s o) [
+                | inl out ↦ no-unit s (output s out) x
+                | inr stop ↦ (let at = unit-of s x in stop-port (value_at listed.units at.place) s stop (at.holds 0).1)
+              ]
 
       both : (s : ℕ) → Contains circuit.ins s → Contains circuit.outs s → ⊥
       both s x y =
-          let a = top-input s x in
-          let b = top-output s y in
-          let same = port-one 0 a.port b.port fits.top.there a.among b.among (a.is ∙ sym b.is) in
-          clash a.port.is_input a.passes (ap (λ (p : InstancePort). not p.is_input) same ∙ b.passes)
+          elim (out-cases s y) [
+            | inl out ↦ apart-ports (top-input s x) out
+            | inr stop ↦ stop-port 0 s stop (input s x)
+          ]
         where
-          clash : (b : Bool) → b ≡ true → not b ≡ true → ⊥
-          clash true e f = absurd (cc)
-          clash false e f = absurd (cc)
+          apart-ports : IsChosen (instance_at tree 0).ports (λ port. port.is_input) s → IsChosen (instance_at tree 0).ports (λ port. not port.is_input) s → ⊥
+          apart-ports a b =
+              let same = port-one 0 a.port b.port fits.top.there a.among b.among (a.is ∙ sym b.is) in
+              not-both a.port.is_input a.passes (ap (λ (p : InstancePort). not p.is_input) same ∙ b.passes)
 
       source-rest : (s : ℕ) → Contains circuit.ins s → Contains (units ++ (memories ++ circuit.outs)) s → ⊥
       source-rest s x y = by (Contains-append_cases units (memories ++ circuit.outs) s y)

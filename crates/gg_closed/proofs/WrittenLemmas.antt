@@ -6,7 +6,7 @@ use Rattle.std.proofs.lemmas.Bool.{not-true}
 use Rattle.gg_flat.specs.declared.tree.InstancePort.{InstancePort}
 use Rattle.gg_flat.specs.Line.{value_at}
 use Rattle.gg_flat.specs.Circuit.{FlatCircuit, readers_at, reader_at}
-use Rattle.gg_flat.specs.Tree.{InstanceTree, IsTree, IsInnermost, instance_at, memory_at, parent_place}
+use Rattle.gg_flat.specs.Tree.{InstanceTree, IsTree, IsInnermost, instance_at, memory_at, parent_place, stop_at}
 use Rattle.gg_flat.specs.Scoped.{IsScoped, IsInputOf, IsFieldOf, IsWritten, memory_fields}
 use Rattle.gg_flat.proofs.ListLemmas.{Contains-map, Contains-filter}
 use Rattle.gg_cut.specs.declared.wires.Wire.{Wire}
@@ -21,8 +21,8 @@ use Rattle.gg_closed.proofs.TreeLemmas.{Innermost, innermost}
 use Rattle.gg_closed.proofs.PlaceLemmas.{owner-unit, owner-inner, owner-top}
 use Rattle.gg_closed.proofs.KindLemmas.{IsPortWire, IsFieldWire, IsInto, IsWordWire, Kind, OfSource, OfPort, OfField, OfTray, outside_unit, outside_memory, kind-of, source-wire, unit-wire, memory-wire}
 use Rattle.gg_closed.proofs.NameLemmas.{port-no-field}
-use Rattle.gg_closed.proofs.OnceLemmas.{top-output, top-port, port-one}
-use Rattle.gg_closed.proofs.MakerLemmas.{HasPort, HasWire, find-port, find-unit, find-field-in, IsNoField, given-out, no-channel, owner-signal, output-owner}
+use Rattle.gg_closed.proofs.OnceLemmas.{out-cases, port-one, stop-port, top-port}
+use Rattle.gg_closed.proofs.MakerLemmas.{HasPort, HasWire, find-port, find-unit, find-field-in, IsNoField, given-out, no-channel, out-plain, owner-signal, top-owner}
 
 -- signal s is the data of a reader of a listed memory, whose machine is m
 pub record IsWord (circuit : FlatCircuit) (tree : InstanceTree) (listed : Listed) (m s : ℕ) : Type 0 where
@@ -208,15 +208,26 @@ module _ (circuit : FlatCircuit) (tree : InstanceTree) (listed : Listed) (fits :
             is = sym of ∙ ap (λ (v : Wire). v.signal) word.is;
           })
 
-  tray-written : (s i : ℕ) → i < length circuit.outs → value_at circuit.outs i ≡ s → IsWrittenIn tree listed 0 s
-  tray-written s i lt is =
-      let o = top-output circuit tree listed fits scoped apart s (i, lt, get_or_default circuit.outs i s 0 lt ∙ is) in
-      let port = top-port circuit tree listed fits scoped apart s (λ port. not port.is_input) o in
-      record {
-        place = 0;
-        written = inl (record { own = (scoped.ports 0 s port).own; inner = output-inner 0 s o.port fits.top.there o.among o.is (not-true o.port.is_input o.passes) });
-        owner = owner-top circuit tree listed fits apart;
-      }
+  out-written : (s : ℕ) → Contains circuit.outs s → IsWrittenIn tree listed (owner_of circuit tree listed s) s
+  out-written s has =
+      elim (out-cases circuit tree listed fits scoped apart s has) [
+        | inl out ↦ (let port = top-port circuit tree listed fits scoped apart s (λ port. not port.is_input) out in
+            record {
+              place = 0;
+              written = inl (record { own = (scoped.ports 0 s port).own; inner = output-inner 0 s out.port fits.top.there out.among out.is (not-true out.port.is_input out.passes) });
+              owner = owner-top circuit tree listed fits apart ∙ sym (top-owner circuit tree listed fits scoped apart s port);
+            })
+        | inr stop ↦ (let own : IsInnermost tree (stop_at tree stop.place).instance s = subst (IsInnermost tree (stop_at tree stop.place).instance) stop.is (scoped.stops stop.place stop.known).own in
+            record {
+              place = (stop_at tree stop.place).instance;
+              written = inl
+                  (record {
+                    own = own;
+                    inner = λ input. stop-port circuit tree listed fits scoped apart (stop_at tree stop.place).instance s stop (record { known = input.known; port = input.port; listed = input.listed; is = input.is });
+                  });
+              owner = sym (owner-signal circuit tree listed fits scoped apart (stop_at tree stop.place).instance s own (out-plain circuit tree listed fits scoped apart s has));
+            })
+      ]
 
   -- what a machine before the sources makes
   pub made : (m s : ℕ) → m < first_source listed → Makes circuit tree listed (wires_of circuit tree listed) m s → IsWrittenIn tree listed m s ⊎ IsWord circuit tree listed m s
@@ -233,4 +244,7 @@ module _ (circuit : FlatCircuit) (tree : InstanceTree) (listed : Listed) (fits :
       by (OfSource f) = absurd (let at = ap (λ (v : Wire). v.producer) f.is in omega (arith, at, from, low))
       by (OfPort p) = inl (port-written m s w.wire from w.is p)
       by (OfField f) = field-written m s w.wire from w.is f
-      by (OfTray f) = inl (subst (λ n. IsWrittenIn tree listed n s) (sym (output-owner circuit tree listed fits scoped apart f.place f.known) ∙ sym (ap (λ (v : Wire). v.producer) f.is) ∙ from) (tray-written s f.place f.known (sym (ap (λ (v : Wire). v.signal) f.is) ∙ w.is)))
+      by (OfTray f) =
+          let of : value_at circuit.outs f.place ≡ s = sym (ap (λ (v : Wire). v.signal) f.is) ∙ w.is in
+          inl (subst (λ n. IsWrittenIn tree listed n s) (ap (owner_of circuit tree listed) (sym of) ∙ sym (ap (λ (v : Wire). v.producer) f.is) ∙ from)
+          (out-written s (f.place, f.known, get_or_default circuit.outs f.place s 0 f.known ∙ of)))

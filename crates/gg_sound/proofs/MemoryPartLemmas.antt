@@ -25,7 +25,7 @@ use Rattle.gg_cut.proofs.WireLemmas.{unit-below, unit_or_hub-below, givens-same}
 use Rattle.gg_closed.specs.Apart.{AreApart, AreFew}
 use Rattle.gg_closed.proofs.ListLemmas.{Somewhere, map-cases, flattened-in, AllPairs-append, AllPairs-map}
 use Rattle.gg_closed.proofs.KindLemmas.{outside_memory, in-fields}
-use Rattle.gg_closed.proofs.MakerLemmas.{find-unit, no-field-place, output-owner, takes}
+use Rattle.gg_closed.proofs.MakerLemmas.{find-unit, no-field-place, out-owner, takes}
 use Rattle.gg_closed.proofs.WrittenLemmas.{inner-plain}
 use Rattle.gg_closed.proofs.ClosedLemmas.{owner-listed, owner-unlisted}
 use Rattle.gg_closed.proofs.ChoiceLemmas.{pairs-once}
@@ -80,9 +80,9 @@ module _ (design : Ordered) (listed : Listed) (m : ℕ) (part : Part) (is : IsDe
   number : first_memory listed + i ≡ m
   number = omega (arith, low)
 
-  -- the top's outputs are the hub's
+  -- out-signals are the hub's or a unit's
   outputs-apart : (k : ℕ) → k < length design.circuit.outs → owner_of design.circuit design.tree listed (value_at design.circuit.outs k) ≢ m
-  outputs-apart k lt same = omega (arith, same, output-owner circuit tree listed keeps.fitting keeps.scoped apart k lt, low)
+  outputs-apart k lt same = omega (arith, same, out-owner circuit tree listed keeps.fitting keeps.scoped apart k lt, low)
 
   -- ---- the memory
 

@@ -25,8 +25,7 @@ use Rattle.gg_split.specs.Spread.{AreLists, EachList, AreChannels, signals_among
 use Rattle.gg_closed.proofs.ChoiceLemmas.{wire-known}
 use Rattle.gg_closed.proofs.FaultlessLemmas.{faultless-apart, faultless-few}
 use Rattle.gg_closed.proofs.EndLemmas.{machine-below, owner-few, ends}
-use Rattle.gg_closed.proofs.OnceLemmas.{top-output, top-port}
-use Rattle.gg_closed.proofs.MakerLemmas.{no-field-place, port-plain}
+use Rattle.gg_closed.proofs.MakerLemmas.{no-field-place, out-plain}
 use Rattle.gg_split.proofs.ShareLemmas.{signals-are, memories-are, shared}
 
 module _ (circuit : FlatCircuit) (tree : InstanceTree) (listed : Listed) (fits : IsTree circuit tree) (apart : AreApart tree listed) where
@@ -60,13 +59,12 @@ module _ (circuit : FlatCircuit) (tree : InstanceTree) (listed : Listed) (fits :
       }
 
 module _ (circuit : FlatCircuit) (tree : InstanceTree) (order : List ℕ) (listed : Listed) (sound : CanSplit circuit tree order listed) where
-  -- a top output is no field of a listed memory, so it belongs to the machine of the instance that has it
+  -- an out-signal is no field of a listed memory, so it belongs to the machine of the instance that has it
   pub outputs-held : (holders : List ℕ) → ((s : ℕ) → value_at holders s ≡ unit_or_hub (first_place (has_signal tree s) listed.units)) → All (λ s. value_at holders s ≡ owner_of circuit tree listed s) circuit.outs
   outputs-held holders owns k d lt =
       let s = get_or circuit.outs k d in
-      let port = top-port circuit tree listed sound.fitting sound.scoped sound.apart s (λ port. not port.is_input) (top-output circuit tree listed sound.fitting sound.scoped sound.apart s (Contains-get_or circuit.outs k d lt)) in
       owns s
-      ∙ sym (ap (memory_or (length listed.units) (unit_or_hub (first_place (has_signal tree s) listed.units))) (no-field-place circuit tree listed s (port-plain circuit tree listed sound.fitting sound.scoped sound.apart 0 s port)))
+      ∙ sym (ap (memory_or (length listed.units) (unit_or_hub (first_place (has_signal tree s) listed.units))) (no-field-place circuit tree listed s (out-plain circuit tree listed sound.fitting sound.scoped sound.apart s (Contains-get_or circuit.outs k d lt))))
 
   pub outputs-known : (holders : List ℕ) → length holders ≡ length circuit.signals → All (λ s. s < length holders) circuit.outs
   outputs-known holders many k d lt =

@@ -22,7 +22,7 @@ use Rattle.gg_cut.specs.declared.plan.Plan.{Plan}
 use Rattle.gg_cut.specs.declared.wires.Wire.{Wire}
 use Rattle.gg_closed.specs.Apart.{AreFew}
 use Rattle.gg_closed.proofs.FaultlessLemmas.{faultless-apart, faultless-few}
-use Rattle.gg_closed.proofs.MakerLemmas.{output-owner}
+use Rattle.gg_closed.proofs.MakerLemmas.{out-owner}
 use Rattle.gg_closed.proofs.EndLemmas.{few-machines}
 use Rattle.gg_sound.proofs.WordLemmas.{memory-few}
 use Rattle.golden.specs.Replay.{port_names}
@@ -49,10 +49,10 @@ module _ (design : Ordered) (request : Request) (default : ℕ) (plan : Plan) (k
   few : AreFew design.circuit design.tree listed
   few = faultless-few design request faultless
 
-  -- the top's outputs are the hub's
+  -- out-signals are the hub's or a unit's
   outputs-apart : (i k : ℕ) → k < length design.circuit.outs → owner_of design.circuit design.tree listed (value_at design.circuit.outs k) ≢ first_memory listed + i
   outputs-apart i k lt same =
-      let hub = output-owner design.circuit design.tree listed keeps.fitting keeps.scoped (faultless-apart design request faultless keeps.fitting) k lt in
+      let hub = out-owner design.circuit design.tree listed keeps.fitting keeps.scoped (faultless-apart design request faultless keeps.fitting) k lt in
       omega (arith, same, hub)
 
   held-few : (i : ℕ) → i < length listed.memories → length (memory_at design.tree (value_at listed.memories i)).ports < 2 ^ 32
