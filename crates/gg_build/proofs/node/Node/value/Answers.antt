@@ -1,2 +1,10 @@
+use Rattle.std.proofs.Common.{◌≡◌, None, subst, sym}
+use Rattle.gg_node.specs.Machine.{IsTray, kept_value}
+use Rattle.gg_build.specs.Node.{machine_of}
+use Rattle.gg_build.specs.declared.node.Node.{Node}
 use Rattle.gg_build.proofs.HostLemmas.{unit-keeps}
 use Rattle.gg_build.proofs.node.Node.value.Goals as goal
+
+pub returns-in-Unit-clause-tray : goal.returns-in-Unit-clause-tray
+returns-in-Unit-clause-tray c =
+    subst (λ (node : Node). IsTray (machine_of node).behaviour → None ≡ kept_value (machine_of node) c.args.cycle) (sym c.in-Unit.is) (unit-keeps c.in-Unit.host c.args.cycle)
