@@ -117,13 +117,13 @@ core =
 
 hub-part : IsPart circuit hub.piece hub.globals [] []
 hub-part =
-    is-part circuit hub.piece hub.globals refl refl refl refl refl
+    is-part circuit hub.piece hub.globals refl refl refl refl refl refl
     ((lit< tt, refl), ((names-below 3 (node nibble (Ref 0) ∷ []) refl, refl), ((names-below 3 (node nibble (Ref 1) ∷ []) refl, refl), tt)))
     ((lit< tt, refl), tt) refl refl refl
 
 core-part : IsPart circuit core.piece core.globals [] []
 core-part =
-    is-part circuit core.piece core.globals refl refl refl refl refl
+    is-part circuit core.piece core.globals refl refl refl refl refl refl
     ((names-below 1 (node nibble (Literal (value 10)) ∷ []) refl, refl), tt)
     tt refl refl refl
 

@@ -132,7 +132,7 @@ memory =
 
 hub-part : IsPart circuit hub.piece hub.globals [] []
 hub-part =
-    is-part circuit hub.piece hub.globals refl refl refl refl refl
+    is-part circuit hub.piece hub.globals refl refl refl refl refl refl
     ((lit< tt, refl), ((lit< tt, refl), ((names-below 18 (node two (Ref 0) ∷ []) refl, refl), ((names-below 18 (node one (Literal (value 1)) ∷ []) refl, refl), ((lit< tt, refl), ((names-below 18 (node two (Ref 0) ∷ []) refl, refl), ((names-below 18 (node eight (Ref 1) ∷ node one (Fix Bits 0 0 0) ∷ []) refl, refl), ((lit< tt, refl), ((names-below 18 (node two (Ref 0) ∷ []) refl, refl), ((names-below 18 (node one (Literal (value 1)) ∷ []) refl, refl), ((names-below 18 (node eight (Ref 1) ∷ []) refl, refl), ((names-below 18 (node one (Literal (value 1)) ∷ []) refl, refl), ((names-below 18 (node two (Ref 0) ∷ []) refl, refl), ((names-below 18 (node one (Literal (value 1)) ∷ []) refl, refl), ((names-below 18 (node eight (Ref 1) ∷ node eight (One Not 0) ∷ []) refl, refl), ((names-below 18 (node one (Literal (value 1)) ∷ []) refl, refl), ((names-below 18 (node eight (Ref 4) ∷ []) refl, refl), ((names-below 18 (node eight (Ref 7) ∷ []) refl, refl), tt))))))))))))))))))
     ((lit< tt, refl), ((lit< tt, refl), ((lit< tt, refl), ((lit< tt, refl), tt)))) refl refl refl
 
@@ -150,7 +150,7 @@ memory-from =
 
 memory-part : IsPart circuit memory.piece memory.globals [] (0 ∷ [])
 memory-part =
-    is-part-with circuit memory.piece memory.globals [] (0 ∷ []) refl refl refl refl refl
+    is-part-with circuit memory.piece memory.globals [] (0 ∷ []) refl refl refl refl refl refl
     ((lit< tt, refl), ((lit< tt, refl), ((lit< tt, lit< tt, lit< tt, refl), ((lit< tt, refl), ((lit< tt, refl), ((lit< tt, lit< tt, lit< tt, refl), ((lit< tt, refl), ((lit< tt, refl), ((lit< tt, refl), ((lit< tt, refl), ((lit< tt, refl), ((lit< tt, refl), ((lit< tt, refl), ((lit< tt, refl), tt))))))))))))))
     ((lit< tt, refl), ((lit< tt, refl), ((lit< tt, refl), ((lit< tt, refl), ((lit< tt, refl), ((lit< tt, refl), ((lit< tt, refl), ((lit< tt, refl), ((lit< tt, refl), ((lit< tt, refl), ((lit< tt, refl), ((lit< tt, refl), tt)))))))))))) refl refl (λ r lt. absurd (omega arith)) refl refl memory-from
 

@@ -115,13 +115,13 @@ unit =
 
 hub-part : IsPart circuit hub.piece hub.globals [] []
 hub-part =
-    is-part circuit hub.piece hub.globals refl refl refl refl refl
+    is-part circuit hub.piece hub.globals refl refl refl refl refl refl
     ((lit< tt, refl), ((names-below 4 (node eight (Ref 0) ∷ []) refl, refl), ((lit< tt, refl), ((names-below 4 (node eight (Ref 2) ∷ []) refl, refl), tt))))
     ((lit< tt, refl), ((lit< tt, refl), tt)) refl refl refl
 
 unit-part : IsPart circuit unit.piece unit.globals [] []
 unit-part =
-    is-part circuit unit.piece unit.globals refl refl refl refl refl
+    is-part circuit unit.piece unit.globals refl refl refl refl refl refl
     ((lit< tt, refl), ((names-below 4 (node eight (Ref 0) ∷ []) refl, refl), ((names-below 4 (node eight (Ref 1) ∷ []) refl, refl), ((names-below 4 (node eight (Ref 2) ∷ []) refl, refl), tt))))
     ((lit< tt, refl), tt) refl refl refl
 
@@ -202,7 +202,7 @@ greedy =
 
 greedy-part : IsPart circuit greedy.piece greedy.globals [] []
 greedy-part =
-    is-part circuit greedy.piece greedy.globals refl refl refl refl refl
+    is-part circuit greedy.piece greedy.globals refl refl refl refl refl refl
     ((lit< tt, refl), ((names-below 5 (node eight (Ref 0) ∷ []) refl, refl), ((names-below 5 (node eight (Ref 1) ∷ []) refl, refl), ((lit< tt, refl), ((names-below 5 (node eight (Ref 3) ∷ []) refl, refl), tt)))))
     ((lit< tt, refl), ((lit< tt, refl), tt)) refl refl refl
 
@@ -232,7 +232,7 @@ hollow =
 
 hollow-part : IsPart circuit hollow.piece hollow.globals [] []
 hollow-part =
-    is-part circuit hollow.piece hollow.globals refl refl refl refl refl
+    is-part circuit hollow.piece hollow.globals refl refl refl refl refl refl
     ((lit< tt, refl), ((lit< tt, refl), ((names-below 3 (node eight (Ref 1) ∷ []) refl, refl), tt)))
     ((lit< tt, refl), ((lit< tt, refl), tt)) refl refl refl
 
@@ -291,13 +291,13 @@ within =
 
 around-part : IsPart circuit around.piece around.globals [] []
 around-part =
-    is-part circuit around.piece around.globals refl refl refl refl refl
+    is-part circuit around.piece around.globals refl refl refl refl refl refl
     ((lit< tt, refl), ((names-below 6 (node eight (Ref 0) ∷ []) refl, refl), ((names-below 6 (node eight (Ref 1) ∷ []) refl, refl), ((lit< tt, refl), ((names-below 6 (node eight (Ref 3) ∷ []) refl, refl), ((names-below 6 (node eight (Ref 4) ∷ []) refl, refl), tt))))))
     ((lit< tt, refl), ((lit< tt, refl), tt)) refl refl refl
 
 within-part : IsPart circuit within.piece within.globals [] []
 within-part =
-    is-part circuit within.piece within.globals refl refl refl refl refl
+    is-part circuit within.piece within.globals refl refl refl refl refl refl
     ((lit< tt, refl), ((names-below 2 (node eight (Ref 0) ∷ []) refl, refl), tt))
     ((lit< tt, refl), tt) refl refl refl
 

@@ -101,20 +101,21 @@ idle-register circuit globals ins held r listed idle are = true≢false (sym (ho
 
 -- a part, if its registers and memories are those of the whole
 pub is-part-with : (whole part : FlatCircuit) (globals held memories : List ℕ) → length part.signals ≡ length globals → are_known whole globals ≡ true → all_pairs (λ a b. not (a == b)) globals ≡ true
-    → part.paths ≡ map (path_at whole.paths) globals → signal_shapes part ≡ map (shape_at (signal_shapes whole)) globals
+    → part.paths ≡ map (path_at whole.paths) globals → signal_shapes part ≡ map (shape_at (signal_shapes whole)) globals → part.clocks ≡ whole.clocks
     → Upto (λ s. IsFrom part.ins globals held memories s (driver_at whole (value_at globals s)) (driver_at part s)) (length globals)
     → Upto (λ place. (value_at part.ins place < length globals) × (driver_at part (value_at part.ins place) ≡ Input place)) (length part.ins)
     → list_all (λ s. nat_lt s (length globals)) part.outs ≡ true
     → length part.registers ≡ length held → ((r : ℕ) → r < length held → IsRegisterFrom whole part globals held r)
     → length part.memories ≡ length memories → all_pairs (λ a b. not (a == b)) memories ≡ true → ((m : ℕ) → m < length memories → IsMemoryFrom whole part globals memories m)
     → IsPart whole part globals held memories
-is-part-with whole part globals held memories count known once paths types drivers ins outs register_count register_from memory_count memories_once memory_from =
+is-part-with whole part globals held memories count known once paths types clocks drivers ins outs register_count register_from memory_count memories_once memory_from =
     record {
       count = count;
       within = λ s lt. known-at whole globals (value_at globals s) known (s, lt, get_or_default globals s (value_at globals s) 0 lt);
       once = distinct globals once;
       paths = paths;
       types = types;
+      clocks = clocks;
       drivers = each-below (λ s. IsFrom part.ins globals held memories s (driver_at whole (value_at globals s)) (driver_at part s)) (length globals) drivers;
       ins = each-below (λ place. (value_at part.ins place < length globals) × (driver_at part (value_at part.ins place) ≡ Input place)) (length part.ins) ins;
       outs = λ place lt. ltb-true (value_at part.outs place) (length globals) (test-of (λ s. nat_lt s (length globals)) part.outs outs (value_at part.outs place) (place, lt, get_or_default part.outs place (value_at part.outs place) 0 lt));
@@ -127,13 +128,13 @@ is-part-with whole part globals held memories count known once paths types drive
 
 -- a part without registers and memories
 pub is-part : (whole part : FlatCircuit) (globals : List ℕ) → length part.signals ≡ length globals → are_known whole globals ≡ true → all_pairs (λ a b. not (a == b)) globals ≡ true
-    → part.paths ≡ map (path_at whole.paths) globals → signal_shapes part ≡ map (shape_at (signal_shapes whole)) globals
+    → part.paths ≡ map (path_at whole.paths) globals → signal_shapes part ≡ map (shape_at (signal_shapes whole)) globals → part.clocks ≡ whole.clocks
     → Upto (λ s. IsFrom part.ins globals [] [] s (driver_at whole (value_at globals s)) (driver_at part s)) (length globals)
     → Upto (λ place. (value_at part.ins place < length globals) × (driver_at part (value_at part.ins place) ≡ Input place)) (length part.ins)
     → list_all (λ s. nat_lt s (length globals)) part.outs ≡ true → length part.registers ≡ 0 → length part.memories ≡ 0
     → IsPart whole part globals [] []
-is-part whole part globals count known once paths types drivers ins outs no_registers no_memories =
-    is-part-with whole part globals [] [] count known once paths types drivers ins outs no_registers (λ r lt. absurd (omega arith)) no_memories refl (λ m lt. absurd (omega arith))
+is-part whole part globals count known once paths types clocks drivers ins outs no_registers no_memories =
+    is-part-with whole part globals [] [] count known once paths types clocks drivers ins outs no_registers (λ r lt. absurd (omega arith)) no_memories refl (λ m lt. absurd (omega arith))
 
 -- a machine of a circuit without memories has none
 pub no-memories : (tree : InstanceTree) (listed : Listed) (m : ℕ) → length tree.memories ≡ 0 → (k : ℕ) → Contains [] k ↔ HasMemory tree listed m k

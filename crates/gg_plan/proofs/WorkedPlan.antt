@@ -130,19 +130,19 @@ plan = record { machines = machines; channels = channels 1; listed = listed }
 
 hub-part : IsPart circuit hub.piece hub.globals [] []
 hub-part =
-    is-part circuit hub.piece hub.globals refl refl refl refl refl
+    is-part circuit hub.piece hub.globals refl refl refl refl refl refl
     ((lit< tt, refl), ((names-below 8 (node eight (Ref 0) ∷ []) refl, refl), ((lit< tt, refl), ((names-below 8 (node eight (Ref 2) ∷ []) refl, refl), ((lit< tt, refl), ((names-below 8 (node eight (Ref 4) ∷ []) refl, refl), ((lit< tt, refl), ((names-below 8 (node eight (Ref 6) ∷ []) refl, refl), tt))))))))
     ((lit< tt, refl), ((lit< tt, refl), ((lit< tt, refl), ((lit< tt, refl), tt)))) refl refl refl
 
 a-part : IsPart circuit part_a.piece part_a.globals [] []
 a-part =
-    is-part circuit part_a.piece part_a.globals refl refl refl refl refl
+    is-part circuit part_a.piece part_a.globals refl refl refl refl refl refl
     ((lit< tt, refl), ((lit< tt, refl), ((names-below 4 (node eight (Ref 0) ∷ []) refl, refl), ((names-below 4 (node eight (Ref 0) ∷ node eight (Ref 1) ∷ node eight (Two Xor 0 1) ∷ []) refl, refl), tt))))
     ((lit< tt, refl), ((lit< tt, refl), tt)) refl refl refl
 
 b-part : IsPart circuit part_b.piece part_b.globals [] []
 b-part =
-    is-part circuit part_b.piece part_b.globals refl refl refl refl refl
+    is-part circuit part_b.piece part_b.globals refl refl refl refl refl refl
     ((lit< tt, refl), ((names-below 2 (node eight (Ref 0) ∷ node nine (Fix Shl 0 1 0) ∷ node eight (Fix Bits 1 7 0) ∷ []) refl, refl), tt))
     ((lit< tt, refl), tt) refl refl refl
 
@@ -300,7 +300,7 @@ given_p =
 -- it is a part, but no part of this cut
 given-part : IsPart circuit given_p.piece given_p.globals [] []
 given-part =
-    is-part circuit given_p.piece given_p.globals refl refl refl refl refl
+    is-part circuit given_p.piece given_p.globals refl refl refl refl refl refl
     ((lit< tt, refl), ((lit< tt, refl), ((lit< tt, refl), ((names-below 4 (node eight (Ref 0) ∷ node eight (Ref 1) ∷ node eight (Two Xor 0 1) ∷ []) refl, refl), tt))))
     ((lit< tt, refl), ((lit< tt, refl), ((lit< tt, refl), tt))) refl refl refl
 

@@ -147,7 +147,7 @@ part_v =
 
 hub-part : IsPart circuit hub.piece hub.globals [] []
 hub-part =
-    is-part circuit hub.piece hub.globals refl refl refl refl refl
+    is-part circuit hub.piece hub.globals refl refl refl refl refl refl
     ((lit< tt, refl), ((lit< tt, refl), ((names-below 7 (node eight (Ref 0) ∷ []) refl, refl), ((lit< tt, refl), ((names-below 7 (node eight (Ref 0) ∷ node eight (One Not 0) ∷ []) refl, refl), ((names-below 7 (node eight (Ref 1) ∷ []) refl, refl), ((names-below 7 (node eight (Ref 3) ∷ []) refl, refl), tt)))))))
     ((lit< tt, refl), ((lit< tt, refl), ((lit< tt, refl), tt))) refl refl refl
 
@@ -161,7 +161,7 @@ u-register =
 
 u-part : IsPart circuit part_u.piece part_u.globals (0 ∷ []) []
 u-part =
-    is-part-with circuit part_u.piece part_u.globals (0 ∷ []) [] refl refl refl refl refl
+    is-part-with circuit part_u.piece part_u.globals (0 ∷ []) [] refl refl refl refl refl refl
     ((lit< tt, refl), ((names-below 3 (node eight (Ref 0) ∷ []) refl, refl), ((lit< tt, refl), tt)))
     ((lit< tt, refl), tt) refl refl u-register refl refl (λ m lt. absurd (omega arith))
 
@@ -175,7 +175,7 @@ v-register =
 
 v-part : IsPart circuit part_v.piece part_v.globals (1 ∷ []) []
 v-part =
-    is-part-with circuit part_v.piece part_v.globals (1 ∷ []) [] refl refl refl refl refl
+    is-part-with circuit part_v.piece part_v.globals (1 ∷ []) [] refl refl refl refl refl refl
     ((lit< tt, refl), ((names-below 3 (node eight (Ref 0) ∷ []) refl, refl), ((lit< tt, refl), tt)))
     ((lit< tt, refl), tt) refl refl v-register refl refl (λ m lt. absurd (omega arith))
 
