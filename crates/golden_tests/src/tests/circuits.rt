@@ -7,7 +7,7 @@ use std::alloc::{AllocError, Global};
 use std::test::Fail;
 
 // Circuits of one module, a trace of each, and the text of its run.
-static RUNS: [(&str, &str, &str); 18] = [
+static RUNS: [(&str, &str, &str); 19] = [
     // the counter with lines that end with CR LF, comments, tabs and file information
     (
         "circuit Counter :\r\nmodule Counter : ; the top\r\n\tinput clock : Clock\r\ninput reset : UInt<1> @[a b] @[c]\r\noutput out : UInt<8>\r\nreg c : UInt<8> , clock with : (reset => (UInt<1>(\"h0\"), c)) ; @[ no\r\nnode n = add(c,UInt<1>(\"h1\"))\r\nout<=c\r\nc <= mux(reset, UInt<8>(\"h0\"), bits(n, 7, 0))",
@@ -47,6 +47,12 @@ static RUNS: [(&str, &str, &str); 18] = [
         "circuit Halt :\nmodule Halt :\ninput clock : Clock\ninput x : UInt<2>\noutput y : UInt<2>\ny <= x\nstop(clock, eq(x, UInt<2>(3)), 1) : done\n",
         "cycle x\n0 1\n1 3\n2 0\n",
         "cycle y\n0 1\n1 3\n2 0\n",
+    ),
+    // two clocks, each of which has an edge in every cycle
+    (
+        "circuit Dual :\nmodule Dual :\ninput c1 : Clock\ninput c2 : Clock\noutput p : UInt<4>\noutput q : UInt<4>\nreg r : UInt<4>, c1\nreg s : UInt<4>, c2\np <= r\nq <= s\nr <= tail(add(r, UInt<1>(\"h1\")), 1)\ns <= tail(add(s, r), 1)\n",
+        "cycle\n0\n1\n2\n3\n4\n",
+        "cycle p q\n0 0 0\n1 1 0\n2 2 1\n3 3 3\n4 4 6\n",
     ),
     // a register that isn't reset
     (

@@ -36,7 +36,7 @@ const STOPS: &str =
     "circuit Top :\nmodule Cell :\ninput clock : Clock\ninput i : UInt<2>\nstop(clock, eq(i, UInt<2>(1)), 1) : done\nmodule Top :\ninput clock : Clock\ninput x : UInt<2>\noutput y : UInt<2>\ninst c of Cell\nc.clock <= clock\nc.i <= x\ny <= x\nstop(clock, eq(x, UInt<2>(3)), 0) : last\n";
 
 // Words, a circuit, a partition, and the text.
-static CUTS: [(&str, &str, &str, &str); 20] = [
+static CUTS: [(&str, &str, &str, &str); 21] = [
     (
         "golden check k1.fir p.json --capacity 1",
         PAIR,
@@ -159,6 +159,12 @@ static CUTS: [(&str, &str, &str, &str); 20] = [
         "machine hub: host 0\nmachine in:x host 1\nmachine out:q host 2\nchannel x in:x hub: UInt<8> capacity 2 needs -\nchannel q hub: out:q UInt<8> capacity 2 needs x\n",
     ),
     // stops: each has a channel and a tray, behind those of the outputs
+    (
+        "golden check k1.fir p.json",
+        "circuit Counter :\nmodule Counter :\ninput clock : Clock\ninput reset : UInt<1>\noutput out : UInt<8>\nreg c : UInt<8>, clock with : (reset => (reset, UInt<8>(0)))\nout <= c\nc <= bits(add(c, UInt<8>(1)), 7, 0)\nstop(clock, eq(c, UInt<8>(1)), 1) : done\n",
+        "{}",
+        "machine hub: host 0\nmachine in:reset host 1\nmachine out:out host 2\nmachine halt:stop:0 host 3\nchannel reset in:reset hub: UInt<1> capacity 2 needs -\nchannel out hub: out:out UInt<8> capacity 2 needs -\nchannel stop:0 hub: halt:stop:0 UInt<1> capacity 2 needs -\n",
+    ),
     (
         "golden check k1.fir p.json",
         STOPS,
