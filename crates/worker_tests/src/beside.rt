@@ -60,6 +60,7 @@ static BOTH: Run = Run {
     begin: 0,
     workers: 2,
     upto: 2,
+    lodge: false,
     least: 0,
     most: 41,
     kept: &[0x11, 0x83],

@@ -5,6 +5,8 @@
 #[cfg(test)]
 mod beside;
 #[cfg(test)]
+mod lodge;
+#[cfg(test)]
 mod runs;
 #[cfg(test)]
 mod tables;

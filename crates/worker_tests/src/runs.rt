@@ -4,6 +4,7 @@ ghost use Rattle.gg_cut.specs.Fault.{IsSmall};
 ghost use Rattle.gg_flat.specs.Run.{IsColumns};
 ghost use Rattle.gg_moved.specs.KeepsToTree.{KeepsToTree};
 
+use crate::lodge::{Lodge, beside_none};
 use gg_build::{Node, build};
 use gg_cut::Plan;
 use gg_io::Gate;
@@ -35,6 +36,8 @@ pub(crate) struct Run {
     pub(crate) begin: u64,
     pub(crate) workers: u32,
     pub(crate) upto: u64,
+    // whether a host without threads is beside the others
+    pub(crate) lodge: bool,
     // how many steps are left after it, at least and at most
     pub(crate) least: u64,
     pub(crate) most: u64,
@@ -56,6 +59,45 @@ fn ends<Z: Streams>(net: &mut Net<Node<'_>, Z>, run: &Run) -> bool {
     run.least <= rest && rest <= run.most && left(net) == 0 && keeps(net, run.kept)
 }
 
+// Whether the last machine keeps these values, one for each cycle from 0 on.
+fn keeps_beside<Z: Streams>(net: &Net<Lodge<'_>, Z>, values: &[u128]) -> bool {
+    net.within_limits();
+    let machines = net.machines();
+    if machines == 0 {
+        return false;
+    }
+    let tray = net.host((machines - 1) as u32);
+    for (cycle, value) in values.iter().enumerate() {
+        if tray.value(cycle as u64) != Some(*value) {
+            return false;
+        }
+    }
+    tray.value(values.len() as u64).is_none()
+}
+
+// Whether such a network is as expected after a run, and at its end.
+fn ends_beside<Z: Streams>(net: &mut Net<Lodge<'_>, Z>, run: &Run) -> bool {
+    let rest = left(net);
+    run_to_end(net);
+    run.least <= rest && rest <= run.most && left(net) == 0 && keeps_beside(net, run.kept)
+}
+
+// Whether a run of such a network leaves what is expected.
+fn goes_beside<R: Threads + Sync, L: Link, Z: Streams, G: Gate + Sync>(
+    rt: &R,
+    home: L::Home,
+    alloc: Global,
+    net: Net<Lodge<'_>, Z>,
+    run: &Run,
+    gate: &G,
+) -> bool {
+    let workers = run.workers.min(64);
+    match work::<R, Lodge<'_>, L, Z, G>(rt, home, alloc, net, workers, run.upto, gate) {
+        Ok(mut net) => ends_beside(&mut net, run),
+        Err(_) => false,
+    }
+}
+
 // Whether a run of a network that is before its first cycle leaves what is expected.
 fn goes<R: Threads + Sync, L: Link, Z: Streams, G: Gate + Sync>(
     rt: &R,
@@ -66,6 +108,12 @@ fn goes<R: Threads + Sync, L: Link, Z: Streams, G: Gate + Sync>(
     gate: &G,
 ) -> bool {
     bring(&mut net, run.begin);
+    if run.lodge {
+        return match beside_none::<Z>(alloc, net) {
+            Ok(net) => goes_beside::<R, L, Z, G>(rt, home, alloc, net, run, gate),
+            Err(_) => false,
+        };
+    }
     let workers = run.workers.min(64);
     match work::<R, Node<'_>, L, Z, G>(rt, home, alloc, net, workers, run.upto, gate) {
         Ok(mut net) => ends(&mut net, run),

@@ -1,4 +1,5 @@
-//! Runs with rings, from tables: few and many workers, cycles up to which machines are stepped, and channels of capacity 1.
+//! Runs with rings, from tables: few and many workers, cycles up to which machines are stepped, channels of capacity 1, and a host without
+//! threads.
 use crate::runs::{Run, Texts, is_expected};
 use gg_io::NoGate;
 use gg_ring::Ring;
@@ -14,11 +15,13 @@ type Row = (u64, u32, u64, u64, u64);
 // A circuit with its partition and trace, what the last output is, and runs, each from the opening.
 struct Table {
     texts: Texts,
+    // whether a host without threads is beside the others
+    lodge: bool,
     kept: &'static [u128],
     rows: &'static [Row],
 }
 
-static TABLES: [Table; 3] = [
+static TABLES: [Table; 4] = [
     // two units that feed each other in one cycle: five hosts
     Table {
         texts: Texts {
@@ -26,6 +29,7 @@ static TABLES: [Table; 3] = [
             partition: "{\"units\":[\"a\",\"b\"]}",
             trace: PAIR_TRACE,
         },
+        lodge: false,
         kept: &[0x11, 0x83],
         rows: &[
             // no worker, or one, for all cycles or for one
@@ -48,6 +52,7 @@ static TABLES: [Table; 3] = [
             partition: "{\"memories\":[\"m\"]}",
             trace: FOUR_PORTS_TRACE,
         },
+        lodge: false,
         kept: &[0, 0xf0, 0, 0],
         rows: &[(0, 1, 4, 0, 0), (2, 3, 4, 0, 87)],
     },
@@ -58,8 +63,26 @@ static TABLES: [Table; 3] = [
             partition: "{}",
             trace: THREE_CYCLES,
         },
+        lodge: false,
         kept: &[0, 1, 0],
         rows: &[(0, 1, 3, 0, 0), (0, 64, 3, 0, 11)],
+    },
+    // the same with a third host, which has no thread: with two workers it is beside the first, and with 64 it is alone
+    Table {
+        texts: Texts {
+            circuit: TOGGLE,
+            partition: "{}",
+            trace: THREE_CYCLES,
+        },
+        lodge: true,
+        kept: &[0, 1, 0],
+        rows: &[
+            (0, 0, 3, 12, 12),
+            (0, 1, 3, 0, 0),
+            (0, 2, 3, 0, 11),
+            (0, 64, 3, 0, 11),
+            (2, 64, 1, 4, 4),
+        ],
     },
 ];
 
@@ -71,6 +94,7 @@ fn first_wrong<R: Threads + Sync + Copy>(rt: R, alloc: Global, table: &Table) ->
             begin,
             workers,
             upto,
+            lodge: table.lodge,
             least,
             most,
             kept: table.kept,
