@@ -1,3 +1,4 @@
+mod HostLemmas
 pub mod FrameLemmas
 pub mod WindowLemmas
 pub mod TrayLemmas

@@ -2,7 +2,7 @@
 ghost use Rattle.std.specs.Prelude.{◌<◌, ◌-◌, ◌^◌, length};
 
 use gg_bits::{Ids, Items, Kind, Name, Ty};
-use gg_flat::{AddError, Driver, Instance, Models, Piece, Register, Signal, Tree};
+use gg_flat::{AddError, ClockNumbers, Driver, Instance, Models, Piece, Register, Signal, Tree};
 use std::alloc::Global;
 use std::test::Fail;
 
@@ -78,6 +78,7 @@ fn add_top(alloc: Global, tree: &mut Tree) -> Result<(), AddError>
         end: 0,
         ports: Items::from(Vec::new(alloc)),
         memories: Ids::from(Vec::new(alloc)),
+        clocks: ClockNumbers::from(Vec::new(alloc)),
     };
     tree.add(name(alloc, "")?, top)
 }
