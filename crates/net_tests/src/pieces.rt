@@ -73,16 +73,6 @@ fn needs_it(alloc: Global, piece: &Piece) -> Result<bool, AllocError>
     Ok(needs.len() == 1 && needs[0].as_slice() == [0].as_slice())
 }
 
-// The first in that the first out of a unit is missing, if the unit runs a piece.
-fn first_missing(alloc: Global, piece: &Piece) -> Result<Option<u32>, NoMemory>
-    requires formed { IsWellFormed piece.now }
-    requires ordered { IsInOrder piece.now }
-    requires outs { length piece.now.outs ≡ 1 }
-{
-    let unit = Unit::with_clocks(alloc, Program::of(alloc, piece)?, &[])?;
-    Ok(unit.missing(0, 0))
-}
-
 // Whether there are slots for the program of a piece.
 fn has_slots(alloc: Global, piece: &Piece) -> Result<bool, NoMemory>
     requires formed { IsWellFormed piece.now }
@@ -92,15 +82,26 @@ fn has_slots(alloc: Global, piece: &Piece) -> Result<bool, NoMemory>
     Ok(program.slots(alloc).is_ok())
 }
 
+// The first in that the first out of a unit is missing, if the unit runs a piece whose program has slots.
+fn first_missing(alloc: Global, piece: &Piece) -> Result<Option<u32>, NoMemory>
+    requires formed { IsWellFormed piece.now }
+    requires ordered { IsInOrder piece.now }
+    requires outs { length piece.now.outs ≡ 1 }
+{
+    if !has_slots(alloc, piece)? {
+        return Ok(None);
+    }
+    let unit = Unit::with_clocks(alloc, Program::of(alloc, piece)?, &[])?;
+    Ok(unit.missing(0, 0))
+}
+
 // Whether the only output of a design with two signals, in this order, waits for the first input.
 fn waits(alloc: Global, design: &Design) -> bool {
     let piece = design.piece();
     if piece.outs().len() != 1 || design.order() != [0, 1].as_slice() {
         return false;
     }
-    matches!(needs_it(alloc, piece), Ok(true))
-        && matches!(first_missing(alloc, piece), Ok(Some(0)))
-        && matches!(has_slots(alloc, piece), Ok(true))
+    matches!(needs_it(alloc, piece), Ok(true)) && matches!(first_missing(alloc, piece), Ok(Some(0)))
 }
 
 // Whether an output that is the input waits for it.

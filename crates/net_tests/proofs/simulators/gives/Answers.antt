@@ -9,4 +9,4 @@ step-requires-clause-inputs c =
     let count = c.rows-cycle-end.ensures.count in
     let lt : c.loop-cycle.cycle < c.args.inputs.now.rows = omega arith in
     subst (λ (circuit : FlatCircuit). IsInputs circuit c.row.result.now) (sym c.loop-cycle.invariant.0)
-    (subst (λ (row : List ℕ). IsInputs c.args.mono.now.circuit row) (sym c.row.ensures.values) (c.requires.inputs c.loop-cycle.cycle lt))
+    (subst (λ (row : List ℕ). IsInputs c.args.mono.now.circuit row) (sym c.row.ensures.values) (c.requires.inputs.inputs c.loop-cycle.cycle lt))
