@@ -32,7 +32,7 @@ use Rattle.gg_flattened.proofs.AmongLemmas.{Element, element-at, MadeOf, from-ma
 use Rattle.gg_formed.proofs.BankFieldLemmas.{AnswerAmong, answer-among}
 use Rattle.gg_flattened.proofs.NameLemmas.{place_of-at}
 use Rattle.gg_tree.specs.IsTreeOf.{IsTreeOf, IsPortFor, Pairwise, clocks_held, signal_paths, signal_ports, memories_of}
-use Rattle.gg_tree.proofs.HeldMemoryLemmas.{memory-count}
+use Rattle.gg_tree.proofs.HeldMemoryLemmas.{memory-count, memory-number, memory-place}
 use Rattle.gg_tree.proofs.CauseLemmas.{IsNamed}
 use Rattle.gg_tree.proofs.DriverLemmas.{own-cases, port-is-input, port-own-cause, goes-in}
 use Rattle.gg_tree.proofs.InstanceLemmas.{signals_in, stands, ranges, instance-for}
@@ -542,6 +542,7 @@ module _ (circuit : CircuitTree) (flat : FlatCircuit) (tree : InstanceTree) (top
 
   pub has-copies : HasCopies flat tree
   has-copies = record {
+    number = λ m lt. memory-number circuit tree top known_top is_tree distinct.of_sites distinct.of_memories m lt (memory-place circuit tree top known_top is_tree m lt);
     start = start;
     first = λ k lt. (ranges circuit tree top known_top is_tree distinct.of_sites).begins k (omega (arith, lt, (ranges circuit tree top known_top is_tree distinct.of_sites).same));
     copy = λ i j lt lt' same.

@@ -3,6 +3,7 @@ pub mod Listed
 pub mod Fault
 pub mod Channels
 pub mod Hosts
+pub mod Alike
 pub mod Owners
 pub mod Plan
 pub mod Solves

@@ -1,7 +1,7 @@
 -- The plan of a cut: its machines with their pieces, its channels, and what each channel needs.
 -- Source: MEMOCODE 2009 (a network of machines that are latency-insensitive: an output depends only on the inputs
 -- that it is computed from); ICCAD 2019 (instances and memories of a target as models of their own).
-use Rattle.std.specs.Prelude.{◌≡◌, ◌↔◌, ◌⊎◌, ℕ, ◌<◌, ◌≤◌, ◌+◌, ◌-◌, List, [], ◌∷◌, ◌++◌, ◌==◌, length, map, take, drop, filter, codes, slice_index_or, Contains, AllPairs}
+use Rattle.std.specs.Prelude.{◌≡◌, ◌≢◌, ◌↔◌, ◌⊎◌, ℕ, ◌<◌, ◌≤◌, ◌+◌, ◌-◌, List, [], ◌∷◌, ◌++◌, ◌==◌, length, map, take, drop, filter, codes, slice_index_or, Contains, AllPairs}
 use Rattle.std.specs.List.{range_with_len}
 use Rattle.gg_bits.specs.Shape.{shape}
 use Rattle.gg_flat.specs.Line.{value_at, shape_at}
@@ -25,6 +25,7 @@ use Rattle.gg_cut.specs.declared.wires.Wire.{Wire}
 use Rattle.gg_cut.specs.Machines.{first_memory, first_source, first_tray, machine_count}
 use Rattle.gg_cut.specs.Channels.{wire, wires_of, capacity_of}
 use Rattle.gg_cut.specs.Hosts.{host_of}
+use Rattle.gg_cut.specs.Alike.{AreAlike}
 
 -- ---- channels by machine
 
@@ -154,10 +155,14 @@ pub record IsChannel (design : Ordered) (capacity : List ℕ → ℕ) (machines 
 
 -- ---- the plan
 
--- The plan of a design, a request and the capacity of the channels that the request doesn't name.
+-- The plan of a design, a request and the capacity of the channels that the request doesn't name. Two machines have one host only if
+-- they are units with one piece.
 pub record IsPlan (design : Ordered) (request : Request) (default : ℕ) (plan : Plan) : Type 0 where
   pub listed : plan.listed ≡ listed_of design.tree request
   pub machine_total : length plan.machines ≡ machine_count design.circuit (listed_of design.tree request)
   pub channel_total : length plan.channels ≡ length (wires_of design.circuit design.tree (listed_of design.tree request))
   pub machine : (m : ℕ) (any : Machine) → m < length plan.machines → IsMachine design request (listed_of design.tree request) (wires_of design.circuit design.tree (listed_of design.tree request)) m (slice_index_or plan.machines m any)
   pub channel : (c : ℕ) (any : Channel) → c < length plan.channels → IsChannel design (capacity_of request.capacity default) plan.machines (wire_at (wires_of design.circuit design.tree (listed_of design.tree request)) c) (slice_index_or plan.channels c any)
+  pub shared : (m n : ℕ) (any other : Machine) → m < length plan.machines → n < length plan.machines → m ≢ n
+      → (slice_index_or plan.machines m any).host ≡ (slice_index_or plan.machines n other).host
+      → AreAlike (slice_index_or plan.machines m any).body (slice_index_or plan.machines n other).body

@@ -52,8 +52,9 @@ pub record IsCopy (circuit : FlatCircuit) (tree : InstanceTree) (i j : ℕ) (one
   pub clocks : (k : ℕ) → k < length tree.instances → LiesIn tree i k → k ≢ i → (instance_at tree (shifted i j k)).clocks ≡ (instance_at tree k).clocks
   pub stop : (p : ℕ) → p < length tree.stops → LiesIn tree i (stop_at tree p).instance → Contains tree.stops (moved_stop (shifted i j) (shifted one.signals other.signals) (stop_at tree p))
 
--- Any two instances of one module are copies of each other.
+-- Any two instances of one module are copies of each other. The memories of the circuit are numbered by their places in the tree.
 pub record HasCopies (circuit : FlatCircuit) (tree : InstanceTree) : Type 0 where
+  pub number : (m : ℕ) → m < length tree.memories → (memory_at tree m).memory ≡ m
   pub start : ℕ → Start
   pub first : (k : ℕ) → k < length tree.instances → (instance_at tree k).first ≡ (start k).signals
   pub copy : (i j : ℕ) → i < length tree.instances → j < length tree.instances → (instance_at tree i).«module» ≡ (instance_at tree j).«module» → IsCopy circuit tree i j (start i) (start j)
