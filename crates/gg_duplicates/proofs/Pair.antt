@@ -1,0 +1,54 @@
+-- Two units that are copies of each other, and whose listed memories are each other's counterparts.
+use Rattle.std.proofs.Common.{◌≡◌, ◌≢◌, ℕ, ◌<◌, ◌≤◌, length, refl, sym}
+use Rattle.std.specs.Prelude.{Contains}
+use Rattle.gg_flat.specs.Line.{value_at}
+use Rattle.gg_flat.specs.Tree.{InstanceTree, instance_at, memory_at}
+use Rattle.gg_moved.specs.Copies.{Start, IsCopy, LiesIn}
+use Rattle.gg_moved.specs.KeepsToTree.{KeepsToTree}
+use Rattle.gg_moved.specs.Moved.{shifted}
+use Rattle.gg_order.specs.Design.{Ordered, IsDesign}
+use Rattle.gg_closed.specs.Apart.{AreApart}
+use Rattle.gg_cut.specs.Listed.{owner_of_instance}
+use Rattle.gg_cut.specs.Machines.{unit_number}
+use Rattle.gg_cut.specs.declared.listed.Listed.{Listed}
+
+-- the memory at a place of the tree is in the unit at place u
+abbrev pub IsInUnit : InstanceTree → Listed → ℕ → ℕ → Type 0
+IsInUnit tree listed u p = owner_of_instance tree listed.units (memory_at tree p).instance ≡ unit_number u
+
+-- The instance of the unit at place u begins at its start. A memory in it, with a number as far behind the start of the unit at place v,
+-- is one in that unit, and it is listed if the first is.
+pub record IsUnitOver (tree : InstanceTree) (listed : Listed) (u v : ℕ) (one other : Start) : Type 0 where
+  pub known : u < length listed.units
+  pub first : (instance_at tree (value_at listed.units u)).first ≡ one.signals
+  pub lies : (p : ℕ) → p < length tree.memories → IsInUnit tree listed u p → LiesIn tree (value_at listed.units u) (memory_at tree p).instance
+  pub behind : (p : ℕ) → p < length tree.memories → IsInUnit tree listed u p → one.memories ≤ p
+  pub within : (p : ℕ) → p < length tree.memories → IsInUnit tree listed u p → shifted one.memories other.memories p < length tree.memories
+  pub holder : (p : ℕ) → p < length tree.memories → IsInUnit tree listed u p → IsInUnit tree listed v (shifted one.memories other.memories p)
+  pub counterpart : (p : ℕ) → p < length tree.memories → IsInUnit tree listed u p → Contains listed.memories p → Contains listed.memories (shifted one.memories other.memories p)
+
+-- Of a design that keeps to its tree and what is listed apart: the units at places u and v are two, and each is a copy of the other, so
+-- that all that is listed in one is listed in the other.
+pub record ArePair (design : Ordered) (listed : Listed) (u v : ℕ) (one other : Start) : Type 0 where
+  pub meant : IsDesign design
+  pub keeps : KeepsToTree design.circuit design.tree
+  pub apart : AreApart design.tree listed
+  pub two : u ≢ v
+  pub copy : IsCopy design.circuit design.tree (value_at listed.units u) (value_at listed.units v) one other
+  pub again : IsCopy design.circuit design.tree (value_at listed.units v) (value_at listed.units u) other one
+  pub there : IsUnitOver design.tree listed u v one other
+  pub back : IsUnitOver design.tree listed v u other one
+
+-- the two in turn
+pub turned : {design : Ordered} {listed : Listed} {u v : ℕ} {one other : Start} → ArePair design listed u v one other → ArePair design listed v u other one
+turned pair =
+    record {
+      meant = pair.meant;
+      keeps = pair.keeps;
+      apart = pair.apart;
+      two = λ e. pair.two (sym e);
+      copy = pair.again;
+      again = pair.copy;
+      there = pair.back;
+      back = pair.there;
+    }
