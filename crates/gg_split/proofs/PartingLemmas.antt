@@ -5,7 +5,7 @@ use Rattle.std.proofs.lemmas.List.{get_or_default}
 use Rattle.std.proofs.lemmas.List.Elements.{Contains-get_or}
 use Rattle.gg_flat.specs.Line.{value_at}
 use Rattle.gg_flat.specs.Circuit.{FlatCircuit}
-use Rattle.gg_flat.specs.Tree.{InstanceTree, IsTree}
+use Rattle.gg_flat.specs.Tree.{InstanceTree, IsTree, memory_at}
 use Rattle.gg_moved.specs.KeepsToTree.{KeepsToTree}
 use Rattle.gg_order.specs.Design.{Ordered, IsDesign}
 use Rattle.gg_partfile.specs.declared.request.Request.{Request}
@@ -49,13 +49,13 @@ module _ (circuit : FlatCircuit) (tree : InstanceTree) (listed : Listed) (fits :
           let read = get_or_default machines k d 0 lt in
           omega (arith, low, is, read)
 
-  pub each-memories : (machines now : List ℕ) (count : ℕ) (lists : List (List ℕ)) → now ≡ machines → ((place : ℕ) → place < length tree.memories → value_at machines place ≡ memory_owner tree listed place) → AreLists (memories_below tree now (length tree.memories)) count lists → EachList (AreMemories tree listed) count lists
-  each-memories machines now count lists is owns are =
+  pub each-memories : ((place : ℕ) → place < length tree.memories → (memory_at tree place).memory ≡ place) → (machines now : List ℕ) (count : ℕ) (lists : List (List ℕ)) → now ≡ machines → ((place : ℕ) → place < length tree.memories → value_at machines place ≡ memory_owner tree listed place) → AreLists (memories_below tree now (length tree.memories)) count lists → EachList (AreMemories tree listed) count lists
+  each-memories numbered machines now count lists is owns are =
       record {
         many = are.many;
         each = λ m lt.
             subst (AreMemories tree listed m) (sym (are.each m lt ∙ ap (λ (l : List ℕ). memories_below tree l (length tree.memories) m) is))
-            (memories-are circuit tree listed fits machines owns m);
+            (memories-are tree listed numbered machines owns m);
       }
 
 module _ (circuit : FlatCircuit) (tree : InstanceTree) (order : List ℕ) (listed : Listed) (sound : CanSplit circuit tree order listed) where
@@ -123,6 +123,7 @@ can-split design request circuit tree order listed is fits along lists ready kee
       formed = ready.formed;
       fitting = keeps.fitting;
       scoped = keeps.scoped;
+      numbered = keeps.copies.number;
       ordered = ready.ordered;
       apart = faultless-apart design request none keeps.fitting;
       few = faultless-few design request none;

@@ -108,9 +108,9 @@ module _ (circuit : FlatCircuit) (tree : InstanceTree) (order : List ℕ) (liste
 
 -- ---- memories
 
-module _ (circuit : FlatCircuit) (tree : InstanceTree) (listed : Listed) (fits : IsTree circuit tree) (machines : List ℕ) (owns : (place : ℕ) → place < length tree.memories → value_at machines place ≡ memory_owner tree listed place) (m : ℕ) where
+module _ (tree : InstanceTree) (listed : Listed) (numbered : (place : ℕ) → place < length tree.memories → (memory_at tree place).memory ≡ place) (machines : List ℕ) (owns : (place : ℕ) → place < length tree.memories → value_at machines place ≡ memory_owner tree listed place) (m : ℕ) where
   pub memories-are : AreMemories tree listed m (memories_below tree machines (length tree.memories) m)
-  memories-are = record { just = λ k. (forth k, back k); once = once }
+  memories-are = record { just = λ k. (forth k, back k); ascend = ascend }
     where
       forth : (k : ℕ) → Contains (memories_below tree machines (length tree.memories) m) k → HasMemory tree listed m k
       forth k h =
@@ -131,17 +131,18 @@ module _ (circuit : FlatCircuit) (tree : InstanceTree) (listed : Listed) (fits :
       number : (i d : ℕ) → i < length tree.memories → get_or (range_with_len 0 (length tree.memories)) i d ≡ i
       number i d lt = get_or-range_with_len 0 (length tree.memories) i d lt ∙ (let same : 0 + i ≡ i = omega arith in same)
 
-      pairs : AllPairs (λ p q. (memory_at tree p).memory ≢ (memory_at tree q).memory) (range_with_len 0 (length tree.memories))
-      pairs i j d less lt same =
+      pairs : AllPairs (λ p q. (memory_at tree p).memory < (memory_at tree q).memory) (range_with_len 0 (length tree.memories))
+      pairs i j d less lt =
           let inside : j < length tree.memories = omega (arith, lt, length-range_with_len 0 (length tree.memories)) in
           let low : i < length tree.memories = omega (arith, less, inside) in
-          fits.once i j (record { instance = 0; memory = 0; ports = []; clocks = [] }) less inside
-          (ap (λ p. (memory_at tree p).memory) (sym (number i d low)) ∙ same ∙ ap (λ p. (memory_at tree p).memory) (number j d inside))
+          let one : (memory_at tree (get_or (range_with_len 0 (length tree.memories)) i d)).memory ≡ i = ap (λ p. (memory_at tree p).memory) (number i d low) ∙ numbered i low in
+          let other : (memory_at tree (get_or (range_with_len 0 (length tree.memories)) j d)).memory ≡ j = ap (λ p. (memory_at tree p).memory) (number j d inside) ∙ numbered j inside in
+          omega (arith, one, other, less)
 
-      once : AllPairs (λ a b. a ≢ b) (memories_below tree machines (length tree.memories) m)
-      once =
-          AllPairs-map (λ a b. a ≢ b) (λ place. (memory_at tree place).memory) (filter (λ place. value_at machines place == m) (range_with_len 0 (length tree.memories)))
-          (AllPairs-filter (λ p q. (memory_at tree p).memory ≢ (memory_at tree q).memory) (λ place. value_at machines place == m) (range_with_len 0 (length tree.memories)) pairs)
+      ascend : AllPairs (λ a b. a < b) (memories_below tree machines (length tree.memories) m)
+      ascend =
+          AllPairs-map (λ a b. a < b) (λ place. (memory_at tree place).memory) (filter (λ place. value_at machines place == m) (range_with_len 0 (length tree.memories)))
+          (AllPairs-filter (λ p q. (memory_at tree p).memory < (memory_at tree q).memory) (λ place. value_at machines place == m) (range_with_len 0 (length tree.memories)) pairs)
 
 -- ---- what a machine has
 
@@ -153,8 +154,9 @@ shared circuit tree order listed formed fits scoped ordered apart m ins outs glo
       signals = signals.just;
       along = signals.along;
       banks = banks.just;
+      ascend = banks.ascend;
       choice = λ low.
           subst (λ l. IsChoice circuit globals (signals_of (wires_of circuit tree listed) l) (givens_of (wires_of circuit tree listed) outs) memories) (sym takes)
           (subst (λ l. IsChoice circuit globals (signals_of (wires_of circuit tree listed) (channels_to (wires_of circuit tree listed) m)) (givens_of (wires_of circuit tree listed) l) memories) (sym gives)
-          (choice circuit tree listed formed fits scoped apart m globals memories low signals.just (along-once order globals ordered.once signals.along) banks.just banks.once));
+          (choice circuit tree listed formed fits scoped apart m globals memories low signals.just (along-once order globals ordered.once signals.along) banks.just (λ i j d less lt same. absurd (omega (arith, banks.ascend i j d less lt, same)))));
     }

@@ -1,6 +1,6 @@
 -- The tables from which it is computed what machines have, and the lists that are filled by them.
 -- Source: this program's own way to give each machine its signals in one pass.
-use Rattle.std.specs.Prelude.{◌≡◌, ◌≢◌, ◌↔◌, ◌⊎◌, ℕ, zero, suc, ◌<◌, List, [], ◌∷◌, ◌++◌, Bool, true, false, if◌then◌else◌, ◌||◌, ◌==◌, Option, Some, None, Contains, AllPairs, length, map, filter, slice_index_or}
+use Rattle.std.specs.Prelude.{◌≡◌, ◌↔◌, ◌⊎◌, ℕ, zero, suc, ◌<◌, List, [], ◌∷◌, ◌++◌, Bool, true, false, if◌then◌else◌, ◌||◌, ◌==◌, Option, Some, None, Contains, AllPairs, length, map, filter, slice_index_or}
 use Rattle.std.specs.List.{range_with_len}
 use Rattle.gg_flat.specs.Line.{value_at}
 use Rattle.gg_flat.specs.Tree.{InstanceTree, memory_at}
@@ -69,10 +69,10 @@ pub record AreSignals (circuit : FlatCircuit) (tree : InstanceTree) (order : Lis
   pub just : (s : ℕ) → Contains globals s ↔ (Makes circuit tree listed (wires_of circuit tree listed) m s ⊎ Takes (wires_of circuit tree listed) m s)
   pub along : IsAlong order globals
 
--- exactly the memories that belong to machine m, each once
+-- exactly the memories that belong to machine m, ascending
 pub record AreMemories (tree : InstanceTree) (listed : Listed) (m : ℕ) (memories : List ℕ) : Type 0 where
   pub just : (k : ℕ) → Contains memories k ↔ HasMemory tree listed m k
-  pub once : AllPairs (λ a b. a ≢ b) memories
+  pub ascend : AllPairs (λ a b. a < b) memories
 
 -- one list for each machine, each with a property
 pub record EachList (P : ℕ → List ℕ → Type 0) (count : ℕ) (lists : List (List ℕ)) : Type 0 where

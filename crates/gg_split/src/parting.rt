@@ -1,7 +1,7 @@
 //! The split: the channels of a cut, and what each machine has.
 ghost use Rattle.std.specs.Prelude.{◌≡◌, ℕ, ◌<◌, None, List, [], length, set, slice_index_or, IfOk};
 ghost use Rattle.gg_flat.specs.Line.{value_at};
-ghost use Rattle.gg_flat.specs.Tree.{IsTree};
+ghost use Rattle.gg_flat.specs.Tree.{IsTree, memory_at};
 ghost use Rattle.gg_moved.specs.KeepsToTree.{KeepsToTree};
 ghost use Rattle.gg_cut.specs.Listed.{listed_of, first_place, has_signal, owner_of_instance, unit_or_hub};
 ghost use Rattle.gg_cut.specs.Fault.{first_fault};
@@ -139,6 +139,7 @@ fn memories_of(
     count: usize,
 ) -> Result<Vec<Pile>, AllocError>
     requires fitting { IsTree piece.now tree.now }
+    requires numbered { (place : ℕ) → place < length tree.now.memories → (memory_at tree.now place).memory ≡ place }
     requires apart { AreApart tree.now listed.now }
     requires numbering { numbering.now ≡ numbering_of piece.now listed.now }
     requires known { length owners.now ≡ length tree.now.instances }

@@ -11,7 +11,7 @@ pub struct Share {
     pub outs: Ids,
     /// The signals of the circuit that it makes or takes, in the order of evaluation.
     pub globals: Ids,
-    /// The memories of the circuit that belong to it, in the order of the tree.
+    /// The memories of the circuit that belong to it, ascending.
     pub memories: Ids,
 }
 

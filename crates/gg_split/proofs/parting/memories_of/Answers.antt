@@ -7,4 +7,4 @@ memories-requires-clause-owned c =
 
 pub returns : goal.returns
 returns c =
-    each-memories c.args.piece.now c.args.tree.now c.args.listed.now c.requires.fitting c.requires.apart c.in_ok-machines.machines.items c.deref.result.now c.args.count c.in_ok-lists.lists.items c.deref.ensures.value c.in_ok-machines.ensures.owners c.in_ok-lists.ensures
+    each-memories c.args.piece.now c.args.tree.now c.args.listed.now c.requires.fitting c.requires.apart c.requires.numbered c.in_ok-machines.machines.items c.deref.result.now c.args.count c.in_ok-lists.lists.items c.deref.ensures.value c.in_ok-machines.ensures.owners c.in_ok-lists.ensures
