@@ -1,2 +1,4 @@
+pub mod AscendingLemmas
+pub mod LiesLemmas
 pub mod Pair
 pub mod GroupLemmas
