@@ -1,8 +1,8 @@
 -- Two units that are copies of each other, and whose listed memories are each other's counterparts.
-use Rattle.std.proofs.Common.{◌≡◌, ◌≢◌, ℕ, ◌<◌, ◌≤◌, length, refl, sym}
+use Rattle.std.proofs.Common.{◌≡◌, ◌≢◌, ◌⊎◌, ℕ, ◌<◌, ◌≤◌, length, sym}
 use Rattle.std.specs.Prelude.{Contains}
 use Rattle.gg_flat.specs.Line.{value_at}
-use Rattle.gg_flat.specs.Tree.{InstanceTree, instance_at, memory_at}
+use Rattle.gg_flat.specs.Tree.{InstanceTree, Holds, instance_at, memory_at}
 use Rattle.gg_moved.specs.Copies.{Start, IsCopy, LiesIn}
 use Rattle.gg_moved.specs.KeepsToTree.{KeepsToTree}
 use Rattle.gg_moved.specs.Moved.{shifted}
@@ -10,7 +10,9 @@ use Rattle.gg_order.specs.Design.{Ordered, IsDesign}
 use Rattle.gg_closed.specs.Apart.{AreApart}
 use Rattle.gg_cut.specs.Listed.{owner_of_instance}
 use Rattle.gg_cut.specs.Machines.{unit_number}
+use Rattle.gg_cut.specs.Plan.{channels_from, givens_of, IsInner, Takes}
 use Rattle.gg_cut.specs.declared.listed.Listed.{Listed}
+use Rattle.gg_duplicates.specs.Again.{cut_wires}
 
 -- the memory at a place of the tree is in the unit at place u
 abbrev pub IsInUnit : InstanceTree → Listed → ℕ → ℕ → Type 0
@@ -52,3 +54,10 @@ turned pair =
       there = pair.back;
       back = pair.there;
     }
+
+-- What the channels of the unit at place u carry, those of the unit at place v carry too, with numbers as far behind its start.
+pub record AreChannelsOver (design : Ordered) (listed : Listed) (u v : ℕ) (one other : Start) : Type 0 where
+  pub held : (s : ℕ) → Contains (givens_of (cut_wires design listed) (channels_from (cut_wires design listed) (unit_number u))) s ⊎ Takes (cut_wires design listed) (unit_number u) s → Holds (instance_at design.tree (value_at listed.units u)) s
+  pub given : (s : ℕ) → Contains (givens_of (cut_wires design listed) (channels_from (cut_wires design listed) (unit_number u))) s → Contains (givens_of (cut_wires design listed) (channels_from (cut_wires design listed) (unit_number v))) (shifted one.signals other.signals s)
+  pub taken : (s : ℕ) → Takes (cut_wires design listed) (unit_number u) s → Takes (cut_wires design listed) (unit_number v) (shifted one.signals other.signals s)
+  pub inner : (s : ℕ) → Holds (instance_at design.tree (value_at listed.units u)) s → IsInner (cut_wires design listed) s → IsInner (cut_wires design listed) (shifted one.signals other.signals s)
