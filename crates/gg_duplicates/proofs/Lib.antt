@@ -4,5 +4,8 @@ pub mod FlatLemmas
 pub mod TakenLemmas
 pub mod FieldLemmas
 pub mod TakenAgainLemmas
+pub mod UnitSignalLemmas
+pub mod AtAgainLemmas
+pub mod ChannelAgainLemmas
 pub mod Pair
 pub mod GroupLemmas
