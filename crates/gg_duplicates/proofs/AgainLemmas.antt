@@ -1,5 +1,5 @@
 -- A unit has what a copy of it has: all parts of `IsUnitAgain`.
-use Rattle.std.proofs.Common.{◌≡◌, ℕ, suc, ◌<◌, ◌≤◌, length, map, sym, ◌∙◌, subst, inl, inr, ◌⊎◌, arith}
+use Rattle.std.proofs.Common.{◌≡◌, ℕ, ◌≤◌, map, subst, arith}
 use Rattle.std.specs.Prelude.{◌↔◌, Contains}
 use Rattle.gg_moved.specs.Copies.{Start}
 use Rattle.gg_moved.specs.Moved.{shifted}
@@ -8,14 +8,11 @@ use Rattle.gg_cut.specs.declared.listed.Listed.{Listed}
 use Rattle.gg_cut.specs.Machines.{unit_number}
 use Rattle.gg_cut.specs.Plan.{channels_to, channels_from, signals_of, givens_of}
 use Rattle.gg_duplicates.specs.Again.{IsUnitAgain, HasSignal, again_at, cut_wires, unit_first}
+use Rattle.gg_duplicates.proofs.AtAgainLemmas.{held-behind, shifted-back}
 use Rattle.gg_duplicates.proofs.BankLemmas.{banks-too, memory-too}
 use Rattle.gg_duplicates.proofs.Pair.{ArePair, AreChannelsOver, turned}
 use Rattle.gg_duplicates.proofs.PairLemmas.{start_of}
-use Rattle.gg_duplicates.proofs.SignalLemmas.{has-held, held-behind, has-too, driver-too, register-too}
-
--- what is behind a start comes back to its number
-round : (from to s : ℕ) → from ≤ s → shifted to from (shifted from to s) ≡ s
-round from to s le = omega (arith, le)
+use Rattle.gg_duplicates.proofs.SignalLemmas.{has-held, has-too, driver-too, register-too}
 
 module _ (design : Ordered) (listed : Listed) (u v : ℕ) (one other : Start) (pair : ArePair design listed u v (start_of design.tree listed u one) (start_of design.tree listed v other))
     (channels : AreChannelsOver design listed u v (start_of design.tree listed u one) (start_of design.tree listed v other)) (channels-back : AreChannelsOver design listed v u (start_of design.tree listed v other) (start_of design.tree listed u one))
@@ -28,18 +25,18 @@ module _ (design : Ordered) (listed : Listed) (u v : ℕ) (one other : Start) (p
   to = start_of design.tree listed v other
 
   behind : (s : ℕ) → HasSignal design listed (unit_number u) s → unit_first design.tree listed (unit_number u) ≤ s
-  behind s has = held-behind design listed u v from to pair channels s (has-held design listed u v from to pair channels s has)
+  behind s has = held-behind design listed u v from to pair s (has-held design listed u v from to pair channels s has)
 
   has-back : (t : ℕ) → HasSignal design listed (unit_number v) t → (s : ℕ) × HasSignal design listed (unit_number u) s × (again_at design listed (unit_number u) (unit_number v) s ≡ t)
   has-back t has =
-      let low = held-behind design listed v u to from (turned pair) channels-back t (has-held design listed v u to from (turned pair) channels-back t has) in
-      (again_at design listed (unit_number v) (unit_number u) t, has-too design listed v u to from (turned pair) channels-back t has, round to.signals from.signals t low)
+      let low = held-behind design listed v u to from (turned pair) t (has-held design listed v u to from (turned pair) channels-back t has) in
+      (again_at design listed (unit_number v) (unit_number u) t, has-too design listed v u to from (turned pair) channels-back t has, shifted-back to.signals from.signals t low)
 
   outs-too : (s : ℕ) → HasSignal design listed (unit_number u) s
       → Contains (givens_of (cut_wires design listed) (channels_from (cut_wires design listed) (unit_number u))) s ↔ Contains (givens_of (cut_wires design listed) (channels_from (cut_wires design listed) (unit_number v))) (again_at design listed (unit_number u) (unit_number v) s)
   outs-too s has =
       (channels.given s,
-      λ h. subst (Contains (givens_of (cut_wires design listed) (channels_from (cut_wires design listed) (unit_number u)))) (round from.signals to.signals s (behind s has)) (channels-back.given (again_at design listed (unit_number u) (unit_number v) s) h))
+      λ h. subst (Contains (givens_of (cut_wires design listed) (channels_from (cut_wires design listed) (unit_number u)))) (shifted-back from.signals to.signals s (behind s has)) (channels-back.given (again_at design listed (unit_number u) (unit_number v) s) h))
 
   pub unit-again : IsUnitAgain design listed (unit_number u) (unit_number v)
   unit-again =

@@ -14,6 +14,7 @@ use Rattle.gg_closed.proofs.ClosedLemmas.{owner-listed, owner-unlisted}
 use Rattle.gg_closed.proofs.ListLemmas.{Somewhere}
 use Rattle.gg_closed.proofs.MakerLemmas.{find-unit}
 use Rattle.gg_duplicates.proofs.AscendingLemmas.{counterparts-same}
+use Rattle.gg_duplicates.proofs.AtAgainLemmas.{shifted-back}
 use Rattle.gg_duplicates.proofs.Pair.{ArePair, IsInUnit, turned}
 
 -- The memory at place p is in the unit at place u, and isn't listed.
@@ -47,10 +48,6 @@ module _ (design : Ordered) (listed : Listed) (u v : ℕ) (one other : Start) (p
         owner = owner-unlisted design.circuit design.tree listed pair.meant.formed pair.keeps.fitting pair.keeps.scoped pair.apart p (λ i d lt same. own.free (subst (Contains listed.memories) same (Contains-get_or listed.memories i d lt))) ∙ own.inside;
       }
 
-  -- what is behind a start comes back to its number
-  round : (from to p : ℕ) → from ≤ p → shifted to from (shifted from to p) ≡ p
-  round from to p le = omega (arith, le)
-
   pub own-too : (p : ℕ) → IsOwn design.tree listed u p → IsOwn design.tree listed v (shifted one.memories other.memories p)
   own-too p own =
       let there = pair.there in
@@ -59,7 +56,7 @@ module _ (design : Ordered) (listed : Listed) (u v : ℕ) (one other : Start) (p
         known = there.within p own.known own.inside;
         inside = there.holder p own.known own.inside;
         free = λ h.
-          own.free (subst (Contains listed.memories) (round one.memories other.memories p (there.behind p own.known own.inside))
+          own.free (subst (Contains listed.memories) (shifted-back one.memories other.memories p (there.behind p own.known own.inside))
           (pair.back.counterpart q (there.within p own.known own.inside) (there.holder p own.known own.inside) h));
       }
 

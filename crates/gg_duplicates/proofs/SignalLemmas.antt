@@ -1,12 +1,10 @@
 -- The signals that a unit makes and takes, and those of a copy of it.
 use Rattle.std.proofs.Common.{◌≡◌, ℕ, suc, ◌<◌, ◌≤◌, length, Bool, true, false, refl, sym, ◌∙◌, ap, subst, inl, inr, ◌⊎◌, true-eqb, arith}
 use Rattle.std.specs.Prelude.{slice_index_or, if◌then◌else◌, Contains}
-use Rattle.gg_flat.specs.declared.piece.Driver.{Driver}
 use Rattle.gg_flat.specs.declared.piece.Driver.TheVariants.{Held}
 use Rattle.gg_flat.specs.declared.piece.Register.{Register}
-use Rattle.gg_flat.specs.declared.tree.InstancePort.{InstancePort}
-use Rattle.gg_flat.specs.Circuit.{FlatCircuit, signal_shapes, driver_at}
-use Rattle.gg_flat.specs.Line.{shape_at, value_at}
+use Rattle.gg_flat.specs.Circuit.{FlatCircuit, driver_at}
+use Rattle.gg_flat.specs.Line.{value_at}
 use Rattle.gg_flat.specs.Scoped.{IsInputOf}
 use Rattle.gg_flat.specs.Tree.{InstanceTree, Holds, instance_at}
 use Rattle.gg_flat.specs.WellFormed.{MayDrive}
@@ -22,12 +20,13 @@ use Rattle.gg_cut.specs.Plan.{Makes, Takes, IsInner, channels_from, givens_of}
 use Rattle.gg_closed.proofs.KindLemmas.{outside_unit, unit-wire}
 use Rattle.gg_closed.proofs.MakerLemmas.{given-out, no-channel, owner-signal}
 use Rattle.gg_closed.proofs.OnceLemmas.{channel-one}
-use Rattle.gg_closed.proofs.TreeLemmas.{above, innermost, lies-holder}
+use Rattle.gg_closed.proofs.TreeLemmas.{innermost}
 use Rattle.gg_closed.proofs.WrittenLemmas.{inner-plain}
 use Rattle.gg_duplicates.specs.Again.{cut_wires}
-use Rattle.gg_duplicates.proofs.LiesLemmas.{lies-owner, owner-lies}
+use Rattle.gg_duplicates.proofs.AtAgainLemmas.{held-moved}
 use Rattle.gg_duplicates.proofs.Pair.{ArePair, AreChannelsOver}
 use Rattle.gg_duplicates.proofs.TakenLemmas.{outside-hub}
+use Rattle.gg_duplicates.proofs.UnitSignalLemmas.{inner-held, holder-owner}
 
 module _ (design : Ordered) (listed : Listed) (u v : ℕ) (one other : Start) (pair : ArePair design listed u v one other) (channels : AreChannelsOver design listed u v one other) where
   abbrev circuit : FlatCircuit
@@ -36,39 +35,21 @@ module _ (design : Ordered) (listed : Listed) (u v : ℕ) (one other : Start) (p
   abbrev tree : InstanceTree
   tree = design.tree
 
-  -- the instances that are the two units
-  abbrev i : ℕ
-  i = value_at listed.units u
-
-  abbrev j : ℕ
-  j = value_at listed.units v
-
-  abbrev to : ℕ → ℕ
-  to s = shifted one.signals other.signals s
-
-  abbrev Made : ℕ → ℕ → Type 0
-  Made w s = Makes design.circuit design.tree listed (cut_wires design listed) (unit_number w) s
-
   -- ---- own signals lie in the unit
 
   -- a signal without a channel that belongs to a unit is one of the unit's instance
   owned-held : (s : ℕ) → s < length design.circuit.signals → owner_of design.circuit design.tree listed s ≡ suc u → IsInner (cut_wires design listed) s → Holds (instance_at design.tree (value_at listed.units u)) s
   owned-held s lt owner inner =
-      let fits = pair.keeps.fitting in
-      let at = innermost circuit tree fits s lt in
-      let k = at.place in
-      let in-unit = sym (owner-signal circuit tree listed fits pair.keeps.scoped pair.apart k s at.is (inner-plain circuit tree listed fits pair.keeps.scoped pair.apart s inner)) ∙ owner in
-      (above circuit tree fits k i at.is.known (owner-lies circuit tree listed fits pair.apart k u in-unit)).holds s at.is.holds
+      let at = innermost circuit tree pair.keeps.fitting s lt in
+      inner-held circuit tree listed pair.keeps.fitting pair.keeps.scoped pair.apart u pair.there.known at.place s at.is
+      (sym (owner-signal circuit tree listed pair.keeps.fitting pair.keeps.scoped pair.apart at.place s at.is (inner-plain circuit tree listed pair.keeps.fitting pair.keeps.scoped pair.apart s inner)) ∙ owner)
 
-  -- a signal without a channel of the unit's instance belongs to the unit
+  -- a signal without a channel of a unit's instance belongs to the unit
   held-owned : (s : ℕ) → s < length design.circuit.signals → Holds (instance_at design.tree (value_at listed.units v)) s → IsInner (cut_wires design listed) s → owner_of design.circuit design.tree listed s ≡ suc v
   held-owned s lt holds inner =
-      let fits = pair.keeps.fitting in
-      let at = innermost circuit tree fits s lt in
-      let k = at.place in
-      let lv = pair.back.known in
-      owner-signal circuit tree listed fits pair.keeps.scoped pair.apart k s at.is (inner-plain circuit tree listed fits pair.keeps.scoped pair.apart s inner)
-      ∙ lies-owner circuit tree listed fits pair.apart k v at.is.known lv (lies-holder circuit tree fits k s j at.is (pair.apart.known v 0 lv) holds)
+      let at = innermost circuit tree pair.keeps.fitting s lt in
+      owner-signal circuit tree listed pair.keeps.fitting pair.keeps.scoped pair.apart at.place s at.is (inner-plain circuit tree listed pair.keeps.fitting pair.keeps.scoped pair.apart s inner)
+      ∙ holder-owner circuit tree listed pair.keeps.fitting pair.keeps.scoped pair.apart v pair.back.known at.place s at.is holds
 
   pub made-held : (s : ℕ) → Makes design.circuit design.tree listed (cut_wires design listed) (unit_number u) s → Holds (instance_at design.tree (value_at listed.units u)) s
   made-held s (inl (lt, owner, inner)) = owned-held s lt owner inner
@@ -78,17 +59,8 @@ module _ (design : Ordered) (listed : Listed) (u v : ℕ) (one other : Start) (p
   has-held s (inl makes) = made-held s makes
   has-held s (inr takes) = channels.held s (inr takes)
 
-  pub held-behind : (s : ℕ) → Holds (instance_at design.tree (value_at listed.units u)) s → one.signals ≤ s
-  held-behind s holds = let low = holds.0 in let first = pair.there.first in omega (arith, low, first)
-
   held-too : (s : ℕ) → Holds (instance_at design.tree (value_at listed.units u)) s → Holds (instance_at design.tree (value_at listed.units v)) (shifted one.signals other.signals s)
-  held-too s holds =
-      let low = holds.0 in
-      let high = holds.1 in
-      let first = pair.there.first in
-      let other-first = pair.back.first in
-      let size = pair.copy.size in
-      (omega (arith, low, first, other-first), omega (arith, low, high, first, size))
+  held-too = held-moved design listed u v one other pair
 
   known-too : (s : ℕ) → Holds (instance_at design.tree (value_at listed.units u)) s → shifted one.signals other.signals s < length design.circuit.signals
   known-too s holds =
@@ -116,9 +88,6 @@ module _ (design : Ordered) (listed : Listed) (u v : ℕ) (one other : Start) (p
   no-input : (s : ℕ) → Makes design.circuit design.tree listed (cut_wires design listed) (unit_number u) s → ¬ IsInputOf design.tree (value_at listed.units u) s
   no-input s makes input = by makes
     where
-      outside : ℕ
-      outside = outside_unit design.tree listed u
-
       port : wire s (outside_unit design.tree listed u) (suc u) ≡ port_wire (outside_unit design.tree listed u) (suc u) input.port
       port = made input.port.is_input input.input input.port.signal input.is
         where
@@ -134,7 +103,7 @@ module _ (design : Ordered) (listed : Listed) (u v : ℕ) (one other : Start) (p
       by (inr given) =
           let w = given-out design.circuit design.tree listed (suc u) s given in
           let same = channel-one design.circuit design.tree listed pair.keeps.fitting pair.keeps.scoped pair.apart w.wire (wire s (outside_unit design.tree listed u) (suc u)) w.among among w.is in
-          outside-hub design.circuit design.tree listed pair.keeps.fitting pair.apart u u pair.there.known pair.there.known (sym (ap (λ (x : Wire). x.producer) same) ∙ true-eqb w.wire.producer (suc u) (sym w.passes))
+          outside-hub design.circuit design.tree listed pair.keeps.fitting pair.apart u pair.there.known u pair.there.known (sym (ap (λ (x : Wire). x.producer) same) ∙ true-eqb w.wire.producer (suc u) (sym w.passes))
 
   pub driver-too : (s : ℕ) → Makes design.circuit design.tree listed (cut_wires design listed) (unit_number u) s
       → driver_at design.circuit (shifted one.signals other.signals s) ≡ moved_driver (shifted one.signals other.signals) (shifted one.registers other.registers) (shifted one.memories other.memories) (driver_at design.circuit s)
