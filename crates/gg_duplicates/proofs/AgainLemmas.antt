@@ -1,28 +1,34 @@
 -- A unit has what a copy of it has: all parts of `IsUnitAgain`.
-use Rattle.std.proofs.Common.{◌≡◌, ℕ, ◌≤◌, map, subst, arith}
+use Rattle.std.proofs.Common.{◌≡◌, ℕ, ◌≤◌, subst, arith}
 use Rattle.std.specs.Prelude.{◌↔◌, Contains}
 use Rattle.gg_moved.specs.Copies.{Start}
 use Rattle.gg_moved.specs.Moved.{shifted}
 use Rattle.gg_order.specs.Design.{Ordered}
 use Rattle.gg_cut.specs.declared.listed.Listed.{Listed}
 use Rattle.gg_cut.specs.Machines.{unit_number}
-use Rattle.gg_cut.specs.Plan.{channels_to, channels_from, signals_of, givens_of}
+use Rattle.gg_cut.specs.Plan.{channels_from, givens_of}
 use Rattle.gg_duplicates.specs.Again.{IsUnitAgain, HasSignal, again_at, cut_wires, unit_first}
 use Rattle.gg_duplicates.proofs.AtAgainLemmas.{held-behind, shifted-back}
 use Rattle.gg_duplicates.proofs.BankLemmas.{banks-too, memory-too}
+use Rattle.gg_duplicates.proofs.ChannelAgainLemmas.{channels-over}
 use Rattle.gg_duplicates.proofs.Pair.{ArePair, AreChannelsOver, turned}
 use Rattle.gg_duplicates.proofs.PairLemmas.{start_of}
 use Rattle.gg_duplicates.proofs.SignalLemmas.{has-held, has-too, driver-too, register-too}
+use Rattle.gg_duplicates.proofs.TakenAgainLemmas.{ins}
 
-module _ (design : Ordered) (listed : Listed) (u v : ℕ) (one other : Start) (pair : ArePair design listed u v (start_of design.tree listed u one) (start_of design.tree listed v other))
-    (channels : AreChannelsOver design listed u v (start_of design.tree listed u one) (start_of design.tree listed v other)) (channels-back : AreChannelsOver design listed v u (start_of design.tree listed v other) (start_of design.tree listed u one))
-    (ins : signals_of (cut_wires design listed) (channels_to (cut_wires design listed) (unit_number v)) ≡ map (again_at design listed (unit_number u) (unit_number v)) (signals_of (cut_wires design listed) (channels_to (cut_wires design listed) (unit_number u)))) where
+module _ (design : Ordered) (listed : Listed) (u v : ℕ) (one other : Start) (pair : ArePair design listed u v (start_of design.tree listed u one) (start_of design.tree listed v other)) where
   -- the starts of the two units
   abbrev from : Start
   from = start_of design.tree listed u one
 
   abbrev to : Start
   to = start_of design.tree listed v other
+
+  channels : AreChannelsOver design listed u v (start_of design.tree listed u one) (start_of design.tree listed v other)
+  channels = channels-over design listed u v from to pair
+
+  channels-back : AreChannelsOver design listed v u (start_of design.tree listed v other) (start_of design.tree listed u one)
+  channels-back = channels-over design listed v u to from (turned pair)
 
   behind : (s : ℕ) → HasSignal design listed (unit_number u) s → unit_first design.tree listed (unit_number u) ≤ s
   behind s has = held-behind design listed u v from to pair s (has-held design listed u v from to pair channels s has)
@@ -47,7 +53,7 @@ module _ (design : Ordered) (listed : Listed) (u v : ℕ) (one other : Start) (p
         behind = behind;
         has = has-too design listed u v from to pair channels;
         back = has-back;
-        ins = ins;
+        ins = ins design listed u v from to pair;
         outs = outs-too;
         shape = λ s has. pair.copy.shape s (has-held design listed u v from to pair channels s has);
         driver = driver-too design listed u v from to pair channels;

@@ -9,3 +9,8 @@ pub mod AtAgainLemmas
 pub mod ChannelAgainLemmas
 pub mod Pair
 pub mod GroupLemmas
+pub mod CounterpartLemmas
+pub mod PairLemmas
+pub mod SignalLemmas
+pub mod BankLemmas
+pub mod AgainLemmas

@@ -10,4 +10,4 @@ returns c = λ design request m n meant keeps none low high differ led.
     let p = paired design request meant keeps none m n differ led in
     let listed = listed_of design.tree request in
     subst (λ a. IsUnitAgain design listed a n) (sym p.first) (subst (IsUnitAgain design listed _) (sym p.second)
-    (unit-again design listed p.u p.v p.one p.other p.pair ? ? ?))
+    (unit-again design listed p.u p.v p.one p.other p.pair))
