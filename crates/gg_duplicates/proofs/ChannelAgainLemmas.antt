@@ -1,5 +1,5 @@
 -- What one of two units takes and gives, the other takes and gives too; and a signal of the one has no channel if its counterpart has none.
-use Rattle.std.proofs.Common.{◌≡◌, ℕ, ◌<◌, ◌≤◌, List, length, sym, ◌∙◌, ap, subst, inl, inr, ◌⊎◌, true-eqb}
+use Rattle.std.proofs.Common.{◌≡◌, ℕ, List, sym, ◌∙◌, ap, subst, inl, inr, ◌⊎◌, true-eqb}
 use Rattle.std.specs.Prelude.{◌==◌, Contains}
 use Rattle.std.proofs.lemmas.List.Elements.{All-contains}
 use Rattle.gg_flat.specs.Line.{value_at}

@@ -1,5 +1,5 @@
 -- What one of two units takes, the other takes too, in the same order.
-use Rattle.std.proofs.Common.{◌≡◌, ℕ, ◌<◌, ◌≤◌, List, [], ◌∷◌, ◌++◌, length, map, Bool, true, false, refl, sym, ◌∙◌, ap, ap₂, eq-eqb, true-eqb}
+use Rattle.std.proofs.Common.{◌≡◌, ℕ, ◌<◌, ◌≤◌, [], ◌∷◌, ◌++◌, length, map, Bool, true, false, refl, sym, ◌∙◌, ap, ap₂, eq-eqb, true-eqb}
 use Rattle.std.specs.Prelude.{flat_map, cond, ◌==◌, Contains}
 use Rattle.std.proofs.lemmas.List.{map-append}
 use Rattle.std.proofs.lemmas.List.Elements.{All-contains}
@@ -29,8 +29,7 @@ module _ (design : Ordered) (listed : Listed) (u v : ℕ) (one other : Start) (p
   -- a listed memory that the unit holds is one of the tree, in the unit
   pub held-known : (p : ℕ) → Contains (held design.tree listed u) p → (p < length design.tree.memories) × IsInUnit design.tree listed u p
   held-known p h =
-      let kept = filter-cases (is_in u) listed.memories p h in
-      (
+      let kept = filter-cases (is_in u) listed.memories p h in (
         All-contains (λ place. place < length design.tree.memories) listed.memories p pair.apart.memories kept.among,
         true-eqb (owner_of_instance design.tree listed.units (memory_at design.tree p).instance) (unit_number u) (sym kept.passes),
       )
@@ -39,11 +38,10 @@ module _ (design : Ordered) (listed : Listed) (u v : ℕ) (one other : Start) (p
   held-over p h =
       let at = held-known p h in
       let next = shifted one.memories other.memories p in
-      let kept = filter-cases (is_in u) listed.memories p h in
-      (
+      let kept = filter-cases (is_in u) listed.memories p h in (
         pair.there.behind p at.0 at.1,
         Contains-filter (is_in v) listed.memories next (pair.there.counterpart p at.0 at.1 kept.among)
-        (eq-eqb (owner_of_instance design.tree listed.units (memory_at design.tree next).instance) (unit_number v) (pair.there.holder p at.0 at.1)),
+            (eq-eqb (owner_of_instance design.tree listed.units (memory_at design.tree next).instance) (unit_number v) (pair.there.holder p at.0 at.1)),
       )
 
 module _ (design : Ordered) (listed : Listed) (u v : ℕ) (one other : Start) (pair : ArePair design listed u v one other) where

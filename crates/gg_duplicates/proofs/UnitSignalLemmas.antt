@@ -12,7 +12,7 @@ use Rattle.gg_cut.specs.declared.wires.Wire.{Wire}
 use Rattle.gg_cut.specs.declared.listed.Listed.{Listed}
 use Rattle.gg_cut.specs.Listed.{owner_of_instance, owner_of}
 use Rattle.gg_cut.specs.Machines.{unit_number, first_memory, first_source, first_tray}
-use Rattle.gg_cut.specs.Channels.{wire, wires_of, port_wire}
+use Rattle.gg_cut.specs.Channels.{wire, wires_of}
 use Rattle.gg_cut.specs.Plan.{channels_from, givens_of, Takes}
 use Rattle.gg_cut.proofs.WireLemmas.{givens-same}
 use Rattle.gg_closed.specs.Apart.{AreApart}

@@ -50,9 +50,9 @@ pub record IsUnitAgain (design : Ordered) (listed : Listed) (m n : ℕ) : Type 0
       → driver_at design.circuit (again_at design listed m n s) ≡ moved_driver (again_at design listed m n) registers memories (driver_at design.circuit s)
   pub register : (s r : ℕ) (any : Register) → Makes design.circuit design.tree listed (cut_wires design listed) m s → driver_at design.circuit s ≡ Held r
       → (registers r < length design.circuit.registers)
-        × (unclocked_register (slice_index_or design.circuit.registers (registers r) any) ≡ unclocked_register (moved_register (again_at design listed m n) (slice_index_or design.circuit.registers r any)))
+      × (unclocked_register (slice_index_or design.circuit.registers (registers r) any) ≡ unclocked_register (moved_register (again_at design listed m n) (slice_index_or design.circuit.registers r any)))
   pub banks : (own other : List ℕ) → AllPairs (λ a b. a < b) own → AllPairs (λ a b. a < b) other
       → ((k : ℕ) → Contains own k ↔ HasMemory design.tree listed m k) → ((k : ℕ) → Contains other k ↔ HasMemory design.tree listed n k) → other ≡ map memories own
   pub memory : (k : ℕ) (any : Memory) → HasMemory design.tree listed m k
       → (memories k < length design.circuit.memories)
-        × (unclocked_memory (slice_index_or design.circuit.memories (memories k) any) ≡ unclocked_memory (moved_memory (again_at design listed m n) (slice_index_or design.circuit.memories k any)))
+      × (unclocked_memory (slice_index_or design.circuit.memories (memories k) any) ≡ unclocked_memory (moved_memory (again_at design listed m n) (slice_index_or design.circuit.memories k any)))
