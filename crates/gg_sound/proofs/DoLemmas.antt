@@ -6,6 +6,7 @@ use Rattle.std.proofs.lemmas.List.{length-map, length-replicate, get_or-map}
 use Rattle.gg_limits.specs.Limits.{cycle_limit}
 use Rattle.gg_flat.specs.Line.{value_at}
 use Rattle.gg_flat.specs.Circuit.{FlatCircuit}
+use Rattle.gg_flat.specs.Depends.{DependsOn}
 use Rattle.gg_flat.specs.State.{State, opening}
 use Rattle.gg_flat.specs.Run.{Start, IsRun, row_at}
 use Rattle.gg_flat.specs.WellFormed.{IsWellFormed}
@@ -25,6 +26,7 @@ use Rattle.gg_memunit.specs.MemoryUnit as memory_unit
 use Rattle.gg_memunit.proofs.UnitLemmas.{sole}
 use Rattle.gg_memunit.proofs.DependLemmas.{memory-once, memory-suffices}
 use Rattle.gg_sound.specs.Built.{IsUnitOf, IsMemoryOf}
+use Rattle.gg_sound.proofs.AlikeLemmas.{opening-alike, once-alike, depends-alike, run-alike}
 use Rattle.gg_sound.proofs.ShownLemmas.{AreShown, part-shown, rows-twice, own-run}
 use Rattle.gg_sound.proofs.ServeLemmas.{memory-serves}
 use Rattle.gg_sound.proofs.BeginLemmas.{unit-begins, memory-begins, memory-sides}
@@ -82,6 +84,18 @@ named-twice globals own part piece ins outs outer inner =
           get_or-map (value_at globals) own (value_at piece.outs o) 0 0 (inner.out_low o low) ∙ ap (value_at globals) (inner.out_at o low) ∙ outer.out_at o lt;
     }
 
+-- a piece with the same in-signals and out-signals
+named-alike : (globals : List ℕ) (one other : FlatCircuit) (ins outs : List ℕ) → one.ins ≡ other.ins → one.outs ≡ other.outs → IsNamedAs globals other ins outs → IsNamedAs globals one ins outs
+named-alike globals one other ins outs same_ins same_outs named =
+    record {
+      in_count = ap length same_ins ∙ named.in_count;
+      out_count = ap length same_outs ∙ named.out_count;
+      in_low = λ i lt. subst (λ (l : List ℕ). value_at l i < length globals) (sym same_ins) (named.in_low i lt);
+      in_at = λ i lt. ap (λ (l : List ℕ). value_at globals (value_at l i)) same_ins ∙ named.in_at i lt;
+      out_low = λ o lt. subst (λ (l : List ℕ). value_at l o < length globals) (sym same_outs) (named.out_low o lt);
+      out_at = λ o lt. ap (λ (l : List ℕ). value_at globals (value_at l o)) same_outs ∙ named.out_at o lt;
+    }
+
 piece-does : (globals : List ℕ) (piece : FlatCircuit) (rows : List (List ℕ)) (n : ℕ) (ins outs : List ℕ) (kind : Kind) (begins : State) (own : List (List ℕ)) → kind.behaviour ≡ RunsPiece piece → n ≤ kind.limit → AreShown globals n rows own → IsNamedAs globals piece ins outs → RunsRows piece kind (start_in begins kind) own n → DoesCycles rows n ins outs kind begins own
 piece-does globals piece rows n ins outs kind begins own is able shown named runs =
     record {
@@ -107,16 +121,22 @@ module _ (whole : FlatCircuit) (part : Part) (columns : List (List ℕ)) (n : �
       let order = range_with_len 0 (length part.piece.signals) in
       let along = IsOrder-numbers part.piece ordered in
       let nothing : Option ℕ = None in
+      let piece = unit.circuit in
+      let begins : opening piece ≡ part_state part.held part.memories (opening whole) = opening-alike piece part.piece unit.alike ∙ unit-begins whole part is in
       subst (λ (t : Machine). DoesCycles rows n ins outs (kind_of t) (part_state part.held part.memories (opening whole)) own) (sym unit.is)
-      (subst (λ (s : State). DoesCycles rows n ins outs (kind_of (dataflow.opening_unit (record { circuit = part.piece; needs = unit.needs }) [])) s own) (unit-begins whole part is)
-      (piece-does part.globals part.piece rows n ins outs _ (opening part.piece) own refl most (shown part.globals) named
+      (subst (λ (s : State). DoesCycles rows n ins outs (kind_of (dataflow.opening_unit (record { circuit = piece; needs = unit.needs }) [])) s own) begins
+      (piece-does part.globals piece rows n ins outs _ (opening piece) own refl most (shown part.globals) (named-alike part.globals piece part.piece ins outs unit.alike.ins unit.outs named)
       (record {
-        formed = part-formed;
-        once = λ state inputs v w sv sw. Settled-once part.piece order state inputs v w along sv sw;
-        suffice = λ o low. depends-reached part.piece order (value_at part.piece.outs o) (needs_at unit.needs o) part-formed along (part-formed.outs o low) (λ place within reaches. ((unit.exact.each o low).exact place).1 (within, reaches));
-        ins = length-replicate (length part.piece.ins) nothing;
-        outs = length-replicate (length part.piece.outs) false;
-        is = part-run;
+        formed = unit.formed;
+        once = once-alike piece part.piece unit.alike (λ state inputs v w sv sw. Settled-once part.piece order state inputs v w along sv sw);
+        suffice = λ o low.
+            let there : o < length part.piece.outs = omega (arith, low, ap length unit.outs) in
+            depends-alike piece part.piece unit.alike (value_at piece.outs o) (needs_at unit.needs o)
+            (subst (λ (l : List ℕ). DependsOn part.piece (value_at l o) (needs_at unit.needs o)) (sym unit.outs)
+            (depends-reached part.piece order (value_at part.piece.outs o) (needs_at unit.needs o) part-formed along (part-formed.outs o there) (λ place within reaches. ((unit.exact.each o there).exact place).1 (within, reaches))));
+        ins = length-replicate (length piece.ins) nothing;
+        outs = length-replicate (length piece.outs) false;
+        is = run-alike piece part.piece unit.alike n own part-run;
         serves = tt;
       })))
 

@@ -45,11 +45,12 @@ module _ (design : Ordered) (listed : Listed) (links : List Link) (m : ℕ) (par
 
   unit-fits : (machine : Machine) → IsUnitOf part machine → IsFitting links m (kind_of machine)
   unit-fits machine unit =
-      let ins = length-replicate (length part.piece.ins) no_token in
+      let piece = unit.circuit in
+      let ins : length (replicate (length piece.ins) no_token) ≡ length part.piece.ins = length-replicate (length piece.ins) no_token ∙ ap length unit.alike.ins in
       subst (λ (t : Machine). IsFitting links m (kind_of t)) (sym unit.is)
       (record {
         ins = ins ∙ ins-count;
-        outs = length-replicate (length part.piece.outs) false ∙ outs-count;
+        outs = length-replicate (length piece.outs) false ∙ ap length unit.outs ∙ outs-count;
         needs = λ o i has.
             let low = needs-there unit.needs o i has in
             let known = (((unit.exact.each o (omega (arith, low, unit.exact.count))).exact i).0 has).0 in

@@ -15,6 +15,8 @@ mod WorkedNetwork
 pub mod ShownLemmas
 pub mod ServeLemmas
 pub mod BeginLemmas
+pub mod TickLemmas
+pub mod AlikeLemmas
 pub mod DoLemmas
 pub mod EdgeLemmas
 pub mod SolvedLemmas

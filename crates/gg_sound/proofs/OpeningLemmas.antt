@@ -19,6 +19,7 @@ use Rattle.gg_closed.proofs.FaultlessLemmas.{faultless-apart, faultless-few}
 use Rattle.gg_node.specs.Machine.{Machine, machine_at, no_state}
 use Rattle.gg_net.specs.Net.{IsOpening}
 use Rattle.gg_sound.specs.Built.{machine_in, nameless, IsBuilt, AreBuilt, IsGiven, body_state, states_of, flow_of}
+use Rattle.gg_sound.proofs.AlikeLemmas.{opening-alike}
 use Rattle.gg_sound.proofs.MemoryPartLemmas.{memory-part}
 use Rattle.gg_sound.proofs.BeginLemmas.{unit-begins, memory-begins}
 
@@ -40,7 +41,14 @@ module _ (design : Ordered) (request : Request) (default : ℕ) (plan : Plan) (c
   opens : (m : ℕ) (body : Body) (machine : Machine) → IsBody design listed links m body → state_in (states_of plan (opening design.circuit)) m ≡ body_state body (opening design.circuit) → IsBuilt columns n body machine → IsOpening (flow_of plan design rows) m machine
   opens m (Cut part) machine body begins unit =
       subst (IsOpening (flow_of plan design rows) m) (sym unit.is)
-      (record { cycle = refl; state = unit-begins design.circuit part body.1.is ∙ sym begins; served = refl; latches = latches-of (length part.piece.ins); flags = flags-of (length part.piece.outs); kept = refl })
+      (record {
+        cycle = refl;
+        state = opening-alike unit.circuit part.piece unit.alike ∙ unit-begins design.circuit part body.1.is ∙ sym begins;
+        served = refl;
+        latches = latches-of (length unit.circuit.ins);
+        flags = flags-of (length unit.circuit.outs);
+        kept = refl;
+      })
   opens m (Memory part) machine body begins memory =
       let own = memory-part design listed m part given.design_is given.keeps (faultless-apart design request given.faultless given.keeps.fitting) body.0 body.1 body.2 (faultless-few design request given.faultless) in
       subst (IsOpening (flow_of plan design rows) m) (sym memory.is)

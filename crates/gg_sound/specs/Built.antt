@@ -4,10 +4,12 @@
 -- 2019 (units and memories of a target as models of their own, with sources for its inputs and sinks for its outputs).
 use Rattle.std.specs.Prelude.{◌≡◌, ℕ, suc, ◌^◌, ◌<◌, ◌≤◌, ◌==◌, ◌++◌, List, [], ◌∷◌, None, false, length, map, slice_index_or, unwrap_or}
 use Rattle.gg_limits.specs.Limits.{cycle_limit}
+use Rattle.gg_flat.specs.Circuit.{FlatCircuit}
 use Rattle.gg_flat.specs.Line.{value_at}
 use Rattle.gg_flat.specs.Run.{IsRun, IsColumns}
 use Rattle.gg_flat.specs.State.{State, opening}
 use Rattle.gg_flat.specs.Streams.{Flow}
+use Rattle.gg_flat.specs.WellFormed.{IsWellFormed}
 use Rattle.gg_moved.specs.KeepsToTree.{KeepsToTree}
 use Rattle.gg_order.specs.Design.{Ordered, IsDesign}
 use Rattle.gg_partfile.specs.declared.request.Request.{Request}
@@ -15,6 +17,7 @@ use Rattle.gg_needs.specs.Needs.{AreNeedsOfOuts}
 use Rattle.gg_part.specs.Part.{IsPart}
 use Rattle.gg_part.specs.PartRun.{part_rows, part_state}
 use Rattle.gg_part.specs.declared.part.Part.{Part}
+use Rattle.gg_cut.specs.Alike.{IsAlike}
 use Rattle.gg_cut.specs.declared.plan.Body.{Body}
 use Rattle.gg_cut.specs.declared.plan.Body.TheVariants.{Cut, Memory, Source, Tray}
 use Rattle.gg_cut.specs.declared.plan.Machine as planned
@@ -68,11 +71,16 @@ wires_of_plan plan = wires_from plan 0 plan.channels
 
 -- ---- machines before the first cycle
 
--- A unit that runs a part of the circuit. Each of its outs needs the ins that it depends on.
+-- A unit that runs a part of the circuit. Its own piece is like the part's, with the same out-signals in their order, so that units
+-- with one piece can share it. Each of its outs needs the ins that it depends on.
 pub record IsUnitOf (part : Part) (machine : Machine) : Type 0 where
+  pub circuit : FlatCircuit
   pub needs : List (List ℕ)
+  pub formed : IsWellFormed circuit
+  pub alike : IsAlike circuit part.piece
+  pub outs : circuit.outs ≡ part.piece.outs
   pub exact : AreNeedsOfOuts part.piece needs
-  pub is : machine ≡ dataflow.opening_unit (record { circuit = part.piece; needs = needs }) []
+  pub is : machine ≡ dataflow.opening_unit (record { circuit = circuit; needs = needs }) []
 
 -- The machine of a listed memory. It is a memory unit, whose piece is a part of the listed memory's part. The piece has
 -- the in-signals followed by the out-signals, and the memory. As the piece of a memory unit it has the in-signals

@@ -1,0 +1,92 @@
+-- A piece like another does what the other does, where each clock has an edge in each tick.
+use Rattle.std.proofs.Common.{◌≡◌, ℕ, zero, suc, ◌<◌, List, [], ◌∷◌, length, map, get_or, refl, sym, ◌∙◌, ap, ap₂, subst}
+use Rattle.std.specs.Prelude.{Contains, replicate, slice_index_or}
+use Rattle.gg_bits.specs.Shape.{shape}
+use Rattle.gg_flat.specs.declared.piece.Driver.TheVariants.{Input}
+use Rattle.gg_flat.specs.declared.piece.Signal.{Signal}
+use Rattle.gg_flat.specs.Circuit.{FlatCircuit}
+use Rattle.gg_flat.specs.Depends.{SettlesOnce, DependsOn}
+use Rattle.gg_flat.specs.Line.{shape_at, value_at, AreTyped}
+use Rattle.gg_flat.specs.Memory.{Bank}
+use Rattle.gg_flat.specs.Reads.{NamesSignal, Reads, IsPath, Reaches}
+use Rattle.gg_flat.specs.Run.{IsRun, opening_start, state_at, row_at, inputs_at}
+use Rattle.gg_flat.specs.Settled.{Settled, driver_value}
+use Rattle.gg_flat.specs.State.{State, opening, next_state}
+use Rattle.gg_cut.specs.Alike.{IsAlike}
+use Rattle.gg_needs.specs.Needs.{AreNeeds}
+use Rattle.gg_net.specs.Kept.{in_columns}
+use Rattle.gg_sound.proofs.TickLemmas.{next-registers, next-banks, opening-banks, register-count}
+
+-- ---- cycles
+
+settled-by : (one other : FlatCircuit) (state : State) (inputs values : List ℕ) → one.signals ≡ other.signals → Settled one state inputs values → Settled other state inputs values
+settled-by one other state inputs values same is =
+    record {
+      typed = subst (λ (l : List Signal). AreTyped (map (λ signal. shape signal.ty) l) values) same is.typed;
+      driven = subst (λ (l : List Signal). (s : ℕ) → s < length l → value_at values s ≡ driver_value state inputs values (shape_at (map (λ signal. shape signal.ty) l) s) (slice_index_or (map (λ signal. signal.driver) l) s (Input 0))) same is.driven;
+    }
+
+reads-by : (one other : FlatCircuit) (a b : ℕ) → one.signals ≡ other.signals → Reads one a b → Reads other a b
+reads-by one other a b same is =
+    record {
+      signal = subst (λ (l : List Signal). a < length l) same is.signal;
+      names = subst (λ (l : List Signal). NamesSignal (slice_index_or (map (λ signal. signal.driver) l) a (Input 0)) b) same is.names;
+    }
+
+path-by : (one other : FlatCircuit) (a : ℕ) (path : List ℕ) (b : ℕ) → one.signals ≡ other.signals → IsPath one a path b → IsPath other a path b
+path-by one other a [] b same is = is
+path-by one other a (next ∷ path) b same is = (reads-by one other a next same is.0, path-by one other next path b same is.1)
+
+reaches-by : (one other : FlatCircuit) (a b : ℕ) → one.signals ≡ other.signals → Reaches one a b → Reaches other a b
+reaches-by one other a b same to = record { path = to.path; reads = path-by one other a to.path b same to.reads }
+
+module _ (one other : FlatCircuit) (alike : IsAlike one other) where
+  settled-back : (state : State) (inputs values : List ℕ) → Settled other state inputs values → Settled one state inputs values
+  settled-back state inputs values is = settled-by other one state inputs values (sym alike.signals) is
+
+  settled-on : (state : State) (inputs values : List ℕ) → Settled one state inputs values → Settled other state inputs values
+  settled-on state inputs values is = settled-by one other state inputs values alike.signals is
+
+  pub once-alike : SettlesOnce other → SettlesOnce one
+  once-alike once = λ state inputs v w sv sw. once state inputs v w (settled-on state inputs v sv) (settled-on state inputs w sw)
+
+  pub depends-alike : (s : ℕ) (places : List ℕ) → DependsOn other s places → DependsOn one s places
+  depends-alike s places on = λ state inputs others v w sv sw same. on state inputs others v w (settled-on state inputs v sv) (settled-on state others w sw) same
+
+  -- ---- states
+
+  pub opening-alike : opening one ≡ opening other
+  opening-alike =
+      ap₂ (λ (n : ℕ) (banks : List Bank). let state : State = record { registers = replicate n 0; banks = banks } in state) (register-count one.registers other.registers alike.registers) (opening-banks one.memories other.memories alike.memories)
+
+  next-alike : (state : State) (values : List ℕ) → next_state [] one state values ≡ next_state [] other state values
+  next-alike state values =
+      ap₂ (λ (registers : List ℕ) (banks : List Bank). let state : State = record { registers = registers; banks = banks } in state)
+      (next-registers values one.registers other.registers state.registers alike.registers)
+      (next-banks values one.memories other.memories state.banks alike.memories)
+
+  state-alike : (rows : List (List ℕ)) (t : ℕ) → state_at one (opening_start one) rows t ≡ state_at other (opening_start other) rows t
+  state-alike rows zero = opening-alike
+  state-alike rows (suc t) = ap (λ (s : State). next_state [] one s (row_at rows t)) (state-alike rows t) ∙ next-alike (state_at other (opening_start other) rows t) (row_at rows t)
+
+  -- a run of the other piece on its own in-signals is one of this piece
+  pub run-alike : (n : ℕ) (rows : List (List ℕ)) → IsRun other (in_columns other rows) n rows → IsRun one (in_columns one rows) n rows
+  run-alike n rows run =
+      subst (λ (ins : List ℕ). IsRun one (in_columns (record one { ins = ins }) rows) n rows) (sym alike.ins)
+      (record {
+        count = run.count;
+        settled = λ t lt. subst (λ (s : State). Settled one s (inputs_at (in_columns other rows) t) (row_at rows t)) (sym (state-alike rows t))
+            (settled-back (state_at other (opening_start other) rows t) (inputs_at (in_columns other rows) t) (row_at rows t) (run.settled t lt));
+      })
+
+  -- ---- needs
+
+  pub needs-alike : (out : ℕ) (needs : List ℕ) → AreNeeds one out needs → AreNeeds other out needs
+  needs-alike out needs are =
+      record {
+        ascending = are.ascending;
+        exact = λ place. (
+          λ has. let at = (are.exact place).0 has in (subst (λ (l : List ℕ). place < length l) alike.ins at.0, reaches-by one other out (value_at other.ins place) alike.signals (subst (λ (l : List ℕ). Reaches one out (value_at l place)) alike.ins at.1)),
+          λ at. (are.exact place).1 (subst (λ (l : List ℕ). place < length l) (sym alike.ins) at.0, subst (λ (l : List ℕ). Reaches one out (value_at l place)) (sym alike.ins) (reaches-by other one out (value_at other.ins place) (sym alike.signals) at.1)),
+        );
+      }
