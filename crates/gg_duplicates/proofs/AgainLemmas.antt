@@ -40,9 +40,10 @@ module _ (design : Ordered) (listed : Listed) (u v : ℕ) (one other : Start) (p
 
   outs-too : (s : ℕ) → HasSignal design listed (unit_number u) s
       → Contains (givens_of (cut_wires design listed) (channels_from (cut_wires design listed) (unit_number u))) s ↔ Contains (givens_of (cut_wires design listed) (channels_from (cut_wires design listed) (unit_number v))) (again_at design listed (unit_number u) (unit_number v) s)
-  outs-too s has =
-      (channels.given s,
-      λ h. subst (Contains (givens_of (cut_wires design listed) (channels_from (cut_wires design listed) (unit_number u)))) (shifted-back from.signals to.signals s (behind s has)) (channels-back.given (again_at design listed (unit_number u) (unit_number v) s) h))
+  outs-too s has = (
+    channels.given s,
+    λ h. subst (Contains (givens_of (cut_wires design listed) (channels_from (cut_wires design listed) (unit_number u)))) (shifted-back from.signals to.signals s (behind s has)) (channels-back.given (again_at design listed (unit_number u) (unit_number v) s) h),
+  )
 
   pub unit-again : IsUnitAgain design listed (unit_number u) (unit_number v)
   unit-again =

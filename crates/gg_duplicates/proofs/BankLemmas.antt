@@ -1,9 +1,9 @@
 -- The memories that belong to a unit, and those of a copy of it.
-use Rattle.std.proofs.Common.{◌≡◌, ◌≢◌, ℕ, suc, ◌+◌, ◌<◌, ◌≤◌, List, length, map, get_or, refl, sym, ◌∙◌, ap, subst, inl, inr, ◌⊎◌, arith}
+use Rattle.std.proofs.Common.{◌≡◌, ◌≢◌, ℕ, ◌+◌, ◌<◌, ◌≤◌, List, length, map, sym, ◌∙◌, ap, subst, inl, inr, ◌⊎◌, arith}
 use Rattle.std.specs.Prelude.{◌↔◌, All, AllPairs, Contains, slice_index_or}
 use Rattle.std.proofs.lemmas.List.Elements.{Contains-get_or}
 use Rattle.gg_flat.specs.declared.memory.Memory.{Memory}
-use Rattle.gg_flat.specs.Tree.{InstanceTree, memory_at}
+use Rattle.gg_flat.specs.Tree.{InstanceTree}
 use Rattle.gg_moved.specs.Copies.{Start}
 use Rattle.gg_moved.specs.Moved.{moved_memory, shifted, unclocked_memory}
 use Rattle.gg_order.specs.Design.{Ordered}
@@ -56,13 +56,13 @@ module _ (design : Ordered) (listed : Listed) (u v : ℕ) (one other : Start) (p
         known = there.within p own.known own.inside;
         inside = there.holder p own.known own.inside;
         free = λ h.
-          own.free (subst (Contains listed.memories) (shifted-back one.memories other.memories p (there.behind p own.known own.inside))
-          (pair.back.counterpart q (there.within p own.known own.inside) (there.holder p own.known own.inside) h));
+            own.free (subst (Contains listed.memories) (shifted-back one.memories other.memories p (there.behind p own.known own.inside))
+            (pair.back.counterpart q (there.within p own.known own.inside) (there.holder p own.known own.inside) h));
       }
 
   pub memory-too : (k : ℕ) (any : Memory) → HasMemory design.tree listed (unit_number u) k
       → (shifted one.memories other.memories k < length design.circuit.memories)
-        × (unclocked_memory (slice_index_or design.circuit.memories (shifted one.memories other.memories k) any) ≡ unclocked_memory (moved_memory (shifted one.signals other.signals) (slice_index_or design.circuit.memories k any)))
+      × (unclocked_memory (slice_index_or design.circuit.memories (shifted one.memories other.memories k) any) ≡ unclocked_memory (moved_memory (shifted one.signals other.signals) (slice_index_or design.circuit.memories k any)))
   memory-too k any has =
       let own = own-of k has in
       let within = pair.there.within k own.known own.inside in

@@ -1,6 +1,6 @@
 -- The memories inside a unit and their counterparts inside a copy of it, by paths.
-use Rattle.std.proofs.Common.{◌≡◌, ◌≢◌, ℕ, suc, ◌+◌, ◌-◌, ◌<◌, ◌≤◌, List, [], ◌∷◌, ◌++◌, length, get_or, Bool, true, false, true≢false, refl, sym, ◌∙◌, ap, subst, Some, None, inl, inr, ◌⊎◌, arith}
-use Rattle.std.specs.Prelude.{Contains, find, not}
+use Rattle.std.proofs.Common.{◌≡◌, ◌≢◌, ℕ, ◌+◌, ◌-◌, ◌<◌, ◌≤◌, List, [], ◌∷◌, ◌++◌, length, Bool, true, false, true≢false, refl, sym, ◌∙◌, ap, Some, None, inl, inr, ◌⊎◌, arith}
+use Rattle.std.specs.Prelude.{Contains, not}
 use Rattle.std.specs.List.{list_any, range_with_len}
 use Rattle.std.proofs.lemmas.Bool.{cases_lt}
 use Rattle.std.proofs.lemmas.List.{append_cancel_left, get_or_past}

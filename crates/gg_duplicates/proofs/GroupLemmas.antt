@@ -1,5 +1,5 @@
 -- Two machines that have the same first machine of their host are units of one list of `share`.
-use Rattle.std.proofs.Common.{◌≡◌, ◌≢◌, ℕ, suc, ◌+◌, ◌<◌, ◌≤◌, List, [], ◌∷◌, ◌++◌, length, get_or, Bool, true, false, true≢false, true-eqb, eq-eqb, refl, sym, ◌∙◌, ap, subst, Some, None, inl, inr, ◌⊎◌, min, arith}
+use Rattle.std.proofs.Common.{◌≡◌, ◌≢◌, ℕ, suc, ◌<◌, ◌≤◌, List, [], ◌∷◌, ◌++◌, length, get_or, Bool, true, false, true≢false, true-eqb, eq-eqb, refl, sym, ◌∙◌, ap, subst, Some, None, inl, inr, ◌⊎◌, min, arith}
 use Rattle.std.specs.Prelude.{Option, Contains, find, cond, not, ◌==◌, ◌||◌, if◌then◌else◌, bytes_eq}
 use Rattle.std.specs.List.{list_any}
 use Rattle.std.proofs.lemmas.Bool.{cases_lt}

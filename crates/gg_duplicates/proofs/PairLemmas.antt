@@ -1,6 +1,6 @@
 -- Two machines with the same first machine of their host are a pair: two units, each a copy of the other.
-use Rattle.std.proofs.Common.{◌≡◌, ◌≢◌, ℕ, suc, ◌-◌, ◌<◌, List, [], ◌∷◌, ◌++◌, length, map, get_or, refl, sym, ◌∙◌, ap, subst, None, arith}
-use Rattle.std.specs.Prelude.{Option, Contains, filter}
+use Rattle.std.proofs.Common.{◌≡◌, ◌≢◌, ℕ, suc, ◌-◌, ◌<◌, List, [], ◌∷◌, ◌++◌, length, get_or, sym, ◌∙◌, ap, subst, None, arith}
+use Rattle.std.specs.Prelude.{Contains, filter}
 use Rattle.std.proofs.lemmas.List.{get_or-map, length-map, get_or_append_left}
 use Rattle.gg_flat.specs.Line.{value_at}
 use Rattle.gg_flat.specs.Tree.{InstanceTree, path_at, instance_at}
@@ -9,21 +9,19 @@ use Rattle.gg_moved.specs.KeepsToTree.{KeepsToTree}
 use Rattle.gg_order.specs.Design.{Ordered, IsDesign}
 use Rattle.gg_partfile.specs.declared.request.Request.{Request}
 use Rattle.gg_cut.specs.declared.listed.Listed.{Listed}
-use Rattle.gg_cut.specs.declared.fault.CutFault.{CutFault}
 use Rattle.gg_cut.specs.declared.fault.CutFault.TheVariants.{UnknownUnit, Doubled, OtherModule, Unmatched}
 use Rattle.gg_cut.specs.Channels.{channel_signals}
 use Rattle.gg_cut.specs.Fault.{first_fault, entry_faults, channel_faults, unshared, repeated, entries, other_module, unmatched}
-use Rattle.gg_cut.specs.Hosts.{leader, machine_of}
+use Rattle.gg_cut.specs.Hosts.{leader}
 use Rattle.gg_cut.specs.Listed.{is_among, instance_of, listed_of}
 use Rattle.gg_cut.specs.Machines.{unit_number}
 use Rattle.gg_cut.proofs.FindLemmas.{none-at, none-front, none-map}
 use Rattle.gg_closed.specs.Apart.{AreApart}
-use Rattle.gg_closed.specs.Longest.{listed_paths}
 use Rattle.gg_closed.proofs.FaultlessLemmas.{faultless-apart, faultless-known}
 use Rattle.gg_closed.proofs.ListedLemmas.{listed-are}
 use Rattle.gg_duplicates.specs.Again.{unit_first}
-use Rattle.gg_duplicates.proofs.CounterpartLemmas.{IsCounterpart, inside, counterpart, memory-behind, among-too, listed-path, path-listed}
-use Rattle.gg_duplicates.proofs.GroupLemmas.{AreInOneList, HasUnit, IsUnitPath, one-list, unit-path, entry-known, entries-one}
+use Rattle.gg_duplicates.proofs.CounterpartLemmas.{inside, counterpart, memory-behind, among-too, listed-path, path-listed}
+use Rattle.gg_duplicates.proofs.GroupLemmas.{HasUnit, one-list, unit-path, entry-known, entries-one}
 use Rattle.gg_duplicates.proofs.Pair.{ArePair, IsUnitOver}
 
 -- the start of the unit at place u: its signals begin with its first one
@@ -108,10 +106,10 @@ module _ (design : Ordered) (request : Request) (meant : IsDesign design) (keeps
         within = λ p lt is. (there p lt is).within;
         holder = λ p lt is. (there p lt is).holder;
         counterpart = λ p lt is h.
-        let c = there p lt is in
-        path-listed design.tree request _ c.within
-        (ap (is_among request.memories) (c.there ∙ ap (λ front. front ++ 46 ∷ c.rest) y.is)
-        ∙ among-too request.memories request.share group x.path y.path (path_at design.tree.memory_paths p) c.rest (none-map Unmatched (unmatched request.memories request.share) (no-fault 7)) among x.among y.among (listed-path design.tree request p h) (c.here ∙ ap (λ front. front ++ 46 ∷ c.rest) x.is));
+            let c = there p lt is in
+            path-listed design.tree request _ c.within
+            (ap (is_among request.memories) (c.there ∙ ap (λ front. front ++ 46 ∷ c.rest) y.is)
+            ∙ among-too request.memories request.share group x.path y.path (path_at design.tree.memory_paths p) c.rest (none-map Unmatched (unmatched request.memories request.share) (no-fault 7)) among x.among y.among (listed-path design.tree request p h) (c.here ∙ ap (λ front. front ++ 46 ∷ c.rest) x.is));
       }
 
   pub paired : (m n : ℕ) → m ≢ n → leader request.units request.share m ≡ leader request.units request.share n → IsPaired design request m n

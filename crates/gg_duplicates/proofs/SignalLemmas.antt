@@ -1,5 +1,5 @@
 -- The signals that a unit makes and takes, and those of a copy of it.
-use Rattle.std.proofs.Common.{◌≡◌, ℕ, suc, ◌<◌, ◌≤◌, length, Bool, true, false, refl, sym, ◌∙◌, ap, subst, inl, inr, ◌⊎◌, true-eqb, arith}
+use Rattle.std.proofs.Common.{◌≡◌, ℕ, suc, ◌<◌, length, Bool, true, false, refl, sym, ◌∙◌, ap, subst, inl, inr, ◌⊎◌, true-eqb, arith}
 use Rattle.std.specs.Prelude.{slice_index_or, if◌then◌else◌, Contains}
 use Rattle.gg_flat.specs.declared.piece.Driver.TheVariants.{Held}
 use Rattle.gg_flat.specs.declared.piece.Register.{Register}
@@ -16,7 +16,7 @@ use Rattle.gg_cut.specs.declared.wires.Wire.{Wire}
 use Rattle.gg_cut.specs.Channels.{wire, port_wire}
 use Rattle.gg_cut.specs.Listed.{owner_of}
 use Rattle.gg_cut.specs.Machines.{unit_number}
-use Rattle.gg_cut.specs.Plan.{Makes, Takes, IsInner, channels_from, givens_of}
+use Rattle.gg_cut.specs.Plan.{Makes, Takes, IsInner}
 use Rattle.gg_closed.proofs.KindLemmas.{outside_unit, unit-wire}
 use Rattle.gg_closed.proofs.MakerLemmas.{given-out, no-channel, owner-signal}
 use Rattle.gg_closed.proofs.OnceLemmas.{channel-one}
@@ -111,7 +111,7 @@ module _ (design : Ordered) (listed : Listed) (u v : ℕ) (one other : Start) (p
 
   pub register-too : (s r : ℕ) (any : Register) → Makes design.circuit design.tree listed (cut_wires design listed) (unit_number u) s → driver_at design.circuit s ≡ Held r
       → (shifted one.registers other.registers r < length design.circuit.registers)
-        × (unclocked_register (slice_index_or design.circuit.registers (shifted one.registers other.registers r) any) ≡ unclocked_register (moved_register (shifted one.signals other.signals) (slice_index_or design.circuit.registers r any)))
+      × (unclocked_register (slice_index_or design.circuit.registers (shifted one.registers other.registers r) any) ≡ unclocked_register (moved_register (shifted one.signals other.signals) (slice_index_or design.circuit.registers r any)))
   register-too s r any makes held =
       let moves = moved_driver (shifted one.signals other.signals) (shifted one.registers other.registers) (shifted one.memories other.memories) in
       let driven : driver_at design.circuit (shifted one.signals other.signals s) ≡ Held (shifted one.registers other.registers r) = driver-too s makes ∙ ap moves held in
