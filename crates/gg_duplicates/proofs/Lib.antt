@@ -14,3 +14,4 @@ pub mod PairLemmas
 pub mod SignalLemmas
 pub mod BankLemmas
 pub mod AgainLemmas
+pub mod WorkedUnits
