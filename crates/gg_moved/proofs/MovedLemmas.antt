@@ -1,5 +1,5 @@
 -- A part of a circuit is a part at another place too, if what stands there is the same with other numbers.
-use Rattle.std.proofs.Common.{◌≡◌, ℕ, suc, ◌<◌, List, [], ◌∷◌, length, map, Option, Some, None, refl, sym, ap, ap₂, ◌∙◌, subst, arith, inl, inr}
+use Rattle.std.proofs.Common.{◌≡◌, ◌≢◌, ℕ, suc, ◌<◌, List, [], ◌∷◌, length, map, Option, Some, None, refl, sym, ap, ap₂, ◌∙◌, subst, arith, inl, inr}
 use Rattle.std.specs.Prelude.{slice_index_or, All}
 use Rattle.std.proofs.lemmas.List.{length-map, get_or-map}
 use Rattle.std.proofs.lemmas.Simd.{map-map}
@@ -92,15 +92,17 @@ module _ (f : ℕ → ℕ) (globals : List ℕ) where
 
 -- ---- the part
 
-module _ (whole part : FlatCircuit) (globals held memories : List ℕ) (f rf mf : ℕ → ℕ) (is : IsPart whole part globals held memories) (again : StandsAgain whole part globals held memories f rf mf) where
-  from-moved : (s : ℕ) → s < length globals → (d : Driver) → driver_at part s ≡ d → IsFrom part.ins globals held memories s (driver_at whole (value_at globals s)) d → IsFrom part.ins (map f globals) (map rf held) (map mf memories) s (driver_at whole (value_at (map f globals) s)) d
-  from-moved s lt (Input place) e h = h
-  from-moved s lt (Held r) e h =
+module _ (whole part : FlatCircuit) (globals held memories : List ℕ) (f rf mf : ℕ → ℕ) where
+  -- a driver's counterpart gives the driver of the part too
+  pub from-moved : (s : ℕ) → s < length globals → (((place : ℕ) → driver_at part s ≢ Input place) → driver_at whole (f (value_at globals s)) ≡ moved_driver f rf mf (driver_at whole (value_at globals s))) → (d : Driver) → driver_at part s ≡ d → IsFrom part.ins globals held memories s (driver_at whole (value_at globals s)) d
+      → IsFrom part.ins (map f globals) (map rf held) (map mf memories) s (driver_at whole (value_at (map f globals) s)) d
+  from-moved s lt again (Input place) e h = h
+  from-moved s lt again (Held r) e h =
       let n : length (map rf held) ≡ length held = length-map held rf in
-      let there = again.drivers s lt (λ place i. let c : Held r ≡ Input place = sym e ∙ i in cc) in
+      let there = again (λ place i. let c : Held r ≡ Input place = sym e ∙ i in cc) in
       (omega (arith, h.0, n), ap (driver_at whole) (value-map f globals s lt) ∙ there ∙ ap (moved_driver f rf mf) h.1 ∙ ap Held (sym (value-map rf held r h.0)))
-  from-moved s lt (MemoryWord m r a b) e h =
-      let there = again.drivers s lt (λ place i. let c : MemoryWord m r a b ≡ Input place = sym e ∙ i in cc) in (
+  from-moved s lt again (MemoryWord m r a b) e h =
+      let there = again (λ place i. let c : MemoryWord m r a b ≡ Input place = sym e ∙ i in cc) in (
         omega (arith, h.0, length-map memories mf),
         omega (arith, h.1, length-map globals f),
         omega (arith, h.2, length-map globals f),
@@ -108,15 +110,16 @@ module _ (whole part : FlatCircuit) (globals held memories : List ℕ) (f rf mf 
             ∙ ap (λ k. MemoryWord k r (f (value_at globals a)) (f (value_at globals b))) (sym (value-map mf memories m h.0))
             ∙ ap₂ (λ x y. MemoryWord (value_at (map mf memories) m) r x y) (sym (value-map f globals a h.1)) (sym (value-map f globals b h.2)),
       )
-  from-moved s lt (ReadRegister m r) e h =
-      let there = again.drivers s lt (λ place i. let c : ReadRegister m r ≡ Input place = sym e ∙ i in cc) in
+  from-moved s lt again (ReadRegister m r) e h =
+      let there = again (λ place i. let c : ReadRegister m r ≡ Input place = sym e ∙ i in cc) in
       (omega (arith, h.0, length-map memories mf), ap (driver_at whole) (value-map f globals s lt) ∙ there ∙ ap (moved_driver f rf mf) h.1 ∙ ap (λ k. ReadRegister k r) (sym (value-map mf memories m h.0)))
-  from-moved s lt (Computed line) e h =
-      let there = again.drivers s lt (λ place i. let c : Computed line ≡ Input place = sym e ∙ i in cc) in (
+  from-moved s lt again (Computed line) e h =
+      let there = again (λ place i. let c : Computed line ≡ Input place = sym e ∙ i in cc) in (
         λ t n. omega (arith, h.0 t n, length-map globals f),
         ap (driver_at whole) (value-map f globals s lt) ∙ there ∙ ap (moved_driver f rf mf) h.1 ∙ ap Computed (sym (line-moved f globals line h.0)),
       )
 
+module _ (whole part : FlatCircuit) (globals held memories : List ℕ) (f rf mf : ℕ → ℕ) (is : IsPart whole part globals held memories) (again : StandsAgain whole part globals held memories f rf mf) where
   -- the same part stands where the numbers lead
   pub part-moved : IsPart whole (placed_at whole part (map f globals)) (map f globals) (map rf held) (map mf memories)
   part-moved = record {
@@ -128,7 +131,7 @@ module _ (whole part : FlatCircuit) (globals held memories : List ℕ) (f rf mf 
         is.types
         ∙ shapes-at globals (λ s lt. sym (again.shapes s lt))
         ∙ sym (map-map (shape_at (signal_shapes whole)) f globals);
-    drivers = λ s lt. let lt' : s < length globals = omega (arith, lt, length-map globals f) in from-moved s lt' (driver_at part s) refl (is.drivers s lt');
+    drivers = λ s lt. let lt' : s < length globals = omega (arith, lt, length-map globals f) in from-moved whole part globals held memories f rf mf s lt' (again.drivers s lt') (driver_at part s) refl (is.drivers s lt');
     ins = λ place lt. let h = is.ins place lt in (omega (arith, h.0, length-map globals f), h.1);
     outs = λ place lt. omega (arith, is.outs place lt, length-map globals f);
     clocks = is.clocks;
