@@ -1,5 +1,5 @@
 -- Two units that are copies of each other, and whose listed memories are each other's counterparts.
-use Rattle.std.proofs.Common.{◌≡◌, ◌≢◌, ◌⊎◌, ℕ, ◌<◌, ◌≤◌, length, sym}
+use Rattle.std.proofs.Common.{◌≡◌, ◌⊎◌, ℕ, ◌<◌, ◌≤◌, length}
 use Rattle.std.specs.Prelude.{Contains}
 use Rattle.gg_flat.specs.Line.{value_at}
 use Rattle.gg_flat.specs.Tree.{InstanceTree, Holds, instance_at, memory_at}
@@ -29,13 +29,12 @@ pub record IsUnitOver (tree : InstanceTree) (listed : Listed) (u v : ℕ) (one o
   pub holder : (p : ℕ) → p < length tree.memories → IsInUnit tree listed u p → IsInUnit tree listed v (shifted one.memories other.memories p)
   pub counterpart : (p : ℕ) → p < length tree.memories → IsInUnit tree listed u p → Contains listed.memories p → Contains listed.memories (shifted one.memories other.memories p)
 
--- Of a design that keeps to its tree and what is listed apart: the units at places u and v are two, and each is a copy of the other, so
--- that all that is listed in one is listed in the other.
+-- Of a design that keeps to its tree and what is listed apart: each of the units at places u and v is a copy of the other, and a memory
+-- in one is listed exactly if its counterpart in the other is.
 pub record ArePair (design : Ordered) (listed : Listed) (u v : ℕ) (one other : Start) : Type 0 where
   pub meant : IsDesign design
   pub keeps : KeepsToTree design.circuit design.tree
   pub apart : AreApart design.tree listed
-  pub two : u ≢ v
   pub copy : IsCopy design.circuit design.tree (value_at listed.units u) (value_at listed.units v) one other
   pub again : IsCopy design.circuit design.tree (value_at listed.units v) (value_at listed.units u) other one
   pub there : IsUnitOver design.tree listed u v one other
@@ -48,7 +47,6 @@ turned pair =
       meant = pair.meant;
       keeps = pair.keeps;
       apart = pair.apart;
-      two = λ e. pair.two (sym e);
       copy = pair.again;
       again = pair.copy;
       there = pair.back;

@@ -138,7 +138,6 @@ module _ (design : Ordered) (request : Request) (meant : IsDesign design) (keeps
           meant = meant;
           keeps = keeps;
           apart = apart;
-          two = λ e. differ (x.number ∙ ap suc e ∙ sym y.number);
           copy = copy;
           again = again;
           there = over together.group m n one other together.among x y (starts tree listed x.place) copy again;
