@@ -41,14 +41,14 @@ none-failing test xs x e h = by (test x) (find-none (λ y. not (test y)) xs x e 
     by true e = refl
     by false e = absurd (cc)
 
-either-none : {A : Type 0} (a b : Option A) → or_else a b ≡ None → (a ≡ None) × (b ≡ None)
+pub either-none : {A : Type 0} (a b : Option A) → or_else a b ≡ None → (a ≡ None) × (b ≡ None)
 either-none None b e = (refl, e)
 either-none (Some x) b e = absurd (cc)
 
 -- ---- entries of `share`
 
 -- no path of those before stands among paths without a clash
-fresh : (earlier paths : List (List ℕ)) (p q : List ℕ) → first_clash same_path earlier paths ≡ None → Contains earlier p → Contains paths q → p ≢ q
+pub fresh : (earlier paths : List (List ℕ)) (p q : List ℕ) → first_clash same_path earlier paths ≡ None → Contains earlier p → Contains paths q → p ≢ q
 fresh earlier [] p q e h k = absurd (omega (arith, k.1))
 fresh earlier (x ∷ xs) p q e h k = by (list_any (same_path x) earlier) refl e (Contains-cases x q xs k) (λ f r. fresh (earlier ++ x ∷ []) xs p q f (Contains-append_left earlier (x ∷ []) p h) r)
   where
@@ -59,7 +59,7 @@ fresh earlier (x ∷ xs) p q e h k = by (list_any (same_path x) earlier) refl e 
         let equal : x ≡ get_or earlier h.0 p = same ∙ sym one ∙ sym h.2 in
         true≢false (sym (list_any_at (same_path x) earlier h.0 p h.1 ((bytes_eq-Decides x (get_or earlier h.0 p)).1 equal)) ∙ t)
 
-entries-in : (share : List (List (List ℕ))) (group : List (List ℕ)) (path : List ℕ) → Contains share group → Contains group path → Contains (entries share) path
+pub entries-in : (share : List (List (List ℕ))) (group : List (List ℕ)) (path : List ℕ) → Contains share group → Contains group path → Contains (entries share) path
 entries-in [] group path h k = absurd (omega (arith, h.1))
 entries-in (g ∷ share) group path h k = by (Contains-cases g group share h) (λ r. entries-in share group path r k)
   where
@@ -117,7 +117,7 @@ unit-path units path e = by (place_of units path) refl
         record { place = k; known = at.within; is = sym ((bytes_eq-Decides path (path_at units k)).0 (at.passes [])); machine = ap unit_or_hub f }
 
 -- units of one machine have one path
-unit-one : (units : List (List ℕ)) (p q : List ℕ) → is_among units p ≡ true → is_among units q ≡ true → machine_of units p ≡ machine_of units q → p ≡ q
+pub unit-one : (units : List (List ℕ)) (p q : List ℕ) → is_among units p ≡ true → is_among units q ≡ true → machine_of units p ≡ machine_of units q → p ≡ q
 unit-one units p q a b e =
     let x = unit-path units p a in
     let y = unit-path units q b in
@@ -131,7 +131,7 @@ pub record HasUnit (units group : List (List ℕ)) (m : ℕ) : Type 0 where
   pub among : Contains group path
   pub is : machine_of units path ≡ m
 
-has-unit : (units group : List (List ℕ)) (m : ℕ) → list_any (λ path. machine_of units path == m) group ≡ true → HasUnit units group m
+pub has-unit : (units group : List (List ℕ)) (m : ℕ) → list_any (λ path. machine_of units path == m) group ≡ true → HasUnit units group m
 has-unit units [] m e = absurd (cc)
 has-unit units (p ∷ group) m e = by (machine_of units p == m) refl e (λ f. has-unit units group m f)
   where
@@ -139,7 +139,7 @@ has-unit units (p ∷ group) m e = by (machine_of units p == m) refl e (λ f. ha
     by true t e rest = record { path = p; among = here p group; is = true-eqb (machine_of units p) m (sym t) }
     by false t e rest = let r = rest e in record { path = r.path; among = further p group r.path r.among; is = r.is }
 
-unit-tested : (units group : List (List ℕ)) (m : ℕ) → HasUnit units group m → list_any (λ path. machine_of units path == m) group ≡ true
+pub unit-tested : (units group : List (List ℕ)) (m : ℕ) → HasUnit units group m → list_any (λ path. machine_of units path == m) group ≡ true
 unit-tested units group m h =
     list_any_at (λ path. machine_of units path == m) group h.among.0 h.path h.among.1
     (eq-eqb (machine_of units (get_or group h.among.0 h.path)) m (ap (machine_of units) h.among.2 ∙ h.is))
@@ -157,7 +157,7 @@ least-unit units (p ∷ group) n = by (least-unit units group (min (machine_of u
     by (inl e) (inl lt) = inr (record { path = p; among = here p group; is = omega (arith, e, lt) })
     by (inl e) (inr le) = inl (omega (arith, e, le))
 
-least-in : (units group : List (List ℕ)) (m : ℕ) → HasUnit units group m → HasUnit units group (least_machine units group m)
+pub least-in : (units group : List (List ℕ)) (m : ℕ) → HasUnit units group m → HasUnit units group (least_machine units group m)
 least-in units group m h = by (least-unit units group m)
   where
     by : (least_machine units group m ≡ m) ⊎ HasUnit units group (least_machine units group m) → HasUnit units group (least_machine units group m)
