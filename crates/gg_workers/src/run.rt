@@ -114,7 +114,8 @@ fn run_net<R: Threads + Sync, H: Host, L: Link, Z: Streams, E: Era, G: Gate + Sy
 
 /// Runs the machines of a network by this many workers, each in a thread of its own. Host h belongs to worker h mod
 /// `workers`. A worker ends before a turn where no machine of its hosts is below cycle `upto`, or after 1,024 turns in a
-/// row without a step. The network that comes back may be short of `upto`. With no workers it is the one handed in.
+/// row without a step. After such a turn it lets other threads go on. The network that comes back may be short of
+/// `upto`. With no workers it is the one handed in.
 ///
 /// All memory is taken before the first step.
 ///

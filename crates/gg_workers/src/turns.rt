@@ -13,9 +13,13 @@ use gg_link::Link;
 use gg_net::Station;
 use gg_node::Host;
 use gg_seats::{Desk, Era, pass};
+use std::{hint, thread};
 
 // A worker ends after so many turns in a row without a step.
 const IDLE_TURNS: u32 = 1024;
+
+// The longest rest after a turn without a step, in waits of the processor.
+const LONGEST_REST: u32 = 256;
 
 // A pass over each machine of one host.
 fn pass_threads<H: Host, L: Link, Z: Streams, E: Era>(
@@ -116,7 +120,15 @@ fn have_ended<H: Host, S, T>(booths: &[Booth<H, S, T>], upto: u64) -> bool
     true
 }
 
-// The turns of a worker from turn `first` on, after so many turns in a row without a step.
+// Lets other threads go on, after so many turns in a row without a step. The more there were, the longer it takes.
+fn rest(idle: u32) {
+    for _ in 0..idle.min(LONGEST_REST) {
+        hint::spin_loop();
+    }
+    thread::yield_now();
+}
+
+// The turns of a worker from turn 1 on, after so many turns in a row without a step.
 fn more_turns<H: Host, L: Link, Z: Streams, E: Era, G: Gate>(
     links: &[L],
     stations: &[Station],
@@ -144,6 +156,7 @@ fn more_turns<H: Host, L: Link, Z: Streams, E: Era, G: Gate>(
             idle = 0;
         } else {
             idle += 1;
+            rest(idle);
         }
     }
 }
