@@ -1,0 +1,12 @@
+pub mod WorkedRoutes
+pub mod NameLemmas
+pub mod OriginLemmas
+pub mod GoneLemmas
+pub mod RouteLemmas
+pub mod SubLemmas
+pub mod ChoiceLemmas
+pub mod SameLemmas
+pub mod CutLemmas
+pub mod SideLemmas
+pub mod WholeLemmas
+pub mod ShareLemmas

@@ -1,0 +1,6 @@
+//! Direct channels of a cut.
+#![tactic(auto)]
+
+mod laws;
+
+pub use laws::channels_routed;
