@@ -1,0 +1,12 @@
+pub mod WorkedReference
+pub mod RenameLemmas
+pub mod ReferenceLemmas
+pub mod PipeLemmas
+pub mod LinkLemmas
+pub mod DataLemmas
+pub mod MadeLemmas
+pub mod HolderLemmas
+pub mod FollowLemmas
+pub mod FormedLemmas
+pub mod OrderedLemmas
+pub mod WholeReference

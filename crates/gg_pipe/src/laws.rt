@@ -1,0 +1,36 @@
+//! Laws: facts about the definitions. Each is the contract of a function with an empty body.
+ghost use Rattle.std.specs.Prelude.{◌↔◌, ◌++◌, Contains, ℕ, List, Bool, length};
+ghost use Rattle.std.specs.List.{range_with_len};
+ghost use Rattle.gg_flat.specs.WellFormed.{IsWellFormed};
+ghost use Rattle.gg_flat.specs.Order.{IsOrder};
+ghost use Rattle.gg_flat.specs.Run.{IsRun};
+ghost use Rattle.gg_moved.specs.KeepsToTree.{KeepsToTree};
+ghost use Rattle.gg_part.specs.declared.part.Part.{Part};
+ghost use Rattle.gg_order.specs.Design.{Ordered, IsDesign};
+ghost use Rattle.gg_cut.specs.declared.listed.Listed.{Listed};
+ghost use Rattle.gg_cut.specs.Plan.{HasMemory};
+ghost use Rattle.gg_closed.specs.Apart.{AreApart};
+ghost use Rattle.gg_routes.specs.Direct.{hub_of};
+ghost use Rattle.gg_pipe.specs.Links.{pipes_of, IsRoutedPart};
+ghost use Rattle.gg_pipe.specs.Made.{reference_circuit, IsFresh, AreHeldOnce};
+ghost use Rattle.gg_pipe.specs.Follows.{Follows};
+
+use gg_closed::channels_once;
+
+/// A machine follows the run of the reference circuit: on the lists of the channels that it takes, with a 0 before the
+/// values of those that are piped, its piece gives the lists of the channels that it gives. No register of the circuit may
+/// be held by two signals.
+pub fn parts_follow()
+    ensures { (design : Ordered) (listed : Listed) (piped : ℕ → Bool) (direct : Bool) (m : ℕ) (part : Part) (columns : List (List ℕ)) (n : ℕ) (rows : List (List ℕ)) → IsDesign design → KeepsToTree design.circuit design.tree → AreApart design.tree listed → AreHeldOnce design.circuit → IsRoutedPart (hub_of design.circuit design.tree listed piped direct) m part → ((k : ℕ) → Contains part.memories k ↔ HasMemory design.tree listed m k) → IsRun (reference_circuit design.circuit design.tree listed piped direct) columns n rows → Follows (hub_of design.circuit design.tree listed piped direct) m n part rows }
+{
+    channels_once();
+}
+
+/// The reference circuit is well formed if no path of the design begins with `pipe:`. The order of the design, behind the
+/// pipes, is an order of it.
+pub fn reference_formed()
+    ensures formed { (design : Ordered) (listed : Listed) (piped : ℕ → Bool) (direct : Bool) → IsDesign design → KeepsToTree design.circuit design.tree → AreApart design.tree listed → IsFresh design.circuit → IsWellFormed (reference_circuit design.circuit design.tree listed piped direct) }
+    ensures ordered { (design : Ordered) (listed : Listed) (piped : ℕ → Bool) (direct : Bool) → IsDesign design → KeepsToTree design.circuit design.tree → AreApart design.tree listed → IsOrder (reference_circuit design.circuit design.tree listed piped direct) (range_with_len (length design.circuit.signals) (length (pipes_of (hub_of design.circuit design.tree listed piped direct))) ++ design.order) }
+{
+    channels_once();
+}

@@ -1,0 +1,6 @@
+//! Pipe channels of a cut: the reference circuit, and what each machine computes by its run.
+#![tactic(auto)]
+
+mod laws;
+
+pub use laws::{parts_follow, reference_formed};
