@@ -1,10 +1,11 @@
 -- The parts of a cut follow the run of the reference circuit.
-use Rattle.std.proofs.Common.{ℕ, ◌<◌, List, length, map, get_or, sym, ◌∙◌, ap, subst}
+use Rattle.std.proofs.Common.{◌≡◌, ℕ, ◌<◌, List, length, map, get_or, sym, ◌∙◌, ap, subst}
 use Rattle.std.specs.Prelude.{Contains, filter}
 use Rattle.std.proofs.lemmas.List.Elements.{All-contains, Contains-get_or}
 use Rattle.std.proofs.lemmas.Simd.{map-map}
 use Rattle.gg_flat.specs.Line.{value_at}
-use Rattle.gg_flat.specs.Run.{IsRun, column}
+use Rattle.gg_flat.specs.Clock.{Ratio}
+use Rattle.gg_flat.specs.Run.{IsRunFrom, clocked_start, column}
 use Rattle.gg_flat.specs.WellFormed.{IsWellFormed}
 use Rattle.gg_flat.proofs.ListLemmas.{filter-cases}
 use Rattle.gg_part.specs.PartRun.{part_rows}
@@ -16,11 +17,11 @@ use Rattle.gg_routes.specs.Direct.{Hub, routes}
 use Rattle.gg_pipe.specs.Reference.{IsReference}
 use Rattle.gg_pipe.specs.Links.{pipes_of, seen_by, views_of, taken_as, IsRoutedPart, AreHolders}
 use Rattle.gg_pipe.specs.Made.{reference}
-use Rattle.gg_pipe.specs.Follows.{Follows}
+use Rattle.gg_pipe.specs.Follows.{Follows, taken_column}
 use Rattle.gg_routes.proofs.ChoiceLemmas.{any-wire}
 use Rattle.gg_routes.proofs.RouteLemmas.{IsBase, out-routes, route-signal}
 use Rattle.gg_pipe.proofs.MadeLemmas.{Known, is-reference}
-use Rattle.gg_pipe.proofs.LinkLemmas.{machine-run, outs-columns}
+use Rattle.gg_pipe.proofs.LinkLemmas.{link-column, machine-run, outs-columns}
 
 module _ (hub : Hub) (base : IsBase hub) (formed : IsWellFormed hub.circuit) (holder keeper : ℕ → ℕ) where
   -- a piped channel's signal is a signal of the circuit
@@ -38,10 +39,15 @@ module _ (hub : Hub) (base : IsBase hub) (formed : IsWellFormed hub.circuit) (ho
   made : IsReference hub.circuit (reference hub holder keeper) (views_of hub holder keeper) (pipes_of hub)
   made = is-reference hub.circuit (views_of hub holder keeper) (pipes_of hub) (map (taken_as hub) hub.circuit.outs) pipes-known
 
-  pub follows : (m : ℕ) (part : Part) → IsRoutedPart hub m part → AreHolders hub holder keeper m part.memories → (columns : List (List ℕ)) (n : ℕ) (rows : List (List ℕ)) → IsRun (reference hub holder keeper) columns n rows → Follows hub m n part rows
-  follows m part cut holders columns n rows run =
+  pub follows : (m : ℕ) (part : Part) → IsRoutedPart hub m part → AreHolders hub holder keeper m part.memories → (ratios : List Ratio) (columns : List (List ℕ)) (n : ℕ) (rows : List (List ℕ)) → IsRunFrom (reference hub holder keeper) (clocked_start (reference hub holder keeper) ratios) columns n rows → Follows hub m ratios n part rows
+  follows m part cut holders ratios columns n rows run =
       record {
         own = part_rows (map (seen_by hub m) part.globals) rows;
-        run = machine-run hub base (reference hub holder keeper) holder keeper made formed m part cut holders columns n rows run;
-        gives = outs-columns hub base (reference hub holder keeper) holder keeper made formed m part cut holders columns n rows run ∙ map-map (column rows) (λ c. (wire_at (routes hub) c).given) (channels_from (routes hub) m);
+        run = machine-run hub base (reference hub holder keeper) holder keeper made formed m part cut holders ratios columns n rows run;
+        gives = outs-columns hub base (reference hub holder keeper) holder keeper made formed m part cut holders ratios columns n rows run ∙ map-map (column rows) (λ c. (wire_at (routes hub) c).given) (channels_from (routes hub) m);
       }
+
+  -- what the consumer of a channel gets in the reference circuit
+  pub channel-column : (ratios : List Ratio) (columns : List (List ℕ)) (n : ℕ) (rows : List (List ℕ)) → IsRunFrom (reference hub holder keeper) (clocked_start (reference hub holder keeper) ratios) columns n rows → (c : ℕ) → c < length (routes hub) → column rows (taken_as hub (wire_at (routes hub) c).signal) ≡ taken_column hub n rows c
+  channel-column ratios columns n rows run c lt =
+      link-column hub base (reference hub holder keeper) holder keeper made formed ratios columns n rows run (wire_at (routes hub) c) (Contains-get_or (routes hub) c any-wire lt)

@@ -15,12 +15,12 @@ use Rattle.gg_flat.specs.Line.{value_at, shape_at}
 use Rattle.gg_flat.specs.Circuit.{FlatCircuit, signal_shapes, driver_at}
 use Rattle.gg_flat.specs.WellFormed.{IsWellFormed}
 use Rattle.gg_flat.specs.Tree.{path_at}
-use Rattle.gg_flat.specs.Run.{opening_start, IsRun, row_at, column, state_at, inputs_at}
+use Rattle.gg_flat.specs.Clock.{Ratio}
+use Rattle.gg_flat.specs.Run.{clocked_start, IsRunFrom, row_at, column, state_at, inputs_at}
 use Rattle.gg_flat.proofs.ListLemmas.{map-same, once-apart, Contains-map, Contains-filter, filter-cases, range-below}
 use Rattle.gg_part.specs.PartRun.{part_row, part_rows, part_columns}
 use Rattle.gg_part.specs.declared.part.Part.{Part}
 use Rattle.gg_part.proofs.RenameLemmas.{part_row-at}
-use Rattle.gg_part.proofs.RunLemmas.{IsRun-part}
 use Rattle.gg_cut.specs.declared.wires.Wire.{Wire}
 use Rattle.gg_cut.specs.Listed.{first_place}
 use Rattle.gg_cut.proofs.PathLemmas.{IsPlace, place-tells, first_place-Some}
@@ -36,7 +36,7 @@ use Rattle.gg_routes.proofs.RouteLemmas.{IsBase, same-wire, own-no-wire, find-so
 use Rattle.gg_routes.proofs.ChoiceLemmas.{IsFromBase, takes-out, From, Same, Origin, gives-out, inner-none, any-wire}
 use Rattle.gg_routes.proofs.SameLemmas.{copy-wide, IsKeptIn, AreKeptIn, routes-same}
 use Rattle.gg_pipe.proofs.PipeLemmas.{IsPipe, pipe-column}
-use Rattle.gg_pipe.proofs.ReferenceLemmas.{IsOwn, part_of_reference, run-paths}
+use Rattle.gg_pipe.proofs.ReferenceLemmas.{IsOwn, part_of_reference, run-paths, clocked-part}
 
 -- two functions that agree on the items of a list make the same list of it
 map-agree : {B : Type 0} (f g : ℕ → B) (xs : List ℕ) → ((i : ℕ) → i < length xs → f (value_at xs i) ≡ g (value_at xs i)) → map f xs ≡ map g xs
@@ -204,7 +204,7 @@ module _ (hub : Hub) (base : IsBase hub) where
             let w = out-routes hub base r kept.among in
             subst (λ t. t < length hub.circuit.signals) (sym (route-signal hub base w.wire) ∙ ap (λ (q : Wire). q.signal) w.is ∙ at.holds any-wire) (All-contains (λ (v : Wire). v.signal < length hub.circuit.signals) hub.base w.wire base.known w.among)
 
-    module _ (columns : List (List ℕ)) (n : ℕ) (rows : List (List ℕ)) (run : IsRun all columns n rows) where
+    module _ (ratios : List Ratio) (columns : List (List ℕ)) (n : ℕ) (rows : List (List ℕ)) (run : IsRunFrom all (clocked_start all ratios) columns n rows) where
       high : (s : ℕ) → length (column rows s) ≡ n
       high s = length-map rows (λ (row : List ℕ). value_at row s) ∙ run.count
 
@@ -215,7 +215,7 @@ module _ (hub : Hub) (base : IsBase hub) where
           let lt : t < n = omega (arith, inside, high r.signal) in
           let below : t < length rows = omega (arith, lt, run.count) in
           get_or-map (λ (row : List ℕ). value_at row r.signal) rows t [] 0 below
-          ∙ same (state_at all (opening_start all) rows t) (inputs_at columns t) (row_at rows t) (run.settled t lt)
+          ∙ same (state_at all (clocked_start all ratios) rows t) (inputs_at columns t) (row_at rows t) (run.settled t lt)
           ∙ sym (get_or-map (λ (row : List ℕ). value_at row r.given) rows t [] 0 below))
         where
           same : IsSame all r
@@ -239,7 +239,7 @@ module _ (hub : Hub) (base : IsBase hub) where
           place (Some k) e p =
               let is = piped-as r.signal k e in
               ap (column rows) is.is
-              ∙ pipe-column all (length hub.circuit.signals + is.pipe) (length hub.circuit.registers + is.pipe) (value_at (pipes_of hub) is.pipe) (pipe-of is.pipe is.known) columns n rows run
+              ∙ pipe-column all (length hub.circuit.signals + is.pipe) (length hub.circuit.registers + is.pipe) (value_at (pipes_of hub) is.pipe) (pipe-of is.pipe is.known) ratios columns n rows run
               ∙ ap (λ c. take n (0 ∷ column rows c)) is.of
               ∙ ap (λ l. take n (0 ∷ l)) (given-column r h)
 
@@ -290,7 +290,7 @@ module _ (hub : Hub) (base : IsBase hub) where
           let t = chosen-out (routes hub) any-wire (λ (q : Wire). q.consumer == m) (λ (q : Wire). q.signal) s k in
           no-echo hub base r.item t.item r.among t.among (eqb-true r.item.producer m r.passes ∙ sym (eqb-true t.item.consumer m t.passes)) (r.is ∙ sym t.is)
 
-      module _ (columns : List (List ℕ)) (n : ℕ) (rows : List (List ℕ)) (run : IsRun all columns n rows) where
+      module _ (ratios : List Ratio) (columns : List (List ℕ)) (n : ℕ) (rows : List (List ℕ)) (run : IsRunFrom all (clocked_start all ratios) columns n rows) where
         -- the columns of what a machine takes
         abbrev pub taken-columns : List (List ℕ)
         taken-columns = map (λ c. take n (stream (hub.piped (wire_at (routes hub) c).signal) (column rows (wire_at (routes hub) c).given))) (channels_to (routes hub) m)
@@ -307,14 +307,14 @@ module _ (hub : Hub) (base : IsBase hub) where
             let r = wire_at (routes hub) c in
             let among = Contains-get_or (routes hub) c any-wire (range-below (length (routes hub)) c kept.among) in
             ap (column rows) (seen-takes m r.signal (finds-any (λ (q : Wire). (q.consumer == m) && (q.signal == r.signal)) (routes hub) r among (and_from (r.consumer == m) (r.signal == r.signal) kept.passes (eq-eqb r.signal r.signal refl))))
-            ∙ link-column columns n rows run r among)
+            ∙ link-column ratios columns n rows run r among)
 
-        pub machine-run : IsRun part.piece (map (λ c. take n (stream (hub.piped (wire_at (routes hub) c).signal) (column rows (wire_at (routes hub) c).given))) (channels_to (routes hub) m)) n (part_rows (map (seen_by hub m) part.globals) rows)
+        pub machine-run : IsRunFrom part.piece (clocked_start part.piece ratios) (map (λ c. take n (stream (hub.piped (wire_at (routes hub) c).signal) (column rows (wire_at (routes hub) c).given))) (channels_to (routes hub) m)) n (part_rows (map (seen_by hub m) part.globals) rows)
         machine-run =
-            subst (λ (given : List (List ℕ)). IsRun part.piece given n (part_rows (map (seen_by hub m) part.globals) rows)) ins-columns
-            (run-paths part.piece (map (path_at all.paths) (map (seen_by hub m) part.globals)) (part_columns (map (seen_by hub m) part.globals) part.piece rows) n (part_rows (map (seen_by hub m) part.globals) rows)
-            (IsRun-part all (with_paths all part.piece (map (seen_by hub m) part.globals)) (map (seen_by hub m) part.globals) part.held part.memories
-            (part_of_reference hub.circuit all (views_of hub holder keeper) (pipes_of hub) reference m (all-seen m) part.piece part.globals part.held part.memories cut.is own-of) columns n rows run))
+            subst (λ (given : List (List ℕ)). IsRunFrom part.piece (clocked_start part.piece ratios) given n (part_rows (map (seen_by hub m) part.globals) rows)) ins-columns
+            (run-paths part.piece (map (path_at all.paths) (map (seen_by hub m) part.globals)) (clocked_start part.piece ratios) (part_columns (map (seen_by hub m) part.globals) part.piece rows) n (part_rows (map (seen_by hub m) part.globals) rows)
+            (clocked-part all (with_paths all part.piece (map (seen_by hub m) part.globals)) (map (seen_by hub m) part.globals) part.held part.memories
+            (part_of_reference hub.circuit all (views_of hub holder keeper) (pipes_of hub) reference m (all-seen m) part.piece part.globals part.held part.memories cut.is own-of) ratios columns n rows run))
 
         column-part : (s : ℕ) → s < length part.globals → column (part_rows (map (seen_by hub m) part.globals) rows) s ≡ column rows (seen_by hub m (value_at part.globals s))
         column-part s lt =

@@ -7,10 +7,10 @@ use Rattle.gg_flat.specs.declared.piece.Register.{Register}
 use Rattle.gg_flat.specs.declared.piece.Driver.TheVariants.{Held}
 use Rattle.gg_flat.specs.Line.{value_at, shape_at}
 use Rattle.gg_flat.specs.Circuit.{FlatCircuit, signal_shapes, driver_at}
-use Rattle.gg_flat.specs.Clock.{edges_at, ticks}
+use Rattle.gg_flat.specs.Clock.{Ratio, edges_at, ticks}
 use Rattle.gg_flat.specs.State.{State, next_register, taken_value, reset_or, connected_or}
 use Rattle.gg_flat.specs.Settled.{driver_value}
-use Rattle.gg_flat.specs.Run.{opening_start, IsRun, state_at, row_at, inputs_at, column}
+use Rattle.gg_flat.specs.Run.{clocked_start, IsRunFrom, state_at, row_at, inputs_at, column}
 use Rattle.gg_flat.proofs.AdvanceLemmas.{length-next_registers, next_registers-at}
 use Rattle.gg_flat.proofs.ListLemmas.{some-item}
 use Rattle.gg_pipe.specs.Reference.{IsPipeRegister}
@@ -26,19 +26,19 @@ pub record IsPipe (circuit : FlatCircuit) (g r c : ℕ) : Type 0 where
   pub is : (any : Register) → IsPipeRegister (get_or circuit.registers r any) sink c
   pub shape_is : shape_at (signal_shapes circuit) c ≡ sink
 
-module _ (circuit : FlatCircuit) (g r c : ℕ) (pipe : IsPipe circuit g r c) (columns : List (List ℕ)) (n : ℕ) (rows : List (List ℕ)) (run : IsRun circuit columns n rows) where
+module _ (circuit : FlatCircuit) (g r c : ℕ) (pipe : IsPipe circuit g r c) (ratios : List Ratio) (columns : List (List ℕ)) (n : ℕ) (rows : List (List ℕ)) (run : IsRunFrom circuit (clocked_start circuit ratios) columns n rows) where
   abbrev state : ℕ → State
-  state t = state_at circuit (opening_start circuit) rows t
+  state t = state_at circuit (clocked_start circuit ratios) rows t
 
-  counts : (t : ℕ) → length (state_at circuit (opening_start circuit) rows t).registers ≡ length circuit.registers
+  counts : (t : ℕ) → length (state_at circuit (clocked_start circuit ratios) rows t).registers ≡ length circuit.registers
   counts zero = length-replicate (length circuit.registers) 0
-  counts (suc t) = length-next_registers (edges_at [] t) (row_at rows t) circuit.registers (state_at circuit (opening_start circuit) rows t).registers (counts t)
+  counts (suc t) = length-next_registers (edges_at ratios t) (row_at rows t) circuit.registers (state_at circuit (clocked_start circuit ratios) rows t).registers (counts t)
 
   -- the register in each cycle
-  row-value : (t : ℕ) → t < n → value_at (row_at rows t) g ≡ value_at (state_at circuit (opening_start circuit) rows t).registers r
+  row-value : (t : ℕ) → t < n → value_at (row_at rows t) g ≡ value_at (state_at circuit (clocked_start circuit ratios) rows t).registers r
   row-value t lt =
       (run.settled t lt).driven g pipe.known
-      ∙ ap (driver_value (state_at circuit (opening_start circuit) rows t) (inputs_at columns t) (row_at rows t) (shape_at (signal_shapes circuit) g)) pipe.driver
+      ∙ ap (driver_value (state_at circuit (clocked_start circuit ratios) rows t) (inputs_at columns t) (row_at rows t) (shape_at (signal_shapes circuit) g)) pipe.driver
 
   next-value : (edges : List Bool) (row : List ℕ) (own : ℕ) (register : Register) → IsPipeRegister register pipe.sink c → Fits pipe.sink (value_at row c) → next_register edges row register own ≡ value_at row c
   next-value edges row own register is fits =
@@ -46,12 +46,12 @@ module _ (circuit : FlatCircuit) (g r c : ℕ) (pipe : IsPipe circuit g r c) (co
       ∙ ap₂ (λ reset next. reset_or row (shape register.ty) reset (connected_or row (shape register.ty) next own)) is.reset is.next
       ∙ bare-value row (shape register.ty) is.node c is.op (ap (λ (s : Shape). s.width) (is.wide ∙ sym is.type)) (subst (λ s. Fits s (value_at row c)) (sym is.type) fits)
 
-  after : (t : ℕ) → t < n → value_at (state_at circuit (opening_start circuit) rows (suc t)).registers r ≡ value_at (row_at rows t) c
+  after : (t : ℕ) → t < n → value_at (state_at circuit (clocked_start circuit ratios) rows (suc t)).registers r ≡ value_at (row_at rows t) c
   after t lt =
       let some = some-item circuit.registers r pipe.register in
       let typed = (run.settled t lt).typed in
-      next_registers-at (edges_at [] t) (row_at rows t) circuit.registers (state_at circuit (opening_start circuit) rows t).registers r some (counts t) pipe.register
-      ∙ next-value (edges_at [] t) (row_at rows t) (value_at (state_at circuit (opening_start circuit) rows t).registers r) (get_or circuit.registers r some) (pipe.is some)
+      next_registers-at (edges_at ratios t) (row_at rows t) circuit.registers (state_at circuit (clocked_start circuit ratios) rows t).registers r some (counts t) pipe.register
+      ∙ next-value (edges_at ratios t) (row_at rows t) (value_at (state_at circuit (clocked_start circuit ratios) rows t).registers r) (get_or circuit.registers r some) (pipe.is some)
       (subst (λ s. Fits s (value_at (row_at rows t) c)) pipe.shape_is (typed.fits c (let low = pipe.from in omega (arith, low, length-map circuit.signals (λ signal. shape signal.ty)))))
 
   high : (s : ℕ) → length (column rows s) ≡ n

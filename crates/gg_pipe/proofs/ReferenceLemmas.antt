@@ -9,12 +9,15 @@ use Rattle.gg_flat.specs.declared.piece.Driver.{Driver}
 use Rattle.gg_flat.specs.declared.piece.Driver.TheVariants.{Input, Held, MemoryWord, ReadRegister, Computed}
 use Rattle.gg_flat.specs.Line.{value_at, shape_at}
 use Rattle.gg_flat.specs.Circuit.{FlatCircuit, signal_shapes, driver_at}
-use Rattle.gg_flat.specs.Clock.{edges_at}
-use Rattle.gg_flat.specs.State.{next_state}
-use Rattle.gg_flat.specs.Run.{Start, IsRun, state_at, row_at, inputs_at, later, opening_start}
+use Rattle.gg_flat.specs.Clock.{Ratio, edges_at}
+use Rattle.gg_flat.specs.State.{State, next_state}
+use Rattle.gg_flat.specs.Run.{Start, IsRunFrom, clocked_start, state_at, row_at, inputs_at, later}
 use Rattle.gg_flat.specs.Settled.{Settled}
 use Rattle.gg_flat.proofs.ListLemmas.{some-item}
 use Rattle.gg_closed.proofs.ListLemmas.{AllPairs-map}
+use Rattle.gg_flat.proofs.AlongLemmas.{IsState-opening}
+use Rattle.gg_part.specs.PartRun.{part_rows, part_columns}
+use Rattle.gg_part.proofs.RunLemmas.{opening-part, column-at, IsRunFrom-part}
 use Rattle.gg_part.specs.Part.{IsPart, IsFrom, IsRegisterFrom, IsMemoryFrom, MemoryBelow}
 use Rattle.gg_pipe.specs.Reference.{Views, IsReference, IsSeen, IsPiped, with_paths, driver_by, register_by, memory_by}
 use Rattle.gg_pipe.proofs.RenameLemmas.{value-by, line-by, register-by, memory-by}
@@ -170,11 +173,20 @@ module _ (part : FlatCircuit) (paths : List (List ℕ)) where
   state-paths start rows zero = refl
   state-paths start rows (suc t) = ap (λ state. next_state (edges_at start.ratios (later start.cycle t)) part state (row_at rows t)) (state-paths start rows t)
 
-  pub run-paths : (columns : List (List ℕ)) (n : ℕ) (rows : List (List ℕ)) → IsRun (record part { paths = paths }) columns n rows → IsRun part columns n rows
-  run-paths columns n rows run =
+  pub run-paths : (start : Start) (columns : List (List ℕ)) (n : ℕ) (rows : List (List ℕ)) → IsRunFrom (record part { paths = paths }) start columns n rows → IsRunFrom part start columns n rows
+  run-paths start columns n rows run =
       record {
         count = run.count;
         settled = λ t lt.
-            let s = subst (λ state. Settled (record part { paths = paths }) state (inputs_at columns t) (row_at rows t)) (state-paths (opening_start part) rows t) (run.settled t lt) in
+            let s = subst (λ state. Settled (record part { paths = paths }) state (inputs_at columns (later start.cycle t)) (row_at rows t)) (state-paths start rows t) (run.settled t lt) in
             record { typed = s.typed; driven = s.driven };
       }
+
+-- ---- a run of a part, from the opening, whatever the ratios of the clocks
+
+pub clocked-part : (whole part : FlatCircuit) (globals held memories : List ℕ) → IsPart whole part globals held memories → (ratios : List Ratio) (columns : List (List ℕ)) (n : ℕ) (rows : List (List ℕ)) → IsRunFrom whole (clocked_start whole ratios) columns n rows → IsRunFrom part (clocked_start part ratios) (part_columns globals part rows) n (part_rows globals rows)
+clocked-part whole part globals held memories is ratios columns n rows run =
+    let from : State → Start = λ state. record { cycle = 0; state = state; ratios = ratios } in
+    subst (λ state. IsRunFrom part (from state) (part_columns globals part rows) n (part_rows globals rows)) (opening-part whole part globals held memories is)
+    (IsRunFrom-part whole part globals held memories is (clocked_start whole ratios) columns (part_columns globals part rows) n rows (IsState-opening whole) run
+    (λ t place lt known. column-at whole part globals held memories is rows t place (omega (arith, lt, run.count)) known))

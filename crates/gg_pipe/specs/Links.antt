@@ -43,7 +43,7 @@ maker_of hub s = maker_or (hub.owner s) (find (λ w. w.signal == s) hub.base)
 abbrev pub views_of : Hub → (ℕ → ℕ) → (ℕ → ℕ) → Views
 views_of hub holder keeper = record { maker = maker_of hub; holder = holder; keeper = keeper; seen = seen_by hub }
 
--- T(c) of S(c)
+-- what a consumer takes, where its producer gives these values: behind the token of a pipe, which is 0
 abbrev pub stream : Bool → List ℕ → List ℕ
 stream piped values = if piped then 0 ∷ values else values
 
