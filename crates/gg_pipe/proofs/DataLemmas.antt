@@ -15,7 +15,7 @@ use Rattle.gg_routes.specs.Direct.{Hub, hub_of}
 use Rattle.gg_routes.proofs.RouteLemmas.{IsBase}
 use Rattle.gg_routes.proofs.ChoiceLemmas.{Made, Taken, inner-none, wire-made, ins-before}
 use Rattle.gg_pipe.specs.Links.{maker_of, seen_by}
-use Rattle.gg_pipe.proofs.LinkLemmas.{maker-inner, maker-wire, seen-own}
+use Rattle.gg_pipe.proofs.SeenLemmas.{maker-inner, maker-wire, seen-own}
 
 module _ (circuit : FlatCircuit) (tree : InstanceTree) (listed : Listed) (formed : IsWellFormed circuit) (fits : IsTree circuit tree) (scoped : IsScoped circuit tree) (apart : AreApart tree listed) (piped : ℕ → Bool) (direct : Bool) (base : IsBase (hub_of circuit tree listed piped direct)) where
   abbrev the_hub : Hub

@@ -1,17 +1,12 @@
 -- The parts of a cut follow the run of the reference circuit.
-use Rattle.std.proofs.Common.{◌≡◌, ℕ, ◌<◌, List, length, map, get_or, sym, ◌∙◌, ap, subst}
-use Rattle.std.specs.Prelude.{Contains, filter}
-use Rattle.std.proofs.lemmas.List.Elements.{All-contains, Contains-get_or}
+use Rattle.std.proofs.Common.{◌≡◌, ℕ, ◌<◌, List, length, map, ◌∙◌}
+use Rattle.std.proofs.lemmas.List.Elements.{Contains-get_or}
 use Rattle.std.proofs.lemmas.Simd.{map-map}
-use Rattle.gg_flat.specs.Line.{value_at}
 use Rattle.gg_flat.specs.Clock.{Ratio}
 use Rattle.gg_flat.specs.Run.{IsRunFrom, clocked_start, column}
 use Rattle.gg_flat.specs.WellFormed.{IsWellFormed}
-use Rattle.gg_flat.proofs.ListLemmas.{filter-cases}
 use Rattle.gg_part.specs.PartRun.{part_rows}
 use Rattle.gg_part.specs.declared.part.Part.{Part}
-use Rattle.gg_cut.specs.declared.wires.Wire.{Wire}
-use Rattle.gg_closed.proofs.ListLemmas.{map-cases}
 use Rattle.gg_cut.specs.Plan.{wire_at, channels_from}
 use Rattle.gg_routes.specs.Direct.{Hub, routes}
 use Rattle.gg_pipe.specs.Reference.{IsReference}
@@ -19,25 +14,15 @@ use Rattle.gg_pipe.specs.Links.{pipes_of, seen_by, views_of, taken_as, IsRoutedP
 use Rattle.gg_pipe.specs.Made.{reference}
 use Rattle.gg_pipe.specs.Follows.{Follows, taken_column}
 use Rattle.gg_routes.proofs.ChoiceLemmas.{any-wire}
-use Rattle.gg_routes.proofs.RouteLemmas.{IsBase, out-routes, route-signal}
-use Rattle.gg_pipe.proofs.MadeLemmas.{Known, is-reference}
-use Rattle.gg_pipe.proofs.LinkLemmas.{link-column, machine-run, outs-columns}
+use Rattle.gg_routes.proofs.RouteLemmas.{IsBase}
+use Rattle.gg_pipe.proofs.MadeLemmas.{is-reference}
+use Rattle.gg_pipe.proofs.SeenLemmas.{pipes-known}
+use Rattle.gg_pipe.proofs.LinkLemmas.{link-column}
+use Rattle.gg_pipe.proofs.MachineLemmas.{machine-run, outs-columns}
 
 module _ (hub : Hub) (base : IsBase hub) (formed : IsWellFormed hub.circuit) (holder keeper : ℕ → ℕ) where
-  -- a piped channel's signal is a signal of the circuit
-  pub pipes-known : Known hub.circuit.signals (pipes_of hub)
-  pipes-known k lt = known (value_at (pipes_of hub) k) (Contains-get_or (pipes_of hub) k 0 lt)
-    where
-      known : (c : ℕ) → Contains (pipes_of hub) c → c < length hub.circuit.signals
-      known c h =
-          let at = map-cases (λ (r : Wire). r.signal) (filter (λ (r : Wire). hub.piped r.signal) (routes hub)) c h in
-          let r = get_or (filter (λ (r : Wire). hub.piped r.signal) (routes hub)) at.place any-wire in
-          let kept = filter-cases (λ (r : Wire). hub.piped r.signal) (routes hub) r (Contains-get_or (filter (λ (r : Wire). hub.piped r.signal) (routes hub)) at.place any-wire at.within) in
-          let w = out-routes hub base r kept.among in
-          subst (λ t. t < length hub.circuit.signals) (sym (route-signal hub base w.wire) ∙ ap (λ (q : Wire). q.signal) w.is ∙ at.holds any-wire) (All-contains (λ (v : Wire). v.signal < length hub.circuit.signals) hub.base w.wire base.known w.among)
-
   made : IsReference hub.circuit (reference hub holder keeper) (views_of hub holder keeper) (pipes_of hub)
-  made = is-reference hub.circuit (views_of hub holder keeper) (pipes_of hub) (map (taken_as hub) hub.circuit.outs) pipes-known
+  made = is-reference hub.circuit (views_of hub holder keeper) (pipes_of hub) (map (taken_as hub) hub.circuit.outs) (pipes-known hub base)
 
   pub follows : (m : ℕ) (part : Part) → IsRoutedPart hub m part → AreHolders hub holder keeper m part.memories → (ratios : List Ratio) (columns : List (List ℕ)) (n : ℕ) (rows : List (List ℕ)) → IsRunFrom (reference hub holder keeper) (clocked_start (reference hub holder keeper) ratios) columns n rows → Follows hub m ratios n part rows
   follows m part cut holders ratios columns n rows run =

@@ -3,6 +3,7 @@ use Rattle.std.proofs.Common.{◌≡◌, ◌≢◌, ℕ, zero, suc, ◌+◌, ◌
 use Rattle.std.specs.Prelude.{Option, Some, None, MatchOption, ⊤, All, AllPairs}
 use Rattle.std.proofs.lemmas.Bool.{cases_lt}
 use Rattle.std.proofs.lemmas.List.{get_or-map, length-map}
+use Rattle.std.proofs.lemmas.List.Elements.{All-map}
 use Rattle.gg_bits.specs.Shape.{Shape, shape, uint}
 use Rattle.gg_flat.specs.declared.line.Node.{Node}
 use Rattle.gg_flat.specs.declared.line.Op.{Op}
@@ -82,34 +83,28 @@ module _ (one all : FlatCircuit) (to : ℕ → ℕ) (types : (s : ℕ) (sh : Sha
   register-is register is = record { reset = reset-is (shape register.ty) register.reset is.reset; next = next-is (shape register.ty) register.next is.next }
 
   readers-are : (word : Shape) (depth : ℕ) (readers : List Reader) → All (IsReader (HasType (signal_shapes one)) word depth) readers → All (IsReader (HasType (signal_shapes all)) word depth) (map (λ reader. reader_by to reader) readers)
-  readers-are word depth [] are k d lt = absurd (omega (arith, lt))
-  readers-are word depth (reader ∷ readers) are zero d lt =
-      let is = are 0 reader (omega arith) in
-      record { address = types reader.addr _ is.address; enable = types reader.en _ is.enable; output = types reader.word _ is.output }
-  readers-are word depth (reader ∷ readers) are (suc k) d lt = readers-are word depth readers (λ j e inside. are (suc j) e (omega (arith, inside))) k d (omega (arith, lt))
+  readers-are word depth readers are =
+      All-map (IsReader (HasType (signal_shapes all)) word depth) (λ reader. reader_by to reader) readers (λ k d lt.
+      let is = are k d lt in
+      let reader = get_or readers k d in
+      record { address = types reader.addr _ is.address; enable = types reader.en _ is.enable; output = types reader.word _ is.output })
 
   writers-are : (word : Shape) (depth : ℕ) (writers : List Writer) → All (IsWriter (HasType (signal_shapes one)) word depth) writers → All (IsWriter (HasType (signal_shapes all)) word depth) (map (λ writer. writer_by to writer) writers)
-  writers-are word depth [] are k d lt = absurd (omega (arith, lt))
-  writers-are word depth (writer ∷ writers) are zero d lt =
-      let is = are 0 writer (omega arith) in
-      record { address = types writer.addr _ is.address; enable = types writer.en _ is.enable; input = types writer.word _ is.input; masked = types writer.mask _ is.masked }
-  writers-are word depth (writer ∷ writers) are (suc k) d lt = writers-are word depth writers (λ j e inside. are (suc j) e (omega (arith, inside))) k d (omega (arith, lt))
+  writers-are word depth writers are =
+      All-map (IsWriter (HasType (signal_shapes all)) word depth) (λ writer. writer_by to writer) writers (λ k d lt.
+      let is = are k d lt in
+      let writer = get_or writers k d in
+      record { address = types writer.addr _ is.address; enable = types writer.en _ is.enable; input = types writer.word _ is.input; masked = types writer.mask _ is.masked })
 
   pub memory-is : (memory : Memory) → IsMemory (HasType (signal_shapes one)) memory → IsMemory (HasType (signal_shapes all)) (memory_by to memory)
   memory-is memory is = record { some = is.some; readers = readers-are (shape memory.word) memory.depth memory.readers is.readers; writers = writers-are (shape memory.word) memory.depth memory.writers is.writers }
 
-  readers-clocked : (count : ℕ) (readers : List Reader) → All (λ reader. IsClock count reader.clock) readers → All (λ reader. IsClock count reader.clock) (map (λ reader. reader_by to reader) readers)
-  readers-clocked count [] are k d lt = absurd (omega (arith, lt))
-  readers-clocked count (reader ∷ readers) are zero d lt = are 0 reader (omega arith)
-  readers-clocked count (reader ∷ readers) are (suc k) d lt = readers-clocked count readers (λ j e inside. are (suc j) e (omega (arith, inside))) k d (omega (arith, lt))
-
-  writers-clocked : (count : ℕ) (writers : List Writer) → All (λ writer. IsClock count writer.clock) writers → All (λ writer. IsClock count writer.clock) (map (λ writer. writer_by to writer) writers)
-  writers-clocked count [] are k d lt = absurd (omega (arith, lt))
-  writers-clocked count (writer ∷ writers) are zero d lt = are 0 writer (omega arith)
-  writers-clocked count (writer ∷ writers) are (suc k) d lt = writers-clocked count writers (λ j e inside. are (suc j) e (omega (arith, inside))) k d (omega (arith, lt))
-
-  pub memory-clocked : (count : ℕ) (memory : Memory) → IsClockedMemory count memory → IsClockedMemory count (memory_by to memory)
-  memory-clocked count memory is = record { readers = readers-clocked count memory.readers is.readers; writers = writers-clocked count memory.writers is.writers }
+memory-clocked : (count : ℕ) (to : ℕ → ℕ) (memory : Memory) → IsClockedMemory count memory → IsClockedMemory count (memory_by to memory)
+memory-clocked count to memory is =
+    record {
+      readers = All-map (λ (reader : Reader). IsClock count reader.clock) (λ reader. reader_by to reader) memory.readers is.readers;
+      writers = All-map (λ (writer : Writer). IsClock count writer.clock) (λ writer. writer_by to writer) memory.writers is.writers;
+    }
 
 -- ---- the circuit
 
@@ -255,7 +250,7 @@ module _ (one all : FlatCircuit) (views : Views) (pipes : List ℕ) (reference :
                 let low : m < length one.memories = omega (arith, lt, reference.memories) in
                 let any = some-item one.memories m low in
                 subst (IsClockedMemory all.clocks) (sym (reference.memory m any d low))
-                (memory-clocked one all (views.seen (views.keeper m)) (types (views.keeper m)) all.clocks (get_or one.memories m any)
+                (memory-clocked all.clocks (views.seen (views.keeper m)) (get_or one.memories m any)
                 (subst (λ n. IsClockedMemory n (get_or one.memories m any)) (sym reference.clocks) (formed.memory_clocks m any low)));
             reads = λ m lt r inside. reads m r (omega (arith, lt, reference.memories)) inside;
           }

@@ -2,7 +2,9 @@ pub mod WorkedReference
 pub mod RenameLemmas
 pub mod ReferenceLemmas
 pub mod PipeLemmas
+pub mod SeenLemmas
 pub mod LinkLemmas
+pub mod MachineLemmas
 pub mod DataLemmas
 pub mod MadeLemmas
 pub mod HolderLemmas
@@ -10,3 +12,4 @@ pub mod FollowLemmas
 pub mod FormedLemmas
 pub mod OrderedLemmas
 pub mod WholeReference
+pub mod NothingLemmas

@@ -23,9 +23,8 @@ use Rattle.gg_pipe.specs.Reference.{IsReference, IsPiped}
 use Rattle.gg_pipe.specs.Links.{pipes_of, taken_as, views_of}
 use Rattle.gg_pipe.specs.Made.{reference, IsFresh}
 use Rattle.gg_routes.proofs.RouteLemmas.{IsBase, routes-once}
-use Rattle.gg_pipe.proofs.LinkLemmas.{all-seen, taken-seen}
+use Rattle.gg_pipe.proofs.SeenLemmas.{all-seen, taken-seen, pipes-known}
 use Rattle.gg_pipe.proofs.MadeLemmas.{is-reference}
-use Rattle.gg_pipe.proofs.FollowLemmas.{pipes-known}
 use Rattle.gg_pipe.proofs.OrderedLemmas.{reference_ordered}
 use Rattle.gg_pipe.proofs.DataLemmas.{word-plain, word-maker}
 use Rattle.gg_pipe.proofs.FormedLemmas.{AreData, AreOuter, reference_formed}
@@ -35,7 +34,7 @@ module _ (circuit : FlatCircuit) (tree : InstanceTree) (listed : Listed) (formed
   hub = hub_of circuit tree listed piped direct
 
   made : IsReference circuit (reference (hub_of circuit tree listed piped direct) holder keeper) (views_of (hub_of circuit tree listed piped direct) holder keeper) (pipes_of (hub_of circuit tree listed piped direct))
-  made = is-reference circuit (views_of hub holder keeper) (pipes_of hub) (map (taken_as hub) circuit.outs) (pipes-known hub base formed holder keeper)
+  made = is-reference circuit (views_of hub holder keeper) (pipes_of hub) (map (taken_as hub) circuit.outs) (pipes-known hub base)
 
   pub ordered : (order : List ℕ) → IsOrder circuit order → IsOrder (reference (hub_of circuit tree listed piped direct) holder keeper) (range_with_len (length circuit.signals) (length (pipes_of (hub_of circuit tree listed piped direct))) ++ order)
   ordered order is = reference_ordered circuit (reference hub holder keeper) (views_of hub holder keeper) (pipes_of hub) order made (all-seen hub base) is
@@ -67,7 +66,7 @@ module _ (circuit : FlatCircuit) (tree : InstanceTree) (listed : Listed) (formed
     names-once =
         AllPairs-map (λ a b. a ≢ b) (λ c. codes "pipe:" ++ path_at circuit.paths c) (pipes_of hub) (λ i j d less lt same.
         let low : i < length (pipes_of hub) = omega (arith, less, lt) in
-        let known = pipes-known hub base formed holder keeper in
+        let known = pipes-known hub base in
         let a = subst (λ c. c < length circuit.paths) (sym (get_or_default (pipes_of hub) i d 0 low)) (let k = known i low in omega (arith, k, formed.named)) in
         let b = subst (λ c. c < length circuit.paths) (sym (get_or_default (pipes_of hub) j d 0 lt)) (let k = known j lt in omega (arith, k, formed.named)) in
         pipes-once i j d less lt (once-apart circuit.paths [] formed.distinct (get_or (pipes_of hub) i d) (get_or (pipes_of hub) j d) a b (cancel (path_at circuit.paths (get_or (pipes_of hub) i d)) (path_at circuit.paths (get_or (pipes_of hub) j d)) same)))
@@ -84,7 +83,7 @@ module _ (circuit : FlatCircuit) (tree : InstanceTree) (listed : Listed) (formed
               let lt : p.0 < length circuit.signals = (let k = p.1 in let n = formed.named in omega (arith, k, n)) in
               fresh p.0 (path_at circuit.paths (get_or (pipes_of hub) at.place 0)) lt (get_or_default circuit.paths p.0 [] a p.1 ∙ p.2 ∙ same ∙ sym (at.holds 0)));
           outs = λ place lt. out place (subst (λ n. place < n) (length-map circuit.outs (taken_as hub)) lt);
-          known = pipes-known hub base formed holder keeper;
+          known = pipes-known hub base;
         }
       where
         below : (s : ℕ) → s < length circuit.signals → (taken_as hub s ≡ s) ⊎ IsPiped circuit (pipes_of hub) s (taken_as hub s) → taken_as hub s < length (reference hub holder keeper).signals

@@ -1,6 +1,8 @@
 //! Laws: facts about the definitions. Each is the contract of a function with an empty body.
-ghost use Rattle.std.specs.Prelude.{◌≡◌, ◌↔◌, ◌++◌, Contains, ℕ, ◌<◌, List, Bool, length};
+ghost use Rattle.std.specs.Prelude.{◌≡◌, ◌↔◌, ◌++◌, Contains, ℕ, ◌<◌, List, [], Bool, length};
 ghost use Rattle.std.specs.List.{range_with_len};
+ghost use Rattle.gg_flat.specs.Circuit.{FlatCircuit};
+ghost use Rattle.gg_flat.specs.Tree.{InstanceTree};
 ghost use Rattle.gg_flat.specs.WellFormed.{IsWellFormed};
 ghost use Rattle.gg_flat.specs.Order.{IsOrder};
 ghost use Rattle.gg_flat.specs.Clock.{Ratio};
@@ -43,3 +45,8 @@ pub fn reference_formed()
 {
     channels_once();
 }
+
+/// Where no channel is piped, the reference circuit is the circuit itself.
+pub fn nothing_piped()
+    ensures { (circuit : FlatCircuit) (tree : InstanceTree) (listed : Listed) (piped : ℕ → Bool) (direct : Bool) → pipes_of (hub_of circuit tree listed piped direct) ≡ [] → reference_circuit circuit tree listed piped direct ≡ circuit }
+{}
