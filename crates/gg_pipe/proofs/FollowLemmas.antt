@@ -21,8 +21,8 @@ use Rattle.gg_pipe.proofs.LinkLemmas.{link-column}
 use Rattle.gg_pipe.proofs.MachineLemmas.{machine-run, outs-columns}
 
 module _ (hub : Hub) (base : IsBase hub) (formed : IsWellFormed hub.circuit) (holder keeper : ℕ → ℕ) where
-  made : IsReference hub.circuit (reference hub holder keeper) (views_of hub holder keeper) (pipes_of hub)
-  made = is-reference hub.circuit (views_of hub holder keeper) (pipes_of hub) (map (taken_as hub) hub.circuit.outs) (pipes-known hub base)
+  pub made : IsReference hub.circuit (reference hub holder keeper) (views_of hub holder keeper) (pipes_of hub)
+  made = is-reference hub.circuit (views_of hub holder keeper) (pipes_of hub) (pipes-known hub base)
 
   pub follows : (m : ℕ) (part : Part) → IsRoutedPart hub m part → AreHolders hub holder keeper m part.memories → (ratios : List Ratio) (columns : List (List ℕ)) (n : ℕ) (rows : List (List ℕ)) → IsRunFrom (reference hub holder keeper) (clocked_start (reference hub holder keeper) ratios) columns n rows → Follows hub m ratios n part rows
   follows m part cut holders ratios columns n rows run =

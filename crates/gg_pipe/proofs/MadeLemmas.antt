@@ -75,37 +75,37 @@ registers-at signals (c ∷ cs) (suc i) any other known lt =
 
 -- ---- the reference circuit
 
-module _ (one : FlatCircuit) (views : Views) (pipes kept : List ℕ) (known : Known one.signals pipes) where
+module _ (one : FlatCircuit) (views : Views) (pipes : List ℕ) (known : Known one.signals pipes) where
   abbrev all : FlatCircuit
-  all = reference_of one views pipes kept
+  all = reference_of one views pipes
 
   old : List Signal
   old = by_number (seen_signal views) 0 one.signals
 
-  long : length (reference_of one views pipes kept).signals ≡ length one.signals + length pipes
+  long : length (reference_of one views pipes).signals ≡ length one.signals + length pipes
   long =
       length-append (by_number (seen_signal views) 0 one.signals) (pipe_signals one.signals (length one.registers) pipes)
       ∙ ap₂ (λ a b. a + b) (length-by (seen_signal views) 0 one.signals) (length-signals one.signals (length one.registers) pipes known)
 
-  many : length (reference_of one views pipes kept).registers ≡ length one.registers + length pipes
+  many : length (reference_of one views pipes).registers ≡ length one.registers + length pipes
   many =
       length-append (by_number (λ r register. register_by (views.seen (views.holder r)) register) 0 one.registers) (pipe_registers one.signals pipes)
       ∙ ap₂ (λ a b. a + b) (length-by (λ r register. register_by (views.seen (views.holder r)) register) 0 one.registers) (length-registers one.signals pipes known)
 
-  signal-is : (s : ℕ) (any other : Signal) → s < length one.signals → get_or (reference_of one views pipes kept).signals s other ≡ seen_signal views s (get_or one.signals s any)
+  signal-is : (s : ℕ) (any other : Signal) → s < length one.signals → get_or (reference_of one views pipes).signals s other ≡ seen_signal views s (get_or one.signals s any)
   signal-is s any other lt =
       get_or_append_left (by_number (seen_signal views) 0 one.signals) (pipe_signals one.signals (length one.registers) pipes) other s (omega (arith, lt, length-by (seen_signal views) 0 one.signals))
       ∙ at-first (seen_signal views) one.signals s any other lt
 
-  pipe-is : (k : ℕ) (any other : Signal) → k < length pipes → get_or (reference_of one views pipes kept).signals (length one.signals + k) other ≡ pipe_signal (length one.registers + k) (get_or one.signals (value_at pipes k) any)
+  pipe-is : (k : ℕ) (any other : Signal) → k < length pipes → get_or (reference_of one views pipes).signals (length one.signals + k) other ≡ pipe_signal (length one.registers + k) (get_or one.signals (value_at pipes k) any)
   pipe-is k any other lt =
-      ap (λ n. get_or (reference_of one views pipes kept).signals (n + k) other) (sym (length-by (seen_signal views) 0 one.signals))
+      ap (λ n. get_or (reference_of one views pipes).signals (n + k) other) (sym (length-by (seen_signal views) 0 one.signals))
       ∙ get_or-append-add (by_number (seen_signal views) 0 one.signals) (pipe_signals one.signals (length one.registers) pipes) k other
       ∙ signals-at one.signals (length one.registers) pipes k any other known lt
 
-  register-is : (k : ℕ) (any : Signal) (other : Register) → k < length pipes → get_or (reference_of one views pipes kept).registers (length one.registers + k) other ≡ pipe_register (value_at pipes k) (get_or one.signals (value_at pipes k) any)
+  register-is : (k : ℕ) (any : Signal) (other : Register) → k < length pipes → get_or (reference_of one views pipes).registers (length one.registers + k) other ≡ pipe_register (value_at pipes k) (get_or one.signals (value_at pipes k) any)
   register-is k any other lt =
-      ap (λ n. get_or (reference_of one views pipes kept).registers (n + k) other) (sym (length-by (λ r register. register_by (views.seen (views.holder r)) register) 0 one.registers))
+      ap (λ n. get_or (reference_of one views pipes).registers (n + k) other) (sym (length-by (λ r register. register_by (views.seen (views.holder r)) register) 0 one.registers))
       ∙ get_or-append-add (by_number (λ r register. register_by (views.seen (views.holder r)) register) 0 one.registers) (pipe_registers one.signals pipes) k other
       ∙ registers-at one.signals pipes k any other known lt
 
@@ -115,16 +115,16 @@ module _ (one : FlatCircuit) (views : Views) (pipes kept : List ℕ) (known : Kn
   abbrev driver_of : Signal → Driver
   driver_of signal = signal.driver
 
-  pub is-reference : IsReference one (reference_of one views pipes kept) views pipes
+  pub is-reference : IsReference one (reference_of one views pipes) views pipes
   is-reference =
       record {
         signals = long;
         shapes = λ s lt.
             let any = some-item one.signals s lt in
-            get_or-map type_of (reference_of one views pipes kept).signals s any (uint 0) (omega (arith, lt, long)) ∙ ap type_of (signal-is s any any lt) ∙ sym (get_or-map type_of one.signals s any (uint 0) lt);
+            get_or-map type_of (reference_of one views pipes).signals s any (uint 0) (omega (arith, lt, long)) ∙ ap type_of (signal-is s any any lt) ∙ sym (get_or-map type_of one.signals s any (uint 0) lt);
         drivers = λ s lt.
             let any = some-item one.signals s lt in
-            get_or-map driver_of (reference_of one views pipes kept).signals s any (Input 0) (omega (arith, lt, long)) ∙ ap driver_of (signal-is s any any lt)
+            get_or-map driver_of (reference_of one views pipes).signals s any (Input 0) (omega (arith, lt, long)) ∙ ap driver_of (signal-is s any any lt)
             ∙ ap (driver_by (views.seen (views.maker s))) (sym (get_or-map driver_of one.signals s any (Input 0) lt));
         registers = many;
         register = λ r any other lt.
@@ -133,15 +133,17 @@ module _ (one : FlatCircuit) (views : Views) (pipes kept : List ℕ) (known : Kn
             ∙ at-first (λ r register. register_by (views.seen (views.holder r)) register) one.registers r any other lt;
         memories = length-by (λ m memory. memory_by (views.seen (views.keeper m)) memory) 0 one.memories;
         memory = λ m any other lt. at-first (λ m memory. memory_by (views.seen (views.keeper m)) memory) one.memories m any other lt;
+        paths = refl;
         ins = refl;
+        outs = refl;
         clocks = refl;
         pipe_shape = λ k lt.
             let c = value_at pipes k in
             let any = some-item one.signals c (known k lt) in
-            get_or-map type_of (reference_of one views pipes kept).signals (length one.signals + k) any (uint 0) (omega (arith, lt, long)) ∙ ap type_of (pipe-is k any any lt) ∙ sym (get_or-map type_of one.signals c any (uint 0) (known k lt));
+            get_or-map type_of (reference_of one views pipes).signals (length one.signals + k) any (uint 0) (omega (arith, lt, long)) ∙ ap type_of (pipe-is k any any lt) ∙ sym (get_or-map type_of one.signals c any (uint 0) (known k lt));
         pipe_driver = λ k lt.
             let any = some-item one.signals (value_at pipes k) (known k lt) in
-            get_or-map driver_of (reference_of one views pipes kept).signals (length one.signals + k) any (Input 0) (omega (arith, lt, long)) ∙ ap driver_of (pipe-is k any any lt);
+            get_or-map driver_of (reference_of one views pipes).signals (length one.signals + k) any (Input 0) (omega (arith, lt, long)) ∙ ap driver_of (pipe-is k any any lt);
         pipe_register = λ k any lt.
             let c = value_at pipes k in
             let some = some-item one.signals c (known k lt) in

@@ -80,15 +80,15 @@ module _ (to : ℕ → ℕ) (same : (s : ℕ) → to s ≡ s) where
 
 -- ---- the circuit
 
-same-circuit : (circuit : FlatCircuit) (views : Views) (kept : List ℕ) → ((m s : ℕ) → views.seen m s ≡ s) → kept ≡ circuit.outs → reference_of circuit views [] kept ≡ circuit
-same-circuit circuit views kept seen outs =
-    ap₂ (λ signals registers. let all : FlatCircuit = record { paths = circuit.paths ++ []; signals = signals; registers = registers; memories = by_number (λ m memory. memory_by (views.seen (views.keeper m)) memory) 0 circuit.memories; ins = circuit.ins; outs = kept; clocks = circuit.clocks } in all)
+same-circuit : (circuit : FlatCircuit) (views : Views) → ((m s : ℕ) → views.seen m s ≡ s) → ((s : ℕ) → views.kept s ≡ s) → reference_of circuit views [] ≡ circuit
+same-circuit circuit views seen kept =
+    ap₂ (λ signals registers. let all : FlatCircuit = record { paths = circuit.paths ++ []; signals = signals; registers = registers; memories = by_number (λ m memory. memory_by (views.seen (views.keeper m)) memory) 0 circuit.memories; ins = circuit.ins; outs = map views.kept circuit.outs; clocks = circuit.clocks } in all)
     (append-nil (by_number (seen_signal views) 0 circuit.signals) ∙ numbers-same (seen_signal views) signal-same 0 circuit.signals)
     (append-nil (by_number (λ r register. register_by (views.seen (views.holder r)) register) 0 circuit.registers) ∙ numbers-same (λ r register. register_by (views.seen (views.holder r)) register) (λ r register. register-same (views.seen (views.holder r)) (seen (views.holder r)) register) 0 circuit.registers)
-    ∙ ap₂ (λ paths memories. let all : FlatCircuit = record { paths = paths; signals = circuit.signals; registers = circuit.registers; memories = memories; ins = circuit.ins; outs = kept; clocks = circuit.clocks } in all)
+    ∙ ap₂ (λ paths memories. let all : FlatCircuit = record { paths = paths; signals = circuit.signals; registers = circuit.registers; memories = memories; ins = circuit.ins; outs = map views.kept circuit.outs; clocks = circuit.clocks } in all)
     (append-nil circuit.paths)
     (numbers-same (λ m memory. memory_by (views.seen (views.keeper m)) memory) (λ m memory. memory-same (views.seen (views.keeper m)) (seen (views.keeper m)) memory) 0 circuit.memories)
-    ∙ ap (λ outs. let all : FlatCircuit = record circuit { outs = outs } in all) outs
+    ∙ ap (λ outs. let all : FlatCircuit = record circuit { outs = outs } in all) (all-same views.kept kept circuit.outs)
   where
     signal-same : (s : ℕ) (own : Signal) → seen_signal views s own ≡ own
     signal-same s own = ap (λ driver. let one : Signal = record { ty = own.ty; driver = driver } in one) (driver-same (views.seen (views.maker s)) (seen (views.maker s)) own.driver)
@@ -109,5 +109,5 @@ module _ (hub : Hub) (holder keeper : ℕ → ℕ) (none : pipes_of hub ≡ []) 
 
   pub nothing-piped : reference hub holder keeper ≡ hub.circuit
   nothing-piped =
-      ap (λ pipes. reference_of hub.circuit (views_of hub holder keeper) pipes (map (taken_as hub) hub.circuit.outs)) none
-      ∙ same-circuit hub.circuit (views_of hub holder keeper) (map (taken_as hub) hub.circuit.outs) seen-same (all-same (taken_as hub) taken-same hub.circuit.outs)
+      ap (λ pipes. reference_of hub.circuit (views_of hub holder keeper) pipes) none
+      ∙ same-circuit hub.circuit (views_of hub holder keeper) seen-same taken-same

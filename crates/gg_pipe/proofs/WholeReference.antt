@@ -33,8 +33,8 @@ module _ (circuit : FlatCircuit) (tree : InstanceTree) (listed : Listed) (formed
   abbrev hub : Hub
   hub = hub_of circuit tree listed piped direct
 
-  made : IsReference circuit (reference (hub_of circuit tree listed piped direct) holder keeper) (views_of (hub_of circuit tree listed piped direct) holder keeper) (pipes_of (hub_of circuit tree listed piped direct))
-  made = is-reference circuit (views_of hub holder keeper) (pipes_of hub) (map (taken_as hub) circuit.outs) (pipes-known hub base)
+  pub made : IsReference circuit (reference (hub_of circuit tree listed piped direct) holder keeper) (views_of (hub_of circuit tree listed piped direct) holder keeper) (pipes_of (hub_of circuit tree listed piped direct))
+  made = is-reference circuit (views_of hub holder keeper) (pipes_of hub) (pipes-known hub base)
 
   pub ordered : (order : List ℕ) → IsOrder circuit order → IsOrder (reference (hub_of circuit tree listed piped direct) holder keeper) (range_with_len (length circuit.signals) (length (pipes_of (hub_of circuit tree listed piped direct))) ++ order)
   ordered order is = reference_ordered circuit (reference hub holder keeper) (views_of hub holder keeper) (pipes_of hub) order made (all-seen hub base) is

@@ -41,9 +41,9 @@ maker_of hub s = maker_or (hub.owner s) (find (λ w. w.signal == s) hub.base)
 
 -- who names what, where `holder` has the machine that holds a register and `keeper` the machine of a memory
 abbrev pub views_of : Hub → (ℕ → ℕ) → (ℕ → ℕ) → Views
-views_of hub holder keeper = record { maker = maker_of hub; holder = holder; keeper = keeper; seen = seen_by hub }
+views_of hub holder keeper = record { maker = maker_of hub; holder = holder; keeper = keeper; seen = seen_by hub; kept = taken_as hub }
 
--- what a consumer takes, where its producer gives these values: behind the token of a pipe, which is 0
+-- the list of values of a channel whose producer gives these: a piped channel opens with the token 0
 abbrev pub stream : Bool → List ℕ → List ℕ
 stream piped values = if piped then 0 ∷ values else values
 

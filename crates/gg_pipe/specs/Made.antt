@@ -13,7 +13,7 @@ use Rattle.gg_cut.specs.Listed.{first_place}
 use Rattle.gg_cut.specs.Plan.{memory_owner}
 use Rattle.gg_routes.specs.Direct.{Hub, hub_of}
 use Rattle.gg_pipe.specs.Reference.{Views, driver_by, register_by, memory_by}
-use Rattle.gg_pipe.specs.Links.{pipes_of, taken_as, maker_of, views_of}
+use Rattle.gg_pipe.specs.Links.{pipes_of, maker_of, views_of}
 
 -- the items of a list, each with its number; the first number is n
 abbrev pub by_number : {A B : Type 0} → (ℕ → A → B) → ℕ → List A → List B
@@ -39,22 +39,21 @@ abbrev pub pipe_registers : List Signal → List ℕ → List Register
 pipe_registers signals [] = []
 pipe_registers signals (c ∷ cs) = option_to_list (option_map (pipe_register c) (slice_get signals c)) ++ pipe_registers signals cs
 
--- `kept` has the signals of the outputs' trays
-abbrev pub reference_of : FlatCircuit → Views → List ℕ → List ℕ → FlatCircuit
-reference_of one views pipes kept =
+abbrev pub reference_of : FlatCircuit → Views → List ℕ → FlatCircuit
+reference_of one views pipes =
     record {
       paths = one.paths ++ map (λ c. codes "pipe:" ++ path_at one.paths c) pipes;
       signals = by_number (seen_signal views) 0 one.signals ++ pipe_signals one.signals (length one.registers) pipes;
       registers = by_number (λ r register. register_by (views.seen (views.holder r)) register) 0 one.registers ++ pipe_registers one.signals pipes;
       memories = by_number (λ m memory. memory_by (views.seen (views.keeper m)) memory) 0 one.memories;
       ins = one.ins;
-      outs = kept;
+      outs = map views.kept one.outs;
       clocks = one.clocks;
     }
 
 -- the reference circuit of a cut
 abbrev pub reference : Hub → (ℕ → ℕ) → (ℕ → ℕ) → FlatCircuit
-reference hub holder keeper = reference_of hub.circuit (views_of hub holder keeper) (pipes_of hub) (map (taken_as hub) hub.circuit.outs)
+reference hub holder keeper = reference_of hub.circuit (views_of hub holder keeper) (pipes_of hub)
 
 -- No path of the circuit begins with `pipe:`.
 abbrev pub IsFresh : FlatCircuit → Type 0
@@ -81,7 +80,11 @@ keeper_of tree listed m = memory_owner tree listed (unwrap_or (first_place (λ m
 abbrev pub AreHeldOnce : FlatCircuit → Type 0
 AreHeldOnce circuit = (s t r : ℕ) → s < length circuit.signals → t < length circuit.signals → driver_at circuit s ≡ Held r → driver_at circuit t ≡ Held r → s ≡ t
 
--- the reference circuit of a cut: of a circuit with its tree, what is listed, the signals whose channels are piped, and whether
--- channels are to be direct
+-- who names what in a cut: of a circuit with its tree, what is listed, the signals whose channels are piped, and whether channels
+-- are to be direct
+abbrev pub views_in : FlatCircuit → InstanceTree → Listed → (ℕ → Bool) → Bool → Views
+views_in circuit tree listed piped direct = let hub = hub_of circuit tree listed piped direct in views_of hub (holder_of hub) (keeper_of tree listed)
+
+-- the reference circuit of the cut
 abbrev pub reference_circuit : FlatCircuit → InstanceTree → Listed → (ℕ → Bool) → Bool → FlatCircuit
 reference_circuit circuit tree listed piped direct = reference (hub_of circuit tree listed piped direct) (holder_of (hub_of circuit tree listed piped direct)) (keeper_of tree listed)

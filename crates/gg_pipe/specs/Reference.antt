@@ -1,7 +1,7 @@
 -- The reference circuit of a design with pipes: the design, and for each piped channel a register that takes the channel's
 -- value in each cycle. Where the channel's consumer names the channel, it names the register in its place.
 -- Source: MEMOCODE 2009 (a buffer with a token in it at the start delays a stream by a cycle); this program's profile.
-use Rattle.std.specs.Prelude.{◌≡◌, ◌⊎◌, ℕ, ◌+◌, ◌<◌, List, [], ◌∷◌, Option, Some, None, length, map, slice_index_or}
+use Rattle.std.specs.Prelude.{◌≡◌, ◌⊎◌, ℕ, ◌+◌, ◌<◌, List, [], ◌∷◌, ◌++◌, codes, Option, Some, None, length, map, slice_index_or}
 use Rattle.gg_bits.specs.Shape.{Shape, shape}
 use Rattle.gg_flat.specs.declared.line.Node.{Node}
 use Rattle.gg_flat.specs.declared.line.Op.{Op}
@@ -67,12 +67,13 @@ driver_by to (Computed line) = Computed (line_by to line)
 -- ---- pipes
 
 -- Who names what: `maker` has the machine in which a signal's driver stands, `holder` that of a register, `keeper` that of a
--- memory. `seen m` has the number by which machine m sees a signal.
+-- memory. `seen m` has the number by which machine m sees a signal, `kept` that by which the tray of an out-signal sees it.
 pub record Views : Type 0 where
   pub maker : ℕ → ℕ
   pub holder : ℕ → ℕ
   pub keeper : ℕ → ℕ
   pub seen : ℕ → ℕ → ℕ
+  pub kept : ℕ → ℕ
 
 -- a register without a reset that takes signal c in each tick
 pub record IsPipeRegister (register : Register) (sink : Shape) (c : ℕ) : Type 0 where
@@ -94,7 +95,9 @@ pub record IsReference (one all : FlatCircuit) (views : Views) (pipes : List ℕ
   pub register : (r : ℕ) (any other : Register) → r < length one.registers → slice_index_or all.registers r other ≡ register_by (views.seen (views.holder r)) (slice_index_or one.registers r any)
   pub memories : length all.memories ≡ length one.memories
   pub memory : (m : ℕ) (any other : Memory) → m < length one.memories → slice_index_or all.memories m other ≡ memory_by (views.seen (views.keeper m)) (slice_index_or one.memories m any)
+  pub paths : all.paths ≡ one.paths ++ map (λ c. codes "pipe:" ++ path_at one.paths c) pipes
   pub ins : all.ins ≡ one.ins
+  pub outs : all.outs ≡ map views.kept one.outs
   pub clocks : all.clocks ≡ one.clocks
   pub pipe_shape : (k : ℕ) → k < length pipes → shape_at (signal_shapes all) (length one.signals + k) ≡ shape_at (signal_shapes one) (value_at pipes k)
   pub pipe_driver : (k : ℕ) → k < length pipes → driver_at all (length one.signals + k) ≡ Held (length one.registers + k)

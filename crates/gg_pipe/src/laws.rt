@@ -14,8 +14,9 @@ ghost use Rattle.gg_cut.specs.declared.listed.Listed.{Listed};
 ghost use Rattle.gg_cut.specs.Plan.{wire_at, HasMemory};
 ghost use Rattle.gg_closed.specs.Apart.{AreApart};
 ghost use Rattle.gg_routes.specs.Direct.{hub_of, routes};
+ghost use Rattle.gg_pipe.specs.Reference.{IsReference};
 ghost use Rattle.gg_pipe.specs.Links.{pipes_of, taken_as, IsRoutedPart};
-ghost use Rattle.gg_pipe.specs.Made.{reference_circuit, IsFresh, AreHeldOnce};
+ghost use Rattle.gg_pipe.specs.Made.{reference_circuit, views_in, IsFresh, AreHeldOnce};
 ghost use Rattle.gg_pipe.specs.Follows.{Follows, taken_column};
 
 use gg_closed::channels_once;
@@ -37,9 +38,11 @@ pub fn channels_follow()
     channels_once();
 }
 
-/// The reference circuit is well formed if no path of the design begins with `pipe:`. The order of the design, behind the
-/// pipes, is an order of it.
+/// The reference circuit has the signals, the registers and the memories of the design, with the names by which their
+/// machines see signals, and behind them a register for each piped channel, which takes the channel's value in each tick. It
+/// is well formed if no path of the design begins with `pipe:`. The order of the design, behind the pipes, is an order of it.
 pub fn reference_formed()
+    ensures made { (design : Ordered) (listed : Listed) (piped : ℕ → Bool) (direct : Bool) → IsDesign design → KeepsToTree design.circuit design.tree → AreApart design.tree listed → IsReference design.circuit (reference_circuit design.circuit design.tree listed piped direct) (views_in design.circuit design.tree listed piped direct) (pipes_of (hub_of design.circuit design.tree listed piped direct)) }
     ensures formed { (design : Ordered) (listed : Listed) (piped : ℕ → Bool) (direct : Bool) → IsDesign design → KeepsToTree design.circuit design.tree → AreApart design.tree listed → IsFresh design.circuit → IsWellFormed (reference_circuit design.circuit design.tree listed piped direct) }
     ensures ordered { (design : Ordered) (listed : Listed) (piped : ℕ → Bool) (direct : Bool) → IsDesign design → KeepsToTree design.circuit design.tree → AreApart design.tree listed → IsOrder (reference_circuit design.circuit design.tree listed piped direct) (range_with_len (length design.circuit.signals) (length (pipes_of (hub_of design.circuit design.tree listed piped direct))) ++ design.order) }
 {
