@@ -1,4 +1,5 @@
 -- The reference circuit as a function.
+-- Source: this program's profile (the numbers and the paths of pipes).
 use Rattle.std.specs.Prelude.{◌≡◌, ◌≢◌, ◌==◌, ℕ, suc, ◌<◌, Bool, false, unwrap_or, List, [], ◌∷◌, ◌++◌, Some, None, codes, length, map, slice_get, option_map, option_to_list}
 use Rattle.gg_flat.specs.declared.line.Op.TheVariants.{Ref}
 use Rattle.gg_flat.specs.declared.piece.Signal.{Signal}
