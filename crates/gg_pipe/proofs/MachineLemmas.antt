@@ -64,9 +64,6 @@ module _ (hub : Hub) (base : IsBase hub) (all : FlatCircuit) (holder keeper : �
         kept_by = λ k lt. holders.kept (value_at part.memories k) (Contains-get_or part.memories k 0 lt);
       }
 
-  abbrev mine : List ℕ
-  mine = map (seen_by hub m) part.globals
-
   mine-at : (s : ℕ) → s < length part.globals → value_at (map (seen_by hub m) part.globals) s ≡ seen_by hub m (value_at part.globals s)
   mine-at s lt = get_or-map (seen_by hub m) part.globals s 0 0 lt
 
@@ -78,10 +75,6 @@ module _ (hub : Hub) (base : IsBase hub) (all : FlatCircuit) (holder keeper : �
       no-echo hub base r.item t.item r.among t.among (eqb-true r.item.producer m r.passes ∙ sym (eqb-true t.item.consumer m t.passes)) (r.is ∙ sym t.is)
 
   module _ (ratios : List Ratio) (columns : List (List ℕ)) (n : ℕ) (rows : List (List ℕ)) (run : IsRunFrom all (clocked_start all ratios) columns n rows) where
-    -- the columns of what a machine takes
-    abbrev pub taken-columns : List (List ℕ)
-    taken-columns = map (λ c. take n (stream (hub.piped (wire_at (routes hub) c).signal) (column rows (wire_at (routes hub) c).given))) (channels_to (routes hub) m)
-
     ins-columns : map (λ s. column rows (value_at (map (seen_by hub m) part.globals) s)) part.piece.ins ≡ map (λ c. take n (stream (hub.piped (wire_at (routes hub) c).signal) (column rows (wire_at (routes hub) c).given))) (channels_to (routes hub) m)
     ins-columns =
         map-agree (λ s. column rows (value_at (map (seen_by hub m) part.globals) s)) (λ s. column rows (seen_by hub m (value_at part.globals s))) part.piece.ins (λ i lt. ap (column rows) (mine-at (value_at part.piece.ins i) (cut.is.ins i lt).0))

@@ -16,9 +16,9 @@ given_column hub rows c = column rows (wire_at (routes hub) c).given
 abbrev pub taken_column : Hub → ℕ → List (List ℕ) → ℕ → List ℕ
 taken_column hub n rows c = take n (stream (hub.piped (wire_at (routes hub) c).signal) (given_column hub rows c))
 
--- The piece of machine m, whose clocks have these ratios, has a run of n cycles on what the machine takes, and in it the columns of
--- its out-signals are what the machine gives.
+-- The piece of machine m, whose clocks have these ratios, has a run of n cycles on what the machine takes, and in each such run the
+-- columns of its out-signals are what the machine gives.
 pub record Follows (hub : Hub) (m : ℕ) (ratios : List Ratio) (n : ℕ) (part : Part) (rows : List (List ℕ)) : Type 0 where
   pub own : List (List ℕ)
   pub run : IsRunFrom part.piece (clocked_start part.piece ratios) (map (taken_column hub n rows) (channels_to (routes hub) m)) n own
-  pub gives : map (column own) part.piece.outs ≡ map (given_column hub rows) (channels_from (routes hub) m)
+  pub gives : (others : List (List ℕ)) → IsRunFrom part.piece (clocked_start part.piece ratios) (map (taken_column hub n rows) (channels_to (routes hub) m)) n others → map (column others) part.piece.outs ≡ map (given_column hub rows) (channels_from (routes hub) m)

@@ -1,29 +1,30 @@
 //! Laws: facts about the definitions. Each is the contract of a function with an empty body.
-ghost use Rattle.std.specs.Prelude.{◌≡◌, ◌↔◌, ◌++◌, Contains, ℕ, ◌<◌, List, [], Bool, length};
+ghost use Rattle.std.specs.Prelude.{◌≡◌, ◌↔◌, ◌++◌, Contains, ℕ, ◌+◌, ◌<◌, List, [], Bool, length, slice_index_or};
 ghost use Rattle.std.specs.List.{range_with_len};
 ghost use Rattle.gg_flat.specs.Circuit.{FlatCircuit};
 ghost use Rattle.gg_flat.specs.Tree.{InstanceTree};
 ghost use Rattle.gg_flat.specs.WellFormed.{IsWellFormed};
 ghost use Rattle.gg_flat.specs.Order.{IsOrder};
 ghost use Rattle.gg_flat.specs.Clock.{Ratio};
-ghost use Rattle.gg_flat.specs.Run.{IsRunFrom, clocked_start, column};
+ghost use Rattle.gg_flat.specs.Run.{IsColumns, IsRunFrom, clocked_start, column};
 ghost use Rattle.gg_moved.specs.KeepsToTree.{KeepsToTree};
 ghost use Rattle.gg_part.specs.declared.part.Part.{Part};
 ghost use Rattle.gg_order.specs.Design.{Ordered, IsDesign};
 ghost use Rattle.gg_cut.specs.declared.listed.Listed.{Listed};
-ghost use Rattle.gg_cut.specs.Plan.{wire_at, HasMemory};
+ghost use Rattle.gg_cut.specs.Machines.{first_source};
+ghost use Rattle.gg_cut.specs.Plan.{wire_at, channels_from, HasMemory};
 ghost use Rattle.gg_closed.specs.Apart.{AreApart};
 ghost use Rattle.gg_routes.specs.Direct.{hub_of, routes};
 ghost use Rattle.gg_pipe.specs.Reference.{IsReference};
 ghost use Rattle.gg_pipe.specs.Links.{pipes_of, taken_as, IsRoutedPart};
 ghost use Rattle.gg_pipe.specs.Made.{reference_circuit, views_in, IsFresh, AreHeldOnce};
-ghost use Rattle.gg_pipe.specs.Follows.{Follows, taken_column};
+ghost use Rattle.gg_pipe.specs.Follows.{Follows, given_column, taken_column};
 
 use gg_closed::channels_once;
 
 /// A machine follows a run of the reference circuit, whatever the ratios of the clocks: on the values of the channels that
-/// it takes, with a 0 before those of piped channels, its piece gives the values of the channels that it gives. No register
-/// of the circuit may be held by two signals.
+/// it takes, with a 0 before those of piped channels, its piece has a run, and in each such run it gives the values of the
+/// channels that it gives. No register of the circuit may be held by two signals.
 pub fn parts_follow()
     ensures { (design : Ordered) (listed : Listed) (piped : ℕ → Bool) (direct : Bool) (m : ℕ) (part : Part) (ratios : List Ratio) (columns : List (List ℕ)) (n : ℕ) (rows : List (List ℕ)) → IsDesign design → KeepsToTree design.circuit design.tree → AreApart design.tree listed → AreHeldOnce design.circuit → IsRoutedPart (hub_of design.circuit design.tree listed piped direct) m part → ((k : ℕ) → Contains part.memories k ↔ HasMemory design.tree listed m k) → IsRunFrom (reference_circuit design.circuit design.tree listed piped direct) (clocked_start (reference_circuit design.circuit design.tree listed piped direct) ratios) columns n rows → Follows (hub_of design.circuit design.tree listed piped direct) m ratios n part rows }
 {
@@ -34,6 +35,13 @@ pub fn parts_follow()
 /// producer gives it, with a 0 before them where the channel is piped.
 pub fn channels_follow()
     ensures { (design : Ordered) (listed : Listed) (piped : ℕ → Bool) (direct : Bool) (ratios : List Ratio) (columns : List (List ℕ)) (n : ℕ) (rows : List (List ℕ)) (c : ℕ) → IsDesign design → KeepsToTree design.circuit design.tree → AreApart design.tree listed → IsRunFrom (reference_circuit design.circuit design.tree listed piped direct) (clocked_start (reference_circuit design.circuit design.tree listed piped direct) ratios) columns n rows → c < length (routes (hub_of design.circuit design.tree listed piped direct)) → column rows (taken_as (hub_of design.circuit design.tree listed piped direct) (wire_at (routes (hub_of design.circuit design.tree listed piped direct)) c).signal) ≡ taken_column (hub_of design.circuit design.tree listed piped direct) n rows c }
+{
+    channels_once();
+}
+
+/// In a run of the reference circuit, each channel of the source of a top input is given the input's column.
+pub fn sources_follow()
+    ensures { (design : Ordered) (listed : Listed) (piped : ℕ → Bool) (direct : Bool) (ratios : List Ratio) (columns : List (List ℕ)) (n : ℕ) (rows : List (List ℕ)) (p c : ℕ) → IsDesign design → KeepsToTree design.circuit design.tree → AreApart design.tree listed → IsColumns (reference_circuit design.circuit design.tree listed piped direct) n columns → IsRunFrom (reference_circuit design.circuit design.tree listed piped direct) (clocked_start (reference_circuit design.circuit design.tree listed piped direct) ratios) columns n rows → p < length design.circuit.ins → Contains (channels_from (routes (hub_of design.circuit design.tree listed piped direct)) (first_source listed + p)) c → given_column (hub_of design.circuit design.tree listed piped direct) rows c ≡ slice_index_or columns p [] }
 {
     channels_once();
 }

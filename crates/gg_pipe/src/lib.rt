@@ -3,4 +3,4 @@
 
 mod laws;
 
-pub use laws::{channels_follow, nothing_piped, parts_follow, reference_formed};
+pub use laws::{channels_follow, nothing_piped, parts_follow, reference_formed, sources_follow};
