@@ -288,15 +288,6 @@ module _ (hub : Hub) (base : IsBase hub) where
 
   -- ---- the choice
 
-  abbrev ins_of : ℕ → List ℕ
-  ins_of m = signals_of (routes hub) (channels_to (routes hub) m)
-
-  abbrev outs_of : ℕ → List ℕ
-  outs_of m = givens_of (routes hub) (channels_from (routes hub) m)
-
-  abbrev entries_of : ℕ → List ℕ
-  entries_of m = signals_of hub.base (channels_to hub.base m)
-
   ins-once : (m : ℕ) → AllPairs (λ a b. a ≢ b) (signals_of (routes hub) (channels_to (routes hub) m))
   ins-once m = chosen-once (routes hub) any-wire (λ (r : Wire). r.consumer == m) (λ (r : Wire). r.signal) (routes-once hub base)
 
@@ -347,7 +338,7 @@ module _ (hub : Hub) (base : IsBase hub) where
   abbrev pub before : ℕ → List ℕ
   before m = filter (λ s. ((hub.owner s == m) && not (list_any (λ (w : Wire). w.signal == s) hub.base)) || list_any (λ (w : Wire). ((w.producer == m) || (w.consumer == m)) && (w.signal == s)) hub.base) (range_with_len 0 (length hub.circuit.signals))
 
-  before-is : (m s : ℕ) → Contains (before m) s ↔ (Made m s ⊎ Taken m s)
+  pub before-is : (m s : ℕ) → Contains (before m) s ↔ (Made m s ⊎ Taken m s)
   before-is m s = (out, back)
     where
       test : ℕ → Bool
@@ -391,39 +382,7 @@ module _ (hub : Hub) (base : IsBase hub) where
       back (inl (inr h)) = let w = wire-made m s h in wire w.wire w.among (or_left (w.wire.producer == m) (w.wire.consumer == m) (eq-eqb w.wire.producer m w.producer)) w.is
       back (inr h) = let w = wire-taken m s h in wire w.wire w.among (or_right (w.wire.producer == m) (w.wire.consumer == m) (eq-eqb w.wire.consumer m w.consumer)) w.is
 
-  before-once : (m : ℕ) → AllPairs (λ a b. a ≢ b) (before m)
+  pub before-once : (m : ℕ) → AllPairs (λ a b. a ≢ b) (before m)
   before-once m i j d less lt same =
       let up = numbers-up (λ s. ((hub.owner s == m) && not (list_any (λ (w : Wire). w.signal == s) hub.base)) || list_any (λ (w : Wire). ((w.producer == m) || (w.consumer == m)) && (w.signal == s)) hub.base) (length hub.circuit.signals) i j d less lt in
       omega (arith, up, same)
-
--- ---- a cut
-
--- what the plain channels of a cut give
-pub record IsPlainCut (circuit : FlatCircuit) (tree : InstanceTree) (listed : Listed) (m : ℕ) : Type 0 where
-  pub choice : (globals memories : List ℕ) → ((s : ℕ) → Contains globals s ↔ (Makes circuit tree listed (wires_of circuit tree listed) m s ⊎ Takes (wires_of circuit tree listed) m s)) → AllPairs (λ a b. a ≢ b) globals → ((k : ℕ) → Contains memories k ↔ HasMemory tree listed m k) → AllPairs (λ a b. a ≢ b) memories
-      → IsChoice circuit globals (signals_of (wires_of circuit tree listed) (channels_to (wires_of circuit tree listed) m)) (givens_of (wires_of circuit tree listed) (channels_from (wires_of circuit tree listed) m)) memories
-
-module _ (circuit : FlatCircuit) (tree : InstanceTree) (listed : Listed) (piped : ℕ → Bool) (direct : Bool) (base : IsBase (hub_of circuit tree listed piped direct)) where
-  abbrev pub the_hub : Hub
-  the_hub = hub_of circuit tree listed piped direct
-
-  -- a field of a memory that the hub has
-  field-held : (k s : ℕ) → HasMemory tree listed 0 k → Contains (memory_fields circuit k) s → Contains (hub_fields circuit tree listed) s
-  field-held k s has field =
-      flat-in (λ j. memory_fields circuit (memory_at tree j).memory) (filter (λ j. memory_owner tree listed j == 0) (range_with_len 0 (length tree.memories))) has.place s
-      (Contains-filter (λ j. memory_owner tree listed j == 0) (range_with_len 0 (length tree.memories)) has.place (in-range (length tree.memories) has.place has.known) (eq-eqb (memory_owner tree listed has.place) 0 has.owner))
-      (subst (λ n. Contains (memory_fields circuit n) s) (sym has.is) field)
-
-  pub choice : (m : ℕ) (mine memories : List ℕ) → IsPlainCut circuit tree listed m → ((s : ℕ) → Contains mine s ↔ (MakesBy the_hub m s ⊎ Takes (routes the_hub) m s)) → AllPairs (λ a b. a ≢ b) mine → ((k : ℕ) → Contains memories k ↔ HasMemory tree listed m k) → AllPairs (λ a b. a ≢ b) memories
-      → IsChoice circuit mine (signals_of (routes the_hub) (channels_to (routes the_hub) m)) (givens_of (routes the_hub) (channels_from (routes the_hub) m)) memories
-  choice m mine memories plain has once banks memories-once =
-      sub-choice circuit (before the_hub base m) (signals_of the_hub.base (channels_to the_hub.base m)) (givens_of the_hub.base (channels_from the_hub.base m)) memories mine
-      (signals_of (routes the_hub) (channels_to (routes the_hub) m)) (givens_of (routes the_hub) (channels_from (routes the_hub) m))
-      (plain.choice (before the_hub base m) memories (before-is the_hub base m) (before-once the_hub base m) banks memories-once)
-      (by (cases_eq m 0) banks has)
-    where
-      by : (m ≡ 0) ⊎ (m ≡ 0 → ⊥) → ((k : ℕ) → Contains memories k ↔ HasMemory tree listed m k) → ((s : ℕ) → Contains mine s ↔ (MakesBy the_hub m s ⊎ Takes (routes the_hub) m s)) → IsSub circuit (before the_hub base m) (signals_of the_hub.base (channels_to the_hub.base m)) memories mine (signals_of (routes the_hub) (channels_to (routes the_hub) m)) (givens_of (routes the_hub) (channels_from (routes the_hub) m))
-      by (inl zero) banks has =
-          subst (λ n. ((k : ℕ) → Contains memories k ↔ HasMemory tree listed n k) → ((s : ℕ) → Contains mine s ↔ (MakesBy the_hub n s ⊎ Takes (routes the_hub) n s)) → IsSub circuit (before the_hub base n) (signals_of the_hub.base (channels_to the_hub.base n)) memories mine (signals_of (routes the_hub) (channels_to (routes the_hub) n)) (givens_of (routes the_hub) (channels_from (routes the_hub) n))) (sym zero)
-          (λ banks has. hub-sub the_hub base (before the_hub base 0) memories mine (before-is the_hub base 0) has once (λ k s h field. field-held k s ((banks k).0 h) field)) banks has
-      by (inr other) banks has = other-sub the_hub base m (before the_hub base m) memories mine (before-is the_hub base m) has once other

@@ -3,6 +3,10 @@ use Rattle.std.proofs.Common.{◌≡◌, ◌≢◌, ℕ, ◌<◌, List, Bool, ge
 use Rattle.std.specs.Prelude.{◌↔◌, Contains, All, AllPairs}
 use Rattle.std.proofs.lemmas.List.{get_or_default}
 use Rattle.std.proofs.lemmas.List.Elements.{All-contains, Contains-get_or}
+use Rattle.gg_flat.specs.Circuit.{FlatCircuit}
+use Rattle.gg_flat.specs.Tree.{InstanceTree, IsTree}
+use Rattle.gg_flat.specs.Scoped.{IsScoped}
+use Rattle.gg_flat.specs.WellFormed.{IsWellFormed}
 use Rattle.gg_order.specs.Design.{Ordered, IsDesign}
 use Rattle.gg_part.specs.Choice.{IsChoice}
 use Rattle.gg_cut.specs.declared.wires.Wire.{Wire}
@@ -17,22 +21,26 @@ use Rattle.gg_closed.proofs.ChoiceLemmas.{wire-known}
 use Rattle.gg_routes.specs.Direct.{Hub, hub_of, route, routes}
 use Rattle.gg_routes.specs.Routes.{AreRoutes}
 use Rattle.gg_routes.proofs.RouteLemmas.{IsBase, out-routes, routes-once, no-echo, Routing, Plain, Direct, routing, route-consumer, plain-producer, direct-producer}
-use Rattle.gg_routes.proofs.ChoiceLemmas.{choice}
+use Rattle.gg_routes.proofs.CutChoice.{choice}
 use Rattle.gg_routes.proofs.SideLemmas.{source-routes, tray-routes}
 use Rattle.gg_routes.proofs.SameLemmas.{routes-same, kept-own}
+
+-- the channels before, of a cut whose units lie apart
+pub base-of : (circuit : FlatCircuit) (tree : InstanceTree) (listed : Listed) (piped : ℕ → Bool) (direct : Bool) → IsWellFormed circuit → IsTree circuit tree → IsScoped circuit tree → AreApart tree listed → AllPairs (λ (v w : Wire). v.signal ≢ w.signal) (wires_of circuit tree listed) → All (AreEnds (machine_count circuit listed)) (wires_of circuit tree listed) → IsBase (hub_of circuit tree listed piped direct)
+base-of circuit tree listed piped direct formed fits scoped apart once ends =
+    record {
+      once = once;
+      apart = λ i d lt. (ends i d lt).apart;
+      known = λ i d lt. wire-known circuit tree listed formed fits scoped apart (get_or (wires_of circuit tree listed) i d) (Contains-get_or (wires_of circuit tree listed) i d lt);
+      plain = λ i d lt. subst (λ (w : Wire). w.given ≡ w.signal) (get_or_default (wires_of circuit tree listed) i (wire 0 0 0) d lt) (given-same circuit tree listed i);
+    }
 
 module _ (design : Ordered) (listed : Listed) (piped : ℕ → Bool) (direct : Bool) (is : IsDesign design) (keeps : KeepsToTree design.circuit design.tree) (apart : AreApart design.tree listed) (once : AllPairs (λ (v w : Wire). v.signal ≢ w.signal) (wires_of design.circuit design.tree listed)) (ends : All (AreEnds (machine_count design.circuit listed)) (wires_of design.circuit design.tree listed)) where
   abbrev hub : Hub
   hub = hub_of design.circuit design.tree listed piped direct
 
   pub cut-base : IsBase (hub_of design.circuit design.tree listed piped direct)
-  cut-base =
-      record {
-        once = once;
-        apart = λ i d lt. (ends i d lt).apart;
-        known = λ i d lt. wire-known design.circuit design.tree listed is.formed keeps.fitting keeps.scoped apart (get_or (wires_of design.circuit design.tree listed) i d) (Contains-get_or (wires_of design.circuit design.tree listed) i d lt);
-        plain = λ i d lt. subst (λ (w : Wire). w.given ≡ w.signal) (get_or_default (wires_of design.circuit design.tree listed) i (wire 0 0 0) d lt) (given-same design.circuit design.tree listed i);
-      }
+  cut-base = base-of design.circuit design.tree listed piped direct is.formed keeps.fitting keeps.scoped apart once ends
 
   ends-at : (w : Wire) → Contains (wires_of design.circuit design.tree listed) w → AreEnds (machine_count design.circuit listed) w
   ends-at w h = All-contains (AreEnds (machine_count design.circuit listed)) (wires_of design.circuit design.tree listed) w ends h

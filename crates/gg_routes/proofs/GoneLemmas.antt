@@ -1,6 +1,6 @@
 -- What stays of the hub is closed: a signal that the hub makes and that stays names only what stays.
 use Rattle.std.proofs.Common.{◌≡◌, ℕ, zero, suc, List, [], ◌∷◌, Bool, true, false, not, Option, Some, None, length, is_some, sym, ◌∙◌, ap, subst, inl, inr, ◌⊎◌, refl, eq-eqb, arith}
-use Rattle.std.specs.Prelude.{◌&&◌, ◌==◌, if◌then◌else◌, Contains, flat_map, option_and_then}
+use Rattle.std.specs.Prelude.{◌&&◌, ◌==◌, ◌++◌, if◌then◌else◌, Contains, flat_map, option_and_then}
 use Rattle.std.specs.List.{list_any}
 use Rattle.std.proofs.lemmas.Bool.{cases_Bool, and_parts, and_right, eqb-true, not-true, not_from_true}
 use Rattle.std.proofs.lemmas.List.Elements.{Contains-append_left, Contains-append_right}
@@ -15,17 +15,14 @@ module _ (hub : Hub) where
   -- what a channel is that may be direct
   pub record MayBeDirect (w : Wire) : Type 0 where
     pub producer : w.producer ≡ 0
-    pub no_stop : list_any (λ t. t == w.signal) hub.stops ≡ false
-    pub unnamed : list_any (λ t. t == w.signal) (named_by hub (made hub)) ≡ false
+    pub unnamed : list_any (λ t. w.signal == t) (named_by hub (made hub) ++ hub.stops) ≡ false
 
   may-be : (w : Wire) → may_be_direct hub w ≡ true → MayBeDirect w
   may-be w e =
-      let outer = and_parts (hub.direct && (w.producer == 0)) (not (list_any (λ t. t == w.signal) hub.stops) && not (list_any (λ t. t == w.signal) (named_by hub (made hub)))) e in
-      let inner = and_parts (not (list_any (λ t. t == w.signal) hub.stops)) (not (list_any (λ t. t == w.signal) (named_by hub (made hub)))) outer.1 in
+      let parts = and_parts (hub.direct && (w.producer == 0)) (not (list_any (λ t. w.signal == t) (named_by hub (made hub) ++ hub.stops))) e in
       record {
-        producer = eqb-true w.producer 0 (and_parts hub.direct (w.producer == 0) outer.0).1;
-        no_stop = not-true (list_any (λ t. t == w.signal) hub.stops) inner.0;
-        unnamed = not-true (list_any (λ t. t == w.signal) (named_by hub (made hub))) inner.1;
+        producer = eqb-true w.producer 0 (and_parts hub.direct (w.producer == 0) parts.0).1;
+        unnamed = not-true (list_any (λ t. w.signal == t) (named_by hub (made hub) ++ hub.stops)) parts.1;
       }
 
   -- what a direct channel is
@@ -69,7 +66,8 @@ module _ (hub : Hub) where
       at : (w : Wire) → w.signal ≡ t → (o : Option ℕ) → direct_of hub w ≡ o → is_some o ≡ true → ⊥
       at w is None e some = clash false some refl
       at w is (Some x) e some =
-          clash (list_any (λ u. u == w.signal) (named_by hub (made hub))) (finds-any (λ u. u == w.signal) (named_by hub (made hub)) t h (eq-eqb t w.signal (sym is))) (direct-is w x e).may.unnamed
+          clash (list_any (λ u. w.signal == u) (named_by hub (made hub) ++ hub.stops))
+          (finds-any (λ u. w.signal == u) (named_by hub (made hub) ++ hub.stops) t (Contains-append_left (named_by hub (made hub)) hub.stops t h) (eq-eqb w.signal t is)) (direct-is w x e).may.unnamed
 
       by : (is_direct hub t ≡ true) ⊎ (is_direct hub t ≡ false) → is_direct hub t ≡ false
       by (inl e) =

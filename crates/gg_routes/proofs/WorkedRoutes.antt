@@ -1,4 +1,4 @@
--- Wire channels, worked by hand.
+-- Routed channels, worked by hand.
 use Rattle.std.proofs.Common.{◌≡◌, ℕ, List, [], ◌∷◌, Bool, true, false, Some, None, refl}
 use Rattle.std.specs.Prelude.{◌==◌, map}
 use Rattle.gg_bits.specs.declared.ops.Op1.TheVariants.{Not}
@@ -101,6 +101,10 @@ memory-word = refl
 -- a unit that feeds itself
 self : routes (made_of (signal eight (Held 0) ∷ copy eight 0 ∷ []) (1 ∷ 1 ∷ []) (wire 0 1 0 ∷ wire 1 0 1 ∷ []) []) ≡ channel 1 0 1 1 ∷ []
 self = refl
+
+-- a stop is not direct, and so its in-channel stays
+stop : routes (record (made_of (signal eight (Input 0) ∷ copy eight 0 ∷ []) (0 ∷ 0 ∷ []) (wire 0 3 0 ∷ wire 1 0 4 ∷ []) []) { stops = 1 ∷ [] }) ≡ channel 0 0 3 0 ∷ channel 1 1 0 4 ∷ []
+stop = refl
 
 -- a reference to a narrower signal is no copy
 wider : routes (made_of (signal eight (Input 0) ∷ signal nine (Computed (node eight (Ref 0) ∷ [])) ∷ []) (0 ∷ 0 ∷ []) (wire 0 3 0 ∷ wire 1 0 4 ∷ []) []) ≡ channel 0 0 3 0 ∷ channel 1 1 0 4 ∷ []

@@ -152,10 +152,9 @@ abbrev pub if_plain : Hub → Option ℕ → Option ℕ
 if_plain hub None = None
 if_plain hub (Some x) = if hub.memory (giver hub x) then None else Some x
 
--- The hub gives the channel, it is no stop, and nothing in the hub names its signal.
+-- The hub gives the channel, and its signal is no stop's and is named by nothing in the hub.
 abbrev pub may_be_direct : Hub → Wire → Bool
-may_be_direct hub w =
-    (hub.direct && (w.producer == 0)) && (not (list_any (λ t. t == w.signal) hub.stops) && not (list_any (λ t. t == w.signal) (named_by hub (made hub))))
+may_be_direct hub w = (hub.direct && (w.producer == 0)) && not (list_any (λ t. w.signal == t) (named_by hub (made hub) ++ hub.stops))
 
 -- The in-channel that is given in place of an out-channel of the hub, if the out-channel is direct: its driver is a bare
 -- reference to an in-channel or a copy, whose origin no memory gives.
