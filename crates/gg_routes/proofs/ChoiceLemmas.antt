@@ -2,25 +2,20 @@
 use Rattle.std.proofs.Common.{◌≡◌, ◌≢◌, ℕ, ◌<◌, List, Bool, true, false, not, Option, Some, None, length, get_or, is_some, sym, ◌∙◌, ap, subst, inl, inr, ◌⊎◌, refl, eq-eqb, arith}
 use Rattle.std.specs.Prelude.{◌↔◌, ◌&&◌, ◌||◌, ◌==◌, Contains, AllPairs, filter}
 use Rattle.std.specs.List.{list_any, range_with_len}
-use Rattle.std.proofs.lemmas.Bool.{cases_Bool, cases_eq, and_parts, and_from, or_cases, or_left, or_right, eqb-true, not-true, not_from_false}
+use Rattle.std.proofs.lemmas.Bool.{cases_Bool, and_parts, and_from, or_cases, or_left, or_right, eqb-true, not-true, not_from_false}
 use Rattle.std.proofs.lemmas.List.{get_or_default}
 use Rattle.std.proofs.lemmas.List.Elements.{All-contains, Contains-get_or}
-use Rattle.gg_flat.specs.Circuit.{FlatCircuit}
-use Rattle.gg_flat.specs.Tree.{InstanceTree, memory_at}
 use Rattle.gg_flat.specs.Scoped.{memory_fields}
 use Rattle.gg_flat.proofs.ListLemmas.{Contains-filter, filter-cases, in-range, range-below, numbers-up}
-use Rattle.gg_part.specs.Choice.{IsChoice}
 use Rattle.gg_cut.specs.declared.wires.Wire.{Wire}
-use Rattle.gg_cut.specs.declared.listed.Listed.{Listed}
-use Rattle.gg_cut.specs.Channels.{wire, wires_of}
-use Rattle.gg_cut.specs.Plan.{wire_at, channels_to, channels_from, signals_of, givens_of, IsInner, Makes, Takes, HasMemory, memory_owner}
-use Rattle.gg_routes.specs.Direct.{Hub, made, named_by, kept, is_own, is_taken, is_given, is_gone, is_direct, left_by, is_number, origin, direct_of, route, routes, hub_of, hub_fields}
+use Rattle.gg_cut.specs.Channels.{wire}
+use Rattle.gg_cut.specs.Plan.{wire_at, channels_to, channels_from, signals_of, givens_of, IsInner, Takes}
+use Rattle.gg_routes.specs.Direct.{Hub, made, named_by, kept, is_own, is_taken, is_given, is_gone, is_direct, left_by, is_number, origin, direct_of, route, routes}
 use Rattle.gg_routes.specs.Routes.{MakesBy}
-use Rattle.gg_routes.proofs.NameLemmas.{flat-in}
 use Rattle.gg_routes.proofs.OriginLemmas.{Finds, any-finds, finds-any, clash, Chain, Here, Copy, chain}
 use Rattle.gg_routes.proofs.GoneLemmas.{direct-is, Stays, held-stays, named-stays}
 use Rattle.gg_routes.proofs.RouteLemmas.{chosen-in, chosen-out, chosen-once, number-is, IsBase, same-wire, apart-at, given-at, IsInto, own-no-wire, port-stays, Routing, Plain, Direct, routing, route-signal, route-consumer, plain-given, plain-producer, direct-given, direct-producer, in-routes, IsRoute, out-routes, routes-once}
-use Rattle.gg_routes.proofs.SubLemmas.{IsSub, sub-choice}
+use Rattle.gg_routes.proofs.SubLemmas.{IsSub}
 
 abbrev pub any-wire : Wire
 any-wire = wire 0 0 0

@@ -1,15 +1,13 @@
 -- The tables of a cut.
-use Rattle.std.proofs.Common.{◌≡◌, ◌≢◌, ℕ, ◌<◌, List, ◌++◌, length, map, get_or, Bool, true, false, not, Option, Some, None, refl, sym, ◌∙◌, ap, subst, inl, inr, ◌⊎◌, eq-eqb, arith}
+use Rattle.std.proofs.Common.{◌≡◌, ◌≢◌, ℕ, ◌<◌, List, ◌++◌, length, map, get_or, Bool, true, false, not, Option, Some, refl, sym, ◌∙◌, ap, subst, inl, inr, ◌⊎◌, eq-eqb}
 use Rattle.std.specs.Prelude.{◌↔◌, ◌&&◌, ◌==◌, Contains, All, AllPairs, filter, flat_map}
 use Rattle.std.specs.List.{list_any, range_with_len}
 use Rattle.std.proofs.lemmas.Bool.{and_from, eqb-true}
 use Rattle.std.proofs.lemmas.List.{get_or_default}
 use Rattle.std.proofs.lemmas.List.Elements.{All-contains, Contains-get_or, Contains-append_right, Contains-append_cases}
 use Rattle.gg_flat.specs.Circuit.{FlatCircuit, driver_at}
-use Rattle.gg_flat.specs.Line.{value_at}
 use Rattle.gg_flat.specs.Tree.{InstanceTree, memory_at, instance_at}
 use Rattle.gg_flat.specs.Scoped.{memory_fields, stop_signals, output_signals}
-use Rattle.gg_flat.specs.WellFormed.{IsWellFormed}
 use Rattle.gg_flat.proofs.ListLemmas.{filter-cases, range-below}
 use Rattle.gg_order.specs.Marks.{is_marked}
 use Rattle.gg_cut.specs.declared.listed.Listed.{Listed}
@@ -19,7 +17,7 @@ use Rattle.gg_cut.specs.Channels.{wires_of}
 use Rattle.gg_cut.specs.Plan.{channels_to, channels_from, signals_of, givens_of, HasMemory, memory_owner}
 use Rattle.gg_routes.specs.declared.sides.Side.{Side}
 use Rattle.gg_routes.specs.declared.sides.Side.TheVariants.{Other, Own, Out, In}
-use Rattle.gg_routes.specs.Direct.{Hub, hub_of, hub_fields, is_taken, made, named_by, copied, driver_names, origin, routes, is_gone}
+use Rattle.gg_routes.specs.Direct.{Hub, hub_of, hub_fields, made, named_by, copied, driver_names, routes, is_gone}
 use Rattle.gg_routes.specs.Tables.{side_at, entry_at, AreSides, is_in, is_makers, IsSeen, AreOrigins, direct_by, AreEntries, AreGone, routed_by}
 use Rattle.gg_routes.specs.Routable.{CanRoute, IsRouting}
 use Rattle.gg_routes.proofs.NameLemmas.{flat-in}
@@ -142,7 +140,7 @@ module _ (circuit : FlatCircuit) (tree : InstanceTree) (order : List ℕ) (liste
           (append-same (names_by circuit memories mine) (named_by hub (made hub)) (stop_signals tree) (names-same hub memories held mine (made hub) mine-same))
 
       module _ (origins straight : List (Option ℕ)) (named gone : List Bool) (long : length origins ≡ length circuit.signals) (found : AreOrigins (hub_of circuit tree listed piped direct) origins) (marks : AreMarks (names_by circuit memories (filter (λ s. is_makers (side_at sides s)) globals) ++ stop_signals tree) named)
-        (entered : AreEntries (direct_by circuit listed sides origins named direct) wires straight) (left : AreGone circuit sides (filter (λ s. is_makers (side_at sides s)) globals) memories origins straight gone) where
+          (entered : AreEntries (direct_by circuit listed sides origins named direct) wires straight) (left : AreGone circuit sides (filter (λ s. is_makers (side_at sides s)) globals) memories origins straight gone) where
         entered-base : AreEntries (direct_by circuit listed sides origins named direct) (wires_of circuit tree listed) straight
         entered-base = subst (λ (l : List Wire). AreEntries (direct_by circuit listed sides origins named direct) l straight) can.base entered
 

@@ -1,5 +1,5 @@
 -- What is found in tables and in lists of names are signals.
-use Rattle.std.proofs.Common.{◌≡◌, ℕ, ◌<◌, List, ◌++◌, length, get_or, Option, Some, None, refl, inl, inr, ◌⊎◌}
+use Rattle.std.proofs.Common.{◌≡◌, ℕ, ◌<◌, List, ◌++◌, get_or, Option, Some, None, refl, inl, inr, ◌⊎◌}
 use Rattle.std.specs.Prelude.{Contains, All, IfSome, flat_map}
 use Rattle.std.specs.Option.{option_to_list}
 use Rattle.std.proofs.lemmas.List.Elements.{Contains-get_or, Contains-append_cases}

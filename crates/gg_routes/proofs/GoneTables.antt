@@ -1,6 +1,6 @@
 -- What the tables say of what is named, direct and gone.
-use Rattle.std.proofs.Common.{◌≡◌, ℕ, ◌<◌, List, ◌++◌, length, map, get_or, Bool, true, false, not, Option, Some, None, refl, sym, ◌∙◌, ap, ap₂, subst, inl, inr, ◌⊎◌, eq-eqb, arith}
-use Rattle.std.specs.Prelude.{◌↔◌, ◌&&◌, ◌||◌, ◌==◌, if◌then◌else◌, option_and_then, is_some, Contains, All, filter, flat_map}
+use Rattle.std.proofs.Common.{◌≡◌, ℕ, ◌<◌, List, ◌++◌, length, map, Bool, true, false, not, Option, Some, None, refl, sym, ◌∙◌, ap, ap₂, subst, inl, inr, ◌⊎◌, eq-eqb, arith}
+use Rattle.std.specs.Prelude.{◌↔◌, ◌&&◌, ◌||◌, ◌==◌, if◌then◌else◌, option_and_then, is_some, Contains, filter, flat_map}
 use Rattle.std.specs.List.{list_any, range_with_len}
 use Rattle.std.specs.Option.{option_to_list}
 use Rattle.std.proofs.lemmas.Bool.{and_parts, and_from, or_right, eqb-true}
@@ -10,17 +10,16 @@ use Rattle.gg_flat.specs.Circuit.{FlatCircuit, driver_at}
 use Rattle.gg_flat.specs.Scoped.{memory_fields}
 use Rattle.gg_flat.proofs.ListLemmas.{Contains-filter, filter-cases, in-range, range-below}
 use Rattle.gg_order.specs.Marks.{is_marked}
-use Rattle.gg_cut.specs.Listed.{AreMarks}
 use Rattle.gg_cut.specs.declared.listed.Listed.{Listed}
 use Rattle.gg_cut.specs.Machines.{is_memory}
 use Rattle.gg_cut.specs.declared.wires.Wire.{Wire}
 use Rattle.gg_routes.specs.declared.sides.Side.{Side}
 use Rattle.gg_routes.specs.declared.sides.Side.TheVariants.{Other, Own, Out, In}
-use Rattle.gg_routes.specs.Direct.{Hub, is_taken, is_own, is_given, made, named_by, kept, origin, copied, giver, if_plain, may_be_direct, direct_of, is_direct, is_number, has_left, left_by, is_gone, driver_names, route, route_by, routes}
+use Rattle.gg_routes.specs.Direct.{Hub, is_taken, is_own, is_given, made, named_by, kept, origin, copied, giver, if_plain, may_be_direct, direct_of, is_direct, is_number, left_by, is_gone, driver_names, route, route_by, routes}
 use Rattle.gg_routes.specs.Tables.{side_at, entry_at, origin_beyond, given_by, if_given, direct_by, AreEntries, is_in, is_inner, is_kept, is_left, AreGone, from_by, routed_by}
 use Rattle.gg_routes.proofs.NameLemmas.{flat-in}
-use Rattle.gg_routes.proofs.OriginLemmas.{any-finds, finds-any, clash, some-clash, chain-end, copied-is}
-use Rattle.gg_routes.proofs.GoneLemmas.{direct-is, IsDirect}
+use Rattle.gg_routes.proofs.OriginLemmas.{any-finds, finds-any, clash, some-clash, chain-end}
+use Rattle.gg_routes.proofs.GoneLemmas.{direct-is}
 use Rattle.gg_routes.proofs.RouteLemmas.{IsBase, number-is, same-wire}
 use Rattle.gg_routes.proofs.ListTables.{flat-out, some-is, is-some, map-filter-same}
 
@@ -71,11 +70,11 @@ append-same xs ys rest same t = (
 -- ---- direct channels
 
 module _ (hub : Hub) (base : IsBase hub) (listed : Listed) (sides : List Side) (origins : List (Option ℕ)) (named : List Bool)
-  (memory : (m : ℕ) → hub.memory m ≡ is_memory listed m)
-  (taken : (s : ℕ) → is_taken hub s ≡ is_in (side_at sides s)) (givers : (s producer : ℕ) → side_at sides s ≡ In producer → giver hub s ≡ producer)
-  (entries : (s : ℕ) → s < length hub.circuit.signals → entry_at origins s ≡ origin hub s)
-  (next_known : (s t : ℕ) → s < length hub.circuit.signals → copied hub.circuit s ≡ Some t → t < length hub.circuit.signals)
-  (barred : (s : ℕ) → is_marked named s ≡ list_any (λ t. s == t) (named_by hub (made hub) ++ hub.stops)) where
+    (memory : (m : ℕ) → hub.memory m ≡ is_memory listed m)
+    (taken : (s : ℕ) → is_taken hub s ≡ is_in (side_at sides s)) (givers : (s producer : ℕ) → side_at sides s ≡ In producer → giver hub s ≡ producer)
+    (entries : (s : ℕ) → s < length hub.circuit.signals → entry_at origins s ≡ origin hub s)
+    (next_known : (s t : ℕ) → s < length hub.circuit.signals → copied hub.circuit s ≡ Some t → t < length hub.circuit.signals)
+    (barred : (s : ℕ) → is_marked named s ≡ list_any (λ t. s == t) (named_by hub (made hub) ++ hub.stops)) where
   given-same : (x : ℕ) → is_taken hub x ≡ true → given_by listed x (side_at sides x) ≡ if_plain hub (Some x)
   given-same x e = by (side_at sides x) refl
     where

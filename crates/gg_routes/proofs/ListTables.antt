@@ -1,14 +1,13 @@
 -- Lists that are filled item by item, and what they contain.
-use Rattle.std.proofs.Common.{◌≡◌, ℕ, zero, suc, ◌+◌, ◌<◌, List, [], ◌∷◌, ◌++◌, length, map, take, get_or, Bool, true, false, Option, Some, None, refl, sym, ◌∙◌, ap, ap₂, subst, inl, inr, ◌⊎◌, eq-eqb, arith}
-use Rattle.std.specs.Prelude.{◌↔◌, ◌==◌, cond, if◌then◌else◌, filter, flat_map, Contains, All}
+use Rattle.std.proofs.Common.{◌≡◌, ℕ, zero, suc, ◌+◌, ◌<◌, List, [], ◌∷◌, ◌++◌, length, map, take, get_or, Bool, true, false, Option, Some, None, refl, sym, ◌∙◌, ap, ap₂, subst, eq-eqb, arith}
+use Rattle.std.specs.Prelude.{◌↔◌, ◌==◌, cond, if◌then◌else◌, filter, flat_map, Contains}
 use Rattle.std.specs.List.{list_any}
 use Rattle.std.specs.Option.{option_to_list}
-use Rattle.std.proofs.lemmas.Bool.{cases_Bool, eqb-true}
+use Rattle.std.proofs.lemmas.Bool.{eqb-true}
 use Rattle.std.proofs.lemmas.List.{map-append}
 use Rattle.std.proofs.lemmas.List.Elements.{filter_more, Contains-get_or}
 use Rattle.gg_flat.proofs.ListLemmas.{some-item, here, further}
 use Rattle.gg_closed.proofs.ListLemmas.{flattened-cases, flat_map-is}
-use Rattle.gg_routes.proofs.NameLemmas.{flat-in}
 use Rattle.gg_routes.proofs.OriginLemmas.{any-finds, finds-any, clash}
 
 pub filter-next : {A : Type 0} (test : A → Bool) (xs : List A) (i : ℕ) (d : A) → i < length xs → filter test (take (i + 1) xs) ≡ filter test (take i xs) ++ (if test (get_or xs i d) then get_or xs i d ∷ [] else [])

@@ -1,6 +1,6 @@
 -- The table of origins, signal by signal along the order.
-use Rattle.std.proofs.Common.{◌≡◌, ◌≢◌, ℕ, ◌+◌, ◌<◌, ◌≤◌, List, length, set, get_or, Bool, true, false, Option, Some, None, refl, sym, ◌∙◌, ap, ap₂, subst, inl, inr, ◌⊎◌, arith}
-use Rattle.std.specs.Prelude.{if◌then◌else◌, option_and_then, All}
+use Rattle.std.proofs.Common.{◌≡◌, ℕ, ◌+◌, ◌<◌, ◌≤◌, List, length, set, Bool, true, false, Option, Some, None, refl, sym, ◌∙◌, ap, subst, inl, inr, ◌⊎◌, arith}
+use Rattle.std.specs.Prelude.{if◌then◌else◌, option_and_then}
 use Rattle.std.proofs.lemmas.Bool.{cases_eq}
 use Rattle.std.proofs.lemmas.List.{get_or-set_same, get_or-set_other, length-set, get_or_default}
 use Rattle.gg_flat.specs.Circuit.{FlatCircuit}
@@ -11,7 +11,7 @@ use Rattle.gg_order.specs.Marks.{is_marked}
 use Rattle.gg_part.proofs.FrameLemmas.{length-once}
 use Rattle.gg_routes.specs.declared.sides.Side.{Side}
 use Rattle.gg_routes.specs.declared.sides.Side.TheVariants.{Other, Own, Out, In}
-use Rattle.gg_routes.specs.Direct.{Hub, is_taken, is_own, origin, copied}
+use Rattle.gg_routes.specs.Direct.{Hub, is_own, origin, copied}
 use Rattle.gg_routes.specs.Tables.{side_at, entry_at, AreKnown, origin_beyond, origin_by, is_in, is_inner, IsSeen, AreOrigins}
 use Rattle.gg_routes.proofs.OriginLemmas.{some-clash, same-value}
 use Rattle.gg_routes.proofs.WholeLemmas.{origin-step, copy-reads}

@@ -1,5 +1,5 @@
 -- A design and what its split gives can be routed.
-use Rattle.std.proofs.Common.{◌≡◌, ◌≢◌, ◌<◌, ℕ, List, Bool, length, sym, ◌∙◌, ap, subst, arith}
+use Rattle.std.proofs.Common.{◌≡◌, ◌≢◌, ◌<◌, ℕ, List, Bool, length, sym, subst, arith}
 use Rattle.std.specs.Prelude.{All, AllPairs, slice_index_or}
 use Rattle.gg_flat.specs.Circuit.{FlatCircuit}
 use Rattle.gg_flat.specs.Tree.{InstanceTree}
@@ -8,9 +8,9 @@ use Rattle.gg_moved.specs.KeepsToTree.{KeepsToTree}
 use Rattle.gg_part.specs.Choice.{IsChoice}
 use Rattle.gg_cut.specs.declared.listed.Listed.{Listed}
 use Rattle.gg_cut.specs.declared.wires.Wire.{Wire}
-use Rattle.gg_cut.specs.Machines.{first_source, machine_count}
+use Rattle.gg_cut.specs.Machines.{machine_count}
 use Rattle.gg_cut.specs.Channels.{wires_of}
-use Rattle.gg_cut.specs.Plan.{channels_to, channels_from, signals_of, givens_of}
+use Rattle.gg_cut.specs.Plan.{channels_from, signals_of, givens_of}
 use Rattle.gg_closed.specs.Apart.{AreApart, AreEnds}
 use Rattle.gg_split.specs.declared.share.Share.{Share}
 use Rattle.gg_split.specs.IsShare.{AreShares, IsShare}
@@ -36,7 +36,7 @@ module _ (design : Ordered) (listed : Listed) (is : IsDesign design) (keeps : Ke
         signals = own.signals;
         banks = own.banks;
         choice = subst (λ ins. IsChoice design.circuit share.globals (signals_of (wires_of design.circuit design.tree listed) ins) (givens_of (wires_of design.circuit design.tree listed) (channels_from (wires_of design.circuit design.tree listed) 0)) share.memories) own.takes
-        (subst (λ outs. IsChoice design.circuit share.globals (signals_of (wires_of design.circuit design.tree listed) share.ins) (givens_of (wires_of design.circuit design.tree listed) outs) share.memories) own.gives (own.choice (omega arith)));
+            (subst (λ outs. IsChoice design.circuit share.globals (signals_of (wires_of design.circuit design.tree listed) share.ins) (givens_of (wires_of design.circuit design.tree listed) outs) share.memories) own.gives (own.choice (omega arith)));
       }
 
   pub routable : (circuit : FlatCircuit) (tree : InstanceTree) (order : List ℕ) (wires : List Wire) (shares : List Share) (any : Share) (globals memories : List ℕ) → circuit ≡ design.circuit → tree ≡ design.tree → order ≡ design.order → wires ≡ wires_of design.circuit design.tree listed → AreShares design listed shares → globals ≡ (slice_index_or shares 0 any).globals → memories ≡ (slice_index_or shares 0 any).memories → CanRoute circuit tree order listed wires globals memories

@@ -2,17 +2,16 @@
 use Rattle.std.proofs.Common.{◌≡◌, ◌≢◌, ℕ, suc, ◌+◌, ◌<◌, length, Bool, true, false, sym, ◌∙◌, ap, subst, refl, inl, inr, ◌⊎◌, arith}
 use Rattle.std.specs.Prelude.{if◌then◌else◌, Contains}
 use Rattle.gg_flat.specs.Line.{value_at}
-use Rattle.gg_flat.specs.Circuit.{FlatCircuit, readers_at, reader_at}
-use Rattle.gg_flat.specs.WellFormed.{IsWellFormed}
-use Rattle.gg_flat.specs.Tree.{InstanceTree, IsTree, instance_at, memory_at, parent_place}
-use Rattle.gg_flat.specs.Scoped.{IsScoped, memory_fields}
+use Rattle.gg_flat.specs.Circuit.{FlatCircuit, readers_at}
+use Rattle.gg_flat.specs.Tree.{InstanceTree, instance_at, memory_at, parent_place}
+use Rattle.gg_flat.specs.Scoped.{memory_fields}
 use Rattle.gg_cut.specs.declared.wires.Wire.{Wire}
 use Rattle.gg_cut.specs.declared.listed.Listed.{Listed}
 use Rattle.gg_cut.specs.Listed.{owner_of}
 use Rattle.gg_cut.specs.Machines.{first_memory, first_source, first_tray}
 use Rattle.gg_cut.specs.Channels.{wire}
 use Rattle.gg_cut.proofs.WireLemmas.{unit_or_hub-below, owner-below}
-use Rattle.gg_closed.proofs.KindLemmas.{IsSourceWire, IsTrayWire, IsInto, IsWordWire, Kind, OfSource, OfPort, OfField, OfTray, outside_unit, outside_memory, kind-of, source-wire, tray-wire, word-field}
+use Rattle.gg_closed.proofs.KindLemmas.{IsSourceWire, IsTrayWire, IsInto, IsWordWire, Kind, OfSource, OfPort, OfField, OfTray, outside_unit, outside_memory, kind-of, source-wire, tray-wire}
 use Rattle.gg_routes.specs.Direct.{Hub, hub_of, routes}
 use Rattle.gg_routes.specs.Routes.{GivesInput, TakesOutput}
 use Rattle.gg_routes.proofs.RouteLemmas.{IsBase, port-stays}

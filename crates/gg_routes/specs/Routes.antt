@@ -1,6 +1,7 @@
 -- What the routed channels of a cut are good for.
-use Rattle.std.specs.Prelude.{◌≡◌, ◌≢◌, ◌↔◌, ◌⊎◌, ℕ, ◌+◌, ◌<◌, List, ◌==◌, false, length, map, filter, slice_index_or, Contains, All, AllPairs}
-use Rattle.std.specs.List.{range_with_len}
+-- Source: MEMOCODE 2009 (the nodes of a network, and the channels between them); ICCAD 2019 (units and memories of a target as
+-- models of their own, with sources for its inputs and sinks for its outputs).
+use Rattle.std.specs.Prelude.{◌≡◌, ◌≢◌, ◌↔◌, ◌⊎◌, ℕ, ◌+◌, ◌<◌, List, false, length, Contains, All, AllPairs}
 use Rattle.gg_flat.specs.Line.{value_at}
 use Rattle.gg_flat.specs.Circuit.{FlatCircuit}
 use Rattle.gg_flat.specs.State.{State}
@@ -18,22 +19,25 @@ use Rattle.gg_routes.specs.Direct.{Hub, routes, is_gone}
 abbrev pub MakesBy : Hub → ℕ → ℕ → Type 0
 MakesBy hub m s = ((s < length hub.circuit.signals) × (hub.owner s ≡ m) × IsInner hub.base s × (is_gone hub s ≡ false)) ⊎ Contains (givens_of (routes hub) (channels_from (routes hub) m)) s
 
--- in each settled row both signals have one value
+-- in each settled cycle both signals of the channel have one value
 abbrev pub IsSame : FlatCircuit → Wire → Type 0
 IsSame circuit r = (state : State) (inputs row : List ℕ) → Settled circuit state inputs row → value_at row r.signal ≡ value_at row r.given
 
 -- A source takes nothing, and gives its input on at least one channel.
-pub record GivesInput (rs : List Wire) (m input : ℕ) : Type 0 where
-  pub none : (s : ℕ) → ¬ Contains (signals_of rs (channels_to rs m)) s
-  pub one : Contains (givens_of rs (channels_from rs m)) input
-  pub all : (s : ℕ) → Contains (givens_of rs (channels_from rs m)) s → s ≡ input
+pub record GivesInput (wires : List Wire) (m input : ℕ) : Type 0 where
+  pub none : (s : ℕ) → ¬ Contains (signals_of wires (channels_to wires m)) s
+  pub one : Contains (givens_of wires (channels_from wires m)) input
+  pub all : (s : ℕ) → Contains (givens_of wires (channels_from wires m)) s → s ≡ input
 
 -- A tray gives nothing, and takes one channel.
-pub record TakesOutput (rs : List Wire) (m output : ℕ) : Type 0 where
-  pub none : (s : ℕ) → ¬ Contains (givens_of rs (channels_from rs m)) s
-  pub one : Contains (signals_of rs (channels_to rs m)) output
-  pub all : (s : ℕ) → Contains (signals_of rs (channels_to rs m)) s → s ≡ output
+pub record TakesOutput (wires : List Wire) (m output : ℕ) : Type 0 where
+  pub none : (s : ℕ) → ¬ Contains (givens_of wires (channels_from wires m)) s
+  pub one : Contains (signals_of wires (channels_to wires m)) output
+  pub all : (s : ℕ) → Contains (signals_of wires (channels_to wires m)) s → s ≡ output
 
+-- The routed channels of a cut: no two carry one signal; each is between two machines of the cut; what a machine gives it doesn't
+-- take; both signals of a channel have one value; what the hub, a unit or a memory makes and takes, with the memories that belong to
+-- it, makes a part; each source gives its input and each tray takes its output.
 pub record AreRoutes (design : Ordered) (listed : Listed) (hub : Hub) : Type 0 where
   pub once : AllPairs (λ r s. r.signal ≢ s.signal) (routes hub)
   pub ends : All (λ r. (r.producer < machine_count design.circuit listed) × (r.consumer < machine_count design.circuit listed)) (routes hub)

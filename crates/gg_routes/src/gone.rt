@@ -54,11 +54,7 @@ pub(crate) fn gone_of(
 }
 
 // What a table has for these signals.
-fn found_in(
-    alloc: Global,
-    table: &[Option<u32>],
-    signals: &[u32],
-) -> Result<Vec<u32>, AllocError>
+fn found_in(alloc: Global, table: &[Option<u32>], signals: &[u32]) -> Result<Vec<u32>, AllocError>
     requires { All (λ s. s < length table.now) signals.now }
     ensures { IfOk result (λ found. found.items ≡ flat_map (λ s. option_to_list (entry_at table.now s)) signals.now) }
 {

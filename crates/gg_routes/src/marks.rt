@@ -1,5 +1,5 @@
 //! Marks on signals.
-ghost use Rattle.std.specs.Prelude.{◌≡◌, ℕ, ◌<◌, false, replicate, length, All, IfOk};
+ghost use Rattle.std.specs.Prelude.{◌≡◌, ℕ, ◌<◌, false, length, All, IfOk};
 ghost use Rattle.gg_order.specs.Marks.{is_marked};
 ghost use Rattle.gg_cut.specs.Listed.{AreMarks};
 

@@ -62,7 +62,12 @@ fn push_driver_of(names: &mut Vec<u32>, piece: &Piece, signal: u32) -> Result<()
     requires known { signal < length piece.now.signals }
     ensures { OnOk result (names.new.items ≡ names.old.items ++ driver_names piece.now (driver_at piece.now signal)) }
 {
-    push_driver(names, piece, &piece.signals()[signal as usize].driver, signal)
+    push_driver(
+        names,
+        piece,
+        &piece.signals()[signal as usize].driver,
+        signal,
+    )
 }
 
 // Adds what a driver names, which is that of a signal.

@@ -1,7 +1,5 @@
 //! The origins of copies.
-ghost use Rattle.std.specs.Prelude.{◌≡◌, ℕ, ◌<◌, ◌≤◌, None, length, replicate, IfOk, IfSome};
-ghost use Rattle.gg_flat.specs.Circuit.{FlatCircuit};
-ghost use Rattle.gg_flat.specs.Line.{value_at};
+ghost use Rattle.std.specs.Prelude.{◌≡◌, ℕ, ◌<◌, None, length, IfOk, IfSome};
 ghost use Rattle.gg_flat.specs.Order.{IsOrder};
 ghost use Rattle.gg_flat.specs.WellFormed.{IsWellFormed};
 ghost use Rattle.gg_order.specs.Marks.{is_marked};
@@ -108,11 +106,7 @@ fn origin_of(
 }
 
 /// The origin of what a signal is a copy of.
-pub(crate) fn origin_beyond(
-    piece: &Piece,
-    origins: &[Option<u32>],
-    signal: u32,
-) -> Option<u32>
+pub(crate) fn origin_beyond(piece: &Piece, origins: &[Option<u32>], signal: u32) -> Option<u32>
     requires formed { IsWellFormed piece.now }
     requires known { signal < length piece.now.signals }
     requires count { length origins.now ≡ length piece.now.signals }

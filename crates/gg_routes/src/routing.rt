@@ -15,7 +15,7 @@ use crate::marks::marks_of;
 use crate::names::{names_of, push_stops};
 use crate::origins::origins_of;
 use crate::routed::routed_of;
-use crate::sides::{Side, made_of, sides_of};
+use crate::sides::{made_of, sides_of};
 use crate::straight::straight_of;
 use gg_bits::Items;
 use gg_closed::channels_once;

@@ -1,16 +1,15 @@
 use Rattle.std.proofs.Common.{List, ◌∙◌, ap}
 use Rattle.std.specs.Prelude.{slice_index_or}
+use Rattle.gg_order.specs.Design.{IsDesign}
 use Rattle.gg_order.specs.Marks.{is_marked}
 use Rattle.gg_split.specs.declared.share.Share.{Share}
 use Rattle.gg_routes.proofs.RoutableLemmas.{routable, routing-at}
-use Rattle.gg_routes.proofs.WorkedRoutes.{channel}
-use Rattle.gg_routes.proofs.ShareLemmas.{hub-share}
 use Rattle.gg_routes.proofs.routing.routes.Goals as goal
 
 pub routes_of-requires-clause-can : goal.routes_of-requires-clause-can
 routes_of-requires-clause-can c =
     let first = c.index-as_slice-0.is ∙ ap (λ (l : List Share). slice_index_or l 0 c.index-as_slice-0.result) c.as_slice.ensures in
-    let is = record { formed = c.piece.ensures.formed; ordered = c.order.ensures.ordered } in
+    let is : IsDesign c.args.design.now = record { formed = c.piece.ensures.formed; ordered = c.order.ensures.ordered } in
     routable c.args.design.now c.args.listed.now is c.requires.keeps c.requires.apart (c.channels_once.ensures.once c.args.design.now c.args.listed.now is c.requires.keeps c.requires.apart) (c.channels_once.ensures.ends c.args.design.now c.args.listed.now is c.requires.keeps c.requires.apart)
     c.piece.result.now c.tree.result.now c.order.result.now c.as_slice-2.result.now c.args.split.now.shares c.index-as_slice-0.result c.as_slice-3.result.now c.as_slice-4.result.now
     c.piece.ensures.circuit c.tree.ensures.tree c.order.ensures.order (c.as_slice-2.ensures ∙ c.requires.wires) c.requires.shares
