@@ -3,4 +3,6 @@
 
 mod laws;
 
-pub use laws::{channels_follow, nothing_piped, parts_follow, reference_formed, sources_follow};
+pub use laws::{
+    channels_follow, nothing_direct, nothing_piped, parts_follow, reference_formed, sources_follow,
+};
