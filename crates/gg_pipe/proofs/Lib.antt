@@ -1,0 +1,16 @@
+pub mod WorkedReference
+pub mod RenameLemmas
+pub mod ReferenceLemmas
+pub mod PipeLemmas
+pub mod SeenLemmas
+pub mod LinkLemmas
+pub mod MachineLemmas
+pub mod DataLemmas
+pub mod MadeLemmas
+pub mod HolderLemmas
+pub mod FollowLemmas
+pub mod FormedLemmas
+pub mod OrderedLemmas
+pub mod WholeReference
+pub mod NothingLemmas
+pub mod PlainLemmas

@@ -1,0 +1,132 @@
+-- Who makes a signal, and by which number a machine sees it.
+use Rattle.std.proofs.Common.{◌≡◌, ℕ, suc, ◌<◌, List, [], ◌∷◌, Bool, true, false, Option, Some, None, length, get_or, sym, ◌∙◌, ap, subst, inl, inr, ◌⊎◌, refl, eq-eqb, arith}
+use Rattle.std.specs.Prelude.{◌&&◌, ◌==◌, if◌then◌else◌, cond, Contains, filter, find}
+use Rattle.std.specs.List.{list_any}
+use Rattle.std.proofs.lemmas.Bool.{cases_Bool, and_parts, eqb-true, ne_eqb}
+use Rattle.std.proofs.lemmas.List.Elements.{All-contains, Contains-get_or}
+use Rattle.gg_flat.specs.Line.{value_at}
+use Rattle.gg_flat.proofs.ListLemmas.{filter-cases}
+use Rattle.gg_cut.specs.declared.wires.Wire.{Wire}
+use Rattle.gg_cut.specs.Listed.{first_place}
+use Rattle.gg_cut.proofs.PathLemmas.{first_place-Some}
+use Rattle.gg_closed.proofs.ListLemmas.{map-cases}
+use Rattle.gg_closed.proofs.PlaceLemmas.{place-none}
+use Rattle.gg_cut.specs.Plan.{Takes}
+use Rattle.gg_routes.specs.Direct.{Hub, is_own, routes, origin_within}
+use Rattle.gg_routes.specs.Routes.{MakesBy}
+use Rattle.gg_pipe.specs.Reference.{IsSeen, IsPiped}
+use Rattle.gg_pipe.specs.Links.{pipes_of, pipe_or, taken_as, seen_by, maker_or, maker_of}
+use Rattle.gg_routes.proofs.OriginLemmas.{any-finds, finds-any, clash, Chain, Here, Copy, chain}
+use Rattle.gg_routes.proofs.RouteLemmas.{IsBase, same-wire, own-no-wire, find-some, route-signal, out-routes, chosen-in}
+use Rattle.gg_routes.proofs.ChoiceLemmas.{IsFromBase, takes-out, From, Same, Origin, gives-out, inner-none, any-wire}
+
+find-none : {A : Type 0} (test : A → Bool) (xs : List A) → list_any test xs ≡ false → find test xs ≡ None
+find-none test [] e = refl
+find-none test (x ∷ xs) e = by (cases_Bool (test x)) (λ h. find-none test xs h)
+  where
+    by : (test x ≡ true) ⊎ (test x ≡ false) → (list_any test xs ≡ false → find test xs ≡ None) → find test (x ∷ xs) ≡ None
+    by (inl p) rest = absurd (clash (list_any test (x ∷ xs)) (finds-any test (x ∷ xs) x (0, omega arith, refl) p) e)
+    by (inr p) rest = ap (λ b. cond b (Some x) (find test xs)) p ∙ rest (none (cases_Bool (list_any test xs)))
+      where
+        none : (list_any test xs ≡ true) ⊎ (list_any test xs ≡ false) → list_any test xs ≡ false
+        none (inr f) = f
+        none (inl f) =
+            let g = any-finds test xs f in
+            absurd (clash (list_any test (x ∷ xs)) (finds-any test (x ∷ xs) g.item (suc g.among.0, omega (arith, g.among.1), g.among.2) g.passes) e)
+
+module _ (hub : Hub) (base : IsBase hub) where
+  -- ---- makers
+
+  pub maker-inner : (s : ℕ) → list_any (λ (w : Wire). w.signal == s) hub.base ≡ false → maker_of hub s ≡ hub.owner s
+  maker-inner s none = ap (maker_or (hub.owner s)) (find-none (λ (w : Wire). w.signal == s) hub.base none)
+
+  pub maker-wire : (m s : ℕ) → IsFromBase hub base m s → maker_of hub s ≡ m
+  maker-wire m s w =
+      let f = find-some (λ (v : Wire). v.signal == s) hub.base (finds-any (λ (v : Wire). v.signal == s) hub.base w.wire w.among (eq-eqb w.wire.signal s w.is)) in
+      ap (maker_or (hub.owner s)) f.is ∙ ap (λ (v : Wire). v.producer) (same-wire hub base f.item w.wire f.among w.among (eqb-true f.item.signal s f.passes ∙ sym w.is)) ∙ w.producer
+
+  -- what a machine makes, has its driver there
+  pub maker-is : (m s : ℕ) → MakesBy hub m s → maker_of hub s ≡ m
+  maker-is m s (inl own) = maker-inner s (inner-none hub base s own.2) ∙ own.1
+  maker-is m s (inr h) = by (gives-out hub base m s h)
+    where
+      by : From hub base m s → maker_of hub s ≡ m
+      by (Same w stays plain) = maker-wire m s w
+      by (Origin w into) = maker-wire m s w
+
+  -- ---- by which number a signal is seen
+
+  pub unpiped : (s : ℕ) → hub.piped s ≡ false → taken_as hub s ≡ s
+  unpiped s plain = ap (pipe_or (length hub.circuit.signals) s) (place-none (λ p. p == s) (pipes_of hub) (λ i d lt. none (get_or (pipes_of hub) i d) (Contains-get_or (pipes_of hub) i d lt)))
+    where
+      none : (p : ℕ) → Contains (pipes_of hub) p → (p == s) ≡ false
+      none p h =
+          ne_eqb p s (λ same.
+          let at = map-cases (λ (r : Wire). r.signal) (filter (λ (r : Wire). hub.piped r.signal) (routes hub)) p h in
+          let r = get_or (filter (λ (r : Wire). hub.piped r.signal) (routes hub)) at.place any-wire in
+          let kept = filter-cases (λ (r : Wire). hub.piped r.signal) (routes hub) r (Contains-get_or (filter (λ (r : Wire). hub.piped r.signal) (routes hub)) at.place any-wire at.within) in
+          clash (hub.piped s) (subst (λ t. hub.piped t ≡ true) (at.holds any-wire ∙ same) kept.passes) plain)
+
+  pub piped-as : (s k : ℕ) → first_place (λ p. p == s) (pipes_of hub) ≡ Some k → IsPiped hub.circuit (pipes_of hub) s (taken_as hub s)
+  piped-as s k e =
+      let at = first_place-Some (λ p. p == s) (pipes_of hub) k e in
+      record { pipe = k; known = at.within; of = eqb-true (value_at (pipes_of hub) k) s (at.passes 0); is = ap (pipe_or (length hub.circuit.signals) s) e }
+
+  pub taken-seen : (s : ℕ) → (taken_as hub s ≡ s) ⊎ IsPiped hub.circuit (pipes_of hub) s (taken_as hub s)
+  taken-seen s = by (first_place (λ p. p == s) (pipes_of hub)) refl
+    where
+      by : (o : Option ℕ) → first_place (λ p. p == s) (pipes_of hub) ≡ o → (taken_as hub s ≡ s) ⊎ IsPiped hub.circuit (pipes_of hub) s (taken_as hub s)
+      by None e = inl (ap (pipe_or (length hub.circuit.signals) s) e)
+      by (Some k) e = inr (piped-as s k e)
+
+  pub seen-takes : (m t : ℕ) → list_any (λ (r : Wire). (r.consumer == m) && (r.signal == t)) (routes hub) ≡ true → seen_by hub m t ≡ taken_as hub t
+  seen-takes m t e = ap (λ b. if b then taken_as hub t else t) e
+
+  pub seen-plain : (m t : ℕ) → list_any (λ (r : Wire). (r.consumer == m) && (r.signal == t)) (routes hub) ≡ false → seen_by hub m t ≡ t
+  seen-plain m t e = ap (λ b. if b then taken_as hub t else t) e
+
+  pub all-seen : (m : ℕ) → IsSeen hub.circuit (pipes_of hub) (seen_by hub m)
+  all-seen m t = by (list_any (λ (r : Wire). (r.consumer == m) && (r.signal == t)) (routes hub))
+    where
+      by : (b : Bool) → ((if b then taken_as hub t else t) ≡ t) ⊎ IsPiped hub.circuit (pipes_of hub) t (if b then taken_as hub t else t)
+      by true = taken-seen t
+      by false = inl refl
+
+  pub takes-any : (m t : ℕ) → list_any (λ (r : Wire). (r.consumer == m) && (r.signal == t)) (routes hub) ≡ true → Takes (routes hub) m t
+  takes-any m t e =
+      let r = any-finds (λ (r : Wire). (r.consumer == m) && (r.signal == t)) (routes hub) e in
+      let parts = and_parts (r.item.consumer == m) (r.item.signal == t) r.passes in
+      subst (λ s. Takes (routes hub) m s) (eqb-true r.item.signal t parts.1) (chosen-in (routes hub) any-wire (λ (q : Wire). q.consumer == m) (λ (q : Wire). q.signal) r.item r.among parts.0)
+
+  -- what a machine doesn't take it sees as it is
+  pub seen-own : (m t : ℕ) → ¬ Takes (routes hub) m t → seen_by hub m t ≡ t
+  seen-own m t free = by (cases_Bool (list_any (λ (r : Wire). (r.consumer == m) && (r.signal == t)) (routes hub)))
+    where
+      by : (list_any (λ (r : Wire). (r.consumer == m) && (r.signal == t)) (routes hub) ≡ true) ⊎ (list_any (λ (r : Wire). (r.consumer == m) && (r.signal == t)) (routes hub) ≡ false) → seen_by hub m t ≡ t
+      by (inl e) = absurd (free (takes-any m t e))
+      by (inr e) = seen-plain m t e
+
+  -- the hub sees a signal that has an origin as it is
+  pub seen-origin : (n t x : ℕ) → origin_within hub n t ≡ Some x → seen_by hub 0 t ≡ t
+  seen-origin n t x e = by (cases_Bool (list_any (λ (r : Wire). (r.consumer == 0) && (r.signal == t)) (routes hub))) (chain hub n t x e)
+    where
+      by : (list_any (λ (r : Wire). (r.consumer == 0) && (r.signal == t)) (routes hub) ≡ true) ⊎ (list_any (λ (r : Wire). (r.consumer == 0) && (r.signal == t)) (routes hub) ≡ false) → Chain hub n t x → seen_by hub 0 t ≡ t
+      by (inr f) c = seen-plain 0 t f
+      by (inl f) (Here more same taken plain is) = seen-takes 0 t f ∙ unpiped t plain
+      by (inl f) (Copy more u same taken own to rest) =
+          let w = takes-out hub base 0 t (takes-any 0 t f) in
+          absurd (own-no-wire hub base w.wire w.among (subst (λ s. is_own hub s ≡ true) (sym w.is) own))
+
+  -- ---- pipes
+
+  -- a piped channel's signal is a signal of the circuit
+  pub pipes-known : (k : ℕ) → k < length (pipes_of hub) → value_at (pipes_of hub) k < length hub.circuit.signals
+  pipes-known k lt = known (value_at (pipes_of hub) k) (Contains-get_or (pipes_of hub) k 0 lt)
+    where
+      known : (c : ℕ) → Contains (pipes_of hub) c → c < length hub.circuit.signals
+      known c h =
+          let at = map-cases (λ (r : Wire). r.signal) (filter (λ (r : Wire). hub.piped r.signal) (routes hub)) c h in
+          let r = get_or (filter (λ (r : Wire). hub.piped r.signal) (routes hub)) at.place any-wire in
+          let kept = filter-cases (λ (r : Wire). hub.piped r.signal) (routes hub) r (Contains-get_or (filter (λ (r : Wire). hub.piped r.signal) (routes hub)) at.place any-wire at.within) in
+          let w = out-routes hub base r kept.among in
+          subst (λ t. t < length hub.circuit.signals) (sym (route-signal hub base w.wire) ∙ ap (λ (q : Wire). q.signal) w.is ∙ at.holds any-wire) (All-contains (λ (v : Wire). v.signal < length hub.circuit.signals) hub.base w.wire base.known w.among)

@@ -1,0 +1,13 @@
+use Rattle.std.specs.Prelude.{◌+◌}
+use Rattle.gg_cut.specs.Machines.{first_source}
+use Rattle.gg_routes.specs.Direct.{hub_of}
+use Rattle.gg_routes.proofs.CutLemmas.{cut-base}
+use Rattle.gg_routes.proofs.SideLemmas.{source-routes}
+use Rattle.gg_pipe.specs.Made.{holder_of, keeper_of}
+use Rattle.gg_pipe.proofs.FollowLemmas.{source-column}
+use Rattle.gg_pipe.proofs.laws.sources_follow.Goals as goal
+
+pub returns : goal.returns
+returns c = λ design listed piped direct ratios columns n rows p channel is keeps apart given run lt from.
+    let base = cut-base design listed piped direct is keeps apart (c.channels_once.ensures.once design listed is keeps apart) (c.channels_once.ensures.ends design listed is keeps apart) in
+    source-column (hub_of design.circuit design.tree listed piped direct) base is.formed (holder_of (hub_of design.circuit design.tree listed piped direct)) (keeper_of design.tree listed) (first_source listed + p) p lt (source-routes design.circuit design.tree listed piped direct base p lt) ratios columns n rows given run channel from

@@ -1,0 +1,4 @@
+pub mod Reference
+pub mod Links
+pub mod Made
+pub mod Follows

@@ -1,0 +1,65 @@
+-- The two ends of a channel in the reference circuit: the signal by which its producer gives the value, and the signal by which
+-- its consumer gets it. They differ where the channel is direct or piped.
+-- Source: MEMOCODE 2009 (channels between the nodes of a dataflow network; tokens that are there at the start).
+use Rattle.std.specs.Prelude.{◌≡◌, ◌↔◌, ◌⊎◌, ℕ, ◌<◌, ◌+◌, List, ◌∷◌, Bool, ◌==◌, ◌&&◌, if◌then◌else◌, Option, Some, None, length, map, filter, find, Contains}
+use Rattle.std.specs.List.{list_any}
+use Rattle.gg_flat.specs.Line.{value_at}
+use Rattle.gg_flat.specs.Circuit.{driver_at}
+use Rattle.gg_flat.specs.declared.piece.Driver.TheVariants.{Held}
+use Rattle.gg_part.specs.Part.{IsPart}
+use Rattle.gg_part.specs.Building.{AreHeld}
+use Rattle.gg_part.specs.InOrder.{IsInOrder}
+use Rattle.gg_part.specs.declared.part.Part.{Part}
+use Rattle.gg_cut.specs.declared.wires.Wire.{Wire}
+use Rattle.gg_cut.specs.Listed.{first_place}
+use Rattle.gg_cut.specs.Plan.{channels_to, channels_from, signals_of, givens_of, Takes}
+use Rattle.gg_routes.specs.Direct.{Hub, routes}
+use Rattle.gg_routes.specs.Routes.{MakesBy}
+use Rattle.gg_pipe.specs.Reference.{Views}
+
+-- the signals of the piped channels, in their order
+abbrev pub pipes_of : Hub → List ℕ
+pipes_of hub = map (λ r. r.signal) (filter (λ r. hub.piped r.signal) (routes hub))
+
+abbrev pub pipe_or : ℕ → ℕ → Option ℕ → ℕ
+pipe_or count s None = s
+pipe_or count s (Some k) = count + k
+
+-- the signal by which the consumer of the channel of signal s gets its value: the pipe's, or s itself
+abbrev pub taken_as : Hub → ℕ → ℕ
+taken_as hub s = pipe_or (length hub.circuit.signals) s (first_place (λ p. p == s) (pipes_of hub))
+
+-- the number by which machine m sees a signal
+abbrev pub seen_by : Hub → ℕ → ℕ → ℕ
+seen_by hub m t = if list_any (λ r. (r.consumer == m) && (r.signal == t)) (routes hub) then taken_as hub t else t
+
+abbrev pub maker_or : ℕ → Option Wire → ℕ
+maker_or other None = other
+maker_or other (Some w) = w.producer
+
+-- the machine in which a signal's driver stands
+abbrev pub maker_of : Hub → ℕ → ℕ
+maker_of hub s = maker_or (hub.owner s) (find (λ w. w.signal == s) hub.base)
+
+-- who names what, where `holder` has the machine that holds a register and `keeper` the machine of a memory
+abbrev pub views_of : Hub → (ℕ → ℕ) → (ℕ → ℕ) → Views
+views_of hub holder keeper = record { maker = maker_of hub; holder = holder; keeper = keeper; seen = seen_by hub; kept = taken_as hub }
+
+-- the list of values of a channel whose producer gives these: a piped channel opens with the token 0
+abbrev pub stream : Bool → List ℕ → List ℕ
+stream piped values = if piped then 0 ∷ values else values
+
+-- A machine's piece, by the routed channels: exactly the signals that it makes or takes, in an order of evaluation, and exactly the
+-- registers that those hold which it doesn't take.
+pub record IsRoutedPart (hub : Hub) (m : ℕ) (part : Part) : Type 0 where
+  pub is : IsPart hub.circuit part.piece part.globals part.held part.memories
+  pub signals : (s : ℕ) → Contains part.globals s ↔ (MakesBy hub m s ⊎ Takes (routes hub) m s)
+  pub ins : map (value_at part.globals) part.piece.ins ≡ signals_of (routes hub) (channels_to (routes hub) m)
+  pub outs : map (value_at part.globals) part.piece.outs ≡ givens_of (routes hub) (channels_from (routes hub) m)
+  pub held : AreHeld hub.circuit part.globals (signals_of (routes hub) (channels_to (routes hub) m)) part.held
+  pub ordered : IsInOrder part.piece
+
+-- each register is held by signals of one machine, and each memory of the part is the machine's
+pub record AreHolders (hub : Hub) (holder keeper : ℕ → ℕ) (m : ℕ) (memories : List ℕ) : Type 0 where
+  pub registers : (s r : ℕ) → s < length hub.circuit.signals → driver_at hub.circuit s ≡ Held r → holder r ≡ maker_of hub s
+  pub kept : (k : ℕ) → Contains memories k → keeper k ≡ m

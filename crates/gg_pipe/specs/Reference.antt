@@ -1,0 +1,119 @@
+-- The reference circuit of a design with pipes: the design, and for each piped channel a register that takes the channel's
+-- value in each cycle. Where the channel's consumer names the channel, it names the register in its place.
+-- Source: MEMOCODE 2009 (a buffer with a token in it at the start delays a stream by a cycle); this program's profile.
+use Rattle.std.specs.Prelude.{◌≡◌, ◌⊎◌, ℕ, ◌+◌, ◌<◌, List, [], ◌∷◌, ◌++◌, codes, Option, Some, None, length, map, slice_index_or}
+use Rattle.gg_bits.specs.Shape.{Shape, shape}
+use Rattle.gg_flat.specs.declared.line.Node.{Node}
+use Rattle.gg_flat.specs.declared.line.Op.{Op}
+use Rattle.gg_flat.specs.declared.line.Op.TheVariants.{Ref, Literal, One, Two, Fix, Mux}
+use Rattle.gg_flat.specs.declared.memory.Reader.{Reader}
+use Rattle.gg_flat.specs.declared.memory.Writer.{Writer}
+use Rattle.gg_flat.specs.declared.memory.Memory.{Memory}
+use Rattle.gg_flat.specs.declared.piece.Register.{Register}
+use Rattle.gg_flat.specs.declared.piece.Reset.{Reset}
+use Rattle.gg_flat.specs.declared.piece.Driver.{Driver}
+use Rattle.gg_flat.specs.declared.piece.Driver.TheVariants.{Input, Held, MemoryWord, ReadRegister, Computed}
+use Rattle.gg_flat.specs.Line.{value_at, shape_at}
+use Rattle.gg_flat.specs.Circuit.{FlatCircuit, signal_shapes, driver_at}
+use Rattle.gg_flat.specs.Tree.{path_at}
+
+-- ---- other names for signals
+
+abbrev pub op_by : (ℕ → ℕ) → Op → Op
+op_by to (Ref s) = Ref (to s)
+op_by to (Literal value) = Literal value
+op_by to (One op i) = One op i
+op_by to (Two op i j) = Two op i j
+op_by to (Fix op i n m) = Fix op i n m
+op_by to (Mux c i j) = Mux c i j
+
+abbrev pub line_by : (ℕ → ℕ) → List Node → List Node
+line_by to line = map (λ node. let named : Node = record { ty = node.ty; op = op_by to node.op } in named) line
+
+abbrev pub next_by : (ℕ → ℕ) → Option (List Node) → Option (List Node)
+next_by to None = None
+next_by to (Some line) = Some (line_by to line)
+
+abbrev pub reset_by : (ℕ → ℕ) → Option Reset → Option Reset
+reset_by to None = None
+reset_by to (Some reset) = Some (record { condition = line_by to reset.condition; init = line_by to reset.init })
+
+abbrev pub register_by : (ℕ → ℕ) → Register → Register
+register_by to register = record { ty = register.ty; reset = reset_by to register.reset; next = next_by to register.next; clock = register.clock }
+
+abbrev pub reader_by : (ℕ → ℕ) → Reader → Reader
+reader_by to reader = record { addr = to reader.addr; en = to reader.en; word = to reader.word; clock = reader.clock }
+
+abbrev pub writer_by : (ℕ → ℕ) → Writer → Writer
+writer_by to writer = record { addr = to writer.addr; en = to writer.en; word = to writer.word; mask = to writer.mask; clock = writer.clock }
+
+abbrev pub memory_by : (ℕ → ℕ) → Memory → Memory
+memory_by to memory =
+    record {
+      word = memory.word;
+      depth = memory.depth;
+      latency = memory.latency;
+      readers = map (λ reader. reader_by to reader) memory.readers;
+      writers = map (λ writer. writer_by to writer) memory.writers;
+    }
+
+abbrev pub driver_by : (ℕ → ℕ) → Driver → Driver
+driver_by to (Input place) = Input place
+driver_by to (Held register) = Held register
+driver_by to (MemoryWord memory reader addr en) = MemoryWord memory reader (to addr) (to en)
+driver_by to (ReadRegister memory reader) = ReadRegister memory reader
+driver_by to (Computed line) = Computed (line_by to line)
+
+-- ---- pipes
+
+-- Who names what: `maker` has the machine in which a signal's driver stands, `holder` that of a register, `keeper` that of a
+-- memory. `seen m` has the number by which machine m sees a signal, `kept` that by which the tray of an out-signal sees it.
+pub record Views : Type 0 where
+  pub maker : ℕ → ℕ
+  pub holder : ℕ → ℕ
+  pub keeper : ℕ → ℕ
+  pub seen : ℕ → ℕ → ℕ
+  pub kept : ℕ → ℕ
+
+-- a register without a reset that takes signal c in each tick
+pub record IsPipeRegister (register : Register) (sink : Shape) (c : ℕ) : Type 0 where
+  pub type : shape register.ty ≡ sink
+  pub reset : register.reset ≡ None
+  pub node : Node
+  pub next : register.next ≡ Some (node ∷ [])
+  pub clock : register.clock ≡ None
+  pub op : node.op ≡ Ref c
+  pub wide : shape node.ty ≡ sink
+
+-- The circuit `all` is the reference circuit of `one`, where the channels of the signals in `pipes` are piped. Signals,
+-- registers and memories keep their numbers; the pipes come behind.
+pub record IsReference (one all : FlatCircuit) (views : Views) (pipes : List ℕ) : Type 0 where
+  pub signals : length all.signals ≡ length one.signals + length pipes
+  pub shapes : (s : ℕ) → s < length one.signals → shape_at (signal_shapes all) s ≡ shape_at (signal_shapes one) s
+  pub drivers : (s : ℕ) → s < length one.signals → driver_at all s ≡ driver_by (views.seen (views.maker s)) (driver_at one s)
+  pub registers : length all.registers ≡ length one.registers + length pipes
+  pub register : (r : ℕ) (any other : Register) → r < length one.registers → slice_index_or all.registers r other ≡ register_by (views.seen (views.holder r)) (slice_index_or one.registers r any)
+  pub memories : length all.memories ≡ length one.memories
+  pub memory : (m : ℕ) (any other : Memory) → m < length one.memories → slice_index_or all.memories m other ≡ memory_by (views.seen (views.keeper m)) (slice_index_or one.memories m any)
+  pub paths : all.paths ≡ one.paths ++ map (λ c. codes "pipe:" ++ path_at one.paths c) pipes
+  pub ins : all.ins ≡ one.ins
+  pub outs : all.outs ≡ map views.kept one.outs
+  pub clocks : all.clocks ≡ one.clocks
+  pub pipe_shape : (k : ℕ) → k < length pipes → shape_at (signal_shapes all) (length one.signals + k) ≡ shape_at (signal_shapes one) (value_at pipes k)
+  pub pipe_driver : (k : ℕ) → k < length pipes → driver_at all (length one.signals + k) ≡ Held (length one.registers + k)
+  pub pipe_register : (k : ℕ) (any : Register) → k < length pipes → IsPipeRegister (slice_index_or all.registers (length one.registers + k) any) (shape_at (signal_shapes one) (value_at pipes k)) (value_at pipes k)
+
+-- signal t is seen as pipe k
+pub record IsPiped (one : FlatCircuit) (pipes : List ℕ) (t seen : ℕ) : Type 0 where
+  pub pipe : ℕ
+  pub known : pipe < length pipes
+  pub of : value_at pipes pipe ≡ t
+  pub is : seen ≡ length one.signals + pipe
+
+-- each signal is seen as itself or as a pipe of it
+abbrev pub IsSeen : FlatCircuit → List ℕ → (ℕ → ℕ) → Type 0
+IsSeen one pipes to = (t : ℕ) → (to t ≡ t) ⊎ IsPiped one pipes t (to t)
+
+-- the piece with the paths of these signals of the reference circuit
+abbrev pub with_paths : FlatCircuit → FlatCircuit → List ℕ → FlatCircuit
+with_paths all piece globals = record piece { paths = map (path_at all.paths) globals }

@@ -1,0 +1,70 @@
+//! Laws: facts about the definitions. Each is the contract of a function with an empty body.
+ghost use Rattle.std.specs.Prelude.{◌≡◌, ◌↔◌, ◌++◌, Contains, ℕ, ◌+◌, ◌<◌, List, [], Bool, false, length, slice_index_or};
+ghost use Rattle.std.specs.List.{range_with_len};
+ghost use Rattle.gg_flat.specs.Circuit.{FlatCircuit};
+ghost use Rattle.gg_flat.specs.Tree.{InstanceTree};
+ghost use Rattle.gg_flat.specs.WellFormed.{IsWellFormed};
+ghost use Rattle.gg_flat.specs.Order.{IsOrder};
+ghost use Rattle.gg_flat.specs.Clock.{Ratio};
+ghost use Rattle.gg_flat.specs.Run.{IsColumns, IsRunFrom, clocked_start, column};
+ghost use Rattle.gg_moved.specs.KeepsToTree.{KeepsToTree};
+ghost use Rattle.gg_part.specs.declared.part.Part.{Part};
+ghost use Rattle.gg_order.specs.Design.{Ordered, IsDesign};
+ghost use Rattle.gg_cut.specs.declared.listed.Listed.{Listed};
+ghost use Rattle.gg_cut.specs.Machines.{first_source};
+ghost use Rattle.gg_cut.specs.Channels.{wires_of};
+ghost use Rattle.gg_cut.specs.Plan.{wire_at, channels_from, HasMemory, IsCutPart};
+ghost use Rattle.gg_closed.specs.Apart.{AreApart};
+ghost use Rattle.gg_routes.specs.Direct.{hub_of, routes};
+ghost use Rattle.gg_pipe.specs.Reference.{IsReference};
+ghost use Rattle.gg_pipe.specs.Links.{pipes_of, taken_as, IsRoutedPart};
+ghost use Rattle.gg_pipe.specs.Made.{reference_circuit, views_in, IsFresh, AreHeldOnce};
+ghost use Rattle.gg_pipe.specs.Follows.{Follows, given_column, taken_column};
+
+use gg_closed::channels_once;
+
+/// A machine follows a run of the reference circuit, whatever the ratios of the clocks: on the values of the channels that
+/// it takes, with a 0 before those of piped channels, its piece has a run, and in each such run it gives the values of the
+/// channels that it gives. No register of the circuit may be held by two signals.
+pub fn parts_follow()
+    ensures { (design : Ordered) (listed : Listed) (piped : ℕ → Bool) (direct : Bool) (m : ℕ) (part : Part) (ratios : List Ratio) (columns : List (List ℕ)) (n : ℕ) (rows : List (List ℕ)) → IsDesign design → KeepsToTree design.circuit design.tree → AreApart design.tree listed → AreHeldOnce design.circuit → IsRoutedPart (hub_of design.circuit design.tree listed piped direct) m part → ((k : ℕ) → Contains part.memories k ↔ HasMemory design.tree listed m k) → IsRunFrom (reference_circuit design.circuit design.tree listed piped direct) (clocked_start (reference_circuit design.circuit design.tree listed piped direct) ratios) columns n rows → Follows (hub_of design.circuit design.tree listed piped direct) m ratios n part rows }
+{
+    channels_once();
+}
+
+/// In a run of the reference circuit, the signal by which the consumer of a channel gets it has the values by which the
+/// producer gives it, with a 0 before them where the channel is piped.
+pub fn channels_follow()
+    ensures { (design : Ordered) (listed : Listed) (piped : ℕ → Bool) (direct : Bool) (ratios : List Ratio) (columns : List (List ℕ)) (n : ℕ) (rows : List (List ℕ)) (c : ℕ) → IsDesign design → KeepsToTree design.circuit design.tree → AreApart design.tree listed → IsRunFrom (reference_circuit design.circuit design.tree listed piped direct) (clocked_start (reference_circuit design.circuit design.tree listed piped direct) ratios) columns n rows → c < length (routes (hub_of design.circuit design.tree listed piped direct)) → column rows (taken_as (hub_of design.circuit design.tree listed piped direct) (wire_at (routes (hub_of design.circuit design.tree listed piped direct)) c).signal) ≡ taken_column (hub_of design.circuit design.tree listed piped direct) n rows c }
+{
+    channels_once();
+}
+
+/// In a run of the reference circuit, each channel of the source of a top input is given the input's column.
+pub fn sources_follow()
+    ensures { (design : Ordered) (listed : Listed) (piped : ℕ → Bool) (direct : Bool) (ratios : List Ratio) (columns : List (List ℕ)) (n : ℕ) (rows : List (List ℕ)) (p c : ℕ) → IsDesign design → KeepsToTree design.circuit design.tree → AreApart design.tree listed → IsColumns (reference_circuit design.circuit design.tree listed piped direct) n columns → IsRunFrom (reference_circuit design.circuit design.tree listed piped direct) (clocked_start (reference_circuit design.circuit design.tree listed piped direct) ratios) columns n rows → p < length design.circuit.ins → Contains (channels_from (routes (hub_of design.circuit design.tree listed piped direct)) (first_source listed + p)) c → given_column (hub_of design.circuit design.tree listed piped direct) rows c ≡ slice_index_or columns p [] }
+{
+    channels_once();
+}
+
+/// The reference circuit has the signals, the registers and the memories of the design, with the names by which their
+/// machines see signals, and behind them a register for each piped channel, which takes the channel's value in each tick. It
+/// is well formed if no path of the design begins with `pipe:`. The order of the design, behind the pipes, is an order of it.
+pub fn reference_formed()
+    ensures made { (design : Ordered) (listed : Listed) (piped : ℕ → Bool) (direct : Bool) → IsDesign design → KeepsToTree design.circuit design.tree → AreApart design.tree listed → IsReference design.circuit (reference_circuit design.circuit design.tree listed piped direct) (views_in design.circuit design.tree listed piped direct) (pipes_of (hub_of design.circuit design.tree listed piped direct)) }
+    ensures formed { (design : Ordered) (listed : Listed) (piped : ℕ → Bool) (direct : Bool) → IsDesign design → KeepsToTree design.circuit design.tree → AreApart design.tree listed → IsFresh design.circuit → IsWellFormed (reference_circuit design.circuit design.tree listed piped direct) }
+    ensures ordered { (design : Ordered) (listed : Listed) (piped : ℕ → Bool) (direct : Bool) → IsDesign design → KeepsToTree design.circuit design.tree → AreApart design.tree listed → IsOrder (reference_circuit design.circuit design.tree listed piped direct) (range_with_len (length design.circuit.signals) (length (pipes_of (hub_of design.circuit design.tree listed piped direct))) ++ design.order) }
+{
+    channels_once();
+}
+
+/// Where no channel is piped, the reference circuit is the circuit itself.
+pub fn nothing_piped()
+    ensures { (circuit : FlatCircuit) (tree : InstanceTree) (listed : Listed) (piped : ℕ → Bool) (direct : Bool) → pipes_of (hub_of circuit tree listed piped direct) ≡ [] → reference_circuit circuit tree listed piped direct ≡ circuit }
+{}
+
+/// Where no channel is direct, the channels are those of the cut, and the parts of the cut are pieces of its machines.
+pub fn nothing_direct()
+    ensures channels { (circuit : FlatCircuit) (tree : InstanceTree) (listed : Listed) (piped : ℕ → Bool) → routes (hub_of circuit tree listed piped false) ≡ wires_of circuit tree listed }
+    ensures parts { (design : Ordered) (listed : Listed) (piped : ℕ → Bool) (m : ℕ) (part : Part) → IsCutPart design listed (wires_of design.circuit design.tree listed) m part → IsRoutedPart (hub_of design.circuit design.tree listed piped false) m part }
+{}

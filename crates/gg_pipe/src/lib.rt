@@ -1,0 +1,8 @@
+//! Pipe channels of a cut: the reference circuit, and what each machine computes by its run.
+#![tactic(auto)]
+
+mod laws;
+
+pub use laws::{
+    channels_follow, nothing_direct, nothing_piped, parts_follow, reference_formed, sources_follow,
+};

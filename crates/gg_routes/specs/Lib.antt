@@ -1,0 +1,4 @@
+pub mod Direct
+pub mod Routes
+pub mod Tables
+pub mod Routable

@@ -1,0 +1,37 @@
+-- What the channels of a cut are routed from.
+-- Source: ICCAD 2019 (instances that are marked lie apart, each a model of its own).
+use Rattle.std.specs.Prelude.{◌≡◌, ◌≢◌, ◌↔◌, ◌⊎◌, ℕ, ◌<◌, List, Bool, length, Contains, All, AllPairs}
+use Rattle.gg_flat.specs.Circuit.{FlatCircuit}
+use Rattle.gg_flat.specs.WellFormed.{IsWellFormed}
+use Rattle.gg_flat.specs.Tree.{InstanceTree, IsTree}
+use Rattle.gg_flat.specs.Scoped.{IsScoped}
+use Rattle.gg_flat.specs.Order.{IsOrder}
+use Rattle.gg_part.specs.Choice.{IsChoice}
+use Rattle.gg_cut.specs.declared.listed.Listed.{Listed}
+use Rattle.gg_cut.specs.declared.wires.Wire.{Wire}
+use Rattle.gg_cut.specs.Machines.{machine_count}
+use Rattle.gg_cut.specs.Channels.{wires_of}
+use Rattle.gg_cut.specs.Plan.{channels_to, channels_from, signals_of, givens_of, Makes, Takes, HasMemory}
+use Rattle.gg_order.specs.Marks.{is_marked}
+use Rattle.gg_closed.specs.Apart.{AreApart, AreEnds}
+use Rattle.gg_routes.specs.Direct.{Hub, routes, is_gone}
+
+-- A circuit that is well formed, with its tree and an order; units that lie apart; the channels before; and the signals and the
+-- memories that the hub has, which make a part.
+pub record CanRoute (circuit : FlatCircuit) (tree : InstanceTree) (order : List ℕ) (listed : Listed) (wires : List Wire) (globals memories : List ℕ) : Type 0 where
+  pub formed : IsWellFormed circuit
+  pub fitting : IsTree circuit tree
+  pub scoped : IsScoped circuit tree
+  pub ordered : IsOrder circuit order
+  pub apart : AreApart tree listed
+  pub base : wires ≡ wires_of circuit tree listed
+  pub once : AllPairs (λ v w. v.signal ≢ w.signal) (wires_of circuit tree listed)
+  pub ends : All (AreEnds (machine_count circuit listed)) (wires_of circuit tree listed)
+  pub signals : (s : ℕ) → Contains globals s ↔ (Makes circuit tree listed (wires_of circuit tree listed) 0 s ⊎ Takes (wires_of circuit tree listed) 0 s)
+  pub banks : (k : ℕ) → Contains memories k ↔ HasMemory tree listed 0 k
+  pub choice : IsChoice circuit globals (signals_of (wires_of circuit tree listed) (channels_to (wires_of circuit tree listed) 0)) (givens_of (wires_of circuit tree listed) (channels_from (wires_of circuit tree listed) 0)) memories
+
+-- the channels that are left, and marks on the signals that leave
+pub record IsRouting (hub : Hub) (left : List Wire) (gone : List Bool) : Type 0 where
+  pub channels : left ≡ routes hub
+  pub leaves : (s : ℕ) → s < length hub.circuit.signals → is_marked gone s ≡ is_gone hub s

@@ -1,0 +1,30 @@
+//! Direct channels: the hub no longer passes on what it only copies.
+//!
+//! In a cut of many units the hub's piece has wires that do nothing but lead from one channel to another. Such a channel
+//! may go straight from the machine that makes the value to the one that takes it (`specs/Direct`). The crate promises,
+//! for a design and what a request without a fault lists:
+//!
+//! - [`routes`] gives the channels that are left, in their order, and tells which signals leave the plan, just as the
+//!   definitions say (`routes`, `is_gone`);
+//! - these channels are good for a network as the channels before are (`channels_routed`, `AreRoutes` in
+//!   `specs/Routes`): no two carry one signal; both signals of a channel have one value in every settled cycle; a machine
+//!   doesn't take what it gives; the hub, a unit and a listed memory make parts of the circuit; a source gives its input on
+//!   one or more channels, and a tray takes one.
+//!
+//! The pass is linear: a table of what each signal is to the hub, one of origins along the order of evaluation, marks on
+//! what the hub names, and one look at each channel.
+#![tactic(auto)]
+
+mod gone;
+mod laws;
+mod lists;
+mod marks;
+mod names;
+mod origins;
+mod routed;
+mod routing;
+mod sides;
+mod straight;
+
+pub use laws::channels_routed;
+pub use routing::{Channels, routes};
