@@ -21,6 +21,9 @@ use gg_program::Program;
 use gg_trace::Trace;
 use std::alloc::{AllocError, Global};
 
+/// The greatest number of values that a tray keeps: the last ones.
+pub const TRAY_ROWS: u64 = 1024;
+
 /// A host of one machine, with the ports that it serves in a cycle.
 #[derive(Drop)]
 pub(crate) struct Hosted<'a> {
@@ -100,10 +103,10 @@ fn source_host<'a>(alloc: Global, trace: &Trace, place: u32) -> Result<Hosted<'a
 }
 
 // The host of a tray.
-fn tray_host<'a>(alloc: Global, trace: &Trace) -> Result<Hosted<'a>, AllocError>
-    ensures { IfOk result (λ made. IsHost (λ machine. machine ≡ tray_machine (tray_rows trace.now.rows) cycle_limit 0 [] None) made.node made.ports.items) }
+fn tray_host<'a>(alloc: Global) -> Result<Hosted<'a>, AllocError>
+    ensures { IfOk result (λ made. IsHost (λ machine. machine ≡ tray_machine tray_rows cycle_limit 0 [] None) made.node made.ports.items) }
 {
-    let tray = Tray::new(alloc, trace.rows().max(1))?;
+    let tray = Tray::new(alloc, TRAY_ROWS)?;
     Ok(Hosted {
         node: Node::Tray(tray),
         ports: Vec::new(alloc),
@@ -127,6 +130,6 @@ pub(crate) fn host_of<'a>(
         Body::Cut(part) => cut_host(alloc, part),
         Body::Memory(part) => memory_host(alloc, part),
         Body::Source(place) => source_host(alloc, trace, *place),
-        Body::Tray => tray_host(alloc, trace),
+        Body::Tray => tray_host(alloc),
     }
 }

@@ -1,6 +1,5 @@
 -- What sources and trays do.
 use Rattle.std.proofs.Common.{◌≡◌, ℕ, zero, suc, ◌+◌, ◌<◌, ◌≤◌, List, [], ◌∷◌, None, false, length, get_or, refl, sym, ◌∙◌, ap, subst, arith}
-use Rattle.std.proofs.Math.Nat.{le-max_right}
 use Rattle.std.proofs.lemmas.List.{get_or-map}
 use Rattle.gg_limits.specs.Limits.{cycle_limit}
 use Rattle.gg_flat.specs.Line.{value_at, shape_at}
@@ -50,12 +49,12 @@ module _ (circuit : FlatCircuit) (tree : InstanceTree) (listed : Listed) (m plac
 
 -- ---- trays
 
-pub tray-does : (rows : List (List ℕ)) (n : ℕ) (ins outs : List ℕ) (machine : Machine) → length ins ≡ 1 → length outs ≡ 0 → n ≤ cycle_limit → machine ≡ tray_machine (tray_rows n) cycle_limit 0 [] None → DoesCycles rows n ins outs (kind_of machine) no_state []
+pub tray-does : (rows : List (List ℕ)) (n : ℕ) (ins outs : List ℕ) (machine : Machine) → length ins ≡ 1 → length outs ≡ 0 → n ≤ cycle_limit → machine ≡ tray_machine tray_rows cycle_limit 0 [] None → DoesCycles rows n ins outs (kind_of machine) no_state []
 tray-does rows n ins outs machine one none most is =
     subst (λ (t : Machine). DoesCycles rows n ins outs (kind_of t) no_state []) (sym is)
     (record {
       able = most;
-      does = (refl, refl, λ some. omega (arith, le-max_right n 1));
+      does = (refl, refl, λ some. omega arith);
       answers = λ o t few lt. absurd (omega (arith, few, none));
       asks = λ i t few lt. tt;
     })

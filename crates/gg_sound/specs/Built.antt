@@ -2,7 +2,7 @@
 -- that its channels carry are gg_cut's `columns_of`. `flow_of` has all that it computes.
 -- Source: MEMOCODE 2009 (a synchronous circuit as a network of its parts, whose streams are the circuit's own); ICCAD
 -- 2019 (units and memories of a target as models of their own, with sources for its inputs and sinks for its outputs).
-use Rattle.std.specs.Prelude.{◌≡◌, ℕ, suc, ◌^◌, ◌<◌, ◌≤◌, ◌==◌, ◌++◌, List, [], ◌∷◌, None, false, length, map, max, slice_index_or, unwrap_or}
+use Rattle.std.specs.Prelude.{◌≡◌, ℕ, suc, ◌^◌, ◌<◌, ◌≤◌, ◌==◌, ◌++◌, List, [], ◌∷◌, None, false, length, map, slice_index_or, unwrap_or}
 use Rattle.gg_limits.specs.Limits.{cycle_limit}
 use Rattle.gg_flat.specs.Line.{value_at}
 use Rattle.gg_flat.specs.Run.{IsRun, IsColumns}
@@ -87,16 +87,16 @@ pub record IsMemoryOf (part : Part) (machine : Machine) : Type 0 where
   pub is_memory : memory.IsMemoryPiece alone.piece
   pub is : machine ≡ memory.opening_unit alone.piece []
 
--- the most values that the tray of a network with n cycles keeps: all that it gets, but at least one
-abbrev pub tray_rows : ℕ → ℕ
-tray_rows n = max n 1
+-- the most values that a tray keeps
+abbrev pub tray_rows : ℕ
+tray_rows = 1024
 
 -- The machine of the network for a machine of the plan. `columns` are the columns of the top's inputs, by their places.
 abbrev pub IsBuilt : List (List ℕ) → ℕ → Body → Machine → Type 0
 IsBuilt columns n (Cut part) machine = IsUnitOf part machine
 IsBuilt columns n (Memory part) machine = IsMemoryOf part machine
 IsBuilt columns n (Source place) machine = machine ≡ source_machine (slice_index_or columns place []) 0 (false ∷ [])
-IsBuilt columns n Tray machine = machine ≡ tray_machine (tray_rows n) cycle_limit 0 [] None
+IsBuilt columns n Tray machine = machine ≡ tray_machine tray_rows cycle_limit 0 [] None
 
 -- the machines of the network of a plan, by number
 pub record AreBuilt (plan : Plan) (columns : List (List ℕ)) (n : ℕ) (machines : List Machine) : Type 0 where

@@ -37,7 +37,7 @@ net-stays plan columns n old new is same = record { machines = is.machines; buil
 
 -- a machine of a plan from the first tray on is a tray
 tray-behaves : (design : Ordered) (listed : Listed) (wires : List cut.Wire) (columns : List (List ℕ)) (n m : ℕ) (body : Body) (machine : Machine) → first_tray design.circuit listed ≤ m → IsBody design listed wires m body → IsBuilt columns n body machine
-    → machine.behaviour ≡ KeepsLast (tray_rows n)
+    → machine.behaviour ≡ KeepsLast tray_rows
 tray-behaves design listed wires columns n m (Cut part) machine low is built = absurd (omega (arith, low, is.0))
 tray-behaves design listed wires columns n m (Memory part) machine low is built = absurd (omega (arith, low, is.1))
 tray-behaves design listed wires columns n m (Source place) machine low is built = absurd (omega (arith, low, is.0, is.1))
@@ -72,7 +72,7 @@ module _ (plan : Plan) (columns : List (List ℕ)) (n : ℕ) (flow : Flow) (run 
   planned-tray : (k : ℕ) → k < length outs → tray k < length plan.machines
   planned-tray k lt = omega (arith, lt, run.given.planned.machine_total)
 
-  behaves : (k : ℕ) → k < length outs → (machine_at net.machines (tray k)).behaviour ≡ KeepsLast (tray_rows n)
+  behaves : (k : ℕ) → k < length outs → (machine_at net.machines (tray k)).behaviour ≡ KeepsLast tray_rows
   behaves k lt =
       let m = tray k in
       let there : m < length plan.machines = planned-tray k lt in
@@ -108,7 +108,7 @@ module _ (plan : Plan) (columns : List (List ℕ)) (n : ℕ) (flow : Flow) (run 
       )
 
   -- what the tray of an output tells
-  tells : (k upto t : ℕ) → k < length outs → AllStandAt upto net → t < upto → upto ≤ t + tray_rows n → told_value (machine_at net.machines (tray k)) t ≡ value_at (row_at run.rows t) (value_at outs k)
+  tells : (k upto t : ℕ) → k < length outs → AllStandAt upto net → t < upto → upto ≤ t + tray_rows → told_value (machine_at net.machines (tray k)) t ≡ value_at (row_at run.rows t) (value_at outs k)
   tells k upto t lt all done near =
       let m = tray k in
       let there : m < length net.machines = omega (arith, lt, count) in
@@ -118,10 +118,10 @@ module _ (plan : Plan) (columns : List (List ℕ)) (n : ℕ) (flow : Flow) (run 
       let end : net.end ≡ n = ap (λ (f : Frame). f.end) is.frame in
       let within : t < length run.rows = omega (arith, done, at, (kept.machines m there).within, end, run.given.run.count) in
       tray-tells flow net m found.0 t kept
-      (record { there = there; known = found.1.known; taken = found.1.taken; rows = tray_rows n; tray = behaves k lt; begun = omega (arith, begin); done = omega (arith, done, at); last = omega (arith, near, at) })
+      (record { there = there; known = found.1.known; taken = found.1.taken; rows = tray_rows; tray = behaves k lt; begun = omega (arith, begin); done = omega (arith, done, at); last = omega (arith, near, at) })
       ∙ ap (λ l. value_at l t) found.1.list ∙ get_or-map (λ row. value_at row (value_at outs k)) run.rows t [] 0 within
 
-  pub outputs-are : (upto t : ℕ) (values : List ℕ) → length values ≡ length outs → AllStandAt upto net → t < upto → upto ≤ t + tray_rows n
+  pub outputs-are : (upto t : ℕ) (values : List ℕ) → length values ≡ length outs → AllStandAt upto net → t < upto → upto ≤ t + tray_rows
       → ((k : ℕ) → k < length values → value_at values k ≡ told_value (machine_at net.machines (length net.machines - length values + k)) t) → values ≡ outputs_in run.design.circuit run.rows t
   outputs-are upto t values same all done near told =
       ext_get_or 0 values (outputs_in run.design.circuit run.rows t) (same ∙ sym (length-map outs (value_at (row_at run.rows t))))

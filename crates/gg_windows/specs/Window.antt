@@ -4,14 +4,12 @@
 use Rattle.std.specs.Prelude.{◌≡◌, ℕ, ◌+◌, min}
 use Rattle.gg_net.specs.Network.{Network, frame_of}
 use Rattle.gg_measure.specs.Nets.{StaysWithin}
+use Rattle.gg_sound.specs.Built.{tray_rows}
 
--- the number of cycles of a window that isn't the last
-abbrev pub window_rows : ℕ
-window_rows = 1024
-
--- where the window ends that begins at a cycle, if this many cycles have to be done
+-- Where the window ends that begins at a cycle, if this many cycles have to be done. A window that isn't the last has as
+-- many cycles as a tray keeps values.
 abbrev pub window_end : (begun end : ℕ) → ℕ
-window_end begun end = min (begun + window_rows) end
+window_end begun end = min (begun + tray_rows) end
 
 -- A network of the same frame, in which no count is above both what so many cycles make of it and what it was.
 pub record GoesWithin (cycle : ℕ) (old new : Network) : Type 0 where

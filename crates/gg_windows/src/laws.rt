@@ -20,5 +20,5 @@ pub fn steps_keep_nets()
 /// A window is no longer than what a tray of the network of a plan keeps: at its end the value of each of its cycles is
 /// still there.
 pub fn windows_are_kept()
-    ensures { (begun n t : ℕ) → begun ≤ t → window_end begun n ≤ t + tray_rows n }
+    ensures { (begun n t : ℕ) → begun ≤ t → window_end begun n ≤ t + tray_rows }
 {}

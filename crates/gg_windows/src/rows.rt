@@ -31,7 +31,7 @@ pub fn tray_value<Z: Streams>(net: &Net<Node<'_>, Z>, machine: u32, cycle: u64) 
 pub fn output_values<Z: Streams>(net: &Net<Node<'_>, Z>, cycle: u64, outs: &mut [u128])
     requires { length outs.old ≤ length net.now.machines }
     ensures { (plan : Plan) (columns : List (List ℕ)) (n upto : ℕ) (run : IsToRun plan columns n Z.flow) → IsNetOfPlan plan columns n net.now
-        → length outs.old ≡ length run.design.circuit.outs → AllStandAt upto net.now → cycle < upto → upto ≤ cycle + tray_rows n
+        → length outs.old ≡ length run.design.circuit.outs → AllStandAt upto net.now → cycle < upto → upto ≤ cycle + tray_rows
         → outs.new ≡ outputs_in run.design.circuit run.rows cycle }
 {
     net.kept();

@@ -4,6 +4,7 @@ ghost use Rattle.gg_net.specs.Network.{frame_of};
 ghost use Rattle.gg_measure.specs.Nets.{AllStandAt, cycle_at};
 ghost use Rattle.gg_windows.specs.Window.{GoesWithin, window_end};
 
+use gg_build::TRAY_ROWS;
 use gg_flat::Streams;
 use gg_io::Gate;
 use gg_link::Link;
@@ -14,18 +15,16 @@ use gg_workers::work;
 use std::alloc::{AllocError, Global};
 use std::thread::Threads;
 
-// The number of cycles of a window that isn't the last.
-const WINDOW: u64 = 1024;
-
-/// Where the window ends that begins at a cycle, if `end` cycles have to be done: 1,024 cycles on, or at `end`.
+/// Where the window ends that begins at a cycle, if `end` cycles have to be done: 1,024 cycles on, as many as a tray keeps
+/// values, or at `end`.
 pub fn window_end(begun: u64, end: u64) -> u64
     requires { begun ≤ end }
     ensures { result ≡ window_end begun end }
 {
-    if end - begun <= WINDOW {
+    if end - begun <= TRAY_ROWS {
         end
     } else {
-        begun + WINDOW
+        begun + TRAY_ROWS
     }
 }
 
