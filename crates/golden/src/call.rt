@@ -17,13 +17,16 @@ use gg_io::{Gate, Shelf, Sink};
 use gg_told::{Ending, report};
 use gg_words::{Cmd, numbers_are_in_range, one_meaning, words};
 use std::alloc::Global;
+use std::thread::Threads;
 
 // Does a command of the command line.
-fn do_command<S: Shelf, K: Sink>(
+fn do_command<R: Threads + Sync, S: Shelf, K: Sink, G: Gate + Sync>(
+    rt: &R,
     alloc: Global,
     cmd: &Cmd,
     shelf: &mut S,
     out: &mut K,
+    gate: &G,
 ) -> Result<(), Ending>
     requires { (words : List (List ℕ)) × command_line.IsCommand words cmd.now }
     ensures ended { (words : List (List ℕ)) → command_line.IsCommand words cmd.now → CallEnded words (loads_of S.Shelf shelf.old shelf.new) (puts_of K.Sink out.old out.new) result }
@@ -37,15 +40,20 @@ fn do_command<S: Shelf, K: Sink>(
             partition,
             trace,
             capacity,
-            ..
+            workers,
+            mono,
         } => run(
+            rt,
             alloc,
             circuit.as_str(),
             partition.as_str(),
             trace.as_str(),
             *capacity,
+            *workers,
+            *mono,
             shelf,
             out,
+            gate,
         ),
         Cmd::Replay {
             circuit,
@@ -79,18 +87,20 @@ fn do_command<S: Shelf, K: Sink>(
 }
 
 // Does the command that the words ask for.
-fn command<S: Shelf, K: Sink>(
+fn command<R: Threads + Sync, S: Shelf, K: Sink, G: Gate + Sync>(
+    rt: &R,
     alloc: Global,
     given: &[String],
     shelf: &mut S,
     out: &mut K,
+    gate: &G,
 ) -> Result<(), Ending>
     ensures ended { CallEnded (texts given.now) (loads_of S.Shelf shelf.old shelf.new) (puts_of K.Sink out.old out.new) result }
     ensures shelf { ShelfWentOn S.Shelf shelf.old shelf.new }
     ensures out { SinkWentOn K.Sink out.old out.new }
 {
     match words(alloc, given) {
-        Ok(cmd) => do_command(alloc, &cmd, shelf, out),
+        Ok(cmd) => do_command(rt, alloc, &cmd, shelf, out, gate),
         Err(fault) => Err(end_at_words(alloc, &fault)),
     }
 }
@@ -109,19 +119,21 @@ fn status_of<E: Sink>(ended: &Result<(), Ending>, err: &mut E) -> u8
 }
 
 // Does what the words ask for, and reports how it ended.
-fn answer<S: Shelf, K: Sink, E: Sink>(
+fn answer<R: Threads + Sync, S: Shelf, K: Sink, E: Sink, G: Gate + Sync>(
+    rt: &R,
     alloc: Global,
     words: &[String],
     shelf: &mut S,
     out: &mut K,
     err: &mut E,
+    gate: &G,
 ) -> u8
     ensures answered { Answered (texts words.now) (loads_of S.Shelf shelf.old shelf.new) (puts_of K.Sink out.old out.new) (puts_of E.Sink err.old err.new) result }
     ensures shelf { ShelfWentOn S.Shelf shelf.old shelf.new }
     ensures out { SinkWentOn K.Sink out.old out.new }
     ensures err { SinkWentOn E.Sink err.old err.new }
 {
-    let ended = command(alloc, words, shelf, out);
+    let ended = command(rt, alloc, words, shelf, out, gate);
     status_of(&ended, err)
 }
 
@@ -149,7 +161,8 @@ fn answer<S: Shelf, K: Sink, E: Sink>(
 ///   was written.
 ///
 /// If the files are known and no load or put fails, the files and the words determine the status, unless it is 5.
-pub fn golden<S: Shelf, K: Sink, E: Sink, G: Gate>(
+pub fn golden<R: Threads + Sync, S: Shelf, K: Sink, E: Sink, G: Gate + Sync>(
+    rt: &R,
     alloc: Global,
     words: &[String],
     shelf: &mut S,
@@ -162,8 +175,7 @@ pub fn golden<S: Shelf, K: Sink, E: Sink, G: Gate>(
     ensures out { SinkWentOn K.Sink out.old out.new }
     ensures err { SinkWentOn E.Sink err.old err.new }
 {
-    let _ = gate;
     refusals_are_exact();
     one_meaning();
-    answer(alloc, words, shelf, out, err)
+    answer(rt, alloc, words, shelf, out, err, gate)
 }

@@ -4,6 +4,7 @@ use gg_io::{FailingPut, MemFiles, MemShelf, MemSink, NoGate, hold};
 use golden::golden;
 use std::alloc::{AllocError, Global};
 use std::collections::BTreeMap;
+use std::thread::Threads;
 
 /// The words of `run`.
 pub const RUN: &str = "golden run k1.fir p.json k1.trace";
@@ -67,7 +68,8 @@ pub fn words_of(alloc: Global, line: &str) -> Result<Vec<String>, AllocError> {
 }
 
 /// A call with these words and files, where these loads and puts are to fail.
-pub fn call(
+pub fn call<R: Threads + Sync>(
+    rt: &R,
     alloc: Global,
     line: &str,
     files: MemFiles,
@@ -80,6 +82,7 @@ pub fn call(
     let mut out = MemSink::new(alloc, puts);
     let mut err = MemSink::new(alloc, err_puts);
     let status = golden(
+        rt,
         alloc,
         words.as_slice(),
         &mut shelf,
@@ -97,8 +100,14 @@ pub fn call(
 }
 
 /// A call with these words and files, where nothing fails.
-pub fn ask(alloc: Global, line: &str, files: MemFiles) -> Result<Answer, AllocError> {
+pub fn ask<R: Threads + Sync>(
+    rt: &R,
+    alloc: Global,
+    line: &str,
+    files: MemFiles,
+) -> Result<Answer, AllocError> {
     call(
+        rt,
         alloc,
         line,
         files,
@@ -109,7 +118,8 @@ pub fn ask(alloc: Global, line: &str, files: MemFiles) -> Result<Answer, AllocEr
 }
 
 /// The same with a circuit, a partition and a trace.
-pub fn ask_of(
+pub fn ask_of<R: Threads + Sync>(
+    rt: &R,
     alloc: Global,
     line: &str,
     circuit: &str,
@@ -122,15 +132,16 @@ pub fn ask_of(
         partition.as_bytes(),
         trace.as_bytes(),
     )?;
-    ask(alloc, line, files)
+    ask(rt, alloc, line, files)
 }
 
 /// `run` on a circuit, a partition and a trace, where nothing fails.
-pub fn run(
+pub fn run<R: Threads + Sync>(
+    rt: &R,
     alloc: Global,
     circuit: &str,
     partition: &str,
     trace: &str,
 ) -> Result<Answer, AllocError> {
-    ask_of(alloc, RUN, circuit, partition, trace)
+    ask_of(rt, alloc, RUN, circuit, partition, trace)
 }
