@@ -56,6 +56,15 @@ impl Answer {
             && self.out.as_slice() == out.as_bytes()
             && self.err.as_slice() == err.as_bytes()
     }
+
+    // Whether another call answered the same.
+    fn is_like(&self, other: &Answer) -> bool {
+        self.status == other.status
+            && self.loads == other.loads
+            && self.puts == other.puts
+            && self.out.as_slice() == other.out.as_slice()
+            && self.err.as_slice() == other.err.as_slice()
+    }
 }
 
 /// The words of a call, of a line that parts them by blanks.
@@ -135,7 +144,29 @@ pub fn ask_of<R: Threads + Sync>(
     ask(rt, alloc, line, files)
 }
 
-/// `run` on a circuit, a partition and a trace, where nothing fails.
+/// The ways in which a circuit is run: by the simulator, and from the network with workers.
+pub static WAYS: [&str; 5] = [
+    "golden run k1.fir p.json k1.trace --mono",
+    "golden run k1.fir p.json k1.trace --workers 0",
+    "golden run k1.fir p.json k1.trace --workers 1",
+    "golden run k1.fir p.json k1.trace --workers 2",
+    "golden run k1.fir p.json k1.trace --workers 3",
+];
+
+// What two ways answer: the first, where they are alike, and else the second with the status 255.
+fn alike(first: Answer, second: Answer) -> Answer {
+    if second.is_like(&first) {
+        first
+    } else {
+        Answer {
+            status: 255,
+            ..second
+        }
+    }
+}
+
+/// `run` on a circuit, a partition and a trace, where nothing fails, in each way. If not all of them answer the same, the
+/// status is 255.
 pub fn run<R: Threads + Sync>(
     rt: &R,
     alloc: Global,
@@ -143,5 +174,10 @@ pub fn run<R: Threads + Sync>(
     partition: &str,
     trace: &str,
 ) -> Result<Answer, AllocError> {
-    ask_of(rt, alloc, RUN, circuit, partition, trace)
+    let mut answer = ask_of(rt, alloc, RUN, circuit, partition, trace)?;
+    for line in &WAYS {
+        let next = ask_of(rt, alloc, line, circuit, partition, trace)?;
+        answer = alike(answer, next);
+    }
+    Ok(answer)
 }

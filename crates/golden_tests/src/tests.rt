@@ -7,6 +7,7 @@ mod outputs;
 mod partitions;
 mod refusals;
 mod traces;
+mod windows;
 
 use golden_calls::Answer;
 use std::process::Abort;

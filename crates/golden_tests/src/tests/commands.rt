@@ -3,6 +3,7 @@ use super::check;
 use golden_calls::{Answer, TEXT, ask, counter_files};
 use std::alloc::{AllocError, Global};
 use std::test::Fail;
+use std::thread::Threads;
 
 // Words that run the counter.
 static ASKED: [&str; 12] = [
@@ -53,14 +54,18 @@ static UNASKED: [(&str, &str); 13] = [
 ];
 
 // A call with these words and the counter's files.
-fn ask_of_counter(alloc: Global, line: &str) -> Result<Answer, AllocError> {
-    ask(alloc, line, counter_files(alloc)?)
+fn ask_of_counter<R: Threads + Sync>(
+    rt: &R,
+    alloc: Global,
+    line: &str,
+) -> Result<Answer, AllocError> {
+    ask(rt, alloc, line, counter_files(alloc)?)
 }
 
 #[test]
 fn options_that_change_nothing(rt: HostRuntime) -> Result<(), Fail> {
     for line in &ASKED {
-        check(&rt, &ask_of_counter(rt.alloc(), line)?, 0, 3, TEXT, "");
+        check(&rt, &ask_of_counter(&rt, rt.alloc(), line)?, 0, 3, TEXT, "");
     }
     Ok(())
 }
@@ -68,7 +73,7 @@ fn options_that_change_nothing(rt: HostRuntime) -> Result<(), Fail> {
 #[test]
 fn words_that_are_no_command(rt: HostRuntime) -> Result<(), Fail> {
     for (line, err) in &UNASKED {
-        check(&rt, &ask_of_counter(rt.alloc(), line)?, 2, 0, "", err);
+        check(&rt, &ask_of_counter(&rt, rt.alloc(), line)?, 2, 0, "", err);
     }
     Ok(())
 }
