@@ -140,10 +140,11 @@ fn answer<R: Threads + Sync, S: Shelf, K: Sink, E: Sink, G: Gate + Sync>(
 /// A call of the program. Does what the words ask for, with files from `shelf`. Writes the text to `out`, and at most
 /// one line to `err`. Returns the status. The first word is the program's own name. All memory comes from `alloc`: the
 /// files, one at a time, what is built from them, and the lines of refusals. If an allocation fails the status is 5.
-/// The gate isn't called yet.
 ///
 /// `run CIRCUIT PARTITION TRACE` writes the text of the circuit's own run on the trace: a header, then a row for each
-/// cycle. `replay CIRCUIT PARTITION TRACE STEPS` does the steps of a file, one after another, on the network of the
+/// cycle. It runs the network of the cut, up to 1,024 cycles before their rows are written: by its workers, each in a
+/// thread of `rt`, and then by steps in the fixed order. With `--mono` it runs the simulator. Only the workers call the
+/// gate. `replay CIRCUIT PARTITION TRACE STEPS` does the steps of a file, one after another, on the network of the
 /// cut, beginning before its first cycle. It writes a line for each channel, with the number of tokens that were put,
 /// the number that were taken, and the tokens that were put. `check CIRCUIT PARTITION` writes a line for each machine
 /// of the cut, then one for each channel. Statuses:

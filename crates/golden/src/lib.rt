@@ -1,6 +1,7 @@
 //! The program golden as one call. [`golden`] does what the words of a call ask for, with files from a shelf. It writes
 //! the text to one output and at most one line to another, and returns the status. gg_words defines which words are
-//! which command. `run` prints the circuit's own run on the trace. What the partition asks for doesn't change it.
+//! which command. `run` prints the circuit's own run on the trace, from the network of the cut that the partition asks for,
+//! window by window, or by the simulator. The text is the same, whatever the cut and the number of workers.
 //! `replay` does a list of steps on the network of the cut, and prints the tokens of each channel. `check` prints the
 //! machines, the channels and the needs of the cut that the partition asks for. A partition with a fault is refused.
 //!
@@ -41,6 +42,7 @@ mod printing;
 mod reading;
 mod replay;
 mod run;
+mod windows;
 mod words;
 
 pub use call::golden;

@@ -125,7 +125,14 @@ static RUNS: [(&str, &str, &str); 19] = [
 fn plain_files_are_run(rt: HostRuntime) -> Result<(), Fail> {
     let alloc = rt.alloc();
     for (circuit, trace, out) in &RUNS {
-        check(&rt, &run(&rt, alloc, circuit, "{}\n", trace)?, 0, 3, out, "");
+        check(
+            &rt,
+            &run(&rt, alloc, circuit, "{}\n", trace)?,
+            0,
+            3,
+            out,
+            "",
+        );
     }
     Ok(())
 }
@@ -209,11 +216,7 @@ static CUT: [(usize, u8, u64, &str, &str); 12] = [
 ];
 
 // `run` on so many lines of the counter.
-fn run_cut<R: Threads + Sync>(
-    rt: &R,
-    alloc: Global,
-    lines: usize,
-) -> Result<Answer, AllocError> {
+fn run_cut<R: Threads + Sync>(rt: &R, alloc: Global, lines: usize) -> Result<Answer, AllocError> {
     let circuit = counter(alloc, lines, 0, "")?;
     run(rt, alloc, circuit.as_str(), "{}", TRACE)
 }
@@ -258,7 +261,14 @@ fn operations_one_inside_the_other(rt: HostRuntime) -> Result<(), Fail> {
         (256, 0, 3, TEXT, ""),
         (257, 1, 1, "", "golden: circuit: too deep line 10\n"),
     ] {
-        check(&rt, &run_nested(&rt, alloc, depth)?, status, loads, out, err);
+        check(
+            &rt,
+            &run_nested(&rt, alloc, depth)?,
+            status,
+            loads,
+            out,
+            err,
+        );
     }
     Ok(())
 }

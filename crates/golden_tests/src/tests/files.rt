@@ -66,7 +66,14 @@ fn files_that_are_not_loaded(rt: HostRuntime) -> Result<(), Fail> {
         (1, 2, "golden: cannot load p.json\n"),
         (2, 3, "golden: cannot load k1.trace\n"),
     ] {
-        check(&rt, &run_failing(&rt, rt.alloc(), failing)?, 3, loads, "", err);
+        check(
+            &rt,
+            &run_failing(&rt, rt.alloc(), failing)?,
+            3,
+            loads,
+            "",
+            err,
+        );
     }
     Ok(())
 }

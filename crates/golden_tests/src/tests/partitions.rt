@@ -63,7 +63,14 @@ static ACCEPTED: [(&str, &str, &str, &str); 9] = [
 fn accepted_partitions_change_nothing(rt: HostRuntime) -> Result<(), Fail> {
     let alloc = rt.alloc();
     for (circuit, partition, trace, out) in &ACCEPTED {
-        check(&rt, &run(&rt, alloc, circuit, partition, trace)?, 0, 3, out, "");
+        check(
+            &rt,
+            &run(&rt, alloc, circuit, partition, trace)?,
+            0,
+            3,
+            out,
+            "",
+        );
     }
     Ok(())
 }
@@ -237,11 +244,7 @@ fn units_up_to_the_limit(rt: HostRuntime) -> Result<(), Fail> {
 }
 
 // `run` on a circuit of so many outputs.
-fn run_outputs<R: Threads + Sync>(
-    rt: &R,
-    alloc: Global,
-    count: u64,
-) -> Result<Answer, AllocError> {
+fn run_outputs<R: Threads + Sync>(rt: &R, alloc: Global, count: u64) -> Result<Answer, AllocError> {
     let mut circuit = String::from_str(alloc, "circuit Top :\nmodule Top :\n")?;
     push_numbered(&mut circuit, 0, count, "output o", " : UInt<1>\n")?;
     push_numbered(&mut circuit, 0, count, "o", " is invalid\n")?;
@@ -255,7 +258,14 @@ fn channels_past_the_limit(rt: HostRuntime) -> Result<(), Fail> {
         (16_384, 7, 3, "golden: trace: T1 field 0\n"),
         (16_385, 6, 2, "golden: partition: P9 channels 16385\n"),
     ] {
-        check(&rt, &run_outputs(&rt, alloc, count)?, status, loads, "", err);
+        check(
+            &rt,
+            &run_outputs(&rt, alloc, count)?,
+            status,
+            loads,
+            "",
+            err,
+        );
     }
     Ok(())
 }

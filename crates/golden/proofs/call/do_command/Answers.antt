@@ -6,7 +6,9 @@ use Rattle.golden.proofs.CallLemmas.{asked-ends}
 use Rattle.golden.proofs.call.do_command.Goals as goal
 
 pub run-requires : goal.run-requires
-run-requires g c = (subst AreInRange c.in-Run.is (c.numbers_are_in_range.ensures c.requires.0 c.args.cmd.now c.requires.1)).0
+run-requires g c =
+    let ranges = subst AreInRange c.in-Run.is (c.numbers_are_in_range.ensures c.requires.0 c.args.cmd.now c.requires.1) in
+    record { capacity = ranges.0; few = ranges.1.1 }
 
 pub replay-requires : goal.replay-requires
 replay-requires g c = subst AreInRange c.in-Replay.is (c.numbers_are_in_range.ensures c.requires.0 c.args.cmd.now c.requires.1)
