@@ -28,7 +28,7 @@ print_window-requires-clause-outs g c =
     )
 
 pub returns-in-Err-clause-prints : goal.returns-in-Err-clause-prints
-returns-in-Err-clause-prints g c = windows-want {T = Unit {0}} c.loop-begun.invariant (Err NoMemory) refl
+returns-in-Err-clause-prints g c = windows-want c.loop-begun.invariant {T = Unit {0}} (Err NoMemory) refl
 
 pub returns-in_err-print_window-clause-prints : goal.returns-in_err-print_window-clause-prints
 returns-in_err-print_window-clause-prints g c =
@@ -52,4 +52,4 @@ loop-begun-smaller g c = omega (arith, c.loop-begun-test.true, c.window_end-upto
 pub returns-clause-prints : goal.returns-clause-prints
 returns-clause-prints g c =
     let past : c.args.net.end ≤ c.loop-begun.begun = omega (arith, c.loop-begun-test.false, c.end-end.ensures) in
-    windows-end {T = Unit {0}} c.loop-begun.invariant tt past
+    windows-end c.loop-begun.invariant {T = Unit {0}} tt past
