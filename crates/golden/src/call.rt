@@ -9,6 +9,7 @@ ghost use Rattle.golden.specs.Promised.{Promised};
 ghost use Rattle.gg_told.specs.WentOn.{ShelfWentOn, SinkWentOn};
 
 use crate::check::check;
+use crate::demo::demo;
 use crate::laws::refusals_are_exact;
 use crate::replay::replay;
 use crate::run::run;
@@ -83,6 +84,11 @@ fn do_command<R: Threads + Sync, S: Shelf, K: Sink, G: Gate + Sync>(
             shelf,
             out,
         ),
+        Cmd::Demo {
+            seed,
+            size,
+            workers,
+        } => demo(rt, alloc, *seed, *size, *workers, out, gate),
     }
 }
 
@@ -147,7 +153,8 @@ fn answer<R: Threads + Sync, S: Shelf, K: Sink, E: Sink, G: Gate + Sync>(
 /// gate. `replay CIRCUIT PARTITION TRACE STEPS` does the steps of a file, one after another, on the network of the
 /// cut, beginning before its first cycle. It writes a line for each channel, with the number of tokens that were put,
 /// the number that were taken, and the tokens that were put. `check CIRCUIT PARTITION` writes a line for each machine
-/// of the cut, then one for each channel. Statuses:
+/// of the cut, then one for each channel. `demo SEED SIZE` makes a circuit, a partition and a trace, runs their network and
+/// writes a summary. Statuses:
 ///
 /// - 0: the text was written whole;
 /// - 1: the circuit has a fault; nothing was written;

@@ -2,6 +2,7 @@
 mod circuits;
 mod commands;
 mod cuts;
+mod demos;
 mod files;
 mod outputs;
 mod partitions;
