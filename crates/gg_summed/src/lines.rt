@@ -1,5 +1,5 @@
 //! The lines of the summary are written.
-ghost use Rattle.std.specs.Prelude.{◌≡◌, List, ℕ, IfOk, Result, string_bytes};
+ghost use Rattle.std.specs.Prelude.{◌≡◌, List, ℕ, IfOk, string_bytes};
 ghost use Rattle.gg_summed.specs.Sums.{sums_text};
 ghost use Rattle.gg_told.specs.Endings.{PrintsOn};
 ghost use Rattle.gg_told.specs.WentOn.{SinkWentOn};

@@ -1,4 +1,4 @@
-use Rattle.std.proofs.Common.{List, ℕ, ◌++◌, Err, refl}
+use Rattle.std.proofs.Common.{◌++◌, Err, refl}
 use Rattle.gg_demo.specs.SummaryText.{fold_line, last_line, network_line, size_line}
 use Rattle.gg_told.proofs.EndingLemmas.{exit-is}
 use Rattle.gg_summed.proofs.LineLemmas.{Stands, prints-next, stands-more, stops-so}
