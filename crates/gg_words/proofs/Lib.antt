@@ -5,3 +5,4 @@ pub mod TakenLaws
 pub mod RangeLaws
 pub mod WorkedRows
 pub mod ReplayRows
+pub mod DemoRows

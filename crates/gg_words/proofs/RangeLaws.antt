@@ -8,11 +8,11 @@ use Rattle.gg_limits.specs.Limits.{capacity_limit}
 use Rattle.clap.specs.Walk.{Row, Text, first_of}
 use Rattle.clap.specs.Simple.{subcommand_of}
 use Rattle.gg_words.specs.Line.{golden_app}
-use Rattle.gg_words.specs.Meaning.{FoundSays, IsCommand, capacity_of, check_of, is_set, replay_of, run_of, text_of, with_number, workers_of}
-use Rattle.gg_words.specs.Number.{number_of}
-use Rattle.gg_words.specs.Range.{AreInRange, IsCapacity, IsWithin, most_workers}
+use Rattle.gg_words.specs.Meaning.{FoundSays, IsCommand, capacity_of, check_of, demo_of, is_set, replay_of, run_of, seed_of, size_of, text_of, with_number, workers_of}
+use Rattle.gg_words.specs.Number.{judged, number_of}
+use Rattle.gg_words.specs.Range.{AreInRange, IsCapacity, IsWithin, greatest_seed, most_stages, most_workers}
 use Rattle.gg_words.specs.declared.command.Cmd.{Cmd}
-use Rattle.gg_words.specs.declared.command.Cmd.TheVariants.{Run, Replay, Check}
+use Rattle.gg_words.specs.declared.command.Cmd.TheVariants.{Run, Replay, Check, Demo}
 
 ok-same : {X E : Type 0} (x y : X) → ◌≡◌ {A = Result X E} (Ok x) (Ok y) → x ≡ y
 ok-same x y e = cc
@@ -26,12 +26,16 @@ within-by least most front true v n text e given =
     subst (IsWithin least most) (ok-same v n given) (leb-true least v inner.1, leb-true v most outer.1)
 within-by least most front false v n text e given = absurd (cc)
 
+-- a number is in its range
+judged-within : (least most : ℕ) (text : List ℕ) (n : ℕ) → judged least most text ≡ Ok n → IsWithin least most n
+judged-within least most text n is =
+    let v = digits_value 10 text in
+    within-by least most (nat_lt 0 (length text) && all_ascii_digits text) (nat_lt 0 (length text) && all_ascii_digits text && nat_le least v && nat_le v most) v n text refl is
+
 -- an option's number is in its range if the default is
 number-within : (least most default : ℕ) → IsWithin least most default → (given : Option (List ℕ)) (n : ℕ) → number_of least most default given ≡ Ok n → IsWithin least most n
 number-within least most default within None n is = subst (IsWithin least most) (ok-same default n is) within
-number-within least most default within (Some text) n is =
-    let v = digits_value 10 text in
-    within-by least most (nat_lt 0 (length text) && all_ascii_digits text) (nat_lt 0 (length text) && all_ascii_digits text && nat_le least v && nat_le v most) v n text refl is
+number-within least most default within (Some text) n is = judged-within least most text n is
 
 capacity-within : (rows : List Row) (k : ℕ) → capacity_of rows ≡ Ok k → IsCapacity k
 capacity-within rows k is = number-within 1 capacity_limit 2 (omega arith, omega arith) (first_of (codes "capacity") rows) k is
@@ -64,17 +68,26 @@ module _ (rows : List Row) (cmd : Cmd) where
       let made : ℕ → Cmd = λ k. Check (text_of (codes "circuit") rows) (text_of (codes "partition") rows) k in
       from-number (capacity_of rows) (λ k. Ok (made k)) cmd (λ k capacity last. subst AreInRange (ok-same (made k) cmd last) (capacity-within rows k capacity)) is
 
-  said-within : (run replay check : Bool)
-      → cond run (Ok cmd ≡ run_of rows) (cond replay (Ok cmd ≡ replay_of rows) (cond check (Ok cmd ≡ check_of rows) ⊥)) → AreInRange cmd
-  said-within true replay check is = run-within (sym is)
-  said-within false true check is = replay-within (sym is)
-  said-within false false true is = check-within (sym is)
-  said-within false false false is = absurd is
+  demo-within : demo_of rows ≡ Ok cmd → AreInRange cmd
+  demo-within is =
+      from-number (seed_of rows) (λ s. with_number (size_of rows) (λ n. with_number (workers_of rows) (λ w. Ok (Demo s n w)))) cmd (λ s seed.
+      from-number (size_of rows) (λ n. with_number (workers_of rows) (λ w. Ok (Demo s n w))) cmd (λ n size.
+      from-number (workers_of rows) (λ w. Ok (Demo s n w)) cmd (λ w workers last.
+      subst AreInRange (ok-same (Demo s n w) cmd last)
+      (judged-within 0 greatest_seed (text_of (codes "seed") rows) s seed, judged-within 1 most_stages (text_of (codes "size") rows) n size, workers-within rows w workers)))) is
+
+  said-within : (run replay check demo : Bool)
+      → cond run (Ok cmd ≡ run_of rows) (cond replay (Ok cmd ≡ replay_of rows) (cond check (Ok cmd ≡ check_of rows) (cond demo (Ok cmd ≡ demo_of rows) ⊥))) → AreInRange cmd
+  said-within true replay check demo is = run-within (sym is)
+  said-within false true check demo is = replay-within (sym is)
+  said-within false false true demo is = check-within (sym is)
+  said-within false false false true is = demo-within (sym is)
+  said-within false false false false is = absurd is
 
 found-within : (found : Option (Text × List Row)) (cmd : Cmd) → FoundSays found (Ok cmd) → AreInRange cmd
 found-within None cmd says = absurd says
 found-within (Some found) cmd says =
-    said-within found.1 cmd (bytes_eq found.0 (codes "run")) (bytes_eq found.0 (codes "replay")) (bytes_eq found.0 (codes "check")) says
+    said-within found.1 cmd (bytes_eq found.0 (codes "run")) (bytes_eq found.0 (codes "replay")) (bytes_eq found.0 (codes "check")) (bytes_eq found.0 (codes "demo")) says
 
 pub command-within : (words : List Text) (cmd : Cmd) → IsCommand words cmd → AreInRange cmd
 command-within words cmd is = found-within (subcommand_of golden_app words) cmd is.found

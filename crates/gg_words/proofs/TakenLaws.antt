@@ -1,4 +1,4 @@
--- If clap refuses nothing, a command is found, and each of its files was given.
+-- If clap refuses nothing, a command is found, and each word that it requires was given.
 use Rattle.std.proofs.Common.{◌≡◌, ℕ, Bool, cond, true, false, not, true≢false, List, [], ◌∷◌, Option, None, Some, is_some, refl, sym, ap, ◌∙◌, subst, inl, inr}
 use Rattle.std.specs.Prelude.{◌&&◌, ◌||◌, find, option_and_then, option_map, slice_get}
 use Rattle.std.specs.List.{list_all}
@@ -13,7 +13,7 @@ use Rattle.clap.specs.Faults.{check_fault, defaults_fault, entered_fault, fault_
 use Rattle.clap.specs.Walk.{answers_to}
 use Rattle.clap.specs.declared.error.kind.ErrorKind.{ErrorKind}
 use Rattle.gg_words.specs.Line.{golden_app}
-use Rattle.gg_words.specs.Meaning.{HaveTexts, NamesFiles, run_files, replay_files, check_files}
+use Rattle.gg_words.specs.Meaning.{HaveTexts, HasWords, run_files, replay_files, check_files, demo_numbers}
 use Rattle.gg_words.proofs.FileLaws.{AreFull, find-all, find-passes, full-finished, full-walk, has_value}
 
 cons≢nil : (k : ErrorKind) (ks : Kinds) → k ∷ ks ≡ [] → ⊥
@@ -101,12 +101,15 @@ replay_built = shape_at whole.subs 1
 abbrev check_built : Shape
 check_built = shape_at whole.subs 2
 
+abbrev demo_built : Shape
+demo_built = shape_at whole.subs 3
+
 -- one of these files was not given
 abbrev lacks : List Row → List Text → Bool
 lacks rows [] = false
 lacks rows (id ∷ ids) = not (is_given id rows) || lacks rows ids
 
--- none of these files is an option
+-- none of these is an option
 abbrev are_apart : List Rule → List Text → Bool
 are_apart c [] = true
 are_apart c (id ∷ ids) = list_all (is_apart id) c && are_apart c ids
@@ -135,26 +138,30 @@ replay-texts words e = file-texts replay_built.rules (λ x. refl) words replay_f
 check-texts : (words : List Text) → level_fault check_built [] nothing_held words false [] ≡ [] → HaveTexts check_files (rows_at check_built words).1
 check-texts words e = file-texts check_built.rules (λ x. refl) words check_files refl (none-lacking check_built words check_files refl e)
 
--- the command that is entered: the first of these three whose test holds
-abbrev entering : (run replay check : Bool) → Option Shape
-entering run replay check = cond run (Some run_built) (cond replay (Some replay_built) (cond check (Some check_built) None))
+demo-texts : (words : List Text) → level_fault demo_built [] nothing_held words false [] ≡ [] → HaveTexts demo_numbers (rows_at demo_built words).1
+demo-texts words e = file-texts demo_built.rules (λ x. refl) words demo_numbers refl (none-lacking demo_built words demo_numbers refl e)
 
--- the files of the command that was entered
-by-command : (words : List Text) (run replay check : Bool)
-    → option_map_or (λ (s : Shape). level_fault s [] nothing_held words false []) (entering run replay check) [] ≡ []
-    → is_some (option_map (λ (s : Shape). rows_at s words) (entering run replay check)) ≡ true
-    → NamesFiles (option_map (λ (s : Shape). rows_at s words) (entering run replay check))
-by-command words true replay check none met = inl (refl, run-texts words none)
-by-command words false true check none met = inr (inl (refl, replay-texts words none))
-by-command words false false true none met = inr (inr (refl, check-texts words none))
-by-command words false false false none met = absurd (true≢false (sym met))
+-- the command that is entered: the first of these whose test holds
+abbrev entering : (run replay check demo : Bool) → Option Shape
+entering run replay check demo = cond run (Some run_built) (cond replay (Some replay_built) (cond check (Some check_built) (cond demo (Some demo_built) None)))
 
-entered-names : (stop : Option (Text × List Text)) → entered_fault whole stop ≡ [] → is_some (entered whole stop) ≡ true → NamesFiles (entered whole stop)
+-- what the command that was entered requires
+by-command : (words : List Text) (run replay check demo : Bool)
+    → option_map_or (λ (s : Shape). level_fault s [] nothing_held words false []) (entering run replay check demo) [] ≡ []
+    → is_some (option_map (λ (s : Shape). rows_at s words) (entering run replay check demo)) ≡ true
+    → HasWords (option_map (λ (s : Shape). rows_at s words) (entering run replay check demo))
+by-command words true replay check demo none met = inl (refl, run-texts words none)
+by-command words false true check demo none met = inr (inl (refl, replay-texts words none))
+by-command words false false true demo none met = inr (inr (inl (refl, check-texts words none)))
+by-command words false false false true none met = inr (inr (inr (refl, demo-texts words none)))
+by-command words false false false false none met = absurd (true≢false (sym met))
+
+entered-names : (stop : Option (Text × List Text)) → entered_fault whole stop ≡ [] → is_some (entered whole stop) ≡ true → HasWords (entered whole stop)
 entered-names None none met = absurd (true≢false (sym met))
 entered-names (Some p) none met =
-    by-command p.1 (answers_to p.0 (label_of run_built)) (answers_to p.0 (label_of replay_built)) (answers_to p.0 (label_of check_built)) none met
+    by-command p.1 (answers_to p.0 (label_of run_built)) (answers_to p.0 (label_of replay_built)) (answers_to p.0 (label_of check_built)) (answers_to p.0 (label_of demo_built)) none met
 
-pub taken-names : (words : List Text) → fault_of golden_app words ≡ [] → NamesFiles (subcommand_of golden_app words)
+pub taken-names : (words : List Text) → fault_of golden_app words ≡ [] → HasWords (subcommand_of golden_app words)
 taken-names words e =
     let stop = stop_after whole.top.rules (names_of whole) (argument_words golden_app words) in
     let parts = level-none whole.top (names_of whole) nothing_held (argument_words golden_app words) (is_some (entered whole stop)) (entered_fault whole stop) e in

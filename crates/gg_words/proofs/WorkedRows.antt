@@ -200,10 +200,6 @@ check-trace : fault_of golden_app (line (codes "check" ∷ codes "c" ∷ codes "
 unfolding clap_on_literals
 check-trace = refl
 
-demo-is-no-command : fault_of golden_app (line (codes "demo" ∷ codes "1" ∷ codes "2" ∷ [])) ≡ kind.UnknownArgument ∷ kind.InvalidSubcommand ∷ []
-unfolding clap_on_literals
-demo-is-no-command = refl
-
 case-counts : fault_of golden_app (line (codes "Run" ∷ codes "c" ∷ codes "p" ∷ codes "t" ∷ [])) ≡ kind.UnknownArgument ∷ kind.InvalidSubcommand ∷ []
 unfolding clap_on_literals
 case-counts = refl

@@ -5,9 +5,9 @@ use Rattle.clap.specs.Walk.{Rule, Text}
 use Rattle.clap.specs.Simple.{App, Shape, new_rule, new_shape}
 use Rattle.clap.specs.declared.builder.action.ArgAction.TheVariants.{SetTrue}
 
--- a file, which is required
-abbrev pub file_rule : Text → Rule
-file_rule id = record (new_rule id) { required = true }
+-- a word that stands by its place, and is required: a file, or a number
+abbrev pub word_rule : Text → Rule
+word_rule id = record (new_rule id) { required = true }
 
 -- an option with a value: `--NAME VALUE` or `--NAME=VALUE`
 abbrev pub value_rule : Text → Rule
@@ -20,18 +20,22 @@ flag_rule name = record (new_rule name) { long = Some name; action = Some SetTru
 -- `run CIRCUIT PARTITION TRACE [--capacity K] [--workers W] [--mono]`
 abbrev pub run_rules : List Rule
 run_rules =
-    file_rule (codes "circuit") ∷ file_rule (codes "partition") ∷ file_rule (codes "trace")
+    word_rule (codes "circuit") ∷ word_rule (codes "partition") ∷ word_rule (codes "trace")
     ∷ value_rule (codes "capacity") ∷ value_rule (codes "workers") ∷ flag_rule (codes "mono") ∷ []
 
 -- `replay CIRCUIT PARTITION TRACE STEPS [--capacity K]`
 abbrev pub replay_rules : List Rule
 replay_rules =
-    file_rule (codes "circuit") ∷ file_rule (codes "partition") ∷ file_rule (codes "trace") ∷ file_rule (codes "steps")
+    word_rule (codes "circuit") ∷ word_rule (codes "partition") ∷ word_rule (codes "trace") ∷ word_rule (codes "steps")
     ∷ value_rule (codes "capacity") ∷ []
 
 -- `check CIRCUIT PARTITION [--capacity K]`
 abbrev pub check_rules : List Rule
-check_rules = file_rule (codes "circuit") ∷ file_rule (codes "partition") ∷ value_rule (codes "capacity") ∷ []
+check_rules = word_rule (codes "circuit") ∷ word_rule (codes "partition") ∷ value_rule (codes "capacity") ∷ []
+
+-- `demo SEED SIZE [--workers W]`
+abbrev pub demo_rules : List Rule
+demo_rules = word_rule (codes "seed") ∷ word_rule (codes "size") ∷ value_rule (codes "workers") ∷ []
 
 -- a command of the program
 abbrev pub command_shape : Text → List Rule → Shape
@@ -46,6 +50,9 @@ replay_shape = command_shape (codes "replay") replay_rules
 abbrev pub check_shape : Shape
 check_shape = command_shape (codes "check") check_rules
 
+abbrev pub demo_shape : Shape
+demo_shape = command_shape (codes "demo") demo_rules
+
 -- The program: it requires a command, and has no words that ask for help.
 abbrev pub golden_app : App
 golden_app = record {
@@ -55,5 +62,5 @@ golden_app = record {
     disable_help_subcommand = true;
     subcommand_required = true;
   };
-  subs = run_shape ∷ replay_shape ∷ check_shape ∷ [];
+  subs = run_shape ∷ replay_shape ∷ check_shape ∷ demo_shape ∷ [];
 }

@@ -9,14 +9,15 @@ use Rattle.clap.specs.Simple.{subcommand_of}
 use Rattle.clap.specs.Faults.{fault_of}
 use Rattle.clap.specs.Kinds.{IsAmong}
 use Rattle.gg_words.specs.Line.{golden_app}
-use Rattle.gg_words.specs.Number.{number_of}
-use Rattle.gg_words.specs.Range.{most_workers}
+use Rattle.gg_words.specs.Number.{judged, number_of}
+use Rattle.gg_words.specs.Range.{greatest_seed, most_stages, most_workers}
 use Rattle.gg_words.specs.declared.command.Cmd.{Cmd}
-use Rattle.gg_words.specs.declared.command.Cmd.TheVariants.{Run, Replay, Check}
+use Rattle.gg_words.specs.declared.command.Cmd.TheVariants.{Run, Replay, Check, Demo}
 use Rattle.gg_words.specs.declared.command.WordFault.{WordFault}
 use Rattle.gg_words.specs.declared.command.WordFault.TheVariants.{Refused, WrongNumber, NoMemory}
 
--- The text that was given to this argument. If `clap` takes the words, there is one for each file.
+-- The text that was given to this argument. If `clap` takes the words, there is one for each file, and for each number
+-- that has no default.
 abbrev pub text_of : Text → List Row → Text
 text_of id rows = unwrap_or (first_of id rows) []
 
@@ -31,6 +32,14 @@ capacity_of rows = number_of 1 capacity_limit 2 (first_of (codes "capacity") row
 -- the number of workers: 0 to 64, and 0 by default
 abbrev pub workers_of : List Row → Result ℕ Text
 workers_of rows = number_of 0 most_workers 0 (first_of (codes "workers") rows)
+
+-- the seed of a demo: 0 to 4,294,967,295
+abbrev pub seed_of : List Row → Result ℕ Text
+seed_of rows = judged 0 greatest_seed (text_of (codes "seed") rows)
+
+-- its number of stages: 1 to 64
+abbrev pub size_of : List Row → Result ℕ Text
+size_of rows = judged 1 most_stages (text_of (codes "size") rows)
 
 -- the result of a function of a number, or the value that isn't a number
 abbrev pub with_number : Result ℕ Text → (ℕ → Result Cmd Text) → Result Cmd Text
@@ -54,11 +63,17 @@ abbrev pub check_of : List Row → Result Cmd Text
 check_of rows = with_number (capacity_of rows) (λ capacity.
     Ok (Check (text_of (codes "circuit") rows) (text_of (codes "partition") rows) capacity))
 
+-- the same for `demo`
+abbrev pub demo_of : List Row → Result Cmd Text
+demo_of rows = with_number (seed_of rows) (λ seed. with_number (size_of rows) (λ size. with_number (workers_of rows) (λ workers.
+    Ok (Demo seed size workers))))
+
 -- what was found under the command's name says this
 abbrev pub CommandSays : Text → List Row → Result Cmd Text → Type 0
 CommandSays name rows said = cond (bytes_eq name (codes "run")) (said ≡ run_of rows)
     (cond (bytes_eq name (codes "replay")) (said ≡ replay_of rows)
-    (cond (bytes_eq name (codes "check")) (said ≡ check_of rows) ⊥))
+    (cond (bytes_eq name (codes "check")) (said ≡ check_of rows)
+    (cond (bytes_eq name (codes "demo")) (said ≡ demo_of rows) ⊥)))
 
 abbrev pub FoundSays : Option (Text × List Row) → Result Cmd Text → Type 0
 FoundSays None said = ⊥
@@ -100,7 +115,7 @@ abbrev pub HaveTexts : List Text → List Row → Type 0
 HaveTexts [] rows = ⊤
 HaveTexts (id ∷ ids) rows = (is_some (first_of id rows) ≡ true) × HaveTexts ids rows
 
--- the files of each command
+-- the words that each command requires, by their places: its files, or a demo's numbers
 abbrev pub run_files : List Text
 run_files = codes "circuit" ∷ codes "partition" ∷ codes "trace" ∷ []
 
@@ -110,11 +125,14 @@ replay_files = codes "circuit" ∷ codes "partition" ∷ codes "trace" ∷ codes
 abbrev pub check_files : List Text
 check_files = codes "circuit" ∷ codes "partition" ∷ []
 
--- a command was found, and each of its files is named
-abbrev pub NamesFiles : Option (Text × List Row) → Type 0
-NamesFiles None = ⊥
-NamesFiles (Some found) = ((found.0 ≡ codes "run") × HaveTexts run_files found.1) ⊎ ((found.0 ≡ codes "replay") × HaveTexts replay_files found.1)
-    ⊎ ((found.0 ≡ codes "check") × HaveTexts check_files found.1)
+abbrev pub demo_numbers : List Text
+demo_numbers = codes "seed" ∷ codes "size" ∷ []
+
+-- a command was found, and each word that it requires was given
+abbrev pub HasWords : Option (Text × List Row) → Type 0
+HasWords None = ⊥
+HasWords (Some found) = ((found.0 ≡ codes "run") × HaveTexts run_files found.1) ⊎ ((found.0 ≡ codes "replay") × HaveTexts replay_files found.1)
+    ⊎ ((found.0 ≡ codes "check") × HaveTexts check_files found.1) ⊎ ((found.0 ≡ codes "demo") × HaveTexts demo_numbers found.1)
 
 -- the texts of the words
 abbrev pub texts : {Y : Type 0} → List (String Y) → List Text

@@ -10,7 +10,10 @@ number_in least most text =
     if nat_lt 0 (length text) && all_ascii_digits text && nat_le least (digits_value 10 text) && nat_le (digits_value 10 text) most
     then Some (digits_value 10 text) else None
 
--- The number of an option whose value may be left out. Without a value it is the default. Else it is the value as a
--- number in this range, or `Err` with a value that isn't such a number.
+-- a value as a number in this range, or `Err` with the value if it isn't such a number
+abbrev pub judged : (least most : ℕ) → List ℕ → Result ℕ (List ℕ)
+judged least most text = option_map_or (λ n. Ok n) (number_in least most text) (Err text)
+
+-- The number of an option whose value may be left out. Without a value it is the default.
 abbrev pub number_of : (least most default : ℕ) → Option (List ℕ) → Result ℕ (List ℕ)
-number_of least most default given = option_map_or (λ text. option_map_or (λ n. Ok n) (number_in least most text) (Err text)) given (Ok default)
+number_of least most default given = option_map_or (judged least most) given (Ok default)

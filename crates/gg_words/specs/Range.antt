@@ -1,9 +1,9 @@
 -- The ranges of a command's numbers.
--- Source: this program's own command line: K is 1 to 4,096, W is 0 to 64.
+-- Source: this program's own command line: K is 1 to 4,096, W is 0 to 64, SEED is 0 to 4,294,967,295, SIZE is 1 to 64.
 use Rattle.std.specs.Prelude.{ℕ, ◌≤◌}
 use Rattle.gg_limits.specs.Limits.{capacity_limit}
 use Rattle.gg_words.specs.declared.command.Cmd.{Cmd}
-use Rattle.gg_words.specs.declared.command.Cmd.TheVariants.{Run, Replay, Check}
+use Rattle.gg_words.specs.declared.command.Cmd.TheVariants.{Run, Replay, Check, Demo}
 
 -- the number is in this range, both ends included
 abbrev pub IsWithin : (least most : ℕ) → ℕ → Type 0
@@ -12,6 +12,14 @@ IsWithin least most n = (least ≤ n) × (n ≤ most)
 -- the most workers
 abbrev pub most_workers : ℕ
 most_workers = 64
+
+-- the greatest seed of a demo
+abbrev pub greatest_seed : ℕ
+greatest_seed = 4294967295
+
+-- the most stages of a demo
+abbrev pub most_stages : ℕ
+most_stages = 64
 
 -- a capacity: at least 1
 abbrev pub IsCapacity : ℕ → Type 0
@@ -22,3 +30,4 @@ abbrev pub AreInRange : Cmd → Type 0
 AreInRange (Run circuit partition trace capacity workers mono) = IsCapacity capacity × IsWithin 0 most_workers workers
 AreInRange (Replay circuit partition trace steps capacity) = IsCapacity capacity
 AreInRange (Check circuit partition capacity) = IsCapacity capacity
+AreInRange (Demo seed size workers) = IsWithin 0 greatest_seed seed × IsWithin 1 most_stages size × IsWithin 0 most_workers workers

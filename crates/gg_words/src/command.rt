@@ -46,6 +46,15 @@ pub enum Cmd {
         /// The capacity of channels, 1 to 4,096.
         capacity: u32,
     },
+    /// `demo`: makes a circuit, a partition and a trace, runs them, and gives a summary.
+    Demo {
+        /// The first value of the trace.
+        seed: u32,
+        /// The number of stages of the circuit, 1 to 64.
+        size: u32,
+        /// The number of workers, at most 64.
+        workers: u32,
+    },
 }
 
 /// Why words aren't a command.
@@ -53,8 +62,8 @@ pub enum Cmd {
 pub enum WordFault {
     /// `clap` refuses them, with this kind. It is never `clap`'s kind for a failed allocation.
     Refused(ErrorKind),
-    /// `clap` takes them, and this value isn't a number in its range. It is the first such value, in the order of the
-    /// command's options.
+    /// `clap` takes them, and this value isn't a number in its range. It is the first such value: a demo's seed before its
+    /// size, then the capacity, then the workers.
     WrongNumber(Name),
     /// An allocation failed.
     NoMemory,

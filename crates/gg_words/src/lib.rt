@@ -8,7 +8,7 @@
 //!   number in its range. It returns each of these exactly when it applies, unless an allocation fails;
 //! - words are at most one command, and a command is neither refused by `clap` nor has such a value
 //!   ([`one_meaning`]);
-//! - if `clap` takes the words, each file of the command is named ([`files_are_named`]);
+//! - if `clap` takes the words, each word that the command requires is given ([`words_are_given`]);
 //! - the numbers of a command are in their ranges ([`numbers_are_in_range`]).
 #![tactic(auto)]
 
@@ -19,5 +19,5 @@ mod numbers;
 mod reading;
 
 pub use command::{Cmd, WordFault};
-pub use laws::{files_are_named, numbers_are_in_range, one_meaning};
+pub use laws::{numbers_are_in_range, one_meaning, words_are_given};
 pub use reading::words;

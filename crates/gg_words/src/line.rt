@@ -1,16 +1,16 @@
 //! The command line as `clap` reads it.
-ghost use Rattle.std.specs.Prelude.{◌≡◌, [], IfOk, true, false, codes};
+ghost use Rattle.std.specs.Prelude.{◌≡◌, [], ◌∷◌, IfOk, true, false, codes};
 ghost use Rattle.clap.specs.Walk.{rule_of};
 ghost use Rattle.clap.specs.Simple.{app_of, new_app, with_rule, shape_of};
 ghost use Rattle.clap.specs.declared.builder.command.Command.TheViews.{out-Command};
-ghost use Rattle.gg_words.specs.Line.{file_rule, value_rule, flag_rule, run_shape, replay_shape, check_shape, golden_app};
+ghost use Rattle.gg_words.specs.Line.{word_rule, value_rule, flag_rule, run_shape, replay_shape, check_shape, demo_shape, golden_app};
 
 use clap::{Arg, ArgAction, Command};
 use std::alloc::{AllocError, Global};
 
-// A file, which is required.
-fn file<'a>(alloc: Global, id: &'a str) -> Arg<'a>
-    ensures rule { rule_of result ≡ file_rule id.entry.now }
+// A word that stands by its place, and is required.
+fn word<'a>(alloc: Global, id: &'a str) -> Arg<'a>
+    ensures rule { rule_of result ≡ word_rule id.entry.now }
     ensures local { result.global ≡ false }
 {
     Arg::new(alloc, id).required(true)
@@ -32,14 +32,14 @@ fn flag<'a>(alloc: Global, name: &'a str) -> Arg<'a>
     Arg::new(alloc, name).long(name).action(ArgAction::SetTrue)
 }
 
-// A command with the files that all commands have.
+// A command with the files that `run`, `replay` and `check` have.
 fn with_files<'a>(alloc: Global, name: &'a str) -> Result<Command<'a>, AllocError>
-    ensures shape { IfOk result (λ c. app_of c ≡ with_rule (with_rule (new_app name.entry.now) (file_rule (codes "circuit"))) (file_rule (codes "partition"))) }
+    ensures shape { IfOk result (λ c. app_of c ≡ with_rule (with_rule (new_app name.entry.now) (word_rule (codes "circuit"))) (word_rule (codes "partition"))) }
     ensures local { IfOk result (λ c. (out-Command c).has_globals ≡ false) }
 {
     Command::new(alloc, name)
-        .arg(file(alloc, "circuit"))?
-        .arg(file(alloc, "partition"))
+        .arg(word(alloc, "circuit"))?
+        .arg(word(alloc, "partition"))
 }
 
 // The command `run`.
@@ -48,7 +48,7 @@ fn run_line<'a>(alloc: Global) -> Result<Command<'a>, AllocError>
     ensures local { IfOk result (λ c. (out-Command c).has_globals ≡ false) }
 {
     with_files(alloc, "run")?
-        .arg(file(alloc, "trace"))?
+        .arg(word(alloc, "trace"))?
         .arg(value(alloc, "capacity"))?
         .arg(value(alloc, "workers"))?
         .arg(flag(alloc, "mono"))
@@ -60,8 +60,8 @@ fn replay_line<'a>(alloc: Global) -> Result<Command<'a>, AllocError>
     ensures local { IfOk result (λ c. (out-Command c).has_globals ≡ false) }
 {
     with_files(alloc, "replay")?
-        .arg(file(alloc, "trace"))?
-        .arg(file(alloc, "steps"))?
+        .arg(word(alloc, "trace"))?
+        .arg(word(alloc, "steps"))?
         .arg(value(alloc, "capacity"))
 }
 
@@ -71,6 +71,17 @@ fn check_line<'a>(alloc: Global) -> Result<Command<'a>, AllocError>
     ensures local { IfOk result (λ c. (out-Command c).has_globals ≡ false) }
 {
     with_files(alloc, "check")?.arg(value(alloc, "capacity"))
+}
+
+// The command `demo`.
+fn demo_line<'a>(alloc: Global) -> Result<Command<'a>, AllocError>
+    ensures shape { IfOk result (λ c. shape_of c ≡ demo_shape) }
+    ensures local { IfOk result (λ c. (out-Command c).has_globals ≡ false) }
+{
+    Command::new(alloc, "demo")
+        .arg(word(alloc, "seed"))?
+        .arg(word(alloc, "size"))?
+        .arg(value(alloc, "workers"))
 }
 
 // The program without its commands.
@@ -84,12 +95,21 @@ fn program<'a>(alloc: Global) -> Command<'a>
         .subcommand_required(true)
 }
 
+// The program with the first two of its commands.
+fn with_two<'a>(alloc: Global) -> Result<Command<'a>, AllocError>
+    ensures shape { IfOk result (λ c. app_of c ≡ record golden_app { subs = run_shape ∷ replay_shape ∷ [] }) }
+    ensures local { IfOk result (λ c. (out-Command c).has_globals ≡ false) }
+{
+    program(alloc)
+        .subcommand(run_line(alloc)?)?
+        .subcommand(replay_line(alloc)?)
+}
+
 /// The program's command line.
 pub(crate) fn golden_line<'a>(alloc: Global) -> Result<Command<'a>, AllocError>
     ensures { IfOk result (λ c. app_of c ≡ golden_app) }
 {
-    program(alloc)
-        .subcommand(run_line(alloc)?)?
-        .subcommand(replay_line(alloc)?)?
-        .subcommand(check_line(alloc)?)
+    with_two(alloc)?
+        .subcommand(check_line(alloc)?)?
+        .subcommand(demo_line(alloc)?)
 }

@@ -6,6 +6,12 @@ ghost use Rattle.gg_words.specs.Number.{number_in};
 /// The most workers.
 pub(crate) const MOST_WORKERS: u32 = 64;
 
+/// The greatest seed of a demo.
+pub(crate) const GREATEST_SEED: u32 = u32::MAX;
+
+/// The most stages of a demo.
+pub(crate) const MOST_STAGES: u32 = 64;
+
 // Whether all bytes of a text are decimal digits.
 fn are_digits(text: &str) -> bool
     ensures { result ≡ all_ascii_digits text.now }

@@ -7,15 +7,15 @@ ghost use Rattle.clap.specs.Faults.{fault_of};
 ghost use Rattle.clap.specs.Kinds.{HasKind};
 ghost use Rattle.clap.specs.Values.{kind_of};
 ghost use Rattle.gg_words.specs.Line.{golden_app};
-ghost use Rattle.gg_words.specs.Number.{number_of};
-ghost use Rattle.gg_words.specs.Meaning.{Answers, FoundSays, IfWordFault, IsCommand, IsWordFault, NamesFiles, SaysFault, capacity_of, check_of, is_set, replay_of, run_of, text_of, texts};
+ghost use Rattle.gg_words.specs.Number.{judged, number_of};
+ghost use Rattle.gg_words.specs.Meaning.{Answers, FoundSays, IfWordFault, IsCommand, IsWordFault, HasWords, SaysFault, capacity_of, check_of, demo_of, is_set, replay_of, run_of, text_of, texts, workers_of};
 ghost use Rattle.gg_words.specs.declared.command.Cmd.{Cmd};
 ghost use Rattle.gg_words.specs.declared.command.WordFault.{WordFault};
 
 use crate::command::{Cmd, WordFault};
-use crate::laws::{files_are_named, one_meaning};
+use crate::laws::{one_meaning, words_are_given};
 use crate::line::golden_line;
-use crate::numbers::{MOST_WORKERS, number_in};
+use crate::numbers::{GREATEST_SEED, MOST_STAGES, MOST_WORKERS, number_in};
 use clap::error::ErrorKind;
 use clap::{ArgMatches, Error};
 use gg_bits::Name;
@@ -49,6 +49,16 @@ fn no_number(alloc: Global, value: &str) -> WordFault
     }
 }
 
+// A value as a number in its range.
+fn judged(alloc: Global, text: &str, least: u32, most: u32) -> Result<u32, WordFault>
+    ensures { Answers result (judged least most text.now) }
+{
+    match number_in(text, least, most) {
+        Some(number) => Ok(number),
+        None => Err(no_number(alloc, text)),
+    }
+}
+
 // The number that an option gives, if it is in its range, or the option's default.
 fn number_of(
     alloc: Global,
@@ -62,11 +72,21 @@ fn number_of(
 {
     match matches.get_str(id) {
         None => Ok(default),
-        Some(text) => match number_in(text, least, most) {
-            Some(number) => Ok(number),
-            None => Err(no_number(alloc, text)),
-        },
+        Some(text) => judged(alloc, text, least, most),
     }
+}
+
+// The number that a word gives, if it is in its range.
+fn number_at(
+    alloc: Global,
+    matches: &ArgMatches<'_>,
+    id: &str,
+    least: u32,
+    most: u32,
+) -> Result<u32, WordFault>
+    ensures { Answers result (judged least most (text_of id.now (rows_of (found_of matches.now)))) }
+{
+    judged(alloc, matches.get_str(id).unwrap_or(""), least, most)
 }
 
 // The capacity of channels.
@@ -76,12 +96,19 @@ fn capacity_of(alloc: Global, matches: &ArgMatches<'_>) -> Result<u32, WordFault
     number_of(alloc, matches, "capacity", 1, CAPACITY_LIMIT, 2)
 }
 
+// The number of workers.
+fn workers_of(alloc: Global, matches: &ArgMatches<'_>) -> Result<u32, WordFault>
+    ensures { Answers result (workers_of (rows_of (found_of matches.now))) }
+{
+    number_of(alloc, matches, "workers", 0, MOST_WORKERS, 0)
+}
+
 // The command `run`.
 fn run_of(alloc: Global, matches: &ArgMatches<'_>) -> Result<Cmd, WordFault>
     ensures { Answers result (run_of (rows_of (found_of matches.now))) }
 {
     let capacity = capacity_of(alloc, matches)?;
-    let workers = number_of(alloc, matches, "workers", 0, MOST_WORKERS, 0)?;
+    let workers = workers_of(alloc, matches)?;
     Ok(Cmd::Run {
         circuit: name_of(alloc, matches, "circuit")?,
         partition: name_of(alloc, matches, "partition")?,
@@ -118,16 +145,28 @@ fn check_of(alloc: Global, matches: &ArgMatches<'_>) -> Result<Cmd, WordFault>
     })
 }
 
+// The command `demo`.
+fn demo_of(alloc: Global, matches: &ArgMatches<'_>) -> Result<Cmd, WordFault>
+    ensures { Answers result (demo_of (rows_of (found_of matches.now))) }
+{
+    Ok(Cmd::Demo {
+        seed: number_at(alloc, matches, "seed", 0, GREATEST_SEED)?,
+        size: number_at(alloc, matches, "size", 1, MOST_STAGES)?,
+        workers: workers_of(alloc, matches)?,
+    })
+}
+
 // The command that was found.
 fn command_of(alloc: Global, matches: &ArgMatches<'_>) -> Result<Cmd, WordFault>
-    requires { NamesFiles (subcommand_rows_of matches.now) }
+    requires { HasWords (subcommand_rows_of matches.now) }
     ensures { (said : Result Cmd (List ℕ)) × FoundSays (subcommand_rows_of matches.now) said × Answers result said }
 {
     let (name, inner) = matches.subcommand().unwrap();
     match name {
         "run" => run_of(alloc, inner),
         "replay" => replay_of(alloc, inner),
-        _ => check_of(alloc, inner),
+        "check" => check_of(alloc, inner),
+        _ => demo_of(alloc, inner),
     }
 }
 
@@ -146,7 +185,7 @@ fn refusal_of(error: &Error) -> WordFault
 fn read_words(alloc: Global, words: &[String]) -> Result<Cmd, WordFault>
     ensures { MatchResult result (IsCommand (texts words.now)) (IfWordFault (texts words.now)) }
 {
-    files_are_named();
+    words_are_given();
     let line = golden_line(alloc)?;
     match line.try_get_matches_from(words) {
         Ok(matches) => command_of(alloc, &matches),
@@ -161,16 +200,17 @@ fn read_words(alloc: Global, words: &[String]) -> Result<Cmd, WordFault>
 /// - `run CIRCUIT PARTITION TRACE [--capacity K] [--workers W] [--mono]`
 /// - `replay CIRCUIT PARTITION TRACE STEPS [--capacity K]`
 /// - `check CIRCUIT PARTITION [--capacity K]`
+/// - `demo SEED SIZE [--workers W]`
 ///
 /// Options may be anywhere after the command's name, at most once each. A value is given after `=` or as the next
-/// word. After `--` each word is a file, so a file whose name begins with `-` needs `--` before it. K is 1 to 4,096,
-/// and 2 by default. W is 0 to 64, and 0 by default. A number is one or more decimal digits, and may have leading
-/// zeros.
+/// word. After `--` each word is a file, or a demo's number, so a file whose name begins with `-` needs `--` before it. K is
+/// 1 to 4,096, and 2 by default. W is 0 to 64, and 0 by default. SEED is 0 to 4,294,967,295, and SIZE is 1 to 64. A number
+/// is one or more decimal digits, and may have leading zeros.
 ///
 /// # Errors
 ///
 /// Returns `Refused` if `clap` refuses the words, also if they ask for help. Else returns `WrongNumber` with the first
-/// value, in the order above, that isn't a number in its range. Returns `NoMemory` if an allocation fails.
+/// value, in the order SEED, SIZE, K, W, that isn't a number in its range. Returns `NoMemory` if an allocation fails.
 pub fn words(alloc: Global, words: &[String]) -> Result<Cmd, WordFault>
     // The result is the command that the words are.
     ensures command { IfOk result (IsCommand (texts words.now)) }

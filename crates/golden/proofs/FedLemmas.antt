@@ -1,7 +1,8 @@
 -- How the steps of a file end for what was read: the text that is printed is the only one, and what is reported is right.
-use Rattle.std.proofs.Common.{◌≡◌, ◌↔◌, ℕ, ◌+◌, ◌*◌, ◌<◌, List, length, sym, ap, ◌∙◌, subst}
+use Rattle.std.proofs.Common.{◌≡◌, ◌↔◌, ℕ, ◌+◌, ◌*◌, ◌<◌, List, length, refl, sym, ap, ◌∙◌, subst}
 use Rattle.std.specs.Prelude.{Option, Result, Ok}
 use Rattle.gg_flat.specs.Along.{rows_along}
+use Rattle.gg_flat.specs.Run.{IsRun}
 use Rattle.gg_order.specs.Design.{Ordered}
 use Rattle.gg_partfile.specs.declared.request.Request.{Request}
 use Rattle.gg_cut.specs.declared.plan.Plan.{Plan}
@@ -60,6 +61,13 @@ module _ (circuit partition trace : List ℕ) (capacity : ℕ) (fed : Fed) (is :
   -- the plan's network can be built
   pub to-replay : IsToReplay fed (fed_flow fed)
   to-replay = to-run design request capacity plan columns n is.case.designed is.case.keeps is.case.cuts.faultless is.case.planned is.case.bounded.0 is.case.bounded.1 is.most is.columns
+
+  -- and it is that of the design
+  pub to-print : (run : IsToReplay fed (fed_flow fed)) × (run.design ≡ design)
+  to-print = (record { design = design; request = request; default = capacity; rows = rows; given = given; room = is.case.bounded.1; flow_is = refl }, refl)
+
+  pub own-run : IsRun design.circuit columns n rows
+  own-run = given.run
 
   -- its names are few
   pub few-named : AreFewNames plan design.tree

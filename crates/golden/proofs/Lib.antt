@@ -2,6 +2,7 @@ pub mod CallLemmas
 pub mod CaseLemmas
 pub mod CauseLemmas
 pub mod CutLemmas
+pub mod DemoLemmas
 pub mod CutNameLemmas
 pub mod FedLemmas
 pub mod FewLemmas
@@ -10,6 +11,7 @@ pub mod GoOnLemmas
 pub mod LineLemmas
 pub mod NamingLemmas
 pub mod NetLemmas
+pub mod OrderRows
 pub mod OutputLemmas
 pub mod PartitionLemmas
 pub mod PortLemmas

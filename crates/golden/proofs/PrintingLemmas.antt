@@ -1,21 +1,20 @@
 -- The rows of a run, one by one.
-use Rattle.std.proofs.Common.{◌≡◌, ℕ, zero, suc, ◌+◌, ◌<◌, ◌≤◌, List, [], ◌∷◌, ◌++◌, length, map, take, refl, sym, ap, ◌∙◌, subst, inl, inr, arith, append_assoc, append-nil}
-use Rattle.std.specs.Prelude.{Option, Result, Err, slice_index}
+use Rattle.std.proofs.Common.{◌≡◌, ℕ, suc, ◌+◌, ◌<◌, List, [], ◌++◌, length, take, sym, ap, ◌∙◌, subst, arith}
+use Rattle.std.specs.Prelude.{Option, Result, Err}
 use Rattle.std.specs.Io.KnownBytes.{append_known}
-use Rattle.std.proofs.lemmas.List.{get_or-map, take-map}
+use Rattle.std.proofs.lemmas.List.{take-map}
 use Rattle.std.proofs.Math.Seq.{take-append_seam}
-use Rattle.std.proofs.Math.Nat.{eq-or-lt_of_le}
 use Rattle.gg_flat.specs.Circuit.{FlatCircuit}
 use Rattle.gg_flat.specs.Line.{value_at}
 use Rattle.gg_flat.specs.Order.{IsOrder}
-use Rattle.gg_flat.specs.Run.{IsRun, row_at, opening_start, state_at, inputs_at, column}
+use Rattle.gg_flat.specs.Run.{IsRun, row_at, opening_start, state_at, inputs_at}
 use Rattle.gg_flat.specs.Settled.{Settled}
 use Rattle.gg_flat.specs.State.{State, next_state}
 use Rattle.gg_io.specs.Count.{Rose}
 use Rattle.gg_io.specs.declared.output.Sink
 use Rattle.gg_refsim.specs.Cycle.{Simulation, Cycle, outputs}
 use Rattle.gg_flat.specs.declared.ports.Port.{Port}
-use Rattle.gg_trace.specs.Printing.{header_line, row_line, trace_text}
+use Rattle.gg_trace.specs.Printing.{row_line, trace_text}
 use Rattle.gg_trace.specs.Table.{Table, row_of}
 use Rattle.gg_told.specs.declared.endings.Ending.{Ending}
 use Rattle.gg_told.specs.Ends.{IsFront}
@@ -25,11 +24,9 @@ use Rattle.gg_flat.specs.Tree.{InstanceTree}
 use Rattle.golden.specs.RunText.{columns_of, outputs_of}
 use Rattle.gg_told.specs.Endings.{Prints, PrintsOn}
 use Rattle.gg_told.specs.WentOn.{SinkWentOn}
-use Rattle.gg_told.proofs.WritingLemmas.{append_known-append, append_known-nil, on-then, rose-earlier, stop-within}
-
--- the columns of the first out-signals, one for each port
-abbrev pub shown_columns : FlatCircuit → List Port → List (List ℕ) → List (List ℕ)
-shown_columns circuit ports rows = columns_of (take (length ports) circuit.outs) rows
+use Rattle.gg_told.proofs.WritingLemmas.{append_known-append, on-then, rose-earlier, stop-within}
+use Rattle.gg_printed.specs.Printed.{shown_columns, text_to}
+use Rattle.gg_printed.proofs.RowLemmas.{outputs-row, trace_text-front, trace_text-more}
 
 -- the first `cycle` rows are on the output sink after the header, and the simulator is in the state before the next, in any run
 pub record PrintedTo {K : Type 0} (circuit : FlatCircuit) (inputs : Table) (ports : List Port) (sink : Sink.Ghosts K) (out out' : K) (cycle : ℕ) (mono : Simulation) (outs : List ℕ) : Type 0 where
@@ -43,14 +40,6 @@ pub record PrintedTo {K : Type 0} (circuit : FlatCircuit) (inputs : Table) (port
       → sink.written out' ≡ append_known base (trace_text ports (shown_columns circuit ports rows) cycle)
   pub on : SinkWentOn sink out out'
 
--- the outputs of a row of a run are a row of their columns
-pub outputs-row : (circuit : FlatCircuit) (rows : List (List ℕ)) (t : ℕ) → t < length rows → (signals : List ℕ)
-    → map (λ s. value_at (row_at rows t) s) signals ≡ row_of (map (column rows) signals) t
-outputs-row circuit rows t lt [] = refl
-outputs-row circuit rows t lt (s ∷ signals) =
-    let head : value_at (row_at rows t) s ≡ slice_index (column rows s) t = sym (get_or-map (λ (row : List ℕ). value_at row s) rows t [] 0 lt) in
-    let rest = outputs-row circuit rows t lt signals in cc
-
 -- a state and inputs have only one settled row
 abbrev pub SettledOnce : Type 0
 SettledOnce = (circuit : FlatCircuit) (order : List ℕ) (state : State) (inputs v w : List ℕ) → IsOrder circuit order → Settled circuit state inputs v → Settled circuit state inputs w → v ≡ w
@@ -62,27 +51,6 @@ pub cycle-row : SettledOnce → (circuit : FlatCircuit) (order : List ℕ) (colu
 cycle-row once circuit order columns n rows t before after inputs printed ordered run lt is given cycle =
     once circuit order before inputs cycle.row (row_at rows t) ordered cycle.settled
     (subst (λ (s : State). Settled circuit s inputs (row_at rows t)) (sym is) (subst (λ (i : List ℕ). Settled circuit (state_at circuit (opening_start circuit) rows t) i (row_at rows t)) (sym given) (run.settled t lt)))
-
--- the text of the first rows is a front part of the text of all rows
-pub trace_text-front : (ports : List Port) (columns : List (List ℕ)) (n t : ℕ) → t ≤ n → IsFront (trace_text ports columns t) (trace_text ports columns n)
-trace_text-front ports columns zero t le = let e : t ≡ zero = omega arith in ([], append-nil (trace_text ports columns t) ∙ ap (trace_text ports columns) e)
-trace_text-front ports columns (suc n) t le =
-    elim (eq-or-lt_of_le {n = t} {m = suc n} le) [
-      | inl is ↦ ([], append-nil (trace_text ports columns t) ∙ ap (trace_text ports columns) is)
-      | inr lt ↦
-          let front = trace_text-front ports columns n t (omega arith) in (
-            front.0 ++ row_line ports n (row_of columns n),
-            sym (append_assoc (trace_text ports columns t) front.0 (row_line ports n (row_of columns n)))
-                ∙ ap (λ (x : List ℕ). x ++ row_line ports n (row_of columns n)) front.1,
-          )
-    ]
-
--- one row after a text of rows
-pub trace_text-more : (ports : List Port) (columns : List (List ℕ)) (t : ℕ) (values : List ℕ) → values ≡ row_of columns t
-    → trace_text ports columns t ++ row_line ports t values ≡ trace_text ports columns (t + 1)
-trace_text-more ports columns t values e =
-    let turned : suc t ≡ t + 1 = omega arith in
-    ap (λ (v : List ℕ). trace_text ports columns t ++ row_line ports t v) e ∙ ap (trace_text ports columns) turned
 
 -- what a cycle of a run leaves: the next state, and the outputs' row
 pub record Follows (circuit : FlatCircuit) (rows : List (List ℕ)) (t : ℕ) (after : State) (printed : List ℕ) : Type 0 where
@@ -147,21 +115,21 @@ module _ {K : Type 0} {circuit : FlatCircuit} {inputs : Table} {ports : List Por
       (subst (λ (x : List ℕ). IsFront x whole) (sym (trace_text-more ports (shown_columns circuit ports rows) t shown ((follows-so rows run).row (length ports)))) front)
       prints)
 
--- if the header stops, a front part of the whole text is there
-pub header-stop : (T : Type 0) (before now : Option (List ℕ)) (failed : Type 0) (ports : List Port) (columns : List (List ℕ)) (n : ℕ) (piece : List ℕ) (ending : Ending)
-    → piece ≡ header_line ports → Prints {T = T} before now failed piece (Err ending) → Prints {T = T} before now failed (trace_text ports columns n) (Err ending)
-header-stop T before now failed ports columns n piece ending e prints =
-    stop-within T before before now failed failed [] (header_line ports) (trace_text ports columns n) ending (sym (append_known-nil before)) (λ x. x)
-    (trace_text-front ports columns n 0 (omega arith)) (subst (λ (p : List ℕ). Prints {T = T} before now failed p (Err ending)) e prints)
-
--- what is printed for the ports that were made and the simulated circuit is printed for the circuit's outputs, if they are the first of its out-signals
-pub run-prints : (T : Type 0) (before now : Option (List ℕ)) (failed : Type 0) (r : Result T Ending) (circuit simulated : FlatCircuit) (tree : InstanceTree) (stops : List ℕ) (ports : List Port) (columns : List (List ℕ)) (n : ℕ)
-    → simulated ≡ circuit → outputs_of tree ++ stops ≡ circuit.outs → ports ≡ output_ports circuit tree → length ports ≡ length (outputs_of tree) → (rows : List (List ℕ)) → IsRun circuit columns n rows
-    → ((rows : List (List ℕ)) → IsRun simulated columns n rows → Prints before now failed (trace_text ports (shown_columns simulated ports rows) n) r)
-    → Prints before now failed (trace_text (output_ports circuit tree) (columns_of (outputs_of tree) rows) n) r
-run-prints T before now failed r circuit simulated tree stops ports columns n e outs f count rows run prints =
+-- the first of the out-signals are the top's outputs, so what is printed for as many ports is printed for these
+pub outputs-print : (T : Type 0) (before now : Option (List ℕ)) (failed : Type 0) (r : Result T Ending) (circuit : FlatCircuit) (tree : InstanceTree) (stops : List ℕ) (ports : List Port) (n : ℕ)
+    → outputs_of tree ++ stops ≡ circuit.outs → ports ≡ output_ports circuit tree → length ports ≡ length (outputs_of tree) → (rows : List (List ℕ))
+    → Prints before now failed (text_to circuit ports rows n) r → Prints before now failed (trace_text (output_ports circuit tree) (columns_of (outputs_of tree) rows) n) r
+outputs-print T before now failed r circuit tree stops ports n outs f count rows prints =
     let shown : take (length ports) circuit.outs ≡ outputs_of tree =
     ap (λ k. take k circuit.outs) count ∙ ap (take (length (outputs_of tree))) (sym outs) ∙ take-append_seam (outputs_of tree) stops in
     subst (λ (signals : List ℕ). Prints before now failed (trace_text (output_ports circuit tree) (columns_of signals rows) n) r) shown
-    (subst (λ (p : List Port). Prints before now failed (trace_text p (columns_of (take (length ports) circuit.outs) rows) n) r) f
-    (subst (λ (c : FlatCircuit). IsRun c columns n rows → Prints before now failed (trace_text ports (shown_columns c ports rows) n) r) e (prints rows) run))
+    (subst (λ (p : List Port). Prints before now failed (trace_text p (columns_of (take (length ports) circuit.outs) rows) n) r) f prints)
+
+-- the same of what is printed for the simulated circuit, in any run
+pub run-prints : (T : Type 0) (before now : Option (List ℕ)) (failed : Type 0) (r : Result T Ending) (circuit simulated : FlatCircuit) (tree : InstanceTree) (stops : List ℕ) (ports : List Port) (columns : List (List ℕ)) (n : ℕ)
+    → simulated ≡ circuit → outputs_of tree ++ stops ≡ circuit.outs → ports ≡ output_ports circuit tree → length ports ≡ length (outputs_of tree) → (rows : List (List ℕ)) → IsRun circuit columns n rows
+    → ((rows : List (List ℕ)) → IsRun simulated columns n rows → Prints before now failed (text_to simulated ports rows n) r)
+    → Prints before now failed (trace_text (output_ports circuit tree) (columns_of (outputs_of tree) rows) n) r
+run-prints T before now failed r circuit simulated tree stops ports columns n e outs f count rows run prints =
+    outputs-print T before now failed r circuit tree stops ports n outs f count rows
+    (subst (λ (c : FlatCircuit). IsRun c columns n rows → Prints before now failed (text_to c ports rows n) r) e (prints rows) run)

@@ -1,6 +1,6 @@
 -- What is promised of a call, clause by clause.
 use Rattle.std.proofs.Common.{◌≡◌, ◌≢◌, ℕ, List, ◌≤◌, length, refl, ap, sym, ◌∙◌, subst, inl, inr, ◌⊎◌}
-use Rattle.std.specs.Prelude.{Some, Err}
+use Rattle.std.specs.Prelude.{Option, Some, Err}
 use Rattle.std.specs.Io.KnownBytes.{append_known}
 use Rattle.std.proofs.lemmas.Option.{same_Some}
 use Rattle.gg_io.specs.Told.{Holds}
@@ -14,7 +14,7 @@ use Rattle.gg_front.specs.declared.fault.FrontFault.TheVariants as front
 use Rattle.gg_marking.specs.Goes as goes
 use Rattle.gg_order.specs.Design.{Ordered}
 use Rattle.gg_told.specs.Said.{Said}
-use Rattle.gg_told.specs.Order.{Order, Load, Write, StopsAt, DueAt, IsExactFile, IsUnique, IsUniqueFile, IsJudgement}
+use Rattle.gg_told.specs.Order.{Order, Load, Write, StopsAt, DueAt, IsExact, IsExactFile, IsUnique, IsUniqueFile, IsJudgement}
 use Rattle.gg_told.specs.Ends.{Loads, Puts, Reports, Tells}
 use Rattle.gg_told.proofs.EndsLemmas.{SaysDue}
 use Rattle.gg_told.proofs.OrderLemmas.{IsOnlyDue, first-only, later-only}
@@ -24,8 +24,8 @@ use Rattle.gg_trace.specs.Trace.{IsFirstFault}
 use Rattle.gg_trace.specs.declared.faults.TraceFault.{TraceFault}
 use Rattle.gg_words.specs.Meaning.{IsCommand}
 use Rattle.gg_words.specs.declared.command.Cmd.{Cmd}
-use Rattle.gg_words.specs.declared.command.Cmd.TheVariants.{Run, Replay, Check}
-use Rattle.golden.specs.Commands.{asked_by, order_behind, order_of, trace_of}
+use Rattle.gg_words.specs.declared.command.Cmd.TheVariants.{Run, Replay, Check, Demo}
+use Rattle.golden.specs.Commands.{Asked, asked_by, asking, order_behind, order_by, order_of, read_order, trace_of}
 use Rattle.golden.specs.Limits.{circuit_limit, partition_limit, steps_limit, trace_limit}
 use Rattle.golden.specs.Lines.{TellsUnread, partition_fault, trace_fault}
 use Rattle.golden.specs.Outcome.{Answered}
@@ -42,7 +42,11 @@ OneReading = (bytes : List ℕ) (fault : ReadFault) (said other : Said) → HasR
 
 -- at most one thing is reported for each file that follows the circuit
 abbrev pub UniqueOrders : Type 0
-UniqueOrders = (command : Cmd) (circuit : List ℕ) → IsUnique (Load (partition_file_for circuit (asked_by command).partition) (order_behind command circuit))
+UniqueOrders = (command : Cmd) (asked : Asked) (circuit : List ℕ) → IsUnique (Load (partition_file_for circuit asked.partition) (order_behind command circuit))
+
+-- the order of a command that asks this of its files
+reads-files : (command : Cmd) (asked : Asked) → asked_by command ≡ Some asked → order_of command ≡ read_order asked (order_behind command)
+reads-files command asked asks = ap (λ (a : Option Asked). order_by a (order_behind command)) asks
 
 -- what is promised of a call that answered this status
 module _ {words : List (List ℕ)} {loads : Loads} {out err : Puts} {status : ℕ} (a : Answered words loads out err status) where
@@ -87,39 +91,48 @@ module _ {words : List (List ℕ)} {loads : Loads} {out err : Puts} {status : �
           by (inl h) = inl (subst (λ (s : Said). Tells err status s) (only.only h.1.0 h.1.1) h.1.2)
           by (inr h) = inr h
 
-      tells-unread : OneReading → (command : Cmd) (bytes : List ℕ) (fault : ReadFault) (said : Said)
-          → IsCommand words command → loads.files (asked_by command).circuit ≡ Holds bytes → length bytes ≤ circuit_limit
+      module _ (command : Cmd) (asked : Asked) (own : asked_by command ≡ Some asked) where
+        -- the order of the command is exact
+        exact-read : IsExact (read_order asked (order_behind command))
+        exact-read = subst (λ (o : Order). IsExact o) (reads-files command asked own) (exact command)
+
+        -- if only this is due of its files, this is what is reported
+        tells-read : (due : Said) → IsCommand words command → IsOnlyDue loads.files (read_order asked (order_behind command)) due → Tells err status due ⊎ (status ≡ 5)
+        tells-read due asks only = tells-only command due asks (subst (λ (o : Order). IsOnlyDue loads.files o due) (sym (reads-files command asked own)) only)
+
+      tells-unread : OneReading → (command : Cmd) (asked : Asked) (bytes : List ℕ) (fault : ReadFault) (said : Said)
+          → IsCommand words command → asked_by command ≡ Some asked → loads.files asked.circuit ≡ Holds bytes → length bytes ≤ circuit_limit
           → HasReadFault bytes fault → TellsUnread fault said → Tells err status said ⊎ (status ≡ 5)
-      tells-unread one command bytes fault said asks told short has tells =
-          tells-only command said asks
-          (first-only loads.files (circuit_file (asked_by command).circuit) _ bytes said (exact command).0 told short (front.Read fault, (has, tells.0), (λ e. absurd (cc)), tells.1)
+      tells-unread one command asked bytes fault said asks own told short has tells =
+          tells-read command asked own said asks
+          (first-only loads.files (circuit_file asked.circuit) _ bytes said (exact-read command asked own).0 told short (front.Read fault, (has, tells.0), (λ e. absurd (cc)), tells.1)
           (λ other. one bytes fault said other has tells))
 
       -- behind a circuit that is told and accepted
-      tells-behind : (command : Cmd) (c : List ℕ) (due : Said) → IsCommand words command → loads.files (asked_by command).circuit ≡ Holds c → length c ≤ circuit_limit → IsAcceptedText c
-          → IsOnlyDue loads.files (Load (partition_file_for c (asked_by command).partition) (order_behind command c)) due → Tells err status due ⊎ (status ≡ 5)
-      tells-behind command c due asks hc lc accepted later =
-          tells-only command due asks (later-only loads.files (circuit_file (asked_by command).circuit) (λ b. Load (partition_file_for b (asked_by command).partition) (order_behind command b)) c due (exact command).0 hc lc accepted later)
+      tells-behind : (command : Cmd) (asked : Asked) (c : List ℕ) (due : Said) → IsCommand words command → asked_by command ≡ Some asked → loads.files asked.circuit ≡ Holds c → length c ≤ circuit_limit → IsAcceptedText c
+          → IsOnlyDue loads.files (Load (partition_file_for c asked.partition) (order_behind command c)) due → Tells err status due ⊎ (status ≡ 5)
+      tells-behind command asked c due asks own hc lc accepted later =
+          tells-read command asked own due asks (later-only loads.files (circuit_file asked.circuit) (λ b. Load (partition_file_for b asked.partition) (order_behind command b)) c due (exact-read command asked own).0 hc lc accepted later)
 
-      tells-partitioned : UniqueOrders → (command : Cmd) (c p : List ℕ) (design : Ordered) (fault : List ℕ) → IsCommand words command
-          → loads.files (asked_by command).circuit ≡ Holds c → length c ≤ circuit_limit → MeansDesign c design
-          → loads.files (asked_by command).partition ≡ Holds p → length p ≤ partition_limit → HasFault design p fault
+      tells-partitioned : UniqueOrders → (command : Cmd) (asked : Asked) (c p : List ℕ) (design : Ordered) (fault : List ℕ) → IsCommand words command → asked_by command ≡ Some asked
+          → loads.files asked.circuit ≡ Holds c → length c ≤ circuit_limit → MeansDesign c design
+          → loads.files asked.partition ≡ Holds p → length p ≤ partition_limit → HasFault design p fault
           → Tells err status (partition_fault fault) ⊎ (status ≡ 5)
-      tells-partitioned unique command c p design fault asks hc lc means hp lp has =
+      tells-partitioned unique command asked c p design fault asks own hc lc means hp lp has =
           let said : Said = partition_fault fault in
           let refuses : TellsPartitionFor c p said = (design, means, (fault, has, refl)) in
-          tells-behind command c said asks hc lc means.means.text
-          (first-only loads.files (partition_file_for c (asked_by command).partition) (order_behind command c) p said ((exact command).1 c).0 hp lp refuses
-          (λ other h. (unique command c).0 p other said h refuses))
+          tells-behind command asked c said asks own hc lc means.means.text
+          (first-only loads.files (partition_file_for c asked.partition) (order_behind command c) p said ((exact-read command asked own).1 c).0 hp lp refuses
+          (λ other h. (unique command asked c).0 p other said h refuses))
 
       -- behind a circuit and a partition that are told and accepted
-      tells-later : (command : Cmd) (c p : List ℕ) (due : Said) → IsCommand words command
-          → loads.files (asked_by command).circuit ≡ Holds c → length c ≤ circuit_limit → IsAcceptedText c
-          → loads.files (asked_by command).partition ≡ Holds p → length p ≤ partition_limit → IsPartitionFor c p
+      tells-later : (command : Cmd) (asked : Asked) (c p : List ℕ) (due : Said) → IsCommand words command → asked_by command ≡ Some asked
+          → loads.files asked.circuit ≡ Holds c → length c ≤ circuit_limit → IsAcceptedText c
+          → loads.files asked.partition ≡ Holds p → length p ≤ partition_limit → IsPartitionFor c p
           → IsOnlyDue loads.files (order_behind command c p) due → Tells err status due ⊎ (status ≡ 5)
-      tells-later command c p due asks hc lc accepted hp lp fits later =
-          tells-behind command c due asks hc lc accepted
-          (later-only loads.files (partition_file_for c (asked_by command).partition) (order_behind command c) p due ((exact command).1 c).0 hp lp fits later)
+      tells-later command asked c p due asks own hc lc accepted hp lp fits later =
+          tells-behind command asked c due asks own hc lc accepted
+          (later-only loads.files (partition_file_for c asked.partition) (order_behind command c) p due ((exact-read command asked own).1 c).0 hp lp fits later)
 
       -- only the fault of a trace is due, whatever follows the trace
       trace-only : (c t trace : List ℕ) (next : List ℕ → Order) (flat : FlatCircuit) (fault : TraceFault) → IsExactFile (trace_file_for c trace) → IsUniqueFile (trace_file_for c trace)
@@ -129,21 +142,22 @@ module _ {words : List (List ℕ)} {loads : Loads} {out err : Puts} {status : �
           let refuses : TellsTraceFor c t said = (flat, means, (fault, first, refl)) in
           first-only loads.files (trace_file_for c trace) next t said exact_file ht lt refuses (λ other h. unique_file t other said h refuses)
 
-      tells-traced : UniqueOrders → (command : Cmd) (c p t trace : List ℕ) (flat : FlatCircuit) (fault : TraceFault)
-          → IsCommand words command → trace_of command ≡ Some trace
-          → loads.files (asked_by command).circuit ≡ Holds c → length c ≤ circuit_limit → Means c flat
-          → loads.files (asked_by command).partition ≡ Holds p → length p ≤ partition_limit → IsPartitionFor c p
+      tells-traced : UniqueOrders → (command : Cmd) (asked : Asked) (c p t trace : List ℕ) (flat : FlatCircuit) (fault : TraceFault)
+          → IsCommand words command → asked_by command ≡ Some asked → trace_of command ≡ Some trace
+          → loads.files asked.circuit ≡ Holds c → length c ≤ circuit_limit → Means c flat
+          → loads.files asked.partition ≡ Holds p → length p ≤ partition_limit → IsPartitionFor c p
           → loads.files trace ≡ Holds t → length t ≤ trace_limit → IsFirstFault (in_ports flat) t fault
           → Tells err status (trace_fault (fault_words fault)) ⊎ (status ≡ 5)
-      tells-traced unique (Run circuit partition own capacity workers mono) c p t trace flat fault asks named hc lc means hp lp fits held lt first =
+      tells-traced unique (Run circuit partition own capacity workers mono) asked c p t trace flat fault asks files named hc lc means hp lp fits held lt first =
           let command : Cmd = Run circuit partition own capacity workers mono in
-          tells-later command c p (trace_fault (fault_words fault)) asks hc lc means.text hp lp fits
-          (trace-only c t own _ flat fault (((exact command).1 c).1 p).0 ((unique command c).1 p).0 means (ap loads.files (same_Some own trace named) ∙ held) lt first)
-      tells-traced unique (Replay circuit partition own steps capacity) c p t trace flat fault asks named hc lc means hp lp fits held lt first =
+          tells-later command asked c p (trace_fault (fault_words fault)) asks files hc lc means.text hp lp fits
+          (trace-only c t own _ flat fault (((exact command).1 c).1 p).0 ((unique command asked c).1 p).0 means (ap loads.files (same_Some own trace named) ∙ held) lt first)
+      tells-traced unique (Replay circuit partition own steps capacity) asked c p t trace flat fault asks files named hc lc means hp lp fits held lt first =
           let command : Cmd = Replay circuit partition own steps capacity in
-          tells-later command c p (trace_fault (fault_words fault)) asks hc lc means.text hp lp fits
-          (trace-only c t own _ flat fault (((exact command).1 c).1 p).0 ((unique command c).1 p).0 means (ap loads.files (same_Some own trace named) ∙ held) lt first)
-      tells-traced unique (Check circuit partition capacity) c p t trace flat fault asks named hc lc means hp lp fits held lt first = absurd (cc)
+          tells-later command asked c p (trace_fault (fault_words fault)) asks files hc lc means.text hp lp fits
+          (trace-only c t own _ flat fault (((exact command).1 c).1 p).0 ((unique command asked c).1 p).0 means (ap loads.files (same_Some own trace named) ∙ held) lt first)
+      tells-traced unique (Check circuit partition capacity) asked c p t trace flat fault asks files named hc lc means hp lp fits held lt first = absurd (cc)
+      tells-traced unique (Demo seed size workers) asked c p t trace flat fault asks files named hc lc means hp lp fits held lt first = absurd (cc)
 
       tells-stepped : UniqueOrders → (circuit partition trace steps : List ℕ) (capacity : ℕ) (c p t s : List ℕ) (setting : Setting) (stopped : goes.Stopped)
           → IsCommand words (Replay circuit partition trace steps capacity)
@@ -154,12 +168,13 @@ module _ {words : List (List ℕ)} {loads : Loads} {out err : Puts} {status : �
           → Tells err status (stopped_said setting s stopped) ⊎ (status ≡ 5)
       tells-stepped unique circuit partition trace steps capacity c p t s setting stopped asks hc lc hp lp ht lt is hs ls stops =
           let command : Cmd = Replay circuit partition trace steps capacity in
+          let asked : Asked = asking circuit partition capacity in
           let said : Said = stopped_said setting s stopped in
           let refuses : TellsSteps c p t capacity s said = (setting, is, (stopped, stops, refl)) in
-          tells-later command c p said asks hc lc is.means.means.text hp lp (setting.design, is.means, (setting.request, is.cuts))
+          tells-later command asked c p said asks refl hc lc is.means.means.text hp lp (setting.design, is.means, (setting.request, is.cuts))
           (later-only loads.files (trace_file_for c trace) (λ b. Load (steps_file_for c p b capacity steps) (λ x. Write (IsReplayOf c p b capacity x))) t said (((exact command).1 c).1 p).0 ht lt
           (setting.design.circuit, is.means.means, (setting.cycles, setting.columns, is.feeds))
-          (first-only loads.files (steps_file_for c p t capacity steps) _ s said ((((exact command).1 c).1 p).1 t).0 hs ls refuses (λ other h. (((unique command c).1 p).1 t).0 s other said h refuses)))
+          (first-only loads.files (steps_file_for c p t capacity steps) _ s said ((((exact command).1 c).1 p).1 t).0 hs ls refuses (λ other h. (((unique command asked c).1 p).1 t).0 s other said h refuses)))
 
     pub promised : OneMeaning → UniqueOrders → OneReading → Promised words loads out err status
     promised once unique one = record {

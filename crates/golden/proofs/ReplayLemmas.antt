@@ -149,7 +149,7 @@ module _ (design : Ordered) (request : Request) (default : ℕ) (plan : Plan) (c
     pub laid : (layout : Layout) × (IsLayoutOf design request default n layout × HasLayout (frame_of opening) layout)
     laid = plan-layout design request default plan columns n rows machines given built
 
-    opens : marking_of opening ≡ opening_marking laid.0 0
+    pub opens : marking_of opening ≡ opening_marking laid.0 0
     opens = opens-so flow machines (wires_of_plan plan) n (built-opening design request default plan columns n rows machines given built) laid.0 laid.1.1
 
     pub are-set : AreSet design request default n columns rows laid.0

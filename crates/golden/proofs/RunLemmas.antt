@@ -1,5 +1,5 @@
 -- The orders of the commands.
-use Rattle.std.proofs.Common.{◌≡◌, ℕ, List, refl, sym, ap, ◌∙◌, subst, inl, inr}
+use Rattle.std.proofs.Common.{◌≡◌, ℕ, List, [], Option, None, Some, refl, sym, ap, ◌∙◌, subst, inl, inr}
 use Rattle.gg_flat.specs.declared.ports.Port.{Port}
 use Rattle.gg_flat.specs.Circuit.{FlatCircuit}
 use Rattle.gg_flat.specs.Ports.{in_ports}
@@ -8,11 +8,11 @@ use Rattle.gg_trace.specs.Trace.{Columns, IsFirstFault}
 use Rattle.gg_trace.specs.declared.faults.TraceFault.{TraceFault}
 use Rattle.gg_told.specs.Said.{Said}
 use Rattle.golden.specs.Lines.{trace_fault}
-use Rattle.gg_told.specs.Order.{IsExact, IsExactFile, IsUnique, IsUniqueFile, Load}
+use Rattle.gg_told.specs.Order.{IsExact, IsExactFile, IsUnique, IsUniqueFile, Load, Order}
 use Rattle.golden.specs.Run.{trace_file_for, IsTraceFor, TellsTraceFor}
 use Rattle.gg_words.specs.declared.command.Cmd.{Cmd}
-use Rattle.gg_words.specs.declared.command.Cmd.TheVariants.{Run, Replay, Check}
-use Rattle.golden.specs.Commands.{asked_by, order_behind, order_of}
+use Rattle.gg_words.specs.declared.command.Cmd.TheVariants.{Run, Replay, Check, Demo}
+use Rattle.golden.specs.Commands.{Asked, asked_by, order_behind, order_by, order_of}
 use Rattle.golden.specs.Partition.{partition_file_for}
 use Rattle.gg_told.proofs.OrderLemmas.{exact-by}
 use Rattle.golden.proofs.FrontLemmas.{NoFaultAccepted, circuit_file-exact}
@@ -55,15 +55,20 @@ module _ (designs : DesignsAgree) (apart : FileApart) (key : OneKey) (agree : On
   behind-exact (Run circuit partition trace capacity workers mono) c p = (trace_file-exact agree once none c trace, λ t. tt)
   behind-exact (Replay circuit partition trace steps capacity) c p = (trace_file-exact agree once none c trace, λ t. (steps_file-exact designs c p t capacity steps, λ s. tt))
   behind-exact (Check circuit partition capacity) c p = tt
+  behind-exact (Demo seed size workers) c p = tt
 
   behind-unique : (command : Cmd) (c p : List ℕ) → IsUnique (order_behind command c p)
   behind-unique (Run circuit partition trace capacity workers mono) c p = (trace_file-unique agree once none c trace, λ t. tt)
   behind-unique (Replay circuit partition trace steps capacity) c p = (trace_file-unique agree once none c trace, λ t. (steps_file-unique designs c p t capacity steps, λ s. tt))
   behind-unique (Check circuit partition capacity) c p = tt
+  behind-unique (Demo seed size workers) c p = tt
+
+  by-exact : NoFaultAccepted → (asked : Option Asked) (next : (c p : List ℕ) → Order) → ((c p : List ℕ) → IsExact (next c p)) → IsExact (order_by asked next)
+  by-exact never (Some asked) next behind = (circuit_file-exact never asked.circuit, λ c. (partition_file-exact designs apart key c asked.partition, behind c))
+  by-exact never None next behind = behind [] []
 
   pub order-exact : NoFaultAccepted → (command : Cmd) → IsExact (order_of command)
-  order-exact never command =
-      (circuit_file-exact never (asked_by command).circuit, λ c. (partition_file-exact designs apart key c (asked_by command).partition, behind-exact command c))
+  order-exact never command = by-exact never (asked_by command) (order_behind command) (behind-exact command)
 
-  pub order-unique : (command : Cmd) (circuit : List ℕ) → IsUnique (Load (partition_file_for circuit (asked_by command).partition) (order_behind command circuit))
-  order-unique command circuit = (partition_file-unique designs apart key circuit (asked_by command).partition, behind-unique command circuit)
+  pub order-unique : (command : Cmd) (asked : Asked) (circuit : List ℕ) → IsUnique (Load (partition_file_for circuit asked.partition) (order_behind command circuit))
+  order-unique command asked circuit = (partition_file-unique designs apart key circuit asked.partition, behind-unique command circuit)

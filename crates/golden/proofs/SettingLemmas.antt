@@ -38,7 +38,7 @@ module _ (agree : DesignsAgree) (circuit partition trace : List ℕ) (capacity :
   pub requests-same : a.request ≡ b.request
   requests-same = request-once partition a.request b.request x.cuts.asks y.cuts.asks
 
-  cycles-same : a.cycles ≡ b.cycles
+  pub cycles-same : a.cycles ≡ b.cycles
   cycles-same = sym x.feeds.count ∙ y.feeds.count
 
   pub layouts-same : a.layout ≡ b.layout

@@ -1,8 +1,10 @@
--- The order of each command: its files, one after another, and then its text. All begin with a circuit and a partition.
-use Rattle.std.specs.Prelude.{ℕ, List, Option, Some, None}
+-- The order of each command: its files, one after another, and then its text. All that have files begin with a circuit and
+-- a partition.
+use Rattle.std.specs.Prelude.{ℕ, List, [], Option, Some, None}
 use Rattle.gg_words.specs.declared.command.Cmd.{Cmd}
-use Rattle.gg_words.specs.declared.command.Cmd.TheVariants.{Run, Replay, Check}
+use Rattle.gg_words.specs.declared.command.Cmd.TheVariants.{Run, Replay, Check, Demo}
 use Rattle.golden.specs.Check.{IsCutTextOf}
+use Rattle.golden.specs.Demo.{IsDemoText}
 use Rattle.gg_told.specs.Order.{Order, Load, Write}
 use Rattle.golden.specs.Partition.{partition_file_for}
 use Rattle.golden.specs.Replay.{IsReplayOf, steps_file_for}
@@ -27,26 +29,36 @@ read_order asked next = Load (circuit_file asked.circuit) (λ c. Load (partition
 abbrev pub fed_order : Asked → (trace : List ℕ) → (next : (circuit partition trace : List ℕ) → Order) → Order
 fed_order asked trace next = read_order asked (λ c p. Load (trace_file_for c trace) (next c p))
 
--- what a command asks of its first two files
-abbrev pub asked_by : Cmd → Asked
-asked_by (Run circuit partition trace capacity workers mono) = asking circuit partition capacity
-asked_by (Replay circuit partition trace steps capacity) = asking circuit partition capacity
-asked_by (Check circuit partition capacity) = asking circuit partition capacity
+-- what a command asks of its first two files, if it has files
+abbrev pub asked_by : Cmd → Option Asked
+asked_by (Run circuit partition trace capacity workers mono) = Some (asking circuit partition capacity)
+asked_by (Replay circuit partition trace steps capacity) = Some (asking circuit partition capacity)
+asked_by (Check circuit partition capacity) = Some (asking circuit partition capacity)
+asked_by (Demo seed size workers) = None
 
 -- the name of its trace, if it has one
 abbrev pub trace_of : Cmd → Option (List ℕ)
 trace_of (Run circuit partition trace capacity workers mono) = Some trace
 trace_of (Replay circuit partition trace steps capacity) = Some trace
 trace_of (Check circuit partition capacity) = None
+trace_of (Demo seed size workers) = None
 
 -- What comes after a circuit and a partition with these bytes: `run` writes the text of the circuit's run on a trace,
--- `replay` that of the marking that the steps of a file lead to, `check` that of the cut.
+-- `replay` that of the marking that the steps of a file lead to, `check` that of the cut. `demo` has no files before its
+-- text, the summary of the demo.
 abbrev pub order_behind : Cmd → (circuit partition : List ℕ) → Order
 order_behind (Run circuit partition trace capacity workers mono) c p = Load (trace_file_for c trace) (λ t. Write (IsTextOf c t))
 order_behind (Replay circuit partition trace steps capacity) c p =
     Load (trace_file_for c trace) (λ t. Load (steps_file_for c p t capacity steps) (λ s. Write (IsReplayOf c p t capacity s)))
 order_behind (Check circuit partition capacity) c p = Write (IsCutTextOf c p capacity)
+order_behind (Demo seed size workers) c p = Write (IsDemoText seed size)
+
+-- What a command asks of its first two files, and then what comes next. A command without files begins with what comes
+-- next, whatever bytes that is given.
+abbrev pub order_by : Option Asked → (next : (circuit partition : List ℕ) → Order) → Order
+order_by (Some asked) next = read_order asked next
+order_by None next = next [] []
 
 -- the order of a command
 abbrev pub order_of : Cmd → Order
-order_of cmd = read_order (asked_by cmd) (order_behind cmd)
+order_of cmd = order_by (asked_by cmd) (order_behind cmd)

@@ -2,6 +2,7 @@
 pub mod Case
 pub mod Check
 pub mod Commands
+pub mod Demo
 pub mod Limits
 pub mod Lines
 pub mod Outcome

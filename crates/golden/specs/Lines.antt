@@ -12,11 +12,11 @@ words_said text = record { status = 2; line = line_of (codes "golden: words" ++ 
 
 -- the words aren't any of the commands
 abbrev pub no_command : Said
-no_command = words_said (codes ": the commands are run CIRCUIT PARTITION TRACE [--capacity K] [--workers W] [--mono], replay CIRCUIT PARTITION TRACE STEPS [--capacity K] and check CIRCUIT PARTITION [--capacity K]")
+no_command = words_said (codes ": the commands are run CIRCUIT PARTITION TRACE [--capacity K] [--workers W] [--mono], replay CIRCUIT PARTITION TRACE STEPS [--capacity K], check CIRCUIT PARTITION [--capacity K] and demo SEED SIZE [--workers W]")
 
--- this value of an option isn't a number in its range
+-- this value isn't a number in its range
 abbrev pub bad_number : List ℕ → Said
-bad_number value = words_said (codes ": '" ++ value ++ codes "' is not a number in its range: --capacity takes 1 to 4096, --workers 0 to 64")
+bad_number value = words_said (codes ": '" ++ value ++ codes "' is not a number in its range: --capacity takes 1 to 4096, --workers 0 to 64, SEED 0 to 4294967295, SIZE 1 to 64")
 
 -- the circuit has the fault with this text
 abbrev pub circuit_fault : List ℕ → Said

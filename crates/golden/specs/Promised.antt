@@ -17,7 +17,7 @@ use Rattle.gg_trace.specs.declared.faults.TraceFault.{TraceFault}
 use Rattle.gg_words.specs.Meaning.{IsCommand}
 use Rattle.gg_words.specs.declared.command.Cmd.{Cmd}
 use Rattle.gg_words.specs.declared.command.Cmd.TheVariants.{Replay}
-use Rattle.golden.specs.Commands.{asked_by, order_of, trace_of}
+use Rattle.golden.specs.Commands.{Asked, asked_by, order_of, trace_of}
 use Rattle.golden.specs.Limits.{circuit_limit, partition_limit, steps_limit, trace_limit}
 use Rattle.golden.specs.Lines.{TellsUnread, partition_fault, trace_fault}
 use Rattle.golden.specs.Outcome.{Answered}
@@ -29,7 +29,7 @@ use Rattle.golden.specs.Words.{AskForCommand, TellsUnasked}
 -- and `err` are the two outputs, before and after it.
 pub record Promised (words : List (List ℕ)) (loads : Loads) (out err : Puts) (status : ℕ) : Type 0 where
   -- The headline: status, text and line are an outcome of the words and the files. At status 0 the text is that of the
-  -- circuit's own run, of the marking that the steps lead to, or of the cut, and there is no other.
+  -- circuit's own run, of the marking that the steps lead to, of the cut, or of the demo, and there is no other.
   pub outcome : Answered words loads out err status
   -- The cause of each status. For a fault of a file, and for words that aren't a command, it also gives the line.
   pub judged : IsJudgement status
@@ -47,20 +47,20 @@ pub record Promised (words : List (List ℕ)) (loads : Loads) (out err : Puts) (
   pub due : (loads.lost → ⊥) → (command : Cmd) (due : Said) → IsCommand words command → DueAt loads.files (order_of command) due
       → ((status ≡ due.status) × ((said : Said) × DueAt loads.files (order_of command) said × Tells err status said)) ⊎ (status ≡ 5)
   -- So a known circuit's file with a fault of reading is refused with that fault, for any other files.
-  pub unread : (loads.lost → ⊥) → (command : Cmd) (bytes : List ℕ) (fault : ReadFault) (said : Said)
-      → IsCommand words command → loads.files (asked_by command).circuit ≡ Holds bytes → length bytes ≤ circuit_limit
+  pub unread : (loads.lost → ⊥) → (command : Cmd) (asked : Asked) (bytes : List ℕ) (fault : ReadFault) (said : Said)
+      → IsCommand words command → asked_by command ≡ Some asked → loads.files asked.circuit ≡ Holds bytes → length bytes ≤ circuit_limit
       → HasReadFault bytes fault → TellsUnread fault said → Tells err status said ⊎ (status ≡ 5)
   -- A known partition's file with a fault is refused with its first fault, if the circuit is accepted.
-  pub partitioned : (loads.lost → ⊥) → (command : Cmd) (c p : List ℕ) (design : Ordered) (fault : List ℕ)
-      → IsCommand words command
-      → loads.files (asked_by command).circuit ≡ Holds c → length c ≤ circuit_limit → MeansDesign c design
-      → loads.files (asked_by command).partition ≡ Holds p → length p ≤ partition_limit → HasFault design p fault
+  pub partitioned : (loads.lost → ⊥) → (command : Cmd) (asked : Asked) (c p : List ℕ) (design : Ordered) (fault : List ℕ)
+      → IsCommand words command → asked_by command ≡ Some asked
+      → loads.files asked.circuit ≡ Holds c → length c ≤ circuit_limit → MeansDesign c design
+      → loads.files asked.partition ≡ Holds p → length p ≤ partition_limit → HasFault design p fault
       → Tells err status (partition_fault fault) ⊎ (status ≡ 5)
   -- A known trace's file with a fault is refused with its first fault, if the files before it are accepted.
-  pub traced : (loads.lost → ⊥) → (command : Cmd) (c p t trace : List ℕ) (flat : FlatCircuit) (fault : TraceFault)
-      → IsCommand words command → trace_of command ≡ Some trace
-      → loads.files (asked_by command).circuit ≡ Holds c → length c ≤ circuit_limit → Means c flat
-      → loads.files (asked_by command).partition ≡ Holds p → length p ≤ partition_limit → IsPartitionFor c p
+  pub traced : (loads.lost → ⊥) → (command : Cmd) (asked : Asked) (c p t trace : List ℕ) (flat : FlatCircuit) (fault : TraceFault)
+      → IsCommand words command → asked_by command ≡ Some asked → trace_of command ≡ Some trace
+      → loads.files asked.circuit ≡ Holds c → length c ≤ circuit_limit → Means c flat
+      → loads.files asked.partition ≡ Holds p → length p ≤ partition_limit → IsPartitionFor c p
       → loads.files trace ≡ Holds t → length t ≤ trace_limit → IsFirstFault (in_ports flat) t fault
       → Tells err status (trace_fault (fault_words fault)) ⊎ (status ≡ 5)
   -- A known steps file with a step that may not be done at its position is refused with the first such step, if the

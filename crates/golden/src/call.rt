@@ -9,6 +9,7 @@ ghost use Rattle.golden.specs.Promised.{Promised};
 ghost use Rattle.gg_told.specs.WentOn.{ShelfWentOn, SinkWentOn};
 
 use crate::check::check;
+use crate::demo::demo;
 use crate::laws::refusals_are_exact;
 use crate::replay::replay;
 use crate::run::run;
@@ -17,13 +18,16 @@ use gg_io::{Gate, Shelf, Sink};
 use gg_told::{Ending, report};
 use gg_words::{Cmd, numbers_are_in_range, one_meaning, words};
 use std::alloc::Global;
+use std::thread::Threads;
 
 // Does a command of the command line.
-fn do_command<S: Shelf, K: Sink>(
+fn do_command<R: Threads + Sync, S: Shelf, K: Sink, G: Gate + Sync>(
+    rt: &R,
     alloc: Global,
     cmd: &Cmd,
     shelf: &mut S,
     out: &mut K,
+    gate: &G,
 ) -> Result<(), Ending>
     requires { (words : List (List ℕ)) × command_line.IsCommand words cmd.now }
     ensures ended { (words : List (List ℕ)) → command_line.IsCommand words cmd.now → CallEnded words (loads_of S.Shelf shelf.old shelf.new) (puts_of K.Sink out.old out.new) result }
@@ -37,15 +41,20 @@ fn do_command<S: Shelf, K: Sink>(
             partition,
             trace,
             capacity,
-            ..
+            workers,
+            mono,
         } => run(
+            rt,
             alloc,
             circuit.as_str(),
             partition.as_str(),
             trace.as_str(),
             *capacity,
+            *workers,
+            *mono,
             shelf,
             out,
+            gate,
         ),
         Cmd::Replay {
             circuit,
@@ -75,22 +84,29 @@ fn do_command<S: Shelf, K: Sink>(
             shelf,
             out,
         ),
+        Cmd::Demo {
+            seed,
+            size,
+            workers,
+        } => demo(rt, alloc, *seed, *size, *workers, out, gate),
     }
 }
 
 // Does the command that the words ask for.
-fn command<S: Shelf, K: Sink>(
+fn command<R: Threads + Sync, S: Shelf, K: Sink, G: Gate + Sync>(
+    rt: &R,
     alloc: Global,
     given: &[String],
     shelf: &mut S,
     out: &mut K,
+    gate: &G,
 ) -> Result<(), Ending>
     ensures ended { CallEnded (texts given.now) (loads_of S.Shelf shelf.old shelf.new) (puts_of K.Sink out.old out.new) result }
     ensures shelf { ShelfWentOn S.Shelf shelf.old shelf.new }
     ensures out { SinkWentOn K.Sink out.old out.new }
 {
     match words(alloc, given) {
-        Ok(cmd) => do_command(alloc, &cmd, shelf, out),
+        Ok(cmd) => do_command(rt, alloc, &cmd, shelf, out, gate),
         Err(fault) => Err(end_at_words(alloc, &fault)),
     }
 }
@@ -109,32 +125,36 @@ fn status_of<E: Sink>(ended: &Result<(), Ending>, err: &mut E) -> u8
 }
 
 // Does what the words ask for, and reports how it ended.
-fn answer<S: Shelf, K: Sink, E: Sink>(
+fn answer<R: Threads + Sync, S: Shelf, K: Sink, E: Sink, G: Gate + Sync>(
+    rt: &R,
     alloc: Global,
     words: &[String],
     shelf: &mut S,
     out: &mut K,
     err: &mut E,
+    gate: &G,
 ) -> u8
     ensures answered { Answered (texts words.now) (loads_of S.Shelf shelf.old shelf.new) (puts_of K.Sink out.old out.new) (puts_of E.Sink err.old err.new) result }
     ensures shelf { ShelfWentOn S.Shelf shelf.old shelf.new }
     ensures out { SinkWentOn K.Sink out.old out.new }
     ensures err { SinkWentOn E.Sink err.old err.new }
 {
-    let ended = command(alloc, words, shelf, out);
+    let ended = command(rt, alloc, words, shelf, out, gate);
     status_of(&ended, err)
 }
 
 /// A call of the program. Does what the words ask for, with files from `shelf`. Writes the text to `out`, and at most
 /// one line to `err`. Returns the status. The first word is the program's own name. All memory comes from `alloc`: the
 /// files, one at a time, what is built from them, and the lines of refusals. If an allocation fails the status is 5.
-/// The gate isn't called yet.
 ///
 /// `run CIRCUIT PARTITION TRACE` writes the text of the circuit's own run on the trace: a header, then a row for each
-/// cycle. `replay CIRCUIT PARTITION TRACE STEPS` does the steps of a file, one after another, on the network of the
+/// cycle. It runs the network of the cut, up to 1,024 cycles before their rows are written: by its workers, each in a
+/// thread of `rt`, and then by steps in the fixed order. With `--mono` it runs the simulator. Only the workers call the
+/// gate. `replay CIRCUIT PARTITION TRACE STEPS` does the steps of a file, one after another, on the network of the
 /// cut, beginning before its first cycle. It writes a line for each channel, with the number of tokens that were put,
 /// the number that were taken, and the tokens that were put. `check CIRCUIT PARTITION` writes a line for each machine
-/// of the cut, then one for each channel. Statuses:
+/// of the cut, then one for each channel. `demo SEED SIZE` makes a circuit, a partition and a trace, runs their network and
+/// writes a summary. Statuses:
 ///
 /// - 0: the text was written whole;
 /// - 1: the circuit has a fault; nothing was written;
@@ -149,7 +169,8 @@ fn answer<S: Shelf, K: Sink, E: Sink>(
 ///   was written.
 ///
 /// If the files are known and no load or put fails, the files and the words determine the status, unless it is 5.
-pub fn golden<S: Shelf, K: Sink, E: Sink, G: Gate>(
+pub fn golden<R: Threads + Sync, S: Shelf, K: Sink, E: Sink, G: Gate + Sync>(
+    rt: &R,
     alloc: Global,
     words: &[String],
     shelf: &mut S,
@@ -162,8 +183,7 @@ pub fn golden<S: Shelf, K: Sink, E: Sink, G: Gate>(
     ensures out { SinkWentOn K.Sink out.old out.new }
     ensures err { SinkWentOn E.Sink err.old err.new }
 {
-    let _ = gate;
     refusals_are_exact();
     one_meaning();
-    answer(alloc, words, shelf, out, err)
+    answer(rt, alloc, words, shelf, out, err, gate)
 }

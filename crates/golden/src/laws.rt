@@ -5,7 +5,7 @@ ghost use Rattle.gg_read.specs.declared.text.ReadFault.{ReadFault};
 ghost use Rattle.gg_told.specs.Said.{Said};
 ghost use Rattle.golden.specs.Lines.{TellsUnread};
 ghost use Rattle.gg_words.specs.declared.command.Cmd.{Cmd};
-ghost use Rattle.golden.specs.Commands.{asked_by, order_behind, order_of};
+ghost use Rattle.golden.specs.Commands.{Asked, order_behind, order_of};
 ghost use Rattle.gg_told.specs.Order.{IsExact, IsUnique, Load};
 ghost use Rattle.golden.specs.Partition.{partition_file_for};
 ghost use Rattle.golden.specs.Run.{TellsCircuit};
@@ -20,7 +20,7 @@ use gg_trace::one_first_fault;
 /// only that fault is reported.
 pub fn refusals_are_exact()
     ensures exact { (command : Cmd) → IsExact (order_of command) }
-    ensures unique { (command : Cmd) (circuit : List ℕ) → IsUnique (Load (partition_file_for circuit (asked_by command).partition) (order_behind command circuit)) }
+    ensures unique { (command : Cmd) (asked : Asked) (circuit : List ℕ) → IsUnique (Load (partition_file_for circuit asked.partition) (order_behind command circuit)) }
     ensures unread { (bytes : List ℕ) (fault : ReadFault) (said other : Said) → HasReadFault bytes fault → TellsUnread fault said → TellsCircuit bytes other → other ≡ said }
 {
     one_fault_line();

@@ -1,8 +1,10 @@
 //! The program golden as one call. [`golden`] does what the words of a call ask for, with files from a shelf. It writes
 //! the text to one output and at most one line to another, and returns the status. gg_words defines which words are
-//! which command. `run` prints the circuit's own run on the trace. What the partition asks for doesn't change it.
+//! which command. `run` prints the circuit's own run on the trace, from the network of the cut that the partition asks for,
+//! window by window, or by the simulator. The text is the same, whatever the cut and the number of workers.
 //! `replay` does a list of steps on the network of the cut, and prints the tokens of each channel. `check` prints the
 //! machines, the channels and the needs of the cut that the partition asks for. A partition with a fault is refused.
+//! `demo` makes a circuit, a partition and a trace, runs their network, and prints a summary.
 //!
 //! What the call promises (`Promised`), for every shelf and all outputs:
 //!
@@ -11,7 +13,8 @@
 //!   file before it was accepted; if a put fails; if an allocation fails; or with its whole text. With status 0 the
 //!   text on `out` is that of the circuit's own run on the trace (`IsTextOf`). For any flat circuit that the bytes
 //!   mean, each of its runs on the trace has this text and no other (`IsOnly`). The same holds for the text of the cut
-//!   (`IsCutTextOf`) and for the text of the marking that the steps lead to (`IsReplayOf`). The tokens of each
+//!   (`IsCutTextOf`), for the summary of a demo (`IsDemoText`), and for the text of the marking that the steps lead to
+//!   (`IsReplayOf`). The tokens of each
 //!   channel are the first values of its signal in the circuit's own run.
 //! - Causes (`judged`, `no_command`, `not_loaded`, `not_written`, `over`): each status except 0 and 5 has its reason. A
 //!   load or a put that failed is counted by its shelf or output. `nothing_written`: a refusal leaves `out` as it was.
@@ -22,7 +25,8 @@
 //!
 //! The shelf's files stay the same, and no count falls.
 //!
-//! What isn't promised: each of `unasked` to `complete` also allows status 5, since an allocation may fail at any time.
+//! What isn't promised: each of `unasked` to `complete` also allows status 5, since an allocation may fail at any time. That
+//! the texts of a demo have no fault is tested, not proved; if one had, the status would be 5.
 //! If a file's contents are unknown, like those of the system's files, `outcome` speaks of *some* bytes that it may
 //! have. A text that was written is then the run of a circuit on a trace that the files may have had, and no contract
 //! says which they were.
@@ -32,6 +36,7 @@ mod call;
 mod case;
 mod check;
 mod checking;
+mod demo;
 mod laws;
 mod limits;
 mod naming;
@@ -41,6 +46,7 @@ mod printing;
 mod reading;
 mod replay;
 mod run;
+mod windows;
 mod words;
 
 pub use call::golden;

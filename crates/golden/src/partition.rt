@@ -82,8 +82,8 @@ fn end_at_request(alloc: Global, fault: &CutFault) -> Ending
     }
 }
 
-// The request that the bytes of a partition's file hold.
-fn request_of(alloc: Global, bytes: &[u8]) -> Result<Request, Ending>
+/// The request that the bytes of a partition's file hold.
+pub(crate) fn request_of(alloc: Global, bytes: &[u8]) -> Result<Request, Ending>
     requires { length bytes.now ≤ partition_limit }
     ensures asks { IfOk result (IsPartition bytes.now) }
     ensures small { IfOk result cut.IsSmall }
@@ -95,8 +95,8 @@ fn request_of(alloc: Global, bytes: &[u8]) -> Result<Request, Ending>
     }
 }
 
-// The cut of a design that a request asks for, if the request has no fault.
-fn cut_request(
+/// The cut of a design that a request asks for, if the request has no fault.
+pub(crate) fn cut_request(
     alloc: Global,
     design: &Design,
     request: Request,

@@ -134,7 +134,18 @@ fn top_outputs(alloc: Global, tree: &Tree) -> Result<Vec<u32>, AllocError>
     outputs_among(alloc, tree.instances()[0].ports.as_slice())
 }
 
-/// Prints the run of a design on these inputs: the top's outputs, cycle by cycle.
+/// The top's outputs as ports.
+pub(crate) fn top_ports(alloc: Global, design: &Design) -> Result<Ports, AllocError>
+    requires { KeepsToTree design.now.circuit design.now.tree }
+    ensures { IfOk result (λ ports. ports ≡ output_ports design.now.circuit design.now.tree) }
+{
+    let piece = design.piece();
+    let outputs = top_outputs(alloc, design.tree())?;
+    let ports = piece.ports(alloc, outputs.as_slice())?;
+    Ok(ports)
+}
+
+/// Prints the run of a design on these inputs, by the simulator: the top's outputs, cycle by cycle.
 pub(crate) fn print_run<K: Sink>(
     alloc: Global,
     design: &Design,
@@ -151,9 +162,9 @@ pub(crate) fn print_run<K: Sink>(
     runs_along();
     // for the design's invariant on its order
     let _ = design.order();
-    let piece = design.piece();
-    let outputs = top_outputs(alloc, design.tree())?;
-    let ports = piece.ports(alloc, outputs.as_slice())?;
+    // and for that on its piece
+    let _ = design.piece();
+    let ports = top_ports(alloc, design)?;
     let mut mono = match Mono::with_clocks(alloc, design, &[]) {
         Ok(mono) => mono,
         Err(_) => return Err(Ending::NoMemory),

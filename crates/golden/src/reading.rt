@@ -9,7 +9,7 @@ ghost use Rattle.gg_trace.specs.declared.faults.TraceFault.TheVariants.{NoMemory
 ghost use Rattle.gg_trace.specs.FaultText.{fault_words};
 ghost use Rattle.golden.specs.Lines.{circuit_fault, trace_fault};
 ghost use Rattle.gg_told.specs.Order.{CanBe};
-ghost use Rattle.golden.specs.Run.{circuit_file, trace_file_of};
+ghost use Rattle.golden.specs.Run.{TellsTraceOf, circuit_file, trace_file_of};
 ghost use Rattle.golden.specs.RunText.{FeedsOnly};
 ghost use Rattle.gg_told.specs.Endings.{IfRefused, IsRefusedBy};
 ghost use Rattle.gg_told.specs.Ends.{loads_of};
@@ -74,6 +74,20 @@ fn end_at_trace(alloc: Global, fault: TraceFault) -> Ending
     }
 }
 
+/// The columns that the bytes of a trace give the inputs of a circuit.
+pub(crate) fn inputs_of(alloc: Global, bytes: &[u8], design: &Design) -> Result<Trace, Ending>
+    ensures accepted { IfOk result (λ trace. FeedsOnly design.now.circuit bytes.now trace.rows trace.columns) }
+    ensures fed { IfOk result (λ trace. IsColumns design.now.circuit trace.rows trace.columns) }
+    ensures refused { IfErr result (IfRefused (TellsTraceOf design.now.circuit bytes.now)) }
+{
+    let piece = design.piece();
+    let ports = piece.in_ports(alloc)?;
+    match read_trace(alloc, &ports, bytes) {
+        Ok(trace) => Ok(trace),
+        Err(fault) => Err(end_at_trace(alloc, fault)),
+    }
+}
+
 /// The columns that the trace's file gives the inputs of a circuit.
 pub(crate) fn read_inputs<S: Shelf>(
     alloc: Global,
@@ -88,10 +102,5 @@ pub(crate) fn read_inputs<S: Shelf>(
     ensures shelf { ShelfWentOn S.Shelf shelf.old shelf.new }
 {
     let bytes = load(alloc, shelf, name, TRACE_LIMIT)?;
-    let piece = design.piece();
-    let ports = piece.in_ports(alloc)?;
-    match read_trace(alloc, &ports, bytes.as_slice()) {
-        Ok(trace) => Ok(trace),
-        Err(fault) => Err(end_at_trace(alloc, fault)),
-    }
+    inputs_of(alloc, bytes.as_slice(), design)
 }

@@ -17,7 +17,7 @@ fn end_at_no_command(alloc: Global) -> Ending
         alloc,
         2,
         "golden: words",
-        ": the commands are run CIRCUIT PARTITION TRACE [--capacity K] [--workers W] [--mono], replay CIRCUIT PARTITION TRACE STEPS [--capacity K] and check CIRCUIT PARTITION [--capacity K]",
+        ": the commands are run CIRCUIT PARTITION TRACE [--capacity K] [--workers W] [--mono], replay CIRCUIT PARTITION TRACE STEPS [--capacity K], check CIRCUIT PARTITION [--capacity K] and demo SEED SIZE [--workers W]",
         "",
     ))
 }
@@ -31,7 +31,7 @@ fn end_at_number(alloc: Global, value: &str) -> Ending
         2,
         "golden: words: '",
         value,
-        "' is not a number in its range: --capacity takes 1 to 4096, --workers 0 to 64",
+        "' is not a number in its range: --capacity takes 1 to 4096, --workers 0 to 64, SEED 0 to 4294967295, SIZE 1 to 64",
     ))
 }
 

@@ -4,6 +4,7 @@ use gg_io::{FailingPut, MemFiles, MemShelf, MemSink, NoGate, hold};
 use golden::golden;
 use std::alloc::{AllocError, Global};
 use std::collections::BTreeMap;
+use std::thread::Threads;
 
 /// The words of `run`.
 pub const RUN: &str = "golden run k1.fir p.json k1.trace";
@@ -55,6 +56,15 @@ impl Answer {
             && self.out.as_slice() == out.as_bytes()
             && self.err.as_slice() == err.as_bytes()
     }
+
+    // Whether another call answered the same.
+    fn is_like(&self, other: &Answer) -> bool {
+        self.status == other.status
+            && self.loads == other.loads
+            && self.puts == other.puts
+            && self.out.as_slice() == other.out.as_slice()
+            && self.err.as_slice() == other.err.as_slice()
+    }
 }
 
 /// The words of a call, of a line that parts them by blanks.
@@ -67,7 +77,8 @@ pub fn words_of(alloc: Global, line: &str) -> Result<Vec<String>, AllocError> {
 }
 
 /// A call with these words and files, where these loads and puts are to fail.
-pub fn call(
+pub fn call<R: Threads + Sync>(
+    rt: &R,
     alloc: Global,
     line: &str,
     files: MemFiles,
@@ -80,6 +91,7 @@ pub fn call(
     let mut out = MemSink::new(alloc, puts);
     let mut err = MemSink::new(alloc, err_puts);
     let status = golden(
+        rt,
         alloc,
         words.as_slice(),
         &mut shelf,
@@ -97,8 +109,14 @@ pub fn call(
 }
 
 /// A call with these words and files, where nothing fails.
-pub fn ask(alloc: Global, line: &str, files: MemFiles) -> Result<Answer, AllocError> {
+pub fn ask<R: Threads + Sync>(
+    rt: &R,
+    alloc: Global,
+    line: &str,
+    files: MemFiles,
+) -> Result<Answer, AllocError> {
     call(
+        rt,
         alloc,
         line,
         files,
@@ -109,7 +127,8 @@ pub fn ask(alloc: Global, line: &str, files: MemFiles) -> Result<Answer, AllocEr
 }
 
 /// The same with a circuit, a partition and a trace.
-pub fn ask_of(
+pub fn ask_of<R: Threads + Sync>(
+    rt: &R,
     alloc: Global,
     line: &str,
     circuit: &str,
@@ -122,15 +141,38 @@ pub fn ask_of(
         partition.as_bytes(),
         trace.as_bytes(),
     )?;
-    ask(alloc, line, files)
+    ask(rt, alloc, line, files)
 }
 
-/// `run` on a circuit, a partition and a trace, where nothing fails.
-pub fn run(
+// The ways in which a circuit is run, besides from the network without workers: by the simulator, and from the network with some.
+static WAYS: [&str; 4] = [
+    "golden run k1.fir p.json k1.trace --mono",
+    "golden run k1.fir p.json k1.trace --workers 1",
+    "golden run k1.fir p.json k1.trace --workers 2",
+    "golden run k1.fir p.json k1.trace --workers 3",
+];
+
+// What the second of two ways answers, with the status 255 if the first answers something else.
+fn alike(first: Answer, mut second: Answer) -> Answer {
+    if !second.is_like(&first) {
+        second.status = 255;
+    }
+    second
+}
+
+/// `run` on a circuit, a partition and a trace, where nothing fails, in each way. If not all of them answer the same, the
+/// status is 255.
+pub fn run<R: Threads + Sync>(
+    rt: &R,
     alloc: Global,
     circuit: &str,
     partition: &str,
     trace: &str,
 ) -> Result<Answer, AllocError> {
-    ask_of(alloc, RUN, circuit, partition, trace)
+    let mut answer = ask_of(rt, alloc, RUN, circuit, partition, trace)?;
+    for line in &WAYS {
+        let next = ask_of(rt, alloc, line, circuit, partition, trace)?;
+        answer = alike(answer, next);
+    }
+    Ok(answer)
 }

@@ -39,6 +39,7 @@ fn main(rt: HostRuntime) -> ExitCode {
     let mut shelf = FileShelf::new(rt);
     let mut out = StreamSink::new(rt.stdout());
     ExitCode::from(golden(
+        &rt,
         alloc,
         words.as_slice(),
         &mut shelf,

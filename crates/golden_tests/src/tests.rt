@@ -2,11 +2,13 @@
 mod circuits;
 mod commands;
 mod cuts;
+mod demos;
 mod files;
 mod outputs;
 mod partitions;
 mod refusals;
 mod traces;
+mod windows;
 
 use golden_calls::Answer;
 use std::process::Abort;

@@ -4,6 +4,7 @@ use golden_calls::{Answer, COUNTER, LATE, MEMORY, PAIR, TWO, ask, counter_files,
 use std::alloc::{AllocError, Global};
 use std::process::Abort;
 use std::test::Fail;
+use std::thread::Threads;
 
 const REPLAY: &str = "golden replay k1.fir p.json k1.trace s.steps";
 
@@ -33,18 +34,20 @@ fn check(rt: &impl Abort, answer: &Answer, status: u8, loads: u64, out: &str, er
 }
 
 // A call on these files, with these steps.
-fn replay(
+fn replay<R: Threads + Sync>(
+    rt: &R,
     alloc: Global,
     line: &str,
     mut files: MemFiles,
     steps: &[u8],
 ) -> Result<Answer, AllocError> {
     hold(&mut files, alloc, "s.steps", steps)?;
-    ask(alloc, line, files)
+    ask(rt, alloc, line, files)
 }
 
 // A call on a circuit, a partition, a trace and steps, for channels of capacity 1.
-fn replay_of(
+fn replay_of<R: Threads + Sync>(
+    rt: &R,
     alloc: Global,
     circuit: &str,
     partition: &str,
@@ -57,12 +60,16 @@ fn replay_of(
         partition.as_bytes(),
         trace.as_bytes(),
     )?;
-    replay(alloc, REPLAY_1, files, steps.as_bytes())
+    replay(rt, alloc, REPLAY_1, files, steps.as_bytes())
 }
 
 // A call on the counter, with these steps.
-fn replay_counter(alloc: Global, steps: &str) -> Result<Answer, AllocError> {
-    replay(alloc, REPLAY, counter_files(alloc)?, steps.as_bytes())
+fn replay_counter<R: Threads + Sync>(
+    rt: &R,
+    alloc: Global,
+    steps: &str,
+) -> Result<Answer, AllocError> {
+    replay(rt, alloc, REPLAY, counter_files(alloc)?, steps.as_bytes())
 }
 
 // The counter's output goes ahead of its input; and no steps.
@@ -75,7 +82,7 @@ fn tokens_of_the_counter(rt: HostRuntime) -> Result<(), Fail> {
         ),
         ("", "reset 0/0\nout 0/0\n"),
     ] {
-        check(&rt, &replay_counter(rt.alloc(), steps)?, 0, 4, out, "");
+        check(&rt, &replay_counter(&rt, rt.alloc(), steps)?, 0, 4, out, "");
     }
     Ok(())
 }
@@ -182,7 +189,7 @@ static WORKED: [(&str, &str, &str, &str, &str); 13] = [
 fn steps_that_may_be_done(rt: HostRuntime) -> Result<(), Fail> {
     let alloc = rt.alloc();
     for (circuit, partition, trace, steps, out) in &WORKED {
-        let answer = replay_of(alloc, circuit, partition, trace, steps)?;
+        let answer = replay_of(&rt, alloc, circuit, partition, trace, steps)?;
         check(&rt, &answer, 0, 4, out, "");
     }
     Ok(())
@@ -208,7 +215,7 @@ static REFUSED: [(&str, &str); 9] = [
 fn refused_steps(rt: HostRuntime) -> Result<(), Fail> {
     let alloc = rt.alloc();
     for (steps, err) in &REFUSED {
-        let answer = replay_of(alloc, PAIR, UNITS, PAIR_TRACE, steps)?;
+        let answer = replay_of(&rt, alloc, PAIR, UNITS, PAIR_TRACE, steps)?;
         check(&rt, &answer, 9, 4, "", err);
     }
     Ok(())
@@ -216,7 +223,7 @@ fn refused_steps(rt: HostRuntime) -> Result<(), Fail> {
 
 #[test]
 fn a_step_behind_the_last_cycle(rt: HostRuntime) -> Result<(), Fail> {
-    let answer = replay_of(rt.alloc(), PAIR, UNITS, "cycle x\n", "fire x\n")?;
+    let answer = replay_of(&rt, rt.alloc(), PAIR, UNITS, "cycle x\n", "fire x\n")?;
     check(&rt, &answer, 9, 4, "", "golden: step 1: Ended\n");
     Ok(())
 }
@@ -238,17 +245,21 @@ static SERVED: [(&str, &str); 6] = [
 ];
 
 // A call on the memory, with these steps behind its reads.
-fn replay_behind_reads(alloc: Global, last: &str) -> Result<Answer, AllocError> {
+fn replay_behind_reads<R: Threads + Sync>(
+    rt: &R,
+    alloc: Global,
+    last: &str,
+) -> Result<Answer, AllocError> {
     let mut steps = String::from_str(alloc, READ)?;
     steps.push_str(last)?;
-    replay_of(alloc, MEMORY, LISTED, MEMORY_TRACE, steps.as_str())
+    replay_of(rt, alloc, MEMORY, LISTED, MEMORY_TRACE, steps.as_str())
 }
 
 #[test]
 fn refused_steps_of_a_memory(rt: HostRuntime) -> Result<(), Fail> {
     let alloc = rt.alloc();
     for (last, err) in &SERVED {
-        let answer = replay_behind_reads(alloc, last)?;
+        let answer = replay_behind_reads(&rt, alloc, last)?;
         check(&rt, &answer, 9, 4, "", err);
     }
     Ok(())
@@ -300,7 +311,7 @@ fn serves_of_a_reader_of_the_same_cycle(rt: HostRuntime) -> Result<(), Fail> {
             LISTED.as_bytes(),
             trace.as_bytes(),
         )?;
-        let answer = replay(alloc, REPLAY_1, files, steps.as_bytes())?;
+        let answer = replay(&rt, alloc, REPLAY_1, files, steps.as_bytes())?;
         check(&rt, &answer, 9, 4, "", err);
     }
     Ok(())
@@ -316,7 +327,7 @@ fn refused_steps_of_a_shared_unit(rt: HostRuntime) -> Result<(), Fail> {
         ("fire u.s\nlatch v.s\n", "golden: step 2: NoToken v.s\n"),
         ("fire v.s\nfire p\n", "golden: step 2: NeedsInput u.s\n"),
     ] {
-        let answer = replay_of(alloc, TWO, SHARED, TWO_TRACE, steps)?;
+        let answer = replay_of(&rt, alloc, TWO, SHARED, TWO_TRACE, steps)?;
         check(&rt, &answer, 9, 4, "", err);
     }
     Ok(())
@@ -326,15 +337,19 @@ fn refused_steps_of_a_shared_unit(rt: HostRuntime) -> Result<(), Fail> {
 #[test]
 fn no_steps_file(rt: HostRuntime) -> Result<(), Fail> {
     let alloc = rt.alloc();
-    let answer = ask(alloc, REPLAY, counter_files(alloc)?)?;
+    let answer = ask(&rt, alloc, REPLAY, counter_files(alloc)?)?;
     check(&rt, &answer, 3, 4, "", "golden: cannot load s.steps\n");
     Ok(())
 }
 
 // A call on the counter, with so many blanks for steps.
-fn replay_blanks(alloc: Global, size: usize) -> Result<Answer, AllocError> {
+fn replay_blanks<R: Threads + Sync>(
+    rt: &R,
+    alloc: Global,
+    size: usize,
+) -> Result<Answer, AllocError> {
     let blanks = vec![in alloc; b' '; size]?;
-    replay(alloc, REPLAY, counter_files(alloc)?, blanks.as_slice())
+    replay(rt, alloc, REPLAY, counter_files(alloc)?, blanks.as_slice())
 }
 
 // A steps file that is a byte too long.
@@ -342,7 +357,7 @@ fn replay_blanks(alloc: Global, size: usize) -> Result<Answer, AllocError> {
 fn a_steps_file_past_its_limit(rt: HostRuntime) -> Result<(), Fail> {
     check(
         &rt,
-        &replay_blanks(rt.alloc(), 67_108_865)?,
+        &replay_blanks(&rt, rt.alloc(), 67_108_865)?,
         8,
         4,
         "",
@@ -356,7 +371,7 @@ fn a_steps_file_past_its_limit(rt: HostRuntime) -> Result<(), Fail> {
 fn a_trace_before_the_steps(rt: HostRuntime) -> Result<(), Fail> {
     let alloc = rt.alloc();
     let files = files_of(alloc, COUNTER.as_bytes(), b"{}", b"cycle out\n")?;
-    let answer = replay(alloc, REPLAY, files, b"go\n")?;
+    let answer = replay(&rt, alloc, REPLAY, files, b"go\n")?;
     check(&rt, &answer, 7, 3, "", "golden: trace: T1 field 1\n");
     Ok(())
 }

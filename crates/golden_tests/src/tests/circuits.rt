@@ -5,6 +5,7 @@ use golden_calls::{
 };
 use std::alloc::{AllocError, Global};
 use std::test::Fail;
+use std::thread::Threads;
 
 // Circuits of one module, a trace of each, and the text of its run.
 static RUNS: [(&str, &str, &str); 19] = [
@@ -124,7 +125,14 @@ static RUNS: [(&str, &str, &str); 19] = [
 fn plain_files_are_run(rt: HostRuntime) -> Result<(), Fail> {
     let alloc = rt.alloc();
     for (circuit, trace, out) in &RUNS {
-        check(&rt, &run(alloc, circuit, "{}\n", trace)?, 0, 3, out, "");
+        check(
+            &rt,
+            &run(&rt, alloc, circuit, "{}\n", trace)?,
+            0,
+            3,
+            out,
+            "",
+        );
     }
     Ok(())
 }
@@ -169,7 +177,8 @@ static WHOLE: [(&str, usize, &str, &str, &str); 5] = [
 ];
 
 // `run` on a circuit with a line changed.
-fn run_edited(
+fn run_edited<R: Threads + Sync>(
+    rt: &R,
     alloc: Global,
     circuit: &str,
     line: usize,
@@ -177,14 +186,14 @@ fn run_edited(
     trace: &str,
 ) -> Result<Answer, AllocError> {
     let circuit = edited(alloc, circuit, 64, line, text)?;
-    run(alloc, circuit.as_str(), "{}", trace)
+    run(rt, alloc, circuit.as_str(), "{}", trace)
 }
 
 #[test]
 fn whole_circuits_are_run(rt: HostRuntime) -> Result<(), Fail> {
     let alloc = rt.alloc();
     for (circuit, line, text, trace, out) in &WHOLE {
-        let answer = run_edited(alloc, circuit, *line, text, trace)?;
+        let answer = run_edited(&rt, alloc, circuit, *line, text, trace)?;
         check(&rt, &answer, 0, 3, out, "");
     }
     Ok(())
@@ -207,16 +216,16 @@ static CUT: [(usize, u8, u64, &str, &str); 12] = [
 ];
 
 // `run` on so many lines of the counter.
-fn run_cut(alloc: Global, lines: usize) -> Result<Answer, AllocError> {
+fn run_cut<R: Threads + Sync>(rt: &R, alloc: Global, lines: usize) -> Result<Answer, AllocError> {
     let circuit = counter(alloc, lines, 0, "")?;
-    run(alloc, circuit.as_str(), "{}", TRACE)
+    run(rt, alloc, circuit.as_str(), "{}", TRACE)
 }
 
 #[test]
 fn the_counter_cut_short(rt: HostRuntime) -> Result<(), Fail> {
     let alloc = rt.alloc();
     for (lines, status, loads, out, err) in &CUT {
-        let answer = run_cut(alloc, *lines)?;
+        let answer = run_cut(&rt, alloc, *lines)?;
         check(&rt, &answer, *status, *loads, out, err);
     }
     Ok(())
@@ -236,9 +245,13 @@ fn nested(alloc: Global, depth: usize) -> Result<String, AllocError> {
 }
 
 // `run` on it.
-fn run_nested(alloc: Global, depth: usize) -> Result<Answer, AllocError> {
+fn run_nested<R: Threads + Sync>(
+    rt: &R,
+    alloc: Global,
+    depth: usize,
+) -> Result<Answer, AllocError> {
     let circuit = nested(alloc, depth)?;
-    run(alloc, circuit.as_str(), "{}", TRACE)
+    run(rt, alloc, circuit.as_str(), "{}", TRACE)
 }
 
 #[test]
@@ -248,7 +261,14 @@ fn operations_one_inside_the_other(rt: HostRuntime) -> Result<(), Fail> {
         (256, 0, 3, TEXT, ""),
         (257, 1, 1, "", "golden: circuit: too deep line 10\n"),
     ] {
-        check(&rt, &run_nested(alloc, depth)?, status, loads, out, err);
+        check(
+            &rt,
+            &run_nested(&rt, alloc, depth)?,
+            status,
+            loads,
+            out,
+            err,
+        );
     }
     Ok(())
 }
@@ -363,7 +383,7 @@ static FAULTS: [(&str, usize, &str, &str); 21] = [
 fn each_fault_of_a_circuit(rt: HostRuntime) -> Result<(), Fail> {
     let alloc = rt.alloc();
     for (circuit, line, text, err) in &FAULTS {
-        let answer = run_edited(alloc, circuit, *line, text, TRACE)?;
+        let answer = run_edited(&rt, alloc, circuit, *line, text, TRACE)?;
         check(&rt, &answer, 1, 1, "", err);
     }
     Ok(())

@@ -184,7 +184,7 @@ static CUTS: [(&str, &str, &str, &str); 21] = [
 fn cuts_are_printed(rt: HostRuntime) -> Result<(), Fail> {
     let alloc = rt.alloc();
     for (line, circuit, partition, out) in &CUTS {
-        let answer = ask_of(alloc, line, circuit, partition, "")?;
+        let answer = ask_of(&rt, alloc, line, circuit, partition, "")?;
         check(&rt, &answer, 0, 2, out, "");
     }
     Ok(())
@@ -236,7 +236,7 @@ static REFUSED: [(&str, &str, &str); 9] = [
 fn each_fault_of_a_cut(rt: HostRuntime) -> Result<(), Fail> {
     let alloc = rt.alloc();
     for (circuit, partition, err) in &REFUSED {
-        let answer = ask_of(alloc, CHECK, circuit, partition, "")?;
+        let answer = ask_of(&rt, alloc, CHECK, circuit, partition, "")?;
         check(&rt, &answer, 6, 2, "", err);
     }
     Ok(())

@@ -7,13 +7,18 @@ use golden_calls::{
 use std::alloc::{AllocError, Global};
 use std::collections::BTreeMap;
 use std::test::Fail;
+use std::thread::Threads;
 
 // `run` on the counter with this line left empty (0: none), where there is no other file.
-fn run_alone(alloc: Global, changed: usize) -> Result<Answer, AllocError> {
+fn run_alone<R: Threads + Sync>(
+    rt: &R,
+    alloc: Global,
+    changed: usize,
+) -> Result<Answer, AllocError> {
     let circuit = counter(alloc, 11, changed, "")?;
     let mut files = BTreeMap::new(alloc);
     hold(&mut files, alloc, "k1.fir", circuit.as_bytes())?;
-    ask(alloc, RUN, files)
+    ask(rt, alloc, RUN, files)
 }
 
 // A file that is missing, also where the circuit before it is refused.
@@ -25,7 +30,7 @@ fn files_that_are_missing(rt: HostRuntime) -> Result<(), Fail> {
     ] {
         check(
             &rt,
-            &run_alone(rt.alloc(), changed)?,
+            &run_alone(&rt, rt.alloc(), changed)?,
             status,
             loads,
             "",
@@ -36,9 +41,14 @@ fn files_that_are_missing(rt: HostRuntime) -> Result<(), Fail> {
 }
 
 // `run` on the counter, where the load of this number fails.
-fn run_failing(alloc: Global, failing: u64) -> Result<Answer, AllocError> {
+fn run_failing<R: Threads + Sync>(
+    rt: &R,
+    alloc: Global,
+    failing: u64,
+) -> Result<Answer, AllocError> {
     let loads = vec![in alloc; failing]?;
     call(
+        rt,
         alloc,
         RUN,
         counter_files(alloc)?,
@@ -56,7 +66,14 @@ fn files_that_are_not_loaded(rt: HostRuntime) -> Result<(), Fail> {
         (1, 2, "golden: cannot load p.json\n"),
         (2, 3, "golden: cannot load k1.trace\n"),
     ] {
-        check(&rt, &run_failing(rt.alloc(), failing)?, 3, loads, "", err);
+        check(
+            &rt,
+            &run_failing(&rt, rt.alloc(), failing)?,
+            3,
+            loads,
+            "",
+            err,
+        );
     }
     Ok(())
 }
@@ -84,11 +101,16 @@ static OVER: [(&str, usize, u64, &str); 3] = [
 ];
 
 // `run` on the counter with this file of so many blanks.
-fn run_blanks(alloc: Global, name: &str, size: usize) -> Result<Answer, AllocError> {
+fn run_blanks<R: Threads + Sync>(
+    rt: &R,
+    alloc: Global,
+    name: &str,
+    size: usize,
+) -> Result<Answer, AllocError> {
     let blanks = vec![in alloc; b' '; size]?;
     let mut files = counter_files(alloc)?;
     hold(&mut files, alloc, name, blanks.as_slice())?;
-    ask(alloc, RUN, files)
+    ask(rt, alloc, RUN, files)
 }
 
 #[test]
@@ -96,7 +118,7 @@ fn files_past_their_limits(rt: HostRuntime) -> Result<(), Fail> {
     for (name, size, loads, err) in &OVER {
         check(
             &rt,
-            &run_blanks(rt.alloc(), name, *size)?,
+            &run_blanks(&rt, rt.alloc(), name, *size)?,
             8,
             *loads,
             "",
@@ -107,15 +129,15 @@ fn files_past_their_limits(rt: HostRuntime) -> Result<(), Fail> {
 }
 
 // `run` on the counter with blanks behind it, up to the limit of a circuit.
-fn run_longest(alloc: Global) -> Result<Answer, AllocError> {
+fn run_longest<R: Threads + Sync>(rt: &R, alloc: Global) -> Result<Answer, AllocError> {
     let mut bytes = Vec::from_slice(alloc, COUNTER.as_bytes())?;
     bytes.resize(4_194_304, b' ')?;
     let files = files_of(alloc, bytes.as_slice(), b"{}", TRACE.as_bytes())?;
-    ask(alloc, RUN, files)
+    ask(rt, alloc, RUN, files)
 }
 
 #[test]
 fn a_circuit_of_its_limit(rt: HostRuntime) -> Result<(), Fail> {
-    check(&rt, &run_longest(rt.alloc())?, 0, 3, TEXT, "");
+    check(&rt, &run_longest(&rt, rt.alloc())?, 0, 3, TEXT, "");
     Ok(())
 }

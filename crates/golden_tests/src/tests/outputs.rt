@@ -7,6 +7,7 @@ use golden::golden;
 use golden_calls::{Answer, RUN, TEXT, call, counter_files, words_of};
 use std::alloc::{AllocError, Global};
 use std::test::Fail;
+use std::thread::Threads;
 
 // A sink that has memory for so many puts. It tells nothing of what was written, and keeps it for the test to see.
 #[derive(Drop)]
@@ -34,7 +35,8 @@ impl Sink for FullSink {
 }
 
 // Whether `run` on the counter, where `out` has memory for so many puts, answers this status and leaves these texts on `out` and `err`.
-fn ends_so(
+fn ends_so<R: Threads + Sync>(
+    rt: &R,
     alloc: Global,
     room: u64,
     status: u8,
@@ -50,6 +52,7 @@ fn ends_so(
     };
     let mut err = SureSink::new(alloc);
     let answered = golden(
+        rt,
         alloc,
         words.as_slice(),
         &mut shelf,
@@ -72,16 +75,21 @@ fn puts_that_find_no_memory(rt: HostRuntime) -> Result<(), Fail> {
         (2, 5, "cycle out\n0 00\n", "golden: out of memory\n"),
         (5, 0, TEXT, ""),
     ] {
-        let is_right = ends_so(rt.alloc(), room, status, text, line)?;
+        let is_right = ends_so(&rt, rt.alloc(), room, status, text, line)?;
         assert!(rt; is_right, "with memory for {room} puts");
     }
     Ok(())
 }
 
 // `run` on the counter, where the put on `out` of this number takes three bytes and fails.
-fn run_cut_off(alloc: Global, number: u64) -> Result<Answer, AllocError> {
+fn run_cut_off<R: Threads + Sync>(
+    rt: &R,
+    alloc: Global,
+    number: u64,
+) -> Result<Answer, AllocError> {
     let puts = vec![in alloc; FailingPut { number, takes: 3 }]?;
     call(
+        rt,
         alloc,
         RUN,
         counter_files(alloc)?,
@@ -101,14 +109,14 @@ fn puts_that_fail(rt: HostRuntime) -> Result<(), Fail> {
         (3, "cycle out\n0 00\n1 00\n2 0"),
         (4, "cycle out\n0 00\n1 00\n2 01\n3 0"),
     ] {
-        let answer = run_cut_off(rt.alloc(), number)?;
+        let answer = run_cut_off(&rt, rt.alloc(), number)?;
         check(&rt, &answer, 4, 3, out, "golden: cannot write\n");
     }
     Ok(())
 }
 
 // `run` on the counter, where the second load fails, and the put on `err` takes eight bytes and fails.
-fn run_untold(alloc: Global) -> Result<Answer, AllocError> {
+fn run_untold<R: Threads + Sync>(rt: &R, alloc: Global) -> Result<Answer, AllocError> {
     let loads = vec![in alloc; 1]?;
     let err_puts = vec![in alloc;
         FailingPut {
@@ -117,6 +125,7 @@ fn run_untold(alloc: Global) -> Result<Answer, AllocError> {
         },
     ]?;
     call(
+        rt,
         alloc,
         RUN,
         counter_files(alloc)?,
@@ -129,6 +138,6 @@ fn run_untold(alloc: Global) -> Result<Answer, AllocError> {
 // A failing `err` changes no status.
 #[test]
 fn a_failing_err(rt: HostRuntime) -> Result<(), Fail> {
-    check(&rt, &run_untold(rt.alloc())?, 3, 2, "", "golden: ");
+    check(&rt, &run_untold(&rt, rt.alloc())?, 3, 2, "", "golden: ");
     Ok(())
 }

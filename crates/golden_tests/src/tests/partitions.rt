@@ -4,6 +4,7 @@ use golden_calls::{Answer, BANKS, CHECK, LATE, MEMORY, PAIR, RUN, TILES, TWO, as
 use itoa::Buffer;
 use std::alloc::{AllocError, Global};
 use std::test::Fail;
+use std::thread::Threads;
 
 // A circuit, a partition that it accepts, a trace, and the text of the run.
 static ACCEPTED: [(&str, &str, &str, &str); 9] = [
@@ -62,7 +63,14 @@ static ACCEPTED: [(&str, &str, &str, &str); 9] = [
 fn accepted_partitions_change_nothing(rt: HostRuntime) -> Result<(), Fail> {
     let alloc = rt.alloc();
     for (circuit, partition, trace, out) in &ACCEPTED {
-        check(&rt, &run(alloc, circuit, partition, trace)?, 0, 3, out, "");
+        check(
+            &rt,
+            &run(&rt, alloc, circuit, partition, trace)?,
+            0,
+            3,
+            out,
+            "",
+        );
     }
     Ok(())
 }
@@ -172,7 +180,7 @@ fn each_fault_of_a_partition(rt: HostRuntime) -> Result<(), Fail> {
     for (circuit, partition, err) in &REFUSED {
         check(
             &rt,
-            &run(alloc, circuit, partition, "cycle")?,
+            &run(&rt, alloc, circuit, partition, "cycle")?,
             6,
             2,
             "",
@@ -200,13 +208,19 @@ fn push_numbered(
 }
 
 // A call with these words on so many instances, and a partition that lists them all.
-fn ask_units(alloc: Global, line: &str, count: u64) -> Result<Answer, AllocError> {
+fn ask_units<R: Threads + Sync>(
+    rt: &R,
+    alloc: Global,
+    line: &str,
+    count: u64,
+) -> Result<Answer, AllocError> {
     let mut circuit = String::from_str(alloc, "circuit Top :\nmodule A :\nmodule Top :\n")?;
     push_numbered(&mut circuit, 0, count, "inst i", " of A\n")?;
     let mut partition = String::from_str(alloc, "{\"units\":[\"i0\"")?;
     push_numbered(&mut partition, 1, count, ",\"i", "\"")?;
     partition.push_str("]}")?;
     ask_of(
+        rt,
         alloc,
         line,
         circuit.as_str(),
@@ -223,18 +237,18 @@ fn units_up_to_the_limit(rt: HostRuntime) -> Result<(), Fail> {
         (RUN, 257, 6, 2, "", "golden: partition: P9 units 257\n"),
         (CHECK, 257, 6, 2, "", "golden: partition: P9 units 257\n"),
     ] {
-        let answer = ask_units(alloc, line, count)?;
+        let answer = ask_units(&rt, alloc, line, count)?;
         check(&rt, &answer, status, loads, out, err);
     }
     Ok(())
 }
 
 // `run` on a circuit of so many outputs.
-fn run_outputs(alloc: Global, count: u64) -> Result<Answer, AllocError> {
+fn run_outputs<R: Threads + Sync>(rt: &R, alloc: Global, count: u64) -> Result<Answer, AllocError> {
     let mut circuit = String::from_str(alloc, "circuit Top :\nmodule Top :\n")?;
     push_numbered(&mut circuit, 0, count, "output o", " : UInt<1>\n")?;
     push_numbered(&mut circuit, 0, count, "o", " is invalid\n")?;
-    run(alloc, circuit.as_str(), "{}", "")
+    run(rt, alloc, circuit.as_str(), "{}", "")
 }
 
 #[test]
@@ -244,7 +258,14 @@ fn channels_past_the_limit(rt: HostRuntime) -> Result<(), Fail> {
         (16_384, 7, 3, "golden: trace: T1 field 0\n"),
         (16_385, 6, 2, "golden: partition: P9 channels 16385\n"),
     ] {
-        check(&rt, &run_outputs(alloc, count)?, status, loads, "", err);
+        check(
+            &rt,
+            &run_outputs(&rt, alloc, count)?,
+            status,
+            loads,
+            "",
+            err,
+        );
     }
     Ok(())
 }

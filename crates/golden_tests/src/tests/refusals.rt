@@ -3,6 +3,7 @@ use super::check;
 use golden_calls::{Answer, RUN, TRACE, ask, counter, files_of, run};
 use std::alloc::{AllocError, Global};
 use std::test::Fail;
+use std::thread::Threads;
 
 // The counter with a line changed, counted from 1 (0: none), the other files, the status, how many files are loaded, and the
 // line of the refusal.
@@ -76,7 +77,8 @@ static REFUSED: [(usize, &str, &str, &str, u8, u64, &str); 9] = [
 ];
 
 // `run` on the counter with a line changed, and on these other files.
-fn run_changed(
+fn run_changed<R: Threads + Sync>(
+    rt: &R,
     alloc: Global,
     line: usize,
     text: &str,
@@ -84,14 +86,14 @@ fn run_changed(
     trace: &str,
 ) -> Result<Answer, AllocError> {
     let circuit = counter(alloc, 11, line, text)?;
-    run(alloc, circuit.as_str(), partition, trace)
+    run(rt, alloc, circuit.as_str(), partition, trace)
 }
 
 #[test]
 fn the_first_fault_is_told(rt: HostRuntime) -> Result<(), Fail> {
     let alloc = rt.alloc();
     for (line, text, partition, trace, status, loads, err) in &REFUSED {
-        let answer = run_changed(alloc, *line, text, partition, trace)?;
+        let answer = run_changed(&rt, alloc, *line, text, partition, trace)?;
         check(&rt, &answer, *status, *loads, "", err);
     }
     Ok(())
@@ -101,7 +103,7 @@ fn the_first_fault_is_told(rt: HostRuntime) -> Result<(), Fail> {
 fn a_circuit_that_is_not_text(rt: HostRuntime) -> Result<(), Fail> {
     let alloc = rt.alloc();
     let files = files_of(alloc, b"\xff", b"{}", TRACE.as_bytes())?;
-    let answer = ask(alloc, RUN, files)?;
+    let answer = ask(&rt, alloc, RUN, files)?;
     check(&rt, &answer, 1, 1, "", "golden: circuit: not text\n");
     Ok(())
 }

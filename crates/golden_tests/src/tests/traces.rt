@@ -28,7 +28,7 @@ static TRACES: [(&str, &str); 15] = [
 fn traces_with_a_fault(rt: HostRuntime) -> Result<(), Fail> {
     let alloc = rt.alloc();
     for (trace, err) in &TRACES {
-        check(&rt, &run(alloc, COUNTER, "{}", trace)?, 7, 3, "", err);
+        check(&rt, &run(&rt, alloc, COUNTER, "{}", trace)?, 7, 3, "", err);
     }
     Ok(())
 }
@@ -48,7 +48,7 @@ fn good_rows(alloc: Global, rows: u64) -> Result<String, AllocError> {
 fn a_trace_with_a_row_too_many(rt: HostRuntime) -> Result<(), Fail> {
     let alloc = rt.alloc();
     let trace = good_rows(alloc, 1_000_001)?;
-    let answer = run(alloc, COUNTER, "{}", trace.as_str())?;
+    let answer = run(&rt, alloc, COUNTER, "{}", trace.as_str())?;
     check(&rt, &answer, 7, 3, "", "golden: trace: T6 row 1000000\n");
     Ok(())
 }

@@ -6,8 +6,5 @@ use Rattle.gg_words.proofs.reading.number_of.Goals as goal
 pub returns-in-None : goal.returns-in-None
 returns-in-None c = rw (first-none (found_of c.args.matches.now) c.args.id.now _ c.get_str.ensures c.in-None.is) refl
 
-pub returns-in-Some-number_in : goal.returns-in-Some-number_in
-returns-in-Some-number_in c = rw (first-some (found_of c.args.matches.now) c.args.id.now _ c.get_str.ensures c.in-Some.text c.in-Some.is, ← c.number_in.ensures, c.in-Some-number_in.is) refl
-
-pub returns-in-None-number_in : goal.returns-in-None-number_in
-returns-in-None-number_in c = rw (first-some (found_of c.args.matches.now) c.args.id.now _ c.get_str.ensures c.in-Some.text c.in-Some.is, ← c.number_in.ensures, c.in-None-number_in.is) c.no_number.ensures
+pub returns-in-Some : goal.returns-in-Some
+returns-in-Some c = rw (first-some (found_of c.args.matches.now) c.args.id.now _ c.get_str.ensures c.in-Some.text c.in-Some.is) c.judged.ensures

@@ -1,18 +1,26 @@
 use Rattle.std.proofs.Common.{subst}
 use Rattle.std.specs.Prelude.{◌≡◌}
 use Rattle.gg_words.specs.Range.{AreInRange}
-use Rattle.gg_words.specs.declared.command.Cmd.TheVariants.{Run, Replay, Check}
+use Rattle.gg_words.specs.declared.command.Cmd.TheVariants.{Run, Replay, Check, Demo}
 use Rattle.golden.proofs.CallLemmas.{asked-ends}
+use Rattle.golden.proofs.DemoLemmas.{demo-ends}
 use Rattle.golden.proofs.call.do_command.Goals as goal
 
 pub run-requires : goal.run-requires
-run-requires g c = (subst AreInRange c.in-Run.is (c.numbers_are_in_range.ensures c.requires.0 c.args.cmd.now c.requires.1)).0
+run-requires g c =
+    let ranges = subst AreInRange c.in-Run.is (c.numbers_are_in_range.ensures c.requires.0 c.args.cmd.now c.requires.1) in
+    record { capacity = ranges.0; few = ranges.1.1 }
 
 pub replay-requires : goal.replay-requires
 replay-requires g c = subst AreInRange c.in-Replay.is (c.numbers_are_in_range.ensures c.requires.0 c.args.cmd.now c.requires.1)
 
 pub check-requires : goal.check-requires
 check-requires g c = subst AreInRange c.in-Check.is (c.numbers_are_in_range.ensures c.requires.0 c.args.cmd.now c.requires.1)
+
+pub demo-requires : goal.demo-requires
+demo-requires g c =
+    let range = subst AreInRange c.in-Demo.is (c.numbers_are_in_range.ensures c.requires.0 c.args.cmd.now c.requires.1) in
+    record { few = range.1.1.1; some = range.1.0.0; most = range.1.0.1 }
 
 pub returns-in-Run-clause-ended : goal.returns-in-Run-clause-ended
 returns-in-Run-clause-ended g c = λ words asks.
@@ -40,3 +48,6 @@ returns-in-Check-clause-ended g c = λ words asks.
     let is = c.in-Check.is in
     let e : c.args.cmd.now ≡ Check c.as_str-in-Check.result.now c.as_str-in-Check-2.result.now c.in-Check.capacity = cc in
     asked-ends e asks c.check.ensures.ended
+
+pub returns-in-Demo-clause-ended : goal.returns-in-Demo-clause-ended
+returns-in-Demo-clause-ended g c = λ words asks. asked-ends c.in-Demo.is asks (demo-ends c.demo.ensures.ended)

@@ -1,7 +1,8 @@
 use Rattle.std.proofs.Common.{ap, ◌∙◌, refl}
 use Rattle.std.specs.Io.KnownBytes.{append_known}
 use Rattle.gg_told.proofs.EndingLemmas.{exit-is}
-use Rattle.golden.proofs.PrintingLemmas.{header-stop, shown_columns}
+use Rattle.gg_printed.specs.Printed.{shown_columns}
+use Rattle.gg_printed.proofs.RowLemmas.{header-stop}
 use Rattle.gg_told.proofs.WritingLemmas.{prints-more, rose-earlier, none-front}
 use Rattle.golden.proofs.printing.print_all.Goals as goal
 

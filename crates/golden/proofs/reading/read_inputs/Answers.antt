@@ -1,36 +1,29 @@
-use Rattle.std.proofs.Common.{◌≡◌, inr}
-use Rattle.gg_flat.specs.Ports.{in_ports}
+use Rattle.std.proofs.Common.{List, ℕ, inr, subst}
+use Rattle.std.proofs.lemmas.Result.{IfErr-weaker, IfOk-weaker}
 use Rattle.gg_told.proofs.EndingLemmas.{IfRefused-map}
-use Rattle.golden.proofs.ReadingLemmas.{ports-are, ports-distinct, fault-of, feeds-ports, ports-feed, ports-fed}
+use Rattle.golden.specs.Run.{TellsTraceOf}
+use Rattle.golden.specs.RunText.{FeedsOnly}
 use Rattle.golden.proofs.reading.read_inputs.Goals as goal
 
-pub read_trace-requires : goal.read_trace-requires
-read_trace-requires g c =
-    ports-distinct c.args.design.now.circuit _ (ports-are _ _ _ c.in_ok-ports.ensures c.piece-piece.ensures.circuit) c.piece-piece.ensures.formed
+pub returns-clause-accepted : goal.returns-clause-accepted
+returns-clause-accepted g c =
+    let circuit = c.args.design.now.circuit in
+    IfOk-weaker c.inputs_of.result _ _
+    (λ trace feeds. (
+      c.in_ok-bytes.bytes.items,
+      record { held = c.in_ok-bytes.ensures.held; within = c.in_ok-bytes.ensures.within },
+      subst (λ (b : List ℕ). FeedsOnly circuit b trace.rows trace.columns) c.as_slice.ensures.value feeds,
+    ))
+    c.inputs_of.ensures.accepted
 
 pub returns-clause-refused : goal.returns-clause-refused
 returns-clause-refused g c =
-    let e : c.in_ok-ports.ports ≡ in_ports c.args.design.now.circuit = ports-are _ _ _ c.in_ok-ports.ensures c.piece-piece.ensures.circuit in
-    IfRefused-map
+    IfErr-weaker c.inputs_of.result _ _
+    (λ ending. IfRefused-map
     (λ said h. inr (
       c.in_ok-bytes.bytes.items,
       record { held = c.in_ok-bytes.ensures.held; within = c.in_ok-bytes.ensures.within },
-      (c.in-Err.fault, fault-of c.args.design.now.circuit c.in_ok-ports.ports c.in_ok-bytes.bytes.items c.as_slice.result.now c.in-Err.fault e c.as_slice.ensures.value h.0 c.in-Err.ensures.fault, h.1),
+      subst (λ (b : List ℕ). TellsTraceOf c.args.design.now.circuit b said) c.as_slice.ensures.value h,
     ))
-    c.end_at_trace.result c.end_at_trace.ensures
-
-pub returns-in-Ok-clause-fed : goal.returns-in-Ok-clause-fed
-returns-in-Ok-clause-fed g c =
-    ports-fed c.args.design.now.circuit c.in_ok-ports.ports _ _ _ (ports-are _ _ _ c.in_ok-ports.ensures c.piece-piece.ensures.circuit) c.piece-piece.ensures.formed
-    c.in-Ok.ensures.columns c.in-Ok.ensures.widths
-
-pub returns-in-Ok-clause-accepted : goal.returns-in-Ok-clause-accepted
-returns-in-Ok-clause-accepted g c =
-    let e : c.in_ok-ports.ports ≡ in_ports c.args.design.now.circuit = ports-are _ _ _ c.in_ok-ports.ensures c.piece-piece.ensures.circuit in (
-      c.in_ok-bytes.bytes.items,
-      record { held = c.in_ok-bytes.ensures.held; within = c.in_ok-bytes.ensures.within },
-      record {
-        feeds = ports-feed c.args.design.now.circuit c.in_ok-ports.ports c.in_ok-bytes.bytes.items c.as_slice.result.now e c.as_slice.ensures.value _ _ c.in-Ok.ensures.columns;
-        only = λ m others fed. c.in-Ok.ensures.complete m others (feeds-ports c.args.design.now.circuit c.in_ok-ports.ports c.in_ok-bytes.bytes.items c.as_slice.result.now e c.as_slice.ensures.value m others fed);
-      },
-    )
+    ending)
+    c.inputs_of.ensures.refused

@@ -8,10 +8,8 @@ use Rattle.gg_told.proofs.EndingLemmas.{exit-is, loads-on, stopped-ends, printed
 use Rattle.golden.proofs.TextLemmas.{only-text}
 use Rattle.golden.proofs.run.run.Goals as goal
 
-pub print_run-requires : goal.print_run-requires
-print_run-requires g c =
-    let read = c.in_ok-fed.ensures.read in
-    record { keeps = read.is.case.keeps; few = read.is.most; fed = read.is.columns }
+pub print_text-requires-clause-fed : goal.print_text-requires-clause-fed
+print_text-requires-clause-fed g c = let read = c.in_ok-fed.ensures.read in (read.read.circuit, read.read.partition, read.bytes, c.args.capacity, read.is)
 
 pub returns-in_err-fed-clause-ended : goal.returns-in_err-fed-clause-ended
 returns-in_err-fed-clause-ended g c = stopped-ends refl (exit-is c.from_residual.ensures.1) (IfRefused-map (λ said. fed-stops (loads_of g.S.Shelf c.args.shelf.now c.read_fed.new.shelf) (asking c.args.circuit.now c.args.partition.now c.args.capacity) c.args.trace.now (λ b p t. Write (IsTextOf b t))) c.in_err-fed.field-0.0 c.in_err-fed.ensures.refused)
@@ -21,9 +19,9 @@ returns-clause-ended g c =
     let fed = c.in_ok-fed.fed in
     let read = c.in_ok-fed.ensures.read in
     let means = read.read.is.means in
-    let prints = c.print_run.ensures.prints in
+    let prints = c.print_text.ensures.prints in
     fed-ends (loads-on c.read_fed.new.shelf c.read_fed.ensures.shelf) read
-    (printed-ends _ c.print_run.result
+    (printed-ends _ c.print_text.result
     (record {
       is = (
         fed.case.design,

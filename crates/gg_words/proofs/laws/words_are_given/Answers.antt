@@ -1,5 +1,5 @@
 use Rattle.gg_words.proofs.TakenLaws.{taken-names}
-use Rattle.gg_words.proofs.laws.files_are_named.Goals as goal
+use Rattle.gg_words.proofs.laws.words_are_given.Goals as goal
 
 pub returns : goal.returns
 returns c = taken-names

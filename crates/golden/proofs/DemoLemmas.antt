@@ -1,0 +1,187 @@
+-- The summary of a demo's network is that of what its three texts mean, and the only one.
+use Rattle.std.proofs.Common.{◌≡◌, ℕ, ◌+◌, ◌-◌, ◌*◌, ◌<◌, List, ◌++◌, length, refl, sym, ap, ◌∙◌, subst, arith}
+use Rattle.std.specs.Prelude.{Result, slice_index}
+use Rattle.std.proofs.lemmas.List.{length-map}
+use Rattle.gg_build.specs.Build.{IsToRun}
+use Rattle.gg_build.proofs.AlongLemmas.{given-along}
+use Rattle.gg_demo.specs.CircuitText.{demo_circuit}
+use Rattle.gg_demo.specs.PartitionText.{demo_partition}
+use Rattle.gg_demo.specs.SummaryText.{demo_summary, fold_line, folded, last_line, network_line, size_line}
+use Rattle.gg_demo.specs.TraceText.{demo_cycles, demo_trace}
+use Rattle.gg_flat.specs.Along.{rows_along}
+use Rattle.gg_flat.specs.Circuit.{FlatCircuit}
+use Rattle.gg_flat.specs.Run.{IsRun}
+use Rattle.gg_marking.specs.Fits.{HasLayout, marking_of}
+use Rattle.gg_marking.specs.Marking.{Layout, Marking, opening_marking}
+use Rattle.gg_measure.specs.Nets.{net_left}
+use Rattle.gg_measure.proofs.NetLemmas.{can-run, left-is}
+use Rattle.gg_net.specs.Kept.{Kept}
+use Rattle.gg_net.specs.Net.{opening_net}
+use Rattle.gg_net.specs.Network.{Network, frame_of, kind_of}
+use Rattle.gg_order.specs.Design.{Ordered}
+use Rattle.gg_progress.specs.Counts.{counts_of}
+use Rattle.gg_progress.specs.Measure.{all_dues, left}
+use Rattle.gg_progress.proofs.EndLemmas.{opening-left}
+use Rattle.gg_sound.specs.Built.{IsGiven, wires_of_plan}
+use Rattle.gg_summed.specs.Sums.{AreSums, FoldsRows, output_column, sums_text}
+use Rattle.gg_summed.specs.declared.sums.Sums.{Sums}
+use Rattle.gg_told.specs.Ends.{Loads, Puts}
+use Rattle.gg_told.specs.Endings.{EndedOn, PrintsOrStops, PrintsText, Stops, Wants}
+use Rattle.gg_told.specs.Order.{IsOnly, Write}
+use Rattle.gg_told.specs.declared.endings.Ending.{Ending}
+use Rattle.gg_told.specs.declared.endings.Ending.TheVariants.{Refused, Unwritten, NoMemory}
+use Rattle.gg_told.proofs.EndingLemmas.{only-ends, wants-ends}
+use Rattle.golden.specs.Case.{IsFed}
+use Rattle.golden.specs.Demo.{IsDemoText, demo_capacity, setting_summary}
+use Rattle.golden.specs.Replay.{IsSetting, Setting}
+use Rattle.golden.specs.Replayed.{fed_flow}
+use Rattle.golden.specs.declared.case.Fed.{Fed}
+use Rattle.golden.proofs.PartitionLemmas.{DesignsAgree}
+use Rattle.golden.proofs.ReplayLemmas.{AreSet, are-set, laid, opens, setting_of}
+use Rattle.golden.proofs.SettingLemmas.{cycles-same, layouts-same, rows-same}
+use Rattle.golden.proofs.TextLemmas.{OneFlat, OneRun}
+
+-- ---- lines
+
+-- the summary that has these machines, channels and steps, and what is kept of these columns
+summary-of : (seed size machines channels steps : ℕ) (ys zs : List ℕ) (sums : Sums) → sums.machines ≡ machines → sums.channels ≡ channels → sums.steps ≡ steps
+    → sums.fold.last_y ≡ slice_index ys (demo_cycles size - 1) → sums.fold.last_z ≡ slice_index zs (demo_cycles size - 1)
+    → sums.fold.all_y ≡ folded ys (demo_cycles size) → sums.fold.all_z ≡ folded zs (demo_cycles size)
+    → sums_text seed size sums ≡ demo_summary seed size machines channels steps ys zs
+summary-of seed size machines channels steps ys zs sums a b c ly lz ay az =
+    let network : network_line sums.machines sums.channels sums.steps ≡ network_line machines channels steps =
+    ap (λ x. network_line x sums.channels sums.steps) a ∙ ap (λ x. network_line machines x sums.steps) b ∙ ap (network_line machines channels) c in
+    let last : last_line sums.fold.last_y sums.fold.last_z ≡ last_line (slice_index ys (demo_cycles size - 1)) (slice_index zs (demo_cycles size - 1)) =
+    ap (λ x. last_line x sums.fold.last_z) ly ∙ ap (last_line (slice_index ys (demo_cycles size - 1))) lz in
+    let all : fold_line sums.fold.all_y sums.fold.all_z ≡ fold_line (folded ys (demo_cycles size)) (folded zs (demo_cycles size)) =
+    ap (λ x. fold_line x sums.fold.all_z) ay ∙ ap (fold_line (folded ys (demo_cycles size))) az in
+    ap (λ (x : List ℕ). size_line seed size ++ x ++ last_line sums.fold.last_y sums.fold.last_z ++ fold_line sums.fold.all_y sums.fold.all_z) network
+    ∙ ap (λ (x : List ℕ). size_line seed size ++ network_line machines channels steps ++ x ++ fold_line sums.fold.all_y sums.fold.all_z) last
+    ∙ ap (λ (x : List ℕ). size_line seed size ++ network_line machines channels steps ++ last_line (slice_index ys (demo_cycles size - 1)) (slice_index zs (demo_cycles size - 1)) ++ x) all
+
+-- ---- one summary
+
+-- the summary by the circuit, its rows, the cycles and the layout
+abbrev summary_by : (seed size : ℕ) → FlatCircuit → (rows : List (List ℕ)) → (n : ℕ) → Layout → List ℕ
+summary_by seed size circuit rows n layout =
+    demo_summary seed size (length layout.turns) (length layout.links) (n * (2 * length layout.links + length layout.turns + all_dues layout)) (output_column circuit rows 0) (output_column circuit rows 1)
+
+-- settings that have these in common have the same summary
+summary-same : (seed size : ℕ) (a b : Setting) → a.design.circuit ≡ b.design.circuit → a.rows ≡ b.rows → a.cycles ≡ b.cycles → a.layout ≡ b.layout → setting_summary seed size a ≡ setting_summary seed size b
+summary-same seed size a b circuits rows cycles layouts =
+    ap (λ (c : FlatCircuit). summary_by seed size c a.rows a.cycles a.layout) circuits
+    ∙ ap (λ (r : List (List ℕ)). summary_by seed size b.design.circuit r a.cycles a.layout) rows
+    ∙ ap (λ n. summary_by seed size b.design.circuit b.rows n a.layout) cycles
+    ∙ ap (λ (l : Layout). summary_by seed size b.design.circuit b.rows b.cycles l) layouts
+
+-- ---- the network of a demo
+
+module _ (seed size : ℕ) (fed : Fed) (is : IsFed (demo_circuit size) (demo_partition size) (demo_trace seed size) demo_capacity fed) where
+  abbrev circuit : List ℕ
+  circuit = demo_circuit size
+
+  abbrev partition : List ℕ
+  partition = demo_partition size
+
+  abbrev trace : List ℕ
+  trace = demo_trace seed size
+
+  abbrev design : Ordered
+  design = fed.case.design
+
+  abbrev n : ℕ
+  n = fed.trace.rows
+
+  -- the circuit's run, computed along the design's order
+  abbrev ran : List (List ℕ)
+  ran = rows_along design.circuit design.order fed.trace.columns n
+
+  given : IsGiven design fed.case.cut.request demo_capacity fed.case.cut.plan fed.trace.columns n ran
+  given =
+      given-along design fed.case.cut.request demo_capacity fed.case.cut.plan fed.trace.columns n is.case.designed is.case.keeps is.case.cuts.faultless is.case.planned
+      is.case.bounded.0 is.case.bounded.1 is.most is.columns
+
+  -- the network can be built for what it computes
+  pub to-sum : (run : IsToRun fed.case.cut.plan fed.trace.columns n (fed_flow fed)) × (run.design ≡ design)
+  to-sum =
+      (record { design = design; request = fed.case.cut.request; default = demo_capacity; rows = ran; given = given; room = is.case.bounded.1; flow_is = refl }, refl)
+
+  module _ (agree : DesignsAgree) (flats : OneFlat) (once : OneRun) (some : 0 < size) (whole : n ≡ demo_cycles size) (sums : Sums) (run : IsToRun fed.case.cut.plan fed.trace.columns n (fed_flow fed)) (same : run.design ≡ design)
+      (are : AreSums fed.case.cut.plan fed.trace.columns n (fed_flow fed) run sums) where
+    abbrev opening : Network
+    opening = opening_net are.opens.machines (wires_of_plan fed.case.cut.plan) n
+
+    kept : Kept (fed_flow fed) opening
+    kept = subst (λ (x : Network). Kept (fed_flow fed) x) are.opens.is are.kept
+
+    own : (layout : Layout) × HasLayout (frame_of opening) layout × AreSet design fed.case.cut.request demo_capacity n fed.trace.columns ran layout × (marking_of opening ≡ opening_marking layout 0)
+    own =
+        let l = laid design fed.case.cut.request demo_capacity fed.case.cut.plan fed.trace.columns n ran given are.opens.machines are.opens.built kept in (
+          l.0,
+          l.1.1,
+          are-set design fed.case.cut.request demo_capacity fed.case.cut.plan fed.trace.columns n ran given are.opens.machines are.opens.built kept,
+          opens design fed.case.cut.request demo_capacity fed.case.cut.plan fed.trace.columns n ran given are.opens.machines are.opens.built kept,
+        )
+
+    abbrev layout : Layout
+    layout = own.0
+
+    abbrev a : Setting
+    a = setting_of design fed.case.cut.request n fed.trace.columns ran layout
+
+    machines : sums.machines ≡ length layout.turns
+    machines =
+        are.machines ∙ ap (λ (x : Network). length x.machines) are.opens.is ∙ sym (length-map are.opens.machines kind_of) ∙ sym own.1.0.machines
+
+    channels : sums.channels ≡ length layout.links
+    channels = are.channels ∙ ap (λ (x : Network). length x.wires) are.opens.is ∙ sym own.1.0.channels
+
+    steps : sums.steps ≡ n * (2 * length layout.links + length layout.turns + all_dues layout)
+    steps =
+        are.steps ∙ ap (λ (x : Network). net_left x) are.opens.is ∙ left-is (fed_flow fed) opening kept layout own.1.0
+        ∙ ap (λ (m : Marking). left layout (counts_of layout m)) own.1.1.1
+        ∙ opening-left layout (can-run (fed_flow fed) opening kept layout own.1.0) 0 (omega arith)
+        ∙ ap (λ k. k * (2 * length layout.links + length layout.turns + all_dues layout)) (let e : layout.end - 0 ≡ n = omega (arith, own.1.1.0.laid.end) in e)
+
+    rows : run.rows ≡ a.rows
+    rows =
+        once design.circuit design.order fed.trace.columns n run.rows a.rows is.case.designed.ordered
+        (subst (λ (d : Ordered). IsRun d.circuit fed.trace.columns n run.rows) same run.given.run) own.1.1.0.run
+
+    folds : FoldsRows design.circuit a.rows n sums.fold
+    folds =
+        subst (λ (r : List (List ℕ)). FoldsRows design.circuit r n sums.fold) rows
+        (subst (λ (d : Ordered). FoldsRows d.circuit run.rows n sums.fold) same are.folds)
+
+    text : sums_text seed size sums ≡ setting_summary seed size a
+    text =
+        let f = subst (λ k. FoldsRows design.circuit a.rows k sums.fold) whole folds in
+        let lt : 0 < 4 * size = omega (arith, some) in
+        summary-of seed size (length layout.turns) (length layout.links) (n * (2 * length layout.links + length layout.turns + all_dues layout))
+        (output_column design.circuit a.rows 0) (output_column design.circuit a.rows 1) sums machines channels steps (f.last_y lt) (f.last_z lt) f.all_y f.all_z
+
+    -- the text for these sums is the summary of the demo, and there is no other
+    pub sums-only : IsOnly (IsDemoText seed size) (sums_text seed size sums)
+    sums-only =
+        let x : IsSetting circuit partition trace demo_capacity a = record { means = is.case.means; cuts = is.case.cuts; feeds = is.feeds.feeds; run = own.1.1.0.run; laid = own.1.1.0.laid } in
+        record {
+          is = (a, x, text);
+          only = λ other told.
+              let b = told.0 in
+              let y = told.1.0 in
+              told.1.1
+              ∙ summary-same seed size b a (flats circuit b.design.circuit design.circuit y.means.means is.case.means.means)
+              (rows-same flats once circuit partition trace demo_capacity design.circuit design.order is.case.designed.ordered is.case.means.means n fed.trace.columns a.rows own.1.1.0.run is.feeds b y)
+              (cycles-same agree circuit partition trace demo_capacity b a y x) (layouts-same agree circuit partition trace demo_capacity b a y x)
+              ∙ sym text;
+        }
+
+-- ---- how a demo ends
+
+-- the summary was printed, or writing stopped, or memory ran out
+pub demo-ends : {T : Type 0} {loads : Loads} {out : Puts} {IsText : List ℕ → Type 0} {r : Result T Ending} → PrintsOrStops out (IsOnly IsText) (λ said. ⊥) r → EndedOn loads out (Write IsText) r
+demo-ends {r = r} (PrintsText text only prints) = only-ends r (text, only, prints)
+demo-ends (Stops (Refused said) ends says none) = absurd says
+demo-ends (Stops Unwritten ends says none) = absurd says
+demo-ends (Stops NoMemory ends says none) = wants-ends none ends
+demo-ends (Wants ends none) = wants-ends none ends

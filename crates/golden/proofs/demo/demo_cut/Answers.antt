@@ -1,0 +1,17 @@
+use Rattle.std.proofs.Common.{◌∙◌, ℕ, List, subst, sym}
+use Rattle.gg_cut.specs.Plan.{IsPlan}
+use Rattle.gg_demo.specs.PartitionText.{demo_partition}
+use Rattle.gg_partfile.specs.Partition.{IsPartition}
+use Rattle.gg_partfile.specs.declared.request.Request.{Request}
+use Rattle.golden.specs.Demo.{demo_capacity}
+use Rattle.golden.specs.Partition.{Cuts}
+use Rattle.golden.proofs.demo.demo_cut.Goals as goal
+
+pub returns-clause-cuts : goal.returns-clause-cuts
+returns-clause-cuts c =
+    let text = demo_partition c.args.size in
+    let asks : IsPartition text c.in_ok-request.request = subst (λ (b : List ℕ). IsPartition b c.in_ok-request.request) (c.as_bytes.ensures ∙ c.in_ok-text.ensures) c.in_ok-request.ensures.asks in
+    subst (λ (r : Request). Cuts c.args.design.now text r) (sym c.in_ok-cut.ensures.request) (record { asks = asks; faultless = c.in_ok-cut.ensures.faultless })
+
+pub returns-clause-planned : goal.returns-clause-planned
+returns-clause-planned c = subst (λ (r : Request). IsPlan c.args.design.now r demo_capacity c.in_ok-cut.cut.plan) (sym c.in_ok-cut.ensures.request) c.in_ok-cut.ensures.planned

@@ -1,0 +1,6 @@
+use Rattle.golden.specs.Replayed.{fed_flow}
+use Rattle.golden.proofs.windows.print_fed.Given as goal
+
+-- what the plan's network computes on the trace
+abbrev pub ghosts-print_net : goal.ghosts-print_net
+ghosts-print_net g a = record { flow = fed_flow a.fed.now }

@@ -1,0 +1,154 @@
+//! The command `demo`.
+ghost use Rattle.std.specs.Prelude.{◌≡◌, ◌≤◌, ◌<◌, IfOk, length, true};
+ghost use Rattle.gg_cut.specs.Plan.{IsPlan};
+ghost use Rattle.gg_demo.specs.CircuitText.{demo_circuit};
+ghost use Rattle.gg_demo.specs.PartitionText.{demo_partition};
+ghost use Rattle.gg_demo.specs.TraceText.{demo_cycles, demo_trace};
+ghost use Rattle.gg_front.specs.Meaning.{MeansDesign};
+ghost use Rattle.gg_moved.specs.KeepsToTree.{KeepsToTree};
+ghost use Rattle.gg_told.specs.Ends.{puts_of};
+ghost use Rattle.gg_told.specs.Endings.{PrintsOrStops};
+ghost use Rattle.gg_told.specs.Order.{IsOnly};
+ghost use Rattle.gg_told.specs.WentOn.{SinkWentOn};
+ghost use Rattle.golden.specs.Case.{IsFed};
+ghost use Rattle.golden.specs.Demo.{IsDemoText, demo_capacity};
+ghost use Rattle.golden.specs.Partition.{Cuts};
+
+use crate::case::{Case, Fed};
+use crate::limits::PARTITION_LIMIT;
+use crate::partition::{Cut, cut_request, request_of};
+use crate::reading::inputs_of;
+use gg_demo::{circuit_text, partition_text, trace_text};
+use gg_flat::run_once;
+use gg_front::{front, one_meaning};
+use gg_io::{Gate, Sink};
+use gg_order::Design;
+use gg_summed::{put_summary, sum_net};
+use gg_told::Ending;
+use std::alloc::Global;
+use std::marker::Brand;
+use std::thread::Threads;
+
+// The capacity of the channels that the partition doesn't name.
+const CAPACITY: u32 = 2;
+
+// The design of a demo's circuit. An error says nothing: the texts of demos have no faults, but that isn't proved.
+fn demo_design(alloc: Global, size: u32) -> Result<Design, Ending>
+    requires { 0 < size }
+    ensures means { IfOk result (MeansDesign (demo_circuit size)) }
+    ensures keeps { IfOk result (λ design. KeepsToTree design.circuit design.tree) }
+{
+    let text = circuit_text(alloc, size)?;
+    match front(alloc, text.as_bytes()) {
+        Ok(design) => Ok(design),
+        Err(_) => Err(Ending::NoMemory),
+    }
+}
+
+// The cut of a demo's partition.
+fn demo_cut(alloc: Global, size: u32, design: &Design) -> Result<Cut, Ending>
+    requires most { size ≤ 64 }
+    requires keeps { KeepsToTree design.now.circuit design.now.tree }
+    ensures cuts { IfOk result (λ cut. Cuts design.now (demo_partition size) cut.request) }
+    ensures planned { IfOk result (λ cut. IsPlan design.now cut.request demo_capacity cut.plan) }
+{
+    let text = partition_text(alloc, size)?;
+    let bytes = text.as_bytes();
+    if bytes.len() as u64 > PARTITION_LIMIT {
+        return Err(Ending::NoMemory);
+    }
+    let request = request_of(alloc, bytes)?;
+    let cut = cut_request(alloc, design, request, CAPACITY)?;
+    Ok(cut)
+}
+
+// What the three texts of a demo mean. An error says nothing, as above.
+fn demo_fed(alloc: Global, seed: u32, size: u32) -> Result<Fed, Ending>
+    requires some { 0 < size }
+    requires most { size ≤ 64 }
+    ensures { IfOk result (IsFed (demo_circuit size) (demo_partition size) (demo_trace seed size) demo_capacity) }
+{
+    let design = demo_design(alloc, size)?;
+    let cut = demo_cut(alloc, size, &design)?;
+    let text = trace_text(alloc, seed, size)?;
+    let trace = inputs_of(alloc, text.as_bytes(), &design)?;
+    // for the design's invariant, and the limit on the rows
+    let _ = design.order();
+    let _ = design.piece();
+    let _ = trace.rows();
+    Ok(Fed {
+        case: Case { design, cut },
+        trace,
+    })
+}
+
+// Whether the circuit has two out-signals, and the trace the rows of a demo.
+fn is_whole(fed: &Fed, size: u32) -> bool
+    ensures { result ≡ true → (2 ≤ length fed.now.case.design.circuit.outs) × (fed.now.trace.rows ≡ demo_cycles size) }
+{
+    let piece = fed.case.design.piece();
+    piece.outs().len() >= 2 && fed.trace.rows() == 4 * u64::from(size)
+}
+
+// Runs the network of a demo, and writes the summary.
+fn print_demo<R: Threads + Sync, K: Sink, G: Gate + Sync>(
+    rt: &R,
+    alloc: Global,
+    fed: &Fed,
+    seed: u32,
+    size: u32,
+    workers: u32,
+    out: &mut K,
+    gate: &G,
+) -> Result<(), Ending>
+    requires few { workers ≤ 64 }
+    requires some { 0 < size }
+    requires fed { IsFed (demo_circuit size) (demo_partition size) (demo_trace seed size) demo_capacity fed.now }
+    ensures ended { PrintsOrStops (puts_of K.Sink out.old out.new) (IsOnly (IsDemoText seed size)) (λ said. ⊥) result }
+    ensures out { SinkWentOn K.Sink out.old out.new }
+{
+    one_meaning();
+    run_once();
+    if !is_whole(fed, size) {
+        return Err(Ending::NoMemory);
+    }
+    let case = &fed.case;
+    let sums = sum_net::<R, Brand, G>(
+        rt,
+        alloc,
+        &case.design,
+        &case.cut.plan,
+        &fed.trace,
+        workers,
+        gate,
+    )?;
+    put_summary(alloc, seed, size, &sums, out)
+}
+
+/// `demo`: makes a circuit, a partition and a trace from a seed and a number of stages, runs their network by this many
+/// workers and then by steps in the fixed order, and writes the summary.
+///
+/// # Errors
+///
+/// Returns `Unwritten` if a put fails, and `NoMemory` if an allocation fails. It would also return `NoMemory` if the texts
+/// were refused, which they never are; that is tested, not proved.
+pub(crate) fn demo<R: Threads + Sync, K: Sink, G: Gate + Sync>(
+    rt: &R,
+    alloc: Global,
+    seed: u32,
+    size: u32,
+    workers: u32,
+    out: &mut K,
+    gate: &G,
+) -> Result<(), Ending>
+    requires few { workers ≤ 64 }
+    requires some { 0 < size }
+    requires most { size ≤ 64 }
+    ensures ended { PrintsOrStops (puts_of K.Sink out.old out.new) (IsOnly (IsDemoText seed size)) (λ said. ⊥) result }
+    ensures out { SinkWentOn K.Sink out.old out.new }
+{
+    match demo_fed(alloc, seed, size) {
+        Ok(fed) => print_demo(rt, alloc, &fed, seed, size, workers, out, gate),
+        Err(_) => Err(Ending::NoMemory),
+    }
+}
