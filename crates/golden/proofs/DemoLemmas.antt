@@ -131,22 +131,22 @@ module _ (seed size : ℕ) (fed : Fed) (is : IsFed (demo_circuit size) (demo_par
 
     machines : sums.machines ≡ length layout.turns
     machines =
-        are.machines ∙ ap (λ (x : Network). length x.machines) are.opens.is ∙ sym (length-map are.opens.machines kind_of) ∙ sym own.1.0.machines
+        are.machines ∙ ap (λ (x : Network). length x.machines) are.opens.is ∙ sym (length-map are.opens.machines kind_of) ∙ sym own.1.machines
 
     channels : sums.channels ≡ length layout.links
-    channels = are.channels ∙ ap (λ (x : Network). length x.wires) are.opens.is ∙ sym own.1.0.channels
+    channels = are.channels ∙ ap (λ (x : Network). length x.wires) are.opens.is ∙ sym own.1.channels
 
     steps : sums.steps ≡ n * (2 * length layout.links + length layout.turns + all_dues layout)
     steps =
-        are.steps ∙ ap (λ (x : Network). net_left x) are.opens.is ∙ left-is (fed_flow fed) opening kept layout own.1.0
-        ∙ ap (λ (m : Marking). left layout (counts_of layout m)) own.1.1.1
-        ∙ opening-left layout (can-run (fed_flow fed) opening kept layout own.1.0) 0 (omega arith)
-        ∙ ap (λ k. k * (2 * length layout.links + length layout.turns + all_dues layout)) (let e : layout.end - 0 ≡ n = omega (arith, own.1.1.0.laid.end) in e)
+        are.steps ∙ ap (λ (x : Network). net_left x) are.opens.is ∙ left-is (fed_flow fed) opening kept layout own.1
+        ∙ ap (λ (m : Marking). left layout (counts_of layout m)) own.3
+        ∙ opening-left layout (can-run (fed_flow fed) opening kept layout own.1) 0 (omega arith)
+        ∙ ap (λ k. k * (2 * length layout.links + length layout.turns + all_dues layout)) (let e : layout.end - 0 ≡ n = omega (arith, own.2.laid.end) in e)
 
     rows : run.rows ≡ a.rows
     rows =
         once design.circuit design.order fed.trace.columns n run.rows a.rows is.case.designed.ordered
-        (subst (λ (d : Ordered). IsRun d.circuit fed.trace.columns n run.rows) same run.given.run) own.1.1.0.run
+        (subst (λ (d : Ordered). IsRun d.circuit fed.trace.columns n run.rows) same run.given.run) own.2.run
 
     folds : FoldsRows design.circuit a.rows n sums.fold
     folds =
@@ -163,15 +163,15 @@ module _ (seed size : ℕ) (fed : Fed) (is : IsFed (demo_circuit size) (demo_par
     -- the text for these sums is the summary of the demo, and there is no other
     pub sums-only : IsOnly (IsDemoText seed size) (sums_text seed size sums)
     sums-only =
-        let x : IsSetting circuit partition trace demo_capacity a = record { means = is.case.means; cuts = is.case.cuts; feeds = is.feeds.feeds; run = own.1.1.0.run; laid = own.1.1.0.laid } in
+        let x : IsSetting circuit partition trace demo_capacity a = record { means = is.case.means; cuts = is.case.cuts; feeds = is.feeds.feeds; run = own.2.run; laid = own.2.laid } in
         record {
           is = (a, x, text);
           only = λ other told.
               let b = told.0 in
-              let y = told.1.0 in
-              told.1.1
+              let y = told.1 in
+              told.2
               ∙ summary-same seed size b a (flats circuit b.design.circuit design.circuit y.means.means is.case.means.means)
-              (rows-same flats once circuit partition trace demo_capacity design.circuit design.order is.case.designed.ordered is.case.means.means n fed.trace.columns a.rows own.1.1.0.run is.feeds b y)
+              (rows-same flats once circuit partition trace demo_capacity design.circuit design.order is.case.designed.ordered is.case.means.means n fed.trace.columns a.rows own.2.run is.feeds b y)
               (cycles-same agree circuit partition trace demo_capacity b a y x) (layouts-same agree circuit partition trace demo_capacity b a y x)
               ∙ sym text;
         }

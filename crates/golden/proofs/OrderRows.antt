@@ -4,7 +4,7 @@ use Rattle.gg_words.specs.declared.command.Cmd.TheVariants.{Check, Demo}
 use Rattle.golden.specs.Commands.{asked_by, asking, trace_of}
 
 -- a demo has no files
-pub demo-has-none : asked_by (Demo 0 1 0) ≡ None
+demo-has-none : asked_by (Demo 0 1 0) ≡ None
 demo-has-none = refl
 
 demo-has-no-trace : trace_of (Demo 0 1 0) ≡ None

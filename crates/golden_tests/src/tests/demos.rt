@@ -54,7 +54,7 @@ fn demos_print_their_summaries(rt: HostRuntime) -> Result<(), Fail> {
 
 // Whether the demo of each size is done, with the same text without workers and with two.
 fn sizes_are_done<R: Threads + Sync>(rt: &R, alloc: Global) -> Result<bool, AllocError> {
-    for size in 1..=64u32 {
+    for size in 1..65u32 {
         let line = format!(in alloc; "golden demo 5 {size}")?;
         let alone = ask_alone(rt, alloc, line.as_str())?;
         let line = format!(in alloc; "golden demo 5 {size} --workers 2")?;

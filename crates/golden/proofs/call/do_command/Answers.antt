@@ -20,7 +20,7 @@ check-requires g c = subst AreInRange c.in-Check.is (c.numbers_are_in_range.ensu
 pub demo-requires : goal.demo-requires
 demo-requires g c =
     let range = subst AreInRange c.in-Demo.is (c.numbers_are_in_range.ensures c.requires.0 c.args.cmd.now c.requires.1) in
-    record { few = range.1.1.1; some = range.1.0.0; most = range.1.0.1 }
+    record { few = range.2.1; some = range.1.0; most = range.1.1 }
 
 pub returns-in-Run-clause-ended : goal.returns-in-Run-clause-ended
 returns-in-Run-clause-ended g c = λ words asks.

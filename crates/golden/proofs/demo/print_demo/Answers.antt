@@ -17,5 +17,5 @@ returns-clause-ended g c =
     let sums = c.in_ok-sums.ensures in
     PrintsText _
     (sums-only c.args.seed c.args.size c.args.fed.now c.requires.fed (designs-agree d.flat d.tree) d.flat c.run_once.ensures.opening c.requires.some
-    (c.is_whole.ensures (grind (arith, c.if-not-is_whole.false))).1 c.in_ok-sums.sums sums.0 sums.1.0 sums.1.1)
+    (c.is_whole.ensures (grind (arith, c.if-not-is_whole.false))).1 c.in_ok-sums.sums sums.0 sums.1 sums.2)
     c.put_summary.ensures.prints

@@ -8,8 +8,8 @@ pub read_trace-requires : goal.read_trace-requires
 read_trace-requires c =
     ports-distinct c.args.design.now.circuit _ (ports-are _ _ _ c.in_ok-ports.ensures c.piece-piece.ensures.circuit) c.piece-piece.ensures.formed
 
-pub returns-in-Err-clause-refused : goal.returns-in-Err-clause-refused
-returns-in-Err-clause-refused c =
+pub returns-clause-refused : goal.returns-clause-refused
+returns-clause-refused c =
     let e : c.in_ok-ports.ports ≡ in_ports c.args.design.now.circuit = ports-are _ _ _ c.in_ok-ports.ensures c.piece-piece.ensures.circuit in
     IfRefused-map
     (λ said h. (c.in-Err.fault, fault-of c.args.design.now.circuit c.in_ok-ports.ports c.args.bytes.now c.args.bytes.now c.in-Err.fault e refl h.0 c.in-Err.ensures.fault, h.1))
