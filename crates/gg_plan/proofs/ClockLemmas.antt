@@ -1,5 +1,5 @@
 -- Registers and memories with the clocks of others.
-use Rattle.std.proofs.Common.{◌≡◌, ℕ, List, [], ◌∷◌, length, map, Option, refl, sym, ap, ap₂, ◌∙◌, get_or, arith}
+use Rattle.std.proofs.Common.{◌≡◌, ℕ, List, [], ◌∷◌, length, map, refl, sym, ap, ap₂, ◌∙◌, get_or, arith}
 use Rattle.std.specs.List.{zip}
 use Rattle.std.proofs.lemmas.List.{length-map}
 use Rattle.gg_flat.specs.declared.memory.Memory.{Memory}
@@ -8,7 +8,7 @@ use Rattle.gg_flat.specs.declared.memory.Writer.{Writer}
 use Rattle.gg_flat.specs.declared.piece.Register.{Register}
 use Rattle.gg_moved.specs.Moved.{unclocked_register, unclocked_reader, unclocked_writer, unclocked_memory}
 use Rattle.gg_part.specs.Part.{renamed_register, renamed_reader, renamed_writer, renamed_memory}
-use Rattle.gg_plan.specs.MovedPart.{clocked_register, clocked_reader, clocked_writer, clocked_readers, clocked_writers, clocked_memory}
+use Rattle.gg_plan.specs.MovedPart.{clocked_register, clocked_reader, clocked_writer, clocked_memory}
 
 -- ---- lists of which one is the other but for clocks
 

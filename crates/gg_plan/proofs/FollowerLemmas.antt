@@ -16,7 +16,7 @@ use Rattle.gg_cut.specs.Machines.{first_source}
 use Rattle.gg_cut.specs.Plan.{channels_to, channels_from, signals_of, givens_of, IsCutPart}
 use Rattle.gg_duplicates.specs.Again.{IsUnitAgain, again_at, cut_wires, unit_first}
 use Rattle.gg_split.specs.Share.{IsShareOf}
-use Rattle.gg_plan.specs.MovedPart.{IsMovedPiece, IsMovedPart, IsFollower, HoldAgain}
+use Rattle.gg_plan.specs.MovedPart.{IsMovedPiece, IsFollower, HoldAgain}
 use Rattle.gg_plan.proofs.MovedUnitLemmas.{behind-first, counterparts-once, hold-again, registers-within, memories-within, counterparts-within, givens-known, banks-again}
 use Rattle.gg_plan.proofs.MovedPartLemmas.{moved-part, moved-alike}
 

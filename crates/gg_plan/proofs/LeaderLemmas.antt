@@ -1,5 +1,5 @@
 -- The first machine of a host is its own first machine, and machines with one host have one first machine.
-use Rattle.std.proofs.Common.{◌≡◌, ◌≢◌, ℕ, zero, suc, ◌+◌, ◌-◌, ◌<◌, ◌≤◌, List, [], ◌∷◌, ◌++◌, length, get_or, Bool, true, false, true≢false, refl, sym, ◌∙◌, ap, subst, Some, None, inl, inr, ◌⊎◌, eq-eqb, arith}
+use Rattle.std.proofs.Common.{◌≡◌, ℕ, zero, suc, ◌+◌, ◌-◌, ◌<◌, ◌≤◌, List, [], ◌∷◌, ◌++◌, length, get_or, Bool, true, false, true≢false, refl, sym, ◌∙◌, ap, subst, Some, None, inl, inr, ◌⊎◌, eq-eqb, arith}
 use Rattle.std.specs.Prelude.{Option, Contains, filter, find, not, ◌==◌, if◌then◌else◌}
 use Rattle.std.specs.List.{list_any, range_with_len}
 use Rattle.std.proofs.lemmas.Bool.{cases_lt}
@@ -16,7 +16,7 @@ use Rattle.gg_cut.specs.Listed.{is_among, listed_of}
 use Rattle.gg_cut.proofs.FindLemmas.{first_clash-append, none-at, none-front, none-map}
 use Rattle.gg_cut.proofs.RangeLemmas.{filter-more}
 use Rattle.gg_duplicates.proofs.GroupLemmas.{HasUnit, has-unit, unit-tested, least-in, fresh, unit-one, either-none, entries-in, entry-known, find-some}
-use Rattle.gg_plan.proofs.HostLemmas.{leader-cons, leader-below, least-member, least-below}
+use Rattle.gg_plan.proofs.HostLemmas.{leader-cons, least-member, least-below}
 
 -- ---- first machines
 

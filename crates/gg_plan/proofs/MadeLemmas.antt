@@ -1,5 +1,5 @@
 -- Items that are made one by one, and the places of numbers in a list.
-use Rattle.std.proofs.Common.{◌≡◌, ℕ, ◌+◌, ◌<◌, ◌≤◌, List, [], ◌∷◌, ◌++◌, length, map, take, get_or, sym, ◌∙◌, ap, ap₂, subst, below_more, arith}
+use Rattle.std.proofs.Common.{◌≡◌, ℕ, ◌+◌, ◌<◌, List, [], ◌∷◌, ◌++◌, length, map, take, get_or, sym, ◌∙◌, ap, ap₂, subst, below_more, arith}
 use Rattle.std.specs.Prelude.{All, Contains, min}
 use Rattle.std.specs.List.{zip}
 use Rattle.std.proofs.lemmas.List.{get_or_push, get_or_append_left, length_push, map_more, take_all, get_or-map, length-map, same_lists, get_or_default}

@@ -1,10 +1,8 @@
 -- The moved part of a unit is the part of another unit of its host, and the two pieces are alike.
-use Rattle.std.proofs.Common.{◌≡◌, ◌≢◌, ℕ, zero, suc, ◌<◌, List, [], ◌∷◌, length, map, get_or, refl, sym, ◌∙◌, ap, ap₂, subst, inl, inr, ◌⊎◌, arith}
+use Rattle.std.proofs.Common.{◌≡◌, ℕ, zero, suc, ◌<◌, List, [], ◌∷◌, length, map, get_or, refl, sym, ◌∙◌, ap, subst, inl, inr, arith}
 use Rattle.std.specs.Prelude.{◌↔◌, All, AllPairs, Contains}
-use Rattle.std.specs.List.{zip}
 use Rattle.std.proofs.lemmas.List.{length-map, get_or-map, same_lists}
 use Rattle.std.proofs.lemmas.List.Elements.{Contains-get_or}
-use Rattle.std.proofs.lemmas.Simd.{map-map}
 use Rattle.gg_bits.specs.Shape.{shape}
 use Rattle.gg_flat.specs.declared.memory.Memory.{Memory}
 use Rattle.gg_flat.specs.declared.memory.Reader.{Reader}
@@ -16,23 +14,23 @@ use Rattle.gg_flat.specs.declared.piece.Signal.{Signal}
 use Rattle.gg_flat.specs.Circuit.{FlatCircuit, signal_shapes, driver_at, readers_at, reader_at}
 use Rattle.gg_flat.specs.Line.{shape_at, value_at}
 use Rattle.gg_flat.specs.Memory.{WritesAmong}
-use Rattle.gg_flat.specs.Reads.{Reads, NamesSignal}
+use Rattle.gg_flat.specs.Reads.{NamesSignal}
 use Rattle.gg_flat.proofs.ListLemmas.{some-item, once-apart, Contains-map}
 use Rattle.gg_moved.specs.Moved.{moved_driver, unclocked_register, unclocked_memory}
 use Rattle.gg_moved.proofs.MovedLemmas.{from-moved}
 use Rattle.gg_order.specs.Design.{Ordered}
 use Rattle.gg_part.specs.declared.part.Part.{Part}
-use Rattle.gg_part.specs.Building.{Holds, IsHeldIn, AreHeld}
+use Rattle.gg_part.specs.Building.{Holds, AreHeld}
 use Rattle.gg_part.specs.InOrder.{IsInOrder}
 use Rattle.gg_part.specs.Part.{IsPart, IsFrom, IsRegisterFrom, IsMemoryFrom, ReadsAmong, RegisterBelow, MemoryBelow, renamed_register, renamed_memory}
 use Rattle.gg_cut.specs.declared.listed.Listed.{Listed}
 use Rattle.gg_cut.specs.Alike.{IsAlike}
 use Rattle.gg_cut.specs.Machines.{first_source}
-use Rattle.gg_cut.specs.Plan.{channels_to, channels_from, signals_of, givens_of, Makes, Takes, HasMemory, IsCutPart}
+use Rattle.gg_cut.specs.Plan.{channels_to, channels_from, signals_of, givens_of, Takes, HasMemory, IsCutPart}
 use Rattle.gg_closed.proofs.ListLemmas.{map-cases}
 use Rattle.gg_duplicates.specs.Again.{IsUnitAgain, HasSignal, again_at, cut_wires}
 use Rattle.gg_split.specs.Share.{IsShareOf}
-use Rattle.gg_plan.specs.MovedPart.{AreMade, IsMovedPiece, IsMovedPart, clocked_register, clocked_memory, clocked_reader, clocked_readers, clocked_writer, clocked_writers, register_there, memory_there}
+use Rattle.gg_plan.specs.MovedPart.{AreMade, IsMovedPiece, IsMovedPart, clocked_register, clocked_memory, clocked_readers, clocked_writers, register_there, memory_there}
 use Rattle.gg_plan.proofs.ClockLemmas.{register-clocked, memory-clocked, memory-free}
 use Rattle.gg_plan.proofs.MovedUnitLemmas.{among-has, counterpart-one, counterparts-once, counterpart-driver, registers-within, register-there, memories-within, memory-there, counterparts-within, counterpart-of}
 

@@ -1,12 +1,12 @@
 -- What a unit has stands again for another unit of its host.
-use Rattle.std.proofs.Common.{◌≡◌, ◌≢◌, ℕ, ◌<◌, ◌≤◌, List, length, map, get_or, sym, ◌∙◌, ap, subst, inl, inr, ◌⊎◌, arith}
+use Rattle.std.proofs.Common.{◌≡◌, ◌≢◌, ℕ, ◌<◌, ◌≤◌, List, length, map, get_or, sym, ◌∙◌, ap, subst, inl, inr, arith}
 use Rattle.std.specs.Prelude.{All, AllPairs, Contains}
 use Rattle.std.proofs.lemmas.List.{length-map, get_or-map}
 use Rattle.std.proofs.lemmas.List.Elements.{Contains-get_or}
 use Rattle.gg_flat.specs.declared.memory.Memory.{Memory}
 use Rattle.gg_flat.specs.declared.piece.Driver.TheVariants.{Input, Held}
 use Rattle.gg_flat.specs.declared.piece.Register.{Register}
-use Rattle.gg_flat.specs.Circuit.{FlatCircuit, driver_at}
+use Rattle.gg_flat.specs.Circuit.{driver_at}
 use Rattle.gg_flat.specs.Line.{value_at}
 use Rattle.gg_flat.proofs.ListLemmas.{some-item, once-apart, Contains-map}
 use Rattle.gg_moved.specs.Moved.{moved_driver, moved_register, moved_memory, unclocked_register, unclocked_memory}
@@ -16,9 +16,8 @@ use Rattle.gg_part.specs.declared.part.Part.{Part}
 use Rattle.gg_part.specs.Building.{Holds}
 use Rattle.gg_part.specs.Part.{IsFrom, renamed_register, renamed_memory}
 use Rattle.gg_cut.specs.declared.listed.Listed.{Listed}
-use Rattle.gg_cut.specs.declared.wires.Wire.{Wire}
 use Rattle.gg_cut.specs.Machines.{first_source}
-use Rattle.gg_cut.specs.Plan.{channels_to, channels_from, signals_of, givens_of, Makes, Takes, HasMemory, IsCutPart}
+use Rattle.gg_cut.specs.Plan.{channels_to, channels_from, signals_of, givens_of, Makes, HasMemory, IsCutPart}
 use Rattle.gg_closed.proofs.ListLemmas.{map-cases, AllPairs-map}
 use Rattle.gg_duplicates.specs.Again.{IsUnitAgain, HasSignal, again_at, cut_wires, unit_first}
 use Rattle.gg_split.specs.Share.{IsShareOf}

@@ -1,5 +1,5 @@
 -- The registers of a part, and those that stand for them in another unit.
-use Rattle.std.proofs.Common.{◌≡◌, ◌≢◌, ℕ, ◌+◌, ◌<◌, List, length, map, get_or, set, refl, sym, ◌∙◌, ap, subst, inl, inr, ◌⊎◌, below_more, arith}
+use Rattle.std.proofs.Common.{◌≡◌, ◌≢◌, ℕ, ◌+◌, ◌<◌, List, length, map, set, refl, sym, ◌∙◌, ap, subst, inl, inr, ◌⊎◌, below_more, arith}
 use Rattle.std.specs.Prelude.{Contains}
 use Rattle.std.proofs.lemmas.Bool.{cases_eq}
 use Rattle.std.proofs.lemmas.List.{get_or-set_same, get_or-set_other, get_or-map, length-map, same_lists, get_or_default}
@@ -75,5 +75,5 @@ module _ (whole : FlatCircuit) (part : Part) (globals : List ℕ) where
         let g : value_at part.globals s ≡ at.signal = get_or_default part.globals s 0 at.signal at.chosen.1 ∙ at.chosen.2 in
         let k = from-held ins same s (value_at part.held r) (λ c. at.holds.inside (subst (Contains ins) g c)) (ap (driver_at whole) g ∙ at.holds.holds) (driver_at part.piece s) refl (is.drivers s at.chosen.1) in
         get_or-map (value_at table) part.held r 0 d lt
-        ∙ ap (value_at table) (sym k.2) ∙ has s k.0 at.chosen.1 k.1 ∙ ap registers k.2
+        ∙ subst (λ x. value_at table x ≡ registers x) {x = value_at part.held k.0} k.2 (has s k.0 at.chosen.1 k.1)
         ∙ sym (get_or-map registers part.held r 0 d lt))

@@ -24,8 +24,8 @@ use gg_part::Part;
 use gg_split::Share;
 use std::alloc::{AllocError, Global};
 
-/// The part of a unit, by its machine's number: that of another unit, `first`, which has the same with other numbers. Its
-/// piece is the other's but for paths, clocks and the order of the out-signals.
+/// The part of a unit, by its machine's number, from the part of the unit with the number `first`, which has the same
+/// with other numbers. The two pieces are one but for paths, clocks and the order of the out-signals.
 ///
 /// # Errors
 ///
@@ -99,7 +99,8 @@ fn moved_numbers(alloc: Global, numbers: &[u32], from: u32, to: u32) -> Result<V
 
 // ---- registers
 
-// For each register of a part the register that stands for it in another unit. `globals` has the signals that stand there for the part's.
+// For each register of a part the one that stands for it in another unit. `globals` has the signals that stand there
+// for the part's.
 fn held_again(
     alloc: Global,
     whole: &Piece,

@@ -1,17 +1,10 @@
-use Rattle.std.proofs.Common.{◌≡◌, ◌≢◌, ◌<◌, List, length, get_or, sym, ◌∙◌, ap, subst, arith}
+use Rattle.std.proofs.Common.{◌<◌, length, sym, ◌∙◌, ap, subst, arith}
 use Rattle.std.specs.Prelude.{All}
-use Rattle.std.proofs.lemmas.List.{get_or_default}
-use Rattle.std.proofs.lemmas.Result.{IfOk-weaker}
 use Rattle.gg_cut.specs.declared.listed.Listed.{Listed}
-use Rattle.gg_cut.specs.declared.plan.Body.{Body}
-use Rattle.gg_cut.specs.declared.plan.Machine.{Machine}
-use Rattle.gg_cut.specs.Alike.{AreAlike}
 use Rattle.gg_cut.specs.Hosts.{leader}
 use Rattle.gg_cut.specs.Machines.{machine_count}
-use Rattle.gg_cut.specs.Plan.{IsBody}
 use Rattle.gg_duplicates.specs.Again.{IsUnitAgain}
 use Rattle.gg_closed.proofs.FaultlessLemmas.{faultless-apart}
-use Rattle.gg_plan.specs.Made.{HasAscending}
 use Rattle.gg_plan.proofs.AlikeLemmas.{own-made}
 use Rattle.gg_plan.proofs.HostLemmas.{leader-below}
 use Rattle.gg_plan.proofs.LeaderLemmas.{leaders-first}

@@ -1,4 +1,4 @@
-use Rattle.std.proofs.Common.{◌≡◌, ◌<◌, ◌+◌, length, set, sym, subst, arith}
+use Rattle.std.proofs.Common.{◌<◌, ◌+◌, length, set, sym, subst, arith}
 use Rattle.gg_flat.specs.Line.{value_at}
 use Rattle.gg_plan.specs.MovedPart.{HasAgain}
 use Rattle.gg_plan.proofs.RegisterLemmas.{again-put, again-left, register-listed}
