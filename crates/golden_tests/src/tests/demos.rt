@@ -59,7 +59,10 @@ fn sizes_are_done<R: Threads + Sync>(rt: &R, alloc: Global) -> Result<bool, Allo
         let alone = ask_alone(rt, alloc, line.as_str())?;
         let line = format!(in alloc; "golden demo 5 {size} --workers 2")?;
         let worked = ask_alone(rt, alloc, line.as_str())?;
-        if alone.status != 0 || worked.status != 0 || alone.out.as_slice() != worked.out.as_slice() {
+        if alone.status != 0
+            || worked.status != 0
+            || alone.out.as_slice() != worked.out.as_slice()
+        {
             return Ok(false);
         }
     }
@@ -74,7 +77,12 @@ fn demos_of_all_sizes(rt: HostRuntime) -> Result<(), Fail> {
 
 // The demo of the smallest size, where the second put on `out` takes three bytes and fails.
 fn cut_off<R: Threads + Sync>(rt: &R, alloc: Global) -> Result<Answer, AllocError> {
-    let puts = vec![in alloc; FailingPut { number: 1, takes: 3 }]?;
+    let puts = vec![in alloc;
+        FailingPut {
+            number: 1,
+            takes: 3
+        },
+    ]?;
     call(
         rt,
         alloc,

@@ -10,7 +10,7 @@ use Rattle.golden.proofs.demo.demo_cut.Goals as goal
 pub returns-clause-cuts : goal.returns-clause-cuts
 returns-clause-cuts c =
     let text = demo_partition c.args.size in
-    let asks : IsPartition text c.in_ok-request.request = subst (λ (b : List ℕ). IsPartition b c.in_ok-request.request) (c.as_bytes.ensures ∙ c.in_ok-text.ensures) c.in_ok-request.ensures.asks in
+    let asks : IsPartition text c.in_ok-request.request = subst (λ (b : List ℕ). IsPartition b c.in_ok-request.request) (c.as_bytes-bytes.ensures.value ∙ c.in_ok-text.ensures) c.in_ok-request.ensures.asks in
     subst (λ (r : Request). Cuts c.args.design.now text r) (sym c.in_ok-cut.ensures.request) (record { asks = asks; faultless = c.in_ok-cut.ensures.faultless })
 
 pub returns-clause-planned : goal.returns-clause-planned

@@ -14,7 +14,7 @@ returns c =
         bounded = (omega arith, omega arith);
         planned = c.in_ok-cut.ensures.planned;
       };
-      feeds = subst (λ (b : List ℕ). FeedsOnly c.in_ok-design.design.circuit b trace.rows trace.columns) (c.as_bytes.ensures ∙ c.in_ok-text.ensures) c.in_ok-trace.ensures.accepted;
+      feeds = subst (λ (b : List ℕ). FeedsOnly c.in_ok-design.design.circuit b trace.rows trace.columns) (c.as_bytes.ensures.value ∙ c.in_ok-text.ensures) c.in_ok-trace.ensures.accepted;
       most = omega (arith, c.rows.ensures.limit, c.rows.ensures.count);
       columns = c.in_ok-trace.ensures.fed;
     }
