@@ -6,10 +6,11 @@ use Rattle.golden.proofs.CallLemmas.{asked-ends}
 use Rattle.golden.proofs.DemoLemmas.{demo-ends}
 use Rattle.golden.proofs.call.do_command.Goals as goal
 
-pub run-requires : goal.run-requires
-run-requires g c =
-    let ranges = subst AreInRange c.in-Run.is (c.numbers_are_in_range.ensures c.requires.0 c.args.cmd.now c.requires.1) in
-    record { capacity = ranges.0; few = ranges.1.1 }
+pub run-requires-clause-capacity : goal.run-requires-clause-capacity
+run-requires-clause-capacity g c κs within = (subst AreInRange c.in-Run.is (c.numbers_are_in_range.ensures c.requires.0 c.args.cmd.now c.requires.1)).0
+
+pub run-requires-clause-few : goal.run-requires-clause-few
+run-requires-clause-few g c κs within = (subst AreInRange c.in-Run.is (c.numbers_are_in_range.ensures c.requires.0 c.args.cmd.now c.requires.1)).1.1
 
 pub replay-requires : goal.replay-requires
 replay-requires g c = subst AreInRange c.in-Replay.is (c.numbers_are_in_range.ensures c.requires.0 c.args.cmd.now c.requires.1)
@@ -17,10 +18,14 @@ replay-requires g c = subst AreInRange c.in-Replay.is (c.numbers_are_in_range.en
 pub check-requires : goal.check-requires
 check-requires g c = subst AreInRange c.in-Check.is (c.numbers_are_in_range.ensures c.requires.0 c.args.cmd.now c.requires.1)
 
-pub demo-requires : goal.demo-requires
-demo-requires g c =
-    let range = subst AreInRange c.in-Demo.is (c.numbers_are_in_range.ensures c.requires.0 c.args.cmd.now c.requires.1) in
-    record { few = range.2.1; some = range.1.0; most = range.1.1 }
+pub demo-requires-clause-few : goal.demo-requires-clause-few
+demo-requires-clause-few g c κs within = (subst AreInRange c.in-Demo.is (c.numbers_are_in_range.ensures c.requires.0 c.args.cmd.now c.requires.1)).2.1
+
+pub demo-requires-clause-some : goal.demo-requires-clause-some
+demo-requires-clause-some g c κs within = (subst AreInRange c.in-Demo.is (c.numbers_are_in_range.ensures c.requires.0 c.args.cmd.now c.requires.1)).1.0
+
+pub demo-requires-clause-most : goal.demo-requires-clause-most
+demo-requires-clause-most g c κs within = (subst AreInRange c.in-Demo.is (c.numbers_are_in_range.ensures c.requires.0 c.args.cmd.now c.requires.1)).1.1
 
 pub returns-in-Run-clause-ended : goal.returns-in-Run-clause-ended
 returns-in-Run-clause-ended g c = λ words asks.

@@ -9,7 +9,7 @@ use Rattle.golden.proofs.TextLemmas.{only-text}
 use Rattle.golden.proofs.run.run.Goals as goal
 
 pub print_text-requires-clause-fed : goal.print_text-requires-clause-fed
-print_text-requires-clause-fed g c = let read = c.in_ok-fed.ensures.read in (read.read.circuit, read.read.partition, read.bytes, c.args.capacity, read.is)
+print_text-requires-clause-fed g c κs within = let read = c.in_ok-fed.ensures.read in (read.read.circuit, read.read.partition, read.bytes, c.args.capacity, read.is)
 
 pub returns-in_err-fed-clause-ended : goal.returns-in_err-fed-clause-ended
 returns-in_err-fed-clause-ended g c = stopped-ends refl (exit-is c.from_residual.ensures.1) (IfRefused-map (λ said. fed-stops (loads_of g.S.Shelf c.args.shelf.now c.read_fed.new.shelf) (asking c.args.circuit.now c.args.partition.now c.args.capacity) c.args.trace.now (λ b p t. Write (IsTextOf b t))) c.in_err-fed.field-0.0 c.in_err-fed.ensures.refused)
