@@ -15,7 +15,7 @@ ghost use Rattle.golden.specs.Demo.{IsDemoText, demo_capacity};
 ghost use Rattle.golden.specs.Partition.{Cuts};
 
 use crate::case::{Case, Fed};
-use crate::limits::PARTITION_LIMIT;
+use crate::limits::{CIRCUIT_LIMIT, PARTITION_LIMIT};
 use crate::partition::{Cut, cut_request, request_of};
 use crate::reading::inputs_of;
 use gg_demo::{circuit_text, partition_text, trace_text};
@@ -39,7 +39,11 @@ fn demo_design(alloc: Global, size: u32) -> Result<Design, Ending>
     ensures keeps { IfOk result (λ design. KeepsToTree design.circuit design.tree) }
 {
     let text = circuit_text(alloc, size)?;
-    match front(alloc, text.as_bytes()) {
+    let bytes = text.as_bytes();
+    if bytes.len() as u64 > CIRCUIT_LIMIT {
+        return Err(Ending::NoMemory);
+    }
+    match front(alloc, bytes) {
         Ok(design) => Ok(design),
         Err(_) => Err(Ending::NoMemory),
     }

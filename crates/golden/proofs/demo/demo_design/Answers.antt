@@ -1,0 +1,6 @@
+use Rattle.std.proofs.Common.{◌∙◌, ℕ, List, subst}
+use Rattle.gg_front.specs.Meaning.{MeansDesign}
+use Rattle.golden.proofs.demo.demo_design.Goals as goal
+
+pub returns-in-Ok-clause-means : goal.returns-in-Ok-clause-means
+returns-in-Ok-clause-means c = subst (λ (b : List ℕ). MeansDesign b c.in-Ok.design) (c.as_bytes-bytes.ensures.value ∙ c.in_ok-text.ensures) c.in-Ok.ensures.ok
