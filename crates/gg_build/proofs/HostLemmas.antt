@@ -1,37 +1,57 @@
--- Hosts of one machine.
-use Rattle.std.proofs.Common.{◌≡◌, ℕ, ◌-◌, Bool, true, false, ◌&&◌, List, [], ◌∷◌, None, map, slice_get, refl, sym, ap, subst, ◌∙◌}
-use Rattle.std.specs.Prelude.{Option, if◌then◌else◌, nat_le, nat_lt}
+-- Hosts of the machines of a plan.
+use Rattle.std.proofs.Common.{◌≡◌, ℕ, ◌+◌, ◌-◌, ◌<◌, Bool, true, false, ◌&&◌, ◌⊎◌, inl, inr, List, [], ◌∷◌, ◌++◌, None, length, map, get_or, slice_get, refl, sym, ap, subst, ◌∙◌, below_more, arith}
+use Rattle.std.specs.Prelude.{Option, All, if◌then◌else◌, nat_le, nat_lt}
+use Rattle.std.proofs.lemmas.Bool.{cases_eq}
+use Rattle.std.proofs.lemmas.List.{get_or-map, get_or_push, get_or_append_left, length-append, length-map}
 use Rattle.gg_flat.specs.Circuit.{FlatCircuit}
+use Rattle.gg_flat.specs.Line.{value_at}
+use Rattle.gg_flat.specs.WellFormed.{IsWellFormed}
+use Rattle.gg_cut.specs.Alike.{AreAlike, IsAlike, IsLike}
+use Rattle.gg_cut.specs.declared.plan.Body.{Body}
+use Rattle.gg_cut.specs.declared.plan.Body.TheVariants.{Cut, Memory, Source, Tray}
+use Rattle.gg_cut.specs.declared.plan.Machine as planned
 use Rattle.gg_part.specs.declared.part.Part.{Part}
 use Rattle.gg_needs.specs.Needs.{AreNeedsOfOuts}
 use Rattle.gg_program.specs.Programmed.{Programmed}
 use Rattle.gg_node.specs.Machine.{Machine, first_kept, machine_at, no_machine, IsTray, kept_value}
 use Rattle.gg_fame5.specs.Machine.{opening_unit}
 use Rattle.gg_fame5.specs.Lane.{Laned, lane_machine}
-use Rattle.gg_fame5.specs.Shared.{Sharing, machines_of}
+use Rattle.gg_fame5.specs.Shared.{Sharing}
+use Rattle.gg_fame5.specs.Shared as shared
 use Rattle.gg_net.specs.Net.{entry_of}
-use Rattle.gg_sound.specs.Built.{IsUnitOf}
-use Rattle.gg_build.specs.declared.node.Node.TheVariants as node
-use Rattle.gg_build.specs.Hosts.{IsAlone, IsHost}
+use Rattle.gg_net.specs.declared.shape.ServedPort.{ServedPort}
+use Rattle.gg_sound.specs.Built.{IsBuilt, IsUnitOf}
+use Rattle.gg_build.specs.declared.node.Node.{Node}
+use Rattle.gg_build.specs.Groups.{group_at}
+use Rattle.gg_build.specs.Hosts.{IsUnitPart, IsGroup, IsAlone, IsHost, IsHostOf, AreHosts, AreUnits, body_at}
+use Rattle.gg_build.specs.Node.{machines_of}
+
+-- ---- units
+
+-- a piece is like itself
+alike-itself : (piece : FlatCircuit) → IsAlike piece piece
+alike-itself piece = record { signals = refl; registers = refl; memories = refl; ins = refl; outs = λ s. (λ has. has, λ has. has) }
 
 -- the unit of a program is alone on its host
-pub alone-unit : (part : Part) (program : Programmed) (unit : Sharing) → program.circuit ≡ part.piece → AreNeedsOfOuts program.circuit program.needs → machines_of unit ≡ opening_unit program [] ∷ [] → IsAlone (IsUnitOf part) (machines_of unit)
-alone-unit part program unit circuit needs are =
+pub alone-unit : (part : Part) (program : Programmed) (unit : Sharing) → IsUnitPart part → program.circuit ≡ part.piece → AreNeedsOfOuts program.circuit program.needs → shared.machines_of unit ≡ opening_unit program [] ∷ [] → IsAlone (IsUnitOf part) (shared.machines_of unit)
+alone-unit part program unit can circuit needs are =
     record {
       alone = are ∙ ap (λ (m : Machine). m ∷ []) (sym at);
       is = record {
+        circuit = program.circuit;
         needs = program.needs;
+        formed = subst IsWellFormed (sym circuit) can.formed;
+        alike = subst (λ (c : FlatCircuit). IsAlike c part.piece) (sym circuit) (alike-itself part.piece);
+        outs = ap (λ (c : FlatCircuit). c.outs) circuit;
         exact = subst (λ (c : FlatCircuit). AreNeedsOfOuts c program.needs) circuit needs;
-        is = at ∙ ap (λ (c : FlatCircuit). opening_unit (record { circuit = c; needs = program.needs }) []) circuit;
+        is = at;
       };
     }
   where
-    at : machine_at (machines_of unit) 0 ≡ opening_unit program []
+    at : machine_at (shared.machines_of unit) 0 ≡ opening_unit program []
     at = ap (λ (l : List Machine). machine_at l 0) are
 
--- it serves no port
-pub unit-host : (part : Part) (unit : Sharing) → IsAlone (IsUnitOf part) (machines_of unit) → IsHost (IsUnitOf part) (node.Unit unit) []
-unit-host part unit own = record { alone = own.alone; is = own.is; served = ap (λ (m : Machine). map entry_of m.ports) (sym own.is.is) }
+-- ---- trays
 
 -- what is found nowhere isn't kept
 neither : (found : Option ℕ) → found ≡ None → (b : Bool) → None ≡ (if b then found else None)
@@ -39,7 +59,7 @@ neither found e true = sym e
 neither found e false = refl
 
 -- a host of units keeps no values
-pub unit-keeps : (unit : Sharing) (cycle : ℕ) → IsTray (machine_at (machines_of unit) 0).behaviour → None ≡ kept_value (machine_at (machines_of unit) 0) cycle
+pub unit-keeps : (unit : Sharing) (cycle : ℕ) → IsTray (machine_at (shared.machines_of unit) 0).behaviour → None ≡ kept_value (machine_at (shared.machines_of unit) 0) cycle
 unit-keeps unit cycle = by unit.lanes
   where
     nothing : (cycle : ℕ) → None ≡ kept_value no_machine cycle
@@ -48,3 +68,62 @@ unit-keeps unit cycle = by unit.lanes
     by : (lanes : List Laned) → IsTray (machine_at (map (lane_machine unit.program) lanes) 0).behaviour → None ≡ kept_value (machine_at (map (lane_machine unit.program) lanes) 0) cycle
     by [] tray = nothing cycle
     by (lane ∷ lanes) tray = absurd tray
+
+-- ---- ports
+
+-- units serve none
+pub unit-ports : (unit : Sharing) (ports : List ServedPort) → ports ≡ [] → All (λ machine. ports ≡ map entry_of machine.ports) (shared.machines_of unit)
+unit-ports unit ports none = λ i d lt.
+    let low : i < length unit.lanes = omega (arith, lt, length-map unit.lanes (lane_machine unit.program)) in
+    none ∙ sym (ap (λ (m : Machine). map entry_of m.ports) (get_or-map (lane_machine unit.program) unit.lanes i shared.no_lane d low))
+
+-- ---- the host of a group
+
+-- the first machine of a group is like the others, so it is alone if it is no unit
+one-alone : (columns : List (List ℕ)) (machines : List planned.Machine) (group : List ℕ) → IsGroup columns machines group → ((other : Body) → ¬ AreAlike (body_at machines (value_at group 0)) other) → length group ≡ 1
+one-alone columns machines group is none = by (cases_eq (length group) 1)
+  where
+    by : (length group ≡ 1) ⊎ (length group ≡ 1 → ⊥) → length group ≡ 1
+    by (inl one) = one
+    by (inr more) = absurd (none (body_at machines (value_at group 1)) (is.alike 0 1 is.some (omega (arith, is.some, more)) (λ same. absurd (omega (arith, same)))))
+
+module _ (columns : List (List ℕ)) (n : ℕ) (machines : List planned.Machine) (group : List ℕ) (node : Node) where
+  alone-host : (body : Body) → length group ≡ 1 → body_at machines (value_at group 0) ≡ body → IsHost (IsBuilt columns n body) node → IsHostOf columns n machines group node
+  alone-host body one is host =
+      record {
+        count = ap length host.own.alone ∙ sym one;
+        each = λ t lt.
+            let first : 0 ≡ t = omega (arith, lt, one) in
+            subst (λ k. IsBuilt columns n (body_at machines (value_at group k)) (machine_at (machines_of node) k)) first
+            (subst (λ (b : Body). IsBuilt columns n b (machine_at (machines_of node) 0)) (sym is) host.own.is);
+        ports = host.ports;
+      }
+
+  pub memory-hosts : (part : Part) → IsGroup columns machines group → body_at machines (value_at group 0) ≡ Memory part → IsHost (IsBuilt columns n (Memory part)) node → IsHostOf columns n machines group node
+  memory-hosts part can is host = alone-host (Memory part) (one-alone columns machines group can (λ other alike. subst (λ (b : Body). AreAlike b other) is alike)) is host
+
+  pub source-hosts : (place : ℕ) → IsGroup columns machines group → body_at machines (value_at group 0) ≡ Source place → IsHost (IsBuilt columns n (Source place)) node → IsHostOf columns n machines group node
+  source-hosts place can is host = alone-host (Source place) (one-alone columns machines group can (λ other alike. subst (λ (b : Body). AreAlike b other) is alike)) is host
+
+  pub tray-hosts : IsGroup columns machines group → body_at machines (value_at group 0) ≡ Tray → IsHost (IsBuilt columns n Tray) node → IsHostOf columns n machines group node
+  tray-hosts can is host = alone-host Tray (one-alone columns machines group can (λ other alike. subst (λ (b : Body). AreAlike b other) is alike)) is host
+
+-- the units of a group are like the first
+pub group-units : (columns : List (List ℕ)) (machines : List planned.Machine) (group : List ℕ) (part : Part) → IsGroup columns machines group → body_at machines (value_at group 0) ≡ Cut part → AreUnits part.piece machines group
+group-units columns machines group part is first =
+    record { some = is.some; few = is.few; known = is.known; alike = λ t lt. by t lt (cases_eq 0 t) }
+  where
+    by : (t : ℕ) → t < length group → (0 ≡ t) ⊎ (0 ≡ t → ⊥) → IsLike part.piece (body_at machines (value_at group t))
+    by t lt (inl same) = subst (λ k. IsLike part.piece (body_at machines (value_at group k))) same (subst (IsLike part.piece) (sym first) (alike-itself part.piece))
+    by t lt (inr other) = subst (λ (b : Body). AreAlike b (body_at machines (value_at group t))) first (is.alike 0 t is.some lt other)
+
+-- one host more
+pub hosts-more : (columns : List (List ℕ)) (n : ℕ) (machines : List planned.Machine) (members : List (List ℕ)) (count : ℕ) (old new : List Node) (own : Node) → new ≡ old ++ own ∷ [] → AreHosts columns n machines members count old → IsHostOf columns n machines (group_at members count) own → AreHosts columns n machines members (count + 1) new
+hosts-more columns n machines members count old new own is was one =
+    subst (AreHosts columns n machines members (count + 1)) (sym is)
+    (record {
+      total = length-append old (own ∷ []) ∙ ap (λ k. k + 1) was.total;
+      each = λ h any. below_more (λ h. IsHostOf columns n machines (group_at members h) (get_or (old ++ own ∷ []) h any)) count
+          (λ h lt. subst (IsHostOf columns n machines (group_at members h)) (sym (get_or_append_left old (own ∷ []) any h (omega (arith, lt, was.total)))) (was.each h any lt))
+          (subst (IsHostOf columns n machines (group_at members count)) (sym (get_or_push old own any count was.total)) one) h;
+    })

@@ -1,3 +1,5 @@
+pub mod GroupLemmas
+pub mod UnitLemmas
 pub mod HostLemmas
 pub mod PortLemmas
 pub mod PlaceLemmas

@@ -1,5 +1,5 @@
 -- The hosts and stations of a plan's machines open its network.
-use Rattle.std.proofs.Common.{◌≡◌, ℕ, ◌<◌, ◌≤◌, List, [], ◌∷◌, length, map, get_or, sym, ap, subst, ◌∙◌, arith}
+use Rattle.std.proofs.Common.{◌≡◌, ℕ, ◌<◌, ◌≤◌, List, length, map, get_or, sym, ap, subst, ◌∙◌, arith}
 use Rattle.std.proofs.lemmas.List.{get_or-map, length-map}
 use Rattle.gg_limits.specs.Limits.{capacity_limit}
 use Rattle.gg_flat.specs.Line.{value_at}
@@ -11,7 +11,7 @@ use Rattle.gg_node.specs.Machine.{Machine, machine_at, no_machine}
 use Rattle.gg_net.specs.declared.shape.Wire.{Wire}
 use Rattle.gg_net.specs.declared.shape.Station.{Station}
 use Rattle.gg_net.specs.Network.{Network, Kind, kind_of, kind_at, IsAtIn, IsAtOut}
-use Rattle.gg_net.specs.Seats.{hosted, seated, machines_by, IsSeated, HasStation, AreSeated}
+use Rattle.gg_net.specs.Seats.{seated, machines_by}
 use Rattle.gg_net.specs.Kept.{IsSound}
 use Rattle.gg_net.specs.Net.{entry_of, IsListed, opening_net, Opens}
 use Rattle.gg_sound.specs.Built.{machine_in, wires_of_plan, IsBuilt, AreBuilt, IsGiven, flow_of, plan_frame}
@@ -21,73 +21,25 @@ use Rattle.gg_sound.proofs.SolvedLemmas.{plan-solved}
 use Rattle.gg_sound.proofs.OpeningLemmas.{built-opening}
 use Rattle.gg_sound.proofs.WithinLemmas.{plan-within}
 use Rattle.gg_build.specs.declared.node.Node.{Node}
-use Rattle.gg_build.specs.declared.node.Node.TheVariants as node
-use Rattle.gg_build.specs.Node.{machine_of, machines_of}
+use Rattle.gg_build.specs.Node.{machines_of}
 use Rattle.gg_build.specs.Build.{IsToRun, IsOpeningOf}
-use Rattle.gg_build.specs.Hosts.{IsSeat, AreSeats}
+use Rattle.gg_build.specs.Hosts.{AreSeats}
+use Rattle.gg_build.proofs.SeatLemmas.{no_station}
 
-abbrev no_node : Node
-no_node = node.Tray no_machine
-
-abbrev no_station : Station
-no_station = record { host = 0; thread = 0; ins = []; outs = []; ports = [] }
-
-module _ (plan : Plan) (columns : List (List ℕ)) (n : ℕ) (hosts : List Node) (stations : List Station) (are : AreSeats plan columns n (length plan.machines) hosts stations) where
+module _ (plan : Plan) (columns : List (List ℕ)) (n : ℕ) (hosts : List Node) (stations : List Station) (are : AreSeats plan columns n hosts stations) where
   abbrev pub lists_of : List (List Machine)
   lists_of = map machines_of hosts
 
-  seat-at : (m : ℕ) (s : Station) → m < length plan.machines → IsSeat columns n m (machine_in plan m) (get_or hosts m no_node) (get_or stations m s)
-  seat-at m s lt = are.each m no_node s lt
-
-  -- ---- seats
-
-  hosted-is : (m : ℕ) (s : Station) (lt : m < length plan.machines) → hosted lists_of (get_or stations m s).host ≡ machine_of (get_or hosts m no_node) ∷ []
-  hosted-is m s lt =
-      let seat = seat-at m s lt in
-      ap (hosted lists_of) seat.number ∙ get_or-map machines_of hosts m no_node [] (omega (arith, lt, are.hosts)) ∙ seat.host.alone
-
-  seated-is : (m : ℕ) (s : Station) (lt : m < length plan.machines) → seated lists_of (get_or stations m s) ≡ machine_of (get_or hosts m no_node)
-  seated-is m s lt =
-      let seat = seat-at m s lt in
-      ap (λ l. machine_at l (get_or stations m s).thread) (hosted-is m s lt) ∙ ap (machine_at (machine_of (get_or hosts m no_node) ∷ [])) seat.thread
-
-  is-seated : (m : ℕ) (s : Station) → m < length plan.machines → IsSeated lists_of (get_or stations m s)
-  is-seated m s lt =
-      let seat = seat-at m s lt in
-      record {
-        host = omega (arith, lt, seat.number, are.hosts, length-map hosts machines_of);
-        thread = omega (arith, seat.thread, ap length (hosted-is m s lt));
-      }
-
-  has-station : (h t : ℕ) → h < length lists_of → t < length (hosted lists_of h) → HasStation stations h t
-  has-station h t low thread =
-      let known : h < length plan.machines = omega (arith, low, are.hosts, length-map hosts machines_of) in
-      let first : 0 ≡ t = omega (arith, thread, ap length (get_or-map machines_of hosts h no_node [] (omega (arith, known, are.hosts)) ∙ (seat-at h no_station known).host.alone)) in
-      record {
-        machine = h;
-        known = omega (arith, known, are.places);
-        host = λ s. (seat-at h s known).number;
-        thread = λ s. (seat-at h s known).thread ∙ first;
-      }
-
-  are-seated : AreSeated lists_of stations
-  are-seated =
-      record {
-        each = λ m s lt. is-seated m s (omega (arith, lt, are.places));
-        alone = λ m k s t low high same threads. sym (seat-at m s (omega (arith, low, are.places))).number ∙ same ∙ (seat-at k t (omega (arith, high, are.places))).number;
-        whole = has-station;
-      }
-
   -- ---- machines
 
-  machine-is : (m : ℕ) (s : Station) (lt : m < length plan.machines) → machine_at (machines_by lists_of stations) m ≡ machine_of (get_or hosts m no_node)
-  machine-is m s lt = get_or-map (seated lists_of) stations m s no_machine (omega (arith, lt, are.places)) ∙ seated-is m s lt
+  machine-is : (m : ℕ) (s : Station) → m < length plan.machines → machine_at (machines_by lists_of stations) m ≡ seated lists_of (get_or stations m s)
+  machine-is m s lt = get_or-map (seated lists_of) stations m s no_machine (omega (arith, lt, are.total))
 
   pub are-built : AreBuilt plan columns n (machines_by lists_of stations)
   are-built =
       record {
-        count = length-map stations (seated lists_of) ∙ are.places;
-        each = λ m lt. subst (IsBuilt columns n (machine_in plan m).body) (sym (machine-is m no_station lt)) (seat-at m no_station lt).host.is;
+        count = length-map stations (seated lists_of) ∙ are.total;
+        each = λ m lt. subst (IsBuilt columns n (machine_in plan m).body) (sym (machine-is m no_station lt)) (are.each m no_station lt).built;
       }
 
   -- ---- for a design, a request and a run
@@ -96,15 +48,15 @@ module _ (plan : Plan) (columns : List (List ℕ)) (n : ℕ) (hosts : List Node)
     is-listed : (m : ℕ) (s : Station) → m < length plan.machines → IsListed (wires_of_plan plan) m (kind_at (map kind_of (machines_by lists_of stations)) m) (get_or stations m s)
     is-listed m s lt =
         let machines = machines_by lists_of stations in
-        let seat = seat-at m s lt in
+        let seat = are.each m s lt in
         let at = plan-listed design request default plan columns n rows machines given are-built m lt in
-        let kind : kind_at (map kind_of machines) m ≡ kind_of (machine_of (get_or hosts m no_node)) = kind-is machines m (omega (arith, lt, are-built.count)) ∙ ap kind_of (machine-is m s lt) in
+        let kind : kind_at (map kind_of machines) m ≡ kind_of (seated lists_of (get_or stations m s)) = kind-is machines m (omega (arith, lt, are-built.count)) ∙ ap kind_of (machine-is m s lt) in
         record {
           ins = ap length seat.ins ∙ at.ins;
           into = λ i low. subst (λ (l : List ℕ). IsAtIn (wires_of_plan plan) m i (value_at l i)) (sym seat.ins) (at.into i low);
           outs = ap length seat.outs ∙ at.outs;
           from = λ o low. subst (λ (l : List ℕ). IsAtOut (wires_of_plan plan) m o (value_at l o)) (sym seat.outs) (at.from o low);
-          ports = seat.host.served ∙ sym (ap (λ (k : Kind). map entry_of k.ports) kind);
+          ports = seat.ports ∙ sym (ap (λ (k : Kind). map entry_of k.ports) kind);
           few = at.few;
         }
 
@@ -121,9 +73,9 @@ module _ (plan : Plan) (columns : List (List ℕ)) (n : ℕ) (hosts : List Node)
     opens-plan most =
         let machines = machines_by lists_of stations in
         record {
-          seated = are-seated;
+          seated = are.threads;
           opening = λ m lt. built-opening design request default plan columns n rows machines given are-built m (omega (arith, lt, length-map stations (seated lists_of)));
-          listed = λ m s lt. is-listed m s (omega (arith, lt, are.places));
+          listed = λ m s lt. is-listed m s (omega (arith, lt, are.total));
           limits = plan-within design request default plan columns n rows machines given are-built most;
           sound = is-sound;
         }

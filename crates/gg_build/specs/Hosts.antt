@@ -1,31 +1,37 @@
--- The host of one machine of a plan, with the ports that it serves, and the hosts and stations of all machines.
--- Source: ICCAD 2019 (units and memories of a target as models of their own, each on a host; memories that are served
--- port by port).
-use Rattle.std.specs.Prelude.{◌≡◌, ℕ, ◌<◌, List, [], ◌∷◌, ◌++◌, length, map, slice_index_or, ⊤}
+-- The hosts of the machines of a plan, and their stations.
+-- Source: ICCAD 2019 (units and memories of a target as models of their own, each on a host; duplicate instances that share one;
+-- memories that are served port by port).
+use Rattle.std.specs.Prelude.{◌≡◌, ◌≢◌, ◌↔◌, ℕ, ◌^◌, ◌<◌, ◌≤◌, List, [], ◌∷◌, ◌++◌, All, length, map, slice_index_or, ⊤}
+use Rattle.gg_flat.specs.Circuit.{FlatCircuit}
+use Rattle.gg_flat.specs.Line.{value_at}
 use Rattle.gg_flat.specs.WellFormed.{IsWellFormed}
 use Rattle.gg_part.specs.Choice.{IsChoice}
 use Rattle.gg_part.specs.InOrder.{IsInOrder}
 use Rattle.gg_part.specs.declared.part.Part.{Part}
+use Rattle.gg_cut.specs.Alike.{AreAlike, IsLike}
 use Rattle.gg_cut.specs.declared.plan.Body.{Body}
 use Rattle.gg_cut.specs.declared.plan.Body.TheVariants.{Cut, Memory, Source, Tray}
 use Rattle.gg_cut.specs.declared.plan.Machine as planned
 use Rattle.gg_cut.specs.declared.plan.Plan.{Plan}
-use Rattle.gg_memunit.specs.MemoryUnit.{IsMemoryPiece}
+use Rattle.gg_memunit.specs.MemoryUnit.{IsMemoryPiece, opening_unit}
 use Rattle.gg_node.specs.Machine.{Machine, machine_at}
-use Rattle.gg_net.specs.declared.shape.ServedPort.{ServedPort}
 use Rattle.gg_net.specs.declared.shape.Station.{Station}
 use Rattle.gg_net.specs.Net.{entry_of}
+use Rattle.gg_net.specs.Seats.{AreSeated, seated}
 use Rattle.gg_sound.specs.Alone.{IsCutAgain}
-use Rattle.gg_sound.specs.Built.{IsBuilt, machine_in}
+use Rattle.gg_sound.specs.Built.{IsBuilt, IsUnitOf, machine_in, nameless}
 use Rattle.gg_build.specs.declared.node.Node.{Node}
-use Rattle.gg_build.specs.Node.{machine_of, machines_of}
+use Rattle.gg_build.specs.declared.node.Node.TheVariants as node
+use Rattle.gg_build.specs.Groups.{group_at}
+use Rattle.gg_build.specs.Node.{machines_of}
 
--- ---- what a machine of a plan must have to be built
+-- ---- what machines of a plan must have to be built
 
--- The part of a unit is well formed, and its signals are in an order of evaluation.
+-- The part of a unit is well formed, and its signals are in an order of evaluation. Numbers of 32 bits suffice for its outs.
 pub record IsUnitPart (part : Part) : Type 0 where
   pub formed : IsWellFormed part.piece
   pub ordered : IsInOrder part.piece
+  pub few : length part.piece.outs ≤ 2 ^ 32
 
 -- The part of a listed memory can be cut once more, and then has only the memory.
 pub record IsMemoryPart (part : Part) : Type 0 where
@@ -40,41 +46,126 @@ CanBuild columns (Memory part) = IsMemoryPart part
 CanBuild columns (Source place) = place < length columns
 CanBuild columns Tray = ⊤
 
--- each machine of the plan can be built
-abbrev pub AllCanBuild : Plan → List (List ℕ) → Type 0
-AllCanBuild plan columns = (m : ℕ) → m < length plan.machines → CanBuild columns (machine_in plan m).body
+-- what machine m of these is
+abbrev pub body_at : List planned.Machine → ℕ → Body
+body_at machines m = (slice_index_or machines m nameless).body
 
--- ---- what is built
+-- Each of these machines of a plan can be built, and its host has a number. Two that have one host are units with one piece.
+pub record CanBuildAll (columns : List (List ℕ)) (machines : List planned.Machine) : Type 0 where
+  pub few : length machines < 2 ^ 32
+  pub known : All (λ machine. machine.host < length machines) machines
+  pub ready : (m : ℕ) → m < length machines → CanBuild columns (body_at machines m)
+  pub alike : (m k : ℕ) → m < length machines → k < length machines → m ≢ k → (slice_index_or machines m nameless).host ≡ (slice_index_or machines k nameless).host → AreAlike (body_at machines m) (body_at machines k)
+
+-- Machines of a plan that can be built as one host.
+pub record IsGroup (columns : List (List ℕ)) (machines : List planned.Machine) (group : List ℕ) : Type 0 where
+  pub some : 0 < length group
+  pub few : length group < 2 ^ 32
+  pub known : All (λ m. m < length machines) group
+  pub ready : (t : ℕ) → t < length group → CanBuild columns (body_at machines (value_at group t))
+  pub alike : (t u : ℕ) → t < length group → u < length group → t ≢ u → AreAlike (body_at machines (value_at group t)) (body_at machines (value_at group u))
+
+-- ---- hosts
 
 -- These machines are a single one, which has the property `Is`.
 pub record IsAlone (Is : Machine → Type 0) (machines : List Machine) : Type 0 where
   pub alone : machines ≡ machine_at machines 0 ∷ []
   pub is : Is (machine_at machines 0)
 
--- A node has a single machine, which has the property `Is`, and these are the ports that it serves.
-pub record IsHost (Is : Machine → Type 0) (node : Node) (ports : List ServedPort) : Type 0 where
-  pub alone : machines_of node ≡ machine_of node ∷ []
-  pub is : Is (machine_of node)
-  pub served : ports ≡ map entry_of (machine_of node).ports
+-- A machine is the unit of a memory's piece.
+pub record IsServed (machine : Machine) : Type 0 where
+  pub piece : FlatCircuit
+  pub is_memory : IsMemoryPiece piece
+  pub is : machine ≡ opening_unit piece []
 
--- The host and the station of machine m of a plan. Each machine has a host of its own, with the machine's number.
-pub record IsSeat (columns : List (List ℕ)) (n m : ℕ) (own : planned.Machine) (node : Node) (station : Station) : Type 0 where
-  pub host : IsHost (IsBuilt columns n own.body) node station.ports
-  pub number : station.host ≡ m
-  pub thread : station.thread ≡ 0
+-- A host serves the ports of a memory, or none.
+abbrev pub HasPorts : Node → Type 0
+HasPorts (node.Unit unit) = ⊤
+HasPorts (node.Shared units) = ⊤
+HasPorts (node.Memory machine) = IsServed machine
+HasPorts (node.Source machine) = machine.ports ≡ []
+HasPorts (node.Tray machine) = machine.ports ≡ []
+
+-- A node has a single machine, which has the property `Is`.
+pub record IsHost (Is : Machine → Type 0) (node : Node) : Type 0 where
+  pub own : IsAlone Is (machines_of node)
+  pub ports : HasPorts node
+
+-- A node has these machines of a plan, a thread each.
+pub record IsHostOf (columns : List (List ℕ)) (n : ℕ) (machines : List planned.Machine) (group : List ℕ) (node : Node) : Type 0 where
+  pub count : length (machines_of node) ≡ length group
+  pub each : (t : ℕ) → t < length group → IsBuilt columns n (body_at machines (value_at group t)) (machine_at (machines_of node) t)
+  pub ports : HasPorts node
+
+-- the hosts of these groups of machines
+pub record AreHosts (columns : List (List ℕ)) (n : ℕ) (machines : List planned.Machine) (members : List (List ℕ)) (count : ℕ) (nodes : List Node) : Type 0 where
+  pub total : length nodes ≡ count
+  pub each : (h : ℕ) (any : Node) → h < count → IsHostOf columns n machines (group_at members h) (slice_index_or nodes h any)
+
+-- ---- units that share a host
+
+-- Chosen of these out-signals, by their places among them.
+pub record ArePicked (all chosen places : List ℕ) : Type 0 where
+  pub known : All (λ place. place < length all) places
+  pub is : map (value_at all) places ≡ chosen
+
+-- the places of a unit's out-signals among these
+abbrev pub ArePickedFor : List ℕ → Body → List ℕ → Type 0
+ArePickedFor all (Cut part) places = ArePicked all part.piece.outs places
+ArePickedFor all (Memory part) places = ⊥
+ArePickedFor all (Source place) places = ⊥
+ArePickedFor all Tray places = ⊥
+
+-- this machine is a unit that runs the part
+abbrev pub IsUnitBody : Body → Machine → Type 0
+IsUnitBody (Cut part) machine = IsUnitOf part machine
+IsUnitBody (Memory part) machine = ⊥
+IsUnitBody (Source place) machine = ⊥
+IsUnitBody Tray machine = ⊥
+
+-- Units of a plan with pieces like this one.
+pub record AreUnits (piece : FlatCircuit) (machines : List planned.Machine) (group : List ℕ) : Type 0 where
+  pub some : 0 < length group
+  pub few : length group < 2 ^ 32
+  pub known : All (λ m. m < length machines) group
+  pub alike : (t : ℕ) → t < length group → IsLike piece (body_at machines (value_at group t))
+
+-- for each of these machines its out-signals, as places among all
+pub record ArePlaced (all : List ℕ) (machines : List planned.Machine) (group : List ℕ) (count : ℕ) (outs : List (List ℕ)) : Type 0 where
+  pub total : length outs ≡ count
+  pub each : (t : ℕ) → t < count → ArePickedFor all (body_at machines (value_at group t)) (slice_index_or outs t [])
+
+-- These machines are units that run these machines of a plan.
+pub record RunUnits (machines : List planned.Machine) (group : List ℕ) (units : List Machine) : Type 0 where
+  pub count : length units ≡ length group
+  pub each : (t : ℕ) → t < length group → IsUnitBody (body_at machines (value_at group t)) (machine_at units t)
+
+-- ---- stations
+
+-- The station of a machine of a plan, at a thread of a host.
+pub record IsStation (own : planned.Machine) (host thread : ℕ) (machine : Machine) (station : Station) : Type 0 where
+  pub host_is : station.host ≡ host
+  pub thread_is : station.thread ≡ thread
   pub ins : station.ins ≡ own.ins
   pub outs : station.outs ≡ own.outs
+  pub ports : station.ports ≡ map entry_of machine.ports
 
--- The host and the station of machine m were appended.
-pub record IsSeated (columns : List (List ℕ)) (n m : ℕ) (own : planned.Machine) (old_nodes nodes : List Node) (old_stations stations : List Station) : Type 0 where
-  pub node : Node
-  pub station : Station
-  pub seat : IsSeat columns n m own node station
-  pub hosts : nodes ≡ old_nodes ++ node ∷ []
-  pub places : stations ≡ old_stations ++ station ∷ []
+-- the stations of the first `count` machines of a plan, at these threads of these hosts
+pub record AreStations (machines : List planned.Machine) (hosts threads : List ℕ) (nodes : List Node) (count : ℕ) (stations : List Station) : Type 0 where
+  pub total : length stations ≡ count
+  pub each : (m : ℕ) (any : Node) (other : Station) → m < count
+      → IsStation (slice_index_or machines m nameless) (value_at hosts m) (value_at threads m) (machine_at (machines_of (slice_index_or nodes (value_at hosts m) any)) (value_at threads m)) (slice_index_or stations m other)
 
--- the hosts and the stations of the first `count` machines of a plan
-pub record AreSeats (plan : Plan) (columns : List (List ℕ)) (n count : ℕ) (nodes : List Node) (stations : List Station) : Type 0 where
-  pub hosts : length nodes ≡ count
-  pub places : length stations ≡ count
-  pub each : (m : ℕ) (any : Node) (other : Station) → m < count → IsSeat columns n m (machine_in plan m) (slice_index_or nodes m any) (slice_index_or stations m other)
+-- The station of a machine of a plan. The machine that is seated there is built from it.
+pub record IsSeat (columns : List (List ℕ)) (n : ℕ) (own : planned.Machine) (lists : List (List Machine)) (station : Station) : Type 0 where
+  pub built : IsBuilt columns n own.body (seated lists station)
+  pub ins : station.ins ≡ own.ins
+  pub outs : station.outs ≡ own.outs
+  pub ports : station.ports ≡ map entry_of (seated lists station).ports
+
+-- The hosts and the stations of a plan's machines. Two machines have one host exactly if they have one in the plan.
+pub record AreSeats (plan : Plan) (columns : List (List ℕ)) (n : ℕ) (nodes : List Node) (stations : List Station) : Type 0 where
+  pub total : length stations ≡ length plan.machines
+  pub each : (m : ℕ) (any : Station) → m < length plan.machines → IsSeat columns n (machine_in plan m) (map machines_of nodes) (slice_index_or stations m any)
+  pub threads : AreSeated (map machines_of nodes) stations
+  pub together : (m k : ℕ) (any other : Station) → m < length plan.machines → k < length plan.machines → ((machine_in plan m).host ≡ (machine_in plan k).host) ↔ ((slice_index_or stations m any).host ≡ (slice_index_or stations k other).host)

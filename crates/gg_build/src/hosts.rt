@@ -1,20 +1,21 @@
 //! The hosts of a plan's machines.
-ghost use Rattle.std.specs.Prelude.{◌≡◌, ◌<◌, ◌++◌, ◌∷◌, [], None, false, IfOk, length, slice_index_or};
+ghost use Rattle.std.specs.Prelude.{◌≡◌, ℕ, ◌<◌, ◌++◌, ◌∷◌, [], None, false, IfOk, length, slice_index_or, map};
 ghost use Rattle.gg_limits.specs.Limits.{cycle_limit};
 ghost use Rattle.gg_flat.specs.Line.{value_at};
+ghost use Rattle.gg_cut.specs.declared.plan.Body.TheVariants.{Cut};
 ghost use Rattle.gg_node.specs.Machine.{source_machine, tray_machine};
 ghost use Rattle.gg_fame5.specs.Shared as units;
 ghost use Rattle.gg_sound.specs.Alone.{IsCutAgain};
-ghost use Rattle.gg_sound.specs.Built.{IsUnitOf, IsMemoryOf, IsBuilt, tray_rows};
-ghost use Rattle.gg_build.specs.Hosts.{IsUnitPart, IsMemoryPart, CanBuild, IsAlone, IsHost};
+ghost use Rattle.gg_sound.specs.Built.{IsUnitOf, IsMemoryOf, tray_rows};
+ghost use Rattle.gg_build.specs.Groups.{group_at};
+ghost use Rattle.gg_build.specs.Hosts.{IsUnitPart, IsMemoryPart, IsGroup, IsAlone, IsHost, IsHostOf, HasPorts, AreHosts, AreUnits, RunUnits, body_at};
+ghost use Rattle.gg_build.specs.Node.{machines_of};
 
 use crate::node::Node;
-use crate::ports::ports_of;
+use crate::units::units_of;
 use gg_cut::{Body, Machine};
 use gg_fame1::{NoMemory, Unit};
-use gg_flat::{Memory, Piece};
 use gg_memunit::MemUnit;
-use gg_net::ServedPort;
 use gg_node::{Source, Tray};
 use gg_part::{Part, part_of};
 use gg_program::Program;
@@ -23,13 +24,6 @@ use std::alloc::{AllocError, Global};
 
 /// The greatest number of values that a tray keeps: the last ones.
 pub const TRAY_ROWS: u64 = 1024;
-
-/// A host of one machine, with the ports that it serves in a cycle.
-#[derive(Drop)]
-pub(crate) struct Hosted<'a> {
-    pub node: Node<'a>,
-    pub ports: Vec<ServedPort>,
-}
 
 // The unit of a part.
 fn unit_of<'a>(alloc: Global, part: &'a Part) -> Result<Unit<'a>, NoMemory>
@@ -41,17 +35,54 @@ fn unit_of<'a>(alloc: Global, part: &'a Part) -> Result<Unit<'a>, NoMemory>
     Ok(unit)
 }
 
-// The host of the hub or of a unit.
-fn cut_host<'a>(alloc: Global, part: &'a Part) -> Result<Hosted<'a>, AllocError>
+// The host of the hub, or of a unit that is alone.
+fn unit_host<'a>(alloc: Global, part: &'a Part) -> Result<Node<'a>, AllocError>
     requires { IsUnitPart part.now }
-    ensures { IfOk result (λ made. IsHost (IsUnitOf part.now) made.node made.ports.items) }
+    ensures { IfOk result (λ node. IsHost (IsUnitOf part.now) node) }
 {
     match unit_of(alloc, part) {
-        Ok(unit) => Ok(Hosted {
-            node: Node::Unit(unit),
-            ports: Vec::new(alloc),
-        }),
+        Ok(unit) => Ok(Node::Unit(unit)),
         Err(_) => Err(AllocError),
+    }
+}
+
+// The host of units with one piece. The first has this part.
+fn shared_host<'a>(
+    alloc: Global,
+    part: &'a Part,
+    machines: &[Machine],
+    group: &[u32],
+) -> Result<Node<'a>, AllocError>
+    requires part { IsUnitPart part.now }
+    requires units { AreUnits part.now.piece machines.now group.now }
+    ensures units { IfOk result (λ node. RunUnits machines.now group.now (machines_of node)) }
+    ensures ports { IfOk result HasPorts }
+{
+    match units_of(alloc, part, machines, group) {
+        Ok(units) => Ok(Node::Shared(units)),
+        Err(_) => Err(AllocError),
+    }
+}
+
+// The host of the hub or of units.
+fn cut_host<'a>(
+    alloc: Global,
+    part: &'a Part,
+    machines: &[Machine],
+    group: &[u32],
+) -> Result<Node<'a>, AllocError>
+    requires part { IsUnitPart part.now }
+    requires first { body_at machines.now (value_at group.now 0) ≡ Cut part.now }
+    requires units { AreUnits part.now.piece machines.now group.now }
+    ensures units { IfOk result (λ node. RunUnits machines.now group.now (machines_of node)) }
+    ensures ports { IfOk result HasPorts }
+{
+    if group.len() == 1 {
+        let node = unit_host(alloc, part)?;
+        Ok(node)
+    } else {
+        let node = shared_host(alloc, part, machines, group)?;
+        Ok(node)
     }
 }
 
@@ -68,68 +99,84 @@ fn alone_of(alloc: Global, part: &Part) -> Result<Part, AllocError>
     Ok(alone)
 }
 
-// The only memory of a piece.
-fn memory_of(piece: &Piece) -> &Memory
-    requires { length piece.now.memories ≡ 1 }
-    ensures { piece.now.memories ≡ result.now ∷ [] }
-{
-    &piece.memories()[0]
-}
-
 // The host of a listed memory.
-fn memory_host<'a>(alloc: Global, part: &Part) -> Result<Hosted<'a>, AllocError>
+fn memory_host<'a>(alloc: Global, part: &Part) -> Result<Node<'a>, AllocError>
     requires { IsMemoryPart part.now }
-    ensures { IfOk result (λ made. IsHost (IsMemoryOf part.now) made.node made.ports.items) }
+    ensures { IfOk result (λ node. IsHost (IsMemoryOf part.now) node) }
 {
     let alone = alone_of(alloc, part)?;
-    let ports = ports_of(alloc, memory_of(&alone.piece))?;
     let unit = MemUnit::with_clocks(alloc, alone.piece, &[])?;
-    Ok(Hosted {
-        node: Node::Memory(unit),
-        ports,
-    })
+    Ok(Node::Memory(unit))
 }
 
 // The host of a source, by its place among the top's inputs.
-fn source_host<'a>(alloc: Global, trace: &Trace, place: u32) -> Result<Hosted<'a>, AllocError>
+fn source_host<'a>(alloc: Global, trace: &Trace, place: u32) -> Result<Node<'a>, AllocError>
     requires { place < length trace.now.columns }
-    ensures { IfOk result (λ made. IsHost (λ machine. machine ≡ source_machine (slice_index_or trace.now.columns place []) 0 (false ∷ [])) made.node made.ports.items) }
+    ensures { IfOk result (λ node. IsHost (λ machine. machine ≡ source_machine (slice_index_or trace.now.columns place []) 0 (false ∷ [])) node) }
 {
     let column = trace.column(alloc, place as usize)?;
-    Ok(Hosted {
-        node: Node::Source(Source::new(column)),
-        ports: Vec::new(alloc),
-    })
+    Ok(Node::Source(Source::new(column)))
 }
 
 // The host of a tray.
-fn tray_host<'a>(alloc: Global) -> Result<Hosted<'a>, AllocError>
-    ensures { IfOk result (λ made. IsHost (λ machine. machine ≡ tray_machine tray_rows cycle_limit 0 [] None) made.node made.ports.items) }
+fn tray_host<'a>(alloc: Global) -> Result<Node<'a>, AllocError>
+    ensures { IfOk result (λ node. IsHost (λ machine. machine ≡ tray_machine tray_rows cycle_limit 0 [] None) node) }
 {
     let tray = Tray::new(alloc, TRAY_ROWS)?;
-    Ok(Hosted {
-        node: Node::Tray(tray),
-        ports: Vec::new(alloc),
-    })
+    Ok(Node::Tray(tray))
 }
 
-/// The host of a machine of a plan.
+// The host of these machines of a plan, a thread each.
+fn host_of<'a>(
+    alloc: Global,
+    trace: &Trace,
+    machines: &'a [Machine],
+    group: &[u32],
+) -> Result<Node<'a>, AllocError>
+    requires { IsGroup trace.now.columns machines.now group.now }
+    ensures { IfOk result (λ node. IsHostOf trace.now.columns trace.now.rows machines.now group.now node) }
+{
+    let number = group[0] as usize;
+    let machine = &machines[number];
+    match &machine.body {
+        Body::Cut(part) => {
+            let node = cut_host(alloc, part, machines, group)?;
+            Ok(node)
+        }
+        Body::Memory(part) => {
+            let node = memory_host(alloc, part)?;
+            Ok(node)
+        }
+        Body::Source(place) => {
+            let node = source_host(alloc, trace, *place)?;
+            Ok(node)
+        }
+        Body::Tray => {
+            let node = tray_host(alloc)?;
+            Ok(node)
+        }
+    }
+}
+
+/// The hosts of these groups of a plan's machines.
 ///
 /// # Errors
 ///
 /// Returns `AllocError` if an allocation fails.
-pub(crate) fn host_of<'a>(
+pub(crate) fn hosts_of<'a>(
     alloc: Global,
     trace: &Trace,
-    machine: &'a Machine,
-) -> Result<Hosted<'a>, AllocError>
-    requires { CanBuild trace.now.columns machine.now.body }
-    ensures { IfOk result (λ made. IsHost (IsBuilt trace.now.columns trace.now.rows machine.now.body) made.node made.ports.items) }
+    machines: &'a [Machine],
+    members: &[Vec<u32>],
+) -> Result<Vec<Node<'a>>, AllocError>
+    requires { (h : ℕ) → h < length members.now → IsGroup trace.now.columns machines.now (group_at (map (λ list. list.items) members.now) h) }
+    ensures { IfOk result (λ nodes. AreHosts trace.now.columns trace.now.rows machines.now (map (λ list. list.items) members.now) (length members.now) nodes.items) }
 {
-    match &machine.body {
-        Body::Cut(part) => cut_host(alloc, part),
-        Body::Memory(part) => memory_host(alloc, part),
-        Body::Source(place) => source_host(alloc, trace, *place),
-        Body::Tray => tray_host(alloc),
+    let mut nodes = Vec::new(alloc);
+    for host in 0..members.len() {
+        let group = &members[host];
+        let node = host_of(alloc, trace, machines, group)?;
+        nodes.push(node)?;
     }
+    Ok(nodes)
 }

@@ -8,18 +8,21 @@
 //!   list them, and as many cycles to do as the trace has rows. The hub and the units run their parts of the circuit,
 //!   and need exactly what they depend on. Each listed memory is a machine of its own, and its ports are served one by
 //!   one. A source gives the column of its top input. A tray keeps the last 1,024 values ([`TRAY_ROWS`]).
-//! - A [`Node`] is the host of such a machine, of any kind. It passes each call on to that host. [`Node::value`]
-//!   returns the value of a cycle that a tray keeps.
+//! - A [`Node`] is a host of such machines, of any kind. It passes each call on to that host. [`Node::value`] returns
+//!   the value of a cycle that a tray keeps.
 //!
-//! Each machine has a host of its own. Except for the programs of units (gg_program), time and memory are linear in the
-//! plan, its pieces and the trace.
+//! Units that the plan puts onto one host share it: they have one piece, so it has one program, and a thread for each of
+//! them. Each other machine has a host of its own. Except for the programs of units (gg_program), time and memory are
+//! linear in the plan, its pieces and the trace.
 #![tactic(auto)]
 
+mod groups;
 mod hosts;
 mod node;
 mod opening;
 mod ports;
 mod seats;
+mod units;
 mod wires;
 
 pub use hosts::TRAY_ROWS;

@@ -6,14 +6,17 @@ ghost use Rattle.gg_node.specs.Step.{MayLatch, MayFire, MayServe, MayFinish, wit
 ghost use Rattle.gg_build.specs.Node.{machine_of, machines_of};
 
 use gg_fame1::Unit;
+use gg_fame5::Shared;
 use gg_memunit::MemUnit;
 use gg_node::{Host, Source, Tray};
 
-/// The host of a machine of a plan, by the kind of the machine.
+/// A host of machines of a plan, by their kind.
 #[derive(Drop)]
 pub enum Node<'a> {
-    /// The hub or a unit.
+    /// The hub, or a unit that is alone.
     Unit(Unit<'a>),
+    /// Units with one piece, a thread each.
+    Shared(Shared<'a>),
     /// A memory that is served port by port.
     Memory(MemUnit),
     /// Gives the column of a top input.
@@ -23,13 +26,17 @@ pub enum Node<'a> {
 }
 
 impl<'a> Node<'a> {
-    /// The value of a cycle that a tray keeps. `None` if the tray doesn't keep it, or if the machine isn't a tray.
+    /// The value of a cycle that a tray keeps. `None` if the tray doesn't keep it, or if it isn't the host of a tray.
     pub fn value(&self, cycle: u64) -> Option<u128>
         ensures tray { IsTray (machine_of self.now).behaviour → result ≡ kept_value (machine_of self.now) cycle }
         ensures other { ¬ IsTray (machine_of self.now).behaviour → result ≡ None }
     {
         match self {
             Node::Unit(host) => {
+                let _ = host.piece();
+                None
+            }
+            Node::Shared(host) => {
                 let _ = host.piece();
                 None
             }
@@ -52,6 +59,7 @@ impl<'a> Host for Node<'a> {
     fn threads(&self) -> u32 {
         match self {
             Node::Unit(host) => host.threads(),
+            Node::Shared(host) => host.threads(),
             Node::Memory(host) => host.threads(),
             Node::Source(host) => host.threads(),
             Node::Tray(host) => host.threads(),
@@ -61,6 +69,7 @@ impl<'a> Host for Node<'a> {
     fn cycle(&self, thread: u32) -> u64 {
         match self {
             Node::Unit(host) => host.cycle(thread),
+            Node::Shared(host) => host.cycle(thread),
             Node::Memory(host) => host.cycle(thread),
             Node::Source(host) => host.cycle(thread),
             Node::Tray(host) => host.cycle(thread),
@@ -70,6 +79,7 @@ impl<'a> Host for Node<'a> {
     fn latched(&self, thread: u32, place: u32) -> bool {
         match self {
             Node::Unit(host) => host.latched(thread, place),
+            Node::Shared(host) => host.latched(thread, place),
             Node::Memory(host) => host.latched(thread, place),
             Node::Source(host) => host.latched(thread, place),
             Node::Tray(host) => host.latched(thread, place),
@@ -79,6 +89,7 @@ impl<'a> Host for Node<'a> {
     fn fired(&self, thread: u32, place: u32) -> bool {
         match self {
             Node::Unit(host) => host.fired(thread, place),
+            Node::Shared(host) => host.fired(thread, place),
             Node::Memory(host) => host.fired(thread, place),
             Node::Source(host) => host.fired(thread, place),
             Node::Tray(host) => host.fired(thread, place),
@@ -88,6 +99,7 @@ impl<'a> Host for Node<'a> {
     fn missing(&self, thread: u32, place: u32) -> Option<u32> {
         match self {
             Node::Unit(host) => host.missing(thread, place),
+            Node::Shared(host) => host.missing(thread, place),
             Node::Memory(host) => host.missing(thread, place),
             Node::Source(host) => host.missing(thread, place),
             Node::Tray(host) => host.missing(thread, place),
@@ -97,6 +109,7 @@ impl<'a> Host for Node<'a> {
     fn due(&self, thread: u32) -> Option<u32> {
         match self {
             Node::Unit(host) => host.due(thread),
+            Node::Shared(host) => host.due(thread),
             Node::Memory(host) => host.due(thread),
             Node::Source(host) => host.due(thread),
             Node::Tray(host) => host.due(thread),
@@ -106,6 +119,7 @@ impl<'a> Host for Node<'a> {
     fn served(&self, thread: u32) -> u32 {
         match self {
             Node::Unit(host) => host.served(thread),
+            Node::Shared(host) => host.served(thread),
             Node::Memory(host) => host.served(thread),
             Node::Source(host) => host.served(thread),
             Node::Tray(host) => host.served(thread),
@@ -115,6 +129,7 @@ impl<'a> Host for Node<'a> {
     fn dues(&self, thread: u32) -> u32 {
         match self {
             Node::Unit(host) => host.dues(thread),
+            Node::Shared(host) => host.dues(thread),
             Node::Memory(host) => host.dues(thread),
             Node::Source(host) => host.dues(thread),
             Node::Tray(host) => host.dues(thread),
@@ -124,6 +139,7 @@ impl<'a> Host for Node<'a> {
     fn port_count(&self, thread: u32) -> u32 {
         match self {
             Node::Unit(host) => host.port_count(thread),
+            Node::Shared(host) => host.port_count(thread),
             Node::Memory(host) => host.port_count(thread),
             Node::Source(host) => host.port_count(thread),
             Node::Tray(host) => host.port_count(thread),
@@ -133,6 +149,7 @@ impl<'a> Host for Node<'a> {
     fn token(&mut self, thread: u32, place: u32) -> u128 {
         match self {
             Node::Unit(host) => host.token(thread, place),
+            Node::Shared(host) => host.token(thread, place),
             Node::Memory(host) => host.token(thread, place),
             Node::Source(host) => host.token(thread, place),
             Node::Tray(host) => host.token(thread, place),
@@ -142,6 +159,7 @@ impl<'a> Host for Node<'a> {
     fn latch(&mut self, thread: u32, place: u32, value: u128) {
         match self {
             Node::Unit(host) => host.latch(thread, place, value),
+            Node::Shared(host) => host.latch(thread, place, value),
             Node::Memory(host) => host.latch(thread, place, value),
             Node::Source(host) => host.latch(thread, place, value),
             Node::Tray(host) => host.latch(thread, place, value),
@@ -151,6 +169,7 @@ impl<'a> Host for Node<'a> {
     fn fire(&mut self, thread: u32, place: u32) -> u128 {
         match self {
             Node::Unit(host) => host.fire(thread, place),
+            Node::Shared(host) => host.fire(thread, place),
             Node::Memory(host) => host.fire(thread, place),
             Node::Source(host) => host.fire(thread, place),
             Node::Tray(host) => host.fire(thread, place),
@@ -160,6 +179,7 @@ impl<'a> Host for Node<'a> {
     fn serve(&mut self, thread: u32, port: u32) {
         match self {
             Node::Unit(host) => host.serve(thread, port),
+            Node::Shared(host) => host.serve(thread, port),
             Node::Memory(host) => host.serve(thread, port),
             Node::Source(host) => host.serve(thread, port),
             Node::Tray(host) => host.serve(thread, port),
@@ -169,6 +189,7 @@ impl<'a> Host for Node<'a> {
     fn finish(&mut self, thread: u32) {
         match self {
             Node::Unit(host) => host.finish(thread),
+            Node::Shared(host) => host.finish(thread),
             Node::Memory(host) => host.finish(thread),
             Node::Source(host) => host.finish(thread),
             Node::Tray(host) => host.finish(thread),

@@ -11,7 +11,7 @@ use gg_trace::Trace;
 use std::alloc::{AllocError, Global};
 
 /// The network of a plan before its first cycle. Its sources give the columns of a trace, and it has as many cycles to
-/// do as the trace has rows. Each machine has a host of its own.
+/// do as the trace has rows. Units that the plan puts onto one host share it, a thread each.
 ///
 /// Allocates all the memory that the network will use.
 ///

@@ -1,11 +1,19 @@
 //! The hosts and stations of a plan's machines.
-ghost use Rattle.std.specs.Prelude.{◌≡◌, ◌^◌, ◌<◌, length, IfOk, OnOk};
-ghost use Rattle.gg_build.specs.Hosts.{AllCanBuild, CanBuild, IsSeated, AreSeats};
+ghost use Rattle.std.specs.Prelude.{◌≡◌, ◌<◌, ◌∷◌, [], ℕ, length, map, All, IfOk, slice_index_or};
+ghost use Rattle.gg_flat.specs.Line.{value_at};
+ghost use Rattle.gg_node.specs.Machine.{machine_at};
+ghost use Rattle.gg_net.specs.Net.{entry_of};
+ghost use Rattle.gg_build.specs.declared.node.Node as declared;
+ghost use Rattle.gg_build.specs.Hosts.{CanBuildAll, HasPorts, IsStation, AreStations, AreSeats};
+ghost use Rattle.gg_build.specs.Node.{machines_of};
 
-use crate::hosts::{Hosted, host_of};
+use crate::groups::groups_of;
+use crate::hosts::hosts_of;
 use crate::node::Node;
+use crate::ports::ports_of;
 use gg_bits::{Ids, Items};
 use gg_cut::{Machine, Plan};
+use gg_flat::{Memory, Piece};
 use gg_net::{ServedPort, Station};
 use gg_trace::Trace;
 use std::alloc::{AllocError, Global};
@@ -17,6 +25,43 @@ pub(crate) struct Seats<'a> {
     pub stations: Vec<Station>,
 }
 
+// The only memory of a piece.
+fn memory_of(piece: &Piece) -> &Memory
+    requires { length piece.now.memories ≡ 1 }
+    ensures { piece.now.memories ≡ result.now ∷ [] }
+{
+    &piece.memories()[0]
+}
+
+// The ports that each machine of a host serves in a cycle.
+fn ports_at(alloc: Global, host: &Node<'_>) -> Result<Vec<ServedPort>, AllocError>
+    requires { HasPorts host.now }
+    ensures { IfOk result (λ ports. All (λ machine. ports.items ≡ map entry_of machine.ports) (machines_of host.now)) }
+{
+    match host {
+        Node::Memory(unit) => {
+            let ports = ports_of(alloc, memory_of(unit.piece()))?;
+            Ok(ports)
+        }
+        Node::Unit(unit) => {
+            let _ = unit.piece();
+            Ok(Vec::new(alloc))
+        }
+        Node::Shared(units) => {
+            let _ = units.piece();
+            Ok(Vec::new(alloc))
+        }
+        Node::Source(source) => {
+            let _ = source.column();
+            Ok(Vec::new(alloc))
+        }
+        Node::Tray(tray) => {
+            let _ = tray;
+            Ok(Vec::new(alloc))
+        }
+    }
+}
+
 // A copy of these numbers.
 fn copied(alloc: Global, numbers: &[u32]) -> Result<Ids, AllocError>
     ensures { IfOk result (λ copy. copy ≡ numbers.now) }
@@ -24,50 +69,57 @@ fn copied(alloc: Global, numbers: &[u32]) -> Result<Ids, AllocError>
     Ok(Ids::from(Vec::from_slice(alloc, numbers)?))
 }
 
-// The station of a machine of the plan, at the host with the machine's number.
+// The station of a machine of the plan, at a thread of a host.
 fn station_of(
     alloc: Global,
     machine: &Machine,
-    number: u32,
-    ports: Vec<ServedPort>,
+    host: u32,
+    thread: u32,
+    node: &Node<'_>,
 ) -> Result<Station, AllocError>
-    ensures number { IfOk result (λ station. station.host ≡ number) }
-    ensures thread { IfOk result (λ station. station.thread ≡ 0) }
-    ensures ins { IfOk result (λ station. station.ins ≡ machine.now.ins) }
-    ensures outs { IfOk result (λ station. station.outs ≡ machine.now.outs) }
-    ensures ports { IfOk result (λ station. station.ports ≡ ports.items) }
+    requires ports { HasPorts node.now }
+    requires thread { thread < length (machines_of node.now) }
+    ensures { IfOk result (λ station. IsStation machine.now host thread (machine_at (machines_of node.now) thread) station) }
 {
     let ins = copied(alloc, machine.ins.as_slice())?;
     let outs = copied(alloc, machine.outs.as_slice())?;
+    let ports = ports_at(alloc, node)?;
     Ok(Station {
-        host: number,
-        thread: 0,
+        host,
+        thread,
         ins,
         outs,
         ports: Items::from(ports),
     })
 }
 
-// Adds the host and the station of the machine with this number.
-fn add_seat<'a>(
+// The stations of a plan's machines, at these threads of these hosts.
+fn stations_of(
     alloc: Global,
-    trace: &Trace,
-    machine: &'a Machine,
-    number: u32,
-    hosts: &mut Vec<Node<'a>>,
-    stations: &mut Vec<Station>,
-) -> Result<(), AllocError>
-    requires { CanBuild trace.now.columns machine.now.body }
-    ensures { OnOk result (IsSeated trace.now.columns trace.now.rows number machine.now hosts.old.items hosts.new.items stations.old.items stations.new.items) }
+    machines: &[Machine],
+    hosts: &[u32],
+    threads: &[u32],
+    nodes: &[Node<'_>],
+) -> Result<Vec<Station>, AllocError>
+    requires hosts { length hosts.now ≡ length machines.now }
+    requires threads { length threads.now ≡ length machines.now }
+    requires known { (m : ℕ) → m < length machines.now → value_at hosts.now m < length nodes.now }
+    requires ports { All HasPorts nodes.now }
+    requires there { (m : ℕ) (any : declared.Node) → m < length machines.now → value_at threads.now m < length (machines_of (slice_index_or nodes.now (value_at hosts.now m) any)) }
+    ensures { IfOk result (λ stations. AreStations machines.now hosts.now threads.now nodes.now (length machines.now) stations.items) }
 {
-    let Hosted { node, ports } = host_of(alloc, trace, machine)?;
-    let station = station_of(alloc, machine, number, ports)?;
-    hosts.push(node)?;
-    stations.push(station)?;
-    Ok(())
+    let mut stations = Vec::new(alloc);
+    for number in 0..machines.len() {
+        let host = hosts[number];
+        let node = &nodes[host as usize];
+        let machine = &machines[number];
+        let station = station_of(alloc, machine, host, threads[number], node)?;
+        stations.push(station)?;
+    }
+    Ok(stations)
 }
 
-/// The hosts and stations of a plan's machines, by number.
+/// The hosts and stations of a plan's machines. Units that the plan puts onto one host share it.
 ///
 /// # Errors
 ///
@@ -77,23 +129,12 @@ pub(crate) fn seats_of<'a>(
     plan: &'a Plan,
     trace: &Trace,
 ) -> Result<Seats<'a>, AllocError>
-    requires few { length plan.now.machines < 2 ^ 32 }
-    requires ready { AllCanBuild plan.now trace.now.columns }
-    ensures { IfOk result (λ seats. AreSeats plan.now trace.now.columns trace.now.rows (length plan.now.machines) seats.hosts.items seats.stations.items) }
+    requires { CanBuildAll trace.now.columns plan.now.machines }
+    ensures { IfOk result (λ seats. AreSeats plan.now trace.now.columns trace.now.rows seats.hosts.items seats.stations.items) }
 {
     let machines = plan.machines.as_slice();
-    let mut hosts = Vec::new(alloc);
-    let mut stations = Vec::new(alloc);
-    for number in 0..machines.len() {
-        let machine = &machines[number];
-        add_seat(
-            alloc,
-            trace,
-            machine,
-            number as u32,
-            &mut hosts,
-            &mut stations,
-        )?;
-    }
+    let groups = groups_of(alloc, machines)?;
+    let hosts = hosts_of(alloc, trace, machines, &groups.members)?;
+    let stations = stations_of(alloc, machines, &groups.hosts, &groups.threads, &hosts)?;
     Ok(Seats { hosts, stations })
 }

@@ -18,14 +18,14 @@ struct Places {
     ins: Vec<u32>,
 }
 
-// Writes for each of these channels its place in this list.
-fn note(channels: &[u32], places: &mut Vec<u32>)
-    requires few { length channels.now ≤ 2 ^ 32 }
-    requires known { All (λ c. c < length places.old.items) channels.now }
-    ensures { IsNoted channels.now places.old.items places.new.items }
+/// Writes for each of these numbers its place in this list.
+pub(crate) fn note(numbers: &[u32], places: &mut Vec<u32>)
+    requires few { length numbers.now ≤ 2 ^ 32 }
+    requires known { All (λ c. c < length places.old.items) numbers.now }
+    ensures { IsNoted numbers.now places.old.items places.new.items }
 {
-    for place in 0..channels.len() {
-        places[channels[place] as usize] = place as u32;
+    for place in 0..numbers.len() {
+        places[numbers[place] as usize] = place as u32;
     }
 }
 

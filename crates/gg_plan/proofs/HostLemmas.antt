@@ -12,12 +12,12 @@ use Rattle.gg_cut.proofs.RangeLemmas.{filter-more}
 -- ---- the least machine of a list
 
 -- the least of the list's machines and n is at most n
-least-below : (units : List (List ℕ)) (group : List (List ℕ)) (n : ℕ) → least_machine units group n ≤ n
+pub least-below : (units : List (List ℕ)) (group : List (List ℕ)) (n : ℕ) → least_machine units group n ≤ n
 least-below units [] n = omega arith
 least-below units (path ∷ group) n = let rest = least-below units group (min (machine_of units path) n) in omega (arith, rest)
 
 -- the least of the list's machines and n is the same for each n from one of these machines on
-least-member : (units : List (List ℕ)) (group : List (List ℕ)) (m n : ℕ) → list_any (λ path. machine_of units path == m) group ≡ true → m ≤ n → least_machine units group n ≡ least_machine units group m
+pub least-member : (units : List (List ℕ)) (group : List (List ℕ)) (m n : ℕ) → list_any (λ path. machine_of units path == m) group ≡ true → m ≤ n → least_machine units group n ≡ least_machine units group m
 least-member units [] m n among le = absurd (true≢false (sym among))
 least-member units (path ∷ group) m n among le = by (machine_of units path) (machine_of units path == m) refl (λ k above rest. least-member units group m k rest above) among
   where
@@ -41,7 +41,7 @@ led units group m n least old new le is set = set ∙ by (list_any (λ path. mac
 
 -- ---- leaders
 
-leader-cons : (units group : List (List ℕ)) (share : List (List (List ℕ))) (m : ℕ) → leader units (group ∷ share) m ≡ (if list_any (λ path. machine_of units path == m) group then least_machine units group m else leader units share m)
+pub leader-cons : (units group : List (List ℕ)) (share : List (List (List ℕ))) (m : ℕ) → leader units (group ∷ share) m ≡ (if list_any (λ path. machine_of units path == m) group then least_machine units group m else leader units share m)
 leader-cons units group share m = by (list_any (λ path. machine_of units path == m) group)
   where
     by : (b : Bool) → leader_in units m (cond b (Some group) (find (λ group. list_any (λ path. machine_of units path == m) group) share)) ≡ (if b then least_machine units group m else leader units share m)
@@ -60,7 +60,7 @@ leader-more units share step m group old new lt read was set =
     ∙ sym (leader-cons units group (drop (length share - step) share) m)
     ∙ ap (λ l. leader units l m) (sym here)
 
-leader-below : (units : List (List ℕ)) (share : List (List (List ℕ))) (m : ℕ) → leader units share m ≤ m
+pub leader-below : (units : List (List ℕ)) (share : List (List (List ℕ))) (m : ℕ) → leader units share m ≤ m
 leader-below units share m = by (group_of units share m)
   where
     by : (found : Option (List (List ℕ))) → leader_in units m found ≤ m

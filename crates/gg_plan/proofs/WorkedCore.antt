@@ -30,6 +30,7 @@ use Rattle.gg_cut.specs.Fault.{first_fault, fault_text}
 use Rattle.gg_cut.specs.Plan.{IsPlan, IsMachine, IsChannel, IsCutPart, wire_at}
 use Rattle.gg_cut.proofs.WorkedPair.{output, asks}
 use Rattle.gg_plan.proofs.WorkedTests.{ascending, names-below, has-needs}
+use Rattle.gg_plan.proofs.WorkedHosts.{unshared}
 use Rattle.gg_plan.proofs.WorkedParts.{is-part, no-memories, is-cut-part}
 
 abbrev nibble : Ty
@@ -160,7 +161,7 @@ is-channel c any =
     c
 
 pub is-plan : IsPlan design request 2 (record { machines = machines; channels = channels; listed = listed })
-is-plan = record { listed = refl; machine_total = refl; channel_total = refl; machine = is-machine; channel = is-channel }
+is-plan = record { listed = refl; machine_total = refl; channel_total = refl; machine = is-machine; channel = is-channel; shared = unshared machines refl }
 
 -- the plan for another default is another
 other-default : ¬ IsPlan design request 3 (record { machines = machines; channels = channels; listed = listed })

@@ -33,6 +33,7 @@ use Rattle.gg_cut.specs.Channels.{wires_of, capacity_of}
 use Rattle.gg_cut.specs.Plan.{IsPlan, IsMachine, IsChannel, IsCutPart, HasMemory, memory_owner, wire_at}
 use Rattle.gg_cut.proofs.WorkedPair.{input, output}
 use Rattle.gg_plan.proofs.WorkedTests.{each-below, ascending, names-below, has-needs, extra-need, lacks-need}
+use Rattle.gg_plan.proofs.WorkedHosts.{unshared}
 use Rattle.gg_plan.proofs.WorkedParts.{is-part, is-part-with, is-cut-part}
 
 abbrev pub circuit : FlatCircuit
@@ -294,7 +295,7 @@ is-channel c any =
     ) c
 
 pub is-plan : IsPlan design request 2 plan
-is-plan = record { listed = refl; machine_total = refl; channel_total = refl; machine = is-machine; channel = is-channel }
+is-plan = record { listed = refl; machine_total = refl; channel_total = refl; machine = is-machine; channel = is-channel; shared = unshared machines refl }
 
 -- ---- what is no plan of the cut
 

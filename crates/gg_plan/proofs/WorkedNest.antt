@@ -26,6 +26,7 @@ use Rattle.gg_cut.specs.Channels.{wires_of, capacity_of}
 use Rattle.gg_cut.specs.Plan.{IsPlan, IsMachine, IsChannel, IsCutPart, wire_at}
 use Rattle.gg_cut.proofs.WorkedPair.{input, output, asks}
 use Rattle.gg_plan.proofs.WorkedTests.{ascending, names-below, has-needs, lacks-need, foreign-signal, lost-signal}
+use Rattle.gg_plan.proofs.WorkedHosts.{unshared}
 use Rattle.gg_plan.proofs.WorkedParts.{is-part, no-memories, is-cut-part}
 
 abbrev pub circuit : FlatCircuit
@@ -164,7 +165,7 @@ is-channel c any =
     c
 
 pub is-plan : IsPlan design outer 2 (record { machines = machines; channels = channels; listed = listed })
-is-plan = record { listed = refl; machine_total = refl; channel_total = refl; machine = is-machine; channel = is-channel }
+is-plan = record { listed = refl; machine_total = refl; channel_total = refl; machine = is-machine; channel = is-channel; shared = unshared machines refl }
 
 -- ---- what is no plan of the cut
 
@@ -341,4 +342,4 @@ is-lower-channel c any =
     c
 
 pub is-lower-plan : IsPlan design lower 2 (record { machines = lower_machines; channels = lower_channels; listed = lower_listed })
-is-lower-plan = record { listed = refl; machine_total = refl; channel_total = refl; machine = is-lower-machine; channel = is-lower-channel }
+is-lower-plan = record { listed = refl; machine_total = refl; channel_total = refl; machine = is-lower-machine; channel = is-lower-channel; shared = unshared lower_machines refl }

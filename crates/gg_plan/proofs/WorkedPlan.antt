@@ -28,6 +28,7 @@ use Rattle.gg_cut.specs.Fault.{Tells, first_fault}
 use Rattle.gg_cut.specs.Plan.{IsPlan, IsMachine, IsChannel, IsCutPart, wire_at}
 use Rattle.gg_cut.proofs.WorkedPair.{circuit, tree, asks, both_units, listed}
 use Rattle.gg_plan.proofs.WorkedTests.{Upto, each-below, ascending, names-below, has-needs, extra-need, lacks-need}
+use Rattle.gg_plan.proofs.WorkedHosts.{unshared}
 use Rattle.gg_plan.proofs.WorkedParts.{is-part, no-memories, is-cut-part}
 
 abbrev pub design : Ordered
@@ -210,7 +211,7 @@ is-channel capacity n b c any =
     ) c
 
 pub is-plan : IsPlan design both_units 1 plan
-is-plan = record { listed = refl; machine_total = refl; channel_total = refl; machine = is-machine [] (refl, (refl, (refl, (refl, (refl, tt))))) []; channel = is-channel (capacity_of [] 1) 1 (refl, refl, refl, refl, refl, refl, refl, refl) }
+is-plan = record { listed = refl; machine_total = refl; channel_total = refl; machine = is-machine [] (refl, (refl, (refl, (refl, (refl, tt))))) []; channel = is-channel (capacity_of [] 1) 1 (refl, refl, refl, refl, refl, refl, refl, refl); shared = unshared machines refl }
 
 -- a capacity of the file takes the place of the default
 of-the-file : IsPlan design (asked [] ((codes "a.x", 7) ∷ [])) 1 (record { machines = machines; channels = channels 7; listed = listed })
@@ -221,6 +222,7 @@ of-the-file =
       channel_total = refl;
       machine = is-machine [] (refl, (refl, (refl, (refl, (refl, tt))))) ((codes "a.x", 7) ∷ []);
       channel = is-channel (capacity_of ((codes "a.x", 7) ∷ []) 1) 7 (refl, refl, refl, refl, refl, refl, refl, refl);
+      shared = unshared machines refl;
     }
 
 -- hosts are numbered by their machines, in whatever order `share` lists them
@@ -228,7 +230,7 @@ abbrev b_first : List (List (List ℕ))
 b_first = (codes "b" ∷ []) ∷ (codes "a" ∷ []) ∷ []
 
 by-machines : IsPlan design (asked b_first []) 1 plan
-by-machines = record { listed = refl; machine_total = refl; channel_total = refl; machine = is-machine b_first (refl, (refl, (refl, (refl, (refl, tt))))) []; channel = is-channel (capacity_of [] 1) 1 (refl, refl, refl, refl, refl, refl, refl, refl) }
+by-machines = record { listed = refl; machine_total = refl; channel_total = refl; machine = is-machine b_first (refl, (refl, (refl, (refl, (refl, tt))))) []; channel = is-channel (capacity_of [] 1) 1 (refl, refl, refl, refl, refl, refl, refl, refl); shared = unshared machines refl }
 
 -- ---- what is no plan of the cut
 

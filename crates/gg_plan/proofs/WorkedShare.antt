@@ -32,6 +32,7 @@ use Rattle.gg_cut.specs.Channels.{wires_of, capacity_of}
 use Rattle.gg_cut.specs.Plan.{IsPlan, IsMachine, IsChannel, IsCutPart, wire_at}
 use Rattle.gg_cut.proofs.WorkedPair.{input, output, asks}
 use Rattle.gg_plan.proofs.WorkedTests.{each-below, ascending, names-below, has-needs, extra-need}
+use Rattle.gg_plan.proofs.WorkedHosts.{shared-two}
 use Rattle.gg_plan.proofs.WorkedParts.{is-part, is-part-with, no-memories, is-cut-part, idle-register}
 
 -- a register that adds signal a up, and is itself signal r
@@ -257,7 +258,18 @@ is-channel c any =
     ) c
 
 pub is-plan : IsPlan design request 2 (record { machines = machines; channels = channels; listed = listed })
-is-plan = record { listed = refl; machine_total = refl; channel_total = refl; machine = is-machine; channel = is-channel }
+is-plan =
+    record {
+      listed = refl;
+      machine_total = refl;
+      channel_total = refl;
+      machine = is-machine;
+      channel = is-channel;
+      shared =
+          shared-two machines 1 2 9 (lit< tt) (λ e. absurd (omega (arith, e))) refl refl
+          (λ any other. record { signals = refl; registers = refl; memories = refl; ins = refl; outs = λ s. (λ c. c, λ c. c) })
+          (λ any other. record { signals = refl; registers = refl; memories = refl; ins = refl; outs = λ s. (λ c. c, λ c. c) });
+    }
 
 -- ---- what is no plan of the cut
 
@@ -293,3 +305,46 @@ register-idle = idle-register circuit part_u.globals (3 ∷ []) (0 ∷ 1 ∷ [])
 -- both units with the part of `u`
 twice-u : ¬ IsPlan design request 2 (record { machines = set machines 2 (record { name = codes "v"; host = 1; body = Cut part_u; ins = 3 ∷ []; outs = 4 ∷ [] }); channels = channels; listed = listed })
 twice-u is = let body = (is.machine 2 any_machine (lit< tt)).body in let wrong : 3 ≡ 6 = ap (λ (l : List ℕ). value_at l 0) body.1.ins in absurd (omega (arith, wrong))
+
+-- a part of `v` whose signals are listed in another order: it runs as well, but not as the part of `u`
+abbrev turned : Part
+turned =
+    record {
+      piece =
+          record {
+            paths = codes "v.r" ∷ codes "v.a" ∷ codes "v.s" ∷ [];
+            signals =
+                signal eight (Held 0) ∷ signal eight (Input 0) ∷ copy eight 0 ∷ [];
+            registers = adding 0 1 ∷ [];
+            memories = [];
+            ins = 1 ∷ [];
+            outs = 2 ∷ [];
+            clocks = 0;
+          };
+      globals = 8 ∷ 6 ∷ 7 ∷ [];
+      held = 1 ∷ [];
+      memories = [];
+    }
+
+turned-register : (r : ℕ) → r < 1 → IsRegisterFrom circuit turned.piece turned.globals (1 ∷ []) r
+turned-register =
+    only (IsRegisterFrom circuit turned.piece turned.globals (1 ∷ [])) (record {
+      within = lit< tt;
+      is = λ any other. refl;
+      below = λ any s names. elim names [ inl none ↦ absurd none | inr at ↦ names-below 3 (sum_of 0 1) refl s at ];
+    })
+
+turned-part : IsPart circuit turned.piece turned.globals (1 ∷ []) []
+turned-part =
+    is-part-with circuit turned.piece turned.globals (1 ∷ []) [] refl refl refl refl refl refl
+    ((lit< tt, refl), ((lit< tt, refl), ((names-below 3 (node eight (Ref 0) ∷ []) refl, refl), tt)))
+    ((lit< tt, refl), tt) refl refl turned-register refl refl (λ m lt. absurd (omega arith))
+
+turned-cut : IsCutPart design listed wires 2 turned
+turned-cut = is-cut-part design listed wires 2 turned turned-part refl refl refl refl refl refl refl (no-memories tree listed 2 refl) refl
+
+-- one host, but two programs
+two-programs : ¬ IsPlan design request 2 (record { machines = set machines 2 (record { name = codes "v"; host = 1; body = Cut turned; ins = 3 ∷ []; outs = 4 ∷ [] }); channels = channels; listed = listed })
+two-programs is =
+    let alike = is.shared 1 2 any_machine any_machine (lit< tt) (lit< tt) (λ e. absurd (omega (arith, e))) refl in
+    let wrong : 2 ≡ 1 = ap (λ (l : List ℕ). value_at l 0) alike.ins in absurd (omega (arith, wrong))

@@ -19,17 +19,42 @@ use Rattle.gg_cut.specs.declared.plan.Machine.{Machine}
 use Rattle.gg_cut.specs.declared.plan.Channel.{Channel}
 use Rattle.gg_cut.specs.declared.listed.Listed.{Listed}
 use Rattle.gg_cut.specs.declared.wires.Wire.{Wire}
+use Rattle.gg_cut.specs.Alike.{AreAlike}
+use Rattle.gg_cut.specs.Hosts.{leader}
 use Rattle.gg_cut.specs.Machines.{machine_count}
-use Rattle.gg_cut.specs.Plan.{wire_at, channels_to, channels_from, signals_of, givens_of, IsMachine, AreNeedsOf, NeedsIn, IsChannel}
+use Rattle.gg_cut.specs.Plan.{wire_at, channels_to, channels_from, signals_of, givens_of, IsBody, IsMachine, AreNeedsOf, NeedsIn, IsChannel}
 
 -- how many tokens a channel may hold
 abbrev pub IsCapacity : ℕ → Type 0
 IsCapacity n = (0 < n) × (n ≤ capacity_limit)
 
+-- the memories of a part are ascending
+abbrev pub HasAscending : Body → Type 0
+HasAscending (Cut part) = AllPairs (λ a b. a < b) part.memories
+HasAscending (Memory part) = AllPairs (λ a b. a < b) part.memories
+HasAscending (Source place) = Unit {0}
+HasAscending Tray = Unit {0}
+
+-- What machine m does, after the machines before it. If one of them is the first of its host, its part is like that one's.
+pub record IsMadeBody (design : Ordered) (request : Request) (listed : Listed) (wires : List Wire) (machines : List Machine) (m : ℕ) (body : Body) : Type 0 where
+  pub is : IsBody design listed wires m body
+  pub ascend : HasAscending body
+  pub alike : (any : Machine) → leader request.units request.share m ≢ m → AreAlike (slice_index_or machines (leader request.units request.share m) any).body body
+
+-- the first `count` machines of a plan
+pub record AreMachinesTo (design : Ordered) (request : Request) (listed : Listed) (wires : List Wire) (count : ℕ) (machines : List Machine) : Type 0 where
+  pub counted : length machines ≡ count
+  pub each : (m : ℕ) (any : Machine) → m < count → IsMachine design request listed wires m (slice_index_or machines m any)
+  pub ascend : (m : ℕ) (any : Machine) → m < count → HasAscending (slice_index_or machines m any).body
+  pub alike : (m : ℕ) (any other : Machine) → m < count → leader request.units request.share m ≢ m
+      → AreAlike (slice_index_or machines (leader request.units request.share m) any).body (slice_index_or machines m other).body
+
 -- the machines of a plan
 pub record AreMachines (design : Ordered) (request : Request) (listed : Listed) (wires : List Wire) (machines : List Machine) : Type 0 where
   pub total : length machines ≡ machine_count design.circuit listed
   pub each : (m : ℕ) (any : Machine) → m < length machines → IsMachine design request listed wires m (slice_index_or machines m any)
+  pub shared : (m n : ℕ) (any other : Machine) → m < length machines → n < length machines → m ≢ n → (slice_index_or machines m any).host ≡ (slice_index_or machines n other).host
+      → AreAlike (slice_index_or machines m any).body (slice_index_or machines n other).body
 
 -- A part whose needs can be computed: a well-formed piece in an order of evaluation, whose ports are a machine's
 -- channels.

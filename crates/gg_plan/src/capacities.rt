@@ -1,9 +1,10 @@
 //! The capacities of channels, by their signals.
-ghost use Rattle.std.specs.Prelude.{◌≡◌, ℕ, List, ◌<◌, ◌≤◌, ◌^◌, if◌then◌else◌, bytes_eq, length, replicate, All, IfOk};
+ghost use Rattle.std.specs.Prelude.{◌≡◌, ℕ, List, ◌<◌, ◌≤◌, ◌^◌, if◌then◌else◌, bytes_eq, length, All, IfOk};
 ghost use Rattle.gg_flat.specs.Line.{value_at};
 ghost use Rattle.gg_flat.specs.Tree.{path_at};
 ghost use Rattle.gg_cut.specs.Channels.{capacity_of};
 
+use crate::lists::filled;
 use gg_bits::Name;
 use gg_flat::Piece;
 use std::alloc::{AllocError, Global};
@@ -29,13 +30,6 @@ pub(crate) fn capacity_table(
         set_capacity(piece, &pair.0, pair.1 as u32, &mut table);
     }
     Ok(table)
-}
-
-// A list with `count` copies of a number.
-fn filled(alloc: Global, count: usize, number: u32) -> Result<Vec<u32>, AllocError>
-    ensures { IfOk result (λ filled. filled.items ≡ replicate count number) }
-{
-    vec![in alloc; number; count]
 }
 
 // Gives a signal the capacity, if there is a signal with this path.

@@ -9,30 +9,12 @@ use gg_bits::{Name, Names};
 use gg_cut::Numbering;
 use std::alloc::{AllocError, Global};
 
-/// The hosts of this many machines, by their numbers.
+/// The first machine of each machine's host, for this many machines.
 ///
 /// # Errors
 ///
 /// Returns `AllocError` if an allocation fails.
-pub(crate) fn hosts_of(
-    alloc: Global,
-    numbering: &Numbering,
-    units: &[Name],
-    share: &[Names],
-    count: usize,
-) -> Result<Vec<u32>, AllocError>
-    requires numbering { numbering.now.units ≡ length units.now }
-    requires units { length units.now < count }
-    requires few { count < 2 ^ 32 }
-    ensures count { IfOk result (λ hosts. length hosts.items ≡ count) }
-    ensures hosts { IfOk result (λ hosts. (m : ℕ) → m < count → value_at hosts.items m ≡ host_of units.now share.now m) }
-{
-    let leaders = leaders_of(alloc, numbering, units, share, count)?;
-    number_hosts(alloc, units, share, &leaders)
-}
-
-// The first machine of each machine's host.
-fn leaders_of(
+pub(crate) fn leaders_of(
     alloc: Global,
     numbering: &Numbering,
     units: &[Name],
@@ -127,8 +109,12 @@ fn machine_of(numbering: &Numbering, units: &[Name], path: &Name) -> u32
     0
 }
 
-// The number of each machine's host, from the first machine of its host.
-fn number_hosts(
+/// The number of each machine's host, from the first machine of its host.
+///
+/// # Errors
+///
+/// Returns `AllocError` if an allocation fails.
+pub(crate) fn number_hosts(
     alloc: Global,
     units: &[Name],
     share: &[Names],

@@ -7,6 +7,9 @@
 //!   Each channel's capacity is from 1 to 4,096;
 //! - `deps` returns the channels that a channel of a plan needs. It allocates nothing.
 //!
+//! A unit that isn't the first machine of its host gets the part of the first one, with its own numbers, paths and clocks
+//! (`moved`): so units of one host run one program. By a law of gg_duplicates that is the part that the plan asks for.
+//!
 //! The time that `cut` takes is that of gg_split, gg_part and gg_needs, and otherwise linear, with one exception: to
 //! find the hosts it compares each entry of `share` with the units, of which there are at most 256.
 #![tactic(auto)]
@@ -14,11 +17,15 @@
 mod build;
 mod capacities;
 mod channels;
+mod clocks;
 mod hosts;
 mod lists;
 mod machines;
+mod moved;
+mod moved_piece;
 mod names;
 mod needs;
 mod parts;
+mod places;
 
 pub use build::{cut, deps};

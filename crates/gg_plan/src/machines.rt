@@ -1,24 +1,31 @@
 //! The machines of a plan.
-ghost use Rattle.std.specs.Prelude.{◌≡◌, ℕ, ◌+◌, ◌<◌, ◌^◌, length, IfOk, OnOk, slice_index_or};
-ghost use Rattle.gg_cut.specs.Hosts.{host_of};
-ghost use Rattle.gg_cut.specs.Machines.{machine_count, numbering_of};
+ghost use Rattle.std.specs.Prelude.{◌≡◌, ◌≢◌, ℕ, ◌+◌, ◌<◌, ◌^◌, None, length, IfOk, slice_index_or, All};
+ghost use Rattle.gg_moved.specs.KeepsToTree.{KeepsToTree};
+ghost use Rattle.gg_cut.specs.Alike.{AreAlike};
 ghost use Rattle.gg_cut.specs.Channels.{wires_of};
+ghost use Rattle.gg_cut.specs.Fault.{first_fault};
+ghost use Rattle.gg_cut.specs.Hosts.{leader, host_of};
+ghost use Rattle.gg_cut.specs.Listed.{listed_of};
+ghost use Rattle.gg_cut.specs.Machines.{machine_count, numbering_of};
 ghost use Rattle.gg_cut.specs.Plan.{IsMachine, IsBody};
 ghost use Rattle.gg_cut.specs.declared.plan.Machine.{Machine};
+ghost use Rattle.gg_duplicates.specs.Again.{IsUnitAgain};
 ghost use Rattle.gg_split.specs.Share.{IsShareOf};
 ghost use Rattle.gg_split.specs.IsShare.{AreShares};
-ghost use Rattle.gg_plan.specs.Made.{AreMachines};
+ghost use Rattle.gg_plan.specs.Made.{IsMadeBody, AreMachines, AreMachinesTo, HasAscending};
 
-use crate::hosts::hosts_of;
+use crate::hosts::{leaders_of, number_hosts};
+use crate::moved::moved_part;
 use crate::names::machine_name;
 use crate::parts::{copied, cut_part};
 use gg_cut::{Body, Listed, Machine, Numbering, Role, Wire};
+use gg_duplicates::units_stand_again;
 use gg_order::Design;
 use gg_partfile::Request;
 use gg_split::{Share, Split};
 use std::alloc::{AllocError, Global};
 
-/// The machines of a plan, by their numbers.
+/// The machines of a plan, by their numbers. The request has no fault.
 ///
 /// # Errors
 ///
@@ -30,6 +37,9 @@ pub(crate) fn machines_of(
     listed: &Listed,
     split: &Split,
 ) -> Result<Vec<Machine>, AllocError>
+    requires keeps { KeepsToTree design.now.circuit design.now.tree }
+    requires faultless { first_fault design.now request.now ≡ None }
+    requires listed { listed.now ≡ listed_of design.now.tree request.now }
     requires shares { AreShares design.now listed.now split.now.shares }
     requires wires { split.now.wires ≡ wires_of design.now.circuit design.now.tree listed.now }
     requires units { length listed.now.units ≡ length request.now.units }
@@ -39,26 +49,40 @@ pub(crate) fn machines_of(
     let numbering = Numbering::of(design.piece(), listed);
     let shares = split.shares.as_slice();
     let wires = split.wires.as_slice();
-    let hosts = hosts_of(
+    let units = request.units.as_slice();
+    let leaders = leaders_of(
         alloc,
         &numbering,
-        request.units.as_slice(),
+        units,
         request.share.as_slice(),
         shares.len(),
     )?;
+    let hosts = number_hosts(alloc, units, request.share.as_slice(), &leaders)?;
     let mut machines = Vec::new(alloc);
     for number in 0..shares.len() {
         let share = &shares[number];
+        let body = body_at(
+            alloc,
+            design,
+            request,
+            listed,
+            &numbering,
+            wires,
+            share,
+            &machines,
+            leaders[number],
+            number,
+        )?;
         let host = hosts[number];
         let machine = machine_at(
-            alloc, design, request, listed, &numbering, wires, share, host, number,
+            alloc, design, request, listed, &numbering, wires, share, body, host, number,
         )?;
         machines.push(machine)?;
     }
     Ok(machines)
 }
 
-// A machine with its host, by its number.
+// A machine with its host and its body, by its number.
 fn machine_at(
     alloc: Global,
     design: &Design,
@@ -67,6 +91,7 @@ fn machine_at(
     numbering: &Numbering,
     wires: &[Wire],
     share: &Share,
+    body: Body,
     host: u32,
     number: usize,
 ) -> Result<Machine, AllocError>
@@ -74,13 +99,15 @@ fn machine_at(
     requires share { IsShareOf design.now listed.now wires.now number share.now.ins share.now.outs share.now.globals share.now.memories }
     requires units { length listed.now.units ≡ length request.now.units }
     requires known { number < machine_count design.now.circuit listed.now }
+    requires body { IsBody design.now listed.now wires.now number body }
     requires host { host ≡ host_of request.now.units request.now.share number }
-    ensures { IfOk result (λ machine. IsMachine design.now request.now listed.now wires.now number machine) }
+    ensures machine { IfOk result (λ machine. IsMachine design.now request.now listed.now wires.now number machine) }
+    ensures body { IfOk result (λ machine. machine.body ≡ body) }
 {
+    let _ = wires;
     let name = machine_name(alloc, design, request, listed, numbering, number)?;
     let ins = copied(alloc, share.ins.as_slice())?;
     let outs = copied(alloc, share.outs.as_slice())?;
-    let body = body_at(alloc, design, listed, numbering, wires, share, number)?;
     Ok(Machine {
         name,
         host,
@@ -90,8 +117,86 @@ fn machine_at(
     })
 }
 
-// What a machine does, by its number.
+// What a machine does, by its number, after the machines before it. If an earlier machine has its host, its part is that
+// machine's, moved.
 fn body_at(
+    alloc: Global,
+    design: &Design,
+    request: &Request,
+    listed: &Listed,
+    numbering: &Numbering,
+    wires: &[Wire],
+    share: &Share,
+    machines: &[Machine],
+    first: u32,
+    number: usize,
+) -> Result<Body, AllocError>
+    requires keeps { KeepsToTree design.now.circuit design.now.tree }
+    requires faultless { first_fault design.now request.now ≡ None }
+    requires listed { listed.now ≡ listed_of design.now.tree request.now }
+    requires wires { wires.now ≡ wires_of design.now.circuit design.now.tree listed.now }
+    requires numbering { numbering.now ≡ numbering_of design.now.circuit listed.now }
+    requires known { number < machine_count design.now.circuit listed.now }
+    requires share { IsShareOf design.now listed.now wires.now number share.now.ins share.now.outs share.now.globals share.now.memories }
+    requires machines { AreMachinesTo design.now request.now listed.now wires.now number machines.now }
+    requires first { first ≡ leader request.now.units request.now.share number }
+    ensures { IfOk result (λ body. IsMadeBody design.now request.now listed.now wires.now machines.now number body) }
+{
+    let _ = request;
+    let _ = design.piece();
+    let _ = design.order();
+    units_stand_again();
+    if (first as usize) < number {
+        let leader = &machines[first as usize].body;
+        moved_body(
+            alloc,
+            design,
+            listed,
+            wires,
+            share,
+            leader,
+            first as usize,
+            number,
+        )
+    } else {
+        own_body(alloc, design, listed, numbering, wires, share, number)
+    }
+}
+
+// What a unit does, from what the first unit of its host does, which has the number `first`.
+fn moved_body(
+    alloc: Global,
+    design: &Design,
+    listed: &Listed,
+    wires: &[Wire],
+    share: &Share,
+    leader: &Body,
+    first: usize,
+    number: usize,
+) -> Result<Body, AllocError>
+    requires again { IsUnitAgain design.now listed.now first number }
+    requires leader { IsBody design.now listed.now wires.now first leader.now }
+    requires ascend { HasAscending leader.now }
+    requires share { IsShareOf design.now listed.now wires.now number share.now.ins share.now.outs share.now.globals share.now.memories }
+    requires wires { wires.now ≡ wires_of design.now.circuit design.now.tree listed.now }
+    requires units { All (λ k. k < length design.now.tree.instances) listed.now.units }
+    ensures body { IfOk result (λ body. IsBody design.now listed.now wires.now number body) }
+    ensures ascend { IfOk result (λ body. HasAscending body) }
+    ensures alike { IfOk result (λ body. AreAlike leader.now body) }
+{
+    match leader {
+        Body::Cut(part) => {
+            let moved = moved_part(alloc, design, listed, wires, share, part, first, number)?;
+            Ok(Body::Cut(moved))
+        }
+        Body::Memory(_) => unreachable!(),
+        Body::Source(_) => unreachable!(),
+        Body::Tray => unreachable!(),
+    }
+}
+
+// What a machine does that is the first of its host, by its number.
+fn own_body(
     alloc: Global,
     design: &Design,
     listed: &Listed,
@@ -103,7 +208,8 @@ fn body_at(
     requires numbering { numbering.now ≡ numbering_of design.now.circuit listed.now }
     requires known { number < machine_count design.now.circuit listed.now }
     requires share { IsShareOf design.now listed.now wires.now number share.now.ins share.now.outs share.now.globals share.now.memories }
-    ensures { IfOk result (λ body. IsBody design.now listed.now wires.now number body) }
+    ensures body { IfOk result (λ body. IsBody design.now listed.now wires.now number body) }
+    ensures ascend { IfOk result (λ body. HasAscending body) }
 {
     match numbering.role(number) {
         Role::Hub => Ok(Body::Cut(cut_part(alloc, design, listed, wires, share, number)?)),

@@ -1,5 +1,5 @@
 //! The parts of the circuit that the machines run.
-ghost use Rattle.std.specs.Prelude.{◌≡◌, ◌<◌, length, All, IfOk};
+ghost use Rattle.std.specs.Prelude.{◌≡◌, ◌<◌, length, All, AllPairs, IfOk};
 ghost use Rattle.gg_cut.specs.Machines.{first_source};
 ghost use Rattle.gg_cut.specs.Plan.{signals_of, givens_of, IsCutPart};
 ghost use Rattle.gg_split.specs.Share.{IsShareOf};
@@ -26,7 +26,8 @@ pub(crate) fn cut_part(
 ) -> Result<Part, AllocError>
     requires share { IsShareOf design.now listed.now wires.now number share.now.ins share.now.outs share.now.globals share.now.memories }
     requires inside { number < first_source listed.now }
-    ensures { IfOk result (λ part. IsCutPart design.now listed.now wires.now number part) }
+    ensures part { IfOk result (λ part. IsCutPart design.now listed.now wires.now number part) }
+    ensures ascend { IfOk result (λ part. AllPairs (λ a b. a < b) part.memories) }
 {
     let _ = listed;
     let _ = design.order();
@@ -56,8 +57,16 @@ fn signals(alloc: Global, wires: &[Wire], channels: &[u32]) -> Result<Vec<u32>, 
     Ok(signals)
 }
 
-// The signals by which channels are given.
-fn givens(alloc: Global, wires: &[Wire], channels: &[u32]) -> Result<Vec<u32>, AllocError>
+/// The signals by which channels are given.
+///
+/// # Errors
+///
+/// Returns `AllocError` if an allocation fails.
+pub(crate) fn givens(
+    alloc: Global,
+    wires: &[Wire],
+    channels: &[u32],
+) -> Result<Vec<u32>, AllocError>
     requires { All (λ channel. channel < length wires.now) channels.now }
     ensures { IfOk result (λ givens. givens.items ≡ givens_of wires.now channels.now) }
 {

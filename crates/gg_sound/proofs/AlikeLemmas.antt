@@ -1,10 +1,8 @@
 -- A piece like another does what the other does, where each clock has an edge in each tick.
-use Rattle.std.proofs.Common.{◌≡◌, ℕ, zero, suc, ◌<◌, List, [], ◌∷◌, length, map, get_or, refl, sym, ◌∙◌, ap, ap₂, subst}
-use Rattle.std.specs.Prelude.{Contains, replicate, slice_index_or}
-use Rattle.gg_bits.specs.Shape.{shape}
-use Rattle.gg_flat.specs.declared.piece.Driver.TheVariants.{Input}
+use Rattle.std.proofs.Common.{◌≡◌, ℕ, zero, suc, ◌<◌, List, [], ◌∷◌, length, refl, sym, ◌∙◌, ap, ap₂, subst}
+use Rattle.std.specs.Prelude.{Contains, replicate}
 use Rattle.gg_flat.specs.declared.piece.Signal.{Signal}
-use Rattle.gg_flat.specs.Circuit.{FlatCircuit}
+use Rattle.gg_flat.specs.Circuit.{FlatCircuit, signal_shapes, driver_at}
 use Rattle.gg_flat.specs.Depends.{SettlesOnce, DependsOn}
 use Rattle.gg_flat.specs.Line.{shape_at, value_at, AreTyped}
 use Rattle.gg_flat.specs.Memory.{Bank}
@@ -22,15 +20,15 @@ use Rattle.gg_sound.proofs.TickLemmas.{next-registers, next-banks, opening-banks
 settled-by : (one other : FlatCircuit) (state : State) (inputs values : List ℕ) → one.signals ≡ other.signals → Settled one state inputs values → Settled other state inputs values
 settled-by one other state inputs values same is =
     record {
-      typed = subst (λ (l : List Signal). AreTyped (map (λ signal. shape signal.ty) l) values) same is.typed;
-      driven = subst (λ (l : List Signal). (s : ℕ) → s < length l → value_at values s ≡ driver_value state inputs values (shape_at (map (λ signal. shape signal.ty) l) s) (slice_index_or (map (λ signal. signal.driver) l) s (Input 0))) same is.driven;
+      typed = subst (λ (l : List Signal). AreTyped (signal_shapes (record one { signals = l })) values) same is.typed;
+      driven = subst (λ (l : List Signal). (s : ℕ) → s < length l → value_at values s ≡ driver_value state inputs values (shape_at (signal_shapes (record one { signals = l })) s) (driver_at (record one { signals = l }) s)) same is.driven;
     }
 
 reads-by : (one other : FlatCircuit) (a b : ℕ) → one.signals ≡ other.signals → Reads one a b → Reads other a b
 reads-by one other a b same is =
     record {
       signal = subst (λ (l : List Signal). a < length l) same is.signal;
-      names = subst (λ (l : List Signal). NamesSignal (slice_index_or (map (λ signal. signal.driver) l) a (Input 0)) b) same is.names;
+      names = subst (λ (l : List Signal). NamesSignal (driver_at (record one { signals = l }) a) b) same is.names;
     }
 
 path-by : (one other : FlatCircuit) (a : ℕ) (path : List ℕ) (b : ℕ) → one.signals ≡ other.signals → IsPath one a path b → IsPath other a path b

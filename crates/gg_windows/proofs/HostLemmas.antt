@@ -44,6 +44,7 @@ told-shared unit machine cycle value has other = by unit.lanes has other
 pub host-tells : (host : Node) (machine : Machine) (cycle : ℕ) (value : Option ℕ) → Contains (machines_of host) machine → (IsTray (machine_of host).behaviour → value ≡ kept_value (machine_of host) cycle)
     → (¬ IsTray (machine_of host).behaviour → value ≡ None) → unwrap_or value 0 ≡ told_value machine cycle
 host-tells (node.Unit unit) machine cycle value has tray other = told-shared unit machine cycle value has other
+host-tells (node.Shared units) machine cycle value has tray other = told-shared units machine cycle value has other
 host-tells (node.Memory own) machine cycle value has tray other = told-alone own machine cycle value has tray other
 host-tells (node.Source own) machine cycle value has tray other = told-alone own machine cycle value has tray other
 host-tells (node.Tray own) machine cycle value has tray other = told-alone own machine cycle value has tray other

@@ -19,6 +19,8 @@ mod networks;
 #[cfg(test)]
 mod pieces;
 #[cfg(test)]
+mod sharing;
+#[cfg(test)]
 mod simulators;
 #[cfg(test)]
 mod trays;

@@ -1,15 +1,12 @@
 use Rattle.std.proofs.Common.{◌≡◌, sym, subst}
 use Rattle.gg_net.specs.Seats.{machines_by}
 use Rattle.gg_net.specs.Net.{Opens, opening_net}
-use Rattle.gg_build.proofs.ReadyLemmas.{all-ready, faultless, few}
+use Rattle.gg_build.proofs.ReadyLemmas.{all-ready, faultless}
 use Rattle.gg_build.proofs.OpenLemmas.{lists_of, opens, opened}
 use Rattle.gg_build.proofs.opening.build.Goals as goal
 
-pub seats_of-requires-clause-ready : goal.seats_of-requires-clause-ready
-seats_of-requires-clause-ready g c = all-ready c.args.plan.now c.args.trace.now.columns c.args.trace.now.rows g.Z.Streams.flow c.requires
-
-pub seats_of-requires-clause-few : goal.seats_of-requires-clause-few
-seats_of-requires-clause-few g c = few c.args.plan.now c.args.trace.now.columns c.args.trace.now.rows g.Z.Streams.flow c.requires
+pub seats_of-requires : goal.seats_of-requires
+seats_of-requires g c = all-ready c.args.plan.now c.args.trace.now.columns c.args.trace.now.rows g.Z.Streams.flow c.requires
 
 pub wires_of-requires : goal.wires_of-requires
 wires_of-requires g c = faultless c.args.plan.now c.args.trace.now.columns c.args.trace.now.rows g.Z.Streams.flow c.requires

@@ -1,19 +1,40 @@
-use Rattle.std.proofs.Common.{◌≡◌, ◌<◌, List, length, get_or, sym, ap, ◌∙◌, arith}
-use Rattle.std.proofs.lemmas.List.{get_or_default}
-use Rattle.gg_cut.specs.declared.plan.Machine as planned
-use Rattle.gg_sound.specs.Built.{nameless, machine_in}
-use Rattle.gg_build.proofs.SeatLemmas.{seats-more}
+use Rattle.std.proofs.Common.{◌<◌, ℕ, List, length, map, sym, subst, arith}
+use Rattle.std.proofs.lemmas.List.{length-map}
+use Rattle.gg_build.specs.declared.node.Node.{Node}
+use Rattle.gg_build.specs.Groups.{group_at}
+use Rattle.gg_build.specs.Hosts.{CanBuildAll, IsGroup, AreHosts, AreStations}
+use Rattle.gg_build.proofs.SeatLemmas.{group-can, seats-are}
 use Rattle.gg_build.proofs.seats.seats_of.Goals as goal
 
-pub loop-number-preserved : goal.loop-number-preserved
-loop-number-preserved c =
-    let plan = c.args.plan.now in
-    let m = c.loop-number.number in
-    let own = c.index-machines-number.result in
-    let known : m < length plan.machines = omega (arith, c.loop-number-test.true, ap length c.as_slice-machines.ensures) in
-    let is : machine_in plan m ≡ own =
-    get_or_default plan.machines m nameless own known
-    ∙ sym (ap (λ (l : List planned.Machine). get_or l m own) c.as_slice-machines.ensures)
-    ∙ sym c.index-machines-number.is
+pub hosts_of-requires : goal.hosts_of-requires
+hosts_of-requires c =
+    let machines = c.as_slice-machines.result.now in
+    let columns = c.args.trace.now.columns in
+    let groups = c.in_ok-groups.groups in
+    let members = map (λ list. list.items) groups.members.items in
+    let can = subst (CanBuildAll columns) (sym c.as_slice-machines.ensures) c.requires in
+    subst (λ l. (h : ℕ) → h < length l → IsGroup columns machines (group_at (map (λ list. list.items) l) h)) (sym c.deref.ensures.value)
+    (λ h lt. group-can columns machines groups.hosts.items groups.threads.items members can c.in_ok-groups.ensures h (omega (arith, lt, length-map groups.members.items (λ list. list.items))))
+
+pub returns : goal.returns
+returns c =
+    let machines = c.as_slice-machines.result.now in
+    let columns = c.args.trace.now.columns in
+    let n = c.args.trace.now.rows in
+    let groups = c.in_ok-groups.groups in
+    let hosts = groups.hosts.items in
+    let threads = groups.threads.items in
+    let members = map (λ list. list.items) groups.members.items in
+    let can = subst (CanBuildAll columns) (sym c.as_slice-machines.ensures) c.requires in
+    let nodes = c.in_ok-hosts.hosts.items in
+    let stations = c.in_ok-stations.stations.items in
+    let are : AreHosts columns n machines members (length members) nodes =
+    subst (λ k. AreHosts columns n machines members k nodes) (sym (length-map groups.members.items (λ list. list.items)))
+    (subst (λ l. AreHosts columns n machines (map (λ list. list.items) l) (length l) nodes) c.deref.ensures.value c.in_ok-hosts.ensures)
     in
-    seats-more plan c.args.trace.now.columns c.args.trace.now.rows m own c.loop-number.hosts.items c.add_seat.new.hosts.items c.loop-number.stations.items c.add_seat.new.stations.items is c.loop-number.invariant c.in_ok-add_seat.ensures
+    let stand : AreStations machines hosts threads nodes (length machines) stations =
+    subst (λ (hs : List ℕ). AreStations machines hs threads nodes (length machines) stations) c.deref-2.ensures.value
+    (subst (λ (ts : List ℕ). AreStations machines c.deref-2.result.now ts nodes (length machines) stations) c.deref-3.ensures.value
+    (subst (λ (ns : List Node). AreStations machines c.deref-2.result.now c.deref-3.result.now ns (length machines) stations) c.deref-4.ensures.value c.in_ok-stations.ensures))
+    in
+    seats-are columns machines hosts threads members can c.in_ok-groups.ensures n nodes are stations stand c.args.plan.now c.as_slice-machines.ensures

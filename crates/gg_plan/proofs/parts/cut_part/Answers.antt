@@ -1,4 +1,5 @@
-use Rattle.std.proofs.Common.{◌∙◌, ℕ, List, sym, ap, subst}
+use Rattle.std.proofs.Common.{◌∙◌, ◌<◌, ℕ, List, sym, ap, subst}
+use Rattle.std.specs.Prelude.{AllPairs}
 use Rattle.gg_part.specs.Building.{AreHeld}
 use Rattle.gg_cut.specs.Plan.{signals_of, givens_of}
 use Rattle.gg_plan.proofs.MachineLemmas.{to-below, from-below, cut-part}
@@ -10,8 +11,8 @@ signals-requires c = to-below c.args.wires.now c.args.number c.as_slice.result.n
 pub givens-requires : goal.givens-requires
 givens-requires c = from-below c.args.wires.now c.args.number c.as_slice-2.result.now (c.as_slice-2.ensures ∙ c.requires.share.gives)
 
-pub returns : goal.returns
-returns c =
+pub returns-clause-part : goal.returns-clause-part
+returns-clause-part c =
     let wires = c.args.wires.now in
     let made = c.in_ok-part.ensures in
     cut-part c.args.design.now c.args.listed.now wires c.args.number c.args.share.now c.piece.result.now c.in_ok-part.part c.requires.share c.piece.ensures.circuit made.part
@@ -21,3 +22,7 @@ returns c =
     (subst (λ (l : List ℕ). AreHeld c.piece.result.now l (signals_of wires c.args.share.now.ins) c.in_ok-part.part.held) (sym made.globals)
     (subst (λ (l : List ℕ). AreHeld c.piece.result.now c.as_slice-3.result.now l c.in_ok-part.part.held) (c.deref.ensures.value ∙ c.in_ok-ins.ensures {u = tt} ∙ ap (signals_of wires) c.as_slice.ensures) made.held))
     c.order.ensures.ordered c.part_in_order.ensures.along
+
+pub returns-clause-ascend : goal.returns-clause-ascend
+returns-clause-ascend c =
+    subst (λ (l : List ℕ). AllPairs (λ a b. a < b) l) (sym (c.in_ok-part.ensures.memories ∙ c.as_slice-4.ensures)) c.requires.share.ascend

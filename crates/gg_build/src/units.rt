@@ -1,0 +1,115 @@
+//! Units that share a host.
+ghost use Rattle.std.specs.Prelude.{◌≡◌, ◌^◌, ◌<◌, ◌≤◌, [], length, map, replicate, All, IfOk};
+ghost use Rattle.gg_flat.specs.Line.{value_at};
+ghost use Rattle.gg_flat.specs.WellFormed.{IsWellFormed};
+ghost use Rattle.gg_cut.specs.Alike.{IsLike};
+ghost use Rattle.gg_fame5.specs.Shared as shared_units;
+ghost use Rattle.gg_build.specs.Hosts.{IsUnitPart, AreUnits, ArePicked, ArePickedFor, ArePlaced, RunUnits};
+ghost use Rattle.gg_build.specs.Wires.{IsNoted};
+
+use crate::wires::note;
+use gg_bits::Ids;
+use gg_clocks::Ratios;
+use gg_cut::{Body, Machine};
+use gg_fame1::NoMemory;
+use gg_fame5::Shared;
+use gg_flat::Piece;
+use gg_part::Part;
+use gg_program::Program;
+use std::alloc::{AllocError, Global};
+
+// For each out-signal of a piece its place among them, by the number of the signal.
+fn out_places(alloc: Global, piece: &Piece) -> Result<Vec<u32>, AllocError>
+    requires formed { IsWellFormed piece.now }
+    requires few { length piece.now.outs ≤ 2 ^ 32 }
+    ensures { IfOk result (λ places. IsNoted piece.now.outs (replicate (length piece.now.signals) 0) places.items) }
+{
+    let mut places = vec![in alloc; 0; piece.signals().len()]?;
+    note(piece.outs(), &mut places);
+    Ok(places)
+}
+
+// The values at these places.
+fn picked(alloc: Global, values: &[u32], places: &[u32]) -> Result<Ids, AllocError>
+    requires { All (λ place. place < length values.now) places.now }
+    ensures { IfOk result (λ list. list ≡ map (value_at values.now) places.now) }
+{
+    let mut list = Vec::new(alloc);
+    for place in places {
+        list.push(values[*place as usize])?;
+    }
+    Ok(Ids::from(list))
+}
+
+// The places of a unit's out-signals among those of a piece like its own.
+fn outs_of(alloc: Global, piece: &Piece, places: &[u32], body: &Body) -> Result<Ids, AllocError>
+    requires formed { IsWellFormed piece.now }
+    requires places { IsNoted piece.now.outs (replicate (length piece.now.signals) 0) places.now }
+    requires like { IsLike piece.now body.now }
+    ensures { IfOk result (λ outs. ArePickedFor piece.now.outs body.now outs) }
+{
+    let _ = piece;
+    match body {
+        Body::Cut(part) => {
+            let outs = picked(alloc, places, part.piece.outs())?;
+            Ok(outs)
+        }
+        Body::Memory(_) | Body::Source(_) | Body::Tray => unreachable!(),
+    }
+}
+
+// For each of these machines the places of its out-signals among those of a piece.
+fn all_outs(
+    alloc: Global,
+    piece: &Piece,
+    machines: &[Machine],
+    group: &[u32],
+) -> Result<Vec<Ids>, AllocError>
+    requires formed { IsWellFormed piece.now }
+    requires few { length piece.now.outs ≤ 2 ^ 32 }
+    requires units { AreUnits piece.now machines.now group.now }
+    ensures { IfOk result (λ outs. ArePlaced piece.now.outs machines.now group.now (length group.now) outs.items) }
+{
+    let places = out_places(alloc, piece)?;
+    let mut outs = Vec::new(alloc);
+    for thread in 0..group.len() {
+        let number = group[thread] as usize;
+        let machine = &machines[number];
+        let own = outs_of(alloc, piece, &places, &machine.body)?;
+        outs.push(own)?;
+    }
+    Ok(outs)
+}
+
+// No ratios for each of this many threads: each clock has an edge in each tick.
+fn no_ratios(alloc: Global, count: usize) -> Result<Vec<Ratios>, AllocError>
+    ensures { IfOk result (λ ratios. ratios.items ≡ replicate count []) }
+{
+    let mut ratios = Vec::new(alloc);
+    for _thread in 0..count {
+        ratios.push(Ratios::from(Vec::new(alloc)))?;
+    }
+    Ok(ratios)
+}
+
+/// The units of these machines of a plan, a thread each. They run the piece of the first one's part.
+///
+/// # Errors
+///
+/// Returns `NoMemory` if an allocation fails.
+pub(crate) fn units_of<'a>(
+    alloc: Global,
+    part: &'a Part,
+    machines: &[Machine],
+    group: &[u32],
+) -> Result<Shared<'a>, NoMemory>
+    requires part { IsUnitPart part.now }
+    requires units { AreUnits part.now.piece machines.now group.now }
+    ensures { IfOk result (λ shared. RunUnits machines.now group.now (shared_units.machines_of shared)) }
+{
+    let outs = all_outs(alloc, &part.piece, machines, group)?;
+    let ratios = no_ratios(alloc, group.len())?;
+    let program = Program::of(alloc, &part.piece)?;
+    let shared = Shared::with_clocks(alloc, program, &outs, &ratios)?;
+    Ok(shared)
+}
