@@ -128,7 +128,7 @@ static FEEDING: Case = Case {
     dues: 0,
     serves: 0,
     kept: &[0x11, 0x83],
-    together: false,
+    hosts: &[0, 1, 2, 3, 4],
 };
 
 // A memory whose two writers are served one after the other.
@@ -195,7 +195,7 @@ static WRITING: Case = Case {
     dues: 2,
     serves: 8,
     kept: &[0, 0xf0, 0, 0],
-    together: false,
+    hosts: &[0, 1, 2, 3, 4, 5],
 };
 
 #[test]

@@ -37,8 +37,8 @@ pub(crate) struct Case {
     pub(crate) serves: u64,
     // what the tray of the last output keeps
     pub(crate) kept: &'static [u128],
-    // whether machines 1 and 2 share a host
-    pub(crate) together: bool,
+    // each machine's host
+    pub(crate) hosts: &'static [u32],
 }
 
 // The counter: its output goes ahead of its input.
@@ -62,7 +62,7 @@ static COUNTING: Case = Case {
     dues: 0,
     serves: 0,
     kept: &[0, 0, 1, 2],
-    together: false,
+    hosts: &[0, 1, 2],
 };
 
 // A memory of latency 0 that is a machine of its own: its data waits for its address.
@@ -102,7 +102,7 @@ static SERVING: Case = Case {
     dues: 1,
     serves: 3,
     kept: &[0, 7, 7],
-    together: false,
+    hosts: &[0, 1, 2],
 };
 
 // Whether these steps can be done so many times.
@@ -122,10 +122,15 @@ fn joined<'a, Z: Streams>(net: Net<Node<'a>, Z>) -> Net<Node<'a>, Z> {
     Net::of(net.parts())
 }
 
-// Whether machines 1 and 2 share a host.
-fn are_together<Z: Streams>(net: &Net<Node<'_>, Z>) -> bool {
+// Whether these are the hosts of the machines.
+fn are_hosts<Z: Streams>(net: &Net<Node<'_>, Z>, hosts: &[u32]) -> bool {
     let stations = net.shape().stations.as_slice();
-    2 < stations.len() && stations[1].host == stations[2].host
+    for (machine, host) in hosts.iter().enumerate() {
+        if machine >= stations.len() || stations[machine].host != *host {
+            return false;
+        }
+    }
+    stations.len() == hosts.len()
 }
 
 // Whether a network is as expected before its first cycle.
@@ -133,7 +138,7 @@ fn opens<Z: Streams>(net: &Net<Node<'_>, Z>, case: &Case) -> bool {
     net.machines() == case.machines as usize
         && net.channels() == case.channels as usize
         && net.shape().stations.len() == case.machines as usize
-        && are_together(net) == case.together
+        && are_hosts(net, case.hosts)
         && net.end() == case.end
         && net.test(case.refused) == Err(case.cause)
 }

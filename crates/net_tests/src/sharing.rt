@@ -9,57 +9,206 @@ const SUMS: &str =
 
 const SUMS_TRACE: &str = "cycle x\n0 01\n1 10\n2 00\n";
 
-// The units share a host. In a cycle they take turns.
-static SHARING: Case = Case {
-    machines: 6,
-    channels: 7,
-    end: 3,
-    left: 60,
-    refused: Event::Fire { channel: 1 },
-    cause: Refusal::NeedsInput { channel: 0 },
-    steps: &[
-        Event::Fire { channel: 4 },
-        Event::Fire { channel: 2 },
-        Event::Fire { channel: 0 },
-        Event::Latch { channel: 0 },
-        Event::Fire { channel: 1 },
-        Event::Fire { channel: 3 },
-        Event::Latch { channel: 1 },
-        Event::Latch { channel: 3 },
-        Event::Latch { channel: 4 },
-        Event::Latch { channel: 2 },
-        Event::Finish { machine: 2 },
-        Event::Finish { machine: 1 },
-        Event::Fire { channel: 5 },
-        Event::Fire { channel: 6 },
-        Event::Latch { channel: 5 },
-        Event::Latch { channel: 6 },
-        Event::Finish { machine: 0 },
-        Event::Finish { machine: 3 },
-        Event::Finish { machine: 4 },
-        Event::Finish { machine: 5 },
-    ],
-    ports: 0,
-    dues: 0,
-    serves: 0,
-    kept: &[0, 254, 237],
-    together: true,
-};
+// Four instances of that module. Their outputs are one.
+const FOUR: &str =
+    "circuit Four :\nmodule Sum :\ninput clock : Clock\ninput a : UInt<8>\noutput s : UInt<8>\nmem m :\ndata-type => UInt<8>\ndepth => 2\nread-latency => 0\nwrite-latency => 1\nreader => r\nwriter => w\nread-under-write => undefined\nm.r.addr <= UInt<1>(0)\nm.r.en <= UInt<1>(1)\nm.r.clk <= clock\nm.w.addr <= UInt<1>(0)\nm.w.en <= UInt<1>(1)\nm.w.clk <= clock\nm.w.mask <= UInt<1>(1)\nm.w.data <= bits(add(m.r.data, a), 7, 0)\ns <= m.r.data\nmodule Four :\ninput clock : Clock\ninput x : UInt<8>\noutput q : UInt<32>\ninst u of Sum\ninst v of Sum\ninst w of Sum\ninst z of Sum\nu.clock <= clock\nv.clock <= clock\nw.clock <= clock\nz.clock <= clock\nu.a <= x\nv.a <= not(x)\nw.a <= xor(x, UInt<8>(240))\nz.a <= bits(shl(x, 1), 7, 0)\nq <= cat(cat(u.s, v.s), cat(w.s, z.s))\n";
 
-// Lists that have both units, among empty ones too.
-static LISTS: [&str; 3] = [
-    "{\"units\":[\"u\",\"v\"],\"share\":[[\"u\",\"v\"]]}",
-    "{\"units\":[\"u\",\"v\"],\"share\":[[\"v\",\"u\"]]}",
-    "{\"units\":[\"u\",\"v\"],\"share\":[[],[\"u\",\"v\"],[]]}",
+// Two units of two clocks each, of which the second has the clocks the other way round. A unit has a register of its second clock, and, two
+// instances further down, a memory of its first: the word at the least bit of its input sums up the inputs.
+const DEEP: &str =
+    "circuit Deep :\nmodule Leaf :\ninput c : Clock\ninput a : UInt<8>\noutput s : UInt<8>\nmem m :\ndata-type => UInt<8>\ndepth => 2\nread-latency => 0\nwrite-latency => 1\nreader => r\nwriter => w\nread-under-write => undefined\nm.r.addr <= bits(a, 0, 0)\nm.r.en <= UInt<1>(1)\nm.r.clk <= c\nm.w.addr <= bits(a, 0, 0)\nm.w.en <= UInt<1>(1)\nm.w.clk <= c\nm.w.mask <= UInt<1>(1)\nm.w.data <= bits(add(m.r.data, a), 7, 0)\ns <= m.r.data\nmodule Mid :\ninput c : Clock\ninput a : UInt<8>\noutput s : UInt<8>\noutput t : UInt<8>\ninst leaf of Leaf\nleaf.c <= c\nleaf.a <= a\ns <= leaf.s\nt <= xor(leaf.s, a)\nmodule Outer :\ninput c : Clock\ninput d : Clock\ninput a : UInt<8>\noutput s : UInt<8>\nreg r : UInt<8>, d\ninst mid of Mid\nmid.c <= c\nmid.a <= a\ns <= bits(add(mid.s, r), 7, 0)\nr <= mid.t\nmodule Deep :\ninput c1 : Clock\ninput c2 : Clock\ninput x : UInt<8>\noutput q : UInt<16>\ninst u of Outer\ninst v of Outer\nu.c <= c1\nu.d <= c2\nv.c <= c2\nv.d <= c1\nu.a <= x\nv.a <= not(x)\nq <= cat(u.s, v.s)\n";
+
+// Circuit, partitions, trace, and what is expected for each of these partitions. The two units share a host, in lists among empty ones too:
+// in a cycle they take turns. They share none: no list, an empty one, lists of one unit; the first is through its cycle ahead of the second.
+// Four units share two hosts, by turns. Two units of many levels share one.
+static SHARES: [(&str, &[&str], &str, Case); 4] = [
+    (
+        SUMS,
+        &[
+            "{\"units\":[\"u\",\"v\"],\"share\":[[\"u\",\"v\"]]}",
+            "{\"units\":[\"u\",\"v\"],\"share\":[[\"v\",\"u\"]]}",
+            "{\"units\":[\"u\",\"v\"],\"share\":[[],[\"u\",\"v\"],[]]}",
+        ],
+        SUMS_TRACE,
+        Case {
+            machines: 6,
+            channels: 7,
+            end: 3,
+            left: 60,
+            refused: Event::Fire { channel: 1 },
+            cause: Refusal::NeedsInput { channel: 0 },
+            steps: &[
+                Event::Fire { channel: 4 },
+                Event::Fire { channel: 2 },
+                Event::Fire { channel: 0 },
+                Event::Latch { channel: 0 },
+                Event::Fire { channel: 1 },
+                Event::Fire { channel: 3 },
+                Event::Latch { channel: 1 },
+                Event::Latch { channel: 3 },
+                Event::Latch { channel: 4 },
+                Event::Latch { channel: 2 },
+                Event::Finish { machine: 2 },
+                Event::Finish { machine: 1 },
+                Event::Fire { channel: 5 },
+                Event::Fire { channel: 6 },
+                Event::Latch { channel: 5 },
+                Event::Latch { channel: 6 },
+                Event::Finish { machine: 0 },
+                Event::Finish { machine: 3 },
+                Event::Finish { machine: 4 },
+                Event::Finish { machine: 5 },
+            ],
+            ports: 0,
+            dues: 0,
+            serves: 0,
+            kept: &[0, 254, 237],
+            hosts: &[0, 1, 1, 2, 3, 4],
+        },
+    ),
+    (
+        SUMS,
+        &[
+            "{\"units\":[\"u\",\"v\"],\"share\":[]}",
+            "{\"units\":[\"u\",\"v\"],\"share\":[[]]}",
+            "{\"units\":[\"u\",\"v\"],\"share\":[[\"u\"]]}",
+            "{\"units\":[\"u\",\"v\"],\"share\":[[\"v\"],[\"u\"]]}",
+        ],
+        SUMS_TRACE,
+        Case {
+            machines: 6,
+            channels: 7,
+            end: 3,
+            left: 60,
+            refused: Event::Fire { channel: 1 },
+            cause: Refusal::NeedsInput { channel: 0 },
+            steps: &[
+                Event::Fire { channel: 0 },
+                Event::Latch { channel: 0 },
+                Event::Finish { machine: 3 },
+                Event::Fire { channel: 1 },
+                Event::Latch { channel: 1 },
+                Event::Fire { channel: 2 },
+                Event::Latch { channel: 2 },
+                Event::Finish { machine: 1 },
+                Event::Fire { channel: 5 },
+                Event::Latch { channel: 5 },
+                Event::Finish { machine: 4 },
+                Event::Fire { channel: 3 },
+                Event::Latch { channel: 3 },
+                Event::Fire { channel: 4 },
+                Event::Latch { channel: 4 },
+                Event::Finish { machine: 2 },
+                Event::Fire { channel: 6 },
+                Event::Latch { channel: 6 },
+                Event::Finish { machine: 5 },
+                Event::Finish { machine: 0 },
+            ],
+            ports: 0,
+            dues: 0,
+            serves: 0,
+            kept: &[0, 0xfe, 0xed],
+            hosts: &[0, 1, 2, 3, 4, 5],
+        },
+    ),
+    (
+        FOUR,
+        &[
+            "{\"units\":[\"u\",\"v\",\"w\",\"z\"],\"share\":[[\"u\",\"w\"],[\"v\",\"z\"]]}",
+            "{\"units\":[\"u\",\"v\",\"w\",\"z\"],\"share\":[[\"z\",\"v\"],[\"w\",\"u\"]]}",
+        ],
+        "cycle x\n0 01\n1 10\n2 83\n",
+        Case {
+            machines: 7,
+            channels: 10,
+            end: 3,
+            left: 81,
+            refused: Event::Fire { channel: 1 },
+            cause: Refusal::NeedsInput { channel: 0 },
+            steps: &[
+                Event::Fire { channel: 8 },
+                Event::Fire { channel: 0 },
+                Event::Latch { channel: 0 },
+                Event::Fire { channel: 5 },
+                Event::Fire { channel: 1 },
+                Event::Latch { channel: 5 },
+                Event::Latch { channel: 1 },
+                Event::Fire { channel: 2 },
+                Event::Fire { channel: 6 },
+                Event::Finish { machine: 3 },
+                Event::Fire { channel: 7 },
+                Event::Latch { channel: 7 },
+                Event::Finish { machine: 4 },
+                Event::Fire { channel: 3 },
+                Event::Latch { channel: 3 },
+                Event::Fire { channel: 4 },
+                Event::Latch { channel: 2 },
+                Event::Finish { machine: 1 },
+                Event::Latch { channel: 8 },
+                Event::Latch { channel: 6 },
+                Event::Latch { channel: 4 },
+                Event::Fire { channel: 9 },
+                Event::Finish { machine: 2 },
+                Event::Finish { machine: 0 },
+                Event::Latch { channel: 9 },
+                Event::Finish { machine: 6 },
+                Event::Finish { machine: 5 },
+            ],
+            ports: 0,
+            dues: 0,
+            serves: 0,
+            kept: &[0, 0x1fef102, 0x11edd122],
+            hosts: &[0, 1, 2, 1, 2, 3, 4],
+        },
+    ),
+    (
+        DEEP,
+        &["{\"units\":[\"u\",\"v\"],\"share\":[[\"u\",\"v\"]]}"],
+        "cycle x\n0 01\n1 10\n2 83\n3 05\n4 62\n",
+        Case {
+            machines: 5,
+            channels: 6,
+            end: 5,
+            left: 85,
+            refused: Event::Fire { channel: 1 },
+            cause: Refusal::NeedsInput { channel: 0 },
+            steps: &[
+                Event::Fire { channel: 0 },
+                Event::Latch { channel: 0 },
+                Event::Fire { channel: 3 },
+                Event::Fire { channel: 1 },
+                Event::Latch { channel: 1 },
+                Event::Latch { channel: 3 },
+                Event::Fire { channel: 4 },
+                Event::Fire { channel: 2 },
+                Event::Finish { machine: 2 },
+                Event::Latch { channel: 4 },
+                Event::Latch { channel: 2 },
+                Event::Fire { channel: 5 },
+                Event::Finish { machine: 0 },
+                Event::Finish { machine: 1 },
+                Event::Latch { channel: 5 },
+                Event::Finish { machine: 4 },
+                Event::Finish { machine: 3 },
+            ],
+            ports: 0,
+            dues: 0,
+            serves: 0,
+            kept: &[0, 0x1fe, 0x11ed, 0x6fc, 0x916f],
+            hosts: &[0, 1, 1, 2, 3],
+        },
+    ),
 ];
 
 #[test]
-fn two_units_share_a_host(rt: HostRuntime) -> Result<(), Fail> {
-    for partition in &LISTS {
-        assert!(rt;
-            is_network(rt.alloc(), SUMS, partition, SUMS_TRACE, &SHARING),
-            "{partition}"
-        );
+fn units_share_hosts(rt: HostRuntime) -> Result<(), Fail> {
+    for (circuit, partitions, trace, case) in &SHARES {
+        for partition in *partitions {
+            assert!(rt;
+                is_network(rt.alloc(), circuit, partition, trace, case),
+                "{partition}"
+            );
+        }
     }
     Ok(())
 }

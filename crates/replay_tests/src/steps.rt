@@ -43,9 +43,10 @@ fn replay(
     ask(alloc, line, files)
 }
 
-// A call on a circuit, a partition, a trace and steps, for channels of capacity 1.
-fn replay_of(
+// A call on a circuit, a partition, a trace and steps.
+fn replay_texts(
     alloc: Global,
+    line: &str,
     circuit: &str,
     partition: &str,
     trace: &str,
@@ -57,7 +58,18 @@ fn replay_of(
         partition.as_bytes(),
         trace.as_bytes(),
     )?;
-    replay(alloc, REPLAY_1, files, steps.as_bytes())
+    replay(alloc, line, files, steps.as_bytes())
+}
+
+// A call on a circuit, a partition, a trace and steps, for channels of capacity 1.
+fn replay_of(
+    alloc: Global,
+    circuit: &str,
+    partition: &str,
+    trace: &str,
+    steps: &str,
+) -> Result<Answer, AllocError> {
+    replay_texts(alloc, REPLAY_1, circuit, partition, trace, steps)
 }
 
 // A call on the counter, with these steps.
@@ -80,12 +92,14 @@ fn tokens_of_the_counter(rt: HostRuntime) -> Result<(), Fail> {
     Ok(())
 }
 
-// Circuit, partition, trace, steps, and the text. Two orders of the same steps, and no step. A memory that is read; that is written at
+// Words, circuit, partition, trace, steps, and the text. Two orders of the same steps, and no step. A memory that is read; that is written at
 // its first port. Two units of one host, of which one goes ahead. A memory through its first cycle, ahead of the hub; and on to its
 // second, which reads what the later of its two writers wrote. A memory of latency 1 that reads new words: its writer is due before its
-// reader. The two units of one host: only outputs; one in its second cycle while the other stays; two whole cycles; one tray ahead.
-static WORKED: [(&str, &str, &str, &str, &str); 13] = [
+// reader. The two units of one host: only outputs; one in its second cycle while the other stays; two whole cycles; one tray ahead; both in
+// their second cycle before the hub takes what they gave, where a channel holds two tokens.
+static WORKED: [(&str, &str, &str, &str, &str, &str); 14] = [
     (
+        REPLAY_1,
         PAIR,
         UNITS,
         PAIR_TRACE,
@@ -93,6 +107,7 @@ static WORKED: [(&str, &str, &str, &str, &str); 13] = [
         "x 1/1 0f\na.x 1/0 0f\na.k 0/0\na.p 0/0\na.q 0/0\nb.m 0/0\nb.n 0/0\nq 0/0\n",
     ),
     (
+        REPLAY_1,
         PAIR,
         UNITS,
         PAIR_TRACE,
@@ -100,6 +115,7 @@ static WORKED: [(&str, &str, &str, &str, &str); 13] = [
         "x 1/1 0f\na.x 1/0 0f\na.k 0/0\na.p 0/0\na.q 0/0\nb.m 0/0\nb.n 0/0\nq 0/0\n",
     ),
     (
+        REPLAY_1,
         PAIR,
         UNITS,
         PAIR_TRACE,
@@ -107,6 +123,7 @@ static WORKED: [(&str, &str, &str, &str, &str); 13] = [
         "x 0/0\na.x 0/0\na.k 0/0\na.p 0/0\na.q 0/0\nb.m 0/0\nb.n 0/0\nq 0/0\n",
     ),
     (
+        REPLAY_1,
         MEMORY,
         LISTED,
         MEMORY_TRACE,
@@ -114,6 +131,7 @@ static WORKED: [(&str, &str, &str, &str, &str); 13] = [
         "a 1/1 1\nv 1/1 0f\nm.r.addr 1/1 1\nm.r.en 1/1 1\nm.r.data 1/0 00\nm.s.addr 1/1 1\nm.s.en 1/1 1\nm.s.data 1/0 00\nm.w.addr 0/0\nm.w.en 0/0\nm.w.data 0/0\nm.w.mask 0/0\nm.x.addr 0/0\nm.x.en 0/0\nm.x.data 0/0\nm.x.mask 0/0\no0 0/0\no1 0/0\n",
     ),
     (
+        REPLAY_1,
         MEMORY,
         LISTED,
         MEMORY_TRACE,
@@ -121,6 +139,7 @@ static WORKED: [(&str, &str, &str, &str, &str); 13] = [
         "a 1/1 1\nv 1/1 0f\nm.r.addr 0/0\nm.r.en 0/0\nm.r.data 0/0\nm.s.addr 0/0\nm.s.en 0/0\nm.s.data 0/0\nm.w.addr 1/1 1\nm.w.en 1/1 1\nm.w.data 1/1 0f\nm.w.mask 1/1 1\nm.x.addr 0/0\nm.x.en 0/0\nm.x.data 1/0 f0\nm.x.mask 0/0\no0 0/0\no1 0/0\n",
     ),
     (
+        REPLAY_1,
         TWO,
         SHARED,
         TWO_TRACE,
@@ -128,6 +147,7 @@ static WORKED: [(&str, &str, &str, &str, &str); 13] = [
         "x 1/1 01\nu.a 1/1 01\nu.s 1/0 00\nv.a 1/0 fe\nv.s 1/0 00\np 0/0\nq 0/0\n",
     ),
     (
+        REPLAY_1,
         MEMORY,
         LISTED,
         MEMORY_TRACE,
@@ -135,6 +155,7 @@ static WORKED: [(&str, &str, &str, &str, &str); 13] = [
         "a 1/1 1\nv 1/1 0f\nm.r.addr 1/1 1\nm.r.en 1/1 1\nm.r.data 1/0 00\nm.s.addr 1/1 1\nm.s.en 1/1 1\nm.s.data 1/0 00\nm.w.addr 1/1 1\nm.w.en 1/1 1\nm.w.data 1/1 0f\nm.w.mask 1/1 1\nm.x.addr 1/1 1\nm.x.en 1/1 1\nm.x.data 1/1 f0\nm.x.mask 1/1 1\no0 0/0\no1 0/0\n",
     ),
     (
+        REPLAY_1,
         MEMORY,
         LISTED,
         MEMORY_TRACE,
@@ -142,6 +163,7 @@ static WORKED: [(&str, &str, &str, &str, &str); 13] = [
         "a 2/2 1 1\nv 2/2 0f 21\nm.r.addr 2/2 1 1\nm.r.en 2/2 1 1\nm.r.data 2/1 00 f0\nm.s.addr 1/1 1\nm.s.en 1/1 1\nm.s.data 1/1 00\nm.w.addr 1/1 1\nm.w.en 1/1 1\nm.w.data 1/1 0f\nm.w.mask 1/1 1\nm.x.addr 1/1 1\nm.x.en 1/1 1\nm.x.data 1/1 f0\nm.x.mask 1/1 1\no0 1/0 00\no1 1/0 00\n",
     ),
     (
+        REPLAY_1,
         LATE,
         LISTED,
         LATE_TRACE,
@@ -149,6 +171,7 @@ static WORKED: [(&str, &str, &str, &str, &str); 13] = [
         "a 1/1 1\ne 1/1 1\nv 1/1 2a\nm.r.addr 1/1 1\nm.r.en 1/1 1\nm.r.data 2/1 00 2a\nm.w.addr 1/1 1\nm.w.en 1/1 1\nm.w.data 1/1 2a\nm.w.mask 1/1 1\no 1/0 00\n",
     ),
     (
+        REPLAY_1,
         TWO,
         SHARED,
         TWO_TRACE,
@@ -156,6 +179,7 @@ static WORKED: [(&str, &str, &str, &str, &str); 13] = [
         "x 0/0\nu.a 0/0\nu.s 1/1 00\nv.a 0/0\nv.s 1/1 00\np 1/0 00\nq 1/0 00\n",
     ),
     (
+        REPLAY_1,
         TWO,
         SHARED,
         TWO_TRACE,
@@ -163,6 +187,7 @@ static WORKED: [(&str, &str, &str, &str, &str); 13] = [
         "x 1/1 01\nu.a 1/1 01\nu.s 2/1 00 01\nv.a 0/0\nv.s 0/0\np 0/0\nq 0/0\n",
     ),
     (
+        REPLAY_1,
         TWO,
         SHARED,
         TWO_TRACE,
@@ -170,19 +195,28 @@ static WORKED: [(&str, &str, &str, &str, &str); 13] = [
         "x 2/2 01 10\nu.a 2/2 01 10\nu.s 2/2 00 01\nv.a 2/2 fe ef\nv.s 2/2 00 fe\np 2/2 00 01\nq 2/2 00 fe\n",
     ),
     (
+        REPLAY_1,
         TWO,
         SHARED,
         TWO_TRACE,
         "fire v.s\nfire u.s\nlatch u.s\nfire p\nlatch p\nfinish out:p\nlatch v.s\nfire q\n",
         "x 0/0\nu.a 0/0\nu.s 1/1 00\nv.a 0/0\nv.s 1/1 00\np 1/1 00\nq 1/0 00\n",
     ),
+    (
+        REPLAY,
+        TWO,
+        SHARED,
+        TWO_TRACE,
+        "fire x\nlatch x\nfire u.a\nfire v.a\nlatch u.a\nlatch v.a\nfire v.s\nfinish v\nfire u.s\nfinish u\nfire v.s\nfire u.s\n",
+        "x 1/1 01\nu.a 1/1 01\nu.s 2/0 00 01\nv.a 1/1 fe\nv.s 2/0 00 fe\np 0/0\nq 0/0\n",
+    ),
 ];
 
 #[test]
 fn steps_that_may_be_done(rt: HostRuntime) -> Result<(), Fail> {
     let alloc = rt.alloc();
-    for (circuit, partition, trace, steps, out) in &WORKED {
-        let answer = replay_of(alloc, circuit, partition, trace, steps)?;
+    for (line, circuit, partition, trace, steps, out) in &WORKED {
+        let answer = replay_texts(alloc, line, circuit, partition, trace, steps)?;
         check(&rt, &answer, 0, 4, out, "");
     }
     Ok(())
