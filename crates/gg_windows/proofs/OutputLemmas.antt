@@ -69,6 +69,10 @@ module _ (plan : Plan) (columns : List (List ℕ)) (n : ℕ) (flow : Flow) (run 
         run.given.planned.machine_total,
       )
 
+  -- there is a tray for each out-signal
+  pub outs-few : length outs ≤ length net.machines
+  outs-few = omega (arith, count)
+
   planned-tray : (k : ℕ) → k < length outs → tray k < length plan.machines
   planned-tray k lt = omega (arith, lt, run.given.planned.machine_total)
 

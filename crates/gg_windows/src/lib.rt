@@ -9,8 +9,6 @@
 //! - [`tray_value`] returns the value of a cycle that a tray keeps: the one that the tray's channel carries in that cycle;
 //! - [`output_values`] returns the values of the circuit's outputs in a cycle, from the network of a plan: those of the
 //!   circuit's own run.
-//!
-//! Nothing else of the program calls it yet.
 #![tactic(auto)]
 
 mod laws;

@@ -1,0 +1,2 @@
+-- What the contracts of the crate speak of.
+pub mod Printed

@@ -1,0 +1,25 @@
+-- The text of a circuit's run, and a network of a plan all of whose machines stand at one cycle.
+-- Source: ICCAD 2019 (Golden Gate) for target cycles as rows; MEMOCODE 2009 (what a network has done is said by its counts).
+use Rattle.std.specs.Prelude.{ℕ, ◌≤◌, List, length, map, take}
+use Rattle.gg_cut.specs.declared.plan.Plan.{Plan}
+use Rattle.gg_flat.specs.Circuit.{FlatCircuit}
+use Rattle.gg_flat.specs.Run.{column}
+use Rattle.gg_flat.specs.declared.ports.Port.{Port}
+use Rattle.gg_measure.specs.Nets.{AllStandAt}
+use Rattle.gg_net.specs.Network.{Network}
+use Rattle.gg_trace.specs.Printing.{trace_text}
+use Rattle.gg_windows.specs.Rows.{IsNetOfPlan}
+
+-- the columns of the first out-signals of a circuit in a run, one for each port
+abbrev pub shown_columns : FlatCircuit → List Port → (rows : List (List ℕ)) → List (List ℕ)
+shown_columns circuit ports rows = map (column rows) (take (length ports) circuit.outs)
+
+-- the text of the first n cycles of a run: a header, and a row for each cycle
+abbrev pub text_to : FlatCircuit → List Port → (rows : List (List ℕ)) → (n : ℕ) → List ℕ
+text_to circuit ports rows n = trace_text ports (shown_columns circuit ports rows) n
+
+-- A network of a plan, all of whose machines stand at this cycle.
+pub record StandsAt (plan : Plan) (columns : List (List ℕ)) (n cycle : ℕ) (net : Network) : Type 0 where
+  pub of_plan : IsNetOfPlan plan columns n net
+  pub all : AllStandAt cycle net
+  pub within : cycle ≤ n

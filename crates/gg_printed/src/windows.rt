@@ -1,0 +1,152 @@
+//! `print_net`: the run of a circuit is printed from the network of its plan.
+ghost use Rattle.std.specs.Prelude.{◌≡◌, ◌+◌, ◌<◌, ◌≤◌, ℕ, List, Option, length};
+ghost use Rattle.std.specs.Io.KnownBytes.{append_known};
+ghost use Rattle.gg_build.specs.Build.{IsToRun};
+ghost use Rattle.gg_cut.specs.declared.plan.Plan.{Plan};
+ghost use Rattle.gg_flat.specs.Run.{IsRun};
+ghost use Rattle.gg_io.specs.Count.{Rose};
+ghost use Rattle.gg_measure.specs.Nets.{AllStandAt};
+ghost use Rattle.gg_sound.specs.Built.{tray_rows};
+ghost use Rattle.gg_told.specs.Endings.{Prints, PrintsOn};
+ghost use Rattle.gg_told.specs.WentOn.{SinkWentOn};
+ghost use Rattle.gg_trace.specs.Printing.{row_line};
+ghost use Rattle.gg_trace.specs.Table.{row_of};
+ghost use Rattle.gg_printed.specs.Printed.{StandsAt, shown_columns, text_to};
+
+use gg_build::{Node, build};
+use gg_cut::Plan;
+use gg_flat::Ports;
+use gg_io::{Gate, Sink};
+use gg_net::{Net, Streams};
+use gg_order::Design;
+use gg_ring::Ring;
+use gg_told::{Ending, put};
+use gg_trace::{Trace, header_text, row_text};
+use gg_windows::{output_values, run_window, window_end};
+use std::alloc::Global;
+use std::thread::Threads;
+
+// Writes the row of a cycle, from a network that stands at the end of the cycle's window.
+fn print_cycle<Z: Streams, K: Sink>(
+    alloc: Global,
+    net: &Net<Node<'_>, Z>,
+    ports: &Ports,
+    cycle: u64,
+    outs: &mut [u128],
+    out: &mut K,
+) -> Result<(), Ending>
+    requires outs { length outs.old ≤ length net.now.machines }
+    requires ports { length ports.now ≤ length outs.old }
+    ensures prints { (plan : Plan) (columns : List (List ℕ)) (n upto : ℕ) (run : IsToRun plan columns n Z.flow) → StandsAt plan columns n upto net.now
+        → length outs.old ≡ length run.design.circuit.outs → cycle < upto → upto ≤ cycle + tray_rows
+        → PrintsOn K.Sink out.old out.new (row_line ports.now cycle (row_of (shown_columns run.design.circuit ports.now run.rows) cycle)) result }
+    ensures out { SinkWentOn K.Sink out.old out.new }
+{
+    output_values(net, cycle, outs);
+    let shown = ports.as_slice().len();
+    let text = row_text(alloc, ports, cycle, &outs[..shown])?;
+    put(out, text.as_bytes())
+}
+
+// Writes the rows of a window, from a network that stands at its end.
+fn print_window<Z: Streams, K: Sink>(
+    alloc: Global,
+    net: &Net<Node<'_>, Z>,
+    ports: &Ports,
+    begun: u64,
+    upto: u64,
+    outs: &mut [u128],
+    out: &mut K,
+) -> Result<(), Ending>
+    requires outs { length outs.old ≤ length net.now.machines }
+    requires ports { length ports.now ≤ length outs.old }
+    ensures prints { (plan : Plan) (columns : List (List ℕ)) (n : ℕ) (run : IsToRun plan columns n Z.flow) (base : Option (List ℕ)) → StandsAt plan columns n upto net.now
+        → length outs.old ≡ length run.design.circuit.outs → begun ≤ upto → upto ≤ begun + tray_rows
+        → K.written out.old ≡ append_known base (text_to run.design.circuit ports.now run.rows begun)
+        → Prints base (K.written out.new) (Rose (K.faults out.old) (K.faults out.new)) (text_to run.design.circuit ports.now run.rows upto) result }
+    ensures out { SinkWentOn K.Sink out.old out.new }
+{
+    for cycle in begun..upto {
+        print_cycle(alloc, net, ports, cycle, outs, out)?;
+    }
+    Ok(())
+}
+
+// Runs a network from its first cycle to its end, window by window, and writes the rows of each window.
+fn print_windows<R: Threads + Sync, Z: Streams, K: Sink, G: Gate + Sync>(
+    rt: &R,
+    alloc: Global,
+    net: Net<Node<'_>, Z>,
+    ports: &Ports,
+    workers: u32,
+    outs: &mut [u128],
+    out: &mut K,
+    gate: &G,
+) -> Result<(), Ending>
+    requires few { workers ≤ 64 }
+    requires opening { AllStandAt 0 net }
+    requires outs { length outs.old ≤ length net.machines }
+    requires ports { length ports.now ≤ length outs.old }
+    ensures prints { (plan : Plan) (columns : List (List ℕ)) (n : ℕ) (run : IsToRun plan columns n Z.flow) (base : Option (List ℕ)) → StandsAt plan columns n 0 net.entry
+        → length outs.old ≡ length run.design.circuit.outs
+        → K.written out.old ≡ append_known base (text_to run.design.circuit ports.now run.rows 0)
+        → Prints base (K.written out.new) (Rose (K.faults out.old) (K.faults out.new)) (text_to run.design.circuit ports.now run.rows n) result }
+    ensures out { SinkWentOn K.Sink out.old out.new }
+{
+    let end = net.end();
+    let mut net = net;
+    let mut begun = 0;
+    while begun < end {
+        let upto = window_end(begun, end);
+        net = match run_window::<R, Node<'_>, Ring, Z, G>(rt, (), alloc, net, workers, upto, gate) {
+            Ok(net) => net,
+            Err(_) => return Err(Ending::NoMemory),
+        };
+        print_window(alloc, &net, ports, begun, upto, outs, out)?;
+        begun = upto;
+    }
+    Ok(())
+}
+
+/// Prints the run of a design's circuit from the network of a plan of it: a header, and then the rows, a window at a time.
+/// The network is run by this many workers, and then by steps in the fixed order. The values of a row are those of the
+/// first out-signals, one for each port.
+///
+/// # Errors
+///
+/// Returns `Unwritten` if a put fails, and `NoMemory` if an allocation fails. What was written by then is a first part of
+/// the text.
+pub fn print_net<R: Threads + Sync, Z: Streams, K: Sink, G: Gate + Sync>(
+    rt: &R,
+    alloc: Global,
+    design: &Design,
+    plan: &Plan,
+    inputs: &Trace,
+    ports: &Ports,
+    workers: u32,
+    out: &mut K,
+    gate: &G,
+) -> Result<(), Ending>
+    requires few { workers ≤ 64 }
+    requires run { (run : IsToRun plan.now inputs.now.columns inputs.now.rows Z.flow) × (run.design ≡ design.now) }
+    requires ports { length ports.now ≤ length design.now.circuit.outs }
+    ensures prints { (rows : List (List ℕ)) × IsRun design.now.circuit inputs.now.columns inputs.now.rows rows
+        × PrintsOn K.Sink out.old out.new (text_to design.now.circuit ports.now rows inputs.now.rows) result }
+    ensures out { SinkWentOn K.Sink out.old out.new }
+{
+    let mut outs = vec![in alloc; 0u128; design.piece().outs().len()]?;
+    let header = header_text(alloc, ports)?;
+    let net = build::<Z>(alloc, plan, inputs)?;
+    net.kept();
+    put(out, header.as_bytes())?;
+    print_windows(
+        rt,
+        alloc,
+        net,
+        ports,
+        workers,
+        outs.as_mut_slice(),
+        out,
+        gate,
+    )
+}
