@@ -18,10 +18,10 @@ use Rattle.gg_flat.specs.Tree.{InstanceTree, IsTree, memory_at}
 use Rattle.gg_flat.specs.Scoped.{IsScoped, IsFieldOf, memory_fields}
 use Rattle.gg_cut.specs.declared.wires.Wire.{Wire}
 use Rattle.gg_cut.specs.declared.listed.Listed.{Listed}
-use Rattle.gg_cut.specs.Listed.{owner_of_instance, memory_or}
+use Rattle.gg_cut.specs.Listed.{owner_of_instance, memory_or, memory_owner}
 use Rattle.gg_cut.specs.Machines.{first_memory, first_source}
 use Rattle.gg_cut.specs.Channels.{wire, wires_of}
-use Rattle.gg_cut.specs.Plan.{Makes, Takes, HasMemory, memory_owner}
+use Rattle.gg_cut.specs.Plan.{Makes, Takes, HasMemory}
 use Rattle.gg_cut.proofs.WireLemmas.{unit_or_hub-below}
 use Rattle.gg_closed.specs.Apart.{AreApart}
 use Rattle.gg_closed.proofs.ListLemmas.{Somewhere}

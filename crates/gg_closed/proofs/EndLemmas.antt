@@ -1,41 +1,28 @@
--- How many machines there are, and the ends of channels.
-use Rattle.std.proofs.Common.{◌≡◌, ◌≢◌, ℕ, suc, ◌+◌, ◌<◌, ◌≤◌, List, ◌++◌, length, get_or, Bool, true, false, refl, sym, ◌∙◌, ap, subst, Some, None, inl, inr, ◌⊎◌, arith}
+-- Machines by their numbers, and the ends of channels.
+use Rattle.std.proofs.Common.{◌≡◌, ◌≢◌, ℕ, suc, ◌+◌, ◌<◌, List, length, get_or, Bool, true, false, refl, sym, ◌∙◌, ap, subst, Some, None, inl, inr, ◌⊎◌, arith}
 use Rattle.std.specs.Prelude.{Option, ◌==◌, if◌then◌else◌, All}
-use Rattle.std.proofs.lemmas.List.{length-append, length-map, get_or_default}
+use Rattle.std.proofs.lemmas.List.{get_or_default}
 use Rattle.std.proofs.lemmas.List.Elements.{Contains-get_or}
 use Rattle.gg_flat.specs.Line.{value_at}
 use Rattle.gg_flat.specs.Circuit.{FlatCircuit}
 use Rattle.gg_flat.specs.Tree.{InstanceTree, IsTree, instance_at, memory_at, parent_place}
 use Rattle.gg_cut.specs.declared.wires.Wire.{Wire}
 use Rattle.gg_cut.specs.declared.listed.Listed.{Listed}
-use Rattle.gg_cut.specs.Listed.{owner_of_instance, first_place, has_signal, unit_or_hub, memory_or}
+use Rattle.gg_cut.specs.Listed.{owner_of_instance, first_place, has_signal, unit_or_hub, memory_or, memory_owner}
 use Rattle.gg_flat.specs.Circuit.{readers_at}
 use Rattle.gg_flat.specs.Scoped.{memory_fields}
 use Rattle.gg_cut.specs.Machines.{first_memory, machine_count}
-use Rattle.gg_cut.specs.Channels.{wire, wires_of, channel_signals, port_signals, flattened}
-use Rattle.gg_cut.specs.Plan.{memory_owner}
+use Rattle.gg_cut.specs.Channels.{wire, wires_of}
 use Rattle.gg_cut.proofs.WireLemmas.{unit-below, unit_or_hub-below, owner-below}
-use Rattle.gg_cut.proofs.ChannelLemmas.{wires-signals}
 use Rattle.gg_cut.proofs.PathLemmas.{first_place-Some}
 use Rattle.gg_closed.specs.Apart.{AreApart}
-use Rattle.gg_closed.specs.Apart.{AreFew}
 use Rattle.gg_closed.specs.Apart.{AreEnds}
 use Rattle.gg_closed.proofs.PlaceLemmas.{owner-outside}
 use Rattle.gg_closed.proofs.KindLemmas.{IsInto, IsWordWire, Kind, OfSource, OfPort, OfField, OfTray, outside_unit, outside_memory, kind-of}
 
--- ---- machines are few
+-- ---- machines
 
 module _ (circuit : FlatCircuit) (tree : InstanceTree) (listed : Listed) where
-  pub few-machines : AreFew circuit tree listed → machine_count circuit listed ≤ 16641
-  few-machines few = at (flattened (port_signals tree) listed.units) (flattened (λ j. memory_fields circuit (memory_at tree j).memory) listed.memories) refl
-    where
-      counted : length (wires_of circuit tree listed) ≡ length (channel_signals circuit tree listed)
-      counted = sym (length-map (wires_of circuit tree listed) (λ (w : Wire). w.signal)) ∙ ap length (wires-signals circuit tree listed)
-
-      at : (ports fields : List ℕ) → channel_signals circuit tree listed ≡ circuit.ins ++ (ports ++ (fields ++ circuit.outs)) → machine_count circuit listed ≤ 16641
-      at ports fields e =
-          omega (arith, few.units, few.channels, counted, ap length e, length-append circuit.ins (ports ++ (fields ++ circuit.outs)), length-append ports (fields ++ circuit.outs), length-append fields circuit.outs)
-
   pub machine-below : (place : ℕ) → memory_owner tree listed place < machine_count circuit listed
   machine-below place = by (first_place (λ j. j == place) listed.memories) refl
     where

@@ -13,10 +13,10 @@ use Rattle.gg_order.specs.Design.{Ordered}
 use Rattle.gg_cut.specs.declared.fault.CutFault.TheVariants.{UnknownUnit, Doubled, OutOfRange, TooManyUnits, TooManyChannels}
 use Rattle.gg_cut.specs.declared.listed.Listed.{Listed}
 use Rattle.gg_cut.specs.Listed.{is_among, is_lower, is_instance_path, instance_of, place_of, lies, listed_of}
-use Rattle.gg_cut.specs.Channels.{wires_of, channel_signals, capacity_of}
+use Rattle.gg_cut.specs.Channels.{capacity_of}
+use Rattle.gg_cut.specs.Direct.{plan_wires, plan_signals}
 use Rattle.gg_cut.specs.declared.wires.Wire.{Wire}
-use Rattle.gg_cut.specs.Fault.{unknown_unit, overlap, overlapping, first_clash, out_of_range, range_fault, too_many_units, too_many_channels, most_units, most_channels, entry_faults, channel_faults, first_fault}
-use Rattle.gg_cut.proofs.ChannelLemmas.{wires-signals}
+use Rattle.gg_cut.specs.Fault.{unknown_unit, overlap, overlapping, first_clash, out_of_range, range_fault, too_many_units, too_many_channels, most_units, most_channels, first_of, entry_faults, channel_faults, first_fault}
 use Rattle.gg_cut.proofs.PathLemmas.{first_place-Some}
 use Rattle.gg_cut.proofs.RangeLemmas.{filter-below}
 use Rattle.gg_cut.proofs.FindLemmas.{none-at, none-front, none-back, none-map}
@@ -139,30 +139,39 @@ module _ (tree : InstanceTree) where
       flip : {a b : Bool} → (a ≡ false) × (b ≡ false) → (b ≡ false) × (a ≡ false)
       flip p = (p.1, p.0)
 
+-- for a request whose entries have no fault
+module _ (design : Ordered) (request : Request) (none : first_of (entry_faults design.tree request) ≡ None) where
+  -- the list of their faults is without one, so each of them is none
+  entries-none : (i : ℕ) → get_or (entry_faults design.tree request) i None ≡ None
+  entries-none i = none-at (entry_faults design.tree request) i none
+
+  -- each unit is an instance path
+  units-known : All (λ path. is_instance_path design.tree path ≡ true) request.units
+  units-known = none-found (is_instance_path design.tree) request.units (none-map UnknownUnit (unknown_unit design.tree request.units) (entries-none 0))
+
+  pub entries-apart : IsTree design.circuit design.tree → AreApart design.tree (listed_of design.tree request)
+  entries-apart fits =
+      apart-from design.tree request fits.named (none-map UnknownUnit (unknown_unit design.tree request.units) (entries-none 0)) (none-map Doubled (overlapping design.tree request.units) (entries-none 2))
+
 -- for a request without a fault
 module _ (design : Ordered) (request : Request) (none : first_fault design request ≡ None) where
-  abbrev tree : InstanceTree
-  tree = design.tree
-
   abbrev listed : Listed
   listed = listed_of design.tree request
 
-  -- the list of all faults is without one, so each of them is none
-  entries-none : (i : ℕ) → get_or (entry_faults design.tree request) i None ≡ None
-  entries-none i = none-at (entry_faults design.tree request) i (none-front (entry_faults design.tree request) (channel_faults design.circuit request (listed_of design.tree request) (channel_signals design.circuit design.tree (listed_of design.tree request))) none)
+  abbrev signals : List ℕ
+  signals = plan_signals design.circuit design.tree request
 
-  pub channels-none : (i : ℕ) → get_or (channel_faults design.circuit request (listed_of design.tree request) (channel_signals design.circuit design.tree (listed_of design.tree request))) i None ≡ None
-  channels-none i =
-      let faults = channel_faults design.circuit request (listed_of design.tree request) (channel_signals design.circuit design.tree (listed_of design.tree request)) in
-      none-at faults i (none-back (entry_faults design.tree request) faults none)
+  pub no-entry-fault : first_of (entry_faults design.tree request) ≡ None
+  no-entry-fault = none-front (entry_faults design.tree request) (channel_faults design.circuit request listed signals) none
 
-  -- each unit is an instance path
+  pub channels-none : (i : ℕ) → get_or (channel_faults design.circuit request (listed_of design.tree request) (plan_signals design.circuit design.tree request)) i None ≡ None
+  channels-none i = none-at (channel_faults design.circuit request listed signals) i (none-back (entry_faults design.tree request) (channel_faults design.circuit request listed signals) none)
+
   pub faultless-known : All (λ path. is_instance_path design.tree path ≡ true) request.units
-  faultless-known = none-found (is_instance_path design.tree) request.units (none-map UnknownUnit (unknown_unit design.tree request.units) (entries-none 0))
+  faultless-known = units-known design request no-entry-fault
 
   pub faultless-apart : IsTree design.circuit design.tree → AreApart design.tree (listed_of design.tree request)
-  faultless-apart fits =
-      apart-from tree request fits.named (none-map UnknownUnit (unknown_unit tree request.units) (entries-none 0)) (none-map Doubled (overlapping tree request.units) (entries-none 2))
+  faultless-apart fits = entries-apart design request no-entry-fault fits
 
   over : (limit n : ℕ) (m : ℕ) → (if nat_lt limit n then Some m else None) ≡ None → n ≤ limit
   over limit n m e = by (cases_lt limit n)
@@ -174,12 +183,11 @@ module _ (design : Ordered) (request : Request) (none : first_fault design reque
           clash : Some m ≡ None → ⊥
           clash e = absurd (cc)
 
-  pub faultless-few : AreFew design.circuit design.tree (listed_of design.tree request)
+  pub faultless-few : AreFew design.circuit design.tree request
   faultless-few =
-      let signals = channel_signals design.circuit design.tree (listed_of design.tree request) in
+      let wires = plan_wires design.circuit design.tree request in
       let many = over most_channels (length signals) (length signals) (none-map TooManyChannels (too_many_channels signals) (channels-none 3)) in
-      let count : length (wires_of design.circuit design.tree listed) ≡ length signals =
-      sym (length-map (wires_of design.circuit design.tree listed) (λ (w : Wire). w.signal)) ∙ ap length (wires-signals design.circuit design.tree listed) in
+      let count = length-map wires (λ (w : Wire). w.signal) in
       record {
         units = over most_units (length listed.units + length listed.memories) (length listed.units + length listed.memories) (none-map TooManyUnits (too_many_units listed) (channels-none 2));
         channels = omega (arith, many, count);

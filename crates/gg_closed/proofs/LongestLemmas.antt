@@ -9,9 +9,8 @@ use Rattle.gg_flat.specs.Tree.{InstanceTree, IsTree, IsInnermost, path_at, memor
 use Rattle.gg_flat.specs.Scoped.{IsScoped, IsFieldOf, memory_fields}
 use Rattle.gg_flat.proofs.ListLemmas.{once-apart}
 use Rattle.gg_cut.specs.declared.listed.Listed.{Listed}
-use Rattle.gg_cut.specs.Listed.{lies, first_place, unit_or_hub, owner_of_instance, owner_of, has_signal, has_field, memory_or}
+use Rattle.gg_cut.specs.Listed.{lies, first_place, unit_or_hub, owner_of_instance, owner_of, has_signal, has_field, memory_or, memory_owner}
 use Rattle.gg_cut.proofs.PathLemmas.{IsPlace, first_place-Some, first_place-None}
-use Rattle.gg_cut.specs.Plan.{memory_owner}
 use Rattle.gg_closed.specs.Apart.{AreApart}
 use Rattle.gg_closed.specs.Longest.{HoldsPath, Covers, IsLongest, IsOfLongest}
 use Rattle.gg_closed.proofs.NameLemmas.{field-one}

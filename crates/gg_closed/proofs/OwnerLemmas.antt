@@ -7,8 +7,8 @@ use Rattle.gg_moved.specs.KeepsToTree.{KeepsToTree}
 use Rattle.gg_order.specs.Design.{Ordered}
 use Rattle.gg_partfile.specs.declared.request.Request.{Request}
 use Rattle.gg_cut.specs.Fault.{first_fault}
-use Rattle.gg_cut.specs.Plan.{machine_names, memory_owner, tray_names}
-use Rattle.gg_cut.specs.Listed.{is_among, listed_of, owner_of, owner_of_instance}
+use Rattle.gg_cut.specs.Plan.{machine_names, tray_names}
+use Rattle.gg_cut.specs.Listed.{is_among, listed_of, owner_of, owner_of_instance, memory_owner}
 use Rattle.gg_closed.specs.Apart.{AreApart}
 use Rattle.gg_closed.specs.Longest.{HoldsPath, Covers, IsOfLongest, listed_paths, IsLongestHolder, IsLongestCover}
 use Rattle.gg_closed.proofs.FaultlessLemmas.{faultless-apart, faultless-known}

@@ -15,9 +15,9 @@ use Rattle.gg_flat.proofs.WorkedForms.{only, both, three, apart}
 use Rattle.gg_order.specs.Design.{Ordered}
 use Rattle.gg_partfile.specs.declared.request.Request.{Request}
 use Rattle.gg_partfile.specs.Request.{no_request}
-use Rattle.gg_cut.specs.Listed.{listed_of, owner_of, owner_of_instance}
+use Rattle.gg_cut.specs.Listed.{listed_of, owner_of, owner_of_instance, memory_owner}
 use Rattle.gg_cut.specs.Fault.{rest_behind, fault_in}
-use Rattle.gg_cut.specs.Plan.{machine_names, memory_owner}
+use Rattle.gg_cut.specs.Plan.{machine_names}
 use Rattle.gg_cut.proofs.WorkedPair.{output}
 use Rattle.gg_closed.specs.Longest.{HoldsPath, Covers, listed_paths, IsLongestHolder, IsLongestCover}
 

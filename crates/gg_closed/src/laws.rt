@@ -1,5 +1,5 @@
 //! Laws: facts about the definitions. Each is the contract of a function with an empty body.
-ghost use Rattle.std.specs.Prelude.{◌≡◌, ◌≢◌, ◌↔◌, ◌⊎◌, ℕ, ◌+◌, ◌<◌, ◌≤◌, List, length, None, Some, Contains, All, AllPairs, slice_get};
+ghost use Rattle.std.specs.Prelude.{◌≡◌, ◌≢◌, ◌↔◌, ◌⊎◌, ℕ, ◌+◌, ◌<◌, List, length, None, Some, Contains, All, AllPairs, slice_get};
 ghost use Rattle.gg_flat.specs.declared.piece.Register.{Register};
 ghost use Rattle.gg_flat.specs.declared.piece.Driver.TheVariants.{Held};
 ghost use Rattle.gg_flat.specs.Circuit.{driver_at};
@@ -9,20 +9,20 @@ ghost use Rattle.gg_moved.specs.KeepsToTree.{KeepsToTree};
 ghost use Rattle.gg_order.specs.Design.{Ordered, IsDesign};
 ghost use Rattle.gg_partfile.specs.declared.request.Request.{Request};
 ghost use Rattle.gg_cut.specs.declared.listed.Listed.{Listed};
-ghost use Rattle.gg_cut.specs.Listed.{listed_of, owner_of, owner_of_instance};
-ghost use Rattle.gg_cut.specs.Fault.{first_fault};
+ghost use Rattle.gg_cut.specs.Listed.{listed_of, owner_of, owner_of_instance, memory_owner};
+ghost use Rattle.gg_cut.specs.Fault.{first_of, entry_faults, first_fault};
 ghost use Rattle.gg_cut.specs.Machines.{first_source, machine_count};
 ghost use Rattle.gg_cut.specs.Channels.{wires_of};
 ghost use Rattle.gg_part.specs.Choice.{IsChoice};
-ghost use Rattle.gg_cut.specs.Plan.{channels_to, channels_from, signals_of, givens_of, machine_names, memory_owner, Makes, Takes, HasMemory};
+ghost use Rattle.gg_cut.specs.Plan.{channels_to, channels_from, signals_of, givens_of, machine_names, Makes, Takes, HasMemory};
 ghost use Rattle.gg_closed.specs.Apart.{AreApart, AreFew, AreEnds, IsOwnerAtEnd};
 ghost use Rattle.gg_closed.specs.Longest.{listed_paths, IsLongestHolder, IsLongestCover};
 
-/// What a request without a fault lists is apart, and there is at most as much of it as a plan may have.
+/// What a request lists is apart, if its entries have no fault. If the request has no fault at all, there is at most as much of it,
+/// and of channels, as a plan may have.
 pub fn listed_apart()
-    ensures apart { (design : Ordered) (request : Request) → IsDesign design → KeepsToTree design.circuit design.tree → first_fault design request ≡ None → AreApart design.tree (listed_of design.tree request) }
-    ensures few { (design : Ordered) (request : Request) → first_fault design request ≡ None → AreFew design.circuit design.tree (listed_of design.tree request) }
-    ensures machines { (design : Ordered) (listed : Listed) → AreFew design.circuit design.tree listed → machine_count design.circuit listed ≤ 16641 }
+    ensures apart { (design : Ordered) (request : Request) → KeepsToTree design.circuit design.tree → first_of (entry_faults design.tree request) ≡ None → AreApart design.tree (listed_of design.tree request) }
+    ensures few { (design : Ordered) (request : Request) → first_fault design request ≡ None → AreFew design.circuit design.tree request }
 {}
 
 /// Let a request have no fault. The machine that a signal belongs to is that of the longest listed path that holds

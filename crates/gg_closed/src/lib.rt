@@ -3,7 +3,7 @@
 //! If a request has no fault, its units are apart: none is the top or is in another (`AreApart` in `specs/Apart`).
 //! The crate has no code. For a design and what such a request lists, it promises:
 //!
-//! - what is listed is apart, and there is at most as much of it as a plan may have (`listed_apart`);
+//! - what is listed is apart, and there is at most as much of it, and of channels, as a plan may have (`listed_apart`);
 //! - a signal belongs to the machine of the longest listed path that holds the signal's path, and to the hub if there
 //!   is none. An instance or a memory belongs to the machine of the longest listed path that is its path or holds it.
 //!   The machine of a listed path has that path as its name (`owner_by_path`; the definitions, by paths alone, are in

@@ -1,5 +1,5 @@
 -- What the tree of a circuit says of parents, and of the signals of channels.
-use Rattle.std.proofs.Common.{◌≡◌, ℕ, zero, suc, ◌<◌, List, [], ◌∷◌, ◌++◌, length, map, get_or, sym, ◌∙◌, ap, ap₂, subst, Some, None, arith}
+use Rattle.std.proofs.Common.{◌≡◌, ℕ, zero, suc, ◌<◌, List, [], ◌∷◌, ◌++◌, length, map, get_or, sym, ◌∙◌, ap, subst, Some, None, arith}
 use Rattle.std.specs.Prelude.{All, flat_map}
 use Rattle.std.proofs.lemmas.List.{get_or-map, length-map}
 use Rattle.gg_bits.specs.Shape.{shape}
@@ -14,9 +14,7 @@ use Rattle.gg_flat.specs.Scoped.{reader_fields, writer_fields, writers_at, memor
 use Rattle.gg_flat.proofs.ListLemmas.{some-item}
 use Rattle.gg_cut.specs.declared.listed.Listed.{Listed}
 use Rattle.gg_cut.specs.Listed.{ParentsBefore}
-use Rattle.gg_partfile.specs.declared.request.Request.{Request}
 use Rattle.gg_cut.specs.Channels.{flattened, port_signals, channel_signals}
-use Rattle.gg_cut.specs.Fault.{first_of, channel_faults}
 
 -- each instance stands after its parent
 pub parents-before : (circuit : FlatCircuit) (tree : InstanceTree) → IsTree circuit tree → ParentsBefore tree
@@ -102,12 +100,3 @@ module _ (circuit : FlatCircuit) (tree : InstanceTree) (formed : IsWellFormed ci
       (append-below n (flattened (λ j. memory_fields circuit (memory_at tree j).memory) listed.memories) circuit.outs
       (flattened-below n (length tree.memories) (λ j. memory_fields circuit (memory_at tree j).memory) listed.memories (λ k lt. memories k 0 lt) (λ j lt. fields-below (memory_at tree j).memory (memory-known j lt)))
       (below-from n circuit.outs formed.outs))))
-
--- ---- the signals of what is listed
-
-pub signals-of : (circuit : FlatCircuit) (tree : InstanceTree) (listed : Listed) (units memories signals : List ℕ) → units ≡ listed.units → memories ≡ listed.memories → signals ≡ channel_signals circuit tree (record { units = units; memories = memories }) → signals ≡ channel_signals circuit tree listed
-signals-of circuit tree listed units memories signals us ms is = is ∙ ap₂ (λ u m. channel_signals circuit tree (record { units = u; memories = m })) us ms
-
-pub channel-told : (circuit : FlatCircuit) (tree : InstanceTree) (request : Request) (listed other : Listed) (signals : List ℕ) → listed ≡ other → signals ≡ channel_signals circuit tree listed → first_of (channel_faults circuit request listed signals) ≡ first_of (channel_faults circuit request other (channel_signals circuit tree other))
-channel-told circuit tree request listed other signals same is =
-    ap (λ s. first_of (channel_faults circuit request listed s)) is ∙ ap (λ l. first_of (channel_faults circuit request l (channel_signals circuit tree l))) same

@@ -10,4 +10,7 @@ pub mod RangeLemmas
 pub mod ChannelLemmas
 pub mod TrayLemmas
 pub mod WireLemmas
+pub mod OriginLemmas
+pub mod DirectLemmas
+pub mod SameLemmas
 pub mod SolveLemmas

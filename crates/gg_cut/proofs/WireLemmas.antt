@@ -1,9 +1,11 @@
 -- The channels that a machine gives.
-use Rattle.std.proofs.Common.{◌≡◌, ℕ, zero, suc, ◌+◌, ◌<◌, ◌≤◌, List, [], ◌∷◌, ◌++◌, length, map, get_or, Bool, true, false, eq-eqb, refl, sym, ◌∙◌, ap, ap₂, arith}
-use Rattle.std.specs.Prelude.{filter, cond, ◌==◌, if◌then◌else◌, Option, Some, None}
+use Rattle.std.proofs.Common.{◌≡◌, ℕ, zero, suc, ◌+◌, ◌<◌, ◌≤◌, List, [], ◌∷◌, ◌++◌, length, map, get_or, Bool, true, false, eq-eqb, refl, sym, ◌∙◌, ap, ap₂, subst, inl, inr, ◌⊎◌, arith}
+use Rattle.std.specs.Prelude.{filter, cond, ◌==◌, if◌then◌else◌, Option, Some, None, All, Contains}
 use Rattle.std.specs.List.{range_with_len}
 use Rattle.std.proofs.lemmas.List.Elements.{filter-append}
-use Rattle.std.proofs.lemmas.Bool.{ne_eqb}
+use Rattle.std.proofs.lemmas.Bool.{cases_lt, ne_eqb}
+use Rattle.std.proofs.lemmas.List.{get_or_default}
+use Rattle.gg_flat.proofs.ListLemmas.{Contains-map, Contains-filter}
 use Rattle.gg_flat.specs.declared.tree.InstancePort.{InstancePort}
 use Rattle.gg_flat.specs.declared.memory.Reader.{Reader}
 use Rattle.gg_flat.specs.declared.memory.Writer.{Writer}
@@ -16,7 +18,7 @@ use Rattle.gg_cut.proofs.PathLemmas.{first_place-Some}
 use Rattle.gg_cut.specs.declared.wires.Wire.{Wire}
 use Rattle.gg_cut.specs.Machines.{first_memory, first_source, first_tray}
 use Rattle.gg_cut.specs.Channels.{wire, numbered, flattened, port_wire, port_wires, reader_wires, writer_wires, field_wires, source_wires, tray_wires, wires_of}
-use Rattle.gg_cut.specs.Plan.{wire_at, channels_from, signals_of, givens_of}
+use Rattle.gg_cut.specs.Plan.{wire_at, channels_to, channels_from, signals_of, givens_of}
 
 -- ---- a property of each wire, by recursion
 
@@ -69,6 +71,12 @@ pub signals-from : (wires : List Wire) (m : ℕ) → signals_of wires (channels_
 signals-from wires m =
     map-signal wires (channels_from wires m)
     ∙ ap (map (λ (w : Wire). w.signal)) (filter-numbers (λ w. w.producer == m) wires 0 wires (λ k lt. ap (wire_at wires) (let place : 0 + k ≡ k = omega arith in place)))
+
+-- the signals of the channels that a machine takes
+pub signals-to : (wires : List Wire) (m : ℕ) → signals_of wires (channels_to wires m) ≡ map (λ (w : Wire). w.signal) (filter (λ w. w.consumer == m) wires)
+signals-to wires m =
+    map-signal wires (channels_to wires m)
+    ∙ ap (map (λ (w : Wire). w.signal)) (filter-numbers (λ w. w.consumer == m) wires 0 wires (λ k lt. ap (wire_at wires) (let place : 0 + k ≡ k = omega arith in place)))
 
 -- ---- who gives what
 
@@ -191,6 +199,28 @@ module _ (circuit : FlatCircuit) (tree : InstanceTree) (listed : Listed) where
       ∙ ap₂ (λ xs ys. xs ++ ys) (sources-below m (first_source listed) circuit.ins le)
       (filter-none (λ w. w.producer == m) rest_wires (other-rest m (omega arith) rest_wires rest-below)))
 
+  -- a channel from a machine is among those that it gives
+  from-wire : (w : Wire) → Contains (wires_of circuit tree listed) w → Contains (signals_of (wires_of circuit tree listed) (channels_from (wires_of circuit tree listed) w.producer)) w.signal
+  from-wire w h =
+      let wires = wires_of circuit tree listed in
+      subst (λ (l : List ℕ). Contains l w.signal) (sym (signals-from wires w.producer))
+      (Contains-map (λ (v : Wire). v.signal) (filter (λ v. v.producer == w.producer) wires) w (Contains-filter (λ v. v.producer == w.producer) wires w h (eq-eqb w.producer w.producer refl)))
+
+  -- each channel from a source carries its top input, and none is from a tray
+  pub source-only : (i : ℕ) → i < length circuit.ins → (w : Wire) → Contains (wires_of circuit tree listed) w → w.producer ≡ first_source listed + i → w.signal ≡ get_or circuit.ins i 0
+  source-only i lt w h is = one (subst (λ (l : List ℕ). Contains l w.signal) (source-gives w.producer i is lt) (from-wire w h))
+    where
+      one : {x y : ℕ} → Contains (x ∷ []) y → y ≡ x
+      one (zero, lt, e) = sym e
+      one (suc k, lt, e) = absurd (omega (arith, lt))
+
+  pub tray-never : (w : Wire) → Contains (wires_of circuit tree listed) w → w.producer < first_tray circuit listed
+  tray-never w h = by (cases_lt w.producer (first_tray circuit listed))
+    where
+      by : (w.producer < first_tray circuit listed) ⊎ (first_tray circuit listed ≤ w.producer) → w.producer < first_tray circuit listed
+      by (inl lt) = lt
+      by (inr le) = let none = subst (λ (l : List ℕ). Contains l w.signal) (tray-gives w.producer le) (from-wire w h) in absurd (omega (arith, none.1))
+
 -- ---- the signals by which channels are given
 
 abbrev IsSame : Wire → Type 0
@@ -232,3 +262,6 @@ module _ (circuit : FlatCircuit) (tree : InstanceTree) (listed : Listed) where
   pub givens-same : (channels : List ℕ) → givens_of (wires_of circuit tree listed) channels ≡ signals_of (wires_of circuit tree listed) channels
   givens-same [] = refl
   givens-same (c ∷ channels) = ap₂ (λ s l. s ∷ l) (given-same c) (givens-same channels)
+
+  pub all-plain : All (λ w. w.given ≡ w.signal) (wires_of circuit tree listed)
+  all-plain i d lt = subst (λ (w : Wire). w.given ≡ w.signal) (get_or_default (wires_of circuit tree listed) i (wire 0 0 0) d lt) (given-same i)

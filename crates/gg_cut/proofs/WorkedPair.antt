@@ -22,6 +22,7 @@ use Rattle.gg_cut.specs.Listed.{listed_of, owner_of}
 use Rattle.gg_cut.specs.declared.numbering.Role.TheVariants.{Source, Tray}
 use Rattle.gg_cut.specs.Machines.{IsRole, first_unit, first_memory, first_source, first_tray, machine_count, numbering_of}
 use Rattle.gg_cut.specs.Channels.{wire, wires_of, channel_signals, channel_names, capacity_of}
+use Rattle.gg_cut.specs.Direct.{plan_wires, plan_signals}
 use Rattle.gg_cut.specs.Fault.{fault_in, too_many_units}
 
 abbrev pub input : ℕ → InstancePort
@@ -103,6 +104,20 @@ no-tray is = absurd (omega (arith, is.1))
 names : channel_names circuit (channel_signals circuit tree listed) ≡ codes "x" ∷ codes "a.x" ∷ codes "a.k" ∷ codes "a.p" ∷ codes "a.q" ∷ codes "b.m" ∷ codes "b.n" ∷ codes "q" ∷ []
 names = refl
 
+-- asked for direct channels: `a.x` comes from the source, `a.k` from `b`, `b.m` and `q` from `a`
+abbrev pub direct_units : Request
+direct_units = record both_units { direct = true }
+
+direct-wires : plan_wires circuit tree direct_units ≡ record { signal = 2; given = 0; producer = 3; consumer = 1 } ∷ record { signal = 3; given = 7; producer = 2; consumer = 1 } ∷ record { signal = 6; given = 4; producer = 1; consumer = 2 } ∷ record { signal = 1; given = 5; producer = 1; consumer = 4 } ∷ []
+direct-wires = refl
+
+-- not asked for: all channels stay
+plain-wires : plan_wires circuit tree both_units ≡ wires_of circuit tree listed
+plain-wires = refl
+
+direct-names : channel_names circuit (plan_signals circuit tree direct_units) ≡ codes "a.x" ∷ codes "a.k" ∷ codes "b.m" ∷ codes "q" ∷ []
+direct-names = refl
+
 -- the empty partition: the channels from the source and to the tray
 alone : wires_of circuit tree (listed_of tree (asks [] [])) ≡ wire 0 1 0 ∷ wire 1 0 2 ∷ []
 alone = refl
@@ -145,6 +160,13 @@ no-memory = refl
 -- a port of an instance that isn't a unit is no channel
 no-channel : fault_in circuit tree (record (asks (codes "a" ∷ []) []) { capacity = (codes "a.x", 3) ∷ (codes "b.m", 1) ∷ [] }) ≡ Some (UnknownChannel (codes "b.m"))
 no-channel = refl
+
+-- nor is a channel that left; one that is direct is
+channel-left : fault_in circuit tree (record direct_units { capacity = (codes "a.k", 3) ∷ (codes "b.n", 1) ∷ [] }) ≡ Some (UnknownChannel (codes "b.n"))
+channel-left = refl
+
+channel-there : fault_in circuit tree (record both_units { capacity = (codes "a.k", 3) ∷ (codes "b.n", 1) ∷ [] }) ≡ None
+channel-there = refl
 
 -- an unknown channel is reported before a capacity out of range
 range-last : fault_in circuit tree (record both_units { capacity = (codes "a.x", 0) ∷ (codes "oo", 1) ∷ [] }) ≡ Some (UnknownChannel (codes "oo"))

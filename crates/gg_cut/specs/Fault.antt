@@ -12,7 +12,8 @@ use Rattle.gg_cut.specs.declared.fault.CutFault.{CutFault}
 use Rattle.gg_cut.specs.declared.fault.CutFault.TheVariants.{UnknownUnit, Doubled, OtherModule, UnknownMemory, Unmatched, UnknownChannel, OutOfRange, TooManyUnits, TooManyChannels, UnknownPipe, DoubledPipe, UnknownClock, WrongRatio, UnknownBridge, WrongPort, UnfitBridge, NoMemory}
 use Rattle.gg_cut.specs.Listed.{is_among, is_instance_path, is_memory_path, instance_of, lies, listed_of}
 use Rattle.gg_cut.specs.declared.listed.Listed.{Listed}
-use Rattle.gg_cut.specs.Channels.{channel_signals, channel_names}
+use Rattle.gg_cut.specs.Channels.{channel_names}
+use Rattle.gg_cut.specs.Direct.{plan_signals}
 
 -- the most units and listed memories, and the most channels
 abbrev pub most_units : ℕ
@@ -154,7 +155,7 @@ channel_faults circuit request listed signals =
 
 -- all of them, in the order in which they are told
 abbrev pub faults_in : FlatCircuit → InstanceTree → Request → List (Option CutFault)
-faults_in circuit tree request = entry_faults tree request ++ channel_faults circuit request (listed_of tree request) (channel_signals circuit tree (listed_of tree request))
+faults_in circuit tree request = entry_faults tree request ++ channel_faults circuit request (listed_of tree request) (plan_signals circuit tree request)
 
 abbrev pub fault_in : FlatCircuit → InstanceTree → Request → Option CutFault
 fault_in circuit tree request = first_of (faults_in circuit tree request)

@@ -5,5 +5,6 @@ pub mod Channels
 pub mod Hosts
 pub mod Alike
 pub mod Owners
+pub mod Direct
 pub mod Plan
 pub mod Solves

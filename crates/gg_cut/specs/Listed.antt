@@ -108,3 +108,8 @@ memory_or units other (Some j) = memory_after units + j
 abbrev pub owner_of : FlatCircuit → InstanceTree → Listed → ℕ → ℕ
 owner_of circuit tree listed s =
     memory_or (length listed.units) (unit_or_hub (first_place (has_signal tree s) listed.units)) (first_place (has_field circuit tree s) listed.memories)
+
+-- the machine that the memory at a place of the tree belongs to: its own if it is listed, else its instance's
+abbrev pub memory_owner : InstanceTree → Listed → ℕ → ℕ
+memory_owner tree listed place =
+    memory_or (length listed.units) (owner_of_instance tree listed.units (memory_at tree place).instance) (first_place (λ j. j == place) listed.memories)

@@ -1,7 +1,7 @@
 -- The plan of a cut: its machines with their pieces, its channels, and what each channel needs.
 -- Source: MEMOCODE 2009 (a network of machines that are latency-insensitive: an output depends only on the inputs
 -- that it is computed from); ICCAD 2019 (instances and memories of a target as models of their own).
-use Rattle.std.specs.Prelude.{◌≡◌, ◌≢◌, ◌↔◌, ◌⊎◌, ℕ, ◌<◌, ◌≤◌, ◌+◌, ◌-◌, List, [], ◌∷◌, ◌++◌, ◌==◌, length, map, take, drop, filter, codes, slice_index_or, Contains, AllPairs}
+use Rattle.std.specs.Prelude.{◌≡◌, ◌≢◌, ◌↔◌, ◌⊎◌, ℕ, ◌<◌, ◌≤◌, ◌+◌, ◌-◌, List, [], ◌∷◌, false, ◌++◌, ◌==◌, length, map, take, drop, filter, codes, slice_index_or, Contains, AllPairs}
 use Rattle.std.specs.List.{range_with_len}
 use Rattle.gg_bits.specs.Shape.{shape}
 use Rattle.gg_flat.specs.Line.{value_at, shape_at}
@@ -20,10 +20,11 @@ use Rattle.gg_cut.specs.declared.plan.Machine.{Machine}
 use Rattle.gg_cut.specs.declared.plan.Channel.{Channel}
 use Rattle.gg_cut.specs.declared.plan.Plan.{Plan}
 use Rattle.gg_cut.specs.declared.listed.Listed.{Listed}
-use Rattle.gg_cut.specs.Listed.{listed_of, owner_of, owner_of_instance, memory_or, first_place}
+use Rattle.gg_cut.specs.Listed.{listed_of, owner_of, memory_owner}
 use Rattle.gg_cut.specs.declared.wires.Wire.{Wire}
 use Rattle.gg_cut.specs.Machines.{first_memory, first_source, first_tray, machine_count}
-use Rattle.gg_cut.specs.Channels.{wire, wires_of, capacity_of}
+use Rattle.gg_cut.specs.Channels.{wire, capacity_of}
+use Rattle.gg_cut.specs.Direct.{Hub, routes, is_gone, plan_hub, plan_wires}
 use Rattle.gg_cut.specs.Hosts.{host_of}
 use Rattle.gg_cut.specs.Alike.{AreAlike}
 
@@ -63,11 +64,6 @@ Makes circuit tree listed wires m s = ((s < length circuit.signals) × (owner_of
 abbrev pub Takes : List Wire → ℕ → ℕ → Type 0
 Takes wires m s = Contains (signals_of wires (channels_to wires m)) s
 
--- the machine that the memory at a place of the tree belongs to: its own if it is listed, else its instance's
-abbrev pub memory_owner : InstanceTree → Listed → ℕ → ℕ
-memory_owner tree listed place =
-    memory_or (length listed.units) (owner_of_instance tree listed.units (memory_at tree place).instance) (first_place (λ j. j == place) listed.memories)
-
 -- memory k of the circuit belongs to machine m
 pub record HasMemory (tree : InstanceTree) (listed : Listed) (m k : ℕ) : Type 0 where
   pub place : ℕ
@@ -75,24 +71,29 @@ pub record HasMemory (tree : InstanceTree) (listed : Listed) (m k : ℕ) : Type 
   pub is : (memory_at tree place).memory ≡ k
   pub owner : memory_owner tree listed place ≡ m
 
+-- Machine m of a plan gives signal s its value: it owns the signal, no channel carried it before the routing, and it stays; or it
+-- gives the signal on a channel.
+abbrev pub MakesBy : Hub → ℕ → ℕ → Type 0
+MakesBy hub m s = ((s < length hub.circuit.signals) × (hub.owner s ≡ m) × IsInner hub.base s × (is_gone hub s ≡ false)) ⊎ Contains (givens_of (routes hub) (channels_from (routes hub) m)) s
+
 -- A machine's piece: exactly the signals that it makes or takes, in an order of evaluation, exactly the registers that those hold
 -- which it doesn't take, and the memories that belong to it. The signals that it takes and those by which it gives, in the order of
 -- its channels, are its in-signals and its out-signals.
-pub record IsCutPart (design : Ordered) (listed : Listed) (wires : List Wire) (m : ℕ) (part : Part) : Type 0 where
+pub record IsCutPart (design : Ordered) (listed : Listed) (hub : Hub) (m : ℕ) (part : Part) : Type 0 where
   pub is : IsPart design.circuit part.piece part.globals part.held part.memories
-  pub signals : (s : ℕ) → Contains part.globals s ↔ (Makes design.circuit design.tree listed wires m s ⊎ Takes wires m s)
-  pub ins : map (value_at part.globals) part.piece.ins ≡ signals_of wires (channels_to wires m)
-  pub outs : map (value_at part.globals) part.piece.outs ≡ givens_of wires (channels_from wires m)
-  pub held : AreHeld design.circuit part.globals (signals_of wires (channels_to wires m)) part.held
+  pub signals : (s : ℕ) → Contains part.globals s ↔ (MakesBy hub m s ⊎ Takes (routes hub) m s)
+  pub ins : map (value_at part.globals) part.piece.ins ≡ signals_of (routes hub) (channels_to (routes hub) m)
+  pub outs : map (value_at part.globals) part.piece.outs ≡ givens_of (routes hub) (channels_from (routes hub) m)
+  pub held : AreHeld design.circuit part.globals (signals_of (routes hub) (channels_to (routes hub) m)) part.held
   pub memories : (k : ℕ) → Contains part.memories k ↔ HasMemory design.tree listed m k
   pub ordered : IsInOrder part.piece
 
 -- what machine m is, by its number: the hub or a unit, a listed memory, the source of the top input at a place, or a tray
-abbrev pub IsBody : Ordered → Listed → List Wire → ℕ → Body → Type 0
-IsBody design listed wires m (Cut part) = (m < first_memory listed) × IsCutPart design listed wires m part
-IsBody design listed wires m (Memory part) = (first_memory listed ≤ m) × (m < first_source listed) × IsCutPart design listed wires m part
-IsBody design listed wires m (Source place) = (place < length design.circuit.ins) × (m ≡ first_source listed + place)
-IsBody design listed wires m Tray = first_tray design.circuit listed ≤ m
+abbrev pub IsBody : Ordered → Listed → Hub → ℕ → Body → Type 0
+IsBody design listed hub m (Cut part) = (m < first_memory listed) × IsCutPart design listed hub m part
+IsBody design listed hub m (Memory part) = (first_memory listed ≤ m) × (m < first_source listed) × IsCutPart design listed hub m part
+IsBody design listed hub m (Source place) = (place < length design.circuit.ins) × (m ≡ first_source listed + place)
+IsBody design listed hub m Tray = first_tray design.circuit listed ≤ m
 
 -- ---- machines
 
@@ -115,12 +116,12 @@ machine_names design request listed =
     ++ tray_names design)
 
 -- machine m of the plan
-pub record IsMachine (design : Ordered) (request : Request) (listed : Listed) (wires : List Wire) (m : ℕ) (machine : Machine) : Type 0 where
+pub record IsMachine (design : Ordered) (request : Request) (listed : Listed) (hub : Hub) (m : ℕ) (machine : Machine) : Type 0 where
   pub name : machine.name ≡ path_at (machine_names design request listed) m
   pub host : machine.host ≡ host_of request.units request.share m
-  pub body : IsBody design listed wires m machine.body
-  pub ins : machine.ins ≡ channels_to wires m
-  pub outs : machine.outs ≡ channels_from wires m
+  pub body : IsBody design listed hub m machine.body
+  pub ins : machine.ins ≡ channels_to (routes hub) m
+  pub outs : machine.outs ≡ channels_from (routes hub) m
 
 -- ---- channels
 
@@ -160,9 +161,9 @@ pub record IsChannel (design : Ordered) (capacity : List ℕ → ℕ) (machines 
 pub record IsPlan (design : Ordered) (request : Request) (default : ℕ) (plan : Plan) : Type 0 where
   pub listed : plan.listed ≡ listed_of design.tree request
   pub machine_total : length plan.machines ≡ machine_count design.circuit (listed_of design.tree request)
-  pub channel_total : length plan.channels ≡ length (wires_of design.circuit design.tree (listed_of design.tree request))
-  pub machine : (m : ℕ) (any : Machine) → m < length plan.machines → IsMachine design request (listed_of design.tree request) (wires_of design.circuit design.tree (listed_of design.tree request)) m (slice_index_or plan.machines m any)
-  pub channel : (c : ℕ) (any : Channel) → c < length plan.channels → IsChannel design (capacity_of request.capacity default) plan.machines (wire_at (wires_of design.circuit design.tree (listed_of design.tree request)) c) (slice_index_or plan.channels c any)
+  pub channel_total : length plan.channels ≡ length (plan_wires design.circuit design.tree request)
+  pub machine : (m : ℕ) (any : Machine) → m < length plan.machines → IsMachine design request (listed_of design.tree request) (plan_hub design.circuit design.tree request) m (slice_index_or plan.machines m any)
+  pub channel : (c : ℕ) (any : Channel) → c < length plan.channels → IsChannel design (capacity_of request.capacity default) plan.machines (wire_at (plan_wires design.circuit design.tree request) c) (slice_index_or plan.channels c any)
   pub shared : (m n : ℕ) (any other : Machine) → m < length plan.machines → n < length plan.machines → m ≢ n
       → (slice_index_or plan.machines m any).host ≡ (slice_index_or plan.machines n other).host
       → AreAlike (slice_index_or plan.machines m any).body (slice_index_or plan.machines n other).body

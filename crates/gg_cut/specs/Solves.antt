@@ -1,6 +1,6 @@
 -- When lists of values, one for each channel, solve a plan.
 -- Source: MEMOCODE 2009 (a network of machines has the streams of the synchronous circuit that it was cut from).
-use Rattle.std.specs.Prelude.{◌≡◌, ℕ, ◌<◌, List, [], ◌∷◌, length, map, slice_index_or}
+use Rattle.std.specs.Prelude.{◌≡◌, ℕ, ◌<◌, List, [], length, map, slice_index_or, All}
 use Rattle.gg_flat.specs.Run.{IsRun, column}
 use Rattle.gg_part.specs.declared.part.Part.{Part}
 use Rattle.gg_cut.specs.declared.plan.Body.{Body}
@@ -14,12 +14,12 @@ pub record GivesColumns (part : Part) (n : ℕ) (ins outs : List (List ℕ)) : T
   pub run : IsRun part.piece ins n rows
   pub gives : (others : List (List ℕ)) → IsRun part.piece ins n others → map (column others) part.piece.outs ≡ outs
 
--- How a machine answers: its outputs are those of the run of its piece on its inputs. A source's output is its column of those
--- that are given for the top inputs. A tray has no output.
+-- How a machine answers: its outputs are those of the run of its piece on its inputs. Each output of a source is its column of
+-- those that are given for the top inputs. A tray has no output.
 abbrev pub Answers : Body → ℕ → List (List ℕ) → List (List ℕ) → List (List ℕ) → Type 0
 Answers (Cut part) n given ins outs = GivesColumns part n ins outs
 Answers (Memory part) n given ins outs = GivesColumns part n ins outs
-Answers (Source place) n given ins outs = outs ≡ slice_index_or given place [] ∷ []
+Answers (Source place) n given ins outs = All (λ out. out ≡ slice_index_or given place []) outs
 Answers Tray n given ins outs = outs ≡ []
 
 -- the lists of these channels

@@ -6,13 +6,14 @@
 //! - what a request lists, by places in the tree of instances (Listed);
 //! - which faults it has, and in what order they are reported (Fault);
 //! - which machines there are, and what their numbers are (Machines);
-//! - which channels there are, and between which machines (Channels);
+//! - which channels there are, and between which machines (Channels); which of them are direct, and what leaves the hub (Direct);
 //! - who shares a host (Hosts);
 //! - what the plan is: the machines with their pieces, the channels and their needs (Plan).
 //!
 //! The crate promises:
 //!
-//! - `judge` returns what a request lists exactly if it has no fault, and else its first fault;
+//! - `judge_entries` returns what a request lists exactly if its entries have no fault, and else their first fault. With the
+//!   signals of the plan's channels, `judge_channels` tells the first of the other faults. Both together tell `first_fault`;
 //! - a [`Numbering`] tells the number of each machine, and what the machine with a number is;
 //! - `owners_of` gives each instance its machine: the unit that the instance is in, else the hub;
 //! - the channels carry exactly the signals by which they are counted and named (`channels_agree`);
@@ -42,5 +43,5 @@ pub use listed::Listed;
 pub use numbering::{Numbering, Role};
 pub use owners::owners_of;
 pub use plan::{Body, Channel, Machine, Plan};
-pub use verdict::judge;
+pub use verdict::{judge_channels, judge_entries};
 pub use wires::Wire;

@@ -1,11 +1,9 @@
 //! The judgement of a request.
 ghost use Rattle.std.specs.Prelude.{◌≡◌, ◌+◌, ◌<◌, ◌^◌, length, option_map, nat_lt, if◌then◌else◌, Some, None, All, IfOk, IfErr};
 ghost use Rattle.gg_flat.specs.Tree.{IsTree};
-ghost use Rattle.gg_flat.specs.WellFormed.{IsWellFormed};
 ghost use Rattle.gg_moved.specs.KeepsToTree.{KeepsToTree};
 ghost use Rattle.gg_cut.specs.Listed.{listed_of};
-ghost use Rattle.gg_cut.specs.Channels.{channel_signals};
-ghost use Rattle.gg_cut.specs.Fault.{IsSmall, Tells, first_of, entry_faults, channel_faults, fault_in, first_fault, too_many_channels, most_units};
+ghost use Rattle.gg_cut.specs.Fault.{IsSmall, Tells, first_of, entry_faults, channel_faults, too_many_channels, most_units};
 ghost use Rattle.gg_cut.specs.declared.fault.CutFault.TheVariants.{TooManyUnits, TooManyChannels, NoMemory};
 
 use crate::capacities::{capacities_in_range, channels_exist};
@@ -17,7 +15,7 @@ use crate::fault::CutFault;
 use crate::listed::Listed;
 use crate::marks::channel_marks;
 use crate::overlap::none_overlap;
-use crate::signals::{listed_memories, listed_units, signals_of};
+use crate::signals::{listed_memories, listed_units};
 use gg_bits::Ids;
 use gg_flat::{Piece, Tree};
 use gg_order::Design;
@@ -30,41 +28,46 @@ const MOST_UNITS: u64 = 256;
 /// The most channels.
 const MOST_CHANNELS: u64 = 16384;
 
-/// What a request lists of a design whose circuit keeps to its tree.
+/// Judges the entries of a request for a design whose circuit keeps to its tree: which name nothing or occur twice, lists of units
+/// with different modules, and memories. Returns what the request lists.
 ///
 /// # Errors
 ///
-/// Returns the first fault of the request (`first_fault` in `specs/Fault`), exactly if it has one, or `NoMemory` if
-/// an allocation fails.
-pub fn judge(alloc: Global, design: &Design, request: &Request) -> Result<Listed, CutFault>
+/// Returns the first fault of the entries (`entry_faults` in `specs/Fault`), exactly if they have one, or `NoMemory` if an
+/// allocation fails.
+pub fn judge_entries(alloc: Global, design: &Design, request: &Request) -> Result<Listed, CutFault>
     requires small { IsSmall request.now }
     requires keeps { KeepsToTree design.now.circuit design.now.tree }
-    ensures told { Tells (first_fault design.now request.now) result }
+    ensures told { Tells (first_of (entry_faults design.now.tree request.now)) result }
     ensures listed { IfOk result (λ listed. listed ≡ listed_of design.now.tree request.now) }
+    ensures units { IfOk result (λ listed. length listed.units < 2 ^ 32) }
+    ensures memories { IfOk result (λ listed. length listed.memories < 2 ^ 32) }
 {
-    judge_all(alloc, design.piece(), design.tree(), request)
+    judge_listed(alloc, design.piece(), design.tree(), request)
 }
 
-// What a request lists of a circuit with its tree, or its first fault.
-fn judge_all(
+// What a request lists of a circuit with its tree, or the first fault of its entries.
+fn judge_listed(
     alloc: Global,
     piece: &Piece,
     tree: &Tree,
     request: &Request,
 ) -> Result<Listed, CutFault>
     requires small { IsSmall request.now }
-    requires formed { IsWellFormed piece.now }
     requires fitting { IsTree piece.now tree.now }
-    ensures told { Tells (fault_in piece.now tree.now request.now) result }
+    ensures told { Tells (first_of (entry_faults tree.now request.now)) result }
     ensures listed { IfOk result (λ listed. listed ≡ listed_of tree.now request.now) }
+    ensures units { IfOk result (λ listed. length listed.units < 2 ^ 32) }
+    ensures memories { IfOk result (λ listed. length listed.memories < 2 ^ 32) }
 {
-    judge_entries(alloc, piece, tree, request)?;
-    judge_channels(alloc, piece, tree, request)
+    check_entries(alloc, piece, tree, request)?;
+    let listed = list(alloc, piece, tree, request)?;
+    Ok(listed)
 }
 
 // Checks the entries: for those that name nothing, those that occur twice, lists of units with different modules, and the
 // memories.
-fn judge_entries(
+fn check_entries(
     alloc: Global,
     piece: &Piece,
     tree: &Tree,
@@ -91,8 +94,6 @@ fn list(alloc: Global, piece: &Piece, tree: &Tree, request: &Request) -> Result<
     requires small { IsSmall request.now }
     requires fitting { IsTree piece.now tree.now }
     ensures listed { IfOk result (λ listed. listed ≡ listed_of tree.now request.now) }
-    ensures units { IfOk result (λ listed. All (λ unit. unit < length tree.now.instances) listed.units) }
-    ensures memories { IfOk result (λ listed. All (λ place. place < length tree.now.memories) listed.memories) }
     ensures few_units { IfOk result (λ listed. length listed.units < 2 ^ 32) }
     ensures few_memories { IfOk result (λ listed. length listed.memories < 2 ^ 32) }
     ensures err { IfErr result (λ cause. cause ≡ NoMemory) }
@@ -106,41 +107,18 @@ fn list(alloc: Global, piece: &Piece, tree: &Tree, request: &Request) -> Result<
     })
 }
 
-// Checks the capacities, and the numbers of units and of channels. Returns what is listed.
-fn judge_channels(
+/// Judges the capacities of a request that lists this, and the numbers of units and of channels. The channels have these signals,
+/// which their consumers take.
+///
+/// # Errors
+///
+/// Returns the first fault (`channel_faults` in `specs/Fault`), exactly if there is one, or `NoMemory` if an allocation fails.
+pub fn judge_channels(
     alloc: Global,
     piece: &Piece,
-    tree: &Tree,
-    request: &Request,
-) -> Result<Listed, CutFault>
-    requires small { IsSmall request.now }
-    requires formed { IsWellFormed piece.now }
-    requires fitting { IsTree piece.now tree.now }
-    ensures told { Tells (first_of (channel_faults piece.now request.now (listed_of tree.now request.now) (channel_signals piece.now tree.now (listed_of tree.now request.now)))) result }
-    ensures listed { IfOk result (λ listed. listed ≡ listed_of tree.now request.now) }
-{
-    let listed = list(alloc, piece, tree, request)?;
-    let signals = signals_of(
-        alloc,
-        piece,
-        tree,
-        listed.units.as_slice(),
-        listed.memories.as_slice(),
-    )?;
-    match judge_signals(alloc, piece, &signals, request, &listed) {
-        Ok(()) => Ok(listed),
-        Err(cause) => Err(cause),
-    }
-}
-
-// Checks for names that aren't those of channels, capacities out of range, and too many units or channels. The
-// channels have these signals.
-fn judge_signals(
-    alloc: Global,
-    piece: &Piece,
-    signals: &[u32],
     request: &Request,
     listed: &Listed,
+    signals: &[u32],
 ) -> Result<(), CutFault>
     requires known { All (λ s. s < length piece.now.signals) signals.now }
     requires units { length listed.now.units < 2 ^ 32 }

@@ -9,7 +9,8 @@ use Rattle.gg_moved.specs.Moved.{moved_memory, shifted, unclocked_memory}
 use Rattle.gg_order.specs.Design.{Ordered}
 use Rattle.gg_cut.specs.declared.listed.Listed.{Listed}
 use Rattle.gg_cut.specs.Machines.{first_memory, unit_number}
-use Rattle.gg_cut.specs.Plan.{HasMemory, memory_owner}
+use Rattle.gg_cut.specs.Listed.{memory_owner}
+use Rattle.gg_cut.specs.Plan.{HasMemory}
 use Rattle.gg_closed.proofs.ClosedLemmas.{owner-listed, owner-unlisted}
 use Rattle.gg_closed.proofs.ListLemmas.{Somewhere}
 use Rattle.gg_closed.proofs.MakerLemmas.{find-unit}

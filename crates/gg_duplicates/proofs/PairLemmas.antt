@@ -10,14 +10,13 @@ use Rattle.gg_order.specs.Design.{Ordered, IsDesign}
 use Rattle.gg_partfile.specs.declared.request.Request.{Request}
 use Rattle.gg_cut.specs.declared.listed.Listed.{Listed}
 use Rattle.gg_cut.specs.declared.fault.CutFault.TheVariants.{UnknownUnit, Doubled, OtherModule, Unmatched}
-use Rattle.gg_cut.specs.Channels.{channel_signals}
-use Rattle.gg_cut.specs.Fault.{first_fault, entry_faults, channel_faults, unshared, repeated, entries, other_module, unmatched}
+use Rattle.gg_cut.specs.Fault.{first_fault, entry_faults, unshared, repeated, entries, other_module, unmatched}
 use Rattle.gg_cut.specs.Hosts.{leader}
 use Rattle.gg_cut.specs.Listed.{is_among, instance_of, listed_of}
 use Rattle.gg_cut.specs.Machines.{unit_number}
-use Rattle.gg_cut.proofs.FindLemmas.{none-at, none-front, none-map}
+use Rattle.gg_cut.proofs.FindLemmas.{none-at, none-map}
 use Rattle.gg_closed.specs.Apart.{AreApart}
-use Rattle.gg_closed.proofs.FaultlessLemmas.{faultless-apart, faultless-known}
+use Rattle.gg_closed.proofs.FaultlessLemmas.{no-entry-fault, faultless-apart, faultless-known}
 use Rattle.gg_closed.proofs.ListedLemmas.{listed-are}
 use Rattle.gg_duplicates.specs.Again.{unit_first}
 use Rattle.gg_duplicates.proofs.CounterpartLemmas.{inside, counterpart, memory-behind, among-too, listed-path, path-listed}
@@ -52,7 +51,7 @@ module _ (design : Ordered) (request : Request) (meant : IsDesign design) (keeps
   apart = faultless-apart design request none keeps.fitting
 
   no-fault : (i : ℕ) → get_or (entry_faults design.tree request) i None ≡ None
-  no-fault i = none-at (entry_faults design.tree request) i (none-front (entry_faults design.tree request) (channel_faults design.circuit request (listed_of design.tree request) (channel_signals design.circuit design.tree (listed_of design.tree request))) none)
+  no-fault i = none-at (entry_faults design.tree request) i (no-entry-fault design request none)
 
   -- a unit of a list of `share`, by its place
   record IsAtPlace (group : List (List ℕ)) (m : ℕ) : Type 0 where

@@ -1,9 +1,9 @@
 -- The bytes of a file have one answer: a request, or one key with which they are refused.
-use Rattle.std.proofs.Common.{◌≡◌, ℕ, List, [], ◌∷◌, Bool, true, Option, Some, None, refl, sym, ap, ◌∙◌, subst, cond, inl, inr}
+use Rattle.std.proofs.Common.{◌≡◌, ℕ, List, [], ◌∷◌, Bool, true, false, Option, Some, None, refl, sym, ap, ◌∙◌, subst, cond, inl, inr}
 use Rattle.std.specs.Prelude.{⊤, is_some, codes}
 use Rattle.std.proofs.lemmas.Option.{none-some, same_Some}
 use Rattle.serde_json.specs.Data.{Data}
-use Rattle.serde_json.specs.Find.{get, as_object}
+use Rattle.serde_json.specs.Find.{get, as_bool, as_object}
 use Rattle.gg_partfile.specs.Fault.{or_else, first_wrong, wrong_key, IsRefused}
 use Rattle.gg_partfile.specs.Keys.{Key, keys, is_known, has_shape, misshapen, or_default, under, unknown}
 use Rattle.gg_partfile.specs.Partition.{Asks, IsPartition}
@@ -46,7 +46,7 @@ told-last d object fit = ap (λ b. cond b (first_wrong d) (Some (codes "-"))) ob
 asked : (d : Data) (request : Request) → Asks d request → wrong_key d ≡ None
 asked d request a =
     told-last d a.object
-    (fits [] texts (codes "units") d request.units refl a.units, (fits [] groups (codes "share") d request.share refl a.share, (fits [] texts (codes "memories") d request.memories refl a.memories, (fits [] numbers (codes "capacity") d request.capacity refl a.capacity, tt))))
+    (fits [] texts (codes "units") d request.units refl a.units, (fits [] groups (codes "share") d request.share refl a.share, (fits [] texts (codes "memories") d request.memories refl a.memories, (fits [] numbers (codes "capacity") d request.capacity refl a.capacity, (fits false as_bool (codes "direct") d request.direct refl a.direct, tt)))))
     ∙ a.known
 
 pub refused-apart : (bytes key : List ℕ) (request : Request) → IsPartition bytes request → ¬ IsRefused bytes key

@@ -3,6 +3,7 @@ use Rattle.std.proofs.Common.{◌≡◌, ℕ, List, [], ◌∷◌, true, false, 
 use Rattle.std.specs.Prelude.{option_and_then}
 use Rattle.std.proofs.lemmas.Option.{same_Some}
 use Rattle.serde_json.specs.Data.{Data, object, no_members}
+use Rattle.serde_json.specs.Find.{as_bool}
 use Rattle.serde_json.specs.Read.{read}
 use Rattle.serde_json.proofs.OnLiterals.{serde_json_on_literals}
 use Rattle.gg_partfile.specs.Fault.{wrong_key}
@@ -52,9 +53,21 @@ not-direct : Asks (object no_members) (record no_request { direct = true }) → 
 not-direct h = true≢false (sym (same_Some false true h.direct))
 
 -- a key whose feature isn't there is unknown, whatever its value
-later_key : told (codes "{\"pipe\": [\"a.k\"], \"direct\": 1}") ≡ Some (codes "direct")
+later_key : told (codes "{\"pipe\": [\"a.k\"], \"direct\": true}") ≡ Some (codes "pipe")
 unfolding serde_json_on_literals
 later_key = refl
+
+direct : option_and_then (under false as_bool (codes "direct")) (read (codes "{\"direct\": true}")) ≡ Some true
+unfolding serde_json_on_literals
+direct = refl
+
+direct_number : told (codes "{\"direct\":1}") ≡ Some (codes "direct")
+unfolding serde_json_on_literals
+direct_number = refl
+
+direct_after_capacity : told (codes "{\"direct\": 1, \"capacity\": []}") ≡ Some (codes "capacity")
+unfolding serde_json_on_literals
+direct_after_capacity = refl
 
 nothing : told [] ≡ Some (codes "-")
 unfolding serde_json_on_literals

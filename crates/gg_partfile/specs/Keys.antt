@@ -1,7 +1,7 @@
 -- The keys of a partition file. Each is optional. A key that isn't listed here is unknown.
 use Rattle.std.specs.Prelude.{ℕ, List, [], ◌∷◌, Bool, true, if◌then◌else◌, Option, Some, None, is_some, map, codes}
 use Rattle.serde_json.specs.Data.{Data}
-use Rattle.serde_json.specs.Find.{get}
+use Rattle.serde_json.specs.Find.{get, as_bool}
 use Rattle.gg_partfile.specs.Shapes.{texts, groups, numbers, is_one_of, other_key}
 
 -- a key, and whether a value has its shape
@@ -16,6 +16,7 @@ keys =
     ∷ record { name = codes "share"; fits = λ d. is_some (groups d) }
     ∷ record { name = codes "memories"; fits = λ d. is_some (texts d) }
     ∷ record { name = codes "capacity"; fits = λ d. is_some (numbers d) }
+    ∷ record { name = codes "direct"; fits = λ d. is_some (as_bool d) }
     ∷ []
 
 abbrev pub key_names : List (List ℕ)

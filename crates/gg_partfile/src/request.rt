@@ -26,8 +26,7 @@ pub type Bridges = Items<BridgeEntry>;
 
 /// What a partition asks for.
 ///
-/// No file may have the keys `direct`, `pipe`, `clocks` and `bridges` yet, so `direct` is false, and the other three lists
-/// are empty.
+/// No file may have the keys `pipe`, `clocks` and `bridges` yet, so these lists are empty.
 #[derive(Debug, Drop)]
 pub struct Request {
     /// The paths of the instances that become units.

@@ -11,7 +11,7 @@ use Rattle.gg_closed.specs.Apart.{AreApart}
 use Rattle.gg_closed.proofs.KindLemmas.{word-field}
 use Rattle.gg_closed.proofs.ClosedLemmas.{fields-closed, words-made}
 use Rattle.gg_closed.proofs.TreeLemmas.{innermost-known}
-use Rattle.gg_routes.specs.Direct.{Hub, hub_of}
+use Rattle.gg_cut.specs.Direct.{Hub, hub_of}
 use Rattle.gg_routes.proofs.RouteLemmas.{IsBase}
 use Rattle.gg_routes.proofs.ChoiceLemmas.{Made, Taken, inner-none, wire-made, ins-before}
 use Rattle.gg_pipe.specs.Links.{maker_of, seen_by}

@@ -19,7 +19,7 @@ use Rattle.gg_part.proofs.AlongLemmas.{IsOrder-numbers}
 use Rattle.gg_part.specs.PartRun.{part_rows}
 use Rattle.gg_part.specs.declared.part.Part.{Part}
 use Rattle.gg_cut.specs.Plan.{wire_at, channels_to, channels_from}
-use Rattle.gg_routes.specs.Direct.{Hub, routes}
+use Rattle.gg_cut.specs.Direct.{Hub, routes}
 use Rattle.gg_routes.specs.Routes.{GivesInput}
 use Rattle.gg_pipe.specs.Reference.{IsReference, driver_by}
 use Rattle.gg_pipe.specs.Links.{pipes_of, seen_by, maker_of, views_of, taken_as, IsRoutedPart, AreHolders}

@@ -13,14 +13,14 @@ use Rattle.gg_flat.specs.Circuit.{FlatCircuit, driver_at}
 use Rattle.gg_flat.specs.Tree.{InstanceTree, IsTree, memory_at}
 use Rattle.gg_flat.proofs.ListLemmas.{in-range, once-apart}
 use Rattle.gg_cut.specs.declared.listed.Listed.{Listed}
-use Rattle.gg_cut.specs.Listed.{first_place}
-use Rattle.gg_cut.specs.Plan.{HasMemory, memory_owner}
+use Rattle.gg_cut.specs.Listed.{first_place, memory_owner}
+use Rattle.gg_cut.specs.Plan.{HasMemory}
 use Rattle.gg_cut.proofs.PathLemmas.{IsPlace, first_place-Some, first_place-None}
 use Rattle.gg_closed.proofs.ListLemmas.{AllPairs-map}
-use Rattle.gg_routes.specs.Direct.{Hub}
+use Rattle.gg_cut.specs.Direct.{Hub}
 use Rattle.gg_pipe.specs.Links.{maker_of}
 use Rattle.gg_pipe.specs.Made.{holds, holder_of, keeper_of, AreHeldOnce}
-use Rattle.gg_routes.proofs.OriginLemmas.{finds-any, clash}
+use Rattle.gg_cut.proofs.OriginLemmas.{finds-any, clash}
 
 holds-is : (r : ℕ) (driver : Driver) → holds r driver ≡ true → driver ≡ Held r
 holds-is r (Input place) e = absurd (clash false e refl)

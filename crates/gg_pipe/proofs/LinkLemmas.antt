@@ -18,27 +18,27 @@ use Rattle.gg_flat.proofs.ListLemmas.{Contains-map, Contains-filter}
 use Rattle.gg_cut.specs.declared.wires.Wire.{Wire}
 use Rattle.gg_cut.specs.Listed.{first_place}
 use Rattle.gg_cut.proofs.PathLemmas.{IsPlace, place-tells}
-use Rattle.gg_routes.specs.Direct.{Hub, is_own, routes, origin_within}
-use Rattle.gg_routes.specs.Routes.{IsSame}
+use Rattle.gg_cut.specs.Direct.{Hub, is_own, routes, origin_within}
+use Rattle.gg_cut.specs.Direct.{IsSame}
 use Rattle.gg_pipe.specs.Reference.{IsReference, driver_by, op_by}
 use Rattle.gg_pipe.specs.Links.{pipes_of, taken_as, seen_by, maker_of, views_of, stream}
-use Rattle.gg_routes.proofs.OriginLemmas.{finds-any, clash, IsCopied, copied-is, own-free}
+use Rattle.gg_cut.proofs.OriginLemmas.{finds-any, clash, IsCopied, copied-is, own-free}
 use Rattle.gg_routes.proofs.RouteLemmas.{IsBase}
-use Rattle.gg_routes.proofs.ChoiceLemmas.{IsFromBase}
-use Rattle.gg_routes.proofs.SameLemmas.{copy-wide, IsKeptIn, AreKeptIn, routes-same}
+use Rattle.gg_cut.proofs.DirectLemmas.{IsFromBase}
+use Rattle.gg_cut.proofs.SameLemmas.{copy-wide, IsKeptIn, AreKeptIn, routes-same}
 use Rattle.gg_pipe.proofs.PipeLemmas.{IsPipe, pipe-column}
 use Rattle.gg_pipe.proofs.SeenLemmas.{maker-inner, maker-wire, unpiped, piped-as, seen-origin, pipes-known}
 
 module _ (hub : Hub) (base : IsBase hub) (all : FlatCircuit) (holder keeper : ℕ → ℕ) (reference : IsReference hub.circuit all (views_of hub holder keeper) (pipes_of hub)) (formed : IsWellFormed hub.circuit) where
   -- a copy of the hub that has an origin is a copy in the reference circuit
-  pub kept-reference : AreKeptIn hub base all
+  pub kept-reference : AreKeptIn hub all
   kept-reference =
       record {
         more = (let long = reference.signals in omega (arith, long));
         each = λ n s t x lt hubs to from. each n s t x lt (maker s hubs) (copied-is hub.circuit s t to) from;
       }
     where
-      maker : (s : ℕ) → (is_own hub s ≡ true) ⊎ IsFromBase hub base 0 s → maker_of hub s ≡ 0
+      maker : (s : ℕ) → (is_own hub s ≡ true) ⊎ IsFromBase hub 0 s → maker_of hub s ≡ 0
       maker s (inl own) = maker-inner hub base s (own-free hub s own) ∙ eqb-true (hub.owner s) 0 (and_parts (hub.owner s == 0) (not (list_any (λ (w : Wire). w.signal == s) hub.base)) own).0
       maker s (inr w) = maker-wire hub base 0 s w
 
@@ -100,7 +100,7 @@ module _ (hub : Hub) (base : IsBase hub) (all : FlatCircuit) (holder keeper : �
         ∙ sym (get_or-map (λ (row : List ℕ). value_at row r.given) rows t [] 0 below))
       where
         same : IsSame all r
-        same = All-contains (IsSame all) (routes hub) r (routes-same hub base all kept-reference) h
+        same = All-contains (IsSame all) (routes hub) r (routes-same hub all kept-reference base.plain) h
 
     -- What the consumer of a channel gets, in the first n cycles.
     pub link-column : (r : Wire) → Contains (routes hub) r → column rows (taken_as hub r.signal) ≡ take n (stream (hub.piped r.signal) (column rows r.given))

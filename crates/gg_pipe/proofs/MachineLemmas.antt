@@ -19,12 +19,11 @@ use Rattle.gg_part.specs.declared.part.Part.{Part}
 use Rattle.gg_part.proofs.RenameLemmas.{part_row-at}
 use Rattle.gg_cut.specs.declared.wires.Wire.{Wire}
 use Rattle.gg_closed.proofs.ListLemmas.{map-cases}
-use Rattle.gg_cut.specs.Plan.{wire_at, channels_to, channels_from, givens_of, Takes}
-use Rattle.gg_routes.specs.Direct.{Hub, routes}
-use Rattle.gg_routes.specs.Routes.{MakesBy}
+use Rattle.gg_cut.specs.Plan.{wire_at, channels_to, channels_from, givens_of, Takes, MakesBy}
+use Rattle.gg_cut.specs.Direct.{Hub, routes}
 use Rattle.gg_pipe.specs.Reference.{IsReference, with_paths}
 use Rattle.gg_pipe.specs.Links.{pipes_of, seen_by, views_of, stream, IsRoutedPart, AreHolders}
-use Rattle.gg_routes.proofs.OriginLemmas.{finds-any}
+use Rattle.gg_cut.proofs.OriginLemmas.{finds-any}
 use Rattle.gg_routes.proofs.RouteLemmas.{IsBase, no-echo, chosen-out}
 use Rattle.gg_routes.proofs.ChoiceLemmas.{any-wire}
 use Rattle.gg_pipe.proofs.ReferenceLemmas.{IsOwn, part_of_reference, run-paths, clocked-part}

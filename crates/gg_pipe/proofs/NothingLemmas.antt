@@ -18,7 +18,7 @@ use Rattle.gg_flat.specs.Circuit.{FlatCircuit}
 use Rattle.gg_flat.proofs.ListLemmas.{map-same}
 use Rattle.gg_cut.specs.Listed.{first_place}
 use Rattle.gg_cut.specs.declared.wires.Wire.{Wire}
-use Rattle.gg_routes.specs.Direct.{Hub, routes}
+use Rattle.gg_cut.specs.Direct.{Hub, routes}
 use Rattle.gg_pipe.specs.Reference.{Views, op_by, line_by, next_by, reset_by, register_by, reader_by, writer_by, memory_by, driver_by}
 use Rattle.gg_pipe.specs.Links.{pipes_of, pipe_or, taken_as, seen_by, views_of}
 use Rattle.gg_pipe.specs.Made.{by_number, seen_signal, reference_of, reference}

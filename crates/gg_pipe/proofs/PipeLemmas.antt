@@ -14,7 +14,7 @@ use Rattle.gg_flat.specs.Run.{clocked_start, IsRunFrom, state_at, row_at, inputs
 use Rattle.gg_flat.proofs.AdvanceLemmas.{length-next_registers, next_registers-at}
 use Rattle.gg_flat.proofs.ListLemmas.{some-item}
 use Rattle.gg_pipe.specs.Reference.{IsPipeRegister}
-use Rattle.gg_routes.proofs.SameLemmas.{bare-value}
+use Rattle.gg_cut.proofs.SameLemmas.{bare-value}
 
 -- signal g is the register r, which takes signal c
 pub record IsPipe (circuit : FlatCircuit) (g r c : ℕ) : Type 0 where

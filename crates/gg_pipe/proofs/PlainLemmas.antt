@@ -13,9 +13,8 @@ use Rattle.gg_part.specs.declared.part.Part.{Part}
 use Rattle.gg_cut.specs.declared.listed.Listed.{Listed}
 use Rattle.gg_cut.specs.declared.wires.Wire.{Wire}
 use Rattle.gg_cut.specs.Channels.{wires_of}
-use Rattle.gg_cut.specs.Plan.{channels_to, channels_from, signals_of, givens_of, Makes, Takes, IsCutPart}
-use Rattle.gg_routes.specs.Direct.{Hub, hub_of, named_by, kept, origin, is_number, direct_of, left_by, is_gone, route, routes}
-use Rattle.gg_routes.specs.Routes.{MakesBy}
+use Rattle.gg_cut.specs.Plan.{channels_to, channels_from, signals_of, givens_of, Makes, Takes, IsCutPart, MakesBy}
+use Rattle.gg_cut.specs.Direct.{Hub, hub_of, named_by, kept, origin, is_number, direct_of, left_by, is_gone, route, routes}
 use Rattle.gg_pipe.specs.Links.{IsRoutedPart}
 
 module _ (circuit : FlatCircuit) (tree : InstanceTree) (listed : Listed) (piped : ℕ → Bool) where

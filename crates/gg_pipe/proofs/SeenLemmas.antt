@@ -11,14 +11,14 @@ use Rattle.gg_cut.specs.Listed.{first_place}
 use Rattle.gg_cut.proofs.PathLemmas.{first_place-Some}
 use Rattle.gg_closed.proofs.ListLemmas.{map-cases}
 use Rattle.gg_closed.proofs.PlaceLemmas.{place-none}
-use Rattle.gg_cut.specs.Plan.{Takes}
-use Rattle.gg_routes.specs.Direct.{Hub, is_own, routes, origin_within}
-use Rattle.gg_routes.specs.Routes.{MakesBy}
+use Rattle.gg_cut.specs.Plan.{Takes, MakesBy}
+use Rattle.gg_cut.specs.Direct.{Hub, is_own, routes, origin_within}
 use Rattle.gg_pipe.specs.Reference.{IsSeen, IsPiped}
 use Rattle.gg_pipe.specs.Links.{pipes_of, pipe_or, taken_as, seen_by, maker_or, maker_of}
-use Rattle.gg_routes.proofs.OriginLemmas.{any-finds, finds-any, clash, Chain, Here, Copy, chain}
+use Rattle.gg_cut.proofs.OriginLemmas.{any-finds, finds-any, clash, Chain, Here, Copy, chain}
 use Rattle.gg_routes.proofs.RouteLemmas.{IsBase, same-wire, own-no-wire, find-some, route-signal, out-routes, chosen-in}
-use Rattle.gg_routes.proofs.ChoiceLemmas.{IsFromBase, takes-out, From, Same, Origin, gives-out, inner-none, any-wire}
+use Rattle.gg_cut.proofs.DirectLemmas.{IsFromBase}
+use Rattle.gg_routes.proofs.ChoiceLemmas.{takes-out, From, Same, Origin, gives-out, inner-none, any-wire}
 
 find-none : {A : Type 0} (test : A → Bool) (xs : List A) → list_any test xs ≡ false → find test xs ≡ None
 find-none test [] e = refl
@@ -40,7 +40,7 @@ module _ (hub : Hub) (base : IsBase hub) where
   pub maker-inner : (s : ℕ) → list_any (λ (w : Wire). w.signal == s) hub.base ≡ false → maker_of hub s ≡ hub.owner s
   maker-inner s none = ap (maker_or (hub.owner s)) (find-none (λ (w : Wire). w.signal == s) hub.base none)
 
-  pub maker-wire : (m s : ℕ) → IsFromBase hub base m s → maker_of hub s ≡ m
+  pub maker-wire : (m s : ℕ) → IsFromBase hub m s → maker_of hub s ≡ m
   maker-wire m s w =
       let f = find-some (λ (v : Wire). v.signal == s) hub.base (finds-any (λ (v : Wire). v.signal == s) hub.base w.wire w.among (eq-eqb w.wire.signal s w.is)) in
       ap (maker_or (hub.owner s)) f.is ∙ ap (λ (v : Wire). v.producer) (same-wire hub base f.item w.wire f.among w.among (eqb-true f.item.signal s f.passes ∙ sym w.is)) ∙ w.producer

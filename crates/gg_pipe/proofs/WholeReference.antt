@@ -12,13 +12,14 @@ use Rattle.gg_flat.specs.Tree.{InstanceTree, IsTree, memory_at, path_at}
 use Rattle.gg_flat.specs.Scoped.{IsScoped}
 use Rattle.gg_flat.proofs.ListLemmas.{once-apart}
 use Rattle.gg_cut.specs.declared.listed.Listed.{Listed}
-use Rattle.gg_cut.specs.Plan.{HasMemory, memory_owner}
+use Rattle.gg_cut.specs.Listed.{memory_owner}
+use Rattle.gg_cut.specs.Plan.{HasMemory}
 use Rattle.gg_closed.specs.Apart.{AreApart}
 use Rattle.gg_closed.proofs.ListLemmas.{map-cases, AllPairs-append, AllPairs-map}
 use Rattle.gg_closed.proofs.ClosedLemmas.{reader-known}
 use Rattle.gg_closed.proofs.ChoiceLemmas.{place-of-memory}
 use Rattle.gg_cut.specs.declared.wires.Wire.{Wire}
-use Rattle.gg_routes.specs.Direct.{Hub, hub_of, routes}
+use Rattle.gg_cut.specs.Direct.{Hub, hub_of, routes}
 use Rattle.gg_pipe.specs.Reference.{IsReference, IsPiped}
 use Rattle.gg_pipe.specs.Links.{pipes_of, taken_as, views_of}
 use Rattle.gg_pipe.specs.Made.{reference, IsFresh}

@@ -14,7 +14,7 @@ use Rattle.gg_flat.proofs.WorkedMemories.{signal, copy, high}
 use Rattle.gg_cut.specs.declared.wires.Wire.{Wire}
 use Rattle.gg_cut.specs.Channels.{wire}
 use Rattle.gg_cut.proofs.WorkedPair.{circuit, tree, listed}
-use Rattle.gg_routes.specs.Direct.{Hub, hub_of}
+use Rattle.gg_cut.specs.Direct.{Hub, hub_of}
 use Rattle.gg_pipe.specs.Links.{pipes_of, taken_as, seen_by, maker_of}
 use Rattle.gg_pipe.specs.Made.{holder_of, reference, reference_circuit}
 

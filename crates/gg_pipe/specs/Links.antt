@@ -12,9 +12,8 @@ use Rattle.gg_part.specs.InOrder.{IsInOrder}
 use Rattle.gg_part.specs.declared.part.Part.{Part}
 use Rattle.gg_cut.specs.declared.wires.Wire.{Wire}
 use Rattle.gg_cut.specs.Listed.{first_place}
-use Rattle.gg_cut.specs.Plan.{channels_to, channels_from, signals_of, givens_of, Takes}
-use Rattle.gg_routes.specs.Direct.{Hub, routes}
-use Rattle.gg_routes.specs.Routes.{MakesBy}
+use Rattle.gg_cut.specs.Plan.{channels_to, channels_from, signals_of, givens_of, Takes, MakesBy}
+use Rattle.gg_cut.specs.Direct.{Hub, routes}
 use Rattle.gg_pipe.specs.Reference.{Views}
 
 -- the signals of the piped channels, in their order

@@ -10,9 +10,8 @@ use Rattle.gg_flat.specs.declared.piece.Driver.TheVariants.{Input, Held, MemoryW
 use Rattle.gg_flat.specs.Circuit.{FlatCircuit, driver_at}
 use Rattle.gg_flat.specs.Tree.{InstanceTree, path_at}
 use Rattle.gg_cut.specs.declared.listed.Listed.{Listed}
-use Rattle.gg_cut.specs.Listed.{first_place}
-use Rattle.gg_cut.specs.Plan.{memory_owner}
-use Rattle.gg_routes.specs.Direct.{Hub, hub_of}
+use Rattle.gg_cut.specs.Listed.{first_place, memory_owner}
+use Rattle.gg_cut.specs.Direct.{Hub, hub_of}
 use Rattle.gg_pipe.specs.Reference.{Views, driver_by, register_by, memory_by}
 use Rattle.gg_pipe.specs.Links.{pipes_of, maker_of, views_of}
 

@@ -15,7 +15,7 @@ ghost use Rattle.gg_cut.specs.Machines.{first_source};
 ghost use Rattle.gg_cut.specs.Channels.{wires_of};
 ghost use Rattle.gg_cut.specs.Plan.{wire_at, channels_from, HasMemory, IsCutPart};
 ghost use Rattle.gg_closed.specs.Apart.{AreApart};
-ghost use Rattle.gg_routes.specs.Direct.{hub_of, routes};
+ghost use Rattle.gg_cut.specs.Direct.{hub_of, routes};
 ghost use Rattle.gg_pipe.specs.Reference.{IsReference};
 ghost use Rattle.gg_pipe.specs.Links.{pipes_of, taken_as, IsRoutedPart};
 ghost use Rattle.gg_pipe.specs.Made.{reference_circuit, views_in, IsFresh, AreHeldOnce};

@@ -10,7 +10,7 @@ use Rattle.gg_cut.specs.declared.listed.Listed.{Listed}
 use Rattle.gg_cut.specs.declared.plan.Body.{Body}
 use Rattle.gg_cut.specs.declared.plan.Body.TheVariants.{Cut, Memory, Source, Tray}
 use Rattle.gg_cut.specs.declared.plan.Machine.{Machine}
-use Rattle.gg_cut.specs.declared.wires.Wire.{Wire}
+use Rattle.gg_cut.specs.Direct.{Hub}
 use Rattle.gg_cut.specs.Alike.{IsAlike, AreAlike}
 use Rattle.gg_cut.specs.Fault.{first_fault}
 use Rattle.gg_cut.specs.Hosts.{leader}
@@ -58,15 +58,15 @@ bodies-on Tray two three x y = absurd x
 
 -- ---- one machine more
 
-module _ (design : Ordered) (request : Request) (listed : Listed) (wires : List Wire) where
-  pub machines-none : (machines : List Machine) → machines ≡ [] → AreMachinesTo design request listed wires 0 machines
+module _ (design : Ordered) (request : Request) (listed : Listed) (hub : Hub) where
+  pub machines-none : (machines : List Machine) → machines ≡ [] → AreMachinesTo design request listed hub 0 machines
   machines-none machines is = record { counted = ap length is; each = λ m any lt. absurd (omega (arith, lt)); ascend = λ m any lt. absurd (omega (arith, lt)); alike = λ m any other lt. absurd (omega (arith, lt)) }
 
-  pub machines-more : (old new : List Machine) (n : ℕ) (machine : Machine) (body : Body) → AreMachinesTo design request listed wires n old → IsMachine design request listed wires n machine → machine.body ≡ body → IsMadeBody design request listed wires old n body → new ≡ old ++ machine ∷ [] → AreMachinesTo design request listed wires (n + 1) new
+  pub machines-more : (old new : List Machine) (n : ℕ) (machine : Machine) (body : Body) → AreMachinesTo design request listed hub n old → IsMachine design request listed hub n machine → machine.body ≡ body → IsMadeBody design request listed hub old n body → new ≡ old ++ machine ∷ [] → AreMachinesTo design request listed hub (n + 1) new
   machines-more old new n machine body are here same made is =
       record {
         counted = ap length is ∙ length_push old machine ∙ ap (λ k. k + 1) are.counted;
-        each = λ m any lt. below_more (λ k. IsMachine design request listed wires k (get_or new k any)) n (λ k low. subst (IsMachine design request listed wires k) (sym (kept k any low)) (are.each k any low)) (subst (IsMachine design request listed wires n) (sym (last any)) here) m lt;
+        each = λ m any lt. below_more (λ k. IsMachine design request listed hub k (get_or new k any)) n (λ k low. subst (IsMachine design request listed hub k) (sym (kept k any low)) (are.each k any low)) (subst (IsMachine design request listed hub n) (sym (last any)) here) m lt;
         ascend = λ m any lt. below_more (λ k. HasAscending (get_or new k any).body) n (λ k low. subst (λ (x : Machine). HasAscending x.body) (sym (kept k any low)) (are.ascend k any low)) (subst (λ (x : Machine). HasAscending x.body) (sym (last any)) (subst HasAscending (sym same) made.ascend)) m lt;
         alike = λ m any other lt. below_more (λ k. leader request.units request.share k ≢ k → AreAlike (get_or new (leader request.units request.share k) any).body (get_or new k other).body) n (before any other) (at-last any other) m lt;
       }
@@ -92,13 +92,13 @@ module _ (design : Ordered) (request : Request) (listed : Listed) (wires : List 
           (subst (AreAlike (get_or old (leader request.units request.share n) any).body) (sym same) (made.alike any differ)))
 
   -- what a machine does that is the first of its host
-  pub own-made : {E : Type 0} (machines : List Machine) (m : ℕ) (result : Result Body E) → leader request.units request.share m ≡ m → IfOk result (λ body. IsBody design listed wires m body) → IfOk result (λ body. HasAscending body) → IfOk result (λ body. IsMadeBody design request listed wires machines m body)
+  pub own-made : {E : Type 0} (machines : List Machine) (m : ℕ) (result : Result Body E) → leader request.units request.share m ≡ m → IfOk result (λ body. IsBody design listed hub m body) → IfOk result (λ body. HasAscending body) → IfOk result (λ body. IsMadeBody design request listed hub machines m body)
   own-made machines m (Ok body) first is ascend = record { is = is; ascend = ascend; alike = λ any differ. absurd (differ first) }
   own-made machines m (Err cause) first is ascend = tt
 
   -- ---- machines of one host
 
-  module _ (none : first_fault design request ≡ None) (machines : List Machine) (are : AreMachinesTo design request listed wires (machine_count design.circuit listed) machines) where
+  module _ (none : first_fault design request ≡ None) (machines : List Machine) (are : AreMachinesTo design request listed hub (machine_count design.circuit listed) machines) where
     -- a machine's part is like that of the first machine of its host, or it is this machine
     alike-first : (m l : ℕ) (any other : Machine) → m < machine_count design.circuit listed → leader request.units request.share m ≡ l → l ≢ m → AreAlike (get_or machines l any).body (get_or machines m other).body
     alike-first m l any other lt same differ =
@@ -118,7 +118,7 @@ module _ (design : Ordered) (request : Request) (listed : Listed) (wires : List 
             (bodies-back (get_or machines l any).body (get_or machines m any).body (alike-first m l any any lt a e))
             (alike-first n l any other lt' b f)
 
-    pub machines-made : AreMachines design request listed wires machines
+    pub machines-made : AreMachines design request listed hub machines
     machines-made = record {
       total = are.counted;
       each = λ m any lt. are.each m any (omega (arith, lt, are.counted));

@@ -1,25 +1,18 @@
--- What a request without a fault says of its capacities, channels and machines.
-use Rattle.std.proofs.Common.{◌≡◌, ℕ, zero, suc, ◌^◌, ◌<◌, ◌≤◌, List, [], ◌∷◌, length, get_or, Bool, true, false, refl, ap, Some, None, arith}
+-- What a request without a fault says of its capacities, and which fault is the first.
+use Rattle.std.proofs.Common.{◌≡◌, ℕ, zero, suc, ◌^◌, ◌<◌, ◌≤◌, List, [], ◌∷◌, Bool, true, false, refl, sym, ◌∙◌, ap, inl, inr, Some, None, arith}
 use Rattle.std.specs.Prelude.{cond, ◌||◌, ◌==◌, nat_lt, All}
-use Rattle.std.proofs.lemmas.List.{get_or-map, length-map}
 use Rattle.std.proofs.lemmas.Bool.{ltb-false, or_parts}
 use Rattle.gg_limits.specs.Limits.{capacity_limit}
-use Rattle.gg_flat.specs.WellFormed.{IsWellFormed}
-use Rattle.gg_flat.specs.Tree.{IsTree}
 use Rattle.gg_order.specs.Design.{Ordered}
 use Rattle.gg_partfile.specs.declared.request.Request.{Request}
-use Rattle.gg_cut.specs.declared.wires.Wire.{Wire}
+use Rattle.gg_cut.specs.declared.fault.CutFault.{CutFault}
 use Rattle.gg_cut.specs.declared.fault.CutFault.TheVariants.{OutOfRange}
 use Rattle.gg_cut.specs.Listed.{listed_of}
-use Rattle.gg_cut.specs.Machines.{machine_count}
-use Rattle.gg_cut.specs.Channels.{wire, wires_of, channel_signals, capacity_of}
-use Rattle.gg_cut.specs.Fault.{out_of_range, range_fault, first_fault}
-use Rattle.gg_cut.specs.Plan.{wire_at}
-use Rattle.gg_cut.proofs.KnownLemmas.{signals-known}
-use Rattle.gg_cut.proofs.ChannelLemmas.{wires-signals}
-use Rattle.gg_cut.proofs.FindLemmas.{none-map}
+use Rattle.gg_cut.specs.Channels.{capacity_of}
+use Rattle.gg_cut.specs.Direct.{plan_signals}
+use Rattle.gg_cut.specs.Fault.{or_else, IsTold, first_of, entry_faults, channel_faults, out_of_range, range_fault, first_fault}
+use Rattle.gg_cut.proofs.FindLemmas.{none-map, first-append}
 use Rattle.gg_closed.proofs.FaultlessLemmas as closed
-use Rattle.gg_closed.proofs.EndLemmas as ends
 use Rattle.gg_plan.specs.Made.{IsCapacity}
 
 -- ---- capacities
@@ -45,28 +38,17 @@ capacities-small capacities none = in-range capacities (none-map (λ pair. OutOf
 pub capacity-sound : (capacities : List (List ℕ × ℕ)) (default : ℕ) (name : List ℕ) → range_fault capacities ≡ None → IsCapacity default → IsCapacity (capacity_of capacities default name)
 capacity-sound capacities default name none own = closed.capacity-is (λ n. IsCapacity n) (λ n some few. (some, few)) capacities default name none own
 
--- ---- channels and machines
+-- ---- the faults of channels
 
--- the signals of channels are signals of the circuit
-pub wires-known : (design : Ordered) (request : Request) → first_fault design request ≡ None → IsWellFormed design.circuit → IsTree design.circuit design.tree → (c : ℕ) → c < length (wires_of design.circuit design.tree (listed_of design.tree request))
-    → (wire_at (wires_of design.circuit design.tree (listed_of design.tree request)) c).signal < length design.circuit.signals
-wires-known design request none formed is c lt =
-    let listed = listed_of design.tree request in
-    let wires = wires_of design.circuit design.tree listed in
-    let same = wires-signals design.circuit design.tree listed in
-    let apart = closed.faultless-apart design request none is in
-    let inside : c < length (channel_signals design.circuit design.tree listed) = omega (arith, lt, ap length same, length-map wires (λ (w : Wire). w.signal)) in
-    let known = signals-known design.circuit design.tree formed is listed apart.known apart.memories c 0 inside in
-    let at = get_or-map (λ (w : Wire). w.signal) wires c (wire 0 0 0) 0 lt in
-    let there = ap (λ l. get_or l c 0) same in
-    omega (arith, known, at, there)
+-- if the entries have no fault, the first fault is that of the channels
+pub channels-first : (design : Ordered) (request : Request) → first_of (entry_faults design.tree request) ≡ None → first_of (channel_faults design.circuit request (listed_of design.tree request) (plan_signals design.circuit design.tree request)) ≡ first_fault design request
+channels-first design request none =
+    let faults = channel_faults design.circuit request (listed_of design.tree request) (plan_signals design.circuit design.tree request) in
+    ap (λ f. or_else f (first_of faults)) (sym none) ∙ sym (first-append (entry_faults design.tree request) faults)
 
--- each channel is given by a machine
-pub wires-given : (design : Ordered) (request : Request) → first_fault design request ≡ None → IsTree design.circuit design.tree → (c : ℕ) → c < length (wires_of design.circuit design.tree (listed_of design.tree request))
-    → (wire_at (wires_of design.circuit design.tree (listed_of design.tree request)) c).producer < machine_count design.circuit (listed_of design.tree request)
-wires-given design request none is c lt = (ends.ends design.circuit design.tree (listed_of design.tree request) is (closed.faultless-apart design request none is) c (wire 0 0 0) lt).producer
-
-pub few-machines : (design : Ordered) (request : Request) → first_fault design request ≡ None → machine_count design.circuit (listed_of design.tree request) < 2 ^ 32
-few-machines design request none =
-    let most = ends.few-machines design.circuit design.tree (listed_of design.tree request) (closed.faultless-few design request none) in
-    omega (arith, most)
+-- a fault of the entries is the first of all
+pub entries-told : (design : Ordered) (request : Request) (cause : CutFault) → IsTold (first_of (entry_faults design.tree request)) cause → IsTold (first_fault design request) cause
+entries-told design request cause (inl memory) = inl memory
+entries-told design request cause (inr told) =
+    let faults = channel_faults design.circuit request (listed_of design.tree request) (plan_signals design.circuit design.tree request) in
+    inr (first-append (entry_faults design.tree request) faults ∙ ap (λ f. or_else f (first_of faults)) told)

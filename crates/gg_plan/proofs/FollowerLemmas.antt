@@ -10,13 +10,11 @@ use Rattle.gg_part.specs.declared.part.Part.{Part}
 use Rattle.gg_part.specs.Building.{AreHeld}
 use Rattle.gg_part.specs.Part.{IsPart}
 use Rattle.gg_cut.specs.declared.listed.Listed.{Listed}
-use Rattle.gg_cut.specs.declared.wires.Wire.{Wire}
-use Rattle.gg_cut.specs.Channels.{wires_of}
-use Rattle.gg_cut.specs.Machines.{first_source}
+use Rattle.gg_cut.specs.Direct.{Hub, routes}
 use Rattle.gg_cut.specs.Plan.{channels_to, channels_from, signals_of, givens_of, IsCutPart}
 use Rattle.gg_duplicates.specs.Again.{IsUnitAgain, again_at, cut_wires, unit_first}
-use Rattle.gg_split.specs.Share.{IsShareOf}
-use Rattle.gg_plan.specs.MovedPart.{IsMovedPiece, IsFollower, HoldAgain}
+use Rattle.gg_plan.specs.MovedPart.{IsUnitPart, IsUnitRouted, IsUnitShare, IsMovedPiece, IsFollower, HoldAgain}
+use Rattle.gg_plan.proofs.RoutedLemmas.{to-unit, from-unit}
 use Rattle.gg_plan.proofs.MovedUnitLemmas.{behind-first, counterparts-once, hold-again, registers-within, memories-within, counterparts-within, givens-known, banks-again}
 use Rattle.gg_plan.proofs.MovedPartLemmas.{moved-part, moved-alike}
 
@@ -31,32 +29,29 @@ pub record IsReady (whole : FlatCircuit) (leader : Part) (globals held banks giv
   pub banks_within : All (λ m. m < length whole.memories) banks
   pub givens_known : All (λ s. Contains globals s) givens
 
-module _ (design : Ordered) (listed : Listed) (wires : List Wire) (m n : ℕ) (leader : Part) (same : wires ≡ wires_of design.circuit design.tree listed) (again : IsUnitAgain design listed m n) (cut : IsCutPart design listed wires m leader) (ins outs signals banks : List ℕ) (share : IsShareOf design listed wires n ins outs signals banks) (ascend : AllPairs (λ a b. a < b) leader.memories) where
+module _ (design : Ordered) (listed : Listed) (hub : Hub) (m n : ℕ) (leader : Part) (again : IsUnitAgain design listed m n) (routed : IsUnitRouted design listed hub m) (there : IsUnitRouted design listed hub n) (cut : IsCutPart design listed hub m leader) (signals banks : List ℕ) (share : IsUnitShare design listed n signals banks) (ascend : AllPairs (λ a b. a < b) leader.memories) where
   abbrev to : ℕ → ℕ
   to = again_at design listed m n
 
-  cut-own : IsCutPart design listed (cut_wires design listed) m leader
-  cut-own = subst (λ (w : List Wire). IsCutPart design listed w m leader) same cut
+  abbrev own_givens : List ℕ
+  own_givens = givens_of (routes hub) (channels_from (routes hub) m)
 
-  share-own : IsShareOf design listed (cut_wires design listed) n ins outs signals banks
-  share-own = subst (λ (w : List Wire). IsShareOf design listed w n ins outs signals banks) same share
+  abbrev givens_there : List ℕ
+  givens_there = givens_of (routes hub) (channels_from (routes hub) n)
 
-  low : n < first_source listed
-  low = let at = again.units.3 in omega (arith, at)
+  abbrev cut-own : IsUnitPart design listed m own_givens leader
+  cut-own = to-unit design listed hub m leader routed cut
 
   banks-are : banks ≡ map again.memories leader.memories
-  banks-are = banks-again design listed m n leader again cut-own ins outs signals banks share-own low ascend
-
-  givens-are : givens_of wires outs ≡ givens_of (cut_wires design listed) (channels_from (cut_wires design listed) n)
-  givens-are = ap (λ (w : List Wire). givens_of w outs) same ∙ ap (givens_of (cut_wires design listed)) share-own.gives
+  banks-are = banks-again design listed m n leader again own_givens cut-own signals banks share ascend
 
   pub all-behind : (from : ℕ) → from ≡ unit_first design.tree listed m → All (λ s. from ≤ s) leader.globals
-  all-behind from is = subst (λ f. All (λ s. f ≤ s) leader.globals) (sym is) (behind-first design listed m n leader again cut-own)
+  all-behind from is = subst (λ f. All (λ s. f ≤ s) leader.globals) (sym is) (behind-first design listed m n leader again own_givens cut-own)
 
   -- the counterparts have numbers below 2^32
   pub all-few : (whole : FlatCircuit) (from first : ℕ) → whole ≡ design.circuit → length whole.signals < 2 ^ 32 → from ≡ unit_first design.tree listed m → first ≡ unit_first design.tree listed n → All (λ s. shifted from first s < 2 ^ 32) leader.globals
   all-few whole from first is few a b k d lt =
-      let within = counterparts-within design listed m n leader again cut-own ins outs signals banks share-own low k (to d) (omega (arith, lt, length-map leader.globals to)) in
+      let within = counterparts-within design listed m n leader again own_givens cut-own signals banks share k (to d) (omega (arith, lt, length-map leader.globals to)) in
       let at : get_or (map to leader.globals) k (to d) ≡ to (get_or leader.globals k d) = get_or-map to leader.globals k d (to d) lt in
       let count : length whole.signals ≡ length design.circuit.signals = ap (λ (c : FlatCircuit). length c.signals) is in
       omega (arith, within, at, count, few, a, b)
@@ -68,7 +63,7 @@ module _ (design : Ordered) (listed : Listed) (wires : List Wire) (m n : ℕ) (l
       (subst (λ (c : FlatCircuit). AreHeld c leader.globals (signals_of (cut_wires design listed) (channels_to (cut_wires design listed) m)) leader.held) (sym is) cut-own.held)
       (sym cut-own.ins)
       (subst (λ (c : FlatCircuit). HoldAgain c leader globals again.registers) (sym is)
-      (subst (λ (l : List ℕ). HoldAgain design.circuit leader l again.registers) (sym these) (hold-again design listed m n leader again cut-own)))
+      (subst (λ (l : List ℕ). HoldAgain design.circuit leader l again.registers) (sym these) (hold-again design listed m n leader again own_givens cut-own)))
 
   pub part-in : (whole : FlatCircuit) → whole ≡ design.circuit → IsPart whole leader.piece leader.globals leader.held leader.memories
   part-in whole is = subst (λ (c : FlatCircuit). IsPart c leader.piece leader.globals leader.held leader.memories) (sym is) cut.is
@@ -76,44 +71,45 @@ module _ (design : Ordered) (listed : Listed) (wires : List Wire) (m n : ℕ) (l
   pub globals-within : (whole : FlatCircuit) (globals : List ℕ) → whole ≡ design.circuit → globals ≡ map to leader.globals → All (λ s. s < length whole.signals) globals
   globals-within whole globals is these =
       subst (λ (c : FlatCircuit). All (λ s. s < length c.signals) globals) (sym is)
-      (subst (λ (l : List ℕ). All (λ s. s < length design.circuit.signals) l) (sym these) (counterparts-within design listed m n leader again cut-own ins outs signals banks share-own low))
+      (subst (λ (l : List ℕ). All (λ s. s < length design.circuit.signals) l) (sym these) (counterparts-within design listed m n leader again own_givens cut-own signals banks share))
 
   -- ---- with what was made so far
 
-  module _ (whole : FlatCircuit) (globals held own_banks givens : List ℕ) (is : whole ≡ design.circuit) (these : globals ≡ map (again_at design listed m n) leader.globals) (holds : held ≡ map again.registers leader.held) (own : own_banks ≡ banks) (gives : givens ≡ givens_of wires outs) where
+  module _ (whole : FlatCircuit) (globals held own_banks givens : List ℕ) (is : whole ≡ design.circuit) (these : globals ≡ map (again_at design listed m n) leader.globals) (holds : held ≡ map again.registers leader.held) (own : own_banks ≡ banks) (gives : givens ≡ givens_there) where
     pub ready : IsReady whole leader globals held own_banks givens
     ready = record {
       signals = cut.is.count ∙ sym (ap length these ∙ length-map leader.globals to);
       within = globals-within whole globals is these;
-      once = subst (λ (l : List ℕ). AllPairs (λ a b. a ≢ b) l) (sym these) (counterparts-once design listed m n leader again cut-own);
+      once = subst (λ (l : List ℕ). AllPairs (λ a b. a ≢ b) l) (sym these) (counterparts-once design listed m n leader again own_givens cut-own);
       registers = cut.is.register_count ∙ sym (ap length holds ∙ length-map leader.held again.registers);
       held_within =
           subst (λ (c : FlatCircuit). All (λ r. r < length c.registers) held) (sym is)
-          (subst (λ (l : List ℕ). All (λ r. r < length design.circuit.registers) l) (sym holds) (registers-within design listed m n leader again cut-own));
+          (subst (λ (l : List ℕ). All (λ r. r < length design.circuit.registers) l) (sym holds) (registers-within design listed m n leader again own_givens cut-own));
       memories = cut.is.memory_count ∙ sym (ap length own ∙ ap length banks-are ∙ length-map leader.memories again.memories);
       banks_within =
           subst (λ (c : FlatCircuit). All (λ k. k < length c.memories) own_banks) (sym is)
-          (subst (λ (l : List ℕ). All (λ k. k < length design.circuit.memories) l) (sym (own ∙ banks-are)) (memories-within design listed m n leader again cut-own));
+          (subst (λ (l : List ℕ). All (λ k. k < length design.circuit.memories) l) (sym (own ∙ banks-are)) (memories-within design listed m n leader again own_givens cut-own));
       givens_known =
           subst (λ (l : List ℕ). All (λ s. Contains l s) givens) (sym these)
-          (subst (λ (l : List ℕ). All (λ s. Contains (map to leader.globals) s) l) (sym (gives ∙ givens-are)) (givens-known design listed m n leader again cut-own ins outs signals banks share-own low));
+          (subst (λ (l : List ℕ). All (λ s. Contains (map to leader.globals) s) l) (sym gives) (givens-known design listed m n leader again own_givens cut-own signals banks share givens_there there.givens));
     }
 
-    pub follows : (part : Part) → IsMovedPiece whole leader.piece globals held own_banks givens part.piece → part.globals ≡ globals → part.held ≡ held → part.memories ≡ banks → IsFollower design listed wires n leader part
+    pub follows : (part : Part) → IsMovedPiece whole leader.piece globals held own_banks givens part.piece → part.globals ≡ globals → part.held ≡ held → part.memories ≡ banks → IsFollower design listed hub n leader part
     follows part moved a b c =
         record {
-          cut = subst (λ (w : List Wire). IsCutPart design listed w n part) (sym same) (moved-part design listed m n leader again cut-own ins outs signals banks share-own low up part banks-are (record { piece = piece; signals = a ∙ these; registers = b ∙ holds; memories = c ∙ banks-are }));
+          cut = from-unit design listed hub n part there
+              (moved-part design listed m n leader again own_givens givens_there cut-own routed.givens there.givens signals banks share up part banks-are (record { piece = piece; signals = a ∙ these; registers = b ∙ holds; memories = c ∙ banks-are }));
           ascend = subst (λ (l : List ℕ). AllPairs (λ a b. a < b) l) (sym c) share.ascend;
-          alike = moved-alike design listed m n leader again cut-own ins outs signals banks share-own low up part.piece piece;
+          alike = moved-alike design listed m n leader again own_givens givens_there cut-own routed.givens there.givens signals banks share up part.piece piece;
         }
       where
         up : AllPairs (λ a b. a < b) (map again.memories leader.memories)
         up = subst (λ (l : List ℕ). AllPairs (λ a b. a < b) l) banks-are share.ascend
 
-        piece : IsMovedPiece design.circuit leader.piece (map to leader.globals) (map again.registers leader.held) (map again.memories leader.memories) (givens_of (cut_wires design listed) (channels_from (cut_wires design listed) n)) part.piece
+        piece : IsMovedPiece design.circuit leader.piece (map to leader.globals) (map again.registers leader.held) (map again.memories leader.memories) givens_there part.piece
         piece =
-            subst (λ (w : FlatCircuit). IsMovedPiece w leader.piece (map to leader.globals) (map again.registers leader.held) (map again.memories leader.memories) (givens_of (cut_wires design listed) (channels_from (cut_wires design listed) n)) part.piece) is
-            (subst (λ (l : List ℕ). IsMovedPiece whole leader.piece l (map again.registers leader.held) (map again.memories leader.memories) (givens_of (cut_wires design listed) (channels_from (cut_wires design listed) n)) part.piece) these
-            (subst (λ (l : List ℕ). IsMovedPiece whole leader.piece globals l (map again.memories leader.memories) (givens_of (cut_wires design listed) (channels_from (cut_wires design listed) n)) part.piece) holds
-            (subst (λ (l : List ℕ). IsMovedPiece whole leader.piece globals held l (givens_of (cut_wires design listed) (channels_from (cut_wires design listed) n)) part.piece) (own ∙ banks-are)
-            (subst (λ (l : List ℕ). IsMovedPiece whole leader.piece globals held own_banks l part.piece) (gives ∙ givens-are) moved))))
+            subst (λ (w : FlatCircuit). IsMovedPiece w leader.piece (map to leader.globals) (map again.registers leader.held) (map again.memories leader.memories) givens_there part.piece) is
+            (subst (λ (l : List ℕ). IsMovedPiece whole leader.piece l (map again.registers leader.held) (map again.memories leader.memories) givens_there part.piece) these
+            (subst (λ (l : List ℕ). IsMovedPiece whole leader.piece globals l (map again.memories leader.memories) givens_there part.piece) holds
+            (subst (λ (l : List ℕ). IsMovedPiece whole leader.piece globals held l givens_there part.piece) (own ∙ banks-are)
+            (subst (λ (l : List ℕ). IsMovedPiece whole leader.piece globals held own_banks l part.piece) gives moved))))

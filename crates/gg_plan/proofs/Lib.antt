@@ -7,9 +7,11 @@ pub mod ClockLemmas
 pub mod MovedUnitLemmas
 pub mod MovedPartLemmas
 pub mod RegisterLemmas
+pub mod RoutedLemmas
 pub mod FollowerLemmas
 pub mod MadeLemmas
 pub mod MachineLemmas
+pub mod ShareLemmas
 pub mod NeedLemmas
 pub mod FaultlessLemmas
 pub mod PlanLemmas

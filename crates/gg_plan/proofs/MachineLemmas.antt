@@ -12,12 +12,11 @@ use Rattle.gg_part.specs.Building.{AreHeld}
 use Rattle.gg_part.specs.InOrder.{IsAlong, IsInOrder}
 use Rattle.gg_cut.specs.declared.listed.Listed.{Listed}
 use Rattle.gg_cut.specs.declared.wires.Wire.{Wire}
-use Rattle.gg_cut.specs.Plan.{wire_at, channels_to, channels_from, signals_of, givens_of, Makes, Takes, HasMemory, IsCutPart}
+use Rattle.gg_cut.specs.Plan.{wire_at, channels_to, channels_from, signals_of, givens_of, MakesBy, Takes, HasMemory, IsCutPart}
 use Rattle.gg_cut.proofs.RangeLemmas.{filter-below}
 use Rattle.gg_split.specs.declared.share.Share.{Share}
-use Rattle.gg_split.specs.Share.{IsShareOf}
-use Rattle.gg_split.specs.IsShare.{AreShares}
-use Rattle.gg_cut.specs.Channels.{wires_of}
+use Rattle.gg_cut.specs.Direct.{Hub, routes}
+use Rattle.gg_routes.specs.Share.{IsPlanShare}
 
 -- ---- channels are numbers below their count
 
@@ -30,30 +29,23 @@ from-below wires m channels is k d lt = let below = filter-below (λ c. (wire_at
 -- ---- parts
 
 -- the part that a machine's share makes is the part that its plan asks for
-pub cut-part : (design : Ordered) (listed : Listed) (wires : List Wire) (m : ℕ) (share : Share) (whole : FlatCircuit) (part : Part) → IsShareOf design listed wires m share.ins share.outs share.globals share.memories → whole ≡ design.circuit → IsPart whole part.piece part.globals part.held part.memories → part.globals ≡ share.globals → part.memories ≡ share.memories
+pub cut-part : (design : Ordered) (listed : Listed) (hub : Hub) (wires : List Wire) → wires ≡ routes hub → (m : ℕ) (share : Share) (whole : FlatCircuit) (part : Part) → IsPlanShare design listed hub m share.ins share.outs share.globals share.memories → whole ≡ design.circuit → IsPart whole part.piece part.globals part.held part.memories → part.globals ≡ share.globals → part.memories ≡ share.memories
     → map (value_at part.globals) part.piece.ins ≡ signals_of wires share.ins → map (value_at part.globals) part.piece.outs ≡ givens_of wires share.outs → AreHeld whole part.globals (signals_of wires share.ins) part.held → IsOrder design.circuit design.order
     → ((whole part : FlatCircuit) (globals held memories order : List ℕ) → IsPart whole part globals held memories → IsOrder whole order → IsAlong order globals → IsInOrder part)
-    → IsCutPart design listed wires m part
-cut-part design listed wires m share whole part own w is g ms i o held ordered law =
-    let here = subst (λ (all : FlatCircuit). IsPart all part.piece part.globals part.held part.memories) w is in
+    → IsCutPart design listed hub m part
+cut-part design listed hub wires all m share whole part own w is g ms i o held ordered law =
+    let here = subst (λ (k : FlatCircuit). IsPart k part.piece part.globals part.held part.memories) w is in
     record {
       is = here;
-      signals = λ s. subst (λ (l : List ℕ). Contains l s ↔ (Makes design.circuit design.tree listed wires m s ⊎ Takes wires m s)) (sym g) (own.signals s);
-      ins = i ∙ ap (signals_of wires) own.takes;
-      outs = o ∙ ap (givens_of wires) own.gives;
+      signals = λ s. subst (λ (l : List ℕ). Contains l s ↔ (MakesBy hub m s ⊎ Takes (routes hub) m s)) (sym g) (own.signals s);
+      ins = i ∙ ap (λ (l : List Wire). signals_of l share.ins) all ∙ ap (signals_of (routes hub)) own.takes;
+      outs = o ∙ ap (λ (l : List Wire). givens_of l share.outs) all ∙ ap (givens_of (routes hub)) own.gives;
       held =
-          subst (λ (all : FlatCircuit). AreHeld all part.globals (signals_of wires (channels_to wires m)) part.held) w
-          (subst (λ (l : List ℕ). AreHeld whole part.globals (signals_of wires l) part.held) own.takes held);
+          subst (λ (k : FlatCircuit). AreHeld k part.globals (signals_of (routes hub) (channels_to (routes hub) m)) part.held) w
+          (subst (λ (l : List ℕ). AreHeld whole part.globals (signals_of (routes hub) l) part.held) own.takes (subst (λ (l : List Wire). AreHeld whole part.globals (signals_of l share.ins) part.held) all held));
       memories = λ k. subst (λ (l : List ℕ). Contains l k ↔ HasMemory design.tree listed m k) (sym ms) (own.banks k);
       ordered = law design.circuit part.piece part.globals part.held part.memories design.order here ordered (subst (λ (l : List ℕ). IsAlong design.order l) (sym g) own.along);
     }
-
--- the share at place m is that of machine m, where the wires are the cut's
-pub share-at : (design : Ordered) (listed : Listed) (wires : List Wire) (shares : List Share) (m : ℕ) (share : Share) → AreShares design listed shares → wires ≡ wires_of design.circuit design.tree listed → m < length shares → share ≡ get_or shares m share
-    → IsShareOf design listed wires m share.ins share.outs share.globals share.memories
-share-at design listed wires shares m share are same lt is =
-    subst (λ (w : List Wire). IsShareOf design listed w m share.ins share.outs share.globals share.memories) (sym same)
-    (subst (λ (s : Share). IsShareOf design listed (wires_of design.circuit design.tree listed) m s.ins s.outs s.globals s.memories) (sym is) (are.each m share (omega (arith, lt, are.many))))
 
 -- ---- one more at the end
 

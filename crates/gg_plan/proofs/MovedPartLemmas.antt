@@ -25,12 +25,10 @@ use Rattle.gg_part.specs.InOrder.{IsInOrder}
 use Rattle.gg_part.specs.Part.{IsPart, IsFrom, IsRegisterFrom, IsMemoryFrom, ReadsAmong, RegisterBelow, MemoryBelow, renamed_register, renamed_memory}
 use Rattle.gg_cut.specs.declared.listed.Listed.{Listed}
 use Rattle.gg_cut.specs.Alike.{IsAlike}
-use Rattle.gg_cut.specs.Machines.{first_source}
-use Rattle.gg_cut.specs.Plan.{channels_to, channels_from, signals_of, givens_of, Takes, HasMemory, IsCutPart}
+use Rattle.gg_cut.specs.Plan.{channels_to, signals_of, Takes, HasMemory}
 use Rattle.gg_closed.proofs.ListLemmas.{map-cases}
 use Rattle.gg_duplicates.specs.Again.{IsUnitAgain, HasSignal, again_at, cut_wires}
-use Rattle.gg_split.specs.Share.{IsShareOf}
-use Rattle.gg_plan.specs.MovedPart.{AreMade, IsMovedPiece, IsMovedPart, clocked_register, clocked_memory, clocked_readers, clocked_writers, register_there, memory_there}
+use Rattle.gg_plan.specs.MovedPart.{IsUnitPart, IsUnitShare, AreGivens, AreMade, IsMovedPiece, IsMovedPart, clocked_register, clocked_memory, clocked_readers, clocked_writers, register_there, memory_there}
 use Rattle.gg_plan.proofs.ClockLemmas.{register-clocked, memory-clocked, memory-free}
 use Rattle.gg_plan.proofs.MovedUnitLemmas.{among-has, counterpart-one, counterparts-once, counterpart-driver, registers-within, register-there, memories-within, memory-there, counterparts-within, counterpart-of}
 
@@ -79,7 +77,7 @@ shapes-same at f xs same =
 
 -- ---- the part
 
-module _ (design : Ordered) (listed : Listed) (m n : ℕ) (leader : Part) (again : IsUnitAgain design listed m n) (cut : IsCutPart design listed (cut_wires design listed) m leader) (ins outs signals banks : List ℕ) (share : IsShareOf design listed (cut_wires design listed) n ins outs signals banks) (low : n < first_source listed) (ascend : AllPairs (λ a b. a < b) (map again.memories leader.memories)) where
+module _ (design : Ordered) (listed : Listed) (m n : ℕ) (leader : Part) (again : IsUnitAgain design listed m n) (own_givens givens : List ℕ) (cut : IsUnitPart design listed m own_givens leader) (mine : AreGivens design listed m own_givens) (theirs : AreGivens design listed n givens) (signals banks : List ℕ) (share : IsUnitShare design listed n signals banks) (ascend : AllPairs (λ a b. a < b) (map again.memories leader.memories)) where
   abbrev to : ℕ → ℕ
   to = again_at design listed m n
 
@@ -92,10 +90,7 @@ module _ (design : Ordered) (listed : Listed) (m n : ℕ) (leader : Part) (again
   abbrev own_banks : List ℕ
   own_banks = map again.memories leader.memories
 
-  abbrev givens : List ℕ
-  givens = givens_of (cut_wires design listed) (channels_from (cut_wires design listed) n)
-
-  module _ (piece : FlatCircuit) (moved : IsMovedPiece design.circuit leader.piece (map (again_at design listed m n) leader.globals) (map again.registers leader.held) (map again.memories leader.memories) (givens_of (cut_wires design listed) (channels_from (cut_wires design listed) n)) piece) where
+  module _ (piece : FlatCircuit) (moved : IsMovedPiece design.circuit leader.piece (map (again_at design listed m n) leader.globals) (map again.registers leader.held) (map again.memories leader.memories) givens piece) where
     driver-same : (s : ℕ) → driver_at piece s ≡ driver_at leader.piece s
     driver-same s = ap (λ (l : List Signal). get_or (map (λ (signal : Signal). signal.driver) l) s (Input 0)) moved.signals
 
@@ -105,10 +100,10 @@ module _ (design : Ordered) (listed : Listed) (m n : ℕ) (leader : Part) (again
         let inside : r < length leader.piece.registers = omega (arith, lt, cut.is.register_count) in
         let at : value_at held r ≡ again.registers (value_at leader.held r) = get_or-map again.registers leader.held r 0 0 lt in
         record {
-          within = registers-within design listed m n leader again cut r 0 below;
+          within = registers-within design listed m n leader again own_givens cut r 0 below;
           is = λ any other.
               ap (λ (k : ℕ). get_or design.circuit.registers k other) at
-              ∙ register-clocked globals (get_or leader.piece.registers r other) (get_or design.circuit.registers (again.registers (value_at leader.held r)) other) (register-there design listed m n leader again cut r other other lt)
+              ∙ register-clocked globals (get_or leader.piece.registers r other) (get_or design.circuit.registers (again.registers (value_at leader.held r)) other) (register-there design listed m n leader again own_givens cut r other other lt)
               ∙ ap (λ (k : ℕ). renamed_register globals (clocked_register (get_or leader.piece.registers r other) (get_or design.circuit.registers k other))) (sym at)
               ∙ ap (λ (x : Register). renamed_register globals x) (sym (moved.registers.each r any other inside));
           below = λ any.
@@ -124,10 +119,10 @@ module _ (design : Ordered) (listed : Listed) (m n : ℕ) (leader : Part) (again
         let from = cut.is.memory_from k lt in
         let wide : length leader.globals ≡ length globals = sym (length-map leader.globals to) in
         record {
-          within = memories-within design listed m n leader again cut k 0 below;
+          within = memories-within design listed m n leader again own_givens cut k 0 below;
           is = λ any other.
               ap (λ (j : ℕ). get_or design.circuit.memories j other) at
-              ∙ memory-clocked globals (get_or leader.piece.memories k other) (get_or design.circuit.memories (again.memories (value_at leader.memories k)) other) (memory-there design listed m n leader again cut k other other lt)
+              ∙ memory-clocked globals (get_or leader.piece.memories k other) (get_or design.circuit.memories (again.memories (value_at leader.memories k)) other) (memory-there design listed m n leader again own_givens cut k other other lt)
               ∙ ap (λ (j : ℕ). renamed_memory globals (clocked_memory (get_or leader.piece.memories k other) (get_or design.circuit.memories j other))) (sym at)
               ∙ ap (λ (x : Memory). renamed_memory globals x) (sym (moved.memories.each k any other inside));
           below = λ any.
@@ -156,15 +151,15 @@ module _ (design : Ordered) (listed : Listed) (m n : ℕ) (leader : Part) (again
     is-part : IsPart design.circuit piece globals held own_banks
     is-part = record {
       count = ap length moved.signals ∙ cut.is.count ∙ sym (length-map leader.globals to);
-      within = λ s lt. counterparts-within design listed m n leader again cut ins outs signals banks share low s 0 lt;
-      once = counterparts-once design listed m n leader again cut;
+      within = λ s lt. counterparts-within design listed m n leader again own_givens cut signals banks share s 0 lt;
+      once = counterparts-once design listed m n leader again own_givens cut;
       paths = moved.paths;
       types =
           ap (map (λ (signal : Signal). shape signal.ty)) moved.signals ∙ cut.is.types
-          ∙ shapes-same (shape_at (signal_shapes design.circuit)) to leader.globals (λ s c. again.shape s (among-has design listed m n leader again cut s c));
+          ∙ shapes-same (shape_at (signal_shapes design.circuit)) to leader.globals (λ s c. again.shape s (among-has design listed m n leader again own_givens cut s c));
       drivers = λ s below.
           let lt : s < length leader.globals = omega (arith, below, length-map leader.globals to) in
-          let from = from-moved design.circuit leader.piece leader.globals leader.held leader.memories to again.registers again.memories s lt (counterpart-driver design listed m n leader again cut s lt) (driver_at leader.piece s) refl (cut.is.drivers s lt) in
+          let from = from-moved design.circuit leader.piece leader.globals leader.held leader.memories to again.registers again.memories s lt (counterpart-driver design listed m n leader again own_givens cut s lt) (driver_at leader.piece s) refl (cut.is.drivers s lt) in
           subst (IsFrom piece.ins globals held own_banks s (driver_at design.circuit (value_at globals s))) (sym (driver-same s))
           (subst (λ (l : List ℕ). IsFrom l globals held own_banks s (driver_at design.circuit (value_at globals s)) (driver_at leader.piece s)) (sym moved.ins) from);
       ins = λ place below.
@@ -189,7 +184,7 @@ module _ (design : Ordered) (listed : Listed) (m n : ℕ) (leader : Part) (again
         let at = map-cases to (signals_of (cut_wires design listed) (channels_to (cut_wires design listed) m)) (to s) (subst (λ (l : List ℕ). Contains l (to s)) again.ins c) in
         let t = value_at (signals_of (cut_wires design listed) (channels_to (cut_wires design listed) m)) at.place in
         let there = Contains-get_or (signals_of (cut_wires design listed) (channels_to (cut_wires design listed) m)) at.place 0 at.within in
-        let same : t ≡ s = counterpart-one design listed m n leader again cut t s (inr there) h (at.holds 0) in
+        let same : t ≡ s = counterpart-one design listed m n leader again own_givens cut t s (inr there) h (at.holds 0) in
         subst (Contains (signals_of (cut_wires design listed) (channels_to (cut_wires design listed) m))) same there
 
     taken-there : (s : ℕ) → Contains (signals_of (cut_wires design listed) (channels_to (cut_wires design listed) m)) s → Contains (signals_of (cut_wires design listed) (channels_to (cut_wires design listed) n)) (to s)
@@ -210,12 +205,12 @@ module _ (design : Ordered) (listed : Listed) (m n : ℕ) (leader : Part) (again
           let s = value_at leader.globals at.place in
           let among = Contains-get_or leader.globals at.place 0 at.within in
           let same : to s ≡ t = at.holds 0 in
-          by r s among (subst (λ (x : ℕ). Holds design.circuit (signals_of (cut_wires design listed) (channels_to (cut_wires design listed) n)) x r) (sym same) holds) (among-has design listed m n leader again cut s among);
+          by r s among (subst (λ (x : ℕ). Holds design.circuit (signals_of (cut_wires design listed) (channels_to (cut_wires design listed) n)) x r) (sym same) holds) (among-has design listed m n leader again own_givens cut s among);
       sound = λ r c.
           let at = map-cases again.registers leader.held r c in
           let k = value_at leader.held at.place in
           let h = cut.held.sound k (Contains-get_or leader.held at.place 0 at.within) in
-          let has = among-has design listed m n leader again cut h.signal h.chosen in
+          let has = among-has design listed m n leader again own_givens cut h.signal h.chosen in
           record {
             signal = to h.signal;
             chosen = Contains-map to leader.globals h.signal h.chosen;
@@ -247,12 +242,12 @@ module _ (design : Ordered) (listed : Listed) (m n : ℕ) (leader : Part) (again
         })
 
     signals-are : (t : ℕ) → Contains globals t ↔ HasSignal design listed n t
-    signals-are t = (forth, counterpart-of design listed m n leader again cut ins outs signals banks share low t)
+    signals-are t = (forth, counterpart-of design listed m n leader again own_givens cut signals banks share t)
       where
         forth : Contains globals t → HasSignal design listed n t
         forth c =
             let at = map-cases to leader.globals t c in
-            subst (HasSignal design listed n) (at.holds 0) (again.has (value_at leader.globals at.place) (among-has design listed m n leader again cut (value_at leader.globals at.place) (Contains-get_or leader.globals at.place 0 at.within)))
+            subst (HasSignal design listed n) (at.holds 0) (again.has (value_at leader.globals at.place) (among-has design listed m n leader again own_givens cut (value_at leader.globals at.place) (Contains-get_or leader.globals at.place 0 at.within)))
 
     ins-are : map (value_at globals) piece.ins ≡ signals_of (cut_wires design listed) (channels_to (cut_wires design listed) n)
     ins-are =
@@ -274,11 +269,11 @@ module _ (design : Ordered) (listed : Listed) (m n : ℕ) (leader : Part) (again
     gives-there : (s : ℕ) → Contains leader.piece.outs s → Contains piece.outs s
     gives-there s c =
         let inside : s < length leader.globals = subst (λ (k : ℕ). k < length leader.globals) (get-same leader.piece.outs c) (cut.is.outs c.0 c.1) in
-        let given = subst (λ (l : List ℕ). Contains l (value_at leader.globals s)) cut.outs (Contains-map (value_at leader.globals) leader.piece.outs s c) in
-        let there = (again.outs (value_at leader.globals s) (among-has design listed m n leader again cut (value_at leader.globals s) (Contains-get_or leader.globals s 0 inside))).0 given in
-        let at = map-cases (value_at globals) piece.outs (to (value_at leader.globals s)) (subst (λ (l : List ℕ). Contains l (to (value_at leader.globals s))) (sym moved.outs) there) in
+        let given = (mine (value_at leader.globals s)).0 (subst (λ (l : List ℕ). Contains l (value_at leader.globals s)) cut.outs (Contains-map (value_at leader.globals) leader.piece.outs s c)) in
+        let other = (theirs (to (value_at leader.globals s))).1 ((again.outs (value_at leader.globals s) (among-has design listed m n leader again own_givens cut (value_at leader.globals s) (Contains-get_or leader.globals s 0 inside))).0 given) in
+        let at = map-cases (value_at globals) piece.outs (to (value_at leader.globals s)) (subst (λ (l : List ℕ). Contains l (to (value_at leader.globals s))) (sym moved.outs) other) in
         let same : value_at piece.outs at.place ≡ s =
-        once-apart globals 0 (counterparts-once design listed m n leader again cut) (value_at piece.outs at.place) s (moved.outs_within at.place 0 at.within) (omega (arith, inside, length-map leader.globals to))
+        once-apart globals 0 (counterparts-once design listed m n leader again own_givens cut) (value_at piece.outs at.place) s (moved.outs_within at.place 0 at.within) (omega (arith, inside, length-map leader.globals to))
         (at.holds 0 ∙ sym (get_or-map to leader.globals s 0 0 inside)) in
         subst (Contains piece.outs) same (Contains-get_or piece.outs at.place 0 at.within)
       where
@@ -296,8 +291,8 @@ module _ (design : Ordered) (listed : Listed) (m n : ℕ) (leader : Part) (again
         let inside : s < length leader.globals = omega (arith, within, length-map leader.globals to) in
         let g = value_at leader.globals s in
         let given = subst (λ (l : List ℕ). Contains l (value_at globals s)) moved.outs (Contains-map (value_at globals) piece.outs s c) in
-        let there = (again.outs g (among-has design listed m n leader again cut g (Contains-get_or leader.globals s 0 inside))).1 (subst (Contains givens) (get_or-map to leader.globals s 0 0 inside) given) in
-        let at = map-cases (value_at leader.globals) leader.piece.outs g (subst (λ (l : List ℕ). Contains l g) (sym cut.outs) there) in
+        let back = (mine g).1 ((again.outs g (among-has design listed m n leader again own_givens cut g (Contains-get_or leader.globals s 0 inside))).1 ((theirs (to g)).0 (subst (Contains givens) (get_or-map to leader.globals s 0 0 inside) given))) in
+        let at = map-cases (value_at leader.globals) leader.piece.outs g (subst (λ (l : List ℕ). Contains l g) (sym cut.outs) back) in
         let same : value_at leader.piece.outs at.place ≡ s = once-apart leader.globals 0 cut.is.once (value_at leader.piece.outs at.place) s (cut.is.outs at.place at.within) inside (at.holds 0) in
         subst (Contains leader.piece.outs) same (Contains-get_or leader.piece.outs at.place 0 at.within)
 
@@ -311,12 +306,12 @@ module _ (design : Ordered) (listed : Listed) (m n : ℕ) (leader : Part) (again
           let inside : k < length leader.memories = omega (arith, lt, cut.is.memory_count) in
           let at : again.memories (value_at leader.memories k) ≡ value_at own_banks k = sym (get_or-map again.memories leader.memories k 0 0 inside) in
           memory-free globals (get_or leader.piece.memories k any) (get_or design.circuit.memories (value_at own_banks k) any)
-          (ap (λ (j : ℕ). unclocked_memory (get_or design.circuit.memories j any)) (sym at) ∙ memory-there design listed m n leader again cut k any any inside));
+          (ap (λ (j : ℕ). unclocked_memory (get_or design.circuit.memories j any)) (sym at) ∙ memory-there design listed m n leader again own_givens cut k any any inside));
       ins = sym moved.ins;
       outs = λ s. (gives-there s, gives-back s);
     }
 
-  pub moved-part : (part : Part) → banks ≡ map again.memories leader.memories → IsMovedPart design.circuit leader (map (again_at design listed m n) leader.globals) (map again.registers leader.held) (map again.memories leader.memories) (givens_of (cut_wires design listed) (channels_from (cut_wires design listed) n)) part → IsCutPart design listed (cut_wires design listed) n part
+  pub moved-part : (part : Part) → banks ≡ map again.memories leader.memories → IsMovedPart design.circuit leader (map (again_at design listed m n) leader.globals) (map again.registers leader.held) (map again.memories leader.memories) givens part → IsUnitPart design listed n givens part
   moved-part part same moved =
       let part_is = is-part part.piece moved.piece in
       record {

@@ -16,14 +16,12 @@ use Rattle.gg_part.specs.declared.part.Part.{Part}
 use Rattle.gg_part.specs.Building.{Holds}
 use Rattle.gg_part.specs.Part.{IsFrom, renamed_register, renamed_memory}
 use Rattle.gg_cut.specs.declared.listed.Listed.{Listed}
-use Rattle.gg_cut.specs.Machines.{first_source}
-use Rattle.gg_cut.specs.Plan.{channels_to, channels_from, signals_of, givens_of, Makes, HasMemory, IsCutPart}
+use Rattle.gg_cut.specs.Plan.{channels_to, signals_of, Makes, HasMemory}
 use Rattle.gg_closed.proofs.ListLemmas.{map-cases, AllPairs-map}
 use Rattle.gg_duplicates.specs.Again.{IsUnitAgain, HasSignal, again_at, cut_wires, unit_first}
-use Rattle.gg_split.specs.Share.{IsShareOf}
-use Rattle.gg_plan.specs.MovedPart.{HoldAgain}
+use Rattle.gg_plan.specs.MovedPart.{HoldAgain, IsUnitPart, IsUnitShare, AreGivens}
 
-module _ (design : Ordered) (listed : Listed) (m n : ℕ) (leader : Part) (again : IsUnitAgain design listed m n) (cut : IsCutPart design listed (cut_wires design listed) m leader) where
+module _ (design : Ordered) (listed : Listed) (m n : ℕ) (leader : Part) (again : IsUnitAgain design listed m n) (own_givens : List ℕ) (cut : IsUnitPart design listed m own_givens leader) where
   -- ---- signals
 
   pub among-has : (s : ℕ) → Contains leader.globals s → HasSignal design listed m s
@@ -129,11 +127,11 @@ module _ (design : Ordered) (listed : Listed) (m n : ℕ) (leader : Part) (again
 
   -- ---- with the share of the other unit
 
-  module _ (ins outs signals banks : List ℕ) (share : IsShareOf design listed (cut_wires design listed) n ins outs signals banks) (low : n < first_source listed) where
+  module _ (signals banks : List ℕ) (share : IsUnitShare design listed n signals banks) where
     signal-known : (t : ℕ) → HasSignal design listed n t → t < length design.circuit.signals
     signal-known t h =
         let c = (share.signals t).1 h in
-        subst (λ (k : ℕ). k < length design.circuit.signals) c.2 ((share.choice low).within c.0 t c.1)
+        subst (λ (k : ℕ). k < length design.circuit.signals) c.2 (share.within c.0 t c.1)
 
     pub counterparts-within : All (λ s. s < length design.circuit.signals) (map (again_at design listed m n) leader.globals)
     counterparts-within s d below =
@@ -148,10 +146,10 @@ module _ (design : Ordered) (listed : Listed) (m n : ℕ) (leader : Part) (again
         subst (Contains (map (again_at design listed m n) leader.globals)) s.2
         (Contains-map (again_at design listed m n) leader.globals s.0 ((cut.signals s.0).1 s.1))
 
-    pub givens-known : All (λ s. Contains (map (again_at design listed m n) leader.globals) s) (givens_of (cut_wires design listed) (channels_from (cut_wires design listed) n))
-    givens-known k d lt =
-        let t = get_or (givens_of (cut_wires design listed) (channels_from (cut_wires design listed) n)) k d in
-        counterpart-of t (inl (inr (Contains-get_or (givens_of (cut_wires design listed) (channels_from (cut_wires design listed) n)) k d lt)))
+    pub givens-known : (givens : List ℕ) → AreGivens design listed n givens → All (λ s. Contains (map (again_at design listed m n) leader.globals) s) givens
+    givens-known givens are k d lt =
+        let t = get_or givens k d in
+        counterpart-of t (inl (inr ((are t).0 (Contains-get_or givens k d lt))))
 
     pub banks-again : AllPairs (λ a b. a < b) leader.memories → banks ≡ map again.memories leader.memories
     banks-again ascend = again.banks leader.memories banks ascend share.ascend cut.memories share.banks

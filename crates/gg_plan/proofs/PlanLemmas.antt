@@ -15,12 +15,14 @@ use Rattle.gg_cut.specs.declared.plan.Channel.{Channel}
 use Rattle.gg_cut.specs.declared.listed.Listed.{Listed}
 use Rattle.gg_cut.specs.declared.wires.Wire.{Wire}
 use Rattle.gg_cut.specs.Listed.{listed_of, instance_of}
-use Rattle.gg_cut.specs.Fault.{range_fault, first_fault}
+use Rattle.gg_cut.specs.Fault.{range_fault}
 use Rattle.gg_cut.specs.Machines.{machine_count}
-use Rattle.gg_cut.specs.Channels.{wires_of, capacity_of}
+use Rattle.gg_cut.specs.Channels.{wire, capacity_of}
+use Rattle.gg_cut.specs.Direct.{Hub, routes}
 use Rattle.gg_cut.specs.Plan.{wire_at, channels_to, channels_from, signals_of, givens_of, IsCutPart, IsBody, IsMachine, NeedsIn}
-use Rattle.gg_flat.specs.Tree.{IsTree, path_at}
-use Rattle.gg_plan.proofs.FaultlessLemmas.{capacity-sound, wires-given, wires-known}
+use Rattle.gg_flat.specs.Tree.{path_at}
+use Rattle.gg_routes.specs.Routes.{AreRoutes}
+use Rattle.gg_plan.proofs.FaultlessLemmas.{capacity-sound}
 use Rattle.gg_plan.specs.Made.{IsCapacity, AreMachines, IsServed, IsServedBody, IsFit, AreTold, IsWired, AreWired, AreChannels}
 
 -- ---- machines
@@ -28,31 +30,31 @@ use Rattle.gg_plan.specs.Made.{IsCapacity, AreMachines, IsServed, IsServedBody, 
 abbrev FormsParts : Type 0
 FormsParts = (whole part : FlatCircuit) (globals held memories : List ℕ) → IsWellFormed whole → IsPart whole part globals held memories → IsWellFormed part
 
-module _ (design : Ordered) (listed : Listed) (wires : List Wire) (formed : IsWellFormed design.circuit) (law : FormsParts) (m : ℕ) (taken given : List ℕ) (to : taken ≡ channels_to wires m) (from : given ≡ channels_from wires m) where
-  served : (part : Part) → IsCutPart design listed wires m part → IsServed wires part taken given
+module _ (design : Ordered) (listed : Listed) (hub : Hub) (formed : IsWellFormed design.circuit) (law : FormsParts) (m : ℕ) (taken given : List ℕ) (to : taken ≡ channels_to (routes hub) m) (from : given ≡ channels_from (routes hub) m) where
+  served : (part : Part) → IsCutPart design listed hub m part → IsServed (routes hub) part taken given
   served part cut =
       record {
         formed = law design.circuit part.piece part.globals part.held part.memories formed cut.is;
         ordered = cut.ordered;
         once = cut.is.once;
         known = cut.is.outs;
-        ins = cut.ins ∙ ap (signals_of wires) (sym to);
-        outs = cut.outs ∙ ap (givens_of wires) (sym from);
+        ins = cut.ins ∙ ap (signals_of (routes hub)) (sym to);
+        outs = cut.outs ∙ ap (givens_of (routes hub)) (sym from);
       }
 
-  served-body : (body : Body) → IsBody design listed wires m body → IsServedBody wires body taken given
+  served-body : (body : Body) → IsBody design listed hub m body → IsServedBody (routes hub) body taken given
   served-body (Cut part) is = served part is.1
   served-body (Memory part) is = served part is.2
   served-body (Source place) is = tt
   served-body Tray is = tt
 
 -- the needs of each machine can be computed
-pub machine-fit : (design : Ordered) (request : Request) (listed : Listed) (wires : List Wire) (m : ℕ) (machine : Machine) → IsWellFormed design.circuit → FormsParts → IsMachine design request listed wires m machine → IsFit wires m machine
-machine-fit design request listed wires m machine formed law is =
+pub machine-fit : (design : Ordered) (request : Request) (listed : Listed) (hub : Hub) (m : ℕ) (machine : Machine) → IsWellFormed design.circuit → FormsParts → IsMachine design request listed hub m machine → IsFit (routes hub) m machine
+machine-fit design request listed hub m machine formed law is =
     record {
       ins = is.ins;
       outs = is.outs;
-      body = served-body design listed wires formed law m machine.ins machine.outs is.ins is.outs machine.body is.body;
+      body = served-body design listed hub formed law m machine.ins machine.outs is.ins is.outs machine.body is.body;
     }
 
 pub units-count : (design : Ordered) (request : Request) (listed : Listed) → listed ≡ listed_of design.tree request → length listed.units ≡ length request.units
@@ -87,19 +89,20 @@ channels-made design whole capacity wires machines table channels same given tol
           };
     }
 
--- ---- what the channels of a request without a fault have
+-- ---- what the routed channels have
 
 -- each channel is given by a machine
-pub given-below : (design : Ordered) (request : Request) (listed : Listed) (wires : List Wire) (machines : List Machine) → first_fault design request ≡ None → IsTree design.circuit design.tree → listed ≡ listed_of design.tree request → wires ≡ wires_of design.circuit design.tree listed → AreMachines design request listed wires machines → (c : ℕ) → c < length wires → (wire_at wires c).producer < length machines
-given-below design request listed wires machines none fitting is same are c lt =
-    let below = subst (λ (w : List Wire). c < length w → (wire_at w c).producer < machine_count design.circuit (listed_of design.tree request)) (sym (same ∙ ap (wires_of design.circuit design.tree) is)) (wires-given design request none fitting c) lt in
-    omega (arith, below, are.total, ap (machine_count design.circuit) is)
+pub given-below : (design : Ordered) (request : Request) (listed : Listed) (hub : Hub) (wires : List Wire) (machines : List Machine) → wires ≡ routes hub → AreRoutes design listed hub → AreMachines design request listed hub machines → (c : ℕ) → c < length wires → (wire_at wires c).producer < length machines
+given-below design request listed hub wires machines same sound are c lt =
+    let ends = subst (λ (l : List Wire). All (λ r. (r.producer < machine_count design.circuit listed) × (r.consumer < machine_count design.circuit listed)) l) (sym same) sound.ends in
+    let below = (ends c (wire 0 0 0) lt).0 in
+    omega (arith, below, are.total)
 
 -- each channel carries a signal of the circuit
-pub known-below : (design : Ordered) (request : Request) (listed : Listed) (wires : List Wire) (whole : FlatCircuit) → first_fault design request ≡ None → IsWellFormed design.circuit → IsTree design.circuit design.tree → listed ≡ listed_of design.tree request → wires ≡ wires_of design.circuit design.tree listed → whole ≡ design.circuit
-    → (c : ℕ) → c < length wires → (wire_at wires c).signal < length whole.signals
-known-below design request listed wires whole none formed fitting is same all c lt =
-    let below = subst (λ (w : List Wire). c < length w → (wire_at w c).signal < length design.circuit.signals) (sym (same ∙ ap (wires_of design.circuit design.tree) is)) (wires-known design request none formed fitting c) lt in
+pub known-below : (design : Ordered) (listed : Listed) (hub : Hub) (wires : List Wire) (whole : FlatCircuit) → wires ≡ routes hub → AreRoutes design listed hub → whole ≡ design.circuit → (c : ℕ) → c < length wires → (wire_at wires c).signal < length whole.signals
+known-below design listed hub wires whole same sound all c lt =
+    let known = subst (λ (l : List Wire). All (λ r. r.signal < length design.circuit.signals) l) (sym same) sound.known in
+    let below = known c (wire 0 0 0) lt in
     let count = ap (λ (circuit : FlatCircuit). length circuit.signals) all in
     omega (arith, below, count)
 

@@ -2,7 +2,7 @@
 --
 -- The top has the output `o` and an instance `tile` with the output `o`, which holds an instance `core` with the output `o`, a
 -- literal.
-use Rattle.std.proofs.Common.{◌≡◌, ℕ, ◌<◌, List, [], ◌∷◌, Some, None, refl, arith, lit<, lit≤}
+use Rattle.std.proofs.Common.{◌≡◌, false, ℕ, ◌<◌, List, [], ◌∷◌, Some, None, refl, arith, lit<, lit≤}
 use Rattle.std.specs.Prelude.{codes, slice_index_or}
 use Rattle.std.specs.Fmt.{digits}
 use Rattle.gg_bits.specs.declared.types.Ty.{Ty}
@@ -24,6 +24,7 @@ use Rattle.gg_cut.specs.declared.plan.Machine.{Machine}
 use Rattle.gg_cut.specs.declared.plan.Channel.{Channel}
 use Rattle.gg_cut.specs.declared.listed.Listed.{Listed}
 use Rattle.gg_cut.specs.declared.wires.Wire.{Wire}
+use Rattle.gg_cut.specs.Direct.{Hub, hub_of}
 use Rattle.gg_cut.specs.Listed.{listed_of}
 use Rattle.gg_cut.specs.Channels.{wires_of, capacity_of}
 use Rattle.gg_cut.specs.Fault.{first_fault, fault_text}
@@ -74,6 +75,9 @@ listed = listed_of tree request
 
 abbrev pub wires : List Wire
 wires = wires_of circuit tree listed
+
+abbrev pub routed : Hub
+routed = hub_of circuit tree listed (λ s. false) false
 
 -- ---- the plan
 
@@ -128,11 +132,11 @@ core-part =
     ((names-below 1 (node nibble (Literal (value 10)) ∷ []) refl, refl), tt)
     tt refl refl refl
 
-hub-cut : IsCutPart design listed wires 0 hub
-hub-cut = is-cut-part design listed wires 0 hub hub-part refl refl refl refl refl refl refl (no-memories tree listed 0 refl) refl
+hub-cut : IsCutPart design listed routed 0 hub
+hub-cut = is-cut-part design listed routed 0 hub hub-part refl refl refl refl refl refl refl (no-memories tree listed 0 refl) refl
 
-core-cut : IsCutPart design listed wires 1 core
-core-cut = is-cut-part design listed wires 1 core core-part refl refl refl refl refl refl refl (no-memories tree listed 1 refl) refl
+core-cut : IsCutPart design listed routed 1 core
+core-cut = is-cut-part design listed routed 1 core core-part refl refl refl refl refl refl refl (no-memories tree listed 1 refl) refl
 
 abbrev pub machines : List Machine
 machines =
@@ -145,9 +149,9 @@ channels =
     record { signal = 2; name = codes "tile.core.o"; ty = nibble; producer = 1; consumer = 0; capacity = 2; needs = [] }
     ∷ record { signal = 0; name = codes "o"; ty = nibble; producer = 0; consumer = 2; capacity = 2; needs = 0 ∷ [] } ∷ []
 
-is-machine : (m : ℕ) (any : Machine) → m < 3 → IsMachine design request listed wires m (slice_index_or machines m any)
+is-machine : (m : ℕ) (any : Machine) → m < 3 → IsMachine design request listed routed m (slice_index_or machines m any)
 is-machine m any =
-    three (λ k. IsMachine design request listed wires k (slice_index_or machines k any))
+    three (λ k. IsMachine design request listed routed k (slice_index_or machines k any))
     (record { name = refl; host = refl; body = (lit< tt, hub-cut); ins = refl; outs = refl })
     (record { name = refl; host = refl; body = (lit< tt, core-cut); ins = refl; outs = refl })
     (record { name = refl; host = refl; body = lit≤ tt; ins = refl; outs = refl })

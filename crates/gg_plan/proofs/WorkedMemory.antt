@@ -2,7 +2,7 @@
 --
 -- The top has the inputs `a` and `v`, the outputs `o0` and `o1` and a memory `m` of latency 0 with the readers `r` and `s` and the
 -- writers `w` and `x`; its signals are those of gg_flat's WorkedMemories, with paths in full.
-use Rattle.std.proofs.Common.{◌≡◌, ◌≢◌, ℕ, ◌<◌, List, [], ◌∷◌, None, set, refl, arith, lit<, lit≤}
+use Rattle.std.proofs.Common.{◌≡◌, false, ◌≢◌, ℕ, ◌<◌, List, [], ◌∷◌, None, set, refl, arith, lit<, lit≤}
 use Rattle.std.specs.Prelude.{codes, slice_index_or, Contains, ◌↔◌}
 use Rattle.gg_bits.specs.declared.ops.Op1.TheVariants.{Not}
 use Rattle.gg_bits.specs.declared.ops.OpN.TheVariants.{Bits}
@@ -28,9 +28,10 @@ use Rattle.gg_cut.specs.declared.plan.Channel.{Channel}
 use Rattle.gg_cut.specs.declared.plan.Plan.{Plan}
 use Rattle.gg_cut.specs.declared.listed.Listed.{Listed}
 use Rattle.gg_cut.specs.declared.wires.Wire.{Wire}
-use Rattle.gg_cut.specs.Listed.{listed_of}
+use Rattle.gg_cut.specs.Direct.{Hub, hub_of}
+use Rattle.gg_cut.specs.Listed.{listed_of, memory_owner}
 use Rattle.gg_cut.specs.Channels.{wires_of, capacity_of}
-use Rattle.gg_cut.specs.Plan.{IsPlan, IsMachine, IsChannel, IsCutPart, HasMemory, memory_owner, wire_at}
+use Rattle.gg_cut.specs.Plan.{IsPlan, IsMachine, IsChannel, IsCutPart, HasMemory, wire_at}
 use Rattle.gg_cut.proofs.WorkedPair.{input, output}
 use Rattle.gg_plan.proofs.WorkedTests.{each-below, ascending, names-below, has-needs, extra-need, lacks-need}
 use Rattle.gg_plan.proofs.WorkedHosts.{unshared}
@@ -69,6 +70,9 @@ listed = listed_of tree request
 -- the hub is machine 0, `m` is 1, the sources of `a` and `v` are 2 and 3, the trays of `o0` and `o1` are 4 and 5
 abbrev pub wires : List Wire
 wires = wires_of circuit tree listed
+
+abbrev pub routed : Hub
+routed = hub_of circuit tree listed (λ s. false) false
 
 -- ---- the parts
 
@@ -168,11 +172,11 @@ own-memories k = (
   λ h. only (λ place. (memory_at tree place).memory ≡ k → Contains (0 ∷ []) k) (λ is. (0, lit< tt, is)) h.place h.known h.is,
 )
 
-hub-cut : IsCutPart design listed wires 0 hub
-hub-cut = is-cut-part design listed wires 0 hub hub-part refl refl refl refl refl refl refl hub-memories refl
+hub-cut : IsCutPart design listed routed 0 hub
+hub-cut = is-cut-part design listed routed 0 hub hub-part refl refl refl refl refl refl refl hub-memories refl
 
-memory-cut : IsCutPart design listed wires 1 memory
-memory-cut = is-cut-part design listed wires 1 memory memory-part refl refl refl refl refl refl refl own-memories refl
+memory-cut : IsCutPart design listed routed 1 memory
+memory-cut = is-cut-part design listed routed 1 memory memory-part refl refl refl refl refl refl refl own-memories refl
 
 -- ---- the plan
 
@@ -220,9 +224,9 @@ channels =
 abbrev pub plan : Plan
 plan = record { machines = machines; channels = channels; listed = listed }
 
-is-machine : (m : ℕ) (any : Machine) → m < 6 → IsMachine design request listed wires m (slice_index_or machines m any)
+is-machine : (m : ℕ) (any : Machine) → m < 6 → IsMachine design request listed routed m (slice_index_or machines m any)
 is-machine m any =
-    each-below (λ k. IsMachine design request listed wires k (slice_index_or machines k any)) 6 (
+    each-below (λ k. IsMachine design request listed routed k (slice_index_or machines k any)) 6 (
       record { name = refl; host = refl; body = (lit< tt, hub-cut); ins = refl; outs = refl },
       (
         record { name = refl; host = refl; body = (lit≤ tt, lit< tt, memory-cut); ins = refl; outs = refl },

@@ -21,6 +21,7 @@ use Rattle.gg_cut.specs.declared.plan.Machine.{Machine}
 use Rattle.gg_cut.specs.declared.plan.Channel.{Channel}
 use Rattle.gg_cut.specs.declared.listed.Listed.{Listed}
 use Rattle.gg_cut.specs.declared.wires.Wire.{Wire}
+use Rattle.gg_cut.specs.Direct.{Hub, hub_of}
 use Rattle.gg_cut.specs.Listed.{listed_of}
 use Rattle.gg_cut.specs.Channels.{wires_of, capacity_of}
 use Rattle.gg_cut.specs.Plan.{IsPlan, IsMachine, IsChannel, IsCutPart, wire_at}
@@ -75,6 +76,9 @@ listed = listed_of tree outer
 abbrev wires : List Wire
 wires = wires_of circuit tree listed
 
+abbrev routed : Hub
+routed = hub_of circuit tree listed (λ s. false) false
+
 abbrev pub hub : Part
 hub =
     record {
@@ -126,11 +130,11 @@ unit-part =
     ((lit< tt, refl), ((names-below 4 (node eight (Ref 0) ∷ []) refl, refl), ((names-below 4 (node eight (Ref 1) ∷ []) refl, refl), ((names-below 4 (node eight (Ref 2) ∷ []) refl, refl), tt))))
     ((lit< tt, refl), tt) refl refl refl
 
-hub-cut : IsCutPart design listed wires 0 hub
-hub-cut = is-cut-part design listed wires 0 hub hub-part refl refl refl refl refl refl refl (no-memories tree listed 0 refl) refl
+hub-cut : IsCutPart design listed routed 0 hub
+hub-cut = is-cut-part design listed routed 0 hub hub-part refl refl refl refl refl refl refl (no-memories tree listed 0 refl) refl
 
-unit-cut : IsCutPart design listed wires 1 unit
-unit-cut = is-cut-part design listed wires 1 unit unit-part refl refl refl refl refl refl refl (no-memories tree listed 1 refl) refl
+unit-cut : IsCutPart design listed routed 1 unit
+unit-cut = is-cut-part design listed routed 1 unit unit-part refl refl refl refl refl refl refl (no-memories tree listed 1 refl) refl
 
 abbrev machines : List Machine
 machines =
@@ -146,9 +150,9 @@ channels =
     ∷ channel 3 (codes "u.q") 1 0 (1 ∷ [])
     ∷ channel 1 (codes "q") 0 3 (2 ∷ []) ∷ []
 
-is-machine : (m : ℕ) (any : Machine) → m < 4 → IsMachine design outer listed wires m (slice_index_or machines m any)
+is-machine : (m : ℕ) (any : Machine) → m < 4 → IsMachine design outer listed routed m (slice_index_or machines m any)
 is-machine m any =
-    four (λ k. IsMachine design outer listed wires k (slice_index_or machines k any))
+    four (λ k. IsMachine design outer listed routed k (slice_index_or machines k any))
     (record { name = refl; host = refl; body = (lit< tt, hub-cut); ins = refl; outs = refl })
     (record { name = refl; host = refl; body = (lit< tt, unit-cut); ins = refl; outs = refl })
     (record { name = refl; host = refl; body = (lit< tt, refl); ins = refl; outs = refl })
@@ -209,7 +213,7 @@ greedy-part =
 
 -- it is a part, but no part of this cut: `in.a` belongs to `u`
 inner-owned : ¬ IsPlan design outer 2 (record { machines = set machines 0 (record { name = codes "hub:"; host = 0; body = Cut greedy; ins = 0 ∷ 2 ∷ []; outs = 1 ∷ 3 ∷ [] }); channels = channels; listed = listed })
-inner-owned is = foreign-signal circuit tree listed wires 0 greedy.globals 4 refl refl (is.machine 0 any_machine (lit< tt)).body.1.signals
+inner-owned is = foreign-signal routed 0 greedy.globals 4 refl refl (is.machine 0 any_machine (lit< tt)).body.1.signals
 
 -- a unit without `in.a`, which gets `in.b` from outside
 abbrev pub hollow : Part
@@ -238,7 +242,7 @@ hollow-part =
     ((lit< tt, refl), ((lit< tt, refl), tt)) refl refl refl
 
 inner-lost : ¬ IsPlan design outer 2 (record { machines = set machines 1 (record { name = codes "u"; host = 1; body = Cut hollow; ins = 1 ∷ []; outs = 2 ∷ [] }); channels = channels; listed = listed })
-inner-lost is = lost-signal circuit tree listed wires 1 hollow.globals 4 (lit< tt) refl refl (is.machine 1 any_machine (lit< tt)).body.1.signals
+inner-lost is = lost-signal routed 1 hollow.globals 4 (lit< tt) refl refl (is.machine 1 any_machine (lit< tt)).body.1.signals
 
 -- ---- `in` as a unit: the signals of `u` belong to the hub
 
@@ -250,6 +254,9 @@ lower_listed = listed_of tree lower
 
 abbrev lower_wires : List Wire
 lower_wires = wires_of circuit tree lower_listed
+
+abbrev lower_routed : Hub
+lower_routed = hub_of circuit tree lower_listed (λ s. false) false
 
 abbrev pub around : Part
 around =
@@ -302,11 +309,11 @@ within-part =
     ((lit< tt, refl), ((names-below 2 (node eight (Ref 0) ∷ []) refl, refl), tt))
     ((lit< tt, refl), tt) refl refl refl
 
-around-cut : IsCutPart design lower_listed lower_wires 0 around
-around-cut = is-cut-part design lower_listed lower_wires 0 around around-part refl refl refl refl refl refl refl (no-memories tree lower_listed 0 refl) refl
+around-cut : IsCutPart design lower_listed lower_routed 0 around
+around-cut = is-cut-part design lower_listed lower_routed 0 around around-part refl refl refl refl refl refl refl (no-memories tree lower_listed 0 refl) refl
 
-within-cut : IsCutPart design lower_listed lower_wires 1 within
-within-cut = is-cut-part design lower_listed lower_wires 1 within within-part refl refl refl refl refl refl refl (no-memories tree lower_listed 1 refl) refl
+within-cut : IsCutPart design lower_listed lower_routed 1 within
+within-cut = is-cut-part design lower_listed lower_routed 1 within within-part refl refl refl refl refl refl refl (no-memories tree lower_listed 1 refl) refl
 
 abbrev lower_machines : List Machine
 lower_machines =
@@ -322,9 +329,9 @@ lower_channels =
     ∷ channel 5 (codes "u.in.b") 1 0 (1 ∷ [])
     ∷ channel 1 (codes "q") 0 3 (2 ∷ []) ∷ []
 
-is-lower-machine : (m : ℕ) (any : Machine) → m < 4 → IsMachine design lower lower_listed lower_wires m (slice_index_or lower_machines m any)
+is-lower-machine : (m : ℕ) (any : Machine) → m < 4 → IsMachine design lower lower_listed lower_routed m (slice_index_or lower_machines m any)
 is-lower-machine m any =
-    four (λ k. IsMachine design lower lower_listed lower_wires k (slice_index_or lower_machines k any))
+    four (λ k. IsMachine design lower lower_listed lower_routed k (slice_index_or lower_machines k any))
     (record { name = refl; host = refl; body = (lit< tt, around-cut); ins = refl; outs = refl })
     (record { name = refl; host = refl; body = (lit< tt, within-cut); ins = refl; outs = refl })
     (record { name = refl; host = refl; body = (lit< tt, refl); ins = refl; outs = refl })

@@ -15,7 +15,7 @@ use Rattle.gg_part.specs.Part.{IsPart, IsFrom, IsRegisterFrom, IsMemoryFrom}
 use Rattle.gg_part.specs.Building.{IsHeldIn, AreHeld}
 use Rattle.gg_part.specs.declared.part.Part.{Part}
 use Rattle.gg_cut.specs.declared.listed.Listed.{Listed}
-use Rattle.gg_cut.specs.declared.wires.Wire.{Wire}
+use Rattle.gg_cut.specs.Direct.{Hub, routes}
 use Rattle.gg_cut.specs.Plan.{channels_to, channels_from, signals_of, givens_of, HasMemory, IsCutPart}
 use Rattle.gg_plan.proofs.WorkedTests.{Upto, each-below, has, has-contains, contains-has, test-of, all_pairs, distinct, are_known, known-at, has_signals, has-signals, in_order, in-order}
 
@@ -140,18 +140,18 @@ is-part whole part globals count known once paths types clocks drivers ins outs 
 pub no-memories : (tree : InstanceTree) (listed : Listed) (m : ℕ) → length tree.memories ≡ 0 → (k : ℕ) → Contains [] k ↔ HasMemory tree listed m k
 no-memories tree listed m none k = (λ at. absurd (omega (arith, at.1)), λ h. absurd (omega (arith, h.known, none)))
 
-pub is-cut-part : (design : Ordered) (listed : Listed) (wires : List Wire) (m : ℕ) (part : Part) → IsPart design.circuit part.piece part.globals part.held part.memories
-    → has_signals design.circuit design.tree listed wires m part.globals ≡ true → are_known design.circuit part.globals ≡ true
-    → are_known design.circuit (givens_of wires (channels_from wires m)) ≡ true → are_known design.circuit (signals_of wires (channels_to wires m)) ≡ true
-    → map (value_at part.globals) part.piece.ins ≡ signals_of wires (channels_to wires m) → map (value_at part.globals) part.piece.outs ≡ givens_of wires (channels_from wires m) → has_held design.circuit part.globals (signals_of wires (channels_to wires m)) part.held ≡ true
-    → ((k : ℕ) → Contains part.memories k ↔ HasMemory design.tree listed m k) → in_order part.piece ≡ true → IsCutPart design listed wires m part
-is-cut-part design listed wires m part is test own given taken ins outs held memories ordered =
+pub is-cut-part : (design : Ordered) (listed : Listed) (hub : Hub) (m : ℕ) (part : Part) → IsPart design.circuit part.piece part.globals part.held part.memories
+    → has_signals hub m part.globals ≡ true → are_known hub.circuit part.globals ≡ true
+    → are_known hub.circuit (givens_of (routes hub) (channels_from (routes hub) m)) ≡ true → are_known hub.circuit (signals_of (routes hub) (channels_to (routes hub) m)) ≡ true
+    → map (value_at part.globals) part.piece.ins ≡ signals_of (routes hub) (channels_to (routes hub) m) → map (value_at part.globals) part.piece.outs ≡ givens_of (routes hub) (channels_from (routes hub) m) → has_held design.circuit part.globals (signals_of (routes hub) (channels_to (routes hub) m)) part.held ≡ true
+    → ((k : ℕ) → Contains part.memories k ↔ HasMemory design.tree listed m k) → in_order part.piece ≡ true → IsCutPart design listed hub m part
+is-cut-part design listed hub m part is test own given taken ins outs held memories ordered =
     record {
       is = is;
-      signals = has-signals design.circuit design.tree listed wires m part.globals test own given taken;
+      signals = has-signals hub m part.globals test own given taken;
       ins = ins;
       outs = outs;
-      held = has-held design.circuit part.globals (signals_of wires (channels_to wires m)) part.held held;
+      held = has-held design.circuit part.globals (signals_of (routes hub) (channels_to (routes hub) m)) part.held held;
       memories = memories;
       ordered = in-order part.piece ordered;
     }

@@ -2,7 +2,7 @@
 --
 -- The circuit, its tree and the request are those of WorkedPair: the hub is machine 0, `a` and `b` are 1 and 2, the source of `x` is
 -- 3 and the tray of `q` is 4.
-use Rattle.std.proofs.Common.{◌≡◌, ℕ, ◌<◌, List, [], ◌∷◌, length, set, Ok, Err, refl, sym, ap, inl, inr, arith, lit<, lit≤}
+use Rattle.std.proofs.Common.{◌≡◌, false, ℕ, ◌<◌, List, [], ◌∷◌, length, set, Ok, Err, refl, sym, ap, inl, inr, arith, lit<, lit≤}
 use Rattle.std.specs.Prelude.{codes, slice_index_or}
 use Rattle.gg_bits.specs.declared.ops.Op2.TheVariants.{Xor}
 use Rattle.gg_bits.specs.declared.ops.OpN.TheVariants.{Bits, Shl}
@@ -23,6 +23,7 @@ use Rattle.gg_cut.specs.declared.plan.Channel.{Channel}
 use Rattle.gg_cut.specs.declared.plan.Plan.{Plan}
 use Rattle.gg_cut.specs.Channels.{wires_of, capacity_of}
 use Rattle.gg_cut.specs.declared.wires.Wire.{Wire}
+use Rattle.gg_cut.specs.Direct.{Hub, hub_of}
 use Rattle.gg_cut.specs.Hosts.{host_of}
 use Rattle.gg_cut.specs.Fault.{Tells, first_fault}
 use Rattle.gg_cut.specs.Plan.{IsPlan, IsMachine, IsChannel, IsCutPart, wire_at}
@@ -151,14 +152,17 @@ b-part =
 abbrev pub wires : List Wire
 wires = wires_of circuit tree listed
 
-hub-cut : IsCutPart design listed wires 0 hub
-hub-cut = is-cut-part design listed wires 0 hub hub-part refl refl refl refl refl refl refl (no-memories tree listed 0 refl) refl
+abbrev pub routed : Hub
+routed = hub_of circuit tree listed (λ s. false) false
 
-a-cut : IsCutPart design listed wires 1 part_a
-a-cut = is-cut-part design listed wires 1 part_a a-part refl refl refl refl refl refl refl (no-memories tree listed 1 refl) refl
+hub-cut : IsCutPart design listed routed 0 hub
+hub-cut = is-cut-part design listed routed 0 hub hub-part refl refl refl refl refl refl refl (no-memories tree listed 0 refl) refl
 
-b-cut : IsCutPart design listed wires 2 part_b
-b-cut = is-cut-part design listed wires 2 part_b b-part refl refl refl refl refl refl refl (no-memories tree listed 2 refl) refl
+a-cut : IsCutPart design listed routed 1 part_a
+a-cut = is-cut-part design listed routed 1 part_a a-part refl refl refl refl refl refl refl (no-memories tree listed 1 refl) refl
+
+b-cut : IsCutPart design listed routed 2 part_b
+b-cut = is-cut-part design listed routed 2 part_b b-part refl refl refl refl refl refl refl (no-memories tree listed 2 refl) refl
 
 -- a request for `a` and `b`, with these lists of shared hosts and these capacities
 abbrev pub asked : List (List (List ℕ)) → List (List ℕ × ℕ) → Request
@@ -169,9 +173,9 @@ module _ (share : List (List (List ℕ))) (hosts : Upto (λ m. host_of (codes "a
   host : (m : ℕ) → m < 5 → m ≡ host_of (codes "a" ∷ codes "b" ∷ []) share m
   host m lt = sym (each-below (λ k. host_of (codes "a" ∷ codes "b" ∷ []) share k ≡ k) 5 hosts m lt)
 
-  is-machine : (m : ℕ) (any : Machine) → m < 5 → IsMachine design (asked share capacity) listed wires m (slice_index_or machines m any)
+  is-machine : (m : ℕ) (any : Machine) → m < 5 → IsMachine design (asked share capacity) listed routed m (slice_index_or machines m any)
   is-machine m any =
-      five (λ k. IsMachine design (asked share capacity) listed wires k (slice_index_or machines k any))
+      five (λ k. IsMachine design (asked share capacity) listed routed k (slice_index_or machines k any))
       (record { name = refl; host = host 0 (lit< tt); body = (lit< tt, hub-cut); ins = refl; outs = refl })
       (record { name = refl; host = host 1 (lit< tt); body = (lit< tt, a-cut); ins = refl; outs = refl })
       (record { name = refl; host = host 2 (lit< tt); body = (lit< tt, b-cut); ins = refl; outs = refl })

@@ -2,7 +2,7 @@
 --
 -- The top has the input `x` and the outputs `p` and `q`; its instances `u` and `v` of module Acc have each the input `a`, the output
 -- `s` and the register `r`, which adds `a` up and is `s`. `u.a` is `x`, `v.a` its complement, `p` is `u.s` and `q` is `v.s`.
-use Rattle.std.proofs.Common.{◌≡◌, ℕ, ◌<◌, List, [], ◌∷◌, Some, None, set, refl, ap, inl, inr, arith, lit<, lit≤}
+use Rattle.std.proofs.Common.{◌≡◌, false, ℕ, ◌<◌, List, [], ◌∷◌, Some, None, set, refl, ap, inl, inr, arith, lit<, lit≤}
 use Rattle.std.specs.Prelude.{codes, slice_index_or}
 use Rattle.gg_bits.specs.declared.ops.Op1.TheVariants.{Not}
 use Rattle.gg_bits.specs.declared.ops.Op2.TheVariants.{Add}
@@ -27,6 +27,7 @@ use Rattle.gg_cut.specs.declared.plan.Machine.{Machine}
 use Rattle.gg_cut.specs.declared.plan.Channel.{Channel}
 use Rattle.gg_cut.specs.declared.listed.Listed.{Listed}
 use Rattle.gg_cut.specs.declared.wires.Wire.{Wire}
+use Rattle.gg_cut.specs.Direct.{Hub, hub_of}
 use Rattle.gg_cut.specs.Listed.{listed_of}
 use Rattle.gg_cut.specs.Channels.{wires_of, capacity_of}
 use Rattle.gg_cut.specs.Plan.{IsPlan, IsMachine, IsChannel, IsCutPart, wire_at}
@@ -83,6 +84,9 @@ listed = listed_of tree request
 
 abbrev pub wires : List Wire
 wires = wires_of circuit tree listed
+
+abbrev pub routed : Hub
+routed = hub_of circuit tree listed (λ s. false) false
 
 -- ---- the parts
 
@@ -180,14 +184,14 @@ v-part =
     ((lit< tt, refl), ((names-below 3 (node eight (Ref 0) ∷ []) refl, refl), ((lit< tt, refl), tt)))
     ((lit< tt, refl), tt) refl refl v-register refl refl (λ m lt. absurd (omega arith))
 
-hub-cut : IsCutPart design listed wires 0 hub
-hub-cut = is-cut-part design listed wires 0 hub hub-part refl refl refl refl refl refl refl (no-memories tree listed 0 refl) refl
+hub-cut : IsCutPart design listed routed 0 hub
+hub-cut = is-cut-part design listed routed 0 hub hub-part refl refl refl refl refl refl refl (no-memories tree listed 0 refl) refl
 
-u-cut : IsCutPart design listed wires 1 part_u
-u-cut = is-cut-part design listed wires 1 part_u u-part refl refl refl refl refl refl refl (no-memories tree listed 1 refl) refl
+u-cut : IsCutPart design listed routed 1 part_u
+u-cut = is-cut-part design listed routed 1 part_u u-part refl refl refl refl refl refl refl (no-memories tree listed 1 refl) refl
 
-v-cut : IsCutPart design listed wires 2 part_v
-v-cut = is-cut-part design listed wires 2 part_v v-part refl refl refl refl refl refl refl (no-memories tree listed 2 refl) refl
+v-cut : IsCutPart design listed routed 2 part_v
+v-cut = is-cut-part design listed routed 2 part_v v-part refl refl refl refl refl refl refl (no-memories tree listed 2 refl) refl
 
 -- ---- the plan
 
@@ -216,9 +220,9 @@ channels =
     ∷ channel 1 (codes "p") 0 4 (2 ∷ [])
     ∷ channel 2 (codes "q") 0 5 (4 ∷ []) ∷ []
 
-is-machine : (m : ℕ) (any : Machine) → m < 6 → IsMachine design request listed wires m (slice_index_or machines m any)
+is-machine : (m : ℕ) (any : Machine) → m < 6 → IsMachine design request listed routed m (slice_index_or machines m any)
 is-machine m any =
-    each-below (λ k. IsMachine design request listed wires k (slice_index_or machines k any)) 6 (
+    each-below (λ k. IsMachine design request listed routed k (slice_index_or machines k any)) 6 (
       record { name = refl; host = refl; body = (lit< tt, hub-cut); ins = refl; outs = refl },
       (
         record { name = refl; host = refl; body = (lit< tt, u-cut); ins = refl; outs = refl },
@@ -340,8 +344,8 @@ turned-part =
     ((lit< tt, refl), ((lit< tt, refl), ((names-below 3 (node eight (Ref 0) ∷ []) refl, refl), tt)))
     ((lit< tt, refl), tt) refl refl turned-register refl refl (λ m lt. absurd (omega arith))
 
-turned-cut : IsCutPart design listed wires 2 turned
-turned-cut = is-cut-part design listed wires 2 turned turned-part refl refl refl refl refl refl refl (no-memories tree listed 2 refl) refl
+turned-cut : IsCutPart design listed routed 2 turned
+turned-cut = is-cut-part design listed routed 2 turned turned-part refl refl refl refl refl refl refl (no-memories tree listed 2 refl) refl
 
 -- one host, but two programs
 two-programs : ¬ IsPlan design request 2 (record { machines = set machines 2 (record { name = codes "v"; host = 1; body = Cut turned; ins = 3 ∷ []; outs = 4 ∷ [] }); channels = channels; listed = listed })

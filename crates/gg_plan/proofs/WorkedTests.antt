@@ -14,18 +14,16 @@ use Rattle.gg_flat.specs.declared.piece.Driver.{Driver}
 use Rattle.gg_flat.specs.declared.piece.Driver.TheVariants.{Input, Held, MemoryWord, ReadRegister, Computed}
 use Rattle.gg_flat.specs.Line.{value_at}
 use Rattle.gg_flat.specs.Circuit.{FlatCircuit, driver_at}
-use Rattle.gg_flat.specs.Tree.{InstanceTree}
 use Rattle.gg_flat.specs.Reads.{Names, NamesSignal, Reads, Reaches}
 use Rattle.gg_needs.proofs.ReachLemmas.{Reaches-on, along-reaches}
 use Rattle.gg_order.specs.Marks.{is_marked}
 use Rattle.gg_part.specs.Part.{NamesBelow}
 use Rattle.gg_part.specs.InOrder.{IsInOrder}
 use Rattle.gg_part.specs.declared.part.Part.{Part}
-use Rattle.gg_cut.specs.declared.listed.Listed.{Listed}
 use Rattle.gg_cut.specs.declared.wires.Wire.{Wire}
-use Rattle.gg_cut.specs.Listed.{owner_of}
+use Rattle.gg_cut.specs.Direct.{Hub, is_gone, routes}
 use Rattle.gg_cut.specs.Channels.{wire}
-use Rattle.gg_cut.specs.Plan.{channels_to, channels_from, signals_of, givens_of, IsInner, Makes, Takes, IsNeed, AreNeedsOf}
+use Rattle.gg_cut.specs.Plan.{channels_to, channels_from, signals_of, givens_of, IsInner, MakesBy, Takes, IsNeed, AreNeedsOf}
 
 -- ---- numbers and lists
 
@@ -328,12 +326,14 @@ extra-need part channels out needs c closed not_needed told wrong =
 
 -- ---- the signals of a machine
 
-abbrev makes : FlatCircuit → InstanceTree → Listed → List Wire → ℕ → ℕ → Bool
-makes circuit tree listed wires m s =
-    ((owner_of circuit tree listed s == m) && not (has (map (λ w. w.signal) wires) s)) || has (givens_of wires (channels_from wires m)) s
+abbrev owns : Hub → ℕ → ℕ → Bool
+owns hub m s = (hub.owner s == m) && not (has (map (λ w. w.signal) hub.base) s)
 
-abbrev makes_or_takes : FlatCircuit → InstanceTree → Listed → List Wire → ℕ → ℕ → Bool
-makes_or_takes circuit tree listed wires m s = makes circuit tree listed wires m s || has (signals_of wires (channels_to wires m)) s
+abbrev makes : Hub → ℕ → ℕ → Bool
+makes hub m s = (owns hub m s && not (is_gone hub s)) || has (givens_of (routes hub) (channels_from (routes hub) m)) s
+
+abbrev makes_or_takes : Hub → ℕ → ℕ → Bool
+makes_or_takes hub m s = makes hub m s || has (signals_of (routes hub) (channels_to (routes hub) m)) s
 
 abbrev same_bool : Bool → Bool → Bool
 same_bool true b = b
@@ -361,22 +361,21 @@ test-inner wires s inner = by (has (map (λ w. w.signal) wires) s) refl
         let lt : at.0 < length wires = omega (arith, at.1, length-map wires (λ (w : Wire). w.signal)) in
         absurd (inner at.0 lt (sym (get_or-map (λ (w : Wire). w.signal) wires at.0 (wire 0 0 0) s lt) ∙ at.2))
 
-makes-shows : (circuit : FlatCircuit) (tree : InstanceTree) (listed : Listed) (wires : List Wire) (m s : ℕ) → s < length circuit.signals → makes circuit tree listed wires m s ≡ true → Makes circuit tree listed wires m s
-makes-shows circuit tree listed wires m s known is =
-    elim (or_cases ((owner_of circuit tree listed s == m) && not (has (map (λ w. w.signal) wires) s)) (has (givens_of wires (channels_from wires m)) s) is) [
+makes-shows : (hub : Hub) (m s : ℕ) → s < length hub.circuit.signals → makes hub m s ≡ true → MakesBy hub m s
+makes-shows hub m s known is =
+    elim (or_cases (owns hub m s && not (is_gone hub s)) (has (givens_of (routes hub) (channels_from (routes hub) m)) s) is) [
       | inl own ↦
-          let parts = and_parts (owner_of circuit tree listed s == m) (not (has (map (λ w. w.signal) wires) s)) own in
-          inl (known, (Decides-eqb (owner_of circuit tree listed s) m).0 parts.0, inner-test wires s (not-true (has (map (λ w. w.signal) wires) s) parts.1))
-      | inr given ↦ inr (has-contains (givens_of wires (channels_from wires m)) s given)
+          let stays = and_parts (owns hub m s) (not (is_gone hub s)) own in
+          let parts = and_parts (hub.owner s == m) (not (has (map (λ w. w.signal) hub.base) s)) stays.0 in
+          inl (known, (Decides-eqb (hub.owner s) m).0 parts.0, inner-test hub.base s (not-true (has (map (λ w. w.signal) hub.base) s) parts.1), not-true (is_gone hub s) stays.1)
+      | inr given ↦ inr (has-contains (givens_of (routes hub) (channels_from (routes hub) m)) s given)
     ]
 
-shows-makes : (circuit : FlatCircuit) (tree : InstanceTree) (listed : Listed) (wires : List Wire) (m s : ℕ) → Makes circuit tree listed wires m s → makes circuit tree listed wires m s ≡ true
-shows-makes circuit tree listed wires m s (inl (known, owner, inner)) =
-    or_left ((owner_of circuit tree listed s == m) && not (has (map (λ w. w.signal) wires) s)) (has (givens_of wires (channels_from wires m)) s)
-    (and_from (owner_of circuit tree listed s == m) (not (has (map (λ w. w.signal) wires) s)) ((Decides-eqb (owner_of circuit tree listed s) m).1 owner) (ap not (test-inner wires s inner)))
-shows-makes circuit tree listed wires m s (inr given) =
-    or_right ((owner_of circuit tree listed s == m) && not (has (map (λ w. w.signal) wires) s)) (has (givens_of wires (channels_from wires m)) s)
-    (contains-has (givens_of wires (channels_from wires m)) s given)
+shows-makes : (hub : Hub) (m s : ℕ) → MakesBy hub m s → makes hub m s ≡ true
+shows-makes hub m s (inl (known, owner, inner, stays)) =
+    or_left (owns hub m s && not (is_gone hub s)) (has (givens_of (routes hub) (channels_from (routes hub) m)) s)
+    (and_from (owns hub m s) (not (is_gone hub s)) (and_from (hub.owner s == m) (not (has (map (λ w. w.signal) hub.base) s)) ((Decides-eqb (hub.owner s) m).1 owner) (ap not (test-inner hub.base s inner))) (ap not stays))
+shows-makes hub m s (inr given) = or_right (owns hub m s && not (is_gone hub s)) (has (givens_of (routes hub) (channels_from (routes hub) m)) s) (contains-has (givens_of (routes hub) (channels_from (routes hub) m)) s given)
 
 -- all are signals of the circuit
 abbrev pub are_known : FlatCircuit → List ℕ → Bool
@@ -386,45 +385,45 @@ pub known-at : (circuit : FlatCircuit) (signals : List ℕ) (s : ℕ) → are_kn
 known-at circuit signals s is at = ltb-true s (length circuit.signals) (test-of (λ t. nat_lt t (length circuit.signals)) signals is s at)
 
 -- just the signals that a machine makes or takes
-abbrev pub has_signals : FlatCircuit → InstanceTree → Listed → List Wire → ℕ → List ℕ → Bool
-has_signals circuit tree listed wires m globals = all_below (λ s. same_bool (has globals s) (makes_or_takes circuit tree listed wires m s)) (length circuit.signals)
+abbrev pub has_signals : Hub → ℕ → List ℕ → Bool
+has_signals hub m globals = all_below (λ s. same_bool (has globals s) (makes_or_takes hub m s)) (length hub.circuit.signals)
 
-pub has-signals : (circuit : FlatCircuit) (tree : InstanceTree) (listed : Listed) (wires : List Wire) (m : ℕ) (globals : List ℕ) → has_signals circuit tree listed wires m globals ≡ true → are_known circuit globals ≡ true → are_known circuit (givens_of wires (channels_from wires m)) ≡ true → are_known circuit (signals_of wires (channels_to wires m)) ≡ true
-    → (s : ℕ) → Contains globals s ↔ (Makes circuit tree listed wires m s ⊎ Takes wires m s)
-has-signals circuit tree listed wires m globals test own given taken s = (to, from)
+pub has-signals : (hub : Hub) (m : ℕ) (globals : List ℕ) → has_signals hub m globals ≡ true → are_known hub.circuit globals ≡ true → are_known hub.circuit (givens_of (routes hub) (channels_from (routes hub) m)) ≡ true → are_known hub.circuit (signals_of (routes hub) (channels_to (routes hub) m)) ≡ true
+    → (s : ℕ) → Contains globals s ↔ (MakesBy hub m s ⊎ Takes (routes hub) m s)
+has-signals hub m globals test own given taken s = (to, from)
   where
-    same : s < length circuit.signals → same_bool (has globals s) (makes_or_takes circuit tree listed wires m s) ≡ true
-    same lt = test-below (λ t. same_bool (has globals t) (makes_or_takes circuit tree listed wires m t)) (length circuit.signals) test s lt
+    same : s < length hub.circuit.signals → same_bool (has globals s) (makes_or_takes hub m s) ≡ true
+    same lt = test-below (λ t. same_bool (has globals t) (makes_or_takes hub m t)) (length hub.circuit.signals) test s lt
 
-    to : Contains globals s → Makes circuit tree listed wires m s ⊎ Takes wires m s
+    to : Contains globals s → MakesBy hub m s ⊎ Takes (routes hub) m s
     to at =
-        let lt = known-at circuit globals s own at in
-        elim (or_cases (makes circuit tree listed wires m s) (has (signals_of wires (channels_to wires m)) s) (same-to (has globals s) (makes_or_takes circuit tree listed wires m s) (same lt) (contains-has globals s at))) [
-          | inl made ↦ inl (makes-shows circuit tree listed wires m s lt made)
-          | inr got ↦ inr (has-contains (signals_of wires (channels_to wires m)) s got)
+        let lt = known-at hub.circuit globals s own at in
+        elim (or_cases (makes hub m s) (has (signals_of (routes hub) (channels_to (routes hub) m)) s) (same-to (has globals s) (makes_or_takes hub m s) (same lt) (contains-has globals s at))) [
+          | inl made ↦ inl (makes-shows hub m s lt made)
+          | inr got ↦ inr (has-contains (signals_of (routes hub) (channels_to (routes hub) m)) s got)
         ]
 
-    there : s < length circuit.signals → makes_or_takes circuit tree listed wires m s ≡ true → Contains globals s
-    there lt is = has-contains globals s (same-from (has globals s) (makes_or_takes circuit tree listed wires m s) (same lt) is)
+    there : s < length hub.circuit.signals → makes_or_takes hub m s ≡ true → Contains globals s
+    there lt is = has-contains globals s (same-from (has globals s) (makes_or_takes hub m s) (same lt) is)
 
-    from : Makes circuit tree listed wires m s ⊎ Takes wires m s → Contains globals s
-    from (inl (inl (known, owner, inner))) =
-        there known (or_left (makes circuit tree listed wires m s) (has (signals_of wires (channels_to wires m)) s) (shows-makes circuit tree listed wires m s (inl (known, owner, inner))))
+    from : MakesBy hub m s ⊎ Takes (routes hub) m s → Contains globals s
+    from (inl (inl (known, owner, inner, stays))) =
+        there known (or_left (makes hub m s) (has (signals_of (routes hub) (channels_to (routes hub) m)) s) (shows-makes hub m s (inl (known, owner, inner, stays))))
     from (inl (inr gives)) =
-        there (known-at circuit (givens_of wires (channels_from wires m)) s given gives) (or_left (makes circuit tree listed wires m s) (has (signals_of wires (channels_to wires m)) s) (shows-makes circuit tree listed wires m s (inr gives)))
+        there (known-at hub.circuit (givens_of (routes hub) (channels_from (routes hub) m)) s given gives) (or_left (makes hub m s) (has (signals_of (routes hub) (channels_to (routes hub) m)) s) (shows-makes hub m s (inr gives)))
     from (inr takes) =
-        there (known-at circuit (signals_of wires (channels_to wires m)) s taken takes) (or_right (makes circuit tree listed wires m s) (has (signals_of wires (channels_to wires m)) s) (contains-has (signals_of wires (channels_to wires m)) s takes))
+        there (known-at hub.circuit (signals_of (routes hub) (channels_to (routes hub) m)) s taken takes) (or_right (makes hub m s) (has (signals_of (routes hub) (channels_to (routes hub) m)) s) (contains-has (signals_of (routes hub) (channels_to (routes hub) m)) s takes))
 
 -- a machine can't have a signal that it neither makes nor takes
-pub foreign-signal : (circuit : FlatCircuit) (tree : InstanceTree) (listed : Listed) (wires : List Wire) (m : ℕ) (globals : List ℕ) (s : ℕ) → has globals s ≡ true → makes_or_takes circuit tree listed wires m s ≡ false
-    → ¬ ((t : ℕ) → Contains globals t ↔ (Makes circuit tree listed wires m t ⊎ Takes wires m t))
-foreign-signal circuit tree listed wires m globals s there foreign signals = elim ((signals s).0 (has-contains globals s there)) [
-  | inl made ↦ true≢false (sym (or_left (makes circuit tree listed wires m s) (has (signals_of wires (channels_to wires m)) s) (shows-makes circuit tree listed wires m s made)) ∙ foreign)
-  | inr got ↦ true≢false (sym (or_right (makes circuit tree listed wires m s) (has (signals_of wires (channels_to wires m)) s) (contains-has (signals_of wires (channels_to wires m)) s got)) ∙ foreign)
+pub foreign-signal : (hub : Hub) (m : ℕ) (globals : List ℕ) (s : ℕ) → has globals s ≡ true → makes_or_takes hub m s ≡ false
+    → ¬ ((t : ℕ) → Contains globals t ↔ (MakesBy hub m t ⊎ Takes (routes hub) m t))
+foreign-signal hub m globals s there foreign signals = elim ((signals s).0 (has-contains globals s there)) [
+  | inl made ↦ true≢false (sym (or_left (makes hub m s) (has (signals_of (routes hub) (channels_to (routes hub) m)) s) (shows-makes hub m s made)) ∙ foreign)
+  | inr got ↦ true≢false (sym (or_right (makes hub m s) (has (signals_of (routes hub) (channels_to (routes hub) m)) s) (contains-has (signals_of (routes hub) (channels_to (routes hub) m)) s got)) ∙ foreign)
 ]
 
 -- a machine can't lack a signal that it makes
-pub lost-signal : (circuit : FlatCircuit) (tree : InstanceTree) (listed : Listed) (wires : List Wire) (m : ℕ) (globals : List ℕ) (s : ℕ) → s < length circuit.signals → makes circuit tree listed wires m s ≡ true → has globals s ≡ false
-    → ¬ ((t : ℕ) → Contains globals t ↔ (Makes circuit tree listed wires m t ⊎ Takes wires m t))
-lost-signal circuit tree listed wires m globals s known made lost signals =
-    true≢false (sym (contains-has globals s ((signals s).1 (inl (makes-shows circuit tree listed wires m s known made)))) ∙ lost)
+pub lost-signal : (hub : Hub) (m : ℕ) (globals : List ℕ) (s : ℕ) → s < length hub.circuit.signals → makes hub m s ≡ true → has globals s ≡ false
+    → ¬ ((t : ℕ) → Contains globals t ↔ (MakesBy hub m t ⊎ Takes (routes hub) m t))
+lost-signal hub m globals s known made lost signals =
+    true≢false (sym (contains-has globals s ((signals s).1 (inl (makes-shows hub m s known made)))) ∙ lost)

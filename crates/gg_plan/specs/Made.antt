@@ -2,7 +2,7 @@
 -- channel.
 -- Source: MEMOCODE 2009 (a network of machines that are latency-insensitive); ICCAD 2019 (instances and memories of a
 -- target as models of their own).
-use Rattle.std.specs.Prelude.{◌≡◌, ◌≢◌, ℕ, ◌<◌, ◌≤◌, List, [], length, map, slice_index_or, AllPairs}
+use Rattle.std.specs.Prelude.{◌≡◌, ◌≢◌, ℕ, ◌<◌, ◌≤◌, List, [], length, map, slice_index_or, AllPairs, ◌==◌, if◌then◌else◌}
 use Rattle.gg_limits.specs.Limits.{capacity_limit}
 use Rattle.gg_bits.specs.Shape.{shape}
 use Rattle.gg_flat.specs.Line.{value_at, shape_at}
@@ -19,6 +19,9 @@ use Rattle.gg_cut.specs.declared.plan.Machine.{Machine}
 use Rattle.gg_cut.specs.declared.plan.Channel.{Channel}
 use Rattle.gg_cut.specs.declared.listed.Listed.{Listed}
 use Rattle.gg_cut.specs.declared.wires.Wire.{Wire}
+use Rattle.gg_cut.specs.Direct.{Hub}
+use Rattle.gg_split.specs.declared.share.Share.{Share}
+use Rattle.gg_routes.specs.Share.{IsPlanShare}
 use Rattle.gg_cut.specs.Alike.{AreAlike}
 use Rattle.gg_cut.specs.Hosts.{leader}
 use Rattle.gg_cut.specs.Machines.{machine_count}
@@ -36,23 +39,23 @@ HasAscending (Source place) = Unit {0}
 HasAscending Tray = Unit {0}
 
 -- What machine m does, after the machines before it. If one of them is the first of its host, its part is like that one's.
-pub record IsMadeBody (design : Ordered) (request : Request) (listed : Listed) (wires : List Wire) (machines : List Machine) (m : ℕ) (body : Body) : Type 0 where
-  pub is : IsBody design listed wires m body
+pub record IsMadeBody (design : Ordered) (request : Request) (listed : Listed) (hub : Hub) (machines : List Machine) (m : ℕ) (body : Body) : Type 0 where
+  pub is : IsBody design listed hub m body
   pub ascend : HasAscending body
   pub alike : (any : Machine) → leader request.units request.share m ≢ m → AreAlike (slice_index_or machines (leader request.units request.share m) any).body body
 
 -- the first `count` machines of a plan
-pub record AreMachinesTo (design : Ordered) (request : Request) (listed : Listed) (wires : List Wire) (count : ℕ) (machines : List Machine) : Type 0 where
+pub record AreMachinesTo (design : Ordered) (request : Request) (listed : Listed) (hub : Hub) (count : ℕ) (machines : List Machine) : Type 0 where
   pub counted : length machines ≡ count
-  pub each : (m : ℕ) (any : Machine) → m < count → IsMachine design request listed wires m (slice_index_or machines m any)
+  pub each : (m : ℕ) (any : Machine) → m < count → IsMachine design request listed hub m (slice_index_or machines m any)
   pub ascend : (m : ℕ) (any : Machine) → m < count → HasAscending (slice_index_or machines m any).body
   pub alike : (m : ℕ) (any other : Machine) → m < count → leader request.units request.share m ≢ m
       → AreAlike (slice_index_or machines (leader request.units request.share m) any).body (slice_index_or machines m other).body
 
 -- the machines of a plan
-pub record AreMachines (design : Ordered) (request : Request) (listed : Listed) (wires : List Wire) (machines : List Machine) : Type 0 where
+pub record AreMachines (design : Ordered) (request : Request) (listed : Listed) (hub : Hub) (machines : List Machine) : Type 0 where
   pub total : length machines ≡ machine_count design.circuit listed
-  pub each : (m : ℕ) (any : Machine) → m < length machines → IsMachine design request listed wires m (slice_index_or machines m any)
+  pub each : (m : ℕ) (any : Machine) → m < length machines → IsMachine design request listed hub m (slice_index_or machines m any)
   pub shared : (m n : ℕ) (any other : Machine) → m < length machines → n < length machines → m ≢ n → (slice_index_or machines m any).host ≡ (slice_index_or machines n other).host
       → AreAlike (slice_index_or machines m any).body (slice_index_or machines n other).body
 
@@ -119,3 +122,17 @@ pub record AreWired (circuit : FlatCircuit) (capacity : List ℕ → ℕ) (wires
 pub record AreChannels (design : Ordered) (capacity : List ℕ → ℕ) (wires : List Wire) (machines : List Machine) (channels : List Channel) : Type 0 where
   pub total : length channels ≡ length wires
   pub each : (c : ℕ) (any : Channel) → c < length channels → IsChannel design capacity machines (wire_at wires c) (slice_index_or channels c any)
+
+-- ---- what machines have
+
+-- a machine has its lists of channels; the hub has these signals, any other machine those that it had
+pub record IsRoutedShare (ins outs : List (List ℕ)) (hub : List ℕ) (before : Share) (m : ℕ) (share : Share) : Type 0 where
+  pub takes : share.ins ≡ slice_index_or ins m []
+  pub gives : share.outs ≡ slice_index_or outs m []
+  pub signals : share.globals ≡ (if m == 0 then hub else before.globals)
+  pub banks : share.memories ≡ before.memories
+
+-- what the machines of a plan have
+pub record ArePlanShares (design : Ordered) (listed : Listed) (hub : Hub) (shares : List Share) : Type 0 where
+  pub many : length shares ≡ machine_count design.circuit listed
+  pub each : (m : ℕ) (any : Share) → m < machine_count design.circuit listed → IsPlanShare design listed hub m (slice_index_or shares m any).ins (slice_index_or shares m any).outs (slice_index_or shares m any).globals (slice_index_or shares m any).memories

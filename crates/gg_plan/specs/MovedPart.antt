@@ -1,7 +1,7 @@
 -- The part of a unit that shares its host, from the part of the first unit of the host.
 -- Source: FIRRTL Specification, "Instances": each instance of a module has all that the module declares; ICCAD 2019 (duplicate
 -- instances that share one host unit).
-use Rattle.std.specs.Prelude.{◌≡◌, ℕ, ◌<◌, List, length, map, slice_index_or, All, AllPairs}
+use Rattle.std.specs.Prelude.{◌≡◌, ◌↔◌, ◌⊎◌, ℕ, ◌<◌, List, length, map, slice_index_or, All, AllPairs, Contains}
 use Rattle.std.specs.List.{zip}
 use Rattle.gg_flat.specs.declared.memory.Memory.{Memory}
 use Rattle.gg_flat.specs.declared.memory.Reader.{Reader}
@@ -13,10 +13,14 @@ use Rattle.gg_flat.specs.Line.{value_at}
 use Rattle.gg_flat.specs.Tree.{path_at}
 use Rattle.gg_order.specs.Design.{Ordered}
 use Rattle.gg_part.specs.declared.part.Part.{Part}
+use Rattle.gg_part.specs.Part.{IsPart}
+use Rattle.gg_part.specs.Building.{AreHeld}
+use Rattle.gg_part.specs.InOrder.{IsInOrder}
 use Rattle.gg_cut.specs.declared.listed.Listed.{Listed}
-use Rattle.gg_cut.specs.declared.wires.Wire.{Wire}
 use Rattle.gg_cut.specs.Alike.{IsAlike}
-use Rattle.gg_cut.specs.Plan.{IsCutPart}
+use Rattle.gg_cut.specs.Direct.{Hub, routes}
+use Rattle.gg_cut.specs.Plan.{channels_to, channels_from, signals_of, givens_of, MakesBy, Takes, HasMemory, IsCutPart}
+use Rattle.gg_duplicates.specs.Again.{HasSignal, cut_wires}
 
 -- ---- a register and a memory, each with the clocks of another
 
@@ -78,9 +82,37 @@ pub record IsMovedPart (whole : FlatCircuit) (leader : Part) (globals held banks
   pub registers : part.held ≡ held
   pub memories : part.memories ≡ banks
 
+-- The part of machine m, a unit, by the channels before the routing, which gives `givens`. A unit takes by the routed channels what it
+-- took before, and gives by the same signals, maybe more than once.
+pub record IsUnitPart (design : Ordered) (listed : Listed) (m : ℕ) (givens : List ℕ) (part : Part) : Type 0 where
+  pub is : IsPart design.circuit part.piece part.globals part.held part.memories
+  pub signals : (s : ℕ) → Contains part.globals s ↔ HasSignal design listed m s
+  pub ins : map (value_at part.globals) part.piece.ins ≡ signals_of (cut_wires design listed) (channels_to (cut_wires design listed) m)
+  pub outs : map (value_at part.globals) part.piece.outs ≡ givens
+  pub held : AreHeld design.circuit part.globals (signals_of (cut_wires design listed) (channels_to (cut_wires design listed) m)) part.held
+  pub memories : (k : ℕ) → Contains part.memories k ↔ HasMemory design.tree listed m k
+  pub ordered : IsInOrder part.piece
+
+-- the same signals as those by which machine m, a unit, gives
+abbrev pub AreGivens : Ordered → Listed → ℕ → List ℕ → Type 0
+AreGivens design listed m givens = (s : ℕ) → Contains givens s ↔ Contains (givens_of (cut_wires design listed) (channels_from (cut_wires design listed) m)) s
+
+-- A unit has by the routed channels the signals that it had, takes the same in the same order, and gives by the same.
+pub record IsUnitRouted (design : Ordered) (listed : Listed) (hub : Hub) (m : ℕ) : Type 0 where
+  pub signals : (s : ℕ) → (MakesBy hub m s ⊎ Takes (routes hub) m s) ↔ HasSignal design listed m s
+  pub ins : signals_of (routes hub) (channels_to (routes hub) m) ≡ signals_of (cut_wires design listed) (channels_to (cut_wires design listed) m)
+  pub givens : AreGivens design listed m (givens_of (routes hub) (channels_from (routes hub) m))
+
+-- what machine n, a unit, has: exactly the signals that it makes or takes, and its memories, ascending
+pub record IsUnitShare (design : Ordered) (listed : Listed) (n : ℕ) (globals banks : List ℕ) : Type 0 where
+  pub signals : (s : ℕ) → Contains globals s ↔ HasSignal design listed n s
+  pub within : All (λ s. s < length design.circuit.signals) globals
+  pub banks : (k : ℕ) → Contains banks k ↔ HasMemory design.tree listed n k
+  pub ascend : AllPairs (λ a b. a < b) banks
+
 -- The part of machine n, a unit, is like that of the first unit of its host, and its memories are ascending.
-pub record IsFollower (design : Ordered) (listed : Listed) (wires : List Wire) (n : ℕ) (leader part : Part) : Type 0 where
-  pub cut : IsCutPart design listed wires n part
+pub record IsFollower (design : Ordered) (listed : Listed) (hub : Hub) (n : ℕ) (leader part : Part) : Type 0 where
+  pub cut : IsCutPart design listed hub n part
   pub ascend : AllPairs (λ a b. a < b) part.memories
   pub alike : IsAlike leader.piece part.piece
 

@@ -1,23 +1,30 @@
 //! The plan of a cut, and what its channels need.
-ghost use Rattle.std.specs.Prelude.{◌≡◌, ◌<◌, ◌≤◌, length, None, All, IfOk, slice_index_or};
+ghost use Rattle.std.specs.Prelude.{◌≡◌, ℕ, ◌<◌, ◌≤◌, ◌^◌, length, map, None, All, IfOk, slice_index_or};
 ghost use Rattle.gg_limits.specs.Limits.{capacity_limit};
 ghost use Rattle.gg_cut.specs.declared.plan.Channel.{Channel};
 ghost use Rattle.gg_moved.specs.KeepsToTree.{KeepsToTree};
 ghost use Rattle.gg_cut.specs.Listed.{listed_of};
-ghost use Rattle.gg_cut.specs.Fault.{IsSmall, Tells, first_fault};
+ghost use Rattle.gg_order.specs.Marks.{is_marked};
+ghost use Rattle.gg_cut.specs.Direct.{plan_hub, plan_wires, is_gone};
+ghost use Rattle.gg_cut.specs.Fault.{IsSmall, Tells, first_of, entry_faults, first_fault};
+ghost use Rattle.gg_cut.specs.Machines.{machine_count};
 ghost use Rattle.gg_cut.specs.Plan.{IsPlan};
-ghost use Rattle.gg_cut.specs.Channels.{wires_of, capacity_of};
+ghost use Rattle.gg_cut.specs.Channels.{capacity_of};
+ghost use Rattle.gg_split.specs.IsShare.{AreShares};
+ghost use Rattle.gg_routes.specs.Routes.{AreRoutes};
 ghost use Rattle.gg_plan.specs.Made.{IsCapacity, AreMachines, AreChannels};
 
 use crate::channels::channels_of;
 use crate::machines::machines_of;
 use crate::needs::needs_table;
 use gg_bits::Items;
-use gg_cut::{Channel, CutFault, Listed, Machine, Plan, Wire, judge};
+use gg_closed::listed_apart;
+use gg_cut::{Channel, CutFault, Listed, Machine, Plan, Wire, judge_channels, judge_entries};
 use gg_order::Design;
 use gg_part::part_formed;
 use gg_partfile::Request;
-use gg_split::split;
+use gg_routes::{Channels, plan_routes};
+use gg_split::{Split, split};
 use std::alloc::{AllocError, Global};
 
 /// The plan of a design, whose circuit keeps to its tree, and a request. `default_capacity` is the capacity of the channels that the
@@ -41,34 +48,105 @@ pub fn cut(
     ensures plan { IfOk result (λ plan. IsPlan design.now request.now default_capacity plan) }
     ensures capacities { IfOk result (λ plan. All (λ channel. IsCapacity channel.capacity) plan.channels) }
 {
-    let listed = judge(alloc, design, request)?;
+    let listed = judge_entries(alloc, design, request)?;
     let plan = plan_of(alloc, design, request, listed, default_capacity)?;
     Ok(plan)
 }
 
-// The plan of a request without a fault.
+// The plan of a request whose entries have no fault.
 fn plan_of(
     alloc: Global,
     design: &Design,
     request: &Request,
     listed: Listed,
     default_capacity: u32,
+) -> Result<Plan, CutFault>
+    requires capacity { IsCapacity default_capacity }
+    requires keeps { KeepsToTree design.now.circuit design.now.tree }
+    requires entries { first_of (entry_faults design.now.tree request.now) ≡ None }
+    requires listed { listed ≡ listed_of design.now.tree request.now }
+    requires units { length listed.units < 2 ^ 32 }
+    requires memories { length listed.memories < 2 ^ 32 }
+    ensures told { Tells (first_fault design.now request.now) result }
+    ensures plan { IfOk result (λ plan. IsPlan design.now request.now default_capacity plan) }
+    ensures capacities { IfOk result (λ plan. All (λ channel. IsCapacity channel.capacity) plan.channels) }
+{
+    listed_apart();
+    let split = split(alloc, design, &listed)?;
+    let routed = plan_routes(alloc, design, request, &listed, &split)?;
+    judge_routed(alloc, design, request, &listed, routed.wires.as_slice())?;
+    let plan = plan_by(
+        alloc,
+        design,
+        request,
+        listed,
+        &split,
+        &routed,
+        default_capacity,
+    )?;
+    Ok(plan)
+}
+
+// Judges the channels of a plan whose entries have no fault.
+fn judge_routed(
+    alloc: Global,
+    design: &Design,
+    request: &Request,
+    listed: &Listed,
+    wires: &[Wire],
+) -> Result<(), CutFault>
+    requires entries { first_of (entry_faults design.now.tree request.now) ≡ None }
+    requires listed { listed.now ≡ listed_of design.now.tree request.now }
+    requires units { length listed.now.units < 2 ^ 32 }
+    requires memories { length listed.now.memories < 2 ^ 32 }
+    requires wires { wires.now ≡ plan_wires design.now.circuit design.now.tree request.now }
+    requires known { All (λ w. w.signal < length design.now.circuit.signals) wires.now }
+    ensures { Tells (first_fault design.now request.now) result }
+{
+    let signals = all_signals(alloc, wires)?;
+    judge_channels(alloc, design.piece(), request, listed, &signals)
+}
+
+// The signals that the consumers of channels take.
+fn all_signals(alloc: Global, wires: &[Wire]) -> Result<Vec<u32>, AllocError>
+    ensures { IfOk result (λ signals. signals.items ≡ map (λ w. w.signal) wires.now) }
+{
+    let mut signals = Vec::new(alloc);
+    for wire in wires {
+        signals.push(wire.signal)?;
+    }
+    Ok(signals)
+}
+
+// The plan of a request without a fault, by the routed channels.
+fn plan_by(
+    alloc: Global,
+    design: &Design,
+    request: &Request,
+    listed: Listed,
+    split: &Split,
+    routed: &Channels,
+    default_capacity: u32,
 ) -> Result<Plan, AllocError>
     requires capacity { IsCapacity default_capacity }
     requires keeps { KeepsToTree design.now.circuit design.now.tree }
     requires faultless { first_fault design.now request.now ≡ None }
     requires listed { listed ≡ listed_of design.now.tree request.now }
+    requires shares { AreShares design.now listed split.now.shares }
+    requires few { machine_count design.now.circuit listed < 2 ^ 32 }
+    requires wires { routed.now.wires ≡ plan_wires design.now.circuit design.now.tree request.now }
+    requires gone { (s : ℕ) → s < length design.now.circuit.signals → is_marked routed.now.gone s ≡ is_gone (plan_hub design.now.circuit design.now.tree request.now) s }
+    requires sound { AreRoutes design.now listed (plan_hub design.now.circuit design.now.tree request.now) }
     ensures plan { IfOk result (λ plan. IsPlan design.now request.now default_capacity plan) }
     ensures capacities { IfOk result (λ plan. All (λ channel. IsCapacity channel.capacity) plan.channels) }
 {
-    let split = split(alloc, design, request, &listed)?;
-    let machines = machines_of(alloc, design, request, &listed, &split)?;
+    let machines = machines_of(alloc, design, request, &listed, split, routed)?;
     let channels = channels_for(
         alloc,
         design,
         request,
         &listed,
-        split.wires.as_slice(),
+        routed.wires.as_slice(),
         &machines,
         default_capacity,
     )?;
@@ -92,8 +170,9 @@ fn channels_for(
     requires keeps { KeepsToTree design.now.circuit design.now.tree }
     requires faultless { first_fault design.now request.now ≡ None }
     requires listed { listed.now ≡ listed_of design.now.tree request.now }
-    requires wires { wires.now ≡ wires_of design.now.circuit design.now.tree listed.now }
-    requires machines { AreMachines design.now request.now listed.now wires.now machines.now }
+    requires wires { wires.now ≡ plan_wires design.now.circuit design.now.tree request.now }
+    requires sound { AreRoutes design.now listed.now (plan_hub design.now.circuit design.now.tree request.now) }
+    requires machines { AreMachines design.now request.now listed.now (plan_hub design.now.circuit design.now.tree request.now) machines.now }
     ensures { IfOk result (λ channels. AreChannels design.now (capacity_of request.now.capacity default_capacity) wires.now machines.now channels.items) }
 {
     let _ = listed;

@@ -27,5 +27,6 @@ mod names;
 mod needs;
 mod parts;
 mod places;
+mod shares;
 
 pub use build::{cut, deps};

@@ -2,7 +2,8 @@
 ghost use Rattle.std.specs.Prelude.{◌≡◌, ◌≢◌, ℕ, ◌+◌, ◌<◌, ◌^◌, None, length, IfOk, slice_index_or, All};
 ghost use Rattle.gg_moved.specs.KeepsToTree.{KeepsToTree};
 ghost use Rattle.gg_cut.specs.Alike.{AreAlike};
-ghost use Rattle.gg_cut.specs.Channels.{wires_of};
+ghost use Rattle.gg_order.specs.Marks.{is_marked};
+ghost use Rattle.gg_cut.specs.Direct.{plan_hub, plan_wires, is_gone};
 ghost use Rattle.gg_cut.specs.Fault.{first_fault};
 ghost use Rattle.gg_cut.specs.Hosts.{leader, host_of};
 ghost use Rattle.gg_cut.specs.Listed.{listed_of};
@@ -10,7 +11,9 @@ ghost use Rattle.gg_cut.specs.Machines.{machine_count, numbering_of};
 ghost use Rattle.gg_cut.specs.Plan.{IsMachine, IsBody};
 ghost use Rattle.gg_cut.specs.declared.plan.Machine.{Machine};
 ghost use Rattle.gg_duplicates.specs.Again.{IsUnitAgain};
-ghost use Rattle.gg_split.specs.Share.{IsShareOf};
+ghost use Rattle.gg_routes.specs.Routes.{AreRoutes};
+ghost use Rattle.gg_routes.specs.Share.{IsPlanShare};
+ghost use Rattle.gg_plan.specs.MovedPart.{IsUnitRouted, IsUnitShare};
 ghost use Rattle.gg_split.specs.IsShare.{AreShares};
 ghost use Rattle.gg_plan.specs.Made.{IsMadeBody, AreMachines, AreMachinesTo, HasAscending};
 
@@ -18,10 +21,12 @@ use crate::hosts::{leaders_of, number_hosts};
 use crate::moved::moved_part;
 use crate::names::machine_name;
 use crate::parts::{copied, cut_part};
+use crate::shares::plan_shares;
 use gg_cut::{Body, Listed, Machine, Numbering, Role, Wire};
 use gg_duplicates::units_stand_again;
 use gg_order::Design;
 use gg_partfile::Request;
+use gg_routes::Channels;
 use gg_split::{Share, Split};
 use std::alloc::{AllocError, Global};
 
@@ -36,19 +41,22 @@ pub(crate) fn machines_of(
     request: &Request,
     listed: &Listed,
     split: &Split,
+    routed: &Channels,
 ) -> Result<Vec<Machine>, AllocError>
     requires keeps { KeepsToTree design.now.circuit design.now.tree }
     requires faultless { first_fault design.now request.now ≡ None }
     requires listed { listed.now ≡ listed_of design.now.tree request.now }
     requires shares { AreShares design.now listed.now split.now.shares }
-    requires wires { split.now.wires ≡ wires_of design.now.circuit design.now.tree listed.now }
+    requires wires { routed.now.wires ≡ plan_wires design.now.circuit design.now.tree request.now }
+    requires gone { (s : ℕ) → s < length design.now.circuit.signals → is_marked routed.now.gone s ≡ is_gone (plan_hub design.now.circuit design.now.tree request.now) s }
+    requires sound { AreRoutes design.now listed.now (plan_hub design.now.circuit design.now.tree request.now) }
     requires units { length listed.now.units ≡ length request.now.units }
     requires few { machine_count design.now.circuit listed.now < 2 ^ 32 }
-    ensures { IfOk result (λ machines. AreMachines design.now request.now listed.now split.now.wires machines.items) }
+    ensures { IfOk result (λ machines. AreMachines design.now request.now listed.now (plan_hub design.now.circuit design.now.tree request.now) machines.items) }
 {
     let numbering = Numbering::of(design.piece(), listed);
-    let shares = split.shares.as_slice();
-    let wires = split.wires.as_slice();
+    let shares = plan_shares(alloc, design, request, listed, split, routed)?;
+    let wires = routed.wires.as_slice();
     let units = request.units.as_slice();
     let leaders = leaders_of(
         alloc,
@@ -96,12 +104,12 @@ fn machine_at(
     number: usize,
 ) -> Result<Machine, AllocError>
     requires numbering { numbering.now ≡ numbering_of design.now.circuit listed.now }
-    requires share { IsShareOf design.now listed.now wires.now number share.now.ins share.now.outs share.now.globals share.now.memories }
+    requires share { IsPlanShare design.now listed.now (plan_hub design.now.circuit design.now.tree request.now) number share.now.ins share.now.outs share.now.globals share.now.memories }
     requires units { length listed.now.units ≡ length request.now.units }
     requires known { number < machine_count design.now.circuit listed.now }
-    requires body { IsBody design.now listed.now wires.now number body }
+    requires body { IsBody design.now listed.now (plan_hub design.now.circuit design.now.tree request.now) number body }
     requires host { host ≡ host_of request.now.units request.now.share number }
-    ensures machine { IfOk result (λ machine. IsMachine design.now request.now listed.now wires.now number machine) }
+    ensures machine { IfOk result (λ machine. IsMachine design.now request.now listed.now (plan_hub design.now.circuit design.now.tree request.now) number machine) }
     ensures body { IfOk result (λ machine. machine.body ≡ body) }
 {
     let _ = wires;
@@ -134,13 +142,13 @@ fn body_at(
     requires keeps { KeepsToTree design.now.circuit design.now.tree }
     requires faultless { first_fault design.now request.now ≡ None }
     requires listed { listed.now ≡ listed_of design.now.tree request.now }
-    requires wires { wires.now ≡ wires_of design.now.circuit design.now.tree listed.now }
+    requires wires { wires.now ≡ plan_wires design.now.circuit design.now.tree request.now }
     requires numbering { numbering.now ≡ numbering_of design.now.circuit listed.now }
     requires known { number < machine_count design.now.circuit listed.now }
-    requires share { IsShareOf design.now listed.now wires.now number share.now.ins share.now.outs share.now.globals share.now.memories }
-    requires machines { AreMachinesTo design.now request.now listed.now wires.now number machines.now }
+    requires share { IsPlanShare design.now listed.now (plan_hub design.now.circuit design.now.tree request.now) number share.now.ins share.now.outs share.now.globals share.now.memories }
+    requires machines { AreMachinesTo design.now request.now listed.now (plan_hub design.now.circuit design.now.tree request.now) number machines.now }
     requires first { first ≡ leader request.now.units request.now.share number }
-    ensures { IfOk result (λ body. IsMadeBody design.now request.now listed.now wires.now machines.now number body) }
+    ensures { IfOk result (λ body. IsMadeBody design.now request.now listed.now (plan_hub design.now.circuit design.now.tree request.now) machines.now number body) }
 {
     let _ = request;
     let _ = design.piece();
@@ -151,6 +159,7 @@ fn body_at(
         moved_body(
             alloc,
             design,
+            request,
             listed,
             wires,
             share,
@@ -159,7 +168,9 @@ fn body_at(
             number,
         )
     } else {
-        own_body(alloc, design, listed, numbering, wires, share, number)
+        own_body(
+            alloc, design, request, listed, numbering, wires, share, number,
+        )
     }
 }
 
@@ -167,6 +178,7 @@ fn body_at(
 fn moved_body(
     alloc: Global,
     design: &Design,
+    request: &Request,
     listed: &Listed,
     wires: &[Wire],
     share: &Share,
@@ -175,18 +187,23 @@ fn moved_body(
     number: usize,
 ) -> Result<Body, AllocError>
     requires again { IsUnitAgain design.now listed.now first number }
-    requires leader { IsBody design.now listed.now wires.now first leader.now }
+    requires routed { IsUnitRouted design.now listed.now (plan_hub design.now.circuit design.now.tree request.now) first }
+    requires there { IsUnitRouted design.now listed.now (plan_hub design.now.circuit design.now.tree request.now) number }
+    requires has { IsUnitShare design.now listed.now number share.now.globals share.now.memories }
+    requires leader { IsBody design.now listed.now (plan_hub design.now.circuit design.now.tree request.now) first leader.now }
     requires ascend { HasAscending leader.now }
-    requires share { IsShareOf design.now listed.now wires.now number share.now.ins share.now.outs share.now.globals share.now.memories }
-    requires wires { wires.now ≡ wires_of design.now.circuit design.now.tree listed.now }
+    requires share { IsPlanShare design.now listed.now (plan_hub design.now.circuit design.now.tree request.now) number share.now.ins share.now.outs share.now.globals share.now.memories }
+    requires wires { wires.now ≡ plan_wires design.now.circuit design.now.tree request.now }
     requires units { All (λ k. k < length design.now.tree.instances) listed.now.units }
-    ensures body { IfOk result (λ body. IsBody design.now listed.now wires.now number body) }
+    ensures body { IfOk result (λ body. IsBody design.now listed.now (plan_hub design.now.circuit design.now.tree request.now) number body) }
     ensures ascend { IfOk result (λ body. HasAscending body) }
     ensures alike { IfOk result (λ body. AreAlike leader.now body) }
 {
     match leader {
         Body::Cut(part) => {
-            let moved = moved_part(alloc, design, listed, wires, share, part, first, number)?;
+            let moved = moved_part(
+                alloc, design, request, listed, wires, share, part, first, number,
+            )?;
             Ok(Body::Cut(moved))
         }
         Body::Memory(_) => unreachable!(),
@@ -199,22 +216,28 @@ fn moved_body(
 fn own_body(
     alloc: Global,
     design: &Design,
+    request: &Request,
     listed: &Listed,
     numbering: &Numbering,
     wires: &[Wire],
     share: &Share,
     number: usize,
 ) -> Result<Body, AllocError>
+    requires wires { wires.now ≡ plan_wires design.now.circuit design.now.tree request.now }
     requires numbering { numbering.now ≡ numbering_of design.now.circuit listed.now }
     requires known { number < machine_count design.now.circuit listed.now }
-    requires share { IsShareOf design.now listed.now wires.now number share.now.ins share.now.outs share.now.globals share.now.memories }
-    ensures body { IfOk result (λ body. IsBody design.now listed.now wires.now number body) }
+    requires share { IsPlanShare design.now listed.now (plan_hub design.now.circuit design.now.tree request.now) number share.now.ins share.now.outs share.now.globals share.now.memories }
+    ensures body { IfOk result (λ body. IsBody design.now listed.now (plan_hub design.now.circuit design.now.tree request.now) number body) }
     ensures ascend { IfOk result (λ body. HasAscending body) }
 {
     match numbering.role(number) {
-        Role::Hub => Ok(Body::Cut(cut_part(alloc, design, listed, wires, share, number)?)),
-        Role::Unit(_) => Ok(Body::Cut(cut_part(alloc, design, listed, wires, share, number)?)),
-        Role::Memory(_) => Ok(Body::Memory(cut_part(alloc, design, listed, wires, share, number)?)),
+        Role::Hub => Ok(Body::Cut(cut_part(alloc, design, request, listed, wires, share, number)?)),
+        Role::Unit(_) => Ok(Body::Cut(cut_part(
+            alloc, design, request, listed, wires, share, number,
+        )?)),
+        Role::Memory(_) => Ok(Body::Memory(cut_part(
+            alloc, design, request, listed, wires, share, number,
+        )?)),
         Role::Source(place) => Ok(Body::Source(place)),
         Role::Tray(_) => Ok(Body::Tray),
     }

@@ -6,12 +6,12 @@ ghost use Rattle.gg_flat.specs.Line.{value_at};
 ghost use Rattle.gg_moved.specs.Moved.{shifted};
 ghost use Rattle.gg_part.specs.Building.{AreHeld};
 ghost use Rattle.gg_part.specs.Part.{IsPart};
-ghost use Rattle.gg_cut.specs.Channels.{wires_of};
+ghost use Rattle.gg_cut.specs.Direct.{plan_hub, plan_wires};
 ghost use Rattle.gg_cut.specs.Machines.{first_unit, first_memory};
 ghost use Rattle.gg_cut.specs.Plan.{IsCutPart};
 ghost use Rattle.gg_duplicates.specs.Again.{IsUnitAgain, unit_first};
-ghost use Rattle.gg_split.specs.Share.{IsShareOf};
-ghost use Rattle.gg_plan.specs.MovedPart.{IsFollower, HoldAgain, HasAgain};
+ghost use Rattle.gg_routes.specs.Share.{IsPlanShare};
+ghost use Rattle.gg_plan.specs.MovedPart.{IsFollower, IsUnitRouted, IsUnitShare, HoldAgain, HasAgain};
 
 use crate::lists::{filled, picked};
 use crate::moved_piece::moved_piece;
@@ -21,6 +21,7 @@ use gg_cut::{Listed, Wire};
 use gg_flat::{Driver, Piece, Tree};
 use gg_order::Design;
 use gg_part::Part;
+use gg_partfile::Request;
 use gg_split::Share;
 use std::alloc::{AllocError, Global};
 
@@ -33,6 +34,7 @@ use std::alloc::{AllocError, Global};
 pub(crate) fn moved_part(
     alloc: Global,
     design: &Design,
+    request: &Request,
     listed: &Listed,
     wires: &[Wire],
     share: &Share,
@@ -41,13 +43,17 @@ pub(crate) fn moved_part(
     number: usize,
 ) -> Result<Part, AllocError>
     requires again { IsUnitAgain design.now listed.now first number }
-    requires leader { IsCutPart design.now listed.now wires.now first leader.now }
+    requires routed { IsUnitRouted design.now listed.now (plan_hub design.now.circuit design.now.tree request.now) first }
+    requires there { IsUnitRouted design.now listed.now (plan_hub design.now.circuit design.now.tree request.now) number }
+    requires leader { IsCutPart design.now listed.now (plan_hub design.now.circuit design.now.tree request.now) first leader.now }
     requires ascend { AllPairs (λ a b. a < b) leader.now.memories }
-    requires share { IsShareOf design.now listed.now wires.now number share.now.ins share.now.outs share.now.globals share.now.memories }
-    requires wires { wires.now ≡ wires_of design.now.circuit design.now.tree listed.now }
+    requires share { IsPlanShare design.now listed.now (plan_hub design.now.circuit design.now.tree request.now) number share.now.ins share.now.outs share.now.globals share.now.memories }
+    requires has { IsUnitShare design.now listed.now number share.now.globals share.now.memories }
+    requires wires { wires.now ≡ plan_wires design.now.circuit design.now.tree request.now }
     requires units { All (λ k. k < length design.now.tree.instances) listed.now.units }
-    ensures { IfOk result (λ part. IsFollower design.now listed.now wires.now number leader.now part) }
+    ensures { IfOk result (λ part. IsFollower design.now listed.now (plan_hub design.now.circuit design.now.tree request.now) number leader.now part) }
 {
+    let _ = request;
     let whole = design.piece();
     // its contract says that the whole's signals have numbers below 2^32
     let _ = whole.signal_count();

@@ -2,12 +2,14 @@
 ghost use Rattle.std.specs.Prelude.{◌≡◌, ◌<◌, length, All, AllPairs, IfOk};
 ghost use Rattle.gg_cut.specs.Machines.{first_source};
 ghost use Rattle.gg_cut.specs.Plan.{signals_of, givens_of, IsCutPart};
-ghost use Rattle.gg_split.specs.Share.{IsShareOf};
+ghost use Rattle.gg_cut.specs.Direct.{plan_hub, plan_wires};
+ghost use Rattle.gg_routes.specs.Share.{IsPlanShare};
 
 use gg_bits::Ids;
 use gg_cut::{Listed, Wire};
 use gg_order::Design;
 use gg_part::{Part, part_in_order, part_of};
+use gg_partfile::Request;
 use gg_split::Share;
 use std::alloc::{AllocError, Global};
 
@@ -19,17 +21,20 @@ use std::alloc::{AllocError, Global};
 pub(crate) fn cut_part(
     alloc: Global,
     design: &Design,
+    request: &Request,
     listed: &Listed,
     wires: &[Wire],
     share: &Share,
     number: usize,
 ) -> Result<Part, AllocError>
-    requires share { IsShareOf design.now listed.now wires.now number share.now.ins share.now.outs share.now.globals share.now.memories }
+    requires wires { wires.now ≡ plan_wires design.now.circuit design.now.tree request.now }
+    requires share { IsPlanShare design.now listed.now (plan_hub design.now.circuit design.now.tree request.now) number share.now.ins share.now.outs share.now.globals share.now.memories }
     requires inside { number < first_source listed.now }
-    ensures part { IfOk result (λ part. IsCutPart design.now listed.now wires.now number part) }
+    ensures part { IfOk result (λ part. IsCutPart design.now listed.now (plan_hub design.now.circuit design.now.tree request.now) number part) }
     ensures ascend { IfOk result (λ part. AllPairs (λ a b. a < b) part.memories) }
 {
     let _ = listed;
+    let _ = request;
     let _ = design.order();
     part_in_order();
     let ins = signals(alloc, wires, share.ins.as_slice())?;

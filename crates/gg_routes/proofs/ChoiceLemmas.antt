@@ -9,11 +9,11 @@ use Rattle.gg_flat.specs.Scoped.{memory_fields}
 use Rattle.gg_flat.proofs.ListLemmas.{Contains-filter, filter-cases, in-range, range-below, numbers-up}
 use Rattle.gg_cut.specs.declared.wires.Wire.{Wire}
 use Rattle.gg_cut.specs.Channels.{wire}
-use Rattle.gg_cut.specs.Plan.{wire_at, channels_to, channels_from, signals_of, givens_of, IsInner, Takes}
-use Rattle.gg_routes.specs.Direct.{Hub, made, named_by, kept, is_own, is_taken, is_given, is_gone, is_direct, left_by, is_number, origin, direct_of, route, routes}
-use Rattle.gg_routes.specs.Routes.{MakesBy}
-use Rattle.gg_routes.proofs.OriginLemmas.{Finds, any-finds, finds-any, clash, Chain, Here, Copy, chain}
-use Rattle.gg_routes.proofs.GoneLemmas.{direct-is, Stays, held-stays, named-stays}
+use Rattle.gg_cut.specs.Plan.{wire_at, channels_to, channels_from, signals_of, givens_of, IsInner, Takes, MakesBy}
+use Rattle.gg_cut.specs.Direct.{Hub, made, named_by, kept, is_own, is_taken, is_given, is_gone, is_direct, left_by, is_number, origin, direct_of, route, routes}
+use Rattle.gg_cut.proofs.OriginLemmas.{Finds, any-finds, finds-any, clash, Chain, Here, Copy, chain}
+use Rattle.gg_cut.proofs.DirectLemmas.{IsFromBase, direct-is}
+use Rattle.gg_routes.proofs.GoneLemmas.{Stays, held-stays, named-stays}
 use Rattle.gg_routes.proofs.RouteLemmas.{chosen-in, chosen-out, chosen-once, number-is, IsBase, same-wire, apart-at, given-at, IsInto, own-no-wire, port-stays, Routing, Plain, Direct, routing, route-signal, route-consumer, plain-given, plain-producer, direct-given, direct-producer, in-routes, IsRoute, out-routes, routes-once}
 use Rattle.gg_routes.proofs.SubLemmas.{IsSub}
 
@@ -53,17 +53,10 @@ module _ (hub : Hub) (base : IsBase hub) where
       subst (λ s. Takes (routes hub) m s) (route-signal hub base w)
       (chosen-in (routes hub) any-wire (λ (r : Wire). r.consumer == m) (λ (r : Wire). r.signal) (route hub w) (in-routes hub base w h stays) (eq-eqb (route hub w).consumer m (route-consumer hub base w ∙ consumer)))
 
-  -- a channel by which the machine gave the signal before
-  pub record IsFromBase (m s : ℕ) : Type 0 where
-    pub wire : Wire
-    pub among : Contains hub.base wire
-    pub producer : wire.producer ≡ m
-    pub is : wire.signal ≡ s
-
   -- a channel that the machine gives: it was so before, and it stays, or it is the origin of a direct one, and another machine's
   pub data From (m s : ℕ) : Type 0 where
-    Same : (w : IsFromBase m s) → is_gone hub w.wire.signal ≡ false → direct_of hub w.wire ≡ None → From m s
-    Origin : (w : IsFromBase m s) → w.wire.consumer ≡ 0 → From m s
+    Same : (w : IsFromBase hub m s) → is_gone hub w.wire.signal ≡ false → direct_of hub w.wire ≡ None → From m s
+    Origin : (w : IsFromBase hub m s) → w.wire.consumer ≡ 0 → From m s
 
   pub gives-out : (m s : ℕ) → Contains (givens_of (routes hub) (channels_from (routes hub) m)) s → From m s
   gives-out m s h =
@@ -192,15 +185,18 @@ module _ (hub : Hub) (base : IsBase hub) where
   abbrev pub Taken : ℕ → ℕ → Type 0
   Taken m s = Contains (signals_of hub.base (channels_to hub.base m)) s
 
+  pub given-wire : (m s : ℕ) (w : Wire) → Contains hub.base w → w.producer ≡ m → w.signal ≡ s → Contains (givens_of hub.base (channels_from hub.base m)) s
+  given-wire m s w h producer is =
+      subst (λ t. Contains (givens_of hub.base (channels_from hub.base m)) t) (given-at hub base w h ∙ is) (chosen-in hub.base any-wire (λ (v : Wire). v.producer == m) (λ (v : Wire). v.given) w h (eq-eqb w.producer m producer))
+
   pub made-wire : (m s : ℕ) (w : Wire) → Contains hub.base w → w.producer ≡ m → w.signal ≡ s → Made m s
-  made-wire m s w h producer is =
-      inr (subst (λ t. Contains (givens_of hub.base (channels_from hub.base m)) t) (given-at hub base w h ∙ is) (chosen-in hub.base any-wire (λ (v : Wire). v.producer == m) (λ (v : Wire). v.given) w h (eq-eqb w.producer m producer)))
+  made-wire m s w h producer is = inr (given-wire m s w h producer is)
 
   pub taken-wire : (m s : ℕ) (w : Wire) → Contains hub.base w → w.consumer ≡ m → w.signal ≡ s → Taken m s
   taken-wire m s w h consumer is =
       subst (λ t. Contains (signals_of hub.base (channels_to hub.base m)) t) is (chosen-in hub.base any-wire (λ (v : Wire). v.consumer == m) (λ (v : Wire). v.signal) w h (eq-eqb w.consumer m consumer))
 
-  pub wire-made : (m s : ℕ) → Contains (givens_of hub.base (channels_from hub.base m)) s → IsFromBase m s
+  pub wire-made : (m s : ℕ) → Contains (givens_of hub.base (channels_from hub.base m)) s → IsFromBase hub m s
   wire-made m s h =
       let w = chosen-out hub.base any-wire (λ (v : Wire). v.producer == m) (λ (v : Wire). v.given) s h in
       record { wire = w.item; among = w.among; producer = eqb-true w.item.producer m w.passes; is = sym (given-at hub base w.item w.among) ∙ w.is }

@@ -10,9 +10,9 @@ use Rattle.gg_flat.proofs.ListLemmas.{Contains-filter, in-range}
 use Rattle.gg_part.specs.Choice.{IsChoice}
 use Rattle.gg_cut.specs.declared.listed.Listed.{Listed}
 use Rattle.gg_cut.specs.Channels.{wires_of}
-use Rattle.gg_cut.specs.Plan.{channels_to, channels_from, signals_of, givens_of, Makes, Takes, HasMemory, memory_owner}
-use Rattle.gg_routes.specs.Direct.{Hub, routes, hub_of, hub_fields}
-use Rattle.gg_routes.specs.Routes.{MakesBy}
+use Rattle.gg_cut.specs.Listed.{memory_owner}
+use Rattle.gg_cut.specs.Plan.{channels_to, channels_from, signals_of, givens_of, Makes, Takes, HasMemory, MakesBy}
+use Rattle.gg_cut.specs.Direct.{Hub, routes, hub_of, hub_fields}
 use Rattle.gg_routes.proofs.NameLemmas.{flat-in}
 use Rattle.gg_routes.proofs.RouteLemmas.{IsBase}
 use Rattle.gg_routes.proofs.SubLemmas.{IsSub, sub-choice}

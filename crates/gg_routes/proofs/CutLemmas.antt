@@ -1,7 +1,6 @@
 -- The routed channels of a cut, by what the cut's plain channels are.
-use Rattle.std.proofs.Common.{◌≡◌, ◌≢◌, ℕ, ◌<◌, List, Bool, get_or, sym, subst, ◌⊎◌}
+use Rattle.std.proofs.Common.{◌≢◌, ℕ, ◌<◌, List, Bool, get_or, sym, subst, ◌⊎◌}
 use Rattle.std.specs.Prelude.{◌↔◌, Contains, All, AllPairs}
-use Rattle.std.proofs.lemmas.List.{get_or_default}
 use Rattle.std.proofs.lemmas.List.Elements.{All-contains, Contains-get_or}
 use Rattle.gg_flat.specs.Circuit.{FlatCircuit}
 use Rattle.gg_flat.specs.Tree.{InstanceTree, IsTree}
@@ -15,15 +14,15 @@ use Rattle.gg_cut.specs.Machines.{first_source, machine_count}
 use Rattle.gg_cut.specs.Channels.{wire, wires_of}
 use Rattle.gg_cut.specs.Plan.{channels_to, channels_from, signals_of, givens_of, Makes, Takes, HasMemory}
 use Rattle.gg_moved.specs.KeepsToTree.{KeepsToTree}
-use Rattle.gg_cut.proofs.WireLemmas.{given-same}
+use Rattle.gg_cut.proofs.WireLemmas.{all-plain}
 use Rattle.gg_closed.specs.Apart.{AreApart, AreEnds}
 use Rattle.gg_closed.proofs.ChoiceLemmas.{wire-known}
-use Rattle.gg_routes.specs.Direct.{Hub, hub_of, route, routes}
+use Rattle.gg_cut.specs.Direct.{Hub, hub_of, route, routes}
 use Rattle.gg_routes.specs.Routes.{AreRoutes}
-use Rattle.gg_routes.proofs.RouteLemmas.{IsBase, out-routes, routes-once, no-echo, Routing, Plain, Direct, routing, route-consumer, plain-producer, direct-producer}
+use Rattle.gg_routes.proofs.RouteLemmas.{IsBase, out-routes, routes-once, routes-known, no-echo, Routing, Plain, Direct, routing, route-consumer, plain-producer, direct-producer}
 use Rattle.gg_routes.proofs.CutChoice.{choice}
 use Rattle.gg_routes.proofs.SideLemmas.{source-routes, tray-routes}
-use Rattle.gg_routes.proofs.SameLemmas.{routes-same, kept-own}
+use Rattle.gg_cut.proofs.SameLemmas.{routes-same, kept-own}
 
 -- the channels before, of a cut whose units lie apart
 pub base-of : (circuit : FlatCircuit) (tree : InstanceTree) (listed : Listed) (piped : ℕ → Bool) (direct : Bool) → IsWellFormed circuit → IsTree circuit tree → IsScoped circuit tree → AreApart tree listed → AllPairs (λ (v w : Wire). v.signal ≢ w.signal) (wires_of circuit tree listed) → All (AreEnds (machine_count circuit listed)) (wires_of circuit tree listed) → IsBase (hub_of circuit tree listed piped direct)
@@ -32,7 +31,7 @@ base-of circuit tree listed piped direct formed fits scoped apart once ends =
       once = once;
       apart = λ i d lt. (ends i d lt).apart;
       known = λ i d lt. wire-known circuit tree listed formed fits scoped apart (get_or (wires_of circuit tree listed) i d) (Contains-get_or (wires_of circuit tree listed) i d lt);
-      plain = λ i d lt. subst (λ (w : Wire). w.given ≡ w.signal) (get_or_default (wires_of circuit tree listed) i (wire 0 0 0) d lt) (given-same circuit tree listed i);
+      plain = all-plain circuit tree listed;
     }
 
 module _ (design : Ordered) (listed : Listed) (piped : ℕ → Bool) (direct : Bool) (is : IsDesign design) (keeps : KeepsToTree design.circuit design.tree) (apart : AreApart design.tree listed) (once : AllPairs (λ (v w : Wire). v.signal ≢ w.signal) (wires_of design.circuit design.tree listed)) (ends : All (AreEnds (machine_count design.circuit listed)) (wires_of design.circuit design.tree listed)) where
@@ -57,11 +56,12 @@ module _ (design : Ordered) (listed : Listed) (piped : ℕ → Bool) (direct : B
   are-routes plain =
       record {
         once = routes-once hub cut-base;
+        known = routes-known hub cut-base;
         ends = λ i d lt.
             let r = out-routes hub cut-base (get_or (routes hub) i d) (Contains-get_or (routes hub) i d lt) in
             subst (λ (q : Wire). (q.producer < machine_count design.circuit listed) × (q.consumer < machine_count design.circuit listed)) r.is (route-ends r.wire r.among);
         no_echo = no-echo hub cut-base;
-        same = routes-same hub cut-base design.circuit (kept-own hub cut-base is.formed);
+        same = routes-same hub design.circuit (kept-own hub is.formed) (all-plain design.circuit design.tree listed);
         choice = λ m globals memories low signals once banks memories-once.
             choice design.circuit design.tree listed piped direct cut-base m globals memories (record { choice = λ all banks'. plain m all banks' low }) signals once banks memories-once;
         sources = source-routes design.circuit design.tree listed piped direct cut-base;

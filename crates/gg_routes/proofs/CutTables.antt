@@ -12,21 +12,21 @@ use Rattle.gg_flat.proofs.ListLemmas.{filter-cases, range-below}
 use Rattle.gg_order.specs.Marks.{is_marked}
 use Rattle.gg_cut.specs.declared.listed.Listed.{Listed}
 use Rattle.gg_cut.specs.declared.wires.Wire.{Wire}
-use Rattle.gg_cut.specs.Listed.{AreMarks}
+use Rattle.gg_cut.specs.Listed.{AreMarks, memory_owner}
 use Rattle.gg_cut.specs.Channels.{wires_of}
-use Rattle.gg_cut.specs.Plan.{channels_to, channels_from, signals_of, givens_of, HasMemory, memory_owner}
+use Rattle.gg_cut.specs.Plan.{channels_to, channels_from, signals_of, givens_of, HasMemory}
 use Rattle.gg_routes.specs.declared.sides.Side.{Side}
 use Rattle.gg_routes.specs.declared.sides.Side.TheVariants.{Other, Own, Out, In}
-use Rattle.gg_routes.specs.Direct.{Hub, hub_of, hub_fields, made, named_by, copied, driver_names, routes, is_gone}
+use Rattle.gg_cut.specs.Direct.{Hub, hub_of, hub_fields, made, named_by, copied, driver_names, routes, is_gone}
 use Rattle.gg_routes.specs.Tables.{side_at, entry_at, AreSides, is_in, is_makers, IsSeen, AreOrigins, direct_by, AreEntries, AreGone, routed_by}
 use Rattle.gg_routes.specs.Routable.{CanRoute, IsRouting}
 use Rattle.gg_routes.proofs.NameLemmas.{flat-in}
 use Rattle.gg_routes.proofs.NamedLemmas.{names-chosen}
-use Rattle.gg_routes.proofs.OriginLemmas.{copied-is, clash, finds-any}
+use Rattle.gg_cut.proofs.OriginLemmas.{copied-is, clash, finds-any}
 use Rattle.gg_routes.proofs.RouteLemmas.{IsBase}
 use Rattle.gg_routes.proofs.ChoiceLemmas.{wire-taken}
 use Rattle.gg_routes.proofs.CutChoice.{field-held}
-use Rattle.gg_routes.proofs.SameLemmas.{copy-wide}
+use Rattle.gg_cut.proofs.SameLemmas.{copy-wide}
 use Rattle.gg_routes.proofs.CutLemmas.{base-of}
 use Rattle.gg_routes.proofs.ListTables.{flat-out, any-same}
 use Rattle.gg_routes.proofs.HubTables.{side-taken, side-own, side-giver, made-same}

@@ -1,59 +1,18 @@
 -- What stays of the hub is closed: a signal that the hub makes and that stays names only what stays.
-use Rattle.std.proofs.Common.{◌≡◌, ℕ, zero, suc, List, [], ◌∷◌, Bool, true, false, not, Option, Some, None, length, is_some, sym, ◌∙◌, ap, subst, inl, inr, ◌⊎◌, refl, eq-eqb, arith}
-use Rattle.std.specs.Prelude.{◌&&◌, ◌==◌, ◌++◌, if◌then◌else◌, Contains, flat_map, option_and_then}
+use Rattle.std.proofs.Common.{◌≡◌, ℕ, zero, suc, List, [], ◌∷◌, true, false, not, Option, Some, None, length, is_some, sym, ◌∙◌, ap, subst, inl, inr, ◌⊎◌, refl, eq-eqb, arith}
+use Rattle.std.specs.Prelude.{◌&&◌, ◌==◌, ◌++◌, Contains, flat_map}
 use Rattle.std.specs.List.{list_any}
-use Rattle.std.proofs.lemmas.Bool.{cases_Bool, and_parts, and_right, eqb-true, not-true, not_from_true}
+use Rattle.std.proofs.lemmas.Bool.{cases_Bool, and_parts, and_right, eqb-true, not_from_true}
 use Rattle.std.proofs.lemmas.List.Elements.{Contains-append_left, Contains-append_right}
 use Rattle.gg_flat.specs.Circuit.{driver_at}
 use Rattle.gg_flat.proofs.ListLemmas.{Contains-filter}
 use Rattle.gg_cut.specs.declared.wires.Wire.{Wire}
-use Rattle.gg_routes.specs.Direct.{Hub, made, named_by, kept, is_own, is_taken, is_direct, is_gone, left_by, is_number, origin, copied, may_be_direct, direct_of, if_plain, giver, driver_names}
+use Rattle.gg_cut.specs.Direct.{Hub, made, named_by, kept, is_own, is_taken, is_direct, is_gone, left_by, is_number, origin, direct_of, driver_names}
+use Rattle.gg_cut.proofs.DirectLemmas.{direct-is}
 use Rattle.gg_routes.proofs.NameLemmas.{flat-in}
-use Rattle.gg_routes.proofs.OriginLemmas.{any-finds, finds-any, clash, some-clash, same-value, copied-is, copy-names, Chain, Here, Copy, chain, own-untaken, origin-copy}
+use Rattle.gg_cut.proofs.OriginLemmas.{any-finds, finds-any, clash, copied-is, copy-names, Chain, Here, Copy, chain, own-untaken, origin-copy}
 
 module _ (hub : Hub) where
-  -- what a channel is that may be direct
-  pub record MayBeDirect (w : Wire) : Type 0 where
-    pub producer : w.producer ≡ 0
-    pub unnamed : list_any (λ t. w.signal == t) (named_by hub (made hub) ++ hub.stops) ≡ false
-
-  may-be : (w : Wire) → may_be_direct hub w ≡ true → MayBeDirect w
-  may-be w e =
-      let parts = and_parts (hub.direct && (w.producer == 0)) (not (list_any (λ t. w.signal == t) (named_by hub (made hub) ++ hub.stops))) e in
-      record {
-        producer = eqb-true w.producer 0 (and_parts hub.direct (w.producer == 0) parts.0).1;
-        unnamed = not-true (list_any (λ t. w.signal == t) (named_by hub (made hub) ++ hub.stops)) parts.1;
-      }
-
-  -- what a direct channel is
-  pub record IsDirect (w : Wire) (x : ℕ) : Type 0 where
-    pub may : MayBeDirect w
-    pub next : ℕ
-    pub is : copied hub.circuit w.signal ≡ Some next
-    pub from : origin hub next ≡ Some x
-    pub plain : hub.memory (giver hub x) ≡ false
-
-  pub direct-is : (w : Wire) (x : ℕ) → direct_of hub w ≡ Some x → IsDirect w x
-  direct-is w x e = by (may_be_direct hub w) refl e
-    where
-      tail : (t y : ℕ) (b : Bool) → may_be_direct hub w ≡ true → copied hub.circuit w.signal ≡ Some t → origin hub t ≡ Some y → hub.memory (giver hub y) ≡ b → (if b then None else Some y) ≡ Some x → IsDirect w x
-      tail t y true may c d f e = absurd (some-clash x None e refl)
-      tail t y false may c d f e =
-          let same = same-value y x (Some y) refl e in
-          record { may = may-be w may; next = t; is = c; from = d ∙ e; plain = subst (λ z. hub.memory (giver hub z) ≡ false) same f }
-
-      end : (t : ℕ) (o : Option ℕ) → may_be_direct hub w ≡ true → copied hub.circuit w.signal ≡ Some t → origin hub t ≡ o → if_plain hub o ≡ Some x → IsDirect w x
-      end t None may c d e = absurd (some-clash x None e refl)
-      end t (Some y) may c d e = tail t y (hub.memory (giver hub y)) may c d refl e
-
-      from : (to : Option ℕ) → may_be_direct hub w ≡ true → copied hub.circuit w.signal ≡ to → if_plain hub (option_and_then (origin hub) to) ≡ Some x → IsDirect w x
-      from None may c e = absurd (some-clash x None e refl)
-      from (Some t) may c e = end t (origin hub t) may c refl e
-
-      by : (may : Bool) → may_be_direct hub w ≡ may → (if may then if_plain hub (option_and_then (origin hub) (copied hub.circuit w.signal)) else None) ≡ Some x → IsDirect w x
-      by true may e = from (copied hub.circuit w.signal) may refl e
-      by false may e = absurd (some-clash x None e refl)
-
   -- the signal has no direct channel, and it isn't gone
   pub record Stays (s : ℕ) : Type 0 where
     pub direct : is_direct hub s ≡ false
@@ -67,7 +26,7 @@ module _ (hub : Hub) where
       at w is None e some = clash false some refl
       at w is (Some x) e some =
           clash (list_any (λ u. w.signal == u) (named_by hub (made hub) ++ hub.stops))
-          (finds-any (λ u. w.signal == u) (named_by hub (made hub) ++ hub.stops) t (Contains-append_left (named_by hub (made hub)) hub.stops t h) (eq-eqb w.signal t is)) (direct-is w x e).may.unnamed
+          (finds-any (λ u. w.signal == u) (named_by hub (made hub) ++ hub.stops) t (Contains-append_left (named_by hub (made hub)) hub.stops t h) (eq-eqb w.signal t is)) (direct-is hub w x e).may.unnamed
 
       by : (is_direct hub t ≡ true) ⊎ (is_direct hub t ≡ false) → is_direct hub t ≡ false
       by (inl e) =

@@ -8,9 +8,9 @@ use Rattle.gg_flat.proofs.ListLemmas.{Contains-filter, filter-cases, in-range, r
 use Rattle.gg_cut.specs.declared.wires.Wire.{Wire}
 use Rattle.gg_routes.specs.declared.sides.Side.{Side}
 use Rattle.gg_routes.specs.declared.sides.Side.TheVariants.{Other, Own, Out, In}
-use Rattle.gg_routes.specs.Direct.{Hub, is_taken, is_given, is_own, made, giver}
+use Rattle.gg_cut.specs.Direct.{Hub, is_taken, is_given, is_own, made, giver}
 use Rattle.gg_routes.specs.Tables.{side_at, ends_at_hub, IsCarried, IsSide, AreSides, is_in, is_inner, is_makers}
-use Rattle.gg_routes.proofs.OriginLemmas.{any-finds, finds-any, clash}
+use Rattle.gg_cut.proofs.OriginLemmas.{any-finds, finds-any, clash}
 use Rattle.gg_routes.proofs.RouteLemmas.{IsBase, same-wire, apart-at, giver-is, into, own-no-wire}
 use Rattle.gg_routes.proofs.ChoiceLemmas.{Made, Taken, made-wire, wire-made, wire-taken, inner-none, item-inner}
 use Rattle.gg_routes.proofs.ListTables.{listed-any, any-listed}

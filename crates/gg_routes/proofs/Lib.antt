@@ -1,12 +1,10 @@
 pub mod WorkedRoutes
 pub mod NameLemmas
-pub mod OriginLemmas
 pub mod GoneLemmas
 pub mod RouteLemmas
 pub mod SubLemmas
 pub mod ChoiceLemmas
 pub mod CutChoice
-pub mod SameLemmas
 pub mod CutLemmas
 pub mod SideLemmas
 pub mod WholeLemmas
@@ -21,3 +19,6 @@ pub mod NamedLemmas
 pub mod CutTables
 pub mod FoundTables
 pub mod RoutableLemmas
+pub mod PlanLemmas
+pub mod FewLemmas
+pub mod UnitLemmas

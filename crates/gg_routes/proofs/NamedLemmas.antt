@@ -13,7 +13,7 @@ use Rattle.gg_flat.specs.Circuit.{FlatCircuit, driver_at}
 use Rattle.gg_flat.specs.Reads.{Names, NamesSignal, ResetNames, NextNames, RegisterNames}
 use Rattle.gg_flat.proofs.ListLemmas.{Contains-map, Contains-cases}
 use Rattle.gg_part.specs.Choice.{IsChoice}
-use Rattle.gg_routes.specs.Direct.{op_names, line_names, next_names, reset_names, register_names, driver_names}
+use Rattle.gg_cut.specs.Direct.{op_names, line_names, next_names, reset_names, register_names, driver_names}
 use Rattle.gg_routes.proofs.ListTables.{flat-out}
 
 none-listed : (t : ℕ) → Contains [] t → ⊥

@@ -11,9 +11,9 @@ use Rattle.gg_order.specs.Marks.{is_marked}
 use Rattle.gg_part.proofs.FrameLemmas.{length-once}
 use Rattle.gg_routes.specs.declared.sides.Side.{Side}
 use Rattle.gg_routes.specs.declared.sides.Side.TheVariants.{Other, Own, Out, In}
-use Rattle.gg_routes.specs.Direct.{Hub, is_own, origin, copied}
+use Rattle.gg_cut.specs.Direct.{Hub, is_own, origin, copied}
 use Rattle.gg_routes.specs.Tables.{side_at, entry_at, AreKnown, origin_beyond, origin_by, is_in, is_inner, IsSeen, AreOrigins}
-use Rattle.gg_routes.proofs.OriginLemmas.{some-clash, same-value}
+use Rattle.gg_cut.proofs.OriginLemmas.{some-clash, same-value}
 use Rattle.gg_routes.proofs.WholeLemmas.{origin-step, copy-reads}
 
 pub order-few : (circuit : FlatCircuit) (order : List ℕ) → IsOrder circuit order → length order ≤ length circuit.signals

@@ -14,7 +14,7 @@ use Rattle.gg_cut.specs.Plan.{channels_from, signals_of, givens_of}
 use Rattle.gg_closed.specs.Apart.{AreApart, AreEnds}
 use Rattle.gg_split.specs.declared.share.Share.{Share}
 use Rattle.gg_split.specs.IsShare.{AreShares, IsShare}
-use Rattle.gg_routes.specs.Direct.{hub_of}
+use Rattle.gg_cut.specs.Direct.{hub_of}
 use Rattle.gg_routes.specs.Routable.{CanRoute, IsRouting}
 
 module _ (design : Ordered) (listed : Listed) (is : IsDesign design) (keeps : KeepsToTree design.circuit design.tree) (apart : AreApart design.tree listed) (once : AllPairs (λ (v w : Wire). v.signal ≢ w.signal) (wires_of design.circuit design.tree listed)) (ends : All (AreEnds (machine_count design.circuit listed)) (wires_of design.circuit design.tree listed)) where

@@ -1,19 +1,19 @@
 -- What is among the routed channels.
-use Rattle.std.proofs.Common.{◌≡◌, ◌≢◌, ℕ, suc, ◌+◌, ◌<◌, List, [], ◌∷◌, Bool, true, false, not, Option, Some, None, length, map, get_or, sym, ◌∙◌, ap, subst, inl, inr, ◌⊎◌, refl, eq-eqb, arith}
-use Rattle.std.specs.Prelude.{◌&&◌, ◌||◌, ◌==◌, cond, Contains, All, AllPairs, filter, find}
+use Rattle.std.proofs.Common.{◌≡◌, ◌≢◌, ℕ, ◌+◌, ◌<◌, List, Bool, true, false, not, Option, Some, None, length, map, get_or, sym, ◌∙◌, ap, subst, refl, eq-eqb, arith}
+use Rattle.std.specs.Prelude.{◌&&◌, ◌==◌, Contains, All, AllPairs, filter}
 use Rattle.std.specs.List.{list_any, range_with_len}
-use Rattle.std.proofs.lemmas.Bool.{cases_Bool, and_parts, eqb-true, not-true}
+use Rattle.std.proofs.lemmas.Bool.{and_parts, eqb-true, not-true}
 use Rattle.std.proofs.lemmas.List.{get_or-map, get_or_default, length-map}
-use Rattle.std.proofs.lemmas.List.Elements.{All-contains, Contains-get_or}
+use Rattle.std.proofs.lemmas.List.Elements.{All-contains, All-filter, All-map, Contains-get_or}
 use Rattle.std.proofs.lemmas.List.Kept.{AllPairs-filter}
 use Rattle.std.proofs.lemmas.List.FromFn.{get_or-range_with_len, length-range_with_len}
 use Rattle.gg_flat.proofs.ListLemmas.{Contains-map, Contains-filter, filter-cases, in-range, range-below, once-apart}
 use Rattle.gg_cut.specs.declared.wires.Wire.{Wire}
 use Rattle.gg_cut.specs.Channels.{wire}
 use Rattle.gg_closed.proofs.ListLemmas.{map-cases, AllPairs-map}
-use Rattle.gg_routes.specs.Direct.{Hub, is_own, is_taken, is_gone, left_by, is_number, origin, direct_of, giver, giver_or, route, route_by, routes}
-use Rattle.gg_routes.proofs.OriginLemmas.{any-finds, finds-any, clash, Chain, Here, Copy, chain, chain-end, own-free}
-use Rattle.gg_routes.proofs.GoneLemmas.{IsDirect, direct-is}
+use Rattle.gg_cut.specs.Direct.{Hub, is_own, is_taken, is_gone, left_by, is_number, origin, direct_of, giver, giver_or, route, route_by, routes}
+use Rattle.gg_cut.proofs.OriginLemmas.{any-finds, finds-any, clash, Chain, Here, Copy, chain, chain-end, own-free}
+use Rattle.gg_cut.proofs.DirectLemmas.{find-some, IsDirect, direct-is}
 
 -- ---- the items of a list that pass a test, by number
 
@@ -52,23 +52,6 @@ module _ {A : Type 0} (xs : List A) (any : A) (test : A → Bool) (f : A → ℕ
           let inside : j < length xs = omega (arith, lt, length-range_with_len 0 (length xs)) in
           let low : i < length xs = omega (arith, less, inside) in
           once i j any less inside (ap (λ c. f (get_or xs c any)) (sym (number i d low)) ∙ same ∙ ap (λ c. f (get_or xs c any)) (number j d inside))
-
--- what is found in a list
-pub record IsFound {A : Type 0} (test : A → Bool) (xs : List A) : Type 0 where
-  pub item : A
-  pub among : Contains xs item
-  pub passes : test item ≡ true
-  pub is : find test xs ≡ Some item
-
-pub find-some : {A : Type 0} (test : A → Bool) (xs : List A) → list_any test xs ≡ true → IsFound test xs
-find-some test [] e = absurd (clash false e refl)
-find-some test (x ∷ xs) e = by (cases_Bool (test x)) (λ h. find-some test xs h)
-  where
-    by : (test x ≡ true) ⊎ (test x ≡ false) → (list_any test xs ≡ true → IsFound test xs) → IsFound test (x ∷ xs)
-    by (inl p) rest = record { item = x; among = (0, omega arith, refl); passes = p; is = ap (λ b. cond b (Some x) (find test xs)) p }
-    by (inr p) rest =
-        let f = rest (sym (ap (λ b. b || list_any test xs) p) ∙ e) in
-        record { item = f.item; among = (suc f.among.0, omega (arith, f.among.1), f.among.2); passes = f.passes; is = ap (λ b. cond b (Some x) (find test xs)) p ∙ f.is }
 
 pub number-is : (x : ℕ) (o : Option ℕ) → is_number x o ≡ true → o ≡ Some x
 number-is x None e = absurd (clash false e refl)
@@ -202,6 +185,12 @@ module _ (hub : Hub) (base : IsBase hub) where
       AllPairs-map (λ (r s : Wire). r.signal ≢ s.signal) (route hub) (filter (λ (w : Wire). not (is_gone hub w.signal)) hub.base)
       (AllPairs-filter (λ v w. (route hub v).signal ≢ (route hub w).signal) (λ (w : Wire). not (is_gone hub w.signal)) hub.base
       (λ i j d less lt same. base.once i j d less lt (sym (route-signal (get_or hub.base i d)) ∙ same ∙ route-signal (get_or hub.base j d))))
+
+  pub routes-known : All (λ (r : Wire). r.signal < length hub.circuit.signals) (routes hub)
+  routes-known =
+      All-map (λ (r : Wire). r.signal < length hub.circuit.signals) (route hub) (filter (λ (w : Wire). not (is_gone hub w.signal)) hub.base)
+      (All-filter (λ (w : Wire). not (is_gone hub w.signal)) (λ (w : Wire). (route hub w).signal < length hub.circuit.signals) hub.base
+      (λ k d lt. subst (λ s. s < length hub.circuit.signals) (sym (route-signal (get_or hub.base k d))) (base.known k d lt)))
 
   -- what a machine gives it doesn't take
   pub no-echo : (r s : Wire) → Contains (routes hub) r → Contains (routes hub) s → r.producer ≡ s.consumer → r.given ≢ s.signal

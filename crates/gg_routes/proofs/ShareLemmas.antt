@@ -5,9 +5,8 @@ use Rattle.std.proofs.lemmas.Bool.{and_parts, and_from, not-true, not_from_false
 use Rattle.std.proofs.lemmas.List.Kept.{AllPairs-filter}
 use Rattle.gg_flat.proofs.ListLemmas.{Contains-filter, filter-cases}
 use Rattle.gg_part.specs.InOrder.{IsAlong, Precedes}
-use Rattle.gg_cut.specs.Plan.{Takes}
-use Rattle.gg_routes.specs.Direct.{Hub, routes, is_direct, is_gone}
-use Rattle.gg_routes.specs.Routes.{MakesBy}
+use Rattle.gg_cut.specs.Plan.{Takes, MakesBy}
+use Rattle.gg_cut.specs.Direct.{Hub, routes, is_direct, is_gone}
 use Rattle.gg_routes.proofs.GoneLemmas.{Stays}
 use Rattle.gg_routes.proofs.RouteLemmas.{IsBase}
 use Rattle.gg_routes.proofs.ChoiceLemmas.{Made, Taken, had, has-still, hub-stays, hub-has}

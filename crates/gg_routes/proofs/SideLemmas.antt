@@ -12,7 +12,7 @@ use Rattle.gg_cut.specs.Machines.{first_memory, first_source, first_tray}
 use Rattle.gg_cut.specs.Channels.{wire}
 use Rattle.gg_cut.proofs.WireLemmas.{unit_or_hub-below, owner-below}
 use Rattle.gg_closed.proofs.KindLemmas.{IsSourceWire, IsTrayWire, IsInto, IsWordWire, Kind, OfSource, OfPort, OfField, OfTray, outside_unit, outside_memory, kind-of, source-wire, tray-wire}
-use Rattle.gg_routes.specs.Direct.{Hub, hub_of, routes}
+use Rattle.gg_cut.specs.Direct.{Hub, hub_of, routes}
 use Rattle.gg_routes.specs.Routes.{GivesInput, TakesOutput}
 use Rattle.gg_routes.proofs.RouteLemmas.{IsBase, port-stays}
 use Rattle.gg_routes.proofs.ChoiceLemmas.{From, Same, Origin, gives-out, gives-all, takes-out, takes-in}

@@ -15,9 +15,9 @@ use Rattle.gg_cut.specs.Machines.{is_memory}
 use Rattle.gg_cut.specs.Plan.{wire_at}
 use Rattle.gg_routes.specs.declared.sides.Side.{Side}
 use Rattle.gg_routes.specs.declared.sides.Side.TheVariants.{Other, Own, Out, In}
-use Rattle.gg_routes.specs.Direct.{copied}
+use Rattle.gg_cut.specs.Direct.{copied}
 use Rattle.gg_routes.specs.Tables.{side_at, entry_at, AreKnown, origin_beyond, given_by, if_given, direct_by, AreEntries}
-use Rattle.gg_routes.proofs.OriginLemmas.{any-finds, finds-any, clash, some-clash, same-value}
+use Rattle.gg_cut.proofs.OriginLemmas.{any-finds, finds-any, clash, some-clash, same-value}
 
 -- what a direct channel is given by is a signal
 pub direct-known : (circuit : FlatCircuit) (listed : Listed) (sides : List Side) (origins : List (Option ℕ)) (named : List Bool) (direct : Bool) (count : ℕ) (w : Wire) (x : ℕ) → AreKnown count origins → direct_by circuit listed sides origins named direct w ≡ Some x → x < count

@@ -11,7 +11,7 @@ use Rattle.gg_flat.proofs.WorkedMemories.{signal, copy}
 use Rattle.gg_cut.specs.declared.wires.Wire.{Wire}
 use Rattle.gg_cut.specs.Channels.{wire}
 use Rattle.gg_cut.proofs.WorkedPair.{circuit, tree, listed}
-use Rattle.gg_routes.specs.Direct.{Hub, hub_of, routes, is_direct, is_gone, origin}
+use Rattle.gg_cut.specs.Direct.{Hub, hub_of, routes, is_direct, is_gone, origin}
 
 abbrev none : ℕ → Bool
 none s = false

@@ -1,4 +1,4 @@
-pub mod Direct
 pub mod Routes
+pub mod Share
 pub mod Tables
 pub mod Routable

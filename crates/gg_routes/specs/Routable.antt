@@ -14,7 +14,7 @@ use Rattle.gg_cut.specs.Channels.{wires_of}
 use Rattle.gg_cut.specs.Plan.{channels_to, channels_from, signals_of, givens_of, Makes, Takes, HasMemory}
 use Rattle.gg_order.specs.Marks.{is_marked}
 use Rattle.gg_closed.specs.Apart.{AreApart, AreEnds}
-use Rattle.gg_routes.specs.Direct.{Hub, routes, is_gone}
+use Rattle.gg_cut.specs.Direct.{Hub, routes, is_gone}
 
 -- A circuit that is well formed, with its tree and an order; units that lie apart; the channels before; and the signals and the
 -- memories that the hub has, which make a part.

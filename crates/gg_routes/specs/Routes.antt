@@ -1,27 +1,15 @@
 -- What the routed channels of a cut are good for.
 -- Source: MEMOCODE 2009 (the nodes of a network, and the channels between them); ICCAD 2019 (units and memories of a target as
 -- models of their own, with sources for its inputs and sinks for its outputs).
-use Rattle.std.specs.Prelude.{◌≡◌, ◌≢◌, ◌↔◌, ◌⊎◌, ℕ, ◌+◌, ◌<◌, List, false, length, Contains, All, AllPairs}
+use Rattle.std.specs.Prelude.{◌≡◌, ◌≢◌, ◌↔◌, ◌⊎◌, ℕ, ◌+◌, ◌<◌, List, length, Contains, All, AllPairs}
 use Rattle.gg_flat.specs.Line.{value_at}
-use Rattle.gg_flat.specs.Circuit.{FlatCircuit}
-use Rattle.gg_flat.specs.State.{State}
-use Rattle.gg_flat.specs.Settled.{Settled}
 use Rattle.gg_order.specs.Design.{Ordered}
 use Rattle.gg_part.specs.Choice.{IsChoice}
 use Rattle.gg_cut.specs.declared.listed.Listed.{Listed}
 use Rattle.gg_cut.specs.declared.wires.Wire.{Wire}
 use Rattle.gg_cut.specs.Machines.{first_source, first_tray, machine_count}
-use Rattle.gg_cut.specs.Plan.{channels_to, channels_from, signals_of, givens_of, IsInner, Takes, HasMemory}
-use Rattle.gg_routes.specs.Direct.{Hub, routes, is_gone}
-
--- Machine m gives signal s its value: it owns the signal, no channel carried it before the routing, and it stays; or it
--- gives the signal on a channel.
-abbrev pub MakesBy : Hub → ℕ → ℕ → Type 0
-MakesBy hub m s = ((s < length hub.circuit.signals) × (hub.owner s ≡ m) × IsInner hub.base s × (is_gone hub s ≡ false)) ⊎ Contains (givens_of (routes hub) (channels_from (routes hub) m)) s
-
--- in each settled cycle both signals of the channel have one value
-abbrev pub IsSame : FlatCircuit → Wire → Type 0
-IsSame circuit r = (state : State) (inputs row : List ℕ) → Settled circuit state inputs row → value_at row r.signal ≡ value_at row r.given
+use Rattle.gg_cut.specs.Plan.{channels_to, channels_from, signals_of, givens_of, MakesBy, Takes, HasMemory}
+use Rattle.gg_cut.specs.Direct.{Hub, routes, IsSame}
 
 -- A source takes nothing, and gives its input on at least one channel.
 pub record GivesInput (wires : List Wire) (m input : ℕ) : Type 0 where
@@ -35,11 +23,12 @@ pub record TakesOutput (wires : List Wire) (m output : ℕ) : Type 0 where
   pub one : Contains (signals_of wires (channels_to wires m)) output
   pub all : (s : ℕ) → Contains (signals_of wires (channels_to wires m)) s → s ≡ output
 
--- The routed channels of a cut: no two carry one signal; each is between two machines of the cut; what a machine gives it doesn't
+-- The routed channels of a cut: no two carry one signal, which is known; each is between two machines of the cut; what a machine gives it doesn't
 -- take; both signals of a channel have one value; what the hub, a unit or a memory makes and takes, with the memories that belong to
 -- it, makes a part; each source gives its input and each tray takes its output.
 pub record AreRoutes (design : Ordered) (listed : Listed) (hub : Hub) : Type 0 where
   pub once : AllPairs (λ r s. r.signal ≢ s.signal) (routes hub)
+  pub known : All (λ r. r.signal < length design.circuit.signals) (routes hub)
   pub ends : All (λ r. (r.producer < machine_count design.circuit listed) × (r.consumer < machine_count design.circuit listed)) (routes hub)
   pub no_echo : (r s : Wire) → Contains (routes hub) r → Contains (routes hub) s → r.producer ≡ s.consumer → r.given ≢ s.signal
   pub same : All (IsSame design.circuit) (routes hub)

@@ -10,7 +10,7 @@ use Rattle.gg_cut.specs.declared.wires.Wire.{Wire}
 use Rattle.gg_cut.specs.declared.listed.Listed.{Listed}
 use Rattle.gg_cut.specs.Listed.{AreMarks}
 use Rattle.gg_cut.specs.Machines.{is_memory}
-use Rattle.gg_routes.specs.Direct.{Hub, is_taken, is_own, driver_names, copied, origin}
+use Rattle.gg_cut.specs.Direct.{Hub, is_taken, is_own, driver_names, copied, origin}
 use Rattle.gg_routes.specs.declared.sides.Side.{Side}
 use Rattle.gg_routes.specs.declared.sides.Side.TheVariants.{Other, Own, Out, In}
 

@@ -1,11 +1,19 @@
 //! Laws: facts about the definitions. Each is the contract of a function with an empty body.
-ghost use Rattle.std.specs.Prelude.{ℕ, Bool};
+ghost use Rattle.std.specs.Prelude.{◌≡◌, ◌≢◌, ◌↔◌, ◌<◌, ◌≤◌, ℕ, List, Bool, Contains, length, filter};
 ghost use Rattle.gg_moved.specs.KeepsToTree.{KeepsToTree};
 ghost use Rattle.gg_order.specs.Design.{Ordered, IsDesign};
 ghost use Rattle.gg_cut.specs.declared.listed.Listed.{Listed};
-ghost use Rattle.gg_closed.specs.Apart.{AreApart};
-ghost use Rattle.gg_routes.specs.Direct.{hub_of};
+ghost use Rattle.gg_partfile.specs.declared.request.Request.{Request};
+ghost use Rattle.gg_cut.specs.Listed.{listed_of};
+ghost use Rattle.gg_cut.specs.Machines.{machine_count};
+ghost use Rattle.gg_closed.specs.Apart.{AreApart, AreFew};
+ghost use Rattle.gg_order.specs.Marks.{is_marked};
+ghost use Rattle.gg_cut.specs.Channels.{wires_of};
+ghost use Rattle.gg_cut.specs.Plan.{channels_to, channels_from, signals_of, givens_of};
+ghost use Rattle.gg_split.specs.Share.{IsShareOf};
+ghost use Rattle.gg_cut.specs.Direct.{hub_of, routes, is_gone, plan_hub};
 ghost use Rattle.gg_routes.specs.Routes.{AreRoutes};
+ghost use Rattle.gg_routes.specs.Share.{IsPlanShare, stays_by};
 
 use gg_closed::{channels_once, machine_makes_part};
 
@@ -16,3 +24,21 @@ pub fn channels_routed()
     channels_once();
     machine_makes_part();
 }
+
+/// What a machine of a cut had before the routing gives what it has by the routed channels. Of the hub's signals those stay that
+/// aren't marked as gone and whose channels don't pass the hub. Every other machine has the signals that it had.
+pub fn shares_routed()
+    ensures hub { (design : Ordered) (listed : Listed) (piped : ℕ → Bool) (direct : Bool) (gone : List Bool) (ins outs globals memories : List ℕ) → IsDesign design → KeepsToTree design.circuit design.tree → AreApart design.tree listed → AreRoutes design listed (hub_of design.circuit design.tree listed piped direct) → ((s : ℕ) → s < length design.circuit.signals → is_marked gone s ≡ is_gone (hub_of design.circuit design.tree listed piped direct) s) → IsShareOf design listed (wires_of design.circuit design.tree listed) 0 ins outs globals memories → IsPlanShare design listed (hub_of design.circuit design.tree listed piped direct) 0 (channels_to (routes (hub_of design.circuit design.tree listed piped direct)) 0) (channels_from (routes (hub_of design.circuit design.tree listed piped direct)) 0) (filter (stays_by (routes (hub_of design.circuit design.tree listed piped direct)) gone) globals) memories }
+    ensures others { (design : Ordered) (listed : Listed) (piped : ℕ → Bool) (direct : Bool) (m : ℕ) (ins outs globals memories : List ℕ) → IsDesign design → KeepsToTree design.circuit design.tree → AreApart design.tree listed → AreRoutes design listed (hub_of design.circuit design.tree listed piped direct) → m ≢ 0 → IsShareOf design listed (wires_of design.circuit design.tree listed) m ins outs globals memories → IsPlanShare design listed (hub_of design.circuit design.tree listed piped direct) m (channels_to (routes (hub_of design.circuit design.tree listed piped direct)) m) (channels_from (routes (hub_of design.circuit design.tree listed piped direct)) m) globals memories }
+{}
+
+/// A plan has at most 33,025 machines: the hub, 256 units and memories, and a source and a tray for each of 16,384 channels.
+pub fn machines_few()
+    ensures { (design : Ordered) (request : Request) → AreRoutes design (listed_of design.tree request) (plan_hub design.circuit design.tree request) → AreFew design.circuit design.tree request → machine_count design.circuit (listed_of design.tree request) ≤ 33025 }
+{}
+
+/// Another machine than the hub takes by the routed channels what it took before, in the same order, and gives by the same signals.
+pub fn units_still()
+    ensures ins { (design : Ordered) (listed : Listed) (piped : ℕ → Bool) (direct : Bool) (m : ℕ) → IsDesign design → KeepsToTree design.circuit design.tree → AreApart design.tree listed → m ≢ 0 → signals_of (routes (hub_of design.circuit design.tree listed piped direct)) (channels_to (routes (hub_of design.circuit design.tree listed piped direct)) m) ≡ signals_of (wires_of design.circuit design.tree listed) (channels_to (wires_of design.circuit design.tree listed) m) }
+    ensures outs { (design : Ordered) (listed : Listed) (piped : ℕ → Bool) (direct : Bool) (m s : ℕ) → IsDesign design → KeepsToTree design.circuit design.tree → AreApart design.tree listed → m ≢ 0 → Contains (givens_of (routes (hub_of design.circuit design.tree listed piped direct)) (channels_from (routes (hub_of design.circuit design.tree listed piped direct)) m)) s ↔ Contains (givens_of (wires_of design.circuit design.tree listed) (channels_from (wires_of design.circuit design.tree listed) m)) s }
+{}

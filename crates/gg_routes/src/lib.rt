@@ -21,10 +21,12 @@ mod lists;
 mod marks;
 mod names;
 mod origins;
+mod plan;
 mod routed;
 mod routing;
 mod sides;
 mod straight;
 
-pub use laws::channels_routed;
+pub use laws::{channels_routed, machines_few, shares_routed, units_still};
+pub use plan::{plan_routes, staying};
 pub use routing::{Channels, routes};

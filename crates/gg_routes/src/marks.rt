@@ -24,8 +24,12 @@ pub(crate) fn marks_of(
     Ok(marks)
 }
 
-// A list of `count` marks, all clear.
-fn clear(alloc: Global, count: usize) -> Result<Vec<bool>, AllocError>
+/// A list of `count` marks, all clear.
+///
+/// # Errors
+///
+/// Returns `AllocError` if an allocation fails.
+pub(crate) fn clear(alloc: Global, count: usize) -> Result<Vec<bool>, AllocError>
     ensures none { IfOk result (λ marks. (k : ℕ) → is_marked marks.items k ≡ false) }
     ensures count { IfOk result (λ marks. length marks.items ≡ count) }
 {

@@ -3,7 +3,7 @@ ghost use Rattle.std.specs.Prelude.{◌≡◌, ◌<◌, ◌++◌, [], ◌∷◌,
 ghost use Rattle.gg_flat.specs.Circuit.{driver_at};
 ghost use Rattle.gg_flat.specs.Scoped.{reader_fields, writer_fields, memory_fields, stop_signals};
 ghost use Rattle.gg_flat.specs.WellFormed.{IsWellFormed, MayDrive};
-ghost use Rattle.gg_routes.specs.Direct.{op_names, line_names, next_names, reset_names, register_names, driver_names};
+ghost use Rattle.gg_cut.specs.Direct.{op_names, line_names, next_names, reset_names, register_names, driver_names};
 
 use gg_flat::{Driver, Line, Node, Op, Piece, Reader, Register, Reset, Tree, Writer};
 use std::alloc::{AllocError, Global};

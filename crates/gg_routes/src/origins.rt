@@ -3,7 +3,7 @@ ghost use Rattle.std.specs.Prelude.{◌≡◌, ℕ, ◌<◌, None, length, IfOk,
 ghost use Rattle.gg_flat.specs.Order.{IsOrder};
 ghost use Rattle.gg_flat.specs.WellFormed.{IsWellFormed};
 ghost use Rattle.gg_order.specs.Marks.{is_marked};
-ghost use Rattle.gg_routes.specs.Direct.{Hub, bare_op, bare_line, bare_of, if_wide, copied};
+ghost use Rattle.gg_cut.specs.Direct.{Hub, bare_op, bare_line, bare_of, if_wide, copied};
 ghost use Rattle.gg_routes.specs.Tables.{side_at, entry_at, AreKnown, origin_beyond, origin_by, IsSeen, AreOrigins};
 
 use crate::sides::Side;

@@ -5,7 +5,7 @@ ghost use Rattle.gg_order.specs.Marks.{is_marked};
 ghost use Rattle.gg_cut.specs.Channels.{wires_of};
 ghost use Rattle.gg_closed.specs.Apart.{AreApart};
 ghost use Rattle.gg_split.specs.IsShare.{AreShares};
-ghost use Rattle.gg_routes.specs.Direct.{hub_of, routes, is_gone};
+ghost use Rattle.gg_cut.specs.Direct.{hub_of, routes, is_gone};
 ghost use Rattle.gg_routes.specs.Routes.{AreRoutes};
 ghost use Rattle.gg_routes.specs.Routable.{CanRoute, IsRouting};
 

@@ -1,21 +1,19 @@
 -- What the steps of the split ask for and give, from what is read.
-use Rattle.std.proofs.Common.{◌≡◌, ℕ, ◌<◌, List, [], length, get_or, not, sym, ◌∙◌, ap, ap₂, subst, None, arith}
+use Rattle.std.proofs.Common.{◌≡◌, ℕ, ◌<◌, ◌≤◌, ◌^◌, List, [], length, map, get_or, sym, ◌∙◌, ap, ap₂, subst, arith}
 use Rattle.std.specs.Prelude.{Option, slice_index_or, Contains, All}
-use Rattle.std.proofs.lemmas.List.{get_or_default}
-use Rattle.std.proofs.lemmas.List.Elements.{Contains-get_or}
+use Rattle.std.proofs.lemmas.List.{get_or_default, length-map}
+use Rattle.std.proofs.lemmas.List.Elements.{All-map, Contains-get_or}
 use Rattle.gg_flat.specs.Line.{value_at}
 use Rattle.gg_flat.specs.Circuit.{FlatCircuit}
 use Rattle.gg_flat.specs.Tree.{InstanceTree, IsTree, memory_at}
 use Rattle.gg_moved.specs.KeepsToTree.{KeepsToTree}
 use Rattle.gg_order.specs.Design.{Ordered, IsDesign}
-use Rattle.gg_partfile.specs.declared.request.Request.{Request}
 use Rattle.gg_cut.specs.declared.wires.Wire.{Wire}
 use Rattle.gg_cut.specs.declared.listed.Listed.{Listed}
-use Rattle.gg_cut.specs.Listed.{first_place, has_signal, memory_or, owner_of, unit_or_hub, listed_of}
-use Rattle.gg_cut.specs.Fault.{first_fault}
+use Rattle.gg_cut.specs.Listed.{first_place, has_signal, memory_or, owner_of, unit_or_hub, memory_owner}
 use Rattle.gg_cut.specs.Machines.{machine_count}
 use Rattle.gg_cut.specs.Channels.{wires_of}
-use Rattle.gg_cut.specs.Plan.{channels_to, channels_from, memory_owner}
+use Rattle.gg_cut.specs.Plan.{channels_to, channels_from}
 use Rattle.gg_split.specs.declared.share.Share.{Share}
 use Rattle.gg_closed.specs.Apart.{AreApart}
 use Rattle.gg_split.specs.CanSplit.{CanSplit}
@@ -23,7 +21,8 @@ use Rattle.gg_split.specs.IsShare.{IsShare, AreShares, AreGathered}
 use Rattle.gg_closed.specs.Apart.{AreEnds}
 use Rattle.gg_split.specs.Spread.{AreLists, EachList, AreChannels, signals_among, memories_below, AreSignals, AreMemories}
 use Rattle.gg_closed.proofs.ChoiceLemmas.{wire-known}
-use Rattle.gg_closed.proofs.FaultlessLemmas.{faultless-apart, faultless-few}
+use Rattle.gg_closed.proofs.OnceLemmas.{wires-once}
+use Rattle.gg_part.proofs.FrameLemmas.{length-once}
 use Rattle.gg_closed.proofs.EndLemmas.{machine-below, owner-few, ends}
 use Rattle.gg_closed.proofs.MakerLemmas.{no-field-place, out-plain}
 use Rattle.gg_split.proofs.ShareLemmas.{signals-are, memories-are, shared}
@@ -33,6 +32,10 @@ module _ (circuit : FlatCircuit) (tree : InstanceTree) (listed : Listed) (fits :
   pub ends-known : (wires : List Wire) (count : ℕ) → wires ≡ wires_of circuit tree listed → count ≡ machine_count circuit listed → All (AreEnds count) wires
   ends-known wires count is many =
       subst (λ n. All (AreEnds n) wires) (sym many) (subst (λ (l : List Wire). All (AreEnds (machine_count circuit listed)) l) (sym is) (ends circuit tree listed fits apart))
+
+  -- the same without that they are two
+  pub sides-known : (wires : List Wire) (count : ℕ) → wires ≡ wires_of circuit tree listed → count ≡ machine_count circuit listed → All (λ w. (w.producer < count) × (w.consumer < count)) wires
+  sides-known wires count is many k d lt = let at = ends-known wires count is many k d lt in (at.producer, at.consumer)
 
   pub owners-known : (owners now : List ℕ) (count : ℕ) → now ≡ owners → count ≡ machine_count circuit listed → ((s : ℕ) → value_at owners s ≡ unit_or_hub (first_place (has_signal tree s) listed.units)) → All (λ m. m < count) now
   owners-known owners now count is many owns =
@@ -111,23 +114,31 @@ module _ (circuit : FlatCircuit) (tree : InstanceTree) (order : List ℕ) (liste
           (subst (AreSignals circuit tree order listed m) (sym (at.signals ∙ ap (λ (l : List (List ℕ)). slice_index_or l m []) g)) (signals.each m low))
           (subst (AreMemories tree listed m) (sym (at.banks ∙ ap (λ (l : List (List ℕ)). slice_index_or l m []) b)) (banks.each m low))
 
--- ---- a design and its request
+-- ---- a design and what is listed
 
-pub can-split : (design : Ordered) (request : Request) (circuit : FlatCircuit) (tree : InstanceTree) (order : List ℕ) (listed : Listed) → circuit ≡ design.circuit → tree ≡ design.tree → order ≡ design.order → listed ≡ listed_of design.tree request → IsDesign design → KeepsToTree design.circuit design.tree → first_fault design request ≡ None → CanSplit circuit tree order listed
-can-split design request circuit tree order listed is fits along lists ready keeps none =
+-- each signal has at most one channel, so there are at most as many channels as signals
+wires-few : (design : Ordered) (listed : Listed) → IsDesign design → KeepsToTree design.circuit design.tree → AreApart design.tree listed → length (wires_of design.circuit design.tree listed) ≤ length design.circuit.signals
+wires-few design listed ready keeps apart =
+    let wires = wires_of design.circuit design.tree listed in
+    let once = wires-once design.circuit design.tree listed keeps.fitting keeps.scoped apart in
+    let many = length-once (map (λ (w : Wire). w.signal) wires) (length design.circuit.signals) once
+    (All-map (λ s. s < length design.circuit.signals) (λ (w : Wire). w.signal) wires (λ k d lt. wire-known design.circuit design.tree listed ready.formed keeps.fitting keeps.scoped apart (get_or wires k d) (Contains-get_or wires k d lt))) in
+    omega (arith, many, length-map wires (λ (w : Wire). w.signal))
+
+pub can-split : (design : Ordered) (circuit : FlatCircuit) (tree : InstanceTree) (order : List ℕ) (listed : Listed) → circuit ≡ design.circuit → tree ≡ design.tree → order ≡ design.order → IsDesign design → KeepsToTree design.circuit design.tree → AreApart design.tree listed → length design.circuit.signals < 2 ^ 32 → CanSplit circuit tree order listed
+can-split design circuit tree order listed is fits along ready keeps apart few =
     subst (λ k. CanSplit k tree order listed) (sym is)
     (subst (λ t. CanSplit design.circuit t order listed) (sym fits)
     (subst (λ o. CanSplit design.circuit design.tree o listed) (sym along)
-    (subst (CanSplit design.circuit design.tree design.order) (sym lists)
     (record {
       formed = ready.formed;
       fitting = keeps.fitting;
       scoped = keeps.scoped;
       numbered = keeps.copies.number;
       ordered = ready.ordered;
-      apart = faultless-apart design request none keeps.fitting;
-      few = faultless-few design request none;
-    }))))
+      apart = apart;
+      few = (let least = wires-few design listed ready keeps apart in omega (arith, least, few));
+    })))
 
 pub shares-of : (design : Ordered) (circuit : FlatCircuit) (tree : InstanceTree) (order : List ℕ) (listed : Listed) (shares : List Share) → circuit ≡ design.circuit → tree ≡ design.tree → order ≡ design.order → AreShares (record { circuit = circuit; tree = tree; order = order }) listed shares → AreShares design listed shares
 shares-of design circuit tree order listed shares is fits along are =

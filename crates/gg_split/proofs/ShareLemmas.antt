@@ -1,5 +1,5 @@
 -- From the lists to what each machine has.
-use Rattle.std.proofs.Common.{◌≡◌, ◌≢◌, ℕ, ◌+◌, ◌<◌, List, [], length, get_or, true, sym, ◌∙◌, ap, subst, Some, None, inl, inr, ◌⊎◌, eq-eqb, true-eqb, arith}
+use Rattle.std.proofs.Common.{◌≡◌, ◌≢◌, ℕ, ◌+◌, ◌<◌, List, length, get_or, true, sym, ◌∙◌, ap, subst, Some, None, inl, inr, ◌⊎◌, eq-eqb, true-eqb, arith}
 use Rattle.std.specs.Prelude.{Option, ◌==◌, filter, slice_index_or, Contains, AllPairs}
 use Rattle.std.specs.List.{range_with_len}
 use Rattle.std.proofs.lemmas.Bool.{or_cases, or_left, or_right}
@@ -17,11 +17,11 @@ use Rattle.gg_flat.proofs.ListLemmas.{Contains-map, Contains-filter, filter-case
 use Rattle.gg_part.specs.InOrder.{Precedes, IsAlong}
 use Rattle.gg_cut.specs.declared.wires.Wire.{Wire}
 use Rattle.gg_cut.specs.declared.listed.Listed.{Listed}
-use Rattle.gg_cut.specs.Listed.{owner_of, first_place, has_signal, unit_or_hub}
+use Rattle.gg_cut.specs.Listed.{owner_of, first_place, has_signal, unit_or_hub, memory_owner}
 use Rattle.gg_part.specs.Choice.{IsChoice}
 use Rattle.gg_cut.specs.Channels.{wires_of}
 use Rattle.gg_cut.proofs.WireLemmas.{givens-same}
-use Rattle.gg_cut.specs.Plan.{wire_at, channels_to, channels_from, signals_of, givens_of, HasMemory, memory_owner}
+use Rattle.gg_cut.specs.Plan.{wire_at, channels_to, channels_from, signals_of, givens_of, HasMemory}
 use Rattle.gg_closed.specs.Apart.{AreApart}
 use Rattle.gg_split.specs.Share.{IsShareOf}
 use Rattle.gg_split.specs.Spread.{AreChannels, IsChannelBelow, has_by, has, signals_among, memories_below, AreSignals, AreMemories}

@@ -1,16 +1,17 @@
 -- What a split is made of.
 -- Source: ICCAD 2019 (instances that are marked lie apart, each a model of its own).
-use Rattle.std.specs.Prelude.{◌≡◌, ℕ, ◌<◌, List, length}
+use Rattle.std.specs.Prelude.{◌≡◌, ℕ, ◌<◌, ◌^◌, List, length}
 use Rattle.gg_flat.specs.Circuit.{FlatCircuit}
 use Rattle.gg_flat.specs.WellFormed.{IsWellFormed}
 use Rattle.gg_flat.specs.Tree.{InstanceTree, IsTree, memory_at}
 use Rattle.gg_flat.specs.Scoped.{IsScoped}
 use Rattle.gg_flat.specs.Order.{IsOrder}
 use Rattle.gg_cut.specs.declared.listed.Listed.{Listed}
-use Rattle.gg_closed.specs.Apart.{AreApart, AreFew}
+use Rattle.gg_cut.specs.Channels.{wires_of}
+use Rattle.gg_closed.specs.Apart.{AreApart}
 
 -- A circuit can be split: it is well formed, with its tree and an order, its memories are numbered by their places in the tree, and
--- the units that are listed lie apart and are few.
+-- the units that are listed lie apart. Channels can be numbered.
 pub record CanSplit (circuit : FlatCircuit) (tree : InstanceTree) (order : List ℕ) (listed : Listed) : Type 0 where
   pub formed : IsWellFormed circuit
   pub fitting : IsTree circuit tree
@@ -18,4 +19,4 @@ pub record CanSplit (circuit : FlatCircuit) (tree : InstanceTree) (order : List 
   pub numbered : (place : ℕ) → place < length tree.memories → (memory_at tree place).memory ≡ place
   pub ordered : IsOrder circuit order
   pub apart : AreApart tree listed
-  pub few : AreFew circuit tree listed
+  pub few : length (wires_of circuit tree listed) < 2 ^ 32

@@ -2,13 +2,15 @@
 //!
 //! A machine makes the signals that belong to it by the tree of instances and that no channel carries, and the
 //! signals of the channels that it gives. It takes the signals of the channels that it takes (`Makes` and `Takes` in
-//! gg_cut's `specs/Plan`). For a request without a fault, the crate promises:
+//! gg_cut's `specs/Plan`), all before channels are routed. If what is listed is apart, the crate promises:
 //!
 //! - `split` gives the channels in their order. For each machine it gives the channels that the machine takes and
 //!   gives; exactly the signals that it makes or takes, along the order of evaluation; and exactly the memories that
 //!   belong to it (`IsShareOf` in `specs/Share`);
 //! - what the hub, a unit or a memory has makes a part of the circuit (`IsChoice` in gg_part): for each signal that
 //!   it makes, it makes or takes all that the signal's driver, register or memory names.
+//!
+//! `sides_of` gives the channels that each machine takes and gives, by any list of channels.
 //!
 //! One pass over the order gives all machines their signals. It uses a table of the channel of each signal and a
 //! table of the owner of each signal.
@@ -22,4 +24,6 @@ mod spread;
 mod tables;
 
 pub use parting::split;
+pub use pile::Pile;
 pub use share::{Share, Split};
+pub use spread::{Sides, sides_of};

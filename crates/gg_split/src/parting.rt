@@ -1,10 +1,9 @@
 //! The split: the channels of a cut, and what each machine has.
-ghost use Rattle.std.specs.Prelude.{◌≡◌, ℕ, ◌<◌, None, List, [], length, set, slice_index_or, IfOk};
+ghost use Rattle.std.specs.Prelude.{◌≡◌, ℕ, ◌<◌, ◌^◌, List, [], length, set, slice_index_or, IfOk};
 ghost use Rattle.gg_flat.specs.Line.{value_at};
 ghost use Rattle.gg_flat.specs.Tree.{IsTree, memory_at};
 ghost use Rattle.gg_moved.specs.KeepsToTree.{KeepsToTree};
-ghost use Rattle.gg_cut.specs.Listed.{listed_of, first_place, has_signal, owner_of_instance, unit_or_hub};
-ghost use Rattle.gg_cut.specs.Fault.{first_fault};
+ghost use Rattle.gg_cut.specs.Listed.{first_place, has_signal, owner_of_instance, unit_or_hub};
 ghost use Rattle.gg_cut.specs.Machines.{machine_count, numbering_of};
 ghost use Rattle.gg_cut.specs.Channels.{wires_of};
 ghost use Rattle.gg_closed.specs.Apart.{AreApart};
@@ -13,35 +12,29 @@ ghost use Rattle.gg_split.specs.CanSplit.{CanSplit};
 ghost use Rattle.gg_split.specs.IsShare.{AreShares, IsGathered, AreGathered};
 
 use crate::channels::channels;
-use crate::pile::{Pile, piles};
+use crate::pile::Pile;
 use crate::share::{Share, Split};
-use crate::spread::{memories, put_channels, spread};
+use crate::spread::{memories, sides_of, spread};
 use crate::tables::{channels_of, memory_owners, signal_owners};
 use gg_bits::{Ids, Items};
 use gg_cut::{Listed, Numbering, Wire, owners_of};
 use gg_flat::{Piece, Tree};
 use gg_order::Design;
-use gg_partfile::Request;
 use std::alloc::{AllocError, Global};
 
-/// The channels of a cut, and what each machine has. The request has no fault.
+/// The channels of a cut, and what each machine has, before channels are routed. What is listed is apart.
 ///
 /// # Errors
 ///
-/// Returns `AllocError` if an allocation fails.
-pub fn split(
-    alloc: Global,
-    design: &Design,
-    request: &Request,
-    listed: &Listed,
-) -> Result<Split, AllocError>
+/// Returns `AllocError` if an allocation fails, or if there are 4,294,967,296 machines or more.
+pub fn split(alloc: Global, design: &Design, listed: &Listed) -> Result<Split, AllocError>
     requires keeps { KeepsToTree design.now.circuit design.now.tree }
-    requires listed { listed.now ≡ listed_of design.now.tree request.now }
-    requires faultless { first_fault design.now request.now ≡ None }
+    requires apart { AreApart design.now.tree listed.now }
     ensures wires { IfOk result (λ split. split.wires ≡ wires_of design.now.circuit design.now.tree listed.now) }
     ensures shares { IfOk result (λ split. AreShares design.now listed.now split.shares) }
+    ensures few { IfOk result (λ split. machine_count design.now.circuit listed.now < 2 ^ 32) }
 {
-    let _ = request;
+    let _ = design.piece().signal_count();
     let split = split_all(alloc, design.piece(), design.tree(), design.order(), listed)?;
     Ok(split)
 }
@@ -57,8 +50,9 @@ fn split_all(
     requires { CanSplit piece.now tree.now order.now listed.now }
     ensures wires { IfOk result (λ split. split.wires ≡ wires_of piece.now tree.now listed.now) }
     ensures shares { IfOk result (λ split. AreShares (record { circuit = piece.now; tree = tree.now; order = order.now }) listed.now split.shares) }
+    ensures few { IfOk result (λ split. machine_count piece.now listed.now < 2 ^ 32) }
 {
-    let numbering = Numbering::of(piece, listed);
+    let numbering = numbering_of(piece, listed)?;
     let units = listed.units.as_slice();
     let owners = owners_of(alloc, tree, &numbering, units)?;
     let holders = signal_owners(alloc, tree, &numbering, units, piece.signals().len())?;
@@ -70,6 +64,21 @@ fn split_all(
         wires: Items::from(wires),
         shares,
     })
+}
+
+// The numbers of the machines, if there are fewer than 2^32.
+fn numbering_of(piece: &Piece, listed: &Listed) -> Result<Numbering, AllocError>
+    ensures numbers { IfOk result (λ numbering. numbering ≡ numbering_of piece.now listed.now) }
+    ensures few { IfOk result (λ numbering. machine_count piece.now listed.now < 2 ^ 32) }
+{
+    let units = listed.units.as_slice().len() as u128;
+    let memories = listed.memories.as_slice().len() as u128;
+    let ins = piece.ins().len() as u128;
+    let outs = piece.outs().len() as u128;
+    if 1 + units + memories + ins + outs > u32::MAX as u128 {
+        return Err(AllocError);
+    }
+    Ok(Numbering::of(piece, listed))
 }
 
 // What each machine has, from the channels, the machine of each instance, and the machine of each signal by its instance.
@@ -94,12 +103,16 @@ fn shares(
     ensures { IfOk result (λ shares. AreShares (record { circuit = piece.now; tree = tree.now; order = order.now }) listed.now shares) }
 {
     let count = numbering.count();
-    let mut ins = piles(alloc, count)?;
-    let mut outs = piles(alloc, count)?;
-    put_channels(wires, &mut ins, &mut outs)?;
+    let mut sides = sides_of(alloc, wires, count)?;
     let mut globals = signals_of(alloc, piece, tree, order, listed, holders, wires, count)?;
     let mut memories = memories_of(alloc, piece, tree, numbering, listed, owners, count)?;
-    let shares = gather(alloc, &mut ins, &mut outs, &mut globals, &mut memories)?;
+    let shares = gather(
+        alloc,
+        &mut sides.ins,
+        &mut sides.outs,
+        &mut globals,
+        &mut memories,
+    )?;
     Ok(shares)
 }
 

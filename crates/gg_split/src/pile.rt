@@ -8,7 +8,7 @@ use std::marker::Model;
 
 /// A growing list of numbers. A contract sees it as the list.
 #[derive(Drop)]
-pub(crate) struct Pile {
+pub struct Pile {
     items: Vec<u32>,
 }
 
@@ -36,6 +36,13 @@ impl Pile {
     {
         self.items.push(number)?;
         Ok(())
+    }
+
+    /// The list.
+    pub fn as_slice(&self) -> &[u32]
+        ensures { result.now ≡ self.now }
+    {
+        self.items.as_slice()
     }
 
     /// Returns the list, and leaves the pile empty.

@@ -9,20 +9,38 @@ use gg_cut::Wire;
 use gg_flat::Tree;
 use std::alloc::{AllocError, Global};
 
-/// Adds each channel to the list of its consumer among `ins` and to the list of its producer among `outs`. At first all
-/// lists are empty.
+/// The channels that each of `count` machines takes and those that it gives, by the machines' numbers. The lists ascend.
+#[derive(Drop)]
+pub struct Sides {
+    /// The channels that each machine takes.
+    pub ins: Vec<Pile>,
+    /// The channels that each machine gives.
+    pub outs: Vec<Pile>,
+}
+
+/// The channels that each machine takes and gives, among `count` machines.
 ///
 /// # Errors
 ///
 /// Returns `AllocError` if an allocation fails.
-pub(crate) fn put_channels(
-    wires: &[Wire],
-    ins: &mut [Pile],
-    outs: &mut [Pile],
-) -> Result<(), AllocError>
+pub fn sides_of(alloc: Global, wires: &[Wire], count: usize) -> Result<Sides, AllocError>
+    requires few { length wires.now < 2 ^ 32 }
+    requires ends { All (λ w. (w.producer < count) × (w.consumer < count)) wires.now }
+    ensures ins { IfOk result (λ sides. AreLists (channels_to wires.now) count sides.ins.items) }
+    ensures outs { IfOk result (λ sides. AreLists (channels_from wires.now) count sides.outs.items) }
+{
+    let mut ins = piles(alloc, count)?;
+    let mut outs = piles(alloc, count)?;
+    put_channels(wires, &mut ins, &mut outs)?;
+    Ok(Sides { ins, outs })
+}
+
+// Adds each channel to the list of its consumer among `ins` and to the list of its producer among `outs`. At first all
+// lists are empty.
+fn put_channels(wires: &[Wire], ins: &mut [Pile], outs: &mut [Pile]) -> Result<(), AllocError>
     requires few { length wires.now < 2 ^ 32 }
     requires same { length outs.old ≡ length ins.old }
-    requires ends { All (AreEnds (length ins.old)) wires.now }
+    requires ends { All (λ w. (w.producer < length ins.old) × (w.consumer < length ins.old)) wires.now }
     requires no_ins { (m : ℕ) → slice_index_or ins.old m [] ≡ [] }
     requires no_outs { (m : ℕ) → slice_index_or outs.old m [] ≡ [] }
     ensures ins { OnOk result (AreLists (channels_to wires.now) (length ins.old) ins.new) }

@@ -2,7 +2,7 @@ use Rattle.std.proofs.Common.{◌++◌, [], ◌∷◌, ◌∙◌, ℕ, length, s
 use Rattle.std.specs.Prelude.{if◌then◌else◌}
 use Rattle.gg_flat.specs.Tree.{path_at}
 use Rattle.gg_cut.specs.Listed.{is_among}
-use Rattle.gg_cut.proofs.RangeLemmas.{filter-more, filter-below, filter-few}
+use Rattle.gg_cut.proofs.RangeLemmas.{filter-more, filter-few}
 use Rattle.gg_cut.proofs.signals.memories_in.Goals as goal
 
 pub loop-place-preserved : goal.loop-place-preserved
@@ -10,12 +10,6 @@ loop-place-preserved c =
     c.in_ok-push_if.ensures
     ∙ ap₂ (λ found chosen. found ++ (if chosen then c.loop-place.place ∷ [] else [])) c.loop-place.invariant c.has_memory-chosen.ensures
     ∙ sym (filter-more (λ j. is_among c.args.set.now (path_at c.args.tree.now.memory_paths j)) c.loop-place.place)
-
-pub returns-clause-known : goal.returns-clause-known
-returns-clause-known c =
-    let test = λ (j : ℕ). is_among c.args.set.now (path_at c.args.tree.now.memory_paths j) in
-    let below = filter-below test 0 c.loop-place.place c.loop-place.found.items c.loop-place.invariant in
-    λ k d lt. omega (arith, below k d lt, c.loop-place.auto.place-end, c.memory_count-place-end.ensures.count)
 
 pub returns-clause-few : goal.returns-clause-few
 returns-clause-few c =

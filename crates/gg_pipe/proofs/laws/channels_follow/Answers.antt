@@ -1,4 +1,4 @@
-use Rattle.gg_routes.specs.Direct.{hub_of}
+use Rattle.gg_cut.specs.Direct.{hub_of}
 use Rattle.gg_routes.proofs.CutLemmas.{cut-base}
 use Rattle.gg_pipe.specs.Made.{holder_of, keeper_of}
 use Rattle.gg_pipe.proofs.FollowLemmas.{channel-column}

@@ -1,6 +1,6 @@
 use Rattle.std.specs.Prelude.{◌+◌}
 use Rattle.gg_cut.specs.Machines.{first_source}
-use Rattle.gg_routes.specs.Direct.{hub_of}
+use Rattle.gg_cut.specs.Direct.{hub_of}
 use Rattle.gg_routes.proofs.CutLemmas.{cut-base}
 use Rattle.gg_routes.proofs.SideLemmas.{source-routes}
 use Rattle.gg_pipe.specs.Made.{holder_of, keeper_of}

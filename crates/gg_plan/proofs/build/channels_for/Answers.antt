@@ -1,7 +1,9 @@
 use Rattle.std.proofs.Common.{ℕ, List, ◌<◌, ◌^◌, sym, subst, get_or}
 use Rattle.std.specs.Prelude.{All}
 use Rattle.gg_cut.specs.Channels.{capacity_of}
-use Rattle.gg_plan.specs.Made.{AreWired}
+use Rattle.gg_cut.specs.declared.wires.Wire.{Wire}
+use Rattle.gg_cut.specs.Direct.{plan_hub}
+use Rattle.gg_plan.specs.Made.{IsFit, AreWired}
 use Rattle.gg_closed.proofs.FaultlessLemmas.{range-free}
 use Rattle.gg_plan.proofs.FaultlessLemmas.{capacities-small}
 use Rattle.gg_plan.proofs.PlanLemmas.{machine-fit, given-below, known-below, channels-made}
@@ -9,13 +11,14 @@ use Rattle.gg_plan.proofs.build.channels_for.Goals as goal
 
 pub needs_table-requires-clause-fit : goal.needs_table-requires-clause-fit
 needs_table-requires-clause-fit c = λ m any lt.
-    machine-fit c.args.design.now c.args.request.now c.args.listed.now c.args.wires.now m (get_or c.args.machines.now m any) c.piece.ensures.formed c.part_formed.ensures (c.requires.machines.each m any lt)
+    subst (λ (w : List Wire). IsFit w m (get_or c.args.machines.now m any)) (sym c.requires.wires)
+    (machine-fit c.args.design.now c.args.request.now c.args.listed.now (plan_hub c.args.design.now.circuit c.args.design.now.tree c.args.request.now) m (get_or c.args.machines.now m any) c.piece.ensures.formed c.part_formed.ensures (c.requires.machines.each m any lt))
 
 pub needs_table-requires-clause-given : goal.needs_table-requires-clause-given
-needs_table-requires-clause-given c = given-below c.args.design.now c.args.request.now c.args.listed.now c.args.wires.now c.args.machines.now c.requires.faultless c.requires.keeps.fitting c.requires.listed c.requires.wires c.requires.machines
+needs_table-requires-clause-given c = given-below c.args.design.now c.args.request.now c.args.listed.now (plan_hub c.args.design.now.circuit c.args.design.now.tree c.args.request.now) c.args.wires.now c.args.machines.now c.requires.wires c.requires.sound c.requires.machines
 
 pub channels_of-requires-clause-known : goal.channels_of-requires-clause-known
-channels_of-requires-clause-known c = known-below c.args.design.now c.args.request.now c.args.listed.now c.args.wires.now c.piece-2.result.now c.requires.faultless c.piece.ensures.formed c.requires.keeps.fitting c.requires.listed c.requires.wires c.piece-2.ensures.circuit
+channels_of-requires-clause-known c = known-below c.args.design.now c.args.listed.now (plan_hub c.args.design.now.circuit c.args.design.now.tree c.args.request.now) c.args.wires.now c.piece-2.result.now c.requires.wires c.requires.sound c.piece-2.ensures.circuit
 
 pub channels_of-requires-clause-range : goal.channels_of-requires-clause-range
 channels_of-requires-clause-range c =
@@ -29,5 +32,5 @@ returns c =
     let table = c.in_ok-table.table.items in
     let channels = c.in_ok-channels.channels.items in
     channels-made design c.piece-2.result.now (capacity_of c.args.request.now.capacity c.args.default_capacity) wires machines table channels c.piece-2.ensures.circuit
-    (given-below design c.args.request.now c.args.listed.now wires machines c.requires.faultless c.requires.keeps.fitting c.requires.listed c.requires.wires c.requires.machines) (c.in_ok-table.ensures {u = tt})
+    (given-below design c.args.request.now c.args.listed.now (plan_hub c.args.design.now.circuit c.args.design.now.tree c.args.request.now) wires machines c.requires.wires c.requires.sound c.requires.machines) (c.in_ok-table.ensures {u = tt})
     (subst (λ (l : List (List ℕ × ℕ)). AreWired c.piece-2.result.now (capacity_of l c.args.default_capacity) wires table channels) c.as_slice.ensures (c.in_ok-channels.ensures {u = tt}))

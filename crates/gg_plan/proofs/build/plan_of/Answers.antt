@@ -1,23 +1,18 @@
-use Rattle.std.proofs.Common.{◌<◌, ◌^◌, List, sym, subst}
+use Rattle.std.proofs.Common.{◌<◌, List, length, sym, ◌∙◌, subst}
 use Rattle.std.specs.Prelude.{All}
-use Rattle.gg_cut.specs.declared.plan.Channel.{Channel}
-use Rattle.gg_plan.specs.Made.{IsCapacity}
 use Rattle.gg_cut.specs.declared.listed.Listed.{Listed}
-use Rattle.gg_cut.specs.Machines.{machine_count}
-use Rattle.gg_closed.proofs.FaultlessLemmas.{range-free}
-use Rattle.gg_plan.proofs.FaultlessLemmas.{few-machines}
-use Rattle.gg_plan.proofs.PlanLemmas.{units-count, bounds-sound}
+use Rattle.gg_cut.specs.declared.wires.Wire.{Wire}
+use Rattle.gg_closed.specs.Apart.{AreApart}
 use Rattle.gg_plan.proofs.build.plan_of.Goals as goal
 
-pub machines_of-requires-clause-units : goal.machines_of-requires-clause-units
-machines_of-requires-clause-units c = units-count c.args.design.now c.args.request.now c.args.listed c.requires.listed
+pub split-requires-clause-apart : goal.split-requires-clause-apart
+split-requires-clause-apart c =
+    subst (λ (l : Listed). AreApart c.args.design.now.tree l) (sym c.requires.listed) (c.listed_apart.ensures.apart c.args.design.now c.args.request.now c.requires.keeps c.requires.entries)
 
-pub machines_of-requires-clause-few : goal.machines_of-requires-clause-few
-machines_of-requires-clause-few c =
-    subst (λ (l : Listed). machine_count c.args.design.now.circuit l < 2 ^ 32) (sym c.requires.listed) (few-machines c.args.design.now c.args.request.now c.requires.faultless)
+pub plan_routes-requires-clause-apart : goal.plan_routes-requires-clause-apart
+plan_routes-requires-clause-apart c =
+    subst (λ (l : Listed). AreApart c.args.design.now.tree l) (sym c.requires.listed) (c.listed_apart.ensures.apart c.args.design.now c.args.request.now c.requires.keeps c.requires.entries)
 
-pub returns-clause-capacities : goal.returns-clause-capacities
-returns-clause-capacities c =
-    let request = c.args.request.now in
-    subst (λ (l : List Channel). All (λ channel. IsCapacity channel.capacity) l) (sym c.from-2.ensures)
-    (bounds-sound c.args.design.now request c.args.default_capacity c.as_slice.result.now c.deref.result.now c.in_ok-channels.channels.items c.requires.capacity (range-free c.args.design.now request c.requires.faultless) (c.in_ok-channels.ensures {u = tt}))
+pub judge_routed-requires-clause-known : goal.judge_routed-requires-clause-known
+judge_routed-requires-clause-known c =
+    subst (λ (l : List Wire). All (λ w. w.signal < length c.args.design.now.circuit.signals) l) (sym (c.as_slice.ensures ∙ c.in_ok-routed.ensures.wires)) c.in_ok-routed.ensures.sound.known

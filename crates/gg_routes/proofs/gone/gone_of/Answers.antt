@@ -6,7 +6,7 @@ use Rattle.std.proofs.lemmas.List.Elements.{All-filter}
 use Rattle.gg_flat.specs.Circuit.{driver_at}
 use Rattle.gg_flat.specs.Scoped.{memory_fields}
 use Rattle.gg_flat.proofs.ListLemmas.{filter-cases}
-use Rattle.gg_routes.specs.Direct.{driver_names}
+use Rattle.gg_cut.specs.Direct.{driver_names}
 use Rattle.gg_routes.specs.Tables.{side_at, entry_at, AreKnown, is_kept, is_left}
 use Rattle.gg_routes.proofs.FoundTables.{found-known, names-all}
 use Rattle.gg_routes.proofs.gone.gone_of.Goals as goal

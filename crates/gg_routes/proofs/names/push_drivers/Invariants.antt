@@ -1,7 +1,7 @@
 use Rattle.std.proofs.Common.{◌≡◌, ◌++◌, take}
 use Rattle.std.specs.Prelude.{flat_map}
 use Rattle.gg_flat.specs.Circuit.{driver_at}
-use Rattle.gg_routes.specs.Direct.{driver_names}
+use Rattle.gg_cut.specs.Direct.{driver_names}
 use Rattle.gg_routes.proofs.names.push_drivers.Given as goal
 
 abbrev pub invariant-loop-signal : goal.invariant-loop-signal

@@ -4,7 +4,7 @@ use Rattle.gg_flat.specs.Circuit.{driver_at}
 use Rattle.gg_flat.specs.declared.piece.Signal.{Signal}
 use Rattle.gg_order.specs.Marks.{driver_of}
 use Rattle.gg_order.proofs.MarkLemmas.{driver_of-at}
-use Rattle.gg_routes.specs.Direct.{bare_of}
+use Rattle.gg_cut.specs.Direct.{bare_of}
 use Rattle.gg_routes.proofs.WholeLemmas.{bare-known}
 use Rattle.gg_routes.proofs.origins.copied.Goals as goal
 

@@ -5,7 +5,7 @@ use Rattle.gg_flat.specs.Scoped.{stop_signals}
 use Rattle.gg_order.specs.Marks.{is_marked}
 use Rattle.gg_cut.specs.declared.wires.Wire.{Wire}
 use Rattle.gg_routes.specs.declared.sides.Side.{Side}
-use Rattle.gg_routes.specs.Direct.{hub_of}
+use Rattle.gg_cut.specs.Direct.{hub_of}
 use Rattle.gg_routes.specs.Tables.{side_at, entry_at, is_makers, IsSeen, direct_by, AreEntries, AreGone, routed_by}
 use Rattle.gg_routes.specs.Routable.{IsRouting}
 use Rattle.gg_routes.proofs.GoneTables.{names_by}

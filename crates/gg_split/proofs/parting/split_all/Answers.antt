@@ -1,14 +1,10 @@
-use Rattle.std.proofs.Common.{◌≡◌, ◌<◌, ◌∙◌, ℕ, List, length, sym, ap, subst, arith}
+use Rattle.std.proofs.Common.{◌≡◌, ◌<◌, ◌∙◌, ℕ, List, length, sym, ap, subst}
 use Rattle.std.specs.Prelude.{All}
 use Rattle.gg_flat.specs.Line.{value_at}
 use Rattle.gg_cut.specs.Listed.{first_place, unit_or_hub, owner_of, has_signal}
 use Rattle.gg_cut.proofs.KnownLemmas.{parents-before}
-use Rattle.gg_closed.proofs.EndLemmas.{few-machines}
 use Rattle.gg_split.proofs.PartingLemmas.{outputs-held, outputs-known}
 use Rattle.gg_split.proofs.parting.split_all.Goals as goal
-
-pub of-numbering-requires : goal.of-numbering-requires
-of-numbering-requires c = let few = few-machines c.args.piece.now c.args.tree.now c.args.listed.now c.requires.few in omega (arith, few)
 
 pub owners_of-requires-clause-parents : goal.owners_of-requires-clause-parents
 owners_of-requires-clause-parents c = parents-before c.args.piece.now c.args.tree.now c.requires.fitting

@@ -1,12 +1,13 @@
 -- A chain of copies has one value in each settled row.
-use Rattle.std.proofs.Common.{◌≡◌, ℕ, zero, suc, ◌-◌, ◌^◌, ◌<◌, ◌≤◌, List, [], ◌∷◌, Bool, true, false, Some, None, length, get_or, sym, ◌∙◌, ap, subst, inl, inr, ◌⊎◌, refl, arith}
-use Rattle.std.specs.Prelude.{pos, negsuc, ◌-ℤ◌, ◌%◌, nat_lt, if◌then◌else◌, Contains, All}
+use Rattle.std.proofs.Common.{◌≡◌, ℕ, zero, suc, ◌-◌, ◌^◌, ◌<◌, ◌≤◌, List, [], ◌∷◌, Bool, true, false, not, Option, Some, None, length, map, get_or, sym, ◌∙◌, ap, subst, inl, inr, ◌⊎◌, refl, arith}
+use Rattle.std.specs.Prelude.{pos, negsuc, ◌-ℤ◌, ◌%◌, nat_lt, if◌then◌else◌, Contains, All, filter}
 use Rattle.std.proofs.Math.Nat.{mod-eq_of_lt}
-use Rattle.std.proofs.lemmas.Bool.{eqb-true}
+use Rattle.std.proofs.Math.ListN.{get_or-eq_default}
+use Rattle.std.proofs.lemmas.Bool.{cases_lt, eqb-true}
 use Rattle.std.proofs.lemmas.Int.{ints}
 use Rattle.std.proofs.lemmas.Nat.{pow_pos}
 use Rattle.std.proofs.lemmas.List.{length-map}
-use Rattle.std.proofs.lemmas.List.Elements.{All-contains, Contains-get_or}
+use Rattle.std.proofs.lemmas.List.Elements.{All-filter, All-map, Contains-get_or}
 use Rattle.gg_bits.specs.Shape.{Shape, shape, Fits}
 use Rattle.gg_bits.specs.Value.{number_of, pattern_of}
 use Rattle.gg_bits.specs.Meaning.{extended}
@@ -14,17 +15,17 @@ use Rattle.gg_bits.specs.declared.types.Kind.{Kind}
 use Rattle.gg_bits.specs.declared.types.Kind.TheVariants.{UInt, SInt}
 use Rattle.gg_flat.specs.declared.line.Node.{Node}
 use Rattle.gg_flat.specs.declared.line.Op.TheVariants.{Ref}
+use Rattle.gg_flat.specs.declared.piece.Signal.{Signal}
+use Rattle.gg_flat.specs.declared.piece.Driver.TheVariants.{Input}
 use Rattle.gg_flat.specs.Line.{value_at, shape_at, shapes_of, op_value, connected_value, HasShape, HasType}
 use Rattle.gg_flat.specs.Circuit.{FlatCircuit, signal_shapes}
 use Rattle.gg_flat.specs.WellFormed.{IsWellFormed, MayDrive}
 use Rattle.gg_flat.specs.State.{State}
 use Rattle.gg_flat.specs.Settled.{Settled, driver_value}
 use Rattle.gg_cut.specs.declared.wires.Wire.{Wire}
-use Rattle.gg_routes.proofs.ChoiceLemmas.{IsFromBase}
-use Rattle.gg_routes.specs.Direct.{Hub, is_own, origin_within, copied, route, routes}
-use Rattle.gg_routes.specs.Routes.{IsSame}
-use Rattle.gg_routes.proofs.OriginLemmas.{some-clash, IsCopied, copied-is, Chain, Here, Copy, chain}
-use Rattle.gg_routes.proofs.RouteLemmas.{IsBase, Routing, Plain, Direct, routing, route-signal, plain-given, direct-given, out-routes}
+use Rattle.gg_cut.specs.Direct.{Hub, is_own, is_gone, origin_within, copied, if_wide, bare_of, direct_of, route, route_by, routes, IsSame}
+use Rattle.gg_cut.proofs.OriginLemmas.{some-clash, IsCopied, copied-is, Chain, Here, Copy, chain}
+use Rattle.gg_cut.proofs.DirectLemmas.{IsFromBase, direct-is}
 
 -- the pattern of the number that a pattern stands for is that pattern (now in gg_types; it belongs into gg_bits)
 pattern_of-number : (kind : Kind) (w p : ℕ) → p < 2 ^ w → pattern_of w (number_of kind w p) ≡ p
@@ -72,6 +73,16 @@ copy-value circuit state inputs row settled s t lt is wide =
     ∙ ap (driver_value state inputs row (shape_at (signal_shapes circuit) s)) is.bare.is
     ∙ bare-value row (shape_at (signal_shapes circuit) s) is.bare.node t is.bare.op wide.own (subst (λ w. value_at row t < 2 ^ w) wide.other (settled.typed.fits t inside))
 
+-- a signal that is a copy is a signal of the circuit
+pub copied-known : (circuit : FlatCircuit) (s t : ℕ) → copied circuit s ≡ Some t → s < length circuit.signals
+copied-known circuit s t e = by (cases_lt s (length circuit.signals))
+  where
+    by : (s < length circuit.signals) ⊎ (length circuit.signals ≤ s) → s < length circuit.signals
+    by (inl lt) = lt
+    by (inr le) =
+        let beyond = get_or-eq_default (map (λ (signal : Signal). signal.driver) circuit.signals) (Input 0) (let many = length-map circuit.signals (λ (signal : Signal). signal.driver) in omega (arith, le, many)) in
+        absurd (some-clash t (copied circuit s) e (ap (λ d. if_wide circuit s (bare_of d)) beyond))
+
 -- signal s is a copy of signal t in this circuit too, and both are signals of the hub's
 pub record IsKeptIn (hub : Hub) (circuit : FlatCircuit) (s t : ℕ) : Type 0 where
   pub is : IsCopied circuit s t
@@ -79,12 +90,12 @@ pub record IsKeptIn (hub : Hub) (circuit : FlatCircuit) (s t : ℕ) : Type 0 whe
   pub below : t < length hub.circuit.signals
 
 -- Each copy that has an origin is a copy in this circuit too.
-pub record AreKeptIn (hub : Hub) (base : IsBase hub) (circuit : FlatCircuit) : Type 0 where
+pub record AreKeptIn (hub : Hub) (circuit : FlatCircuit) : Type 0 where
   pub more : length hub.circuit.signals ≤ length circuit.signals
-  pub each : (n s t x : ℕ) → s < length hub.circuit.signals → (is_own hub s ≡ true) ⊎ IsFromBase hub base 0 s → copied hub.circuit s ≡ Some t → origin_within hub n t ≡ Some x → IsKeptIn hub circuit s t
+  pub each : (n s t x : ℕ) → s < length hub.circuit.signals → (is_own hub s ≡ true) ⊎ IsFromBase hub 0 s → copied hub.circuit s ≡ Some t → origin_within hub n t ≡ Some x → IsKeptIn hub circuit s t
 
-pub kept-own : (hub : Hub) (base : IsBase hub) → IsWellFormed hub.circuit → AreKeptIn hub base hub.circuit
-kept-own hub base formed =
+pub kept-own : (hub : Hub) → IsWellFormed hub.circuit → AreKeptIn hub hub.circuit
+kept-own hub formed =
     record {
       more = omega arith;
       each = λ n s t x lt hubs to from.
@@ -94,7 +105,7 @@ kept-own hub base formed =
     }
 
 -- the same along a chain, and for each routed channel
-module _ (hub : Hub) (base : IsBase hub) (whole : FlatCircuit) (kept : AreKeptIn hub base whole) where
+module _ (hub : Hub) (whole : FlatCircuit) (kept : AreKeptIn hub whole) where
   pub chain-value : (n s x : ℕ) → s < length hub.circuit.signals → origin_within hub n s ≡ Some x → (state : State) (inputs row : List ℕ) → Settled whole state inputs row → value_at row s ≡ value_at row x
   chain-value zero s x lt e state inputs row settled = absurd (some-clash x None e refl)
   chain-value (suc n) s x lt e state inputs row settled = by (chain hub (suc n) s x e) (λ t known h. chain-value n t x known h state inputs row settled)
@@ -107,23 +118,18 @@ module _ (hub : Hub) (base : IsBase hub) (whole : FlatCircuit) (kept : AreKeptIn
           let many = kept.more in
           copy-value whole state inputs row settled s t (omega (arith, lt, many)) k.is k.wide ∙ rest t k.below (subst (λ k. origin_within hub k t ≡ Some x) less e)
 
-  pub route-same : (w : Wire) → Contains hub.base w → IsSame whole (route hub w)
-  route-same w h state inputs row settled = by (routing hub base w)
-    where
-      lt : w.signal < length hub.circuit.signals
-      lt = All-contains (λ (v : Wire). v.signal < length hub.circuit.signals) hub.base w base.known h
+  route-same : (w : Wire) → Contains hub.base w → w.given ≡ w.signal → (o : Option ℕ) → direct_of hub w ≡ o → IsSame whole (route_by hub w o)
+  route-same w h plain None e state inputs row settled = ap (value_at row) (sym plain)
+  route-same w h plain (Some x) e state inputs row settled =
+      let d = direct-is hub w x e in
+      let lt = copied-known hub.circuit w.signal d.next d.is in
+      let k = kept.each (length hub.circuit.signals) w.signal d.next x lt (inr (record { wire = w; among = h; producer = d.may.producer; is = refl })) d.is d.from in
+      let many = kept.more in
+      copy-value whole state inputs row settled w.signal d.next (omega (arith, lt, many)) k.is k.wide
+      ∙ chain-value (length hub.circuit.signals) d.next x k.below d.from state inputs row settled
 
-      by : Routing hub base w → value_at row (route hub w).signal ≡ value_at row (route hub w).given
-      by (Plain e) = ap (value_at row) (route-signal hub base w ∙ sym (plain-given hub base w h e))
-      by (Direct x e d v) =
-          let k = kept.each (length hub.circuit.signals) w.signal d.next x lt (inr (record { wire = w; among = h; producer = d.may.producer; is = refl })) d.is d.from in
-          let many = kept.more in
-          ap (value_at row) (route-signal hub base w)
-          ∙ copy-value whole state inputs row settled w.signal d.next (omega (arith, lt, many)) k.is k.wide
-          ∙ chain-value (length hub.circuit.signals) d.next x k.below d.from state inputs row settled
-          ∙ ap (value_at row) (sym (direct-given hub base w x e))
-
-  pub routes-same : All (IsSame whole) (routes hub)
-  routes-same i d lt =
-      let r = out-routes hub base (get_or (routes hub) i d) (Contains-get_or (routes hub) i d lt) in
-      subst (IsSame whole) r.is (route-same r.wire r.among)
+  pub routes-same : All (λ w. w.given ≡ w.signal) hub.base → All (IsSame whole) (routes hub)
+  routes-same plain =
+      All-map (IsSame whole) (route hub) (filter (λ w. not (is_gone hub w.signal)) hub.base)
+      (All-filter (λ (w : Wire). not (is_gone hub w.signal)) (λ w. IsSame whole (route hub w)) hub.base
+      (λ k d lt. route-same (get_or hub.base k d) (Contains-get_or hub.base k d lt) (plain k d lt) (direct_of hub (get_or hub.base k d)) refl))

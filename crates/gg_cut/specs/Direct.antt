@@ -4,7 +4,7 @@
 -- in-channel leaves, with its copies, if a direct channel has it as its origin and the hub needs it for nothing else.
 -- Source: MEMOCODE 2009 (a fork: one out-signal of a node on several channels); this program's profile for which
 -- channels are direct.
-use Rattle.std.specs.Prelude.{ℕ, zero, suc, List, [], ◌∷◌, ◌++◌, Bool, false, not, ◌||◌, ◌&&◌, ◌==◌, if◌then◌else◌, Option, Some, None, length, map, filter, flat_map, find, option_and_then, is_some, slice_get}
+use Rattle.std.specs.Prelude.{◌≡◌, ℕ, zero, suc, List, [], ◌∷◌, ◌++◌, Bool, false, not, ◌||◌, ◌&&◌, ◌==◌, if◌then◌else◌, Option, Some, None, length, map, filter, flat_map, find, option_and_then, is_some, slice_get}
 use Rattle.std.specs.List.{list_any, range_with_len}
 use Rattle.gg_flat.specs.declared.line.Node.{Node}
 use Rattle.gg_flat.specs.declared.line.Op.{Op}
@@ -13,16 +13,18 @@ use Rattle.gg_flat.specs.declared.piece.Register.{Register}
 use Rattle.gg_flat.specs.declared.piece.Reset.{Reset}
 use Rattle.gg_flat.specs.declared.piece.Driver.{Driver}
 use Rattle.gg_flat.specs.declared.piece.Driver.TheVariants.{Input, Held, MemoryWord, ReadRegister, Computed}
-use Rattle.gg_flat.specs.Line.{shape_at}
+use Rattle.gg_flat.specs.Line.{value_at, shape_at}
 use Rattle.gg_flat.specs.Circuit.{FlatCircuit, signal_shapes, driver_at}
 use Rattle.gg_flat.specs.Tree.{InstanceTree, memory_at}
 use Rattle.gg_flat.specs.Scoped.{memory_fields, stop_signals}
+use Rattle.gg_flat.specs.State.{State}
+use Rattle.gg_flat.specs.Settled.{Settled}
+use Rattle.gg_partfile.specs.declared.request.Request.{Request}
 use Rattle.gg_cut.specs.declared.wires.Wire.{Wire}
 use Rattle.gg_cut.specs.declared.listed.Listed.{Listed}
-use Rattle.gg_cut.specs.Listed.{owner_of}
+use Rattle.gg_cut.specs.Listed.{listed_of, owner_of, memory_owner}
 use Rattle.gg_cut.specs.Machines.{is_memory}
 use Rattle.gg_cut.specs.Channels.{wires_of}
-use Rattle.gg_cut.specs.Plan.{memory_owner}
 
 -- ---- what a driver names
 
@@ -215,3 +217,21 @@ hub_of circuit tree listed piped direct =
       piped = piped;
       direct = direct;
     }
+
+-- ---- what a request asks for
+
+-- the hub of a request's cut: no channel has a token in it at the start
+abbrev pub plan_hub : FlatCircuit → InstanceTree → Request → Hub
+plan_hub circuit tree request = hub_of circuit tree (listed_of tree request) (λ s. false) request.direct
+
+-- the channels of the plan: those of the cut, routed if the request asks for direct channels
+abbrev pub plan_wires : FlatCircuit → InstanceTree → Request → List Wire
+plan_wires circuit tree request = routes (plan_hub circuit tree request)
+
+-- the signals that the consumers of the plan's channels take
+abbrev pub plan_signals : FlatCircuit → InstanceTree → Request → List ℕ
+plan_signals circuit tree request = map (λ w. w.signal) (plan_wires circuit tree request)
+
+-- in each settled row both signals of the channel have one value
+abbrev pub IsSame : FlatCircuit → Wire → Type 0
+IsSame circuit r = (state : State) (inputs row : List ℕ) → Settled circuit state inputs row → value_at row r.signal ≡ value_at row r.given
