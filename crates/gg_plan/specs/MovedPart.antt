@@ -104,11 +104,11 @@ pub record IsUnitRouted (design : Ordered) (listed : Listed) (hub : Hub) (m : �
   pub givens : AreGivens design listed m (givens_of (routes hub) (channels_from (routes hub) m))
 
 -- what machine n, a unit, has: exactly the signals that it makes or takes, and its memories, ascending
-pub record IsUnitShare (design : Ordered) (listed : Listed) (n : ℕ) (globals banks : List ℕ) : Type 0 where
+pub record IsUnitShare (design : Ordered) (listed : Listed) (n : ℕ) (globals memories : List ℕ) : Type 0 where
   pub signals : (s : ℕ) → Contains globals s ↔ HasSignal design listed n s
   pub within : All (λ s. s < length design.circuit.signals) globals
-  pub banks : (k : ℕ) → Contains banks k ↔ HasMemory design.tree listed n k
-  pub ascend : AllPairs (λ a b. a < b) banks
+  pub banks : (k : ℕ) → Contains memories k ↔ HasMemory design.tree listed n k
+  pub ascend : AllPairs (λ a b. a < b) memories
 
 -- The part of machine n, a unit, is like that of the first unit of its host, and its memories are ascending.
 pub record IsFollower (design : Ordered) (listed : Listed) (hub : Hub) (n : ℕ) (leader part : Part) : Type 0 where
