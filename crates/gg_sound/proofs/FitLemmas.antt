@@ -113,7 +113,7 @@ module _ (design : Ordered) (listed : Listed) (once : AllPairs (λ (v w : Link).
 pub kind-is : (machines : List Machine) (m : ℕ) → m < length machines → kind_at (map kind_of machines) m ≡ kind_of (machine_at machines m)
 kind-is machines m lt = get_or-map kind_of machines m no_machine no_kind lt
 
-pub fitting : (design : Ordered) (request : Request) (default : ℕ) (plan : Plan) (columns : List (List ℕ)) (n : ℕ) (machines : List Machine) → IsPlan design request default plan → AllPairs (λ (v w : Link). v.signal ≢ w.signal) (wires_of design.circuit design.tree (listed_of design.tree request)) → AreBuilt plan columns n machines
+pub fitting : (design : Ordered) (request : Request) (default : ℕ) (plan : Plan) (columns : List (List ℕ)) (n : ℕ) (machines : List Machine) → IsPlan design request default plan → AllPairs (λ (v w : Link). v.signal ≢ w.signal) (wires_of design.circuit design.tree (listed_of design.tree request)) → AreBuilt plan columns machines
     → AreFitting (wires_of design.circuit design.tree (listed_of design.tree request)) (length plan.machines) (map kind_of machines)
 fitting design request default plan columns n machines planned once built =
     let listed = listed_of design.tree request in

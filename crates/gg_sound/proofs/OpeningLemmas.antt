@@ -30,7 +30,7 @@ latches-of n = let none : Option ℕ = None in ap (λ (k : ℕ). replicate k non
 flags-of : (n : ℕ) → replicate n false ≡ replicate (length (replicate n false)) false
 flags-of n = ap (λ (k : ℕ). replicate k false) (sym (length-replicate n false))
 
-module _ (design : Ordered) (request : Request) (default : ℕ) (plan : Plan) (columns : List (List ℕ)) (n : ℕ) (rows : List (List ℕ)) (machines : List Machine) (given : IsGiven design request default plan columns n rows) (built : AreBuilt plan columns n machines) where
+module _ (design : Ordered) (request : Request) (default : ℕ) (plan : Plan) (columns : List (List ℕ)) (n : ℕ) (rows : List (List ℕ)) (machines : List Machine) (given : IsGiven design request default plan columns n rows) (built : AreBuilt plan columns machines) where
   abbrev listed : Listed
   listed = listed_of design.tree request
 

@@ -25,7 +25,7 @@ use Rattle.gg_sound.proofs.FitLemmas.{kind-is, fitting}
 use Rattle.gg_sound.proofs.NeedLemmas.{HasNeeds, has-needs}
 use Rattle.gg_sound.proofs.RingLemmas.{no-ring}
 
-module _ (design : Ordered) (request : Request) (default : ℕ) (plan : Plan) (columns : List (List ℕ)) (n : ℕ) (rows : List (List ℕ)) (machines : List Machine) (given : IsGiven design request default plan columns n rows) (built : AreBuilt plan columns n machines) where
+module _ (design : Ordered) (request : Request) (default : ℕ) (plan : Plan) (columns : List (List ℕ)) (n : ℕ) (rows : List (List ℕ)) (machines : List Machine) (given : IsGiven design request default plan columns n rows) (built : AreBuilt plan columns machines) where
   pub links-once : AllPairs (λ (v w : Link). v.signal ≢ w.signal) (wires_of design.circuit design.tree (listed_of design.tree request))
   links-once =
       let is = given.design_is in

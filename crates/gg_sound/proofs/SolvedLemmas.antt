@@ -37,7 +37,7 @@ use Rattle.gg_sound.proofs.DoLemmas.{DoesCycles, part-named, unit-does, memory-d
 use Rattle.gg_sound.proofs.EdgeLemmas.{source-does, tray-does}
 use Rattle.gg_sound.proofs.PlanLemmas as plans
 
-module _ (design : Ordered) (request : Request) (default : ℕ) (plan : Plan) (columns : List (List ℕ)) (n : ℕ) (rows : List (List ℕ)) (machines : List Machine) (given : IsGiven design request default plan columns n rows) (built : AreBuilt plan columns n machines) where
+module _ (design : Ordered) (request : Request) (default : ℕ) (plan : Plan) (columns : List (List ℕ)) (n : ℕ) (rows : List (List ℕ)) (machines : List Machine) (given : IsGiven design request default plan columns n rows) (built : AreBuilt plan columns machines) where
   abbrev listed : Listed
   listed = listed_of design.tree request
 

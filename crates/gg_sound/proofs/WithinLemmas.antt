@@ -59,7 +59,7 @@ memory-ports part memory machine own is =
     subst (λ (t : Machine). length (kind_of t).ports ≤ 16384) (sym is.is)
     (omega (arith, served, count-most inner.latency (length inner.readers) (length inner.writers), reads, writes, own.few))
 
-module _ (design : Ordered) (request : Request) (default : ℕ) (plan : Plan) (columns : List (List ℕ)) (n : ℕ) (rows : List (List ℕ)) (machines : List Machine) (given : IsGiven design request default plan columns n rows) (built : AreBuilt plan columns n machines) where
+module _ (design : Ordered) (request : Request) (default : ℕ) (plan : Plan) (columns : List (List ℕ)) (n : ℕ) (rows : List (List ℕ)) (machines : List Machine) (given : IsGiven design request default plan columns n rows) (built : AreBuilt plan columns machines) where
   abbrev listed : Listed
   listed = listed_of design.tree request
 

@@ -2,7 +2,7 @@
 -- that its channels carry are gg_cut's `columns_of`. `flow_of` has all that it computes.
 -- Source: MEMOCODE 2009 (a synchronous circuit as a network of its parts, whose streams are the circuit's own); ICCAD
 -- 2019 (units and memories of a target as models of their own, with sources for its inputs and sinks for its outputs).
-use Rattle.std.specs.Prelude.{◌≡◌, ℕ, suc, ◌^◌, ◌<◌, ◌≤◌, ◌==◌, ◌++◌, List, [], ◌∷◌, None, false, length, map, slice_index_or, unwrap_or}
+use Rattle.std.specs.Prelude.{◌≡◌, ℕ, suc, ◌^◌, ◌<◌, ◌≤◌, ◌==◌, ◌++◌, List, [], ◌∷◌, None, false, length, map, replicate, slice_index_or, unwrap_or}
 use Rattle.gg_limits.specs.Limits.{cycle_limit}
 use Rattle.gg_flat.specs.Circuit.{FlatCircuit}
 use Rattle.gg_flat.specs.Line.{value_at}
@@ -99,17 +99,18 @@ pub record IsMemoryOf (part : Part) (machine : Machine) : Type 0 where
 abbrev pub tray_rows : ℕ
 tray_rows = 1024
 
--- The machine of the network for a machine of the plan. `columns` are the columns of the top's inputs, by their places.
+-- The machine of the network for a machine of the plan that gives this many channels. `columns` are the columns of the top's inputs,
+-- by their places. A source has an out for each channel.
 abbrev pub IsBuilt : List (List ℕ) → ℕ → Body → Machine → Type 0
-IsBuilt columns n (Cut part) machine = IsUnitOf part machine
-IsBuilt columns n (Memory part) machine = IsMemoryOf part machine
-IsBuilt columns n (Source place) machine = machine ≡ source_machine (slice_index_or columns place []) 0 (false ∷ [])
-IsBuilt columns n Tray machine = machine ≡ tray_machine tray_rows cycle_limit 0 [] None
+IsBuilt columns outs (Cut part) machine = IsUnitOf part machine
+IsBuilt columns outs (Memory part) machine = IsMemoryOf part machine
+IsBuilt columns outs (Source place) machine = machine ≡ source_machine (slice_index_or columns place []) 0 (replicate outs false)
+IsBuilt columns outs Tray machine = machine ≡ tray_machine tray_rows cycle_limit 0 [] None
 
 -- the machines of the network of a plan, by number
-pub record AreBuilt (plan : Plan) (columns : List (List ℕ)) (n : ℕ) (machines : List Machine) : Type 0 where
+pub record AreBuilt (plan : Plan) (columns : List (List ℕ)) (machines : List Machine) : Type 0 where
   pub count : length machines ≡ length plan.machines
-  pub each : (m : ℕ) → m < length plan.machines → IsBuilt columns n (machine_in plan m).body (machine_at machines m)
+  pub each : (m : ℕ) → m < length plan.machines → IsBuilt columns (length (machine_in plan m).outs) (machine_in plan m).body (machine_at machines m)
 
 -- ---- the network
 

@@ -13,15 +13,15 @@ ghost use Rattle.gg_sound.specs.Built.{AreBuilt, IsGiven, flow_of, plan_frame};
 /// its consumer's rows take. Each machine can do all cycles: its rows are a run of its piece, from its part of the
 /// opening.
 pub fn plan_is_solved()
-    ensures { (design : Ordered) (request : Request) (default : ℕ) (plan : Plan) (columns : List (List ℕ)) (n : ℕ) (rows : List (List ℕ)) (machines : List Machine) → IsGiven design request default plan columns n rows → AreBuilt plan columns n machines → Solves (flow_of plan design rows) (plan_frame plan machines n) }
+    ensures { (design : Ordered) (request : Request) (default : ℕ) (plan : Plan) (columns : List (List ℕ)) (n : ℕ) (rows : List (List ℕ)) (machines : List Machine) → IsGiven design request default plan columns n rows → AreBuilt plan columns machines → Solves (flow_of plan design rows) (plan_frame plan machines n) }
 {}
 
 /// So the frame of the network, which never changes, is sound: it is wired, has no ring, and is solved.
 pub fn plan_is_sound()
-    ensures { (design : Ordered) (request : Request) (default : ℕ) (plan : Plan) (columns : List (List ℕ)) (n : ℕ) (rows : List (List ℕ)) (machines : List Machine) → IsGiven design request default plan columns n rows → AreBuilt plan columns n machines → IsSound (flow_of plan design rows) (plan_frame plan machines n) }
+    ensures { (design : Ordered) (request : Request) (default : ℕ) (plan : Plan) (columns : List (List ℕ)) (n : ℕ) (rows : List (List ℕ)) (machines : List Machine) → IsGiven design request default plan columns n rows → AreBuilt plan columns machines → IsSound (flow_of plan design rows) (plan_frame plan machines n) }
 {}
 
 /// The network is within the limits, if a channel that the request doesn't name may hold as many tokens as a queue.
 pub fn plan_is_within()
-    ensures { (design : Ordered) (request : Request) (default : ℕ) (plan : Plan) (columns : List (List ℕ)) (n : ℕ) (rows : List (List ℕ)) (machines : List Machine) → IsGiven design request default plan columns n rows → AreBuilt plan columns n machines → default ≤ capacity_limit → IsWithinLimits (plan_frame plan machines n) }
+    ensures { (design : Ordered) (request : Request) (default : ℕ) (plan : Plan) (columns : List (List ℕ)) (n : ℕ) (rows : List (List ℕ)) (machines : List Machine) → IsGiven design request default plan columns n rows → AreBuilt plan columns machines → default ≤ capacity_limit → IsWithinLimits (plan_frame plan machines n) }
 {}
