@@ -22,7 +22,7 @@ use Rattle.gg_cut.specs.Plan.{wire_at, channels_to, channels_from}
 use Rattle.gg_cut.specs.Direct.{Hub, routes}
 use Rattle.gg_routes.specs.Routes.{GivesInput}
 use Rattle.gg_pipe.specs.Reference.{IsReference, driver_by}
-use Rattle.gg_pipe.specs.Links.{pipes_of, seen_by, maker_of, views_of, taken_as, IsRoutedPart, AreHolders}
+use Rattle.gg_pipe.specs.Links.{pipes_of, seen_by, maker_of, views_of, taken_as, AreHolders}
 use Rattle.gg_pipe.specs.Made.{reference}
 use Rattle.gg_pipe.specs.Follows.{Follows, given_column, taken_column}
 use Rattle.gg_routes.proofs.ChoiceLemmas.{any-wire}
@@ -30,7 +30,7 @@ use Rattle.gg_routes.proofs.RouteLemmas.{IsBase}
 use Rattle.gg_pipe.proofs.MadeLemmas.{is-reference}
 use Rattle.gg_pipe.proofs.SeenLemmas.{pipes-known}
 use Rattle.gg_pipe.proofs.LinkLemmas.{link-column}
-use Rattle.gg_pipe.proofs.MachineLemmas.{machine-run, outs-columns}
+use Rattle.gg_pipe.proofs.MachineLemmas.{IsRoutedPart, machine-run, outs-columns}
 
 -- the column of an in-signal is what it was given
 input-column : (circuit : FlatCircuit) (s p : ℕ) → p < length circuit.ins → s < length circuit.signals → driver_at circuit s ≡ Input p → (ratios : List Ratio) (columns : List (List ℕ)) (n : ℕ) (rows : List (List ℕ)) → IsColumns circuit n columns → IsRunFrom circuit (clocked_start circuit ratios) columns n rows → column rows s ≡ get_or columns p []

@@ -13,4 +13,3 @@ pub mod FormedLemmas
 pub mod OrderedLemmas
 pub mod WholeReference
 pub mod NothingLemmas
-pub mod PlainLemmas

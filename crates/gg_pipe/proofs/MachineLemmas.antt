@@ -1,6 +1,6 @@
 -- In a run of the reference circuit, a machine gives what its piece gives on what the machine takes.
-use Rattle.std.proofs.Common.{◌≡◌, ◌≢◌, ℕ, suc, ◌<◌, List, [], ◌∷◌, length, map, take, sym, ◌∙◌, ap, ap₂, subst, inl, inr, ◌⊎◌, refl, eq-eqb, arith}
-use Rattle.std.specs.Prelude.{◌&&◌, ◌==◌, Contains}
+use Rattle.std.proofs.Common.{◌≡◌, ◌≢◌, ℕ, suc, Bool, ◌<◌, List, [], ◌∷◌, length, map, take, sym, ◌∙◌, ap, ap₂, subst, inl, inr, ◌⊎◌, refl, eq-eqb, arith}
+use Rattle.std.specs.Prelude.{◌↔◌, ◌&&◌, ◌==◌, Contains}
 use Rattle.std.specs.List.{range_with_len}
 use Rattle.std.proofs.lemmas.Bool.{and_from, eqb-true}
 use Rattle.std.proofs.lemmas.List.{get_or-map, get_or_default, length-map}
@@ -14,21 +14,40 @@ use Rattle.gg_flat.specs.Tree.{path_at}
 use Rattle.gg_flat.specs.Clock.{Ratio}
 use Rattle.gg_flat.specs.Run.{clocked_start, IsRunFrom, column}
 use Rattle.gg_flat.proofs.ListLemmas.{map-same, once-apart, filter-cases, range-below}
+use Rattle.gg_part.specs.Part.{IsPart}
+use Rattle.gg_part.specs.Building.{AreHeld}
+use Rattle.gg_part.specs.InOrder.{IsInOrder}
 use Rattle.gg_part.specs.PartRun.{part_row, part_rows, part_columns}
 use Rattle.gg_part.specs.declared.part.Part.{Part}
 use Rattle.gg_part.proofs.RenameLemmas.{part_row-at}
+use Rattle.gg_order.specs.Design.{Ordered}
+use Rattle.gg_cut.specs.declared.listed.Listed.{Listed}
 use Rattle.gg_cut.specs.declared.wires.Wire.{Wire}
 use Rattle.gg_closed.proofs.ListLemmas.{map-cases}
-use Rattle.gg_cut.specs.Plan.{wire_at, channels_to, channels_from, givens_of, Takes, MakesBy}
-use Rattle.gg_cut.specs.Direct.{Hub, routes}
+use Rattle.gg_cut.specs.Plan.{wire_at, channels_to, channels_from, signals_of, givens_of, Takes, MakesBy, IsCutPart}
+use Rattle.gg_cut.specs.Direct.{Hub, hub_of, routes}
 use Rattle.gg_pipe.specs.Reference.{IsReference, with_paths}
-use Rattle.gg_pipe.specs.Links.{pipes_of, seen_by, views_of, stream, IsRoutedPart, AreHolders}
+use Rattle.gg_pipe.specs.Links.{pipes_of, seen_by, views_of, stream, AreHolders}
 use Rattle.gg_cut.proofs.OriginLemmas.{finds-any}
 use Rattle.gg_routes.proofs.RouteLemmas.{IsBase, no-echo, chosen-out}
 use Rattle.gg_routes.proofs.ChoiceLemmas.{any-wire}
 use Rattle.gg_pipe.proofs.ReferenceLemmas.{IsOwn, part_of_reference, run-paths, clocked-part}
 use Rattle.gg_pipe.proofs.SeenLemmas.{maker-is, seen-takes, all-seen, seen-own}
 use Rattle.gg_pipe.proofs.LinkLemmas.{link-column}
+
+-- What a machine's piece is to a hub: exactly the signals that the machine makes or takes, in an order of evaluation, and exactly
+-- the registers that those hold which it doesn't take.
+pub record IsRoutedPart (hub : Hub) (m : ℕ) (part : Part) : Type 0 where
+  pub is : IsPart hub.circuit part.piece part.globals part.held part.memories
+  pub signals : (s : ℕ) → Contains part.globals s ↔ (MakesBy hub m s ⊎ Takes (routes hub) m s)
+  pub ins : map (value_at part.globals) part.piece.ins ≡ signals_of (routes hub) (channels_to (routes hub) m)
+  pub outs : map (value_at part.globals) part.piece.outs ≡ givens_of (routes hub) (channels_from (routes hub) m)
+  pub held : AreHeld hub.circuit part.globals (signals_of (routes hub) (channels_to (routes hub) m)) part.held
+  pub ordered : IsInOrder part.piece
+
+-- a part of a cut is a machine's piece
+pub cut-part : (design : Ordered) (listed : Listed) (piped : ℕ → Bool) (direct : Bool) (m : ℕ) (part : Part) → IsCutPart design listed (hub_of design.circuit design.tree listed piped direct) m part → IsRoutedPart (hub_of design.circuit design.tree listed piped direct) m part
+cut-part design listed piped direct m part cut = record { is = cut.is; signals = cut.signals; ins = cut.ins; outs = cut.outs; held = cut.held; ordered = cut.ordered }
 
 -- two functions that agree on the items of a list make the same list of it
 map-agree : {B : Type 0} (f g : ℕ → B) (xs : List ℕ) → ((i : ℕ) → i < length xs → f (value_at xs i) ≡ g (value_at xs i)) → map f xs ≡ map g xs

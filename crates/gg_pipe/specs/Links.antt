@@ -1,18 +1,12 @@
 -- The two ends of a channel in the reference circuit: the signal by which its producer gives the value, and the signal by which
 -- its consumer gets it. They differ where the channel is direct or piped.
 -- Source: MEMOCODE 2009 (channels between the nodes of a dataflow network; tokens that are there at the start).
-use Rattle.std.specs.Prelude.{◌≡◌, ◌↔◌, ◌⊎◌, ℕ, ◌<◌, ◌+◌, List, ◌∷◌, Bool, ◌==◌, ◌&&◌, if◌then◌else◌, Option, Some, None, length, map, filter, find, Contains}
+use Rattle.std.specs.Prelude.{◌≡◌, ℕ, ◌<◌, ◌+◌, List, ◌∷◌, Bool, ◌==◌, ◌&&◌, if◌then◌else◌, Option, Some, None, length, map, filter, find, Contains}
 use Rattle.std.specs.List.{list_any}
-use Rattle.gg_flat.specs.Line.{value_at}
 use Rattle.gg_flat.specs.Circuit.{driver_at}
 use Rattle.gg_flat.specs.declared.piece.Driver.TheVariants.{Held}
-use Rattle.gg_part.specs.Part.{IsPart}
-use Rattle.gg_part.specs.Building.{AreHeld}
-use Rattle.gg_part.specs.InOrder.{IsInOrder}
-use Rattle.gg_part.specs.declared.part.Part.{Part}
 use Rattle.gg_cut.specs.declared.wires.Wire.{Wire}
 use Rattle.gg_cut.specs.Listed.{first_place}
-use Rattle.gg_cut.specs.Plan.{channels_to, channels_from, signals_of, givens_of, Takes, MakesBy}
 use Rattle.gg_cut.specs.Direct.{Hub, routes}
 use Rattle.gg_pipe.specs.Reference.{Views}
 
@@ -47,16 +41,6 @@ views_of hub holder keeper = record { maker = maker_of hub; holder = holder; kee
 -- the list of values of a channel whose producer gives these: a piped channel opens with the token 0
 abbrev pub stream : Bool → List ℕ → List ℕ
 stream piped values = if piped then 0 ∷ values else values
-
--- A machine's piece, by the routed channels: exactly the signals that it makes or takes, in an order of evaluation, and exactly the
--- registers that those hold which it doesn't take.
-pub record IsRoutedPart (hub : Hub) (m : ℕ) (part : Part) : Type 0 where
-  pub is : IsPart hub.circuit part.piece part.globals part.held part.memories
-  pub signals : (s : ℕ) → Contains part.globals s ↔ (MakesBy hub m s ⊎ Takes (routes hub) m s)
-  pub ins : map (value_at part.globals) part.piece.ins ≡ signals_of (routes hub) (channels_to (routes hub) m)
-  pub outs : map (value_at part.globals) part.piece.outs ≡ givens_of (routes hub) (channels_from (routes hub) m)
-  pub held : AreHeld hub.circuit part.globals (signals_of (routes hub) (channels_to (routes hub) m)) part.held
-  pub ordered : IsInOrder part.piece
 
 -- each register is held by signals of one machine, and each memory of the part is the machine's
 pub record AreHolders (hub : Hub) (holder keeper : ℕ → ℕ) (m : ℕ) (memories : List ℕ) : Type 0 where

@@ -1,5 +1,5 @@
 //! Laws: facts about the definitions. Each is the contract of a function with an empty body.
-ghost use Rattle.std.specs.Prelude.{◌≡◌, ◌↔◌, ◌++◌, Contains, ℕ, ◌+◌, ◌<◌, List, [], Bool, false, length, slice_index_or};
+ghost use Rattle.std.specs.Prelude.{◌≡◌, ◌++◌, Contains, ℕ, ◌+◌, ◌<◌, List, [], Bool, length, slice_index_or};
 ghost use Rattle.std.specs.List.{range_with_len};
 ghost use Rattle.gg_flat.specs.Circuit.{FlatCircuit};
 ghost use Rattle.gg_flat.specs.Tree.{InstanceTree};
@@ -12,12 +12,11 @@ ghost use Rattle.gg_part.specs.declared.part.Part.{Part};
 ghost use Rattle.gg_order.specs.Design.{Ordered, IsDesign};
 ghost use Rattle.gg_cut.specs.declared.listed.Listed.{Listed};
 ghost use Rattle.gg_cut.specs.Machines.{first_source};
-ghost use Rattle.gg_cut.specs.Channels.{wires_of};
-ghost use Rattle.gg_cut.specs.Plan.{wire_at, channels_from, HasMemory, IsCutPart};
+ghost use Rattle.gg_cut.specs.Plan.{wire_at, channels_from, IsCutPart};
 ghost use Rattle.gg_closed.specs.Apart.{AreApart};
 ghost use Rattle.gg_cut.specs.Direct.{hub_of, routes};
 ghost use Rattle.gg_pipe.specs.Reference.{IsReference};
-ghost use Rattle.gg_pipe.specs.Links.{pipes_of, taken_as, IsRoutedPart};
+ghost use Rattle.gg_pipe.specs.Links.{pipes_of, taken_as};
 ghost use Rattle.gg_pipe.specs.Made.{reference_circuit, views_in, IsFresh, AreHeldOnce};
 ghost use Rattle.gg_pipe.specs.Follows.{Follows, given_column, taken_column};
 
@@ -27,7 +26,7 @@ use gg_closed::channels_once;
 /// it takes, with a 0 before those of piped channels, its piece has a run, and in each such run it gives the values of the
 /// channels that it gives. No register of the circuit may be held by two signals.
 pub fn parts_follow()
-    ensures { (design : Ordered) (listed : Listed) (piped : ℕ → Bool) (direct : Bool) (m : ℕ) (part : Part) (ratios : List Ratio) (columns : List (List ℕ)) (n : ℕ) (rows : List (List ℕ)) → IsDesign design → KeepsToTree design.circuit design.tree → AreApart design.tree listed → AreHeldOnce design.circuit → IsRoutedPart (hub_of design.circuit design.tree listed piped direct) m part → ((k : ℕ) → Contains part.memories k ↔ HasMemory design.tree listed m k) → IsRunFrom (reference_circuit design.circuit design.tree listed piped direct) (clocked_start (reference_circuit design.circuit design.tree listed piped direct) ratios) columns n rows → Follows (hub_of design.circuit design.tree listed piped direct) m ratios n part rows }
+    ensures { (design : Ordered) (listed : Listed) (piped : ℕ → Bool) (direct : Bool) (m : ℕ) (part : Part) (ratios : List Ratio) (columns : List (List ℕ)) (n : ℕ) (rows : List (List ℕ)) → IsDesign design → KeepsToTree design.circuit design.tree → AreApart design.tree listed → AreHeldOnce design.circuit → IsCutPart design listed (hub_of design.circuit design.tree listed piped direct) m part → IsRunFrom (reference_circuit design.circuit design.tree listed piped direct) (clocked_start (reference_circuit design.circuit design.tree listed piped direct) ratios) columns n rows → Follows (hub_of design.circuit design.tree listed piped direct) m ratios n part rows }
 {
     channels_once();
 }
@@ -61,10 +60,4 @@ pub fn reference_formed()
 /// Where no channel is piped, the reference circuit is the circuit itself.
 pub fn nothing_piped()
     ensures { (circuit : FlatCircuit) (tree : InstanceTree) (listed : Listed) (piped : ℕ → Bool) (direct : Bool) → pipes_of (hub_of circuit tree listed piped direct) ≡ [] → reference_circuit circuit tree listed piped direct ≡ circuit }
-{}
-
-/// Where no channel is direct, the channels are those of the cut, and the parts of the cut are pieces of its machines.
-pub fn nothing_direct()
-    ensures channels { (circuit : FlatCircuit) (tree : InstanceTree) (listed : Listed) (piped : ℕ → Bool) → routes (hub_of circuit tree listed piped false) ≡ wires_of circuit tree listed }
-    ensures parts { (design : Ordered) (listed : Listed) (piped : ℕ → Bool) (m : ℕ) (part : Part) → IsCutPart design listed (wires_of design.circuit design.tree listed) m part → IsRoutedPart (hub_of design.circuit design.tree listed piped false) m part }
 {}

@@ -3,6 +3,4 @@
 
 mod laws;
 
-pub use laws::{
-    channels_follow, nothing_direct, nothing_piped, parts_follow, reference_formed, sources_follow,
-};
+pub use laws::{channels_follow, nothing_piped, parts_follow, reference_formed, sources_follow};

@@ -22,3 +22,5 @@ pub mod RoutableLemmas
 pub mod PlanLemmas
 pub mod FewLemmas
 pub mod UnitLemmas
+pub mod NothingLemmas
+pub mod RoutedLemmas

@@ -1,17 +1,20 @@
 //! Laws: facts about the definitions. Each is the contract of a function with an empty body.
-ghost use Rattle.std.specs.Prelude.{◌≡◌, ◌≢◌, ◌↔◌, ◌<◌, ◌≤◌, ℕ, List, Bool, Contains, length, filter};
+ghost use Rattle.std.specs.Prelude.{◌≡◌, ◌≢◌, ◌↔◌, ◌<◌, ◌≤◌, ℕ, List, Bool, false, None, Contains, length, filter};
+ghost use Rattle.gg_flat.specs.Circuit.{FlatCircuit};
+ghost use Rattle.gg_flat.specs.Tree.{InstanceTree};
 ghost use Rattle.gg_moved.specs.KeepsToTree.{KeepsToTree};
 ghost use Rattle.gg_order.specs.Design.{Ordered, IsDesign};
 ghost use Rattle.gg_cut.specs.declared.listed.Listed.{Listed};
 ghost use Rattle.gg_partfile.specs.declared.request.Request.{Request};
 ghost use Rattle.gg_cut.specs.Listed.{listed_of};
+ghost use Rattle.gg_cut.specs.Fault.{first_fault};
 ghost use Rattle.gg_cut.specs.Machines.{machine_count};
 ghost use Rattle.gg_closed.specs.Apart.{AreApart, AreFew};
 ghost use Rattle.gg_order.specs.Marks.{is_marked};
 ghost use Rattle.gg_cut.specs.Channels.{wires_of};
 ghost use Rattle.gg_cut.specs.Plan.{channels_to, channels_from, signals_of, givens_of};
 ghost use Rattle.gg_split.specs.Share.{IsShareOf};
-ghost use Rattle.gg_cut.specs.Direct.{hub_of, routes, is_gone, plan_hub};
+ghost use Rattle.gg_cut.specs.Direct.{hub_of, routes, is_gone, plan_hub, plan_wires};
 ghost use Rattle.gg_routes.specs.Routes.{AreRoutes};
 ghost use Rattle.gg_routes.specs.Share.{IsPlanShare, stays_by};
 
@@ -24,6 +27,18 @@ pub fn channels_routed()
     channels_once();
     machine_makes_part();
 }
+
+/// The channels of the plan of a request without a fault make parts of the circuit.
+pub fn plan_is_routed()
+    ensures { (design : Ordered) (request : Request) → IsDesign design → KeepsToTree design.circuit design.tree → first_fault design request ≡ None → AreRoutes design (listed_of design.tree request) (plan_hub design.circuit design.tree request) }
+{}
+
+/// If no channels are to be direct, the channels are those of the cut, and no signal leaves.
+pub fn nothing_direct()
+    ensures channels { (circuit : FlatCircuit) (tree : InstanceTree) (listed : Listed) (piped : ℕ → Bool) → routes (hub_of circuit tree listed piped false) ≡ wires_of circuit tree listed }
+    ensures stays { (circuit : FlatCircuit) (tree : InstanceTree) (listed : Listed) (piped : ℕ → Bool) (s : ℕ) → is_gone (hub_of circuit tree listed piped false) s ≡ false }
+    ensures plan { (circuit : FlatCircuit) (tree : InstanceTree) (request : Request) → request.direct ≡ false → plan_wires circuit tree request ≡ wires_of circuit tree (listed_of tree request) }
+{}
 
 /// What a machine of a cut had before the routing gives what it has by the routed channels. Of the hub's signals those stay that
 /// aren't marked as gone and whose channels don't pass the hub. Every other machine has the signals that it had.

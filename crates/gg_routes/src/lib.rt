@@ -27,6 +27,8 @@ mod routing;
 mod sides;
 mod straight;
 
-pub use laws::{channels_routed, machines_few, shares_routed, units_still};
+pub use laws::{
+    channels_routed, machines_few, nothing_direct, plan_is_routed, shares_routed, units_still,
+};
 pub use plan::{plan_routes, staying};
 pub use routing::{Channels, routes};
