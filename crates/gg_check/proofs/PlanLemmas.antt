@@ -15,7 +15,8 @@ use Rattle.gg_part.specs.Part.{IsPart, IsFrom}
 use Rattle.gg_part.specs.declared.part.Part.{Part}
 use Rattle.gg_partfile.specs.declared.request.Request.{Request}
 use Rattle.gg_cut.specs.Machines.{first_source, machine_count}
-use Rattle.gg_cut.specs.Channels.{wires_of, capacity_of}
+use Rattle.gg_cut.specs.Channels.{capacity_of}
+use Rattle.gg_cut.specs.Direct.{Hub, routes, plan_hub, plan_wires}
 use Rattle.gg_cut.specs.Listed.{listed_of}
 use Rattle.gg_cut.specs.Plan.{AreNeedsOf, IsBody, IsChannel, IsCutPart, IsMachine, IsNeed, IsPlan, NeedsIn, channels_from, channels_to, signals_of, wire_at}
 use Rattle.gg_cut.specs.declared.listed.Listed.{Listed}
@@ -72,7 +73,10 @@ piece-gets whole piece globals held memories taken is ins = record {
       (found.place, subst (λ x. driver_at piece x ≡ Input found.place) (once-apart globals 0 is.once (value_at piece.ins found.place) a at.0 lt found.is) at.1);
 }
 
-module _ (design : Ordered) (listed : Listed) (wires : List Wire) (m : ℕ) (part : Part) (cut : IsCutPart design listed wires m part) where
+module _ (design : Ordered) (listed : Listed) (hub : Hub) (m : ℕ) (part : Part) (cut : IsCutPart design listed hub m part) where
+  abbrev wires : List Wire
+  wires = routes hub
+
   -- the in-signal at a place is the signal of the channel at that place
   in-signal : (place : ℕ) → place < length part.piece.ins → value_at part.globals (value_at part.piece.ins place) ≡ (wire_at wires (value_at (channels_to wires m) place)).signal
   in-signal place lt =
@@ -154,42 +158,42 @@ none-needed : (circuit : FlatCircuit) (listed : Listed) (wires : List Wire) (c :
 none-needed circuit listed wires c needs none past d =
     (λ h. let e = ap (λ (l : List ℕ). length l) none in absurd (omega (arith, h.1, e)), λ h. absurd (omega (arith, h.made, past)))
 
-body-needs : (design : Ordered) (listed : Listed) (wires : List Wire) (body : Body) (channels : List ℕ) (c : ℕ) (needs : List ℕ)
-    → IsBody design listed wires (wire_at wires c).producer body → channels ≡ channels_to wires (wire_at wires c).producer → c < length wires
-    → NeedsIn body channels (wire_at wires c).given needs → (d : ℕ) → Contains needs d ↔ NeedsChannel design.circuit listed wires c d
-body-needs design listed wires (Cut part) channels c needs is same lt are =
-    part-needs design listed wires (wire_at wires c).producer part is.1 channels c needs same (omega (arith, is.0)) lt refl are
-body-needs design listed wires (Memory part) channels c needs is same lt are =
-    part-needs design listed wires (wire_at wires c).producer part is.2 channels c needs same is.1 lt refl are
-body-needs design listed wires (Source place) channels c needs is same lt are = none-needed design.circuit listed wires c needs are (omega (arith, is.1))
-body-needs design listed wires Tray channels c needs is same lt are = none-needed design.circuit listed wires c needs are (omega (arith, is))
+body-needs : (design : Ordered) (listed : Listed) (hub : Hub) (body : Body) (channels : List ℕ) (c : ℕ) (needs : List ℕ)
+    → IsBody design listed hub (wire_at (routes hub) c).producer body → channels ≡ channels_to (routes hub) (wire_at (routes hub) c).producer → c < length (routes hub)
+    → NeedsIn body channels (wire_at (routes hub) c).given needs → (d : ℕ) → Contains needs d ↔ NeedsChannel design.circuit listed (routes hub) c d
+body-needs design listed hub (Cut part) channels c needs is same lt are =
+    part-needs design listed hub (wire_at (routes hub) c).producer part is.1 channels c needs same (omega (arith, is.0)) lt refl are
+body-needs design listed hub (Memory part) channels c needs is same lt are =
+    part-needs design listed hub (wire_at (routes hub) c).producer part is.2 channels c needs same is.1 lt refl are
+body-needs design listed hub (Source place) channels c needs is same lt are = none-needed design.circuit listed (routes hub) c needs are (omega (arith, is.1))
+body-needs design listed hub Tray channels c needs is same lt are = none-needed design.circuit listed (routes hub) c needs are (omega (arith, is))
 
 abbrev pub no_machine : Machine
 no_machine = record { name = []; host = 0; body = Tray; ins = []; outs = [] }
 
-needs-by : (design : Ordered) (request : Request) (listed : Listed) (wires : List Wire) (plan : Plan) (c : ℕ) (needs : List ℕ) → length plan.machines ≡ machine_count design.circuit listed
-    → ((m : ℕ) → m < length plan.machines → IsMachine design request listed wires m (slice_index_or plan.machines m no_machine))
-    → c < length wires → NeedsIn (slice_index_or plan.machines (wire_at wires c).producer no_machine).body (slice_index_or plan.machines (wire_at wires c).producer no_machine).ins (wire_at wires c).given needs
-    → ((wire_at wires c).producer < length plan.machines) ⊎ (length plan.machines ≤ (wire_at wires c).producer)
-    → (d : ℕ) → Contains needs d ↔ NeedsChannel design.circuit listed wires c d
-needs-by design request listed wires plan c needs total machines lt are (inl below) =
-    let machine = machines (wire_at wires c).producer below in
-    body-needs design listed wires (slice_index_or plan.machines (wire_at wires c).producer no_machine).body (slice_index_or plan.machines (wire_at wires c).producer no_machine).ins c needs machine.body machine.ins lt are
-needs-by design request listed wires plan c needs total machines lt are (inr past) =
-    none-needed design.circuit listed wires c needs
-    (subst (λ (x : Machine). NeedsIn x.body x.ins (wire_at wires c).given needs) (get_or_past plan.machines (wire_at wires c).producer no_machine past) are)
+needs-by : (design : Ordered) (request : Request) (listed : Listed) (hub : Hub) (plan : Plan) (c : ℕ) (needs : List ℕ) → length plan.machines ≡ machine_count design.circuit listed
+    → ((m : ℕ) → m < length plan.machines → IsMachine design request listed hub m (slice_index_or plan.machines m no_machine))
+    → c < length (routes hub) → NeedsIn (slice_index_or plan.machines (wire_at (routes hub) c).producer no_machine).body (slice_index_or plan.machines (wire_at (routes hub) c).producer no_machine).ins (wire_at (routes hub) c).given needs
+    → ((wire_at (routes hub) c).producer < length plan.machines) ⊎ (length plan.machines ≤ (wire_at (routes hub) c).producer)
+    → (d : ℕ) → Contains needs d ↔ NeedsChannel design.circuit listed (routes hub) c d
+needs-by design request listed hub plan c needs total machines lt are (inl below) =
+    let machine = machines (wire_at (routes hub) c).producer below in
+    body-needs design listed hub (slice_index_or plan.machines (wire_at (routes hub) c).producer no_machine).body (slice_index_or plan.machines (wire_at (routes hub) c).producer no_machine).ins c needs machine.body machine.ins lt are
+needs-by design request listed hub plan c needs total machines lt are (inr past) =
+    none-needed design.circuit listed (routes hub) c needs
+    (subst (λ (x : Machine). NeedsIn x.body x.ins (wire_at (routes hub) c).given needs) (get_or_past plan.machines (wire_at (routes hub) c).producer no_machine past) are)
     (omega (arith, past, total))
 
 -- the needs of a channel of the plan are its needs in the circuit
 pub channel-needs : (design : Ordered) (request : Request) (default : ℕ) (plan : Plan) → IsPlan design request default plan → (c : ℕ) (any : Channel)
-    → c < length (wires_of design.circuit design.tree (listed_of design.tree request))
-    → AreChannelNeeds design.circuit (listed_of design.tree request) (wires_of design.circuit design.tree (listed_of design.tree request)) c (slice_index_or plan.channels c any).needs
+    → c < length (plan_wires design.circuit design.tree request)
+    → AreChannelNeeds design.circuit (listed_of design.tree request) (plan_wires design.circuit design.tree request) c (slice_index_or plan.channels c any).needs
 channel-needs design request default plan is c any lt =
     let listed = listed_of design.tree request in
-    let wires = wires_of design.circuit design.tree listed in
+    let wires = plan_wires design.circuit design.tree request in
     let channel : IsChannel design (capacity_of request.capacity default) plan.machines (wire_at wires c) (slice_index_or plan.channels c any) = is.channel c any (omega (arith, lt, is.channel_total)) in
     let m = (wire_at wires c).producer in
     record {
       ascending = channel.ascending;
-      each = needs-by design request listed wires plan c (slice_index_or plan.channels c any).needs is.machine_total (λ k lt. is.machine k no_machine lt) lt (channel.needs no_machine) (cases_lt m (length plan.machines));
+      each = needs-by design request listed (plan_hub design.circuit design.tree request) plan c (slice_index_or plan.channels c any).needs is.machine_total (λ k lt. is.machine k no_machine lt) lt (channel.needs no_machine) (cases_lt m (length plan.machines));
     }

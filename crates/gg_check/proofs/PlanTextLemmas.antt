@@ -11,7 +11,8 @@ use Rattle.gg_flat.proofs.ListLemmas.{some-item}
 use Rattle.gg_order.specs.Design.{Ordered}
 use Rattle.gg_partfile.specs.declared.request.Request.{Request}
 use Rattle.gg_cut.specs.Machines.{machine_count}
-use Rattle.gg_cut.specs.Channels.{capacity_of, wires_of}
+use Rattle.gg_cut.specs.Channels.{capacity_of}
+use Rattle.gg_cut.specs.Direct.{plan_wires}
 use Rattle.gg_cut.specs.Listed.{listed_of, instance_of}
 use Rattle.gg_cut.specs.Plan.{IsChannel, IsPlan, machine_names, tray_names, wire_at}
 use Rattle.gg_cut.specs.declared.listed.Listed.{Listed}
@@ -55,7 +56,7 @@ module _ (design : Ordered) (request : Request) (default : ℕ) (plan : Plan) (i
   the_listed = listed_of design.tree request
 
   abbrev pub the_wires : List Wire
-  the_wires = wires_of design.circuit design.tree the_listed
+  the_wires = plan_wires design.circuit design.tree request
 
   names-count : length plan.machines ≡ length (machine_names design request the_listed)
   names-count =

@@ -8,7 +8,7 @@ use Rattle.gg_flat.proofs.ListLemmas.{Contains-cases}
 use Rattle.gg_order.specs.Design.{Ordered}
 use Rattle.gg_partfile.specs.declared.request.Request.{Request}
 use Rattle.gg_cut.specs.Machines.{machine_count}
-use Rattle.gg_cut.specs.Channels.{wires_of}
+use Rattle.gg_cut.specs.Direct.{plan_wires}
 use Rattle.gg_cut.specs.Listed.{listed_of}
 use Rattle.gg_cut.specs.declared.listed.Listed.{Listed}
 use Rattle.gg_cut.specs.declared.wires.Wire.{Wire}
@@ -85,7 +85,7 @@ text-of-cut-carried one other s request default text a =
 
 pub text-once : (one other : Ordered) (request : Request) (default : ℕ) (text others : List ℕ) → AreAlike one other → IsTextOfCut one request default text → IsTextOfCut other request default others → text ≡ others
 text-once one other request default text others s a b =
-    cut-text-once other request default (listed_of other.tree request) (wires_of other.circuit other.tree (listed_of other.tree request)) text others
+    cut-text-once other request default (listed_of other.tree request) (plan_wires other.circuit other.tree request) text others
     (text-of-cut-carried one other s request default text a) b
 
 -- for all designs that are alike, a request has the same first fault

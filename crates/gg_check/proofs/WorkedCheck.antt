@@ -1,5 +1,6 @@
 -- The lines of `check` for two units that feed each other in one cycle (gg_cut's WorkedPair), and needs of their channels, worked by
--- hand. The channels are, from 0 on: `x`, `a.x`, `a.k`, `a.p`, `a.q`, `b.m`, `b.n`, `q`.
+-- hand. The channels are, from 0 on: `x`, `a.x`, `a.k`, `a.p`, `a.q`, `b.m`, `b.n`, `q`. If they are to be direct, `a.x`, `a.k`,
+-- `b.m` and `q` are left.
 use Rattle.std.proofs.Common.{◌≡◌, ℕ, zero, suc, List, [], ◌∷◌, ◌++◌, refl, ap, subst, arith}
 use Rattle.std.specs.Prelude.{codes, flat_map, Contains}
 use Rattle.std.specs.Fmt.{digits}
@@ -8,9 +9,10 @@ use Rattle.gg_flat.specs.Circuit.{driver_at}
 use Rattle.gg_flat.specs.Reads.{NamesSignal}
 use Rattle.gg_order.specs.Design.{Ordered}
 use Rattle.gg_cut.specs.Channels.{wires_of}
+use Rattle.gg_cut.specs.Direct.{plan_wires}
 use Rattle.gg_cut.specs.Plan.{channels_to, signals_of}
 use Rattle.gg_cut.specs.declared.wires.Wire.{Wire}
-use Rattle.gg_cut.proofs.WorkedPair.{circuit, tree, listed, both_units}
+use Rattle.gg_cut.proofs.WorkedPair.{circuit, tree, listed, both_units, direct_units}
 use Rattle.gg_check.specs.CheckText.{IsPathInside, NeedsChannel, channel_text, machine_text}
 
 abbrev pub design : Ordered
@@ -82,3 +84,46 @@ p-needs-no-k needs = p-path needs.path needs.reads
 -- a source's channel needs nothing
 x-needs-none : (d : ℕ) → NeedsChannel circuit listed wires 0 d → ⊥
 x-needs-none d needs = let made = needs.made in absurd (omega (arith, made))
+
+-- ---- direct channels
+
+abbrev pub direct : List Wire
+direct = plan_wires circuit tree direct_units
+
+hub-stays : machine_text design direct_units listed 0 ≡ codes "machine hub: host 0\n"
+hub-stays = ap (λ (h : List ℕ). codes "machine hub: host " ++ h ++ codes "\n") (decimal_digit 0 (omega arith))
+
+others-stay : flat_map (machine_text design direct_units listed) (1 ∷ 2 ∷ 3 ∷ 4 ∷ []) ≡ codes "machine a host 1\nmachine b host 2\nmachine in:x host 3\nmachine out:q host 4\n"
+unfolding digits
+others-stay = refl
+
+-- a channel has the name of the signal that its consumer takes, and the machine that gives its value
+direct-lines : channel_text design direct_units 1 listed direct 0 [] ++ channel_text design direct_units 1 listed direct 1 (2 ∷ []) ++ channel_text design direct_units 1 listed direct 2 (0 ∷ []) ++ channel_text design direct_units 1 listed direct 3 (0 ∷ 1 ∷ [])
+    ≡ codes "channel a.x in:x a UInt<8> capacity 1 needs -\nchannel a.k b a UInt<8> capacity 1 needs b.m\nchannel b.m a b UInt<8> capacity 1 needs a.x\nchannel q a out:q UInt<8> capacity 1 needs a.x a.k\n"
+unfolding digits
+direct-lines = refl
+
+b-takes : signals_of direct (channels_to direct 2) ≡ 6 ∷ []
+b-takes = refl
+
+seven-free : Contains (6 ∷ []) 7 → ⊥
+seven-free (zero, lt, is) = absurd (omega (arith, is))
+seven-free (suc k, lt, is) = absurd (omega (arith, lt))
+
+-- `a.k` needs what `b.n` needs, by which `b` gives it
+k-needs-m : NeedsChannel circuit listed direct 1 2
+k-needs-m = record {
+  made = omega arith;
+  known = omega arith;
+  taken = refl;
+  path = 6 ∷ [];
+  reads = (seven-free, record { signal = omega arith; names = (0, omega arith, refl) }, refl);
+}
+
+-- `b.m` needs what `a.p` needs
+m-needs-no-k : NeedsChannel circuit listed direct 2 1 → ⊥
+m-needs-no-k needs = p-path needs.path needs.reads
+
+-- what a source gives straight to a unit needs nothing
+straight-needs-none : (d : ℕ) → NeedsChannel circuit listed direct 0 d → ⊥
+straight-needs-none d needs = let made = needs.made in absurd (omega (arith, made))

@@ -13,7 +13,8 @@ use Rattle.gg_flat.specs.Tree.{path_at}
 use Rattle.gg_order.specs.Design.{Ordered}
 use Rattle.gg_partfile.specs.declared.request.Request.{Request}
 use Rattle.gg_cut.specs.Machines.{first_source, machine_count}
-use Rattle.gg_cut.specs.Channels.{wires_of, capacity_of}
+use Rattle.gg_cut.specs.Channels.{capacity_of}
+use Rattle.gg_cut.specs.Direct.{plan_wires}
 use Rattle.gg_cut.specs.Hosts.{host_of}
 use Rattle.gg_cut.specs.Listed.{listed_of}
 use Rattle.gg_cut.specs.Plan.{channels_to, machine_names, signals_of, wire_at}
@@ -100,4 +101,4 @@ pub record IsCutText (design : Ordered) (request : Request) (default : ℕ) (lis
 -- the text of a request's cut
 abbrev pub IsTextOfCut : Ordered → Request → ℕ → List ℕ → Type 0
 IsTextOfCut design request default text =
-    IsCutText design request default (listed_of design.tree request) (wires_of design.circuit design.tree (listed_of design.tree request)) text
+    IsCutText design request default (listed_of design.tree request) (plan_wires design.circuit design.tree request) text

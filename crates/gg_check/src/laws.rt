@@ -2,7 +2,7 @@
 ghost use Rattle.std.specs.Prelude.{◌≡◌, ℕ, ◌<◌, List, length, slice_index_or};
 ghost use Rattle.gg_order.specs.Design.{Ordered};
 ghost use Rattle.gg_partfile.specs.declared.request.Request.{Request};
-ghost use Rattle.gg_cut.specs.Channels.{wires_of};
+ghost use Rattle.gg_cut.specs.Direct.{plan_wires};
 ghost use Rattle.gg_cut.specs.Fault.{first_fault};
 ghost use Rattle.gg_cut.specs.Listed.{listed_of};
 ghost use Rattle.gg_cut.specs.Plan.{IsPlan};
@@ -14,7 +14,7 @@ ghost use Rattle.gg_check.specs.PlanText.{plan_text};
 
 /// What a channel of a plan needs is exactly what it needs in the circuit.
 pub fn needs_are_told()
-    ensures { (design : Ordered) (request : Request) (default : ℕ) (plan : Plan) → IsPlan design request default plan → (c : ℕ) (any : Channel) → c < length (wires_of design.circuit design.tree (listed_of design.tree request)) → AreChannelNeeds design.circuit (listed_of design.tree request) (wires_of design.circuit design.tree (listed_of design.tree request)) c (slice_index_or plan.channels c any).needs }
+    ensures { (design : Ordered) (request : Request) (default : ℕ) (plan : Plan) → IsPlan design request default plan → (c : ℕ) (any : Channel) → c < length (plan_wires design.circuit design.tree request) → AreChannelNeeds design.circuit (listed_of design.tree request) (plan_wires design.circuit design.tree request) c (slice_index_or plan.channels c any).needs }
 {}
 
 /// The text of a plan is the text of its cut.
