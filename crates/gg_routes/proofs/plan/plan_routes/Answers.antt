@@ -23,4 +23,4 @@ returns-clause-gone c = λ s lt.
 pub returns-clause-sound : goal.returns-clause-sound
 returns-clause-sound c =
     subst (AreRoutes c.args.design.now c.args.listed.now) (plan-hub-is c.args.design.now.circuit c.args.design.now.tree c.args.request.now c.args.listed.now c.deref.result.now c.requires.listed (λ k. ap (λ (l : List Bool). is_marked l k) c.deref.ensures.value ∙ c.in_ok-piped.ensures.none k))
-    c.routes-channels.ensures.sound
+    c.routes.ensures.sound

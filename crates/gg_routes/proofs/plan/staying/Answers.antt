@@ -17,7 +17,7 @@ marks_of-requires c =
 pub loop-signal-preserved : goal.loop-signal-preserved
 loop-signal-preserved c =
     let s = value_at c.args.globals.now c.loop-signal.signal-index in
-    let marked = ap (λ (l : List Bool). is_marked l s) c.as_slice-past.ensures ∙ c.in_ok-marks.ensures.marks s ∙ ap (λ (l : List ℕ). list_any (λ t. s == t) l) (c.deref.ensures.value ∙ c.in_ok-passing.ensures) in
+    let marked = ap (λ (l : List Bool). is_marked l s) c.as_slice-past.ensures.value ∙ c.in_ok-marks.ensures.marks s ∙ ap (λ (l : List ℕ). list_any (λ t. s == t) l) (c.deref.ensures.value ∙ c.in_ok-passing.ensures) in
     c.in_ok-push_if.ensures
     ∙ ap₂ (λ found chosen. found ++ (if chosen then s ∷ [] else [])) c.loop-signal.invariant (c.stays.ensures ∙ ap (λ b. not (is_marked c.args.gone.now s) && not b) marked)
     ∙ sym (filter-next (stays_by c.args.wires.now c.args.gone.now) c.args.globals.now c.loop-signal.signal-index 0 c.loop-signal-test.true)
