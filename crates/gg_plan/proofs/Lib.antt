@@ -22,4 +22,6 @@ pub mod WorkedPlan
 pub mod WorkedNest
 pub mod WorkedMemory
 pub mod WorkedShare
+pub mod WorkedFork
+pub mod WorkedDirect
 pub mod WorkedCore

@@ -164,7 +164,7 @@ u-register =
       below = λ any s names. elim names [ inl none ↦ absurd none | inr at ↦ names-below 3 (sum_of 0 2) refl s at ];
     })
 
-u-part : IsPart circuit part_u.piece part_u.globals (0 ∷ []) []
+pub u-part : IsPart circuit part_u.piece part_u.globals (0 ∷ []) []
 u-part =
     is-part-with circuit part_u.piece part_u.globals (0 ∷ []) [] refl refl refl refl refl refl
     ((lit< tt, refl), ((names-below 3 (node eight (Ref 0) ∷ []) refl, refl), ((lit< tt, refl), tt)))
@@ -178,7 +178,7 @@ v-register =
       below = λ any s names. elim names [ inl none ↦ absurd none | inr at ↦ names-below 3 (sum_of 0 2) refl s at ];
     })
 
-v-part : IsPart circuit part_v.piece part_v.globals (1 ∷ []) []
+pub v-part : IsPart circuit part_v.piece part_v.globals (1 ∷ []) []
 v-part =
     is-part-with circuit part_v.piece part_v.globals (1 ∷ []) [] refl refl refl refl refl refl
     ((lit< tt, refl), ((names-below 3 (node eight (Ref 0) ∷ []) refl, refl), ((lit< tt, refl), tt)))
