@@ -3,7 +3,7 @@
 -- The top has the input `x`, the output `q` and an instance `u`; `u` has the input `x`, the output `q` and an instance `in` with
 -- the input `a` and the output `b`. The top connects `u.x` to `x` and `q` to `u.q`, `u` connects `in.a` to `x` and `q` to `in.b`,
 -- and `b` is `a`.
-use Rattle.std.proofs.Common.{ℕ, ◌<◌, List, [], ◌∷◌, Some, None, set, refl, lit<, lit≤}
+use Rattle.std.proofs.Common.{false, ℕ, ◌<◌, List, [], ◌∷◌, Some, None, set, refl, lit<, lit≤}
 use Rattle.std.specs.Prelude.{codes, slice_index_or}
 use Rattle.gg_flat.specs.declared.line.Op.TheVariants.{Ref}
 use Rattle.gg_flat.specs.declared.piece.Driver.TheVariants.{Input}
