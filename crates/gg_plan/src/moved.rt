@@ -26,7 +26,7 @@ use gg_split::Share;
 use std::alloc::{AllocError, Global};
 
 /// The part of a unit, by its machine's number, from the part of the unit with the number `first`, which has the same
-/// with other numbers. The two pieces are one but for paths, clocks and the order of the out-signals.
+/// with other numbers. The two pieces are one but for paths, clocks and how their out-signals are listed.
 ///
 /// # Errors
 ///
