@@ -23,7 +23,7 @@ use Rattle.gg_net.specs.declared.shape.ServedPort.{ServedPort}
 use Rattle.gg_sound.specs.Built.{IsBuilt, IsUnitOf}
 use Rattle.gg_build.specs.declared.node.Node.{Node}
 use Rattle.gg_build.specs.Groups.{group_at}
-use Rattle.gg_build.specs.Hosts.{IsUnitPart, IsGroup, IsAlone, IsHost, IsHostOf, AreHosts, AreUnits, body_at}
+use Rattle.gg_build.specs.Hosts.{IsUnitPart, IsGroup, IsAlone, IsHost, IsHostOf, AreHosts, AreUnits, body_at, outs_at}
 use Rattle.gg_build.specs.Node.{machines_of}
 
 -- ---- units
@@ -87,25 +87,28 @@ one-alone columns machines group is none = by (cases_eq (length group) 1)
     by (inl one) = one
     by (inr more) = absurd (none (body_at machines (value_at group 1)) (is.alike 0 1 is.some (omega (arith, is.some, more)) (λ same. absurd (omega (arith, same)))))
 
-module _ (columns : List (List ℕ)) (n : ℕ) (machines : List planned.Machine) (group : List ℕ) (node : Node) where
-  alone-host : (body : Body) → length group ≡ 1 → body_at machines (value_at group 0) ≡ body → IsHost (IsBuilt columns n body) node → IsHostOf columns n machines group node
+module _ (columns : List (List ℕ)) (machines : List planned.Machine) (group : List ℕ) (node : Node) where
+  abbrev outs : ℕ
+  outs = outs_at machines (value_at group 0)
+
+  alone-host : (body : Body) → length group ≡ 1 → body_at machines (value_at group 0) ≡ body → IsHost (IsBuilt columns outs body) node → IsHostOf columns machines group node
   alone-host body one is host =
       record {
         count = ap length host.own.alone ∙ sym one;
         each = λ t lt.
             let first : 0 ≡ t = omega (arith, lt, one) in
-            subst (λ k. IsBuilt columns n (body_at machines (value_at group k)) (machine_at (machines_of node) k)) first
-            (subst (λ (b : Body). IsBuilt columns n b (machine_at (machines_of node) 0)) (sym is) host.own.is);
+            subst (λ k. IsBuilt columns (outs_at machines (value_at group k)) (body_at machines (value_at group k)) (machine_at (machines_of node) k)) first
+            (subst (λ (b : Body). IsBuilt columns outs b (machine_at (machines_of node) 0)) (sym is) host.own.is);
         ports = host.ports;
       }
 
-  pub memory-hosts : (part : Part) → IsGroup columns machines group → body_at machines (value_at group 0) ≡ Memory part → IsHost (IsBuilt columns n (Memory part)) node → IsHostOf columns n machines group node
+  pub memory-hosts : (part : Part) → IsGroup columns machines group → body_at machines (value_at group 0) ≡ Memory part → IsHost (IsBuilt columns outs (Memory part)) node → IsHostOf columns machines group node
   memory-hosts part can is host = alone-host (Memory part) (one-alone columns machines group can (λ other alike. subst (λ (b : Body). AreAlike b other) is alike)) is host
 
-  pub source-hosts : (place : ℕ) → IsGroup columns machines group → body_at machines (value_at group 0) ≡ Source place → IsHost (IsBuilt columns n (Source place)) node → IsHostOf columns n machines group node
+  pub source-hosts : (place : ℕ) → IsGroup columns machines group → body_at machines (value_at group 0) ≡ Source place → IsHost (IsBuilt columns outs (Source place)) node → IsHostOf columns machines group node
   source-hosts place can is host = alone-host (Source place) (one-alone columns machines group can (λ other alike. subst (λ (b : Body). AreAlike b other) is alike)) is host
 
-  pub tray-hosts : IsGroup columns machines group → body_at machines (value_at group 0) ≡ Tray → IsHost (IsBuilt columns n Tray) node → IsHostOf columns n machines group node
+  pub tray-hosts : IsGroup columns machines group → body_at machines (value_at group 0) ≡ Tray → IsHost (IsBuilt columns outs Tray) node → IsHostOf columns machines group node
   tray-hosts can is host = alone-host Tray (one-alone columns machines group can (λ other alike. subst (λ (b : Body). AreAlike b other) is alike)) is host
 
 -- the units of a group are like the first
@@ -118,12 +121,12 @@ group-units columns machines group part is first =
     by t lt (inr other) = subst (λ (b : Body). AreAlike b (body_at machines (value_at group t))) first (is.alike 0 t is.some lt other)
 
 -- one host more
-pub hosts-more : (columns : List (List ℕ)) (n : ℕ) (machines : List planned.Machine) (members : List (List ℕ)) (count : ℕ) (old new : List Node) (own : Node) → new ≡ old ++ own ∷ [] → AreHosts columns n machines members count old → IsHostOf columns n machines (group_at members count) own → AreHosts columns n machines members (count + 1) new
-hosts-more columns n machines members count old new own is was one =
-    subst (AreHosts columns n machines members (count + 1)) (sym is)
+pub hosts-more : (columns : List (List ℕ)) (machines : List planned.Machine) (members : List (List ℕ)) (count : ℕ) (old new : List Node) (own : Node) → new ≡ old ++ own ∷ [] → AreHosts columns machines members count old → IsHostOf columns machines (group_at members count) own → AreHosts columns machines members (count + 1) new
+hosts-more columns machines members count old new own is was one =
+    subst (AreHosts columns machines members (count + 1)) (sym is)
     (record {
       total = length-append old (own ∷ []) ∙ ap (λ k. k + 1) was.total;
-      each = λ h any. below_more (λ h. IsHostOf columns n machines (group_at members h) (get_or (old ++ own ∷ []) h any)) count
-          (λ h lt. subst (IsHostOf columns n machines (group_at members h)) (sym (get_or_append_left old (own ∷ []) any h (omega (arith, lt, was.total)))) (was.each h any lt))
-          (subst (IsHostOf columns n machines (group_at members count)) (sym (get_or_push old own any count was.total)) one) h;
+      each = λ h any. below_more (λ h. IsHostOf columns machines (group_at members h) (get_or (old ++ own ∷ []) h any)) count
+          (λ h lt. subst (IsHostOf columns machines (group_at members h)) (sym (get_or_append_left old (own ∷ []) any h (omega (arith, lt, was.total)))) (was.each h any lt))
+          (subst (IsHostOf columns machines (group_at members count)) (sym (get_or_push old own any count was.total)) one) h;
     })

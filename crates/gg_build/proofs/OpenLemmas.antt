@@ -26,7 +26,7 @@ use Rattle.gg_build.specs.Build.{IsToRun, IsOpeningOf}
 use Rattle.gg_build.specs.Hosts.{AreSeats}
 use Rattle.gg_build.proofs.SeatLemmas.{no_station}
 
-module _ (plan : Plan) (columns : List (List ℕ)) (n : ℕ) (hosts : List Node) (stations : List Station) (are : AreSeats plan columns n hosts stations) where
+module _ (plan : Plan) (columns : List (List ℕ)) (n : ℕ) (hosts : List Node) (stations : List Station) (are : AreSeats plan columns hosts stations) where
   abbrev pub lists_of : List (List Machine)
   lists_of = map machines_of hosts
 
@@ -35,11 +35,11 @@ module _ (plan : Plan) (columns : List (List ℕ)) (n : ℕ) (hosts : List Node)
   machine-is : (m : ℕ) (s : Station) → m < length plan.machines → machine_at (machines_by lists_of stations) m ≡ seated lists_of (get_or stations m s)
   machine-is m s lt = get_or-map (seated lists_of) stations m s no_machine (omega (arith, lt, are.total))
 
-  pub are-built : AreBuilt plan columns n (machines_by lists_of stations)
+  pub are-built : AreBuilt plan columns (machines_by lists_of stations)
   are-built =
       record {
         count = length-map stations (seated lists_of) ∙ are.total;
-        each = λ m lt. subst (IsBuilt columns n (machine_in plan m).body) (sym (machine-is m no_station lt)) (are.each m no_station lt).built;
+        each = λ m lt. subst (IsBuilt columns (length (machine_in plan m).outs) (machine_in plan m).body) (sym (machine-is m no_station lt)) (are.each m no_station lt).built;
       }
 
   -- ---- for a design, a request and a run

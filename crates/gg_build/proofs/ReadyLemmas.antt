@@ -7,20 +7,20 @@ use Rattle.gg_partfile.specs.declared.request.Request.{Request}
 use Rattle.gg_cut.specs.declared.plan.Body.{Body}
 use Rattle.gg_cut.specs.declared.plan.Body.TheVariants.{Cut, Memory, Source, Tray}
 use Rattle.gg_cut.specs.declared.plan.Plan.{Plan}
-use Rattle.gg_cut.specs.declared.wires.Wire.{Wire}
-use Rattle.gg_cut.specs.Channels.{wires_of}
+use Rattle.gg_cut.specs.Direct.{Hub, routes, plan_hub}
 use Rattle.gg_cut.specs.Hosts.{machine_of, least_machine, group_of, leader_in, leader, host_of}
 use Rattle.gg_cut.specs.Listed.{listed_of}
 use Rattle.gg_cut.specs.Plan.{wire_at, IsBody}
 use Rattle.gg_cut.proofs.RangeLemmas.{filter-few}
 use Rattle.gg_closed.proofs.FaultlessLemmas.{faultless-few}
-use Rattle.gg_closed.proofs.EndLemmas.{few-machines}
+use Rattle.gg_routes.proofs.FewLemmas.{few-machines}
+use Rattle.gg_routes.proofs.RoutedLemmas.{plan-routed}
 use Rattle.gg_sound.specs.Built.{IsGiven, machine_in, nameless}
-use Rattle.gg_sound.proofs.BodyLemmas.{unit-formed, unit-ordered, source-known}
+use Rattle.gg_sound.proofs.BodyLemmas.{unit-formed, unit-ordered, source-known, source-some, source-few}
 use Rattle.gg_sound.proofs.FitLemmas.{outs-count}
 use Rattle.gg_sound.proofs.StandLemmas.{memory-formed, memory-chosen, memory-alone}
 use Rattle.gg_build.specs.Build.{IsFaultless, IsToRun}
-use Rattle.gg_build.specs.Hosts.{CanBuild, CanBuildAll}
+use Rattle.gg_build.specs.Hosts.{CanBuild, CanBuildAll, outs_at}
 
 -- ---- hosts
 
@@ -42,14 +42,14 @@ host-below units share m =
 -- ---- machines
 
 module _ (design : Ordered) (request : Request) (default : ℕ) (plan : Plan) (columns : List (List ℕ)) (n : ℕ) (rows : List (List ℕ)) (given : IsGiven design request default plan columns n rows) where
-  abbrev links : List Wire
-  links = wires_of design.circuit design.tree (listed_of design.tree request)
+  abbrev hub : Hub
+  hub = plan_hub design.circuit design.tree request
 
-  can-build : (m : ℕ) → m < length plan.machines → (body : Body) → (machine_in plan m).body ≡ body → IsBody design (listed_of design.tree request) links m body → CanBuild columns body
+  can-build : (m : ℕ) → m < length plan.machines → (body : Body) → (machine_in plan m).body ≡ body → IsBody design (listed_of design.tree request) hub m body → CanBuild columns (outs_at plan.machines m) body
   can-build m lt (Cut part) is at =
-      let count = outs-count design (listed_of design.tree request) links m part at.1 in
+      let count = outs-count design (listed_of design.tree request) hub m part at.1 in
       let most = faultless-few design request given.faultless in
-      let few = filter-few (λ c. (wire_at links c).producer == m) 0 (length links) in
+      let few = filter-few (λ c. (wire_at (routes hub) c).producer == m) 0 (length (routes hub)) in
       record {
         formed = unit-formed design request default plan columns n rows given m lt part is;
         ordered = unit-ordered design request default plan columns n rows given m lt part is;
@@ -61,12 +61,18 @@ module _ (design : Ordered) (request : Request) (default : ℕ) (plan : Plan) (c
         chosen = memory-chosen design request default plan columns n rows given m part lt is;
         alone = λ alone cut. memory-alone design request default plan columns n rows given m part lt is alone cut;
       }
-  can-build m lt (Source place) is at = source-known design request default plan columns n rows given m lt place is
+  can-build m lt (Source place) is at =
+      record {
+        known = source-known design request default plan columns n rows given m lt place is;
+        some = source-some design request default plan columns n rows given m lt place is;
+        few = source-few design request default plan columns n rows given m lt place is;
+      }
   can-build m lt Tray is at = tt
 
   few-machines-of : length plan.machines < 2 ^ 32
   few-machines-of =
-      let most = few-machines design.circuit design.tree (listed_of design.tree request) (faultless-few design request given.faultless) in
+      let routed = plan-routed design request given.design_is given.keeps given.faultless in
+      let most = few-machines design request routed (faultless-few design request given.faultless) in
       omega (arith, most, given.planned.machine_total)
 
   can-build-all : CanBuildAll columns plan.machines

@@ -12,7 +12,7 @@ use Rattle.gg_sound.specs.Built.{IsBuilt, machine_in, nameless}
 use Rattle.gg_build.specs.declared.node.Node.{Node}
 use Rattle.gg_build.specs.declared.node.Node.TheVariants as node
 use Rattle.gg_build.specs.Groups.{group_at, IsMember, AreGroups}
-use Rattle.gg_build.specs.Hosts.{CanBuildAll, IsGroup, IsHostOf, AreHosts, IsStation, AreStations, IsSeat, AreSeats, body_at}
+use Rattle.gg_build.specs.Hosts.{CanBuildAll, IsGroup, IsHostOf, AreHosts, IsStation, AreStations, IsSeat, AreSeats, body_at, outs_at}
 use Rattle.gg_build.specs.Node.{machines_of}
 
 -- the plan's numbers of the hosts of these machines
@@ -60,7 +60,7 @@ module _ (columns : List (List ℕ)) (machines : List planned.Machine) (hosts th
   at : (m : ℕ) → m < length machines → IsMember members (value_at hosts m) (value_at threads m) m
   at m lt = groups.grouped.at m (omega (arith, lt, number-count machines))
 
-  module _ (n : ℕ) (nodes : List Node) (are : AreHosts columns n machines members (length members) nodes) where
+  module _ (nodes : List Node) (are : AreHosts columns machines members (length members) nodes) where
     pub host-known : (m : ℕ) → m < length machines → value_at hosts m < length nodes
     host-known m lt = let low = (at m lt).host in omega (arith, low, are.total)
 
@@ -75,7 +75,7 @@ module _ (columns : List (List ℕ)) (machines : List planned.Machine) (hosts th
       abbrev lists : List (List Machine)
       lists = map machines_of nodes
 
-      host-of : (m : ℕ) (lt : m < length machines) → IsHostOf columns n machines (group_at members (value_at hosts m)) (get_or nodes (value_at hosts m) no_node)
+      host-of : (m : ℕ) (lt : m < length machines) → IsHostOf columns machines (group_at members (value_at hosts m)) (get_or nodes (value_at hosts m) no_node)
       host-of m lt = are.each (value_at hosts m) no_node (at m lt).host
 
       station-at : (m : ℕ) (s : Station) → m < length machines → IsStation (get_or machines m nameless) (value_at hosts m) (value_at threads m) (machine_at (machines_of (get_or nodes (value_at hosts m) no_node)) (value_at threads m)) (get_or stations m s)
@@ -89,13 +89,13 @@ module _ (columns : List (List ℕ)) (machines : List planned.Machine) (hosts th
           ap (λ (l : List Machine). machine_at l (get_or stations m s).thread) (hosted-is m s lt)
           ∙ ap (machine_at (machines_of (get_or nodes (value_at hosts m) no_node))) (station-at m s lt).thread_is
 
-      seat : (m : ℕ) (s : Station) → m < length machines → IsSeat columns n (get_or machines m nameless) lists (get_or stations m s)
+      seat : (m : ℕ) (s : Station) → m < length machines → IsSeat columns (get_or machines m nameless) lists (get_or stations m s)
       seat m s lt =
           let is = at m lt in
           let station = station-at m s lt in
           record {
-            built = subst (IsBuilt columns n (body_at machines m)) (sym (seated-is m s lt))
-                (subst (λ k. IsBuilt columns n (body_at machines k) (machine_at (machines_of (get_or nodes (value_at hosts m) no_node)) (value_at threads m))) is.is ((host-of m lt).each (value_at threads m) is.thread));
+            built = subst (IsBuilt columns (outs_at machines m) (body_at machines m)) (sym (seated-is m s lt))
+                (subst (λ k. IsBuilt columns (outs_at machines k) (body_at machines k) (machine_at (machines_of (get_or nodes (value_at hosts m) no_node)) (value_at threads m))) is.is ((host-of m lt).each (value_at threads m) is.thread));
             ins = station.ins;
             outs = station.outs;
             ports = station.ports ∙ ap (λ (t : Machine). map entry_of t.ports) (sym (seated-is m s lt));
@@ -138,13 +138,13 @@ module _ (columns : List (List ℕ)) (machines : List planned.Machine) (hosts th
             whole = has-station;
           }
 
-      pub seats-are : (plan : Plan) → machines ≡ plan.machines → AreSeats plan columns n nodes stations
+      pub seats-are : (plan : Plan) → machines ≡ plan.machines → AreSeats plan columns nodes stations
       seats-are plan same =
           let count : length machines ≡ length plan.machines = ap length same in
           let own : (m : ℕ) → get_or machines m nameless ≡ machine_in plan m = λ m. ap (λ (l : List planned.Machine). get_or l m nameless) same in
           record {
             total = stand.total ∙ count;
-            each = λ m s lt. subst (λ (o : planned.Machine). IsSeat columns n o lists (get_or stations m s)) (own m) (seat m s (omega (arith, lt, count)));
+            each = λ m s lt. subst (λ (o : planned.Machine). IsSeat columns o lists (get_or stations m s)) (own m) (seat m s (omega (arith, lt, count)));
             threads = are-seated;
             together = λ m k s t lt less.
                 let low : m < length machines = omega (arith, lt, count) in

@@ -8,8 +8,7 @@ use Rattle.gg_cut.specs.declared.plan.Plan.{Plan}
 use Rattle.gg_cut.specs.declared.plan.Machine as planned
 use Rattle.gg_cut.specs.declared.plan.Channel.{Channel}
 use Rattle.gg_cut.specs.declared.wires.Wire.{Wire as Link}
-use Rattle.gg_cut.specs.Listed.{listed_of}
-use Rattle.gg_cut.specs.Channels.{wires_of}
+use Rattle.gg_cut.specs.Direct.{plan_wires}
 use Rattle.gg_cut.specs.Plan.{wire_at as link_at, channels_to, channels_from}
 use Rattle.gg_cut.proofs.RangeLemmas.{filter-few}
 use Rattle.gg_closed.proofs.FaultlessLemmas.{faultless-few}
@@ -54,7 +53,7 @@ module _ (plan : Plan) (links : List Link) (are : AreLinks plan links) where
         listed = λ c lt.
             let known : c < length links = omega (arith, lt, are.count) in
             let m = (link_at links c).producer in
-            let there = (are.ends c known).producer in (
+            let there = (are.ends c known).0 in (
               m,
               omega (arith, there, length-map plan.machines (λ (machine : planned.Machine). machine.outs)),
               subst (λ (l : List ℕ). Contains l c) (sym (outs-at m there)) (given-in links m c (record { known = known; producer = refl })),
@@ -70,7 +69,7 @@ module _ (plan : Plan) (links : List Link) (are : AreLinks plan links) where
         listed = λ c lt.
             let known : c < length links = omega (arith, lt, are.count) in
             let m = (link_at links c).consumer in
-            let there = (are.ends c known).consumer in (
+            let there = (are.ends c known).1 in (
               m,
               omega (arith, there, length-map plan.machines (λ (machine : planned.Machine). machine.ins)),
               subst (λ (l : List ℕ). Contains l c) (sym (ins-at m there)) (taken-in links m c (record { known = known; consumer = refl })),
@@ -119,8 +118,8 @@ module _ (plan : Plan) (links : List Link) (are : AreLinks plan links) where
 
 -- ---- the links of a request without a fault
 
-pub links-in : (plan : Plan) (is : IsFaultless plan) → AreLinks plan (wires_of is.design.circuit is.design.tree (listed_of is.design.tree is.request))
+pub links-in : (plan : Plan) (is : IsFaultless plan) → AreLinks plan (plan_wires is.design.circuit is.design.tree is.request)
 links-in plan is = links-of is.design is.request is.default plan is.keeps is.faultless is.some is.planned
 
-pub few-links : (plan : Plan) (is : IsFaultless plan) → length (wires_of is.design.circuit is.design.tree (listed_of is.design.tree is.request)) < 2 ^ 32
+pub few-links : (plan : Plan) (is : IsFaultless plan) → length (plan_wires is.design.circuit is.design.tree is.request) < 2 ^ 32
 few-links plan is = let most = (faultless-few is.design is.request is.faultless).channels in omega (arith, most)

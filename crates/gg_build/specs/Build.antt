@@ -48,5 +48,5 @@ flow_along design plan columns n = flow_of plan design (rows_along design.circui
 -- queues, and n cycles to do.
 pub record IsOpeningOf (plan : Plan) (columns : List (List ℕ)) (n : ℕ) (net : Network) : Type 0 where
   pub machines : List Machine
-  pub built : AreBuilt plan columns n machines
+  pub built : AreBuilt plan columns machines
   pub is : net ≡ opening_net machines (wires_of_plan plan) n

@@ -39,22 +39,32 @@ pub record IsMemoryPart (part : Part) : Type 0 where
   pub chosen : IsChoice part.piece (part.piece.ins ++ part.piece.outs) part.piece.ins part.piece.outs (0 ∷ [])
   pub alone : (alone : Part) → IsCutAgain part alone → IsMemoryPiece alone.piece
 
--- A machine of the plan can be built, on these columns. For a source there is a column at its place.
-abbrev pub CanBuild : List (List ℕ) → Body → Type 0
-CanBuild columns (Cut part) = IsUnitPart part
-CanBuild columns (Memory part) = IsMemoryPart part
-CanBuild columns (Source place) = place < length columns
-CanBuild columns Tray = ⊤
+-- A source with this many outs can be built. It has a column and at least one out, and numbers of 32 bits suffice for its outs.
+pub record IsSourceAt (columns : List (List ℕ)) (outs place : ℕ) : Type 0 where
+  pub known : place < length columns
+  pub some : 0 < outs
+  pub few : outs < 2 ^ 32
+
+-- A machine of the plan with this many outs can be built, on these columns.
+abbrev pub CanBuild : List (List ℕ) → ℕ → Body → Type 0
+CanBuild columns outs (Cut part) = IsUnitPart part
+CanBuild columns outs (Memory part) = IsMemoryPart part
+CanBuild columns outs (Source place) = IsSourceAt columns outs place
+CanBuild columns outs Tray = ⊤
 
 -- what machine m of these is
 abbrev pub body_at : List planned.Machine → ℕ → Body
 body_at machines m = (slice_index_or machines m nameless).body
 
+-- the number of channels that machine m of these gives
+abbrev pub outs_at : List planned.Machine → ℕ → ℕ
+outs_at machines m = length (slice_index_or machines m nameless).outs
+
 -- Each of these machines of a plan can be built, and its host has a number. Two that have one host are units with one piece.
 pub record CanBuildAll (columns : List (List ℕ)) (machines : List planned.Machine) : Type 0 where
   pub few : length machines < 2 ^ 32
   pub known : All (λ machine. machine.host < length machines) machines
-  pub ready : (m : ℕ) → m < length machines → CanBuild columns (body_at machines m)
+  pub ready : (m : ℕ) → m < length machines → CanBuild columns (outs_at machines m) (body_at machines m)
   pub alike : (m k : ℕ) → m < length machines → k < length machines → m ≢ k → (slice_index_or machines m nameless).host ≡ (slice_index_or machines k nameless).host → AreAlike (body_at machines m) (body_at machines k)
 
 -- Machines of a plan that can be built as one host.
@@ -62,7 +72,7 @@ pub record IsGroup (columns : List (List ℕ)) (machines : List planned.Machine)
   pub some : 0 < length group
   pub few : length group < 2 ^ 32
   pub known : All (λ m. m < length machines) group
-  pub ready : (t : ℕ) → t < length group → CanBuild columns (body_at machines (value_at group t))
+  pub ready : (t : ℕ) → t < length group → CanBuild columns (outs_at machines (value_at group t)) (body_at machines (value_at group t))
   pub alike : (t u : ℕ) → t < length group → u < length group → t ≢ u → AreAlike (body_at machines (value_at group t)) (body_at machines (value_at group u))
 
 -- ---- hosts
@@ -92,15 +102,15 @@ pub record IsHost (Is : Machine → Type 0) (node : Node) : Type 0 where
   pub ports : HasPorts node
 
 -- A node has these machines of a plan, a thread each.
-pub record IsHostOf (columns : List (List ℕ)) (n : ℕ) (machines : List planned.Machine) (group : List ℕ) (node : Node) : Type 0 where
+pub record IsHostOf (columns : List (List ℕ)) (machines : List planned.Machine) (group : List ℕ) (node : Node) : Type 0 where
   pub count : length (machines_of node) ≡ length group
-  pub each : (t : ℕ) → t < length group → IsBuilt columns n (body_at machines (value_at group t)) (machine_at (machines_of node) t)
+  pub each : (t : ℕ) → t < length group → IsBuilt columns (outs_at machines (value_at group t)) (body_at machines (value_at group t)) (machine_at (machines_of node) t)
   pub ports : HasPorts node
 
 -- the hosts of these groups of machines
-pub record AreHosts (columns : List (List ℕ)) (n : ℕ) (machines : List planned.Machine) (members : List (List ℕ)) (count : ℕ) (nodes : List Node) : Type 0 where
+pub record AreHosts (columns : List (List ℕ)) (machines : List planned.Machine) (members : List (List ℕ)) (count : ℕ) (nodes : List Node) : Type 0 where
   pub total : length nodes ≡ count
-  pub each : (h : ℕ) (any : Node) → h < count → IsHostOf columns n machines (group_at members h) (slice_index_or nodes h any)
+  pub each : (h : ℕ) (any : Node) → h < count → IsHostOf columns machines (group_at members h) (slice_index_or nodes h any)
 
 -- ---- units that share a host
 
@@ -157,15 +167,15 @@ pub record AreStations (machines : List planned.Machine) (hosts threads : List �
       → IsStation (slice_index_or machines m nameless) (value_at hosts m) (value_at threads m) (machine_at (machines_of (slice_index_or nodes (value_at hosts m) any)) (value_at threads m)) (slice_index_or stations m other)
 
 -- The station of a machine of a plan. The machine that is seated there is built from it.
-pub record IsSeat (columns : List (List ℕ)) (n : ℕ) (own : planned.Machine) (lists : List (List Machine)) (station : Station) : Type 0 where
-  pub built : IsBuilt columns n own.body (seated lists station)
+pub record IsSeat (columns : List (List ℕ)) (own : planned.Machine) (lists : List (List Machine)) (station : Station) : Type 0 where
+  pub built : IsBuilt columns (length own.outs) own.body (seated lists station)
   pub ins : station.ins ≡ own.ins
   pub outs : station.outs ≡ own.outs
   pub ports : station.ports ≡ map entry_of (seated lists station).ports
 
 -- The hosts and the stations of a plan's machines. Two machines have one host exactly if they have one in the plan.
-pub record AreSeats (plan : Plan) (columns : List (List ℕ)) (n : ℕ) (nodes : List Node) (stations : List Station) : Type 0 where
+pub record AreSeats (plan : Plan) (columns : List (List ℕ)) (nodes : List Node) (stations : List Station) : Type 0 where
   pub total : length stations ≡ length plan.machines
-  pub each : (m : ℕ) (any : Station) → m < length plan.machines → IsSeat columns n (machine_in plan m) (map machines_of nodes) (slice_index_or stations m any)
+  pub each : (m : ℕ) (any : Station) → m < length plan.machines → IsSeat columns (machine_in plan m) (map machines_of nodes) (slice_index_or stations m any)
   pub threads : AreSeated (map machines_of nodes) stations
   pub together : (m k : ℕ) (any other : Station) → m < length plan.machines → k < length plan.machines → ((machine_in plan m).host ≡ (machine_in plan k).host) ↔ ((slice_index_or stations m any).host ≡ (slice_index_or stations k other).host)

@@ -1,5 +1,5 @@
 //! The hosts of a plan's machines.
-ghost use Rattle.std.specs.Prelude.{◌≡◌, ℕ, ◌<◌, ◌++◌, ◌∷◌, [], None, false, IfOk, length, slice_index_or, map};
+ghost use Rattle.std.specs.Prelude.{◌≡◌, ℕ, ◌<◌, [], None, false, IfOk, length, replicate, slice_index_or, map};
 ghost use Rattle.gg_limits.specs.Limits.{cycle_limit};
 ghost use Rattle.gg_flat.specs.Line.{value_at};
 ghost use Rattle.gg_cut.specs.declared.plan.Body.TheVariants.{Cut};
@@ -8,7 +8,7 @@ ghost use Rattle.gg_fame5.specs.Shared as units;
 ghost use Rattle.gg_sound.specs.Alone.{IsCutAgain};
 ghost use Rattle.gg_sound.specs.Built.{IsUnitOf, IsMemoryOf, tray_rows};
 ghost use Rattle.gg_build.specs.Groups.{group_at};
-ghost use Rattle.gg_build.specs.Hosts.{IsUnitPart, IsMemoryPart, IsGroup, IsAlone, IsHost, IsHostOf, HasPorts, AreHosts, AreUnits, RunUnits, body_at};
+ghost use Rattle.gg_build.specs.Hosts.{IsUnitPart, IsMemoryPart, IsSourceAt, IsGroup, IsAlone, IsHost, IsHostOf, HasPorts, AreHosts, AreUnits, RunUnits, body_at};
 ghost use Rattle.gg_build.specs.Node.{machines_of};
 
 use crate::node::Node;
@@ -109,13 +109,19 @@ fn memory_host<'a>(alloc: Global, part: &Part) -> Result<Node<'a>, AllocError>
     Ok(Node::Memory(unit))
 }
 
-// The host of a source, by its place among the top's inputs.
-fn source_host<'a>(alloc: Global, trace: &Trace, place: u32) -> Result<Node<'a>, AllocError>
-    requires { place < length trace.now.columns }
-    ensures { IfOk result (λ node. IsHost (λ machine. machine ≡ source_machine (slice_index_or trace.now.columns place []) 0 (false ∷ [])) node) }
+// The host of a source with this many outs, by its place among the top's inputs.
+fn source_host<'a>(
+    alloc: Global,
+    trace: &Trace,
+    place: u32,
+    outs: usize,
+) -> Result<Node<'a>, AllocError>
+    requires { IsSourceAt trace.now.columns outs place }
+    ensures { IfOk result (λ node. IsHost (λ machine. machine ≡ source_machine (slice_index_or trace.now.columns place []) 0 (replicate outs false)) node) }
 {
     let column = trace.column(alloc, place as usize)?;
-    Ok(Node::Source(Source::new(column)))
+    let source = Source::forked(alloc, column, outs as u32)?;
+    Ok(Node::Source(source))
 }
 
 // The host of a tray.
@@ -134,7 +140,7 @@ fn host_of<'a>(
     group: &[u32],
 ) -> Result<Node<'a>, AllocError>
     requires { IsGroup trace.now.columns machines.now group.now }
-    ensures { IfOk result (λ node. IsHostOf trace.now.columns trace.now.rows machines.now group.now node) }
+    ensures { IfOk result (λ node. IsHostOf trace.now.columns machines.now group.now node) }
 {
     let number = group[0] as usize;
     let machine = &machines[number];
@@ -148,7 +154,7 @@ fn host_of<'a>(
             Ok(node)
         }
         Body::Source(place) => {
-            let node = source_host(alloc, trace, *place)?;
+            let node = source_host(alloc, trace, *place, machine.outs.as_slice().len())?;
             Ok(node)
         }
         Body::Tray => {
@@ -170,7 +176,7 @@ pub(crate) fn hosts_of<'a>(
     members: &[Vec<u32>],
 ) -> Result<Vec<Node<'a>>, AllocError>
     requires { (h : ℕ) → h < length members.now → IsGroup trace.now.columns machines.now (group_at (map (λ list. list.items) members.now) h) }
-    ensures { IfOk result (λ nodes. AreHosts trace.now.columns trace.now.rows machines.now (map (λ list. list.items) members.now) (length members.now) nodes.items) }
+    ensures { IfOk result (λ nodes. AreHosts trace.now.columns machines.now (map (λ list. list.items) members.now) (length members.now) nodes.items) }
 {
     let mut nodes = Vec::new(alloc);
     for host in 0..members.len() {

@@ -130,7 +130,7 @@ pub(crate) fn seats_of<'a>(
     trace: &Trace,
 ) -> Result<Seats<'a>, AllocError>
     requires { CanBuildAll trace.now.columns plan.now.machines }
-    ensures { IfOk result (λ seats. AreSeats plan.now trace.now.columns trace.now.rows seats.hosts.items seats.stations.items) }
+    ensures { IfOk result (λ seats. AreSeats plan.now trace.now.columns seats.hosts.items seats.stations.items) }
 {
     let machines = plan.machines.as_slice();
     let groups = groups_of(alloc, machines)?;

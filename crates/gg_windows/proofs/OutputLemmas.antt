@@ -1,23 +1,22 @@
 -- The trays of a plan's network have the circuit's outputs.
 use Rattle.std.proofs.Common.{◌≡◌, ℕ, ◌+◌, ◌-◌, ◌<◌, ◌≤◌, List, [], length, sym, ap, ◌∙◌, arith}
-use Rattle.std.proofs.lemmas.List.{get_or-map, get_or_default, length-map, ext_get_or}
+use Rattle.std.proofs.lemmas.List.{get_or-map, length-map, ext_get_or}
 use Rattle.gg_flat.specs.Line.{value_at}
 use Rattle.gg_flat.proofs.ListLemmas.{some-item}
 use Rattle.gg_flat.specs.Run.{column, row_at}
 use Rattle.gg_flat.specs.Streams.{Flow}
 use Rattle.gg_order.specs.Design.{Ordered}
-use Rattle.gg_cut.specs.Channels.{wire, wires_of}
+use Rattle.gg_cut.specs.Direct.{Hub, routes, plan_hub}
 use Rattle.gg_cut.specs.Machines.{first_tray}
-use Rattle.gg_cut.specs.Listed.{listed_of, owner_of}
+use Rattle.gg_cut.specs.Listed.{listed_of}
 use Rattle.gg_cut.specs.Plan as planned
-use Rattle.gg_cut.specs.Plan.{IsPlan, IsChannel, IsBody}
+use Rattle.gg_cut.specs.Plan.{channels_to, IsBody}
 use Rattle.gg_cut.specs.declared.listed.Listed.{Listed}
 use Rattle.gg_cut.specs.declared.plan.Body.{Body}
 use Rattle.gg_cut.specs.declared.plan.Body.TheVariants.{Cut, Memory, Source, Tray}
 use Rattle.gg_cut.specs.declared.plan.Channel.{Channel}
 use Rattle.gg_cut.specs.declared.plan.Plan.{Plan}
-use Rattle.gg_cut.specs.declared.wires.Wire as cut
-use Rattle.gg_closed.proofs.KindLemmas.{tray-wire}
+use Rattle.gg_routes.proofs.RoutedLemmas.{plan-routed}
 use Rattle.gg_node.specs.Machine.{KeepsLast, Machine, machine_at}
 use Rattle.gg_net.specs.Network.{Network, Frame, Kind, frame_of, kind_of, kind_at, wire_at}
 use Rattle.gg_net.specs.Kept.{Kept, list_at}
@@ -25,6 +24,7 @@ use Rattle.gg_measure.specs.Nets.{AllStandAt}
 use Rattle.gg_sound.specs.Built.{IsBuilt, machine_in, nameless, tray_rows, wires_of_plan}
 use Rattle.gg_sound.proofs.FitLemmas.{kind-is}
 use Rattle.gg_sound.proofs.LinkLemmas.{length-from, wire-from}
+use Rattle.gg_sound.proofs.ListedLemmas.{taken-at}
 use Rattle.gg_build.specs.Build.{IsToRun, IsOpeningOf}
 use Rattle.gg_windows.specs.Rows.{IsNetOfPlan, outputs_in, told_value}
 use Rattle.gg_windows.proofs.TrayLemmas.{tray-tells}
@@ -36,12 +36,12 @@ pub net-stays : (plan : Plan) (columns : List (List ℕ)) (n : ℕ) (old new : N
 net-stays plan columns n old new is same = record { machines = is.machines; built = is.built; frame = same ∙ is.frame }
 
 -- a machine of a plan from the first tray on is a tray
-tray-behaves : (design : Ordered) (listed : Listed) (wires : List cut.Wire) (columns : List (List ℕ)) (n m : ℕ) (body : Body) (machine : Machine) → first_tray design.circuit listed ≤ m → IsBody design listed wires m body → IsBuilt columns n body machine
+tray-behaves : (design : Ordered) (listed : Listed) (hub : Hub) (columns : List (List ℕ)) (outs m : ℕ) (body : Body) (machine : Machine) → first_tray design.circuit listed ≤ m → IsBody design listed hub m body → IsBuilt columns outs body machine
     → machine.behaviour ≡ KeepsLast tray_rows
-tray-behaves design listed wires columns n m (Cut part) machine low is built = absurd (omega (arith, low, is.0))
-tray-behaves design listed wires columns n m (Memory part) machine low is built = absurd (omega (arith, low, is.1))
-tray-behaves design listed wires columns n m (Source place) machine low is built = absurd (omega (arith, low, is.0, is.1))
-tray-behaves design listed wires columns n m Tray machine low is built = ap (λ (x : Machine). x.behaviour) built
+tray-behaves design listed hub columns outs m (Cut part) machine low is built = absurd (omega (arith, low, is.0))
+tray-behaves design listed hub columns outs m (Memory part) machine low is built = absurd (omega (arith, low, is.1))
+tray-behaves design listed hub columns outs m (Source place) machine low is built = absurd (omega (arith, low, is.0, is.1))
+tray-behaves design listed hub columns outs m Tray machine low is built = ap (λ (x : Machine). x.behaviour) built
 
 -- ---- the tray of an output
 
@@ -49,8 +49,8 @@ module _ (plan : Plan) (columns : List (List ℕ)) (n : ℕ) (flow : Flow) (run 
   abbrev listed : Listed
   listed = listed_of run.design.tree run.request
 
-  abbrev wires : List cut.Wire
-  wires = wires_of run.design.circuit run.design.tree listed
+  abbrev hub : Hub
+  hub = plan_hub run.design.circuit run.design.tree run.request
 
   abbrev outs : List ℕ
   outs = run.design.circuit.outs
@@ -83,7 +83,7 @@ module _ (plan : Plan) (columns : List (List ℕ)) (n : ℕ) (flow : Flow) (run 
       let kinds : kind_of (machine_at net.machines m) ≡ kind_of (machine_at is.machines m) =
       sym (kind-is net.machines m (omega (arith, lt, count))) ∙ ap (λ (f : Frame). kind_at f.kinds m) is.frame ∙ kind-is is.machines m (omega (arith, there, is.built.count)) in
       ap (λ (kind : Kind). kind.behaviour) kinds
-      ∙ tray-behaves run.design listed wires columns n m (machine_in plan m).body (machine_at is.machines m) (omega arith)
+      ∙ tray-behaves run.design listed hub columns (length (machine_in plan m).outs) m (machine_in plan m).body (machine_at is.machines m) (omega arith)
       (run.given.planned.machine m nameless there).body (is.built.each m there)
 
   -- the channel of a tray
@@ -94,20 +94,23 @@ module _ (plan : Plan) (columns : List (List ℕ)) (n : ℕ) (flow : Flow) (run 
 
   tray-channel : (k : ℕ) → k < length outs → (c : ℕ) × IsTrayChannel k c
   tray-channel k lt =
-      let w = wire (value_at outs k) (owner_of run.design.circuit run.design.tree listed (value_at outs k)) (tray k) in
-      let has = tray-wire run.design.circuit run.design.tree listed k lt in
-      let c = has.0 in
-      let at : planned.wire_at wires c ≡ w = get_or_default wires c (wire 0 0 0) w has.1 ∙ has.2 in
-      let among : c < length plan.channels = omega (arith, has.1, run.given.planned.channel_total) in
+      let wires = routes hub in
+      let takes = channels_to wires (tray k) in
+      let has = ((plan-routed run.design run.request run.given.design_is run.given.keeps run.given.faultless).trays k lt).one in
+      let low : has.0 < length takes = omega (arith, has.1, length-map takes (λ d. (planned.wire_at wires d).signal)) in
+      let c = value_at takes has.0 in
+      let at = taken-at wires (tray k) has.0 low in
+      let signal : (planned.wire_at wires c).signal ≡ value_at outs k = sym (get_or-map (λ d. (planned.wire_at wires d).signal) takes has.0 0 (value_at outs k) low) ∙ has.2 in
+      let among : c < length plan.channels = omega (arith, at.known, run.given.planned.channel_total) in
       let any : Channel = some-item plan.channels c among in
       let channel = run.given.planned.channel c any among in
       let same : net.wires ≡ wires_of_plan plan = ap (λ (f : Frame). f.wires) is.frame in (
         c,
         record {
           known = omega (arith, among, ap length same, length-from plan 0 plan.channels);
-          taken = ap (λ l. (wire_at l c).consumer) same ∙ ap (λ v. v.consumer) (wire-from plan 0 plan.channels c any among) ∙ channel.consumer ∙ ap (λ (v : cut.Wire). v.consumer) at;
+          taken = ap (λ l. (wire_at l c).consumer) same ∙ ap (λ v. v.consumer) (wire-from plan 0 plan.channels c any among) ∙ channel.consumer ∙ at.consumer;
           list = ap (λ (f : Flow). list_at f.lists c) run.flow_is ∙ get_or-map (λ (ch : Channel). column run.rows ch.signal) plan.channels c any [] among
-              ∙ ap (column run.rows) (channel.signal ∙ ap (λ (v : cut.Wire). v.signal) at);
+              ∙ ap (column run.rows) (channel.signal ∙ signal);
         },
       )
 

@@ -38,7 +38,7 @@ pub record StillHas (net : Network) (m c begin cycle : ℕ) : Type 0 where
 -- A network of a plan, at any time of its run: its frame is that of the plan's network before its first cycle.
 pub record IsNetOfPlan (plan : Plan) (columns : List (List ℕ)) (n : ℕ) (net : Network) : Type 0 where
   pub machines : List Machine
-  pub built : AreBuilt plan columns n machines
+  pub built : AreBuilt plan columns machines
   pub frame : frame_of net ≡ plan_frame plan machines n
 
 -- the values of a circuit's outputs in a row

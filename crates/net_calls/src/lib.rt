@@ -12,6 +12,6 @@ mod texts;
 pub use networks::{is_at_most, keeps};
 pub use reading::{design_of, inputs_of, request_of};
 pub use texts::{
-    COUNTER, COUNTER_TRACE, DUAL, FOUR_PORTS, FOUR_PORTS_TRACE, HALT, PAIR, PAIR_TRACE, PASS,
-    SIX_CYCLES, THREE_CYCLES, TOGGLE, memory,
+    BACK, COUNTER, COUNTER_TRACE, DUAL, FORK, FORK_TRACE, FOUR_PORTS, FOUR_PORTS_TRACE, HALT, PAIR,
+    PAIR_TRACE, PASS, SIX_CYCLES, SUMS, SUMS_TRACE, THREE_CYCLES, TOGGLE, memory,
 };

@@ -9,6 +9,8 @@
 #[cfg(test)]
 mod clocks;
 #[cfg(test)]
+mod direct;
+#[cfg(test)]
 mod logs;
 #[cfg(test)]
 mod measures;

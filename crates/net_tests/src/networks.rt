@@ -29,17 +29,19 @@ pub(crate) struct Case {
     // a step that is refused before the first cycle, and why
     pub(crate) refused: Event,
     pub(crate) cause: Refusal,
-    // the steps of a cycle
-    pub(crate) steps: &'static [Event],
+    // The steps of a cycle: the number of a channel with `F` for a token that is given on it and with `L` for one that is taken, that of a
+    // port of machine 1 with `S` for an access, and that of a machine with `E` for the end of its cycle.
+    pub(crate) steps: &'static str,
     // of machine 1: the numbers of its memory's ports, of those that are served in a cycle, and of all times that one was served
-    pub(crate) ports: u32,
-    pub(crate) dues: u32,
-    pub(crate) serves: u64,
+    pub(crate) served: (u32, u32, u64),
     // what the tray of the last output keeps
     pub(crate) kept: &'static [u128],
     // each machine's host
     pub(crate) hosts: &'static [u32],
 }
+
+// A circuit, partitions of it, a trace, and what is expected for each of these partitions.
+pub(crate) type Row = (&'static str, &'static [&'static str], &'static str, Case);
 
 // The counter: its output goes ahead of its input.
 static COUNTING: Case = Case {
@@ -49,18 +51,8 @@ static COUNTING: Case = Case {
     left: 28,
     refused: Event::Latch { channel: 0 },
     cause: Refusal::NoToken { channel: 0 },
-    steps: &[
-        Event::Fire { channel: 1 },
-        Event::Latch { channel: 1 },
-        Event::Finish { machine: 2 },
-        Event::Fire { channel: 0 },
-        Event::Latch { channel: 0 },
-        Event::Finish { machine: 0 },
-        Event::Finish { machine: 1 },
-    ],
-    ports: 0,
-    dues: 0,
-    serves: 0,
+    steps: "1F 1L 2E 0F 0L 0E 1E",
+    served: (0, 0, 0),
     kept: &[0, 0, 1, 2],
     hosts: &[0, 1, 2],
 };
@@ -73,45 +65,47 @@ static SERVING: Case = Case {
     left: 60,
     refused: Event::Fire { channel: 2 },
     cause: Refusal::NeedsInput { channel: 0 },
-    steps: &[
-        Event::Fire { channel: 0 },
-        Event::Latch { channel: 0 },
-        Event::Fire { channel: 1 },
-        Event::Latch { channel: 1 },
-        Event::Fire { channel: 2 },
-        Event::Latch { channel: 2 },
-        Event::Fire { channel: 3 },
-        Event::Latch { channel: 3 },
-        Event::Fire { channel: 4 },
-        Event::Latch { channel: 4 },
-        Event::Fire { channel: 5 },
-        Event::Latch { channel: 5 },
-        Event::Fire { channel: 6 },
-        Event::Latch { channel: 6 },
-        Event::Fire { channel: 7 },
-        Event::Latch { channel: 7 },
-        Event::Serve {
-            machine: 1,
-            port: 1,
-        },
-        Event::Finish { machine: 0 },
-        Event::Finish { machine: 1 },
-        Event::Finish { machine: 2 },
-    ],
-    ports: 2,
-    dues: 1,
-    serves: 3,
+    steps: "0F 0L 1F 1L 2F 2L 3F 3L 4F 4L 5F 5L 6F 6L 7F 7L 1S 0E 1E 2E",
+    served: (2, 1, 3),
     kept: &[0, 7, 7],
     hosts: &[0, 1, 2],
 };
 
-// Whether these steps can be done so many times.
-fn goes<Z: Streams>(net: &mut Net<Node<'_>, Z>, steps: &[Event], times: u64) -> bool {
+// The step of a letter and a number.
+fn step_of(letter: u8, number: u32) -> Event {
+    match letter {
+        b'F' => Event::Fire { channel: number },
+        b'L' => Event::Latch { channel: number },
+        b'S' => Event::Serve {
+            machine: 1,
+            port: number,
+        },
+        _ => Event::Finish { machine: number },
+    }
+}
+
+// Whether the steps of a cycle can be done.
+fn goes_once<Z: Streams>(net: &mut Net<Node<'_>, Z>, steps: &str) -> bool {
+    let mut number: u32 = 0;
+    for byte in steps.as_bytes() {
+        if byte.is_ascii_digit() {
+            number = number
+                .saturating_mul(10)
+                .saturating_add((*byte & 15) as u32);
+        } else if *byte == b' ' {
+            number = 0;
+        } else if net.step(step_of(*byte, number)).is_err() {
+            return false;
+        }
+    }
+    true
+}
+
+// Whether the steps of a cycle can be done so many times.
+fn goes<Z: Streams>(net: &mut Net<Node<'_>, Z>, steps: &str, times: u64) -> bool {
     for _ in 0..times {
-        for step in steps {
-            if net.step(*step).is_err() {
-                return false;
-            }
+        if !goes_once(net, steps) {
+            return false;
         }
     }
     true
@@ -163,10 +157,11 @@ fn is_spent<Z: Streams>(net: &Net<Node<'_>, Z>, channel: u32) -> bool
 
 // Whether machine 1 serves as expected.
 fn serves<Z: Streams>(net: &Net<Node<'_>, Z>, case: &Case) -> bool {
+    let (ports, dues, times) = case.served;
     1 < net.machines()
-        && net.port_count(1) == case.ports
-        && net.dues(1) == case.dues
-        && net.serves(1) == case.serves
+        && net.port_count(1) == ports
+        && net.dues(1) == dues
+        && net.serves(1) == times
 }
 
 // Whether a network is as expected behind its last cycle.
@@ -272,6 +267,18 @@ pub(crate) fn is_network(
         Some(design) => is_fed(alloc, &design, partition, trace, case),
         None => false,
     }
+}
+
+// The first partition of a table whose network doesn't run as expected.
+pub(crate) fn first_wrong(alloc: Global, rows: &[Row]) -> Option<&'static str> {
+    for (circuit, partitions, trace, case) in rows {
+        for partition in *partitions {
+            if !is_network(alloc, circuit, partition, trace, case) {
+                return Some(*partition);
+            }
+        }
+    }
+    None
 }
 
 #[test]

@@ -1,13 +1,8 @@
 //! gg_build: units that share a host.
-use crate::networks::{Case, is_network};
+use crate::networks::{Case, Row, first_wrong};
 use gg_net::{Event, Refusal};
+use net_calls::{SUMS, SUMS_TRACE};
 use std::test::Fail;
-
-// Two instances of a module, each with a memory inside that sums up its input.
-const SUMS: &str =
-    "circuit Two :\nmodule Sum :\ninput clock : Clock\ninput a : UInt<8>\noutput s : UInt<8>\nmem m :\ndata-type => UInt<8>\ndepth => 2\nread-latency => 0\nwrite-latency => 1\nreader => r\nwriter => w\nread-under-write => undefined\nm.r.addr <= UInt<1>(0)\nm.r.en <= UInt<1>(1)\nm.r.clk <= clock\nm.w.addr <= UInt<1>(0)\nm.w.en <= UInt<1>(1)\nm.w.clk <= clock\nm.w.mask <= UInt<1>(1)\nm.w.data <= bits(add(m.r.data, a), 7, 0)\ns <= m.r.data\nmodule Two :\ninput clock : Clock\ninput x : UInt<8>\noutput p : UInt<8>\noutput q : UInt<8>\ninst u of Sum\ninst v of Sum\nu.clock <= clock\nv.clock <= clock\nu.a <= x\nv.a <= not(x)\np <= u.s\nq <= v.s\n";
-
-const SUMS_TRACE: &str = "cycle x\n0 01\n1 10\n2 00\n";
 
 // Four instances of that module. Their outputs are one.
 const FOUR: &str =
@@ -18,10 +13,10 @@ const FOUR: &str =
 const DEEP: &str =
     "circuit Deep :\nmodule Leaf :\ninput c : Clock\ninput a : UInt<8>\noutput s : UInt<8>\nmem m :\ndata-type => UInt<8>\ndepth => 2\nread-latency => 0\nwrite-latency => 1\nreader => r\nwriter => w\nread-under-write => undefined\nm.r.addr <= bits(a, 0, 0)\nm.r.en <= UInt<1>(1)\nm.r.clk <= c\nm.w.addr <= bits(a, 0, 0)\nm.w.en <= UInt<1>(1)\nm.w.clk <= c\nm.w.mask <= UInt<1>(1)\nm.w.data <= bits(add(m.r.data, a), 7, 0)\ns <= m.r.data\nmodule Mid :\ninput c : Clock\ninput a : UInt<8>\noutput s : UInt<8>\noutput t : UInt<8>\ninst leaf of Leaf\nleaf.c <= c\nleaf.a <= a\ns <= leaf.s\nt <= xor(leaf.s, a)\nmodule Outer :\ninput c : Clock\ninput d : Clock\ninput a : UInt<8>\noutput s : UInt<8>\nreg r : UInt<8>, d\ninst mid of Mid\nmid.c <= c\nmid.a <= a\ns <= bits(add(mid.s, r), 7, 0)\nr <= mid.t\nmodule Deep :\ninput c1 : Clock\ninput c2 : Clock\ninput x : UInt<8>\noutput q : UInt<16>\ninst u of Outer\ninst v of Outer\nu.c <= c1\nu.d <= c2\nv.c <= c2\nv.d <= c1\nu.a <= x\nv.a <= not(x)\nq <= cat(u.s, v.s)\n";
 
-// Circuit, partitions, trace, and what is expected for each of these partitions. The two units share a host, in lists among empty ones too:
+// The two units share a host, in lists among empty ones too:
 // in a cycle they take turns. They share none: no list, an empty one, lists of one unit; the first is through its cycle ahead of the second.
 // Four units share two hosts, by turns. Two units of many levels share one.
-static SHARES: [(&str, &[&str], &str, Case); 4] = [
+static SHARES: [Row; 4] = [
     (
         SUMS,
         &[
@@ -37,31 +32,8 @@ static SHARES: [(&str, &[&str], &str, Case); 4] = [
             left: 60,
             refused: Event::Fire { channel: 1 },
             cause: Refusal::NeedsInput { channel: 0 },
-            steps: &[
-                Event::Fire { channel: 4 },
-                Event::Fire { channel: 2 },
-                Event::Fire { channel: 0 },
-                Event::Latch { channel: 0 },
-                Event::Fire { channel: 1 },
-                Event::Fire { channel: 3 },
-                Event::Latch { channel: 1 },
-                Event::Latch { channel: 3 },
-                Event::Latch { channel: 4 },
-                Event::Latch { channel: 2 },
-                Event::Finish { machine: 2 },
-                Event::Finish { machine: 1 },
-                Event::Fire { channel: 5 },
-                Event::Fire { channel: 6 },
-                Event::Latch { channel: 5 },
-                Event::Latch { channel: 6 },
-                Event::Finish { machine: 0 },
-                Event::Finish { machine: 3 },
-                Event::Finish { machine: 4 },
-                Event::Finish { machine: 5 },
-            ],
-            ports: 0,
-            dues: 0,
-            serves: 0,
+            steps: "4F 2F 0F 0L 1F 3F 1L 3L 4L 2L 2E 1E 5F 6F 5L 6L 0E 3E 4E 5E",
+            served: (0, 0, 0),
             kept: &[0, 254, 237],
             hosts: &[0, 1, 1, 2, 3, 4],
         },
@@ -82,31 +54,8 @@ static SHARES: [(&str, &[&str], &str, Case); 4] = [
             left: 60,
             refused: Event::Fire { channel: 1 },
             cause: Refusal::NeedsInput { channel: 0 },
-            steps: &[
-                Event::Fire { channel: 0 },
-                Event::Latch { channel: 0 },
-                Event::Finish { machine: 3 },
-                Event::Fire { channel: 1 },
-                Event::Latch { channel: 1 },
-                Event::Fire { channel: 2 },
-                Event::Latch { channel: 2 },
-                Event::Finish { machine: 1 },
-                Event::Fire { channel: 5 },
-                Event::Latch { channel: 5 },
-                Event::Finish { machine: 4 },
-                Event::Fire { channel: 3 },
-                Event::Latch { channel: 3 },
-                Event::Fire { channel: 4 },
-                Event::Latch { channel: 4 },
-                Event::Finish { machine: 2 },
-                Event::Fire { channel: 6 },
-                Event::Latch { channel: 6 },
-                Event::Finish { machine: 5 },
-                Event::Finish { machine: 0 },
-            ],
-            ports: 0,
-            dues: 0,
-            serves: 0,
+            steps: "0F 0L 3E 1F 1L 2F 2L 1E 5F 5L 4E 3F 3L 4F 4L 2E 6F 6L 5E 0E",
+            served: (0, 0, 0),
             kept: &[0, 0xfe, 0xed],
             hosts: &[0, 1, 2, 3, 4, 5],
         },
@@ -125,38 +74,8 @@ static SHARES: [(&str, &[&str], &str, Case); 4] = [
             left: 81,
             refused: Event::Fire { channel: 1 },
             cause: Refusal::NeedsInput { channel: 0 },
-            steps: &[
-                Event::Fire { channel: 8 },
-                Event::Fire { channel: 0 },
-                Event::Latch { channel: 0 },
-                Event::Fire { channel: 5 },
-                Event::Fire { channel: 1 },
-                Event::Latch { channel: 5 },
-                Event::Latch { channel: 1 },
-                Event::Fire { channel: 2 },
-                Event::Fire { channel: 6 },
-                Event::Finish { machine: 3 },
-                Event::Fire { channel: 7 },
-                Event::Latch { channel: 7 },
-                Event::Finish { machine: 4 },
-                Event::Fire { channel: 3 },
-                Event::Latch { channel: 3 },
-                Event::Fire { channel: 4 },
-                Event::Latch { channel: 2 },
-                Event::Finish { machine: 1 },
-                Event::Latch { channel: 8 },
-                Event::Latch { channel: 6 },
-                Event::Latch { channel: 4 },
-                Event::Fire { channel: 9 },
-                Event::Finish { machine: 2 },
-                Event::Finish { machine: 0 },
-                Event::Latch { channel: 9 },
-                Event::Finish { machine: 6 },
-                Event::Finish { machine: 5 },
-            ],
-            ports: 0,
-            dues: 0,
-            serves: 0,
+            steps: "8F 0F 0L 5F 1F 5L 1L 2F 6F 3E 7F 7L 4E 3F 3L 4F 2L 1E 8L 6L 4L 9F 2E 0E 9L 6E 5E",
+            served: (0, 0, 0),
             kept: &[0, 0x1fef102, 0x11edd122],
             hosts: &[0, 1, 2, 1, 2, 3, 4],
         },
@@ -172,28 +91,8 @@ static SHARES: [(&str, &[&str], &str, Case); 4] = [
             left: 85,
             refused: Event::Fire { channel: 1 },
             cause: Refusal::NeedsInput { channel: 0 },
-            steps: &[
-                Event::Fire { channel: 0 },
-                Event::Latch { channel: 0 },
-                Event::Fire { channel: 3 },
-                Event::Fire { channel: 1 },
-                Event::Latch { channel: 1 },
-                Event::Latch { channel: 3 },
-                Event::Fire { channel: 4 },
-                Event::Fire { channel: 2 },
-                Event::Finish { machine: 2 },
-                Event::Latch { channel: 4 },
-                Event::Latch { channel: 2 },
-                Event::Fire { channel: 5 },
-                Event::Finish { machine: 0 },
-                Event::Finish { machine: 1 },
-                Event::Latch { channel: 5 },
-                Event::Finish { machine: 4 },
-                Event::Finish { machine: 3 },
-            ],
-            ports: 0,
-            dues: 0,
-            serves: 0,
+            steps: "0F 0L 3F 1F 1L 3L 4F 2F 2E 4L 2L 5F 0E 1E 5L 4E 3E",
+            served: (0, 0, 0),
             kept: &[0, 0x1fe, 0x11ed, 0x6fc, 0x916f],
             hosts: &[0, 1, 1, 2, 3],
         },
@@ -202,13 +101,6 @@ static SHARES: [(&str, &[&str], &str, Case); 4] = [
 
 #[test]
 fn units_share_hosts(rt: HostRuntime) -> Result<(), Fail> {
-    for (circuit, partitions, trace, case) in &SHARES {
-        for partition in *partitions {
-            assert!(rt;
-                is_network(rt.alloc(), circuit, partition, trace, case),
-                "{partition}"
-            );
-        }
-    }
+    assert!(rt; first_wrong(rt.alloc(), &SHARES) == None);
     Ok(())
 }

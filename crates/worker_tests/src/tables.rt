@@ -1,9 +1,12 @@
-//! Runs with rings, from tables: few and many workers, cycles up to which machines are stepped, channels of capacity 1, and a host without
-//! threads.
+//! Runs with rings, from tables: few and many workers, cycles up to which machines are stepped, channels of capacity 1, direct channels, and a
+//! host without threads.
 use crate::runs::{Run, Texts, is_expected};
 use gg_io::NoGate;
 use gg_ring::Ring;
-use net_calls::{FOUR_PORTS, FOUR_PORTS_TRACE, PAIR, PAIR_TRACE, THREE_CYCLES, TOGGLE};
+use net_calls::{
+    BACK, FORK, FORK_TRACE, FOUR_PORTS, FOUR_PORTS_TRACE, PAIR, PAIR_TRACE, SUMS, SUMS_TRACE,
+    THREE_CYCLES, TOGGLE,
+};
 use std::alloc::Global;
 use std::test::Fail;
 use std::thread::Threads;
@@ -21,7 +24,7 @@ struct Table {
     rows: &'static [Row],
 }
 
-static TABLES: [Table; 4] = [
+static TABLES: [Table; 9] = [
     // two units that feed each other in one cycle: five hosts
     Table {
         texts: Texts {
@@ -83,6 +86,61 @@ static TABLES: [Table; 4] = [
             (0, 64, 3, 0, 11),
             (2, 64, 1, 4, 4),
         ],
+    },
+    // the two units without the hub between them
+    Table {
+        texts: Texts {
+            circuit: PAIR,
+            partition: "{\"units\":[\"a\",\"b\"],\"direct\":true}",
+            trace: PAIR_TRACE,
+        },
+        lodge: false,
+        kept: &[0x11, 0x83],
+        rows: &[(0, 0, 2, 26, 26), (0, 2, 2, 0, 25)],
+    },
+    // an input that goes to the hub and to a unit, which shares its host with another
+    Table {
+        texts: Texts {
+            circuit: SUMS,
+            partition: "{\"units\":[\"u\",\"v\"],\"share\":[[\"u\",\"v\"]],\"direct\":true}",
+            trace: SUMS_TRACE,
+        },
+        lodge: false,
+        kept: &[0, 0xfe, 0xed],
+        rows: &[(0, 0, 3, 48, 48), (0, 2, 3, 0, 47)],
+    },
+    // a unit that gives its sum to two others and to an output: the three on one host
+    Table {
+        texts: Texts {
+            circuit: FORK,
+            partition: "{\"units\":[\"u\",\"v\",\"w\"],\"share\":[[\"u\",\"v\",\"w\"]],\"direct\":true}",
+            trace: FORK_TRACE,
+        },
+        lodge: false,
+        kept: &[0, 0, 0x101, 0x1212],
+        rows: &[(0, 0, 4, 96, 96), (0, 2, 4, 0, 95)],
+    },
+    // the same on three hosts
+    Table {
+        texts: Texts {
+            circuit: FORK,
+            partition: "{\"units\":[\"u\",\"v\",\"w\"],\"direct\":true}",
+            trace: FORK_TRACE,
+        },
+        lodge: false,
+        kept: &[0, 0, 0x101, 0x1212],
+        rows: &[(0, 0, 4, 96, 96), (0, 2, 4, 0, 95)],
+    },
+    // a unit that gives to itself
+    Table {
+        texts: Texts {
+            circuit: BACK,
+            partition: "{\"units\":[\"u\"],\"direct\":true}",
+            trace: SUMS_TRACE,
+        },
+        lodge: false,
+        kept: &[0, 1, 0x11],
+        rows: &[(0, 0, 3, 30, 30), (0, 2, 3, 0, 29)],
     },
 ];
 

@@ -18,19 +18,19 @@ pub returns-in_ok-node-in-Memory : goal.returns-in_ok-node-in-Memory
 returns-in_ok-node-in-Memory c =
     let machines = c.args.machines.now in
     let group = c.args.group.now in
-    memory-hosts c.args.trace.now.columns c.args.trace.now.rows machines group c.in_ok-node-in-Memory.node c.in-Memory.part c.requires
+    memory-hosts c.args.trace.now.columns machines group c.in_ok-node-in-Memory.node c.in-Memory.part c.requires
     (body-of machines (value_at group 0) c.index-machines-number.result (c.requires.known 0 0 c.requires.some) c.index-machines-number.is ∙ c.in-Memory.is) c.in_ok-node-in-Memory.ensures
 
 pub returns-in_ok-node-in-Source : goal.returns-in_ok-node-in-Source
 returns-in_ok-node-in-Source c =
     let machines = c.args.machines.now in
     let group = c.args.group.now in
-    source-hosts c.args.trace.now.columns c.args.trace.now.rows machines group c.in_ok-node-in-Source.node c.in-Source.place c.requires
+    source-hosts c.args.trace.now.columns machines group c.in_ok-node-in-Source.node c.in-Source.place c.requires
     (body-of machines (value_at group 0) c.index-machines-number.result (c.requires.known 0 0 c.requires.some) c.index-machines-number.is ∙ c.in-Source.is) c.in_ok-node-in-Source.ensures
 
 pub returns-in_ok-node-in-Tray : goal.returns-in_ok-node-in-Tray
 returns-in_ok-node-in-Tray c =
     let machines = c.args.machines.now in
     let group = c.args.group.now in
-    tray-hosts c.args.trace.now.columns c.args.trace.now.rows machines group c.in_ok-node-in-Tray.node c.requires
+    tray-hosts c.args.trace.now.columns machines group c.in_ok-node-in-Tray.node c.requires
     (body-of machines (value_at group 0) c.index-machines-number.result (c.requires.known 0 0 c.requires.some) c.index-machines-number.is ∙ c.in-Tray.is) c.in_ok-node-in-Tray.ensures

@@ -17,9 +17,8 @@ loop-host-preserved c =
     let members = c.args.members.now in
     let machines = c.args.machines.now in
     let columns = c.args.trace.now.columns in
-    let n = c.args.trace.now.rows in
     let h = c.loop-host.host in
     let node = c.in_ok-node.node in
     let group : c.deref.result.now ≡ group_at (map (λ list. list.items) members) h = c.deref.ensures.value ∙ shown-at (λ list. list.items) members h c.index-members-host.result c.loop-host-test.true c.index-members-host.is in
-    hosts-more columns n machines (map (λ list. list.items) members) h c.loop-host.nodes.items c.push.new.self.items node c.in_ok-push.ensures.items c.loop-host.invariant
-    (subst (λ (l : List ℕ). IsHostOf columns n machines l node) group c.in_ok-node.ensures)
+    hosts-more columns machines (map (λ list. list.items) members) h c.loop-host.nodes.items c.push.new.self.items node c.in_ok-push.ensures.items c.loop-host.invariant
+    (subst (λ (l : List ℕ). IsHostOf columns machines l node) group c.in_ok-node.ensures)

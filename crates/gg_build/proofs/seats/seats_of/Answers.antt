@@ -20,7 +20,6 @@ pub returns : goal.returns
 returns c =
     let machines = c.as_slice-machines.result.now in
     let columns = c.args.trace.now.columns in
-    let n = c.args.trace.now.rows in
     let groups = c.in_ok-groups.groups in
     let hosts = groups.hosts.items in
     let threads = groups.threads.items in
@@ -28,13 +27,13 @@ returns c =
     let can = subst (CanBuildAll columns) (sym c.as_slice-machines.ensures) c.requires in
     let nodes = c.in_ok-hosts.hosts.items in
     let stations = c.in_ok-stations.stations.items in
-    let are : AreHosts columns n machines members (length members) nodes =
-    subst (λ k. AreHosts columns n machines members k nodes) (sym (length-map groups.members.items (λ list. list.items)))
-    (subst (λ l. AreHosts columns n machines (map (λ list. list.items) l) (length l) nodes) c.deref.ensures.value c.in_ok-hosts.ensures)
+    let are : AreHosts columns machines members (length members) nodes =
+    subst (λ k. AreHosts columns machines members k nodes) (sym (length-map groups.members.items (λ list. list.items)))
+    (subst (λ l. AreHosts columns machines (map (λ list. list.items) l) (length l) nodes) c.deref.ensures.value c.in_ok-hosts.ensures)
     in
     let stand : AreStations machines hosts threads nodes (length machines) stations =
     subst (λ (hs : List ℕ). AreStations machines hs threads nodes (length machines) stations) c.deref-2.ensures.value
     (subst (λ (ts : List ℕ). AreStations machines c.deref-2.result.now ts nodes (length machines) stations) c.deref-3.ensures.value
     (subst (λ (ns : List Node). AreStations machines c.deref-2.result.now c.deref-3.result.now ns (length machines) stations) c.deref-4.ensures.value c.in_ok-stations.ensures))
     in
-    seats-are columns machines hosts threads members can c.in_ok-groups.ensures n nodes are stations stand c.args.plan.now c.as_slice-machines.ensures
+    seats-are columns machines hosts threads members can c.in_ok-groups.ensures nodes are stations stand c.args.plan.now c.as_slice-machines.ensures

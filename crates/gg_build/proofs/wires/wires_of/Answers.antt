@@ -1,8 +1,7 @@
 use Rattle.std.proofs.Common.{List, ℕ, length, sym, subst}
 use Rattle.gg_cut.specs.declared.plan.Machine as planned
 use Rattle.gg_cut.specs.declared.plan.Channel.{Channel}
-use Rattle.gg_cut.specs.Listed.{listed_of}
-use Rattle.gg_cut.specs.Channels.{wires_of}
+use Rattle.gg_cut.specs.Direct.{plan_wires}
 use Rattle.gg_build.specs.Wires.{AreListed, ArePlaces, AreWires}
 use Rattle.gg_build.proofs.WireLemmas.{outs_of, ins_of, links-in, few-links, listed-outs, listed-ins, wires-are}
 use Rattle.gg_build.proofs.wires.wires_of.Goals as goal
@@ -11,7 +10,7 @@ pub places_of-requires : goal.places_of-requires
 places_of-requires c =
     let plan = c.args.plan.now in
     let is = c.requires in
-    let links = wires_of is.design.circuit is.design.tree (listed_of is.design.tree is.request) in
+    let links = plan_wires is.design.circuit is.design.tree is.request in
     let are = links-in plan is in
     let few = few-links plan is in
     record {
@@ -25,7 +24,7 @@ pub returns : goal.returns
 returns c =
     let plan = c.args.plan.now in
     let is = c.requires in
-    let links = wires_of is.design.circuit is.design.tree (listed_of is.design.tree is.request) in
+    let links = plan_wires is.design.circuit is.design.tree is.request in
     let places = c.in_ok-places.places in
     let wires = c.in_ok-wires.wires.items in
     wires-are plan links (links-in plan is) places.outs.items places.ins.items wires
