@@ -103,10 +103,14 @@ direct-lines : channel_text design direct_units 1 listed direct 0 [] ++ channel_
 unfolding digits
 direct-lines = refl
 
-b-takes : signals_of direct (channels_to direct 2) ≡ 6 ∷ []
+-- `b` takes the channel of the signal 6
+abbrev pub only_six : List ℕ
+only_six = 6 ∷ []
+
+b-takes : signals_of direct (channels_to direct 2) ≡ only_six
 b-takes = refl
 
-seven-free : Contains (6 ∷ []) 7 → ⊥
+seven-free : Contains only_six 7 → ⊥
 seven-free (zero, lt, is) = absurd (omega (arith, is))
 seven-free (suc k, lt, is) = absurd (omega (arith, lt))
 

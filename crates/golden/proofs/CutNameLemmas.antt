@@ -17,7 +17,8 @@ use Rattle.gg_flat.proofs.ListLemmas.{once-apart}
 use Rattle.gg_moved.specs.KeepsToTree.{KeepsToTree}
 use Rattle.gg_order.specs.Design.{IsDesign, Ordered}
 use Rattle.gg_partfile.specs.declared.request.Request.{Request}
-use Rattle.gg_cut.specs.Channels.{channel_signals, flattened, port_signals, wire, wires_of}
+use Rattle.gg_cut.specs.Channels.{channel_signals, flattened, port_signals, wire}
+use Rattle.gg_cut.specs.Direct.{plan_hub, plan_wires}
 use Rattle.gg_cut.specs.Machines.{first_memory, first_source, is_memory, machine_count}
 use Rattle.gg_cut.specs.Fault.{first_fault}
 use Rattle.gg_cut.specs.Listed.{lies, listed_of}
@@ -29,12 +30,13 @@ use Rattle.gg_cut.proofs.TrayLemmas.{trays-count}
 use Rattle.gg_cut.proofs.KnownLemmas.{parents-before, signals-known}
 use Rattle.gg_closed.specs.Apart.{AreApart}
 use Rattle.gg_closed.specs.Longest.{listed_paths}
-use Rattle.gg_closed.proofs.ChoiceLemmas.{pairs-once, wire-known}
 use Rattle.gg_closed.proofs.FaultlessLemmas.{faultless-apart, faultless-known}
 use Rattle.gg_closed.proofs.ListLemmas.{AllPairs-append, AllPairs-map, map-cases}
 use Rattle.gg_closed.proofs.ListedLemmas.{listed-are, memory-paths}
 use Rattle.gg_closed.proofs.LongestLemmas.{Among, First, Behind, ArePaths, among}
 use Rattle.gg_closed.proofs.OnceLemmas.{signals-once}
+use Rattle.gg_routes.specs.Routes.{AreRoutes}
+use Rattle.gg_routes.proofs.RoutedLemmas.{plan-routed}
 use Rattle.gg_check.specs.CheckText.{channel_name}
 use Rattle.gg_paths.specs.Paths.{HavePaths, IsPath, is_path_byte}
 use Rattle.gg_steps.specs.Spelling.{AreUsable, IsUsable}
@@ -73,10 +75,13 @@ module _ (design : Ordered) (request : Request) (is : IsDesign design) (keeps : 
   listed = listed_of design.tree request
 
   abbrev wires : List Wire
-  wires = wires_of design.circuit design.tree listed
+  wires = plan_wires design.circuit design.tree request
 
   apart : AreApart design.tree listed
   apart = faultless-apart design request none keeps.fitting
+
+  routed : AreRoutes design listed (plan_hub design.circuit design.tree request)
+  routed = plan-routed design request is keeps none
 
   no-pairs : AllPairs {X = List ℕ} (λ a b. a ≢ b) []
   no-pairs i j d less lt same = omega (arith, lt)
@@ -88,7 +93,7 @@ module _ (design : Ordered) (request : Request) (is : IsDesign design) (keeps : 
 
   signal-there : (c : ℕ) → c < length wires → (wire_at wires c).signal < length design.circuit.paths
   signal-there c lt =
-      let known = wire-known design.circuit design.tree listed is.formed keeps.fitting keeps.scoped apart (wire_at wires c) (Contains-get_or wires c (wire 0 0 0) lt) in
+      let known = routed.known c (wire 0 0 0) lt in
       omega (arith, known, is.formed.named)
 
   channel-is : (c : ℕ) (d : List ℕ) → c < length wires → get_or channels c d ≡ path_at design.circuit.paths (wire_at wires c).signal
@@ -101,7 +106,7 @@ module _ (design : Ordered) (request : Request) (is : IsDesign design) (keeps : 
   channels-differ i j d less lt same =
       let below : j < length wires = channel-inside j lt in
       let before : i < length wires = omega (arith, less, below) in
-      pairs-once design.circuit design.tree listed is.formed keeps.fitting keeps.scoped apart i j (wire 0 0 0) less below
+      routed.once i j (wire 0 0 0) less below
       (once-apart design.circuit.paths [] is.formed.distinct (wire_at wires i).signal (wire_at wires j).signal (signal-there i before) (signal-there j below)
       (sym (channel-is i d before) ∙ same ∙ channel-is j d below))
 

@@ -1,5 +1,5 @@
 -- The names of a cut are few enough for 32 bits.
-use Rattle.std.proofs.Common.{◌≡◌, ◌≢◌, ℕ, zero, suc, ◌+◌, ◌-◌, ◌<◌, ◌≤◌, ◌^◌, Bool, true, false, List, [], ◌∷◌, length, map, refl, sym, ap, subst, inl, inr, arith, nat_lt, nat_le}
+use Rattle.std.proofs.Common.{◌≡◌, ℕ, zero, suc, ◌+◌, ◌-◌, ◌<◌, ◌≤◌, ◌^◌, Bool, true, false, List, [], ◌∷◌, length, map, refl, sym, ap, subst, inl, inr, arith, nat_lt, nat_le}
 use Rattle.std.specs.Prelude.{None, if◌then◌else◌, slice_index_or}
 use Rattle.std.proofs.lemmas.Bool.{and_parts, cases_order, leb-true, ltb-true}
 use Rattle.std.proofs.lemmas.List.{get_or_past}
@@ -10,20 +10,20 @@ use Rattle.gg_flat.specs.Tree.{memory_at, port_count}
 use Rattle.gg_flat.specs.declared.memory.Memory.{Memory}
 use Rattle.gg_flat.specs.declared.tree.MemoryInstance.{MemoryInstance}
 use Rattle.gg_moved.specs.KeepsToTree.{KeepsToTree}
-use Rattle.gg_order.specs.Design.{Ordered}
+use Rattle.gg_order.specs.Design.{IsDesign, Ordered}
 use Rattle.gg_partfile.specs.declared.request.Request.{Request}
-use Rattle.gg_cut.specs.Channels.{wires_of}
+use Rattle.gg_cut.specs.Direct.{plan_wires}
 use Rattle.gg_cut.specs.Machines.{first_memory, first_source, is_memory}
 use Rattle.gg_cut.specs.Fault.{first_fault}
-use Rattle.gg_cut.specs.Listed.{listed_of, owner_of}
+use Rattle.gg_cut.specs.Listed.{listed_of}
 use Rattle.gg_cut.specs.Plan.{IsPlan}
 use Rattle.gg_cut.specs.declared.listed.Listed.{Listed}
 use Rattle.gg_cut.specs.declared.plan.Plan.{Plan}
 use Rattle.gg_cut.specs.declared.wires.Wire.{Wire}
 use Rattle.gg_closed.specs.Apart.{AreFew}
-use Rattle.gg_closed.proofs.FaultlessLemmas.{faultless-apart, faultless-few}
-use Rattle.gg_closed.proofs.MakerLemmas.{out-owner}
-use Rattle.gg_closed.proofs.EndLemmas.{few-machines}
+use Rattle.gg_closed.proofs.FaultlessLemmas.{faultless-few}
+use Rattle.gg_routes.proofs.FewLemmas.{few-machines}
+use Rattle.gg_routes.proofs.RoutedLemmas.{plan-routed, routed-base}
 use Rattle.gg_sound.proofs.WordLemmas.{memory-few}
 use Rattle.golden.specs.Replay.{port_names}
 use Rattle.golden.specs.Replayed.{AreFewNames}
@@ -39,21 +39,15 @@ ports-counted (x ∷ xs) (suc k) = ports-counted xs k
 abbrev no_memory : MemoryInstance
 no_memory = record { instance = 0; memory = 0; ports = []; clocks = [] }
 
-module _ (design : Ordered) (request : Request) (default : ℕ) (plan : Plan) (keeps : KeepsToTree design.circuit design.tree) (faultless : first_fault design request ≡ None) (planned : IsPlan design request default plan) where
+module _ (design : Ordered) (request : Request) (default : ℕ) (plan : Plan) (is : IsDesign design) (keeps : KeepsToTree design.circuit design.tree) (faultless : first_fault design request ≡ None) (planned : IsPlan design request default plan) where
   abbrev listed : Listed
   listed = listed_of design.tree request
 
   abbrev wires_in : List Wire
-  wires_in = wires_of design.circuit design.tree listed
+  wires_in = plan_wires design.circuit design.tree request
 
-  few : AreFew design.circuit design.tree listed
+  few : AreFew design.circuit design.tree request
   few = faultless-few design request faultless
-
-  -- out-signals are the hub's or a unit's
-  outputs-apart : (i k : ℕ) → k < length design.circuit.outs → owner_of design.circuit design.tree listed (value_at design.circuit.outs k) ≢ first_memory listed + i
-  outputs-apart i k lt same =
-      let hub = out-owner design.circuit design.tree listed keeps.fitting keeps.scoped (faultless-apart design request faultless keeps.fitting) k lt in
-      omega (arith, same, hub)
 
   held-few : (i : ℕ) → i < length listed.memories → length (memory_at design.tree (value_at listed.memories i)).ports < 2 ^ 32
   held-few i lt =
@@ -65,7 +59,7 @@ module _ (design : Ordered) (request : Request) (default : ℕ) (plan : Plan) (k
           | inl known ↦
               let ports : length (memory_at design.tree place).ports ≡ port_count design.circuit own = (keeps.fitting.held place known).ports in
               let counted : port_count design.circuit own ≡ length (readers_at design.circuit own) + length (writers_at design.circuit own) = ports-counted design.circuit.memories own in
-              let most : length (readers_at design.circuit own) + length (writers_at design.circuit own) ≤ length wires_in = memory-few design.circuit design.tree listed (first_memory listed + i) i lt refl (outputs-apart i) in
+              let most : length (readers_at design.circuit own) + length (writers_at design.circuit own) ≤ length wires_in = memory-few design.circuit design.tree listed (λ s. false) request.direct (routed-base design request is keeps faultless) i lt in
               let channels = few.channels in
               omega (arith, ports, counted, most, channels)
           | inr above ↦ past place (omega (arith, above))
@@ -89,7 +83,7 @@ module _ (design : Ordered) (request : Request) (default : ℕ) (plan : Plan) (k
   pub few-names : AreFewNames plan design.tree
   few-names =
       let channels = few.channels in
-      let machines = few-machines design.circuit design.tree listed few in
+      let machines = few-machines design request (plan-routed design request is keeps faultless) few in
       record {
         channels = omega (arith, channels, planned.channel_total);
         machines = omega (arith, machines, planned.machine_total);

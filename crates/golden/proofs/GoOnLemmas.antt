@@ -10,7 +10,7 @@ use Rattle.gg_flat.specs.Tree.{memory_at, path_at, port_count}
 use Rattle.gg_moved.specs.KeepsToTree.{KeepsToTree}
 use Rattle.gg_order.specs.Design.{IsDesign, Ordered}
 use Rattle.gg_partfile.specs.declared.request.Request.{Request}
-use Rattle.gg_cut.specs.Channels.{wires_of}
+use Rattle.gg_cut.specs.Direct.{plan_wires}
 use Rattle.gg_cut.specs.Machines.{first_memory, first_source, is_memory, machine_count}
 use Rattle.gg_cut.specs.Fault.{first_fault}
 use Rattle.gg_cut.specs.Listed.{listed_of}
@@ -59,7 +59,7 @@ module _ (design : Ordered) (request : Request) (default n : ℕ) (is : IsDesign
   listed = listed_of design.tree request
 
   abbrev wires : List Wire
-  wires = wires_of design.circuit design.tree listed
+  wires = plan_wires design.circuit design.tree request
 
   abbrev count : ℕ
   count = machine_count design.circuit listed
