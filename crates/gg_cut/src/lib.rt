@@ -1,7 +1,7 @@
 //! Cutting a design into machines: what a request may ask for, and what the plan of a cut is.
 //!
-//! A request lists instances (units), lists of units that share a host, memories, and capacities of channels. The
-//! definitions in `specs/` say:
+//! A request lists instances (units), lists of units that share a host, memories, and capacities of channels, and says
+//! whether channels are direct. The definitions in `specs/` say:
 //!
 //! - what a request lists, by places in the tree of instances (Listed);
 //! - which faults it has, and in what order they are reported (Fault);
@@ -40,6 +40,7 @@ mod wires;
 pub use fault::CutFault;
 pub use laws::{channels_agree, columns_solve};
 pub use listed::Listed;
+pub use marks::{marks_of, unmarked};
 pub use numbering::{Numbering, Role};
 pub use owners::owners_of;
 pub use plan::{Body, Channel, Machine, Plan};

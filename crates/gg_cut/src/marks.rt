@@ -10,23 +10,19 @@ use std::alloc::{AllocError, Global};
 /// # Errors
 ///
 /// Returns `AllocError` if an allocation fails.
-pub(crate) fn unmarked(alloc: Global, count: usize) -> Result<Vec<bool>, AllocError>
+pub fn unmarked(alloc: Global, count: usize) -> Result<Vec<bool>, AllocError>
     ensures none { IfOk result (λ marks. (k : ℕ) → is_marked marks.items k ≡ false) }
     ensures count { IfOk result (λ marks. length marks.items ≡ count) }
 {
     vec![in alloc; false; count]
 }
 
-/// Marks on the signals of channels, by the signals' numbers.
+/// Marks on these signals, by their numbers, which are below `count`.
 ///
 /// # Errors
 ///
 /// Returns `AllocError` if an allocation fails.
-pub(crate) fn channel_marks(
-    alloc: Global,
-    count: usize,
-    signals: &[u32],
-) -> Result<Vec<bool>, AllocError>
+pub fn marks_of(alloc: Global, count: usize, signals: &[u32]) -> Result<Vec<bool>, AllocError>
     requires { All (λ s. s < count) signals.now }
     ensures marks { IfOk result (λ marks. AreMarks signals.now marks.items) }
     ensures count { IfOk result (λ marks. length marks.items ≡ count) }

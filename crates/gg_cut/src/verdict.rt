@@ -13,7 +13,7 @@ use crate::entries::{
 };
 use crate::fault::CutFault;
 use crate::listed::Listed;
-use crate::marks::channel_marks;
+use crate::marks::marks_of;
 use crate::overlap::none_overlap;
 use crate::signals::{listed_memories, listed_units};
 use gg_bits::Ids;
@@ -125,7 +125,7 @@ pub fn judge_channels(
     requires memories { length listed.now.memories < 2 ^ 32 }
     ensures { Tells (first_of (channel_faults piece.now request.now listed.now signals.now)) result }
 {
-    let marks = channel_marks(alloc, piece.signals().len(), signals)?;
+    let marks = marks_of(alloc, piece.signals().len(), signals)?;
     channels_exist(piece, signals, &marks, request.capacity.as_slice())?;
     capacities_in_range(request.capacity.as_slice())?;
     few_units(
