@@ -9,12 +9,12 @@ use Rattle.gg_flat.proofs.ListLemmas.{here, further}
 use Rattle.gg_order.specs.Design.{Ordered}
 use Rattle.gg_partfile.specs.declared.request.Request.{Request}
 use Rattle.gg_cut.specs.declared.fault.CutFault.TheVariants.{UnknownUnit, Doubled}
-use Rattle.gg_cut.specs.Channels.{channel_signals}
-use Rattle.gg_cut.specs.Fault.{first_clash, same_path, entries, repeated, unshared, entry_faults, channel_faults, first_fault}
+use Rattle.gg_cut.specs.Fault.{first_clash, same_path, entries, repeated, unshared, entry_faults, first_fault}
 use Rattle.gg_cut.specs.Hosts.{machine_of, least_machine, group_of, leader_in, leader, host_of}
-use Rattle.gg_cut.specs.Listed.{is_among, listed_of}
-use Rattle.gg_cut.proofs.FindLemmas.{first_clash-append, none-at, none-front, none-map}
+use Rattle.gg_cut.specs.Listed.{is_among}
+use Rattle.gg_cut.proofs.FindLemmas.{first_clash-append, none-at, none-map}
 use Rattle.gg_cut.proofs.RangeLemmas.{filter-more}
+use Rattle.gg_closed.proofs.FaultlessLemmas.{no-entry-fault}
 use Rattle.gg_duplicates.proofs.GroupLemmas.{HasUnit, has-unit, unit-tested, least-in, fresh, unit-one, either-none, entries-in, entry-known, find-some}
 use Rattle.gg_plan.proofs.HostLemmas.{leader-cons, least-member, least-below}
 
@@ -80,7 +80,7 @@ leader-twice units earlier (group ∷ share) m once known =
 
 module _ (design : Ordered) (request : Request) (none : first_fault design request ≡ None) where
   entry-none : (i : ℕ) → get_or (entry_faults design.tree request) i None ≡ None
-  entry-none i = none-at (entry_faults design.tree request) i (none-front (entry_faults design.tree request) (channel_faults design.circuit request (listed_of design.tree request) (channel_signals design.circuit design.tree (listed_of design.tree request))) none)
+  entry-none i = none-at (entry_faults design.tree request) i (no-entry-fault design request none)
 
   pub leaders-first : (m : ℕ) → leader request.units request.share (leader request.units request.share m) ≡ leader request.units request.share m
   leaders-first m = leader-twice request.units [] request.share m (none-map Doubled (repeated (entries request.share)) (entry-none 3)) (none-map UnknownUnit (unshared request.units request.share) (entry-none 1))

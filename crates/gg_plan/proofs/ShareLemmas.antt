@@ -1,5 +1,5 @@
 -- What machines have by the routed channels.
-use Rattle.std.proofs.Common.{◌≡◌, ℕ, ◌<◌, List, length, get_or, Bool, sym, ◌∙◌, ap, subst, inl, inr, ◌⊎◌, eq-eqb, arith}
+use Rattle.std.proofs.Common.{◌≡◌, ℕ, ◌<◌, List, length, get_or, Bool, false, sym, ◌∙◌, ap, subst, inl, inr, ◌⊎◌, eq-eqb, arith}
 use Rattle.std.specs.Prelude.{if◌then◌else◌, filter}
 use Rattle.std.proofs.lemmas.Bool.{cases_eq, ne_eqb}
 use Rattle.gg_moved.specs.KeepsToTree.{KeepsToTree}
