@@ -1,6 +1,6 @@
 -- The machines of the network have the ins and outs that the plan lists, and what they need and serve exists.
-use Rattle.std.proofs.Common.{◌≡◌, ◌≢◌, ℕ, zero, suc, ◌<◌, List, [], ◌∷◌, None, false, length, map, sym, ◌∙◌, ap, subst, arith}
-use Rattle.std.specs.Prelude.{Option, All, AllPairs, Contains, replicate}
+use Rattle.std.proofs.Common.{◌≡◌, ℕ, ◌<◌, List, [], None, false, length, map, sym, ◌∙◌, ap, subst, arith}
+use Rattle.std.specs.Prelude.{Option, All, Contains, replicate}
 use Rattle.std.proofs.lemmas.List.{length-map, length-replicate, get_or-map}
 use Rattle.std.proofs.lemmas.List.Elements.{All-nil, All-weaker}
 use Rattle.gg_flat.specs.Line.{value_at}
@@ -11,18 +11,18 @@ use Rattle.gg_cut.specs.declared.listed.Listed.{Listed}
 use Rattle.gg_cut.specs.declared.plan.Body.{Body}
 use Rattle.gg_cut.specs.declared.plan.Body.TheVariants.{Cut, Memory, Source, Tray}
 use Rattle.gg_cut.specs.declared.plan.Plan.{Plan}
-use Rattle.gg_cut.specs.declared.wires.Wire.{Wire as Link}
 use Rattle.gg_cut.specs.Listed.{listed_of}
 use Rattle.gg_cut.specs.Machines.{machine_count}
-use Rattle.gg_cut.specs.Channels.{wires_of}
+use Rattle.gg_cut.specs.Direct.{Hub, routes, plan_hub, plan_wires}
 use Rattle.gg_cut.specs.Plan.{wire_at as link_at, channels_to, channels_from, IsCutPart, IsBody, IsPlan}
+use Rattle.gg_routes.specs.Routes.{AreRoutes}
 use Rattle.gg_memunit.specs.MemoryUnit.{count_of, needs_of, ports_of}
-use Rattle.gg_node.specs.Machine.{Machine, Port, machine_at, no_machine, needs_at}
+use Rattle.gg_node.specs.Machine.{Machine, Port, machine_at, no_machine}
 use Rattle.gg_node.specs.Step.{fields_of}
 use Rattle.gg_net.specs.Network.{kind_of, kind_at, no_kind}
 use Rattle.gg_sound.specs.Built.{machine_in, nameless, IsUnitOf, IsMemoryOf, IsBuilt, AreBuilt}
-use Rattle.gg_sound.proofs.SideLemmas.{source-takes, source-gives-one, tray-takes, tray-gives-none}
-use Rattle.gg_sound.proofs.PortLemmas.{needs-there, needs-count, piece-needs, IsFitPort, ports-fit}
+use Rattle.gg_sound.proofs.SideLemmas.{source-takes, tray-takes, tray-gives-none}
+use Rattle.gg_sound.proofs.PortLemmas.{needs-there, no-needs, needs-count, piece-needs, IsFitPort, ports-fit}
 use Rattle.gg_sound.proofs.WiredLemmas.{IsFitting, AreFitting}
 
 no-ports-fields : (n : ℕ) → All (λ (port : Port). All (λ i. i < n) (fields_of port.access)) []
@@ -36,18 +36,18 @@ no_token = None
 
 -- ---- machines with a piece
 
-module _ (design : Ordered) (listed : Listed) (links : List Link) (m : ℕ) (part : Part) (cut : IsCutPart design listed links m part) where
-  pub ins-count : length part.piece.ins ≡ length (channels_to links m)
-  ins-count = sym (length-map part.piece.ins (value_at part.globals)) ∙ ap length cut.ins ∙ length-map (channels_to links m) (λ c. (link_at links c).signal)
+module _ (design : Ordered) (listed : Listed) (hub : Hub) (m : ℕ) (part : Part) (cut : IsCutPart design listed hub m part) where
+  pub ins-count : length part.piece.ins ≡ length (channels_to (routes hub) m)
+  ins-count = sym (length-map part.piece.ins (value_at part.globals)) ∙ ap length cut.ins ∙ length-map (channels_to (routes hub) m) (λ c. (link_at (routes hub) c).signal)
 
-  pub outs-count : length part.piece.outs ≡ length (channels_from links m)
-  outs-count = sym (length-map part.piece.outs (value_at part.globals)) ∙ ap length cut.outs ∙ length-map (channels_from links m) (λ c. (link_at links c).given)
+  pub outs-count : length part.piece.outs ≡ length (channels_from (routes hub) m)
+  outs-count = sym (length-map part.piece.outs (value_at part.globals)) ∙ ap length cut.outs ∙ length-map (channels_from (routes hub) m) (λ c. (link_at (routes hub) c).given)
 
-  unit-fits : (machine : Machine) → IsUnitOf part machine → IsFitting links m (kind_of machine)
+  unit-fits : (machine : Machine) → IsUnitOf part machine → IsFitting (routes hub) m (kind_of machine)
   unit-fits machine unit =
       let piece = unit.circuit in
       let ins : length (replicate (length piece.ins) no_token) ≡ length part.piece.ins = length-replicate (length piece.ins) no_token ∙ ap length unit.alike.ins in
-      subst (λ (t : Machine). IsFitting links m (kind_of t)) (sym unit.is)
+      subst (λ (t : Machine). IsFitting (routes hub) m (kind_of t)) (sym unit.is)
       (record {
         ins = ins ∙ ins-count;
         outs = length-replicate (length piece.outs) false ∙ ap length unit.outs ∙ outs-count;
@@ -59,7 +59,7 @@ module _ (design : Ordered) (listed : Listed) (links : List Link) (m : ℕ) (par
         numbers = no-ports-numbers;
       })
 
-  memory-fits : (machine : Machine) → IsMemoryOf part machine → IsFitting links m (kind_of machine)
+  memory-fits : (machine : Machine) → IsMemoryOf part machine → IsFitting (routes hub) m (kind_of machine)
   memory-fits machine memory =
       let piece = memory.alone.piece in
       let ins = length-replicate (length piece.ins) no_token in
@@ -67,7 +67,7 @@ module _ (design : Ordered) (listed : Listed) (links : List Link) (m : ℕ) (par
       let own_outs : length piece.outs ≡ length part.piece.outs = sym (length-map piece.outs (value_at memory.alone.globals)) ∙ ap length memory.outs in
       let is = memory.is_memory in
       let ports = ports-fit piece.memories (length piece.ins) is.readers is.writers in
-      subst (λ (t : Machine). IsFitting links m (kind_of t)) (sym memory.is)
+      subst (λ (t : Machine). IsFitting (routes hub) m (kind_of t)) (sym memory.is)
       (record {
         ins = ins ∙ own_ins ∙ ins-count;
         outs = length-replicate (length piece.outs) false ∙ own_outs ∙ outs-count;
@@ -82,28 +82,24 @@ module _ (design : Ordered) (listed : Listed) (links : List Link) (m : ℕ) (par
 
 -- ---- all machines
 
-module _ (design : Ordered) (listed : Listed) (once : AllPairs (λ (v w : Link). v.signal ≢ w.signal) (wires_of design.circuit design.tree listed)) where
-  fits : (columns : List (List ℕ)) (n m : ℕ) (body : Body) (machine : Machine) → m < machine_count design.circuit listed → IsBody design listed (wires_of design.circuit design.tree listed) m body → IsBuilt columns n body machine → IsFitting (wires_of design.circuit design.tree listed) m (kind_of machine)
-  fits columns n m (Cut part) machine lt body built = unit-fits design listed (wires_of design.circuit design.tree listed) m part body.1 machine built
-  fits columns n m (Memory part) machine lt body built = memory-fits design listed (wires_of design.circuit design.tree listed) m part body.2 machine built
-  fits columns n m (Source place) machine lt body built =
-      subst (λ (t : Machine). IsFitting (wires_of design.circuit design.tree listed) m (kind_of t)) (sym built)
+module _ (design : Ordered) (listed : Listed) (hub : Hub) (routed : AreRoutes design listed hub) where
+  fits : (columns : List (List ℕ)) (m : ℕ) (body : Body) (machine : Machine) → m < machine_count design.circuit listed → IsBody design listed hub m body → IsBuilt columns (length (channels_from (routes hub) m)) body machine → IsFitting (routes hub) m (kind_of machine)
+  fits columns m (Cut part) machine lt body built = unit-fits design listed hub m part body.1 machine built
+  fits columns m (Memory part) machine lt body built = memory-fits design listed hub m part body.2 machine built
+  fits columns m (Source place) machine lt body built =
+      subst (λ (t : Machine). IsFitting (routes hub) m (kind_of t)) (sym built)
       (record {
-        ins = sym (source-takes design.circuit design.tree listed m place body.0 body.1);
-        outs = sym (source-gives-one design.circuit design.tree listed m place body.0 body.1);
-        needs = none;
+        ins = sym (source-takes design listed hub routed m place body.0 body.1);
+        outs = length-replicate (length (channels_from (routes hub) m)) false;
+        needs = λ o i has. absurd (no-needs (length (replicate (length (channels_from (routes hub) m)) false)) o i has);
         fields = no-ports-fields 0;
         numbers = no-ports-numbers;
       })
-    where
-      none : (o i : ℕ) → Contains (needs_at ([] ∷ []) o) i → i < 0
-      none zero i has = absurd (omega (arith, has.1))
-      none (suc o) i has = absurd (omega (arith, has.1))
-  fits columns n m Tray machine lt body built =
-      subst (λ (t : Machine). IsFitting (wires_of design.circuit design.tree listed) m (kind_of t)) (sym built)
+  fits columns m Tray machine lt body built =
+      subst (λ (t : Machine). IsFitting (routes hub) m (kind_of t)) (sym built)
       (record {
-        ins = sym (tray-takes design.circuit design.tree listed once m body lt);
-        outs = sym (tray-gives-none design.circuit design.tree listed m body);
+        ins = sym (tray-takes design listed hub routed m body lt);
+        outs = sym (tray-gives-none design listed hub routed m body lt);
         needs = λ o i has. absurd (omega (arith, has.1));
         fields = no-ports-fields 1;
         numbers = no-ports-numbers;
@@ -113,13 +109,15 @@ module _ (design : Ordered) (listed : Listed) (once : AllPairs (λ (v w : Link).
 pub kind-is : (machines : List Machine) (m : ℕ) → m < length machines → kind_at (map kind_of machines) m ≡ kind_of (machine_at machines m)
 kind-is machines m lt = get_or-map kind_of machines m no_machine no_kind lt
 
-pub fitting : (design : Ordered) (request : Request) (default : ℕ) (plan : Plan) (columns : List (List ℕ)) (n : ℕ) (machines : List Machine) → IsPlan design request default plan → AllPairs (λ (v w : Link). v.signal ≢ w.signal) (wires_of design.circuit design.tree (listed_of design.tree request)) → AreBuilt plan columns machines
-    → AreFitting (wires_of design.circuit design.tree (listed_of design.tree request)) (length plan.machines) (map kind_of machines)
-fitting design request default plan columns n machines planned once built =
-    let listed = listed_of design.tree request in
+pub fitting : (design : Ordered) (request : Request) (default : ℕ) (plan : Plan) (columns : List (List ℕ)) (machines : List Machine) → IsPlan design request default plan → AreRoutes design (listed_of design.tree request) (plan_hub design.circuit design.tree request) → AreBuilt plan columns machines
+    → AreFitting (plan_wires design.circuit design.tree request) (length plan.machines) (map kind_of machines)
+fitting design request default plan columns machines planned routed built =
+    let hub = plan_hub design.circuit design.tree request in
     record {
       total = length-map machines kind_of ∙ built.count;
       each = λ m lt.
-          subst (IsFitting (wires_of design.circuit design.tree listed) m) (sym (kind-is machines m (omega (arith, lt, built.count))))
-          (fits design listed once columns n m (machine_in plan m).body (machine_at machines m) (omega (arith, lt, planned.machine_total)) (planned.machine m nameless lt).body (built.each m lt));
+          let own = planned.machine m nameless lt in
+          subst (IsFitting (routes hub) m) (sym (kind-is machines m (omega (arith, lt, built.count))))
+          (fits design (listed_of design.tree request) hub routed columns m (machine_in plan m).body (machine_at machines m) (omega (arith, lt, planned.machine_total)) own.body
+          (subst (λ (l : List ℕ). IsBuilt columns (length l) (machine_in plan m).body (machine_at machines m)) own.outs (built.each m lt)));
     }

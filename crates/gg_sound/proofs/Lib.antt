@@ -7,6 +7,7 @@ pub mod PortLemmas
 pub mod GivenLemmas
 pub mod FitLemmas
 pub mod RankLemmas
+pub mod CopyLemmas
 pub mod NeedLemmas
 pub mod RingLemmas
 pub mod PlanLemmas

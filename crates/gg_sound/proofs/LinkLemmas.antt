@@ -5,7 +5,6 @@ use Rattle.gg_cut.specs.declared.plan.Channel.{Channel}
 use Rattle.gg_cut.specs.declared.plan.Plan.{Plan}
 use Rattle.gg_cut.specs.declared.wires.Wire.{Wire as Link}
 use Rattle.gg_cut.specs.Plan.{wire_at as link_at, channels_to, channels_from}
-use Rattle.gg_closed.specs.Apart.{AreEnds}
 use Rattle.gg_net.specs.declared.shape.Wire.{Wire}
 use Rattle.gg_net.specs.Network.{wire_at}
 use Rattle.gg_flat.proofs.ListLemmas.{some-item}
@@ -20,7 +19,7 @@ pub record AreLinks (plan : Plan) (links : List Link) : Type 0 where
   pub some : (c : ℕ) (any : Channel) → c < length plan.channels → 0 < (get_or plan.channels c any).capacity
   pub ins : (m : ℕ) → m < length plan.machines → (machine_in plan m).ins ≡ channels_to links m
   pub outs : (m : ℕ) → m < length plan.machines → (machine_in plan m).outs ≡ channels_from links m
-  pub ends : (c : ℕ) → c < length links → AreEnds (length plan.machines) (link_at links c)
+  pub ends : (c : ℕ) → c < length links → ((link_at links c).producer < length plan.machines) × ((link_at links c).consumer < length plan.machines)
 
 -- ---- the network's channels by number
 
@@ -65,9 +64,9 @@ module _ (plan : Plan) (links : List Link) (are : AreLinks plan links) where
       let takes = are.consumer c any known in
       record {
         producer = ap (λ w. w.producer) is ∙ gives;
-        out = ap (λ w. w.out) is ∙ ap (λ p. place_in (machine_in plan p).outs c) gives ∙ ap (λ l. place_in l c) (are.outs (link_at links c).producer ends.producer);
+        out = ap (λ w. w.out) is ∙ ap (λ p. place_in (machine_in plan p).outs c) gives ∙ ap (λ l. place_in l c) (are.outs (link_at links c).producer ends.0);
         consumer = ap (λ w. w.consumer) is ∙ takes;
-        place = ap (λ w. w.place) is ∙ ap (λ p. place_in (machine_in plan p).ins c) takes ∙ ap (λ l. place_in l c) (are.ins (link_at links c).consumer ends.consumer);
+        place = ap (λ w. w.place) is ∙ ap (λ p. place_in (machine_in plan p).ins c) takes ∙ ap (λ l. place_in l c) (are.ins (link_at links c).consumer ends.1);
         some = subst (λ (w : Wire). 0 < w.capacity) (sym is) (are.some c any known);
         first = ap (λ w. w.first) is;
       }

@@ -1,6 +1,6 @@
 -- If an out of a machine needs an in, the signal of the out's channel reaches the signal of the in's channel in the circuit.
-use Rattle.std.proofs.Common.{◌≡◌, ℕ, zero, suc, ◌<◌, List, [], ◌∷◌, length, sym, ◌∙◌, ap, subst, arith}
-use Rattle.std.specs.Prelude.{Contains}
+use Rattle.std.proofs.Common.{◌≡◌, ℕ, ◌<◌, List, false, length, sym, ◌∙◌, ap, subst, arith}
+use Rattle.std.specs.Prelude.{Contains, replicate}
 use Rattle.std.proofs.lemmas.List.{length-map, get_or-map}
 use Rattle.gg_flat.specs.Line.{value_at}
 use Rattle.gg_flat.specs.Circuit.{FlatCircuit}
@@ -12,12 +12,13 @@ use Rattle.gg_cut.specs.declared.listed.Listed.{Listed}
 use Rattle.gg_cut.specs.declared.plan.Body.{Body}
 use Rattle.gg_cut.specs.declared.plan.Body.TheVariants.{Cut, Memory, Source, Tray}
 use Rattle.gg_cut.specs.declared.wires.Wire.{Wire as Link}
+use Rattle.gg_cut.specs.Direct.{Hub, routes}
 use Rattle.gg_cut.specs.Plan.{channels_to, channels_from, signals_of, givens_of, IsCutPart, IsBody}
 use Rattle.gg_memunit.specs.MemoryUnit.{needs_of}
 use Rattle.gg_node.specs.Machine.{Machine, needs_at}
 use Rattle.gg_net.specs.Network.{Kind, kind_of}
 use Rattle.gg_sound.specs.Built.{IsUnitOf, IsMemoryOf, IsBuilt}
-use Rattle.gg_sound.proofs.PortLemmas.{needs-there, needs-count, piece-needs}
+use Rattle.gg_sound.proofs.PortLemmas.{needs-there, no-needs, needs-count, piece-needs}
 use Rattle.gg_sound.proofs.RankLemmas.{reach-in}
 
 -- in the circuit, the signal by which the channel at out o of machine m is given reaches the signal of the channel at in i
@@ -28,19 +29,19 @@ ReachesIn circuit links m o i = Reaches circuit (value_at (givens_of links (chan
 pub record HasNeeds (circuit : FlatCircuit) (links : List Link) (m : ℕ) (kind : Kind) : Type 0 where
   pub reach : (o i : ℕ) → Contains (needs_at kind.needs o) i → ReachesIn circuit links m o i
 
-module _ (design : Ordered) (listed : Listed) (links : List Link) (m : ℕ) (part : Part) (cut : IsCutPart design listed links m part) where
+module _ (design : Ordered) (listed : Listed) (hub : Hub) (m : ℕ) (part : Part) (cut : IsCutPart design listed hub m part) where
   -- an out-signal of the part that reaches an in-signal does so in the circuit
-  part-reaches : (o i : ℕ) → o < length part.piece.outs → i < length part.piece.ins → Reaches part.piece (value_at part.piece.outs o) (value_at part.piece.ins i) → ReachesIn design.circuit links m o i
+  part-reaches : (o i : ℕ) → o < length part.piece.outs → i < length part.piece.ins → Reaches part.piece (value_at part.piece.outs o) (value_at part.piece.ins i) → ReachesIn design.circuit (routes hub) m o i
   part-reaches o i low less to =
       let whole = reach-in design.circuit part.piece part.globals part.held part.memories cut.is (value_at part.piece.outs o) (value_at part.piece.ins i) (cut.is.outs o low) to in
-      let out : value_at part.globals (value_at part.piece.outs o) ≡ value_at (givens_of links (channels_from links m)) o = sym (get_or-map (value_at part.globals) part.piece.outs o 0 0 low) ∙ ap (λ (l : List ℕ). value_at l o) cut.outs in
-      let into : value_at part.globals (value_at part.piece.ins i) ≡ value_at (signals_of links (channels_to links m)) i = sym (get_or-map (value_at part.globals) part.piece.ins i 0 0 less) ∙ ap (λ (l : List ℕ). value_at l i) cut.ins in
-      subst (λ (s : ℕ). Reaches design.circuit s (value_at (signals_of links (channels_to links m)) i)) out
+      let out : value_at part.globals (value_at part.piece.outs o) ≡ value_at (givens_of (routes hub) (channels_from (routes hub) m)) o = sym (get_or-map (value_at part.globals) part.piece.outs o 0 0 low) ∙ ap (λ (l : List ℕ). value_at l o) cut.outs in
+      let into : value_at part.globals (value_at part.piece.ins i) ≡ value_at (signals_of (routes hub) (channels_to (routes hub) m)) i = sym (get_or-map (value_at part.globals) part.piece.ins i 0 0 less) ∙ ap (λ (l : List ℕ). value_at l i) cut.ins in
+      subst (λ (s : ℕ). Reaches design.circuit s (value_at (signals_of (routes hub) (channels_to (routes hub) m)) i)) out
       (subst (λ (s : ℕ). Reaches design.circuit (value_at part.globals (value_at part.piece.outs o)) s) into whole)
 
-  unit-needs : (machine : Machine) → IsUnitOf part machine → HasNeeds design.circuit links m (kind_of machine)
+  unit-needs : (machine : Machine) → IsUnitOf part machine → HasNeeds design.circuit (routes hub) m (kind_of machine)
   unit-needs machine unit =
-      subst (λ (t : Machine). HasNeeds design.circuit links m (kind_of t)) (sym unit.is)
+      subst (λ (t : Machine). HasNeeds design.circuit (routes hub) m (kind_of t)) (sym unit.is)
       (record {
         reach = λ o i has.
             let there = needs-there unit.needs o i has in
@@ -49,14 +50,14 @@ module _ (design : Ordered) (listed : Listed) (links : List Link) (m : ℕ) (par
             part-reaches o i low need.0 need.1;
       })
 
-  memory-needs : (machine : Machine) → IsMemoryOf part machine → HasNeeds design.circuit links m (kind_of machine)
+  memory-needs : (machine : Machine) → IsMemoryOf part machine → HasNeeds design.circuit (routes hub) m (kind_of machine)
   memory-needs machine memory =
       let alone = memory.alone in
       let piece = alone.piece in
       let is = memory.is_memory in
       let own_ins : length piece.ins ≡ length part.piece.ins = sym (length-map piece.ins (value_at alone.globals)) ∙ ap length memory.ins in
       let own_outs : length piece.outs ≡ length part.piece.outs = sym (length-map piece.outs (value_at alone.globals)) ∙ ap length memory.outs in
-      subst (λ (t : Machine). HasNeeds design.circuit links m (kind_of t)) (sym memory.is)
+      subst (λ (t : Machine). HasNeeds design.circuit (routes hub) m (kind_of t)) (sym memory.is)
       (record {
         reach = λ o i has.
             let there = needs-there (needs_of piece.memories) o i has in
@@ -72,12 +73,8 @@ module _ (design : Ordered) (listed : Listed) (links : List Link) (m : ℕ) (par
       })
 
 -- this holds for each machine of the network
-pub has-needs : (design : Ordered) (listed : Listed) (links : List Link) (columns : List (List ℕ)) (n m : ℕ) (body : Body) (machine : Machine) → IsBody design listed links m body → IsBuilt columns n body machine → HasNeeds design.circuit links m (kind_of machine)
-has-needs design listed links columns n m (Cut part) machine body built = unit-needs design listed links m part body.1 machine built
-has-needs design listed links columns n m (Memory part) machine body built = memory-needs design listed links m part body.2 machine built
-has-needs design listed links columns n m (Source place) machine body built = subst (λ (t : Machine). HasNeeds design.circuit links m (kind_of t)) (sym built) (record { reach = none })
-  where
-    none : (o i : ℕ) → Contains (needs_at ([] ∷ []) o) i → ReachesIn design.circuit links m o i
-    none zero i has = absurd (omega (arith, has.1))
-    none (suc o) i has = absurd (omega (arith, has.1))
-has-needs design listed links columns n m Tray machine body built = subst (λ (t : Machine). HasNeeds design.circuit links m (kind_of t)) (sym built) (record { reach = λ o i has. absurd (omega (arith, has.1)) })
+pub has-needs : (design : Ordered) (listed : Listed) (hub : Hub) (columns : List (List ℕ)) (outs m : ℕ) (body : Body) (machine : Machine) → IsBody design listed hub m body → IsBuilt columns outs body machine → HasNeeds design.circuit (routes hub) m (kind_of machine)
+has-needs design listed hub columns outs m (Cut part) machine body built = unit-needs design listed hub m part body.1 machine built
+has-needs design listed hub columns outs m (Memory part) machine body built = memory-needs design listed hub m part body.2 machine built
+has-needs design listed hub columns outs m (Source place) machine body built = subst (λ (t : Machine). HasNeeds design.circuit (routes hub) m (kind_of t)) (sym built) (record { reach = λ o i has. absurd (no-needs (length (replicate outs false)) o i has) })
+has-needs design listed hub columns outs m Tray machine body built = subst (λ (t : Machine). HasNeeds design.circuit (routes hub) m (kind_of t)) (sym built) (record { reach = λ o i has. absurd (omega (arith, has.1)) })

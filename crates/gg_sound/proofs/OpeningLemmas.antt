@@ -11,11 +11,11 @@ use Rattle.gg_cut.specs.declared.plan.Body.{Body}
 use Rattle.gg_cut.specs.declared.plan.Body.TheVariants.{Cut, Memory, Source, Tray}
 use Rattle.gg_cut.specs.declared.plan.Machine as planned
 use Rattle.gg_cut.specs.declared.plan.Plan.{Plan}
-use Rattle.gg_cut.specs.declared.wires.Wire.{Wire as Link}
 use Rattle.gg_cut.specs.Listed.{listed_of}
-use Rattle.gg_cut.specs.Channels.{wires_of}
+use Rattle.gg_cut.specs.Direct.{Hub, plan_hub}
 use Rattle.gg_cut.specs.Plan.{IsBody}
 use Rattle.gg_closed.proofs.FaultlessLemmas.{faultless-apart, faultless-few}
+use Rattle.gg_routes.proofs.RoutedLemmas.{plan-routed}
 use Rattle.gg_node.specs.Machine.{Machine, machine_at, no_state}
 use Rattle.gg_net.specs.Net.{IsOpening}
 use Rattle.gg_sound.specs.Built.{machine_in, nameless, IsBuilt, AreBuilt, IsGiven, body_state, states_of, flow_of}
@@ -34,12 +34,12 @@ module _ (design : Ordered) (request : Request) (default : ℕ) (plan : Plan) (c
   abbrev listed : Listed
   listed = listed_of design.tree request
 
-  abbrev links : List Link
-  links = wires_of design.circuit design.tree (listed_of design.tree request)
+  abbrev hub : Hub
+  hub = plan_hub design.circuit design.tree request
 
   -- a machine with this body begins in its part of the opening
-  opens : (m : ℕ) (body : Body) (machine : Machine) → IsBody design listed links m body → state_in (states_of plan (opening design.circuit)) m ≡ body_state body (opening design.circuit) → IsBuilt columns n body machine → IsOpening (flow_of plan design rows) m machine
-  opens m (Cut part) machine body begins unit =
+  opens : (m outs : ℕ) (body : Body) (machine : Machine) → IsBody design listed hub m body → state_in (states_of plan (opening design.circuit)) m ≡ body_state body (opening design.circuit) → IsBuilt columns outs body machine → IsOpening (flow_of plan design rows) m machine
+  opens m outs (Cut part) machine body begins unit =
       subst (IsOpening (flow_of plan design rows) m) (sym unit.is)
       (record {
         cycle = refl;
@@ -49,8 +49,8 @@ module _ (design : Ordered) (request : Request) (default : ℕ) (plan : Plan) (c
         flags = flags-of (length unit.circuit.outs);
         kept = refl;
       })
-  opens m (Memory part) machine body begins memory =
-      let own = memory-part design listed m part given.design_is given.keeps (faultless-apart design request given.faultless given.keeps.fitting) body.0 body.1 body.2 (faultless-few design request given.faultless) in
+  opens m outs (Memory part) machine body begins memory =
+      let own = memory-part design request m part given.design_is given.keeps (faultless-apart design request given.faultless given.keeps.fitting) (plan-routed design request given.design_is given.keeps given.faultless) body.0 body.1 body.2 (faultless-few design request given.faultless) in
       subst (IsOpening (flow_of plan design rows) m) (sym memory.is)
       (record {
         cycle = refl;
@@ -60,11 +60,11 @@ module _ (design : Ordered) (request : Request) (default : ℕ) (plan : Plan) (c
         flags = flags-of (length memory.alone.piece.outs);
         kept = refl;
       })
-  opens m (Source place) machine body begins is = subst (IsOpening (flow_of plan design rows) m) (sym is) (record { cycle = refl; state = refl; served = refl; latches = refl; flags = refl; kept = refl })
-  opens m Tray machine body begins is = subst (IsOpening (flow_of plan design rows) m) (sym is) (record { cycle = refl; state = refl; served = refl; latches = refl; flags = refl; kept = refl })
+  opens m outs (Source place) machine body begins is = subst (IsOpening (flow_of plan design rows) m) (sym is) (record { cycle = refl; state = refl; served = refl; latches = refl; flags = flags-of outs; kept = refl })
+  opens m outs Tray machine body begins is = subst (IsOpening (flow_of plan design rows) m) (sym is) (record { cycle = refl; state = refl; served = refl; latches = refl; flags = refl; kept = refl })
 
   pub built-opening : (m : ℕ) → m < length machines → IsOpening (flow_of plan design rows) m (machine_at machines m)
   built-opening m lt =
       let known : m < length plan.machines = omega (arith, lt, built.count) in
-      opens m (machine_in plan m).body (machine_at machines m) (given.planned.machine m nameless known).body
+      opens m (length (machine_in plan m).outs) (machine_in plan m).body (machine_at machines m) (given.planned.machine m nameless known).body
       (get_or-map (λ (machine : planned.Machine). body_state machine.body (opening design.circuit)) plan.machines m nameless no_state known) (built.each m known)

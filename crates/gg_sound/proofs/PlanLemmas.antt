@@ -1,18 +1,18 @@
 -- The network of a plan: its channels are listed, it is wired, and it has no ring.
-use Rattle.std.proofs.Common.{◌≢◌, ℕ, ◌<◌, List, length, map, sym, ◌∙◌, ap, subst, arith}
-use Rattle.std.specs.Prelude.{AllPairs, ◌==◌}
+use Rattle.std.proofs.Common.{ℕ, ◌<◌, List, length, map, sym, ◌∙◌, ap, subst, arith}
+use Rattle.std.specs.Prelude.{◌==◌}
 use Rattle.gg_flat.specs.Line.{value_at}
 use Rattle.gg_order.specs.Design.{Ordered}
 use Rattle.gg_partfile.specs.declared.request.Request.{Request}
 use Rattle.gg_cut.specs.declared.plan.Plan.{Plan}
-use Rattle.gg_cut.specs.declared.wires.Wire.{Wire as Link}
 use Rattle.gg_cut.specs.Listed.{listed_of}
-use Rattle.gg_cut.proofs.WireLemmas.{given-same}
-use Rattle.gg_cut.specs.Channels.{wires_of}
+use Rattle.gg_cut.specs.Direct.{plan_hub, plan_wires}
 use Rattle.gg_cut.specs.Plan.{wire_at as link_at}
+use Rattle.gg_cut.proofs.WireLemmas.{all-plain}
 use Rattle.gg_cut.proofs.RangeLemmas.{filter-few}
-use Rattle.gg_closed.proofs.FaultlessLemmas.{faultless-apart, faultless-few}
-use Rattle.gg_closed.proofs.ChoiceLemmas.{pairs-once}
+use Rattle.gg_closed.proofs.FaultlessLemmas.{faultless-few}
+use Rattle.gg_routes.specs.Routes.{AreRoutes}
+use Rattle.gg_routes.proofs.RoutedLemmas.{plan-routed}
 use Rattle.gg_node.specs.Machine.{Machine, machine_at}
 use Rattle.gg_net.specs.Network.{IsAtIn, IsAtOut, kind_of, kind_at}
 use Rattle.gg_net.specs.Kept.{IsWired, HasNoRing}
@@ -23,26 +23,25 @@ use Rattle.gg_sound.proofs.ListedLemmas.{at-in, at-out}
 use Rattle.gg_sound.proofs.WiredLemmas.{AreFitting, wired}
 use Rattle.gg_sound.proofs.FitLemmas.{kind-is, fitting}
 use Rattle.gg_sound.proofs.NeedLemmas.{HasNeeds, has-needs}
+use Rattle.gg_sound.proofs.CopyLemmas.{routes-reach}
 use Rattle.gg_sound.proofs.RingLemmas.{no-ring}
 
 module _ (design : Ordered) (request : Request) (default : ℕ) (plan : Plan) (columns : List (List ℕ)) (n : ℕ) (rows : List (List ℕ)) (machines : List Machine) (given : IsGiven design request default plan columns n rows) (built : AreBuilt plan columns machines) where
-  pub links-once : AllPairs (λ (v w : Link). v.signal ≢ w.signal) (wires_of design.circuit design.tree (listed_of design.tree request))
-  links-once =
-      let is = given.design_is in
-      pairs-once design.circuit design.tree (listed_of design.tree request) is.formed given.keeps.fitting given.keeps.scoped (faultless-apart design request given.faultless given.keeps.fitting)
+  pub routed : AreRoutes design (listed_of design.tree request) (plan_hub design.circuit design.tree request)
+  routed = plan-routed design request given.design_is given.keeps given.faultless
 
-  pub links : AreLinks plan (wires_of design.circuit design.tree (listed_of design.tree request))
-  links = links-of design request default plan given.keeps given.faultless given.some given.planned
+  pub links : AreLinks plan (plan_wires design.circuit design.tree request)
+  links = links-of design request default plan given.design_is given.keeps given.faultless given.some given.planned
 
-  pub fit : AreFitting (wires_of design.circuit design.tree (listed_of design.tree request)) (length plan.machines) (map kind_of machines)
-  fit = fitting design request default plan columns n machines given.planned links-once built
+  pub fit : AreFitting (plan_wires design.circuit design.tree request) (length plan.machines) (map kind_of machines)
+  fit = fitting design request default plan columns machines given.planned routed built
 
   pub plan-wired : IsWired (plan_frame plan machines n)
-  plan-wired = wired plan (wires_of design.circuit design.tree (listed_of design.tree request)) (map kind_of machines) n links fit
+  plan-wired = wired plan (plan_wires design.circuit design.tree request) (map kind_of machines) n links fit
 
   pub plan-listed : (m : ℕ) → m < length plan.machines → IsListedAt plan m (kind_at (map kind_of machines) m)
   plan-listed m lt =
-      let all = wires_of design.circuit design.tree (listed_of design.tree request) in
+      let all = plan_wires design.circuit design.tree request in
       let own = fit.each m lt in
       let ins = links.ins m lt in
       let outs = links.outs m lt in
@@ -58,12 +57,12 @@ module _ (design : Ordered) (request : Request) (default : ℕ) (plan : Plan) (c
         );
       }
 
-  needs : (m : ℕ) → m < length plan.machines → HasNeeds design.circuit (wires_of design.circuit design.tree (listed_of design.tree request)) m (kind_at (map kind_of machines) m)
+  needs : (m : ℕ) → m < length plan.machines → HasNeeds design.circuit (plan_wires design.circuit design.tree request) m (kind_at (map kind_of machines) m)
   needs m lt =
-      let listed = listed_of design.tree request in
-      let all = wires_of design.circuit design.tree listed in
-      subst (HasNeeds design.circuit all m) (sym (kind-is machines m (omega (arith, lt, built.count))))
-      (has-needs design listed all columns n m (machine_in plan m).body (machine_at machines m) (given.planned.machine m nameless lt).body (built.each m lt))
+      subst (HasNeeds design.circuit (plan_wires design.circuit design.tree request) m) (sym (kind-is machines m (omega (arith, lt, built.count))))
+      (has-needs design (listed_of design.tree request) (plan_hub design.circuit design.tree request) columns (length (machine_in plan m).outs) m (machine_in plan m).body (machine_at machines m) (given.planned.machine m nameless lt).body (built.each m lt))
 
   pub plan-no-ring : HasNoRing (plan_frame plan machines n)
-  plan-no-ring = no-ring plan (wires_of design.circuit design.tree (listed_of design.tree request)) (map kind_of machines) n design.circuit design.order given.design_is.ordered links links-once (given-same design.circuit design.tree (listed_of design.tree request)) needs
+  plan-no-ring =
+      let reached = routes-reach (plan_hub design.circuit design.tree request) design.order given.design_is.ordered (all-plain design.circuit design.tree (listed_of design.tree request)) in
+      no-ring plan (plan_wires design.circuit design.tree request) (map kind_of machines) n design.circuit design.order given.design_is.ordered links reached routed.no_echo needs

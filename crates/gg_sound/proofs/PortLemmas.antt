@@ -1,6 +1,6 @@
 -- A memory that stands alone: what its outs need, and its ports.
-use Rattle.std.proofs.Common.{◌≡◌, ℕ, suc, ◌+◌, ◌<◌, ◌≤◌, List, [], ◌∷◌, length, map, get_or, refl, sym, ◌∙◌, ap, subst, inl, inr, ◌⊎◌, arith}
-use Rattle.std.specs.Prelude.{Contains, All, slice_index_or, None}
+use Rattle.std.proofs.Common.{◌≡◌, ℕ, zero, suc, ◌+◌, ◌<◌, ◌≤◌, List, [], ◌∷◌, length, map, get_or, refl, sym, ◌∙◌, ap, subst, inl, inr, ◌⊎◌, arith}
+use Rattle.std.specs.Prelude.{Contains, All, replicate, slice_index_or, None}
 use Rattle.std.proofs.lemmas.Bool.{cases_lt}
 use Rattle.std.proofs.lemmas.List.{get_or-map, get_or_past, length-map}
 use Rattle.std.proofs.lemmas.List.Elements.{All-nil, All-cons, All-append, All-map}
@@ -23,6 +23,12 @@ use Rattle.gg_node.specs.Step.{fields_of}
 use Rattle.gg_memunit.specs.MemoryUnit.{count_of, outs_of, port_of, ports_of, needs_by, needs_of, IsMemoryPiece}
 
 -- ---- needs
+
+-- none of n outs needs anything
+pub no-needs : (n o i : ℕ) → Contains (needs_at (replicate n []) o) i → ⊥
+no-needs zero o i has = absurd (omega (arith, has.1))
+no-needs (suc n) zero i has = absurd (omega (arith, has.1))
+no-needs (suc n) (suc o) i has = no-needs n o i has
 
 -- an out that needs something exists
 pub needs-there : (needs : List (List ℕ)) (o i : ℕ) → Contains (needs_at needs o) i → o < length needs

@@ -1,7 +1,8 @@
 -- The network of a plan has no ring.
 use Rattle.std.proofs.Common.{◌≡◌, ◌≢◌, ℕ, ◌<◌, List, length, map, refl, sym, ◌∙◌, ap, subst, inl, inr, ◌⊎◌, arith}
-use Rattle.std.specs.Prelude.{AllPairs, Contains}
+use Rattle.std.specs.Prelude.{All, Contains}
 use Rattle.std.proofs.lemmas.List.{get_or-map}
+use Rattle.std.proofs.lemmas.List.Elements.{Contains-get_or}
 use Rattle.gg_flat.specs.Line.{value_at}
 use Rattle.gg_flat.specs.Circuit.{FlatCircuit}
 use Rattle.gg_flat.specs.Reads.{Reaches}
@@ -16,25 +17,24 @@ use Rattle.gg_net.specs.Kept.{NeedsChannel, HasNoRing}
 use Rattle.gg_sound.specs.Built.{place_in, wires_of_plan}
 use Rattle.gg_sound.proofs.LinkLemmas.{AreLinks, linked, length-wires}
 use Rattle.gg_sound.proofs.ListedLemmas.{taken-placed, given-placed}
-use Rattle.gg_sound.proofs.SideLemmas.{link-one}
 use Rattle.gg_sound.proofs.RankLemmas.{reach-lower}
 use Rattle.gg_sound.proofs.NeedLemmas.{HasNeeds}
 
-module _ (plan : Plan) (links : List Link) (kinds : List Kind) (end : ℕ) (circuit : FlatCircuit) (order : List ℕ) (ordered : IsOrder circuit order) (are : AreLinks plan links) (once : AllPairs (λ (v w : Link). v.signal ≢ w.signal) links) (given-same : (c : ℕ) → (link_at links c).given ≡ (link_at links c).signal)
-    (needs : (m : ℕ) → m < length plan.machines → HasNeeds circuit links m (kind_at kinds m)) where
-  -- the place of each link's signal in the order
+module _ (plan : Plan) (links : List Link) (kinds : List Kind) (end : ℕ) (circuit : FlatCircuit) (order : List ℕ) (ordered : IsOrder circuit order) (are : AreLinks plan links) (reached : All (λ (w : Link). Reaches circuit w.signal w.given) links)
+    (no-echo : (v w : Link) → Contains links v → Contains links w → v.producer ≡ w.consumer → v.given ≢ w.signal) (needs : (m : ℕ) → m < length plan.machines → HasNeeds circuit links m (kind_at kinds m)) where
+  -- the place in the order of the signal by which each link is given
   abbrev ranks : List ℕ
-  ranks = map (λ (w : Link). place_in order w.signal) links
+  ranks = map (λ (w : Link). place_in order w.given) links
 
-  rank-at : (c : ℕ) → c < length links → value_at ranks c ≡ place_in order (link_at links c).signal
-  rank-at c lt = get_or-map (λ (w : Link). place_in order w.signal) links c (wire 0 0 0) 0 lt
+  rank-at : (c : ℕ) → c < length links → value_at ranks c ≡ place_in order (link_at links c).given
+  rank-at c lt = get_or-map (λ (w : Link). place_in order w.given) links c (wire 0 0 0) 0 lt
 
-  -- a link that another needs carries a signal that the other's signal reaches
+  -- a link that another needs carries a signal that is reached by the signal by which the other is given
   record IsBehind (c d : ℕ) : Type 0 where
     giver : c < length links
     taker : d < length links
     joined : (link_at links d).consumer ≡ (link_at links c).producer
-    reached : Reaches circuit (link_at links c).signal (link_at links d).signal
+    behind : Reaches circuit (link_at links c).given (link_at links d).signal
 
   behind : (c d : ℕ) → NeedsChannel (record { kinds = kinds; wires = wires_of_plan plan; end = end }) c d → IsBehind c d
   behind c d need =
@@ -52,27 +52,26 @@ module _ (plan : Plan) (links : List Link) (kinds : List Kind) (end : ℕ) (circ
       let needed = subst (λ k. Contains (needs_at (kind_at kinds p).needs o) k) place
       (subst (λ k. Contains (needs_at (kind_at kinds p).needs k) need.place) from.out
       (subst (λ m. Contains (needs_at (kind_at kinds m).needs (wire_at (wires_of_plan plan) c).out) need.place) from.producer need.needed)) in
-      let to = (needs p (are.ends c lc).producer).reach o i needed in
-      let out : value_at (givens_of links (channels_from links p)) o ≡ (link_at links c).signal = get_or-map (λ k. (link_at links k).given) (channels_from links p) o 0 0 given.within ∙ ap (λ k. (link_at links k).given) given.is ∙ given-same c in
+      let to = (needs p (are.ends c lc).0).reach o i needed in
+      let out : value_at (givens_of links (channels_from links p)) o ≡ (link_at links c).given = get_or-map (λ k. (link_at links k).given) (channels_from links p) o 0 0 given.within ∙ ap (λ k. (link_at links k).given) given.is in
       let in_signal : value_at (signals_of links (channels_to links p)) i ≡ (link_at links d).signal = get_or-map (λ k. (link_at links k).signal) (channels_to links p) i 0 0 taken.within ∙ ap (λ k. (link_at links k).signal) taken.is in
       record {
         giver = lc;
         taker = ld;
         joined = joined;
-        reached = subst (λ (s : ℕ). Reaches circuit s (link_at links d).signal) out (subst (λ (s : ℕ). Reaches circuit (value_at (givens_of links (channels_from links p)) o) s) in_signal to);
+        behind = subst (λ (s : ℕ). Reaches circuit s (link_at links d).signal) out (subst (λ (s : ℕ). Reaches circuit (value_at (givens_of links (channels_from links p)) o) s) in_signal to);
       }
 
   lower : (c d : ℕ) → NeedsChannel (record { kinds = kinds; wires = wires_of_plan plan; end = end }) c d → value_at ranks d < value_at ranks c
-  lower c d need = by is (reach-lower circuit order ordered (link_at links c).signal (link_at links d).signal is.reached)
+  lower c d need = by is (reach-lower circuit order ordered (link_at links c).given (link_at links d).signal is.behind) (reach-lower circuit order ordered (link_at links d).signal (link_at links d).given (reached d (wire 0 0 0) is.taker))
     where
       is : IsBehind c d
       is = behind c d need
 
-      by : IsBehind c d → ((link_at links c).signal ≡ (link_at links d).signal) ⊎ (place_in order (link_at links d).signal < place_in order (link_at links c).signal) → value_at ranks d < value_at ranks c
-      by b (inl same) =
-          let one = link-one links c d once b.giver b.taker same in
-          absurd ((are.ends c b.giver).apart (sym b.joined ∙ ap (λ k. (link_at links k).consumer) (sym one)))
-      by b (inr less) = omega (arith, less, rank-at c b.giver, rank-at d b.taker)
+      by : IsBehind c d → ((link_at links c).given ≡ (link_at links d).signal) ⊎ (place_in order (link_at links d).signal < place_in order (link_at links c).given) → ((link_at links d).signal ≡ (link_at links d).given) ⊎ (place_in order (link_at links d).given < place_in order (link_at links d).signal) → value_at ranks d < value_at ranks c
+      by b (inl same) copy = absurd (no-echo (link_at links c) (link_at links d) (Contains-get_or links c (wire 0 0 0) b.giver) (Contains-get_or links d (wire 0 0 0) b.taker) (sym b.joined) same)
+      by b (inr less) (inl same) = omega (arith, less, ap (place_in order) same, rank-at c b.giver, rank-at d b.taker)
+      by b (inr less) (inr copy) = omega (arith, less, copy, rank-at c b.giver, rank-at d b.taker)
 
   pub no-ring : HasNoRing (record { kinds = kinds; wires = wires_of_plan plan; end = end })
   no-ring = record { ranks = ranks; lower = lower }

@@ -9,10 +9,12 @@ use Rattle.gg_part.proofs.FormedLemmas.{IsWellFormed-part}
 use Rattle.gg_cut.specs.declared.plan.Body.TheVariants.{Memory}
 use Rattle.gg_cut.specs.declared.plan.Plan.{Plan}
 use Rattle.gg_cut.specs.Listed.{listed_of}
-use Rattle.gg_cut.specs.Channels.{wires_of}
+use Rattle.gg_cut.specs.Direct.{plan_hub}
 use Rattle.gg_cut.specs.Plan.{IsCutPart, IsBody}
 use Rattle.gg_closed.specs.Apart.{AreApart}
 use Rattle.gg_closed.proofs.FaultlessLemmas.{faultless-apart, faultless-few}
+use Rattle.gg_routes.specs.Routes.{AreRoutes}
+use Rattle.gg_routes.proofs.RoutedLemmas.{plan-routed}
 use Rattle.gg_memunit.specs.MemoryUnit.{IsMemoryPiece}
 use Rattle.gg_sound.specs.Built.{machine_in, nameless, IsGiven}
 use Rattle.gg_sound.specs.Alone.{IsCutAgain}
@@ -21,13 +23,16 @@ use Rattle.gg_sound.proofs.ChosenLemmas.{chosen}
 use Rattle.gg_sound.proofs.AloneLemmas.{stands-alone}
 
 module _ (design : Ordered) (request : Request) (default : ℕ) (plan : Plan) (columns : List (List ℕ)) (n : ℕ) (rows : List (List ℕ)) (given : IsGiven design request default plan columns n rows) (m : ℕ) (part : Part) (lt : m < length plan.machines) (memory : (machine_in plan m).body ≡ Memory part) where
-  body : IsBody design (listed_of design.tree request) (wires_of design.circuit design.tree (listed_of design.tree request)) m (Memory part)
-  body = subst (IsBody design (listed_of design.tree request) (wires_of design.circuit design.tree (listed_of design.tree request)) m) memory (given.planned.machine m nameless lt).body
+  body : IsBody design (listed_of design.tree request) (plan_hub design.circuit design.tree request) m (Memory part)
+  body = subst (IsBody design (listed_of design.tree request) (plan_hub design.circuit design.tree request) m) memory (given.planned.machine m nameless lt).body
 
   apart : AreApart design.tree (listed_of design.tree request)
   apart = faultless-apart design request given.faultless given.keeps.fitting
 
-  cut : IsCutPart design (listed_of design.tree request) (wires_of design.circuit design.tree (listed_of design.tree request)) m part
+  routed : AreRoutes design (listed_of design.tree request) (plan_hub design.circuit design.tree request)
+  routed = plan-routed design request given.design_is given.keeps given.faultless
+
+  cut : IsCutPart design (listed_of design.tree request) (plan_hub design.circuit design.tree request) m part
   cut = body.2
 
   pub memory-formed : IsWellFormed part.piece
@@ -35,10 +40,10 @@ module _ (design : Ordered) (request : Request) (default : ℕ) (plan : Plan) (c
 
   pub memory-chosen : IsChoice part.piece (part.piece.ins ++ part.piece.outs) part.piece.ins part.piece.outs (0 ∷ [])
   memory-chosen =
-      let own = memory-part design (listed_of design.tree request) m part given.design_is given.keeps apart body.0 body.1 cut (faultless-few design request given.faultless) in
+      let own = memory-part design request m part given.design_is given.keeps apart routed body.0 body.1 cut (faultless-few design request given.faultless) in
       chosen design.circuit part own.0 memory-formed cut.is own.1
 
   pub memory-alone : (alone : Part) → IsCutAgain part alone → IsMemoryPiece alone.piece
   memory-alone alone is =
-      let own = memory-part design (listed_of design.tree request) m part given.design_is given.keeps apart body.0 body.1 cut (faultless-few design request given.faultless) in
+      let own = memory-part design request m part given.design_is given.keeps apart routed body.0 body.1 cut (faultless-few design request given.faultless) in
       stands-alone part alone own.0 memory-formed own.1 is

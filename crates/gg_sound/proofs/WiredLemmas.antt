@@ -47,13 +47,13 @@ module _ (plan : Plan) (links : List Link) (kinds : List Kind) (end : ℕ) (are 
       let q = (link_at links c).consumer in
       let given = given-placed links p c (record { known = known; producer = refl }) in
       let taken = taken-placed links q c (record { known = known; consumer = refl }) in
-      let outs = (fit.each p ends.producer).outs in
-      let ins = (fit.each q ends.consumer).ins in
+      let outs = (fit.each p ends.0).outs in
+      let ins = (fit.each q ends.1).ins in
       record {
         some = link.some;
-        giver = omega (arith, link.producer, ends.producer, fit.total);
+        giver = (let there = ends.0 in omega (arith, link.producer, there, fit.total));
         out = subst (λ a. (wire_at (wires_of_plan plan) c).out < (kind_at kinds a).outs) (sym link.producer) (omega (arith, link.out, given.within, outs));
-        taker = omega (arith, link.consumer, ends.consumer, fit.total);
+        taker = (let there = ends.1 in omega (arith, link.consumer, there, fit.total));
         place = subst (λ a. (wire_at (wires_of_plan plan) c).place < (kind_at kinds a).ins) (sym link.consumer) (omega (arith, link.place, taken.within, ins));
         gives = ap (λ a. value_at (channels_from links a) (wire_at (wires_of_plan plan) c).out) link.producer ∙ ap (value_at (channels_from links p)) link.out ∙ given.is;
         takes = ap (λ a. value_at (channels_to links a) (wire_at (wires_of_plan plan) c).place) link.consumer ∙ ap (value_at (channels_to links q)) link.place ∙ taken.is;
