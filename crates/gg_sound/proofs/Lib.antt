@@ -13,6 +13,7 @@ pub mod RingLemmas
 pub mod PlanLemmas
 pub mod OpeningLemmas
 mod WorkedNetwork
+mod WorkedFork
 pub mod ShownLemmas
 pub mod ServeLemmas
 pub mod BeginLemmas
@@ -22,6 +23,7 @@ pub mod DoLemmas
 pub mod EdgeLemmas
 pub mod SolvedLemmas
 pub mod WithinLemmas
+pub mod StillLemmas
 pub mod WordLemmas
 pub mod BackLemmas
 pub mod MemoryPartLemmas

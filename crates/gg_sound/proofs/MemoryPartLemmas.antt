@@ -1,6 +1,7 @@
 -- The part of a listed memory: its memory, whose fields are just its in-signals and its out-signals.
-use Rattle.std.proofs.Common.{◌≡◌, ◌≢◌, ℕ, ◌+◌, ◌-◌, ◌<◌, ◌≤◌, List, [], ◌∷◌, ◌++◌, length, map, get_or, refl, sym, ◌∙◌, ap, subst, inl, inr, ◌⊎◌, arith}
-use Rattle.std.specs.Prelude.{All, AllPairs, Contains, ◌==◌}
+use Rattle.std.proofs.Common.{◌≡◌, ◌≢◌, ℕ, ◌+◌, ◌-◌, ◌<◌, ◌≤◌, List, [], ◌∷◌, ◌++◌, length, map, get_or, Bool, true, false, refl, sym, ◌∙◌, ap, ap₂, subst, inl, inr, ◌⊎◌, arith}
+use Rattle.std.specs.Prelude.{All, AllPairs, Contains, ◌==◌, ◌&&◌}
+use Rattle.std.proofs.lemmas.Bool.{le-leb, lt-ltb}
 use Rattle.std.proofs.lemmas.List.{length-map, get_or-map}
 use Rattle.std.proofs.lemmas.List.Elements.{Contains-append_left, Contains-append_right, Contains-get_or}
 use Rattle.gg_flat.specs.declared.memory.Reader.{Reader}
@@ -13,27 +14,32 @@ use Rattle.gg_flat.specs.Scoped.{writers_at}
 use Rattle.gg_flat.proofs.ListLemmas.{Contains-map}
 use Rattle.gg_moved.specs.KeepsToTree.{KeepsToTree}
 use Rattle.gg_order.specs.Design.{Ordered, IsDesign}
+use Rattle.gg_partfile.specs.declared.request.Request.{Request}
 use Rattle.gg_part.specs.Part.{IsMemoryFrom, MemoryBelow, renamed_memory, renamed_reader, renamed_writer}
 use Rattle.gg_part.specs.declared.part.Part.{Part}
 use Rattle.gg_cut.specs.declared.listed.Listed.{Listed}
 use Rattle.gg_cut.specs.declared.wires.Wire.{Wire as Link}
-use Rattle.gg_cut.specs.Listed.{first_place, unit_or_hub, memory_or, has_signal, owner_of, owner_of_instance}
-use Rattle.gg_cut.specs.Machines.{first_memory, first_source}
+use Rattle.gg_cut.specs.Listed.{listed_of, first_place, unit_or_hub, memory_or, has_signal, owner_of, owner_of_instance}
+use Rattle.gg_cut.specs.Machines.{first_memory, first_source, is_memory}
 use Rattle.gg_cut.specs.Channels.{wire, flattened, reader_wires, writer_wires, wires_of}
-use Rattle.gg_cut.specs.Plan.{wire_at as link_at, channels_to, channels_from, signals_of, givens_of, IsInner, Makes, Takes, HasMemory, IsCutPart}
-use Rattle.gg_cut.proofs.WireLemmas.{unit-below, unit_or_hub-below, givens-same}
+use Rattle.gg_cut.specs.Direct.{Hub, plan_hub, plan_wires}
+use Rattle.gg_cut.specs.Plan.{wire_at as link_at, channels_to, channels_from, signals_of, givens_of, IsInner, MakesBy, Takes, HasMemory, IsCutPart}
+use Rattle.gg_cut.proofs.WireLemmas.{unit-below, unit_or_hub-below}
 use Rattle.gg_closed.specs.Apart.{AreApart, AreFew}
 use Rattle.gg_closed.proofs.ListLemmas.{Somewhere, map-cases, flattened-in, AllPairs-append, AllPairs-map}
 use Rattle.gg_closed.proofs.KindLemmas.{outside_memory, in-fields}
 use Rattle.gg_closed.proofs.MakerLemmas.{find-unit, no-field-place, out-owner, takes}
 use Rattle.gg_closed.proofs.WrittenLemmas.{inner-plain}
 use Rattle.gg_closed.proofs.ClosedLemmas.{owner-listed, owner-unlisted}
-use Rattle.gg_closed.proofs.ChoiceLemmas.{pairs-once}
-use Rattle.gg_closed.proofs.EndLemmas.{ends}
+use Rattle.gg_routes.specs.Routes.{AreRoutes}
+use Rattle.gg_routes.proofs.RouteLemmas.{IsBase}
+use Rattle.gg_routes.proofs.PlanLemmas.{plan-base}
+use Rattle.gg_routes.proofs.UnitLemmas.{ins-still}
 use Rattle.gg_memunit.proofs.UnitLemmas.{sole}
 use Rattle.gg_sound.proofs.NumberLemmas.{numbers-once, one-in, one-is}
 use Rattle.gg_sound.proofs.ListedLemmas.{taken-is, given-is}
 use Rattle.gg_sound.proofs.SideLemmas.{link-one}
+use Rattle.gg_sound.proofs.StillLemmas.{words-still, givens-still}
 use Rattle.gg_sound.proofs.WordLemmas.{memory-gives, memory-few}
 use Rattle.gg_sound.proofs.BackLemmas.{distinct-back, contains-back, words-back}
 
@@ -58,21 +64,43 @@ pub record IsMemoryPart (part : Part) (memory : Memory) : Type 0 where
   pub ins_once : AllPairs (λ a b. a ≢ b) part.piece.ins
   pub once : AllPairs (λ a b. a ≢ b) (part.piece.ins ++ part.piece.outs)
 
-module _ (design : Ordered) (listed : Listed) (m : ℕ) (part : Part) (is : IsDesign design) (keeps : KeepsToTree design.circuit design.tree) (apart : AreApart design.tree listed) (low : first_memory listed ≤ m) (high : m < first_source listed) (cut : IsCutPart design listed (wires_of design.circuit design.tree listed) m part) where
+module _ (design : Ordered) (request : Request) (m : ℕ) (part : Part) (is : IsDesign design) (keeps : KeepsToTree design.circuit design.tree) (apart : AreApart design.tree (listed_of design.tree request)) (routed : AreRoutes design (listed_of design.tree request) (plan_hub design.circuit design.tree request))
+    (low : first_memory (listed_of design.tree request) ≤ m) (high : m < first_source (listed_of design.tree request)) (cut : IsCutPart design (listed_of design.tree request) (plan_hub design.circuit design.tree request) m part) where
   abbrev circuit : FlatCircuit
   circuit = design.circuit
 
   abbrev tree : InstanceTree
   tree = design.tree
 
+  abbrev listed : Listed
+  listed = listed_of design.tree request
+
+  abbrev hub : Hub
+  hub = plan_hub design.circuit design.tree request
+
+  -- the channels before the routing
+  abbrev plain : List Link
+  plain = wires_of design.circuit design.tree (listed_of design.tree request)
+
+  -- the channels of the plan
   abbrev links : List Link
-  links = wires_of design.circuit design.tree listed
+  links = plan_wires design.circuit design.tree request
 
   abbrev i : ℕ
-  i = m - first_memory listed
+  i = m - first_memory (listed_of design.tree request)
 
   abbrev own : ℕ
-  own = (memory_at design.tree (value_at listed.memories (m - first_memory listed))).memory
+  own = (memory_at design.tree (value_at (listed_of design.tree request).memories (m - first_memory (listed_of design.tree request)))).memory
+
+  base : IsBase hub
+  base = plan-base design listed (λ s. false) request.direct is keeps apart
+
+  -- it is a listed memory, and not the hub
+  number-is-memory : is_memory listed m ≡ true
+  number-is-memory = ap₂ (λ (a b : Bool). a && b) (le-leb (first_memory listed) m low) (lt-ltb m (first_source listed) high)
+
+  no-hub : m ≢ 0
+  no-hub same = omega (arith, same, low)
 
   there : i < length listed.memories
   there = omega (arith, low, high)
@@ -117,7 +145,7 @@ module _ (design : Ordered) (listed : Listed) (m : ℕ) (part : Part) (is : IsDe
   in-part s lt h = contains-back part.globals cut.is.once part.piece.ins (signals_of links (channels_to links m)) s in-low cut.ins lt h
 
   -- no signal without a channel belongs to the memory
-  inner-low : (s : ℕ) → IsInner links s → owner_of circuit tree listed s < first_memory listed
+  inner-low : (s : ℕ) → IsInner plain s → owner_of circuit tree listed s < first_memory listed
   inner-low s inner =
       let other = unit_or_hub (first_place (has_signal tree s) listed.units) in
       let none = ap (memory_or (length listed.units) other) (no-field-place circuit tree listed s (inner-plain circuit tree listed keeps.fitting keeps.scoped apart s inner)) in
@@ -127,18 +155,14 @@ module _ (design : Ordered) (listed : Listed) (m : ℕ) (part : Part) (is : IsDe
   sides : (s : ℕ) → s < length part.globals → Contains (part.piece.ins ++ part.piece.outs) s
   sides s lt = by ((cut.signals (value_at part.globals s)).0 (Contains-get_or part.globals s 0 lt))
     where
-      by : Makes circuit tree listed links m (value_at part.globals s) ⊎ Takes links m (value_at part.globals s) → Contains (part.piece.ins ++ part.piece.outs) s
+      by : MakesBy hub m (value_at part.globals s) ⊎ Takes links m (value_at part.globals s) → Contains (part.piece.ins ++ part.piece.outs) s
       by (inl (inl inner)) = let below = inner-low (value_at part.globals s) inner.2 in absurd (omega (arith, below, inner.1, low))
       by (inl (inr gives)) = Contains-append_right part.piece.ins part.piece.outs s (contains-back part.globals cut.is.once part.piece.outs (givens_of links (channels_from links m)) s cut.is.outs cut.outs lt gives)
       by (inr taken) = Contains-append_left part.piece.ins part.piece.outs s (in-part s lt taken)
 
   -- the out-signals are the signals of the channels that the machine gives
   outs-are : map (value_at part.globals) part.piece.outs ≡ signals_of links (channels_from links m)
-  outs-are = cut.outs ∙ givens-same circuit tree listed (channels_from links m)
-
-  -- no two channels carry the same signal
-  links-once : AllPairs (λ (v w : Link). v.signal ≢ w.signal) links
-  links-once = pairs-once circuit tree listed is.formed keeps.fitting keeps.scoped apart
+  outs-are = cut.outs ∙ givens-still hub base m number-is-memory no-hub
 
   ins-once : AllPairs (λ a b. a ≢ b) part.piece.ins
   ins-once =
@@ -147,7 +171,7 @@ module _ (design : Ordered) (listed : Listed) (m : ℕ) (part : Part) (is : IsDe
       (AllPairs-map (λ a b. a ≢ b) (λ c. (link_at links c).signal) channels (λ j k d less lt same.
       let a = (taken-is links m (get_or channels j d) (Contains-get_or channels j d (omega (arith, less, lt)))).known in
       let b = (taken-is links m (get_or channels k d) (Contains-get_or channels k d lt)).known in
-      numbers-once (λ c. (link_at links c).consumer == m) (length links) j k d less lt (link-one links (get_or channels j d) (get_or channels k d) links-once a b same)))
+      numbers-once (λ c. (link_at links c).consumer == m) (length links) j k d less lt (link-one links (get_or channels j d) (get_or channels k d) routed.once a b same)))
 
   outs-once : AllPairs (λ a b. a ≢ b) part.piece.outs
   outs-once =
@@ -156,20 +180,21 @@ module _ (design : Ordered) (listed : Listed) (m : ℕ) (part : Part) (is : IsDe
       (AllPairs-map (λ a b. a ≢ b) (λ c. (link_at links c).signal) channels (λ j k d less lt same.
       let a = (given-is links m (get_or channels j d) (Contains-get_or channels j d (omega (arith, less, lt)))).known in
       let b = (given-is links m (get_or channels k d) (Contains-get_or channels k d lt)).known in
-      numbers-once (λ c. (link_at links c).producer == m) (length links) j k d less lt (link-one links (get_or channels j d) (get_or channels k d) links-once a b same)))
+      numbers-once (λ c. (link_at links c).producer == m) (length links) j k d less lt (link-one links (get_or channels j d) (get_or channels k d) routed.once a b same)))
 
-  -- no channel leads from the machine to itself
+  -- the machine doesn't take what it gives
   cross : (x y : ℕ) → Contains part.piece.ins x → Contains part.piece.outs y → x ≢ y
   cross x y p q same =
       let to = channels_to links m in
       let from = channels_from links m in
       let c = map-cases (λ k. (link_at links k).signal) to (value_at part.globals x) (subst (λ (l : List ℕ). Contains l (value_at part.globals x)) cut.ins (Contains-map (value_at part.globals) part.piece.ins x p)) in
-      let d = map-cases (λ k. (link_at links k).signal) from (value_at part.globals y) (subst (λ (l : List ℕ). Contains l (value_at part.globals y)) outs-are (Contains-map (value_at part.globals) part.piece.outs y q)) in
+      let d = map-cases (λ k. (link_at links k).given) from (value_at part.globals y) (subst (λ (l : List ℕ). Contains l (value_at part.globals y)) cut.outs (Contains-map (value_at part.globals) part.piece.outs y q)) in
       let taken = taken-is links m (get_or to c.place 0) (Contains-get_or to c.place 0 c.within) in
       let given = given-is links m (get_or from d.place 0) (Contains-get_or from d.place 0 d.within) in
-      let one = link-one links (get_or to c.place 0) (get_or from d.place 0) links-once taken.known given.known (c.holds 0 ∙ ap (value_at part.globals) same ∙ sym (d.holds 0)) in
-      let end = ends circuit tree listed keeps.fitting apart (get_or from d.place 0) (wire 0 0 0) given.known in
-      end.apart (given.producer ∙ sym (ap (λ k. (link_at links k).consumer) (sym one) ∙ taken.consumer))
+      let r = link_at links (get_or from d.place 0) in
+      let w = link_at links (get_or to c.place 0) in
+      routed.no_echo r w (Contains-get_or links (get_or from d.place 0) (wire 0 0 0) given.known) (Contains-get_or links (get_or to c.place 0) (wire 0 0 0) taken.known) (given.producer ∙ sym taken.consumer)
+      (d.holds 0 ∙ ap (value_at part.globals) (sym same) ∙ sym (c.holds 0))
 
   once : AllPairs (λ a b. a ≢ b) (part.piece.ins ++ part.piece.outs)
   once = AllPairs-append (λ a b. a ≢ b) part.piece.ins part.piece.outs ins-once outs-once cross
@@ -207,7 +232,7 @@ module _ (design : Ordered) (listed : Listed) (m : ℕ) (part : Part) (is : IsDe
     abbrev from_writers : List Link
     from_writers = flattened (writer_wires outside (first_memory listed + i)) (writers_at circuit own)
 
-    reader-link : (r : ℕ) (any : Reader) (w : Link) → r < length memory.readers → Contains (reader_wires outside (first_memory listed + i) (renamed_reader part.globals (get_or memory.readers r any))) w → Contains links w
+    reader-link : (r : ℕ) (any : Reader) (w : Link) → r < length memory.readers → Contains (reader_wires outside (first_memory listed + i) (renamed_reader part.globals (get_or memory.readers r any))) w → Contains plain w
     reader-link r any w lt h =
         let rename = renamed_reader part.globals in
         let inside : r < length (readers_at circuit own) = omega (arith, lt, ap length readers, length-map memory.readers rename) in
@@ -217,7 +242,7 @@ module _ (design : Ordered) (listed : Listed) (m : ℕ) (part : Part) (is : IsDe
         (flattened-in (reader_wires outside (first_memory listed + i)) (readers_at circuit own) r (rename any) w inside
         (subst (λ (x : Reader). Contains (reader_wires outside (first_memory listed + i) x) w) (sym at) h)))
 
-    writer-link : (r : ℕ) (any : Writer) (w : Link) → r < length memory.writers → Contains (writer_wires outside (first_memory listed + i) (renamed_writer part.globals (get_or memory.writers r any))) w → Contains links w
+    writer-link : (r : ℕ) (any : Writer) (w : Link) → r < length memory.writers → Contains (writer_wires outside (first_memory listed + i) (renamed_writer part.globals (get_or memory.writers r any))) w → Contains plain w
     writer-link r any w lt h =
         let rename = renamed_writer part.globals in
         let inside : r < length (writers_at circuit own) = omega (arith, lt, ap length writers, length-map memory.writers rename) in
@@ -228,9 +253,10 @@ module _ (design : Ordered) (listed : Listed) (m : ℕ) (part : Part) (is : IsDe
         (subst (λ (x : Writer). Contains (writer_wires outside (first_memory listed + i) x) w) (sym at) h)))
 
     -- a field that goes to the memory is an in-signal
-    to-part : (s : ℕ) → s < length part.globals → Contains links (wire (value_at part.globals s) outside (first_memory listed + i)) → Contains part.piece.ins s
+    to-part : (s : ℕ) → s < length part.globals → Contains plain (wire (value_at part.globals s) outside (first_memory listed + i)) → Contains part.piece.ins s
     to-part s lt h =
-        in-part s lt (subst (λ k. Takes links k (value_at part.globals s)) number (takes circuit tree listed keeps.fitting keeps.scoped apart (value_at part.globals s) outside (first_memory listed + i) h))
+        in-part s lt (subst (λ (l : List ℕ). Contains l (value_at part.globals s)) (sym (ins-still hub base m no-hub))
+        (subst (λ k. Takes plain k (value_at part.globals s)) number (takes circuit tree listed keeps.fitting keeps.scoped apart (value_at part.globals s) outside (first_memory listed + i) h)))
 
     looks : All (ReaderAmong part.piece.ins) memory.readers
     looks r any lt =
@@ -253,17 +279,17 @@ module _ (design : Ordered) (listed : Listed) (m : ℕ) (part : Part) (is : IsDe
     words : part.piece.outs ≡ map (λ (reader : Reader). reader.word) memory.readers
     words =
         words-back part.globals cut.is.once part.piece.outs memory.readers cut.is.outs below.readers
-        (outs-are ∙ memory-gives circuit tree listed m i there number outputs-apart ∙ ap (map (λ (reader : Reader). reader.word)) readers)
+        (outs-are ∙ words-still hub base m number-is-memory no-hub ∙ memory-gives circuit tree listed m i there number outputs-apart ∙ ap (map (λ (reader : Reader). reader.word)) readers)
 
-    few : AreFew circuit tree listed → length memory.readers + length memory.writers ≤ 16384
+    few : AreFew circuit tree request → length memory.readers + length memory.writers ≤ 16384
     few are =
         let channels = are.channels in
-        let ports = memory-few circuit tree listed m i there number outputs-apart in
+        let ports = memory-few circuit tree listed (λ s. false) request.direct base i there in
         let reads : length (readers_at circuit own) ≡ length memory.readers = ap length readers ∙ length-map memory.readers (renamed_reader part.globals) in
         let writes : length (writers_at circuit own) ≡ length memory.writers = ap length writers ∙ length-map memory.writers (renamed_writer part.globals) in
         omega (arith, channels, ports, reads, writes)
 
-  pub memory-part : AreFew circuit tree listed → (memory : Memory) × IsMemoryPart part memory
+  pub memory-part : AreFew circuit tree request → (memory : Memory) × IsMemoryPart part memory
   memory-part are =
       let found = sole part.piece.memories (cut.is.memory_count ∙ count) in
       let memory = found.0 in

@@ -20,10 +20,11 @@ use Rattle.gg_cut.specs.declared.plan.Body.TheVariants.{Cut, Memory as Listing, 
 use Rattle.gg_cut.specs.declared.plan.Plan.{Plan}
 use Rattle.gg_cut.specs.declared.wires.Wire.{Wire as Link}
 use Rattle.gg_cut.specs.Listed.{listed_of}
-use Rattle.gg_cut.specs.Channels.{wires_of}
+use Rattle.gg_cut.specs.Direct.{Hub, plan_hub, plan_wires}
 use Rattle.gg_cut.specs.Plan.{wire_at as link_at, IsBody}
 use Rattle.gg_closed.proofs.FaultlessLemmas.{faultless-apart, faultless-few, range-free, capacity-is}
-use Rattle.gg_closed.proofs.EndLemmas.{few-machines}
+use Rattle.gg_routes.specs.Routes.{AreRoutes}
+use Rattle.gg_routes.proofs.FewLemmas.{few-machines}
 use Rattle.gg_memunit.specs.MemoryUnit.{count_by, ports_of}
 use Rattle.gg_memunit.proofs.PortLemmas.{count_ports}
 use Rattle.gg_memunit.proofs.UnitLemmas.{sole}
@@ -64,26 +65,32 @@ module _ (design : Ordered) (request : Request) (default : ℕ) (plan : Plan) (c
   listed = listed_of design.tree request
 
   abbrev links : List Link
-  links = wires_of design.circuit design.tree (listed_of design.tree request)
+  links = plan_wires design.circuit design.tree request
 
-  body-ports : (m : ℕ) (body : Body) (machine : Machine) → IsBody design listed links m body → IsBuilt columns n body machine → length (kind_of machine).ports ≤ 16384
-  body-ports m (Cut part) machine body is = subst (λ (t : Machine). length (kind_of t).ports ≤ 16384) (sym is.is) (omega arith)
-  body-ports m (Listing part) machine body is =
-      let memory = memory-part design listed m part given.design_is given.keeps (faultless-apart design request given.faultless given.keeps.fitting) body.0 body.1 body.2 (faultless-few design request given.faultless) in
+  abbrev hub : Hub
+  hub = plan_hub design.circuit design.tree request
+
+  routed : AreRoutes design listed hub
+  routed = plans.routed design request default plan columns n rows machines given built
+
+  body-ports : (m outs : ℕ) (body : Body) (machine : Machine) → IsBody design listed hub m body → IsBuilt columns outs body machine → length (kind_of machine).ports ≤ 16384
+  body-ports m outs (Cut part) machine body is = subst (λ (t : Machine). length (kind_of t).ports ≤ 16384) (sym is.is) (omega arith)
+  body-ports m outs (Listing part) machine body is =
+      let memory = memory-part design request m part given.design_is given.keeps (faultless-apart design request given.faultless given.keeps.fitting) routed body.0 body.1 body.2 (faultless-few design request given.faultless) in
       memory-ports part memory.0 machine memory.1 is
-  body-ports m (Source place) machine body is = subst (λ (t : Machine). length (kind_of t).ports ≤ 16384) (sym is) (omega arith)
-  body-ports m Tray machine body is = subst (λ (t : Machine). length (kind_of t).ports ≤ 16384) (sym is) (omega arith)
+  body-ports m outs (Source place) machine body is = subst (λ (t : Machine). length (kind_of t).ports ≤ 16384) (sym is) (omega arith)
+  body-ports m outs Tray machine body is = subst (λ (t : Machine). length (kind_of t).ports ≤ 16384) (sym is) (omega arith)
 
   machine-ports : All (λ (machine : Machine). length (kind_of machine).ports ≤ 16384) machines
   machine-ports m any lt =
       let known : m < length plan.machines = omega (arith, lt, built.count) in
       subst (λ (t : Machine). length (kind_of t).ports ≤ 16384) (get_or_default machines m no_machine any lt)
-      (body-ports m (machine_in plan m).body (machine_at machines m) (given.planned.machine m nameless known).body (built.each m known))
+      (body-ports m (length (machine_in plan m).outs) (machine_in plan m).body (machine_at machines m) (given.planned.machine m nameless known).body (built.each m known))
 
   pub plan-within : default ≤ capacity_limit → IsWithinLimits (plan_frame plan machines n)
   plan-within most =
       let few = faultless-few design request given.faultless in
-      let total : length machines ≤ 16641 = omega (arith, few-machines design.circuit design.tree (listed_of design.tree request) few, given.planned.machine_total, built.count) in
+      let total : length machines ≤ 33025 = omega (arith, few-machines design request routed few, given.planned.machine_total, built.count) in
       let are = plans.links design request default plan columns n rows machines given built in
       let kinds = map kind_of machines in
       let count : length kinds ≡ length machines = length-map machines kind_of in

@@ -1,8 +1,8 @@
--- A listed memory gives the data of its readers, in their order; and its ports are no more than the channels.
+-- A listed memory gives the data of its readers, in their order; and its ports are no more than the routed channels.
 use Rattle.std.proofs.Common.{◌≡◌, ◌≢◌, ℕ, zero, suc, ◌+◌, ◌<◌, ◌≤◌, List, [], ◌∷◌, ◌++◌, length, map, Bool, true, false, true≢false, eq-eqb, refl, sym, ◌∙◌, ap, ap₂, arith}
 use Rattle.std.specs.Prelude.{filter, cond, ◌==◌, if◌then◌else◌}
 use Rattle.std.proofs.lemmas.Bool.{ne_eqb}
-use Rattle.std.proofs.lemmas.List.{append-nil, length-append}
+use Rattle.std.proofs.lemmas.List.{append-nil, length-append, length-map}
 use Rattle.std.proofs.lemmas.List.Elements.{filter-append}
 use Rattle.std.proofs.lemmas.Simd.{map-map}
 use Rattle.gg_flat.specs.declared.tree.InstancePort.{InstancePort}
@@ -17,8 +17,12 @@ use Rattle.gg_cut.specs.declared.wires.Wire.{Wire as Link}
 use Rattle.gg_cut.specs.Listed.{owner_of, owner_of_instance}
 use Rattle.gg_cut.specs.Machines.{first_memory, first_source, first_tray}
 use Rattle.gg_cut.specs.Channels.{wire, numbered, flattened, port_wire, port_wires, reader_wires, writer_wires, field_wires, source_wires, tray_wires, wires_of}
-use Rattle.gg_cut.specs.Plan.{channels_from, signals_of}
-use Rattle.gg_cut.proofs.WireLemmas.{Each, Each-append, Each-numbered, filter-none, signals-from, unit_or_hub-below}
+use Rattle.gg_cut.specs.Direct.{hub_of, routes}
+use Rattle.gg_cut.specs.Plan.{wire_at, channels_to, channels_from, signals_of}
+use Rattle.gg_cut.proofs.WireLemmas.{Each, Each-append, Each-numbered, filter-none, signals-from, signals-to, unit_or_hub-below}
+use Rattle.gg_cut.proofs.RangeLemmas.{filter-few}
+use Rattle.gg_routes.proofs.RouteLemmas.{IsBase}
+use Rattle.gg_routes.proofs.UnitLemmas.{ins-still}
 
 -- ---- lists of links by number
 
@@ -36,16 +40,24 @@ filter-one test f n (x ∷ xs) (suc i) lt others =
     ∙ filter-one test f (suc n) xs i (omega (arith, lt)) (λ k y other. others k y (λ same. other (omega (arith, same))))
     ∙ ap (λ k. filter test (f k (value_at xs i))) (let same : suc n + i ≡ n + suc i = omega arith in same)
 
--- one of the lists is no longer than all of them joined
-numbered-long : (f : ℕ → ℕ → List Link) (n : ℕ) (xs : List ℕ) (i : ℕ) → i < length xs → length (f (n + i) (value_at xs i)) ≤ length (numbered f n xs)
-numbered-long f n [] i lt = absurd (omega (arith, lt))
-numbered-long f n (x ∷ xs) zero lt =
-    let same : length (f (n + 0) x) ≡ length (f n x) = ap (λ k. length (f k x)) (let zero_more : n + 0 ≡ n = omega arith in zero_more) in
-    omega (arith, same, length-append (f n x) (numbered f (suc n) xs))
-numbered-long f n (x ∷ xs) (suc i) lt =
-    let same : length (f (n + suc i) (value_at xs i)) ≡ length (f (suc n + i) (value_at xs i)) = ap (λ k. length (f k (value_at xs i))) (let one_more : n + suc i ≡ suc n + i = omega arith in one_more) in
-    let rest = numbered-long f (suc n) xs i (omega (arith, lt)) in
-    omega (arith, same, rest, length-append (f n x) (numbered f (suc n) xs))
+-- the items of two lists that pass
+both-long : (test : Link → Bool) (xs ys : List Link) → length (filter test (xs ++ ys)) ≡ length (filter test xs) + length (filter test ys)
+both-long test xs ys = ap length (filter-append test xs ys) ∙ length-append (filter test xs) (filter test ys)
+
+-- an item that passes is one more
+one-long : (test : Link → Bool) (x : Link) (xs ys : List Link) → test x ≡ true → suc (length (filter test ys)) ≤ length (filter test (x ∷ xs ++ ys))
+one-long test x xs ys is = omega (arith, ap (λ b. length (cond b (x ∷ filter test (xs ++ ys)) (filter test (xs ++ ys)))) is, both-long test xs ys)
+
+-- of all lists joined at least as many items pass as of one of them
+filter-long : (test : Link → Bool) (f : ℕ → ℕ → List Link) (n : ℕ) (xs : List ℕ) (i : ℕ) → i < length xs → length (filter test (f (n + i) (value_at xs i))) ≤ length (filter test (numbered f n xs))
+filter-long test f n [] i lt = absurd (omega (arith, lt))
+filter-long test f n (x ∷ xs) zero lt =
+    let same : length (filter test (f (n + 0) x)) ≡ length (filter test (f n x)) = ap (λ k. length (filter test (f k x))) (let zero_more : n + 0 ≡ n = omega arith in zero_more) in
+    omega (arith, same, both-long test (f n x) (numbered f (suc n) xs))
+filter-long test f n (x ∷ xs) (suc i) lt =
+    let same : length (filter test (f (n + suc i) (value_at xs i))) ≡ length (filter test (f (suc n + i) (value_at xs i))) = ap (λ k. length (filter test (f k (value_at xs i)))) (let one_more : n + suc i ≡ suc n + i = omega arith in one_more) in
+    let rest = filter-long test f (suc n) xs i (omega (arith, lt)) in
+    omega (arith, same, rest, both-long test (f n x) (numbered f (suc n) xs))
 
 -- ---- what machine m gives of a memory's channels
 
@@ -85,15 +97,27 @@ module _ (m outside : ℕ) (other : outside ≡ m → ⊥) where
       by true = ne_eqb outside m other
       by false = ne_eqb k m distinct
 
+-- ---- how many channels a memory takes
+
+module _ (m outside : ℕ) where
+  abbrev into : Link → Bool
+  into w = w.consumer == m
+
+  readers-long : (readers : List Reader) → length readers ≤ length (filter into (flattened (reader_wires outside m) readers))
+  readers-long [] = omega arith
+  readers-long (reader ∷ readers) =
+      let rest = readers-long readers in
+      let more = one-long into (wire reader.addr outside m) (wire reader.en outside m ∷ wire reader.word m outside ∷ []) (flattened (reader_wires outside m) readers) (eq-eqb m m refl) in
+      omega (arith, rest, more)
+
+  writers-long : (writers : List Writer) → length writers ≤ length (filter into (flattened (writer_wires outside m) writers))
+  writers-long [] = omega arith
+  writers-long (writer ∷ writers) =
+      let rest = writers-long writers in
+      let more = one-long into (wire writer.addr outside m) (wire writer.en outside m ∷ wire writer.word outside m ∷ wire writer.mask outside m ∷ []) (flattened (writer_wires outside m) writers) (eq-eqb m m refl) in
+      omega (arith, rest, more)
+
 -- ---- a listed memory
-
-readers-long : (outside m : ℕ) (readers : List Reader) → length readers ≤ length (flattened (reader_wires outside m) readers)
-readers-long outside m [] = omega arith
-readers-long outside m (reader ∷ readers) = let rest = readers-long outside m readers in omega (arith, rest)
-
-writers-long : (outside m : ℕ) (writers : List Writer) → length writers ≤ length (flattened (writer_wires outside m) writers)
-writers-long outside m [] = omega arith
-writers-long outside m (writer ∷ writers) = let rest = writers-long outside m writers in omega (arith, rest)
 
 module _ (circuit : FlatCircuit) (tree : InstanceTree) (listed : Listed) (m i : ℕ) (lt : i < length listed.memories) (is : first_memory listed + i ≡ m) (apart : (k : ℕ) → k < length circuit.outs → owner_of circuit tree listed (value_at circuit.outs k) ≢ m) where
   abbrev own : ℕ
@@ -172,20 +196,34 @@ module _ (circuit : FlatCircuit) (tree : InstanceTree) (listed : Listed) (m i : 
       ∙ append-nil words)))
       ∙ map-map (λ (w : Link). w.signal) (λ (reader : Reader). wire reader.word m outer) (readers_at circuit own)
 
-  -- the memory has no more ports than there are channels
-  pub memory-few : length (readers_at circuit own) + length (writers_at circuit own) ≤ length (wires_of circuit tree listed)
-  memory-few =
-      let number = first_memory listed + i in
-      let from_readers = flattened (reader_wires outer number) (readers_at circuit own) in
-      let from_writers = flattened (writer_wires outer number) (writers_at circuit own) in
-      let one = numbered-long (field_wires circuit tree listed.units) (first_memory listed) listed.memories i lt in
-      omega (
-        arith,
-        one,
-        readers-long outer number (readers_at circuit own),
-        writers-long outer number (writers_at circuit own),
-        length-append from_readers from_writers,
-        length-append fields trays,
-        length-append ports (fields ++ trays),
-        length-append sources (ports ++ (fields ++ trays)),
-      )
+-- a listed memory has no more ports than there are routed channels
+pub memory-few : (circuit : FlatCircuit) (tree : InstanceTree) (listed : Listed) (piped : ℕ → Bool) (direct : Bool) → IsBase (hub_of circuit tree listed piped direct) → (i : ℕ) → i < length listed.memories
+    → length (readers_at circuit (memory_at tree (value_at listed.memories i)).memory) + length (writers_at circuit (memory_at tree (value_at listed.memories i)).memory) ≤ length (routes (hub_of circuit tree listed piped direct))
+memory-few circuit tree listed piped direct base i lt =
+    let hub = hub_of circuit tree listed piped direct in
+    let own = (memory_at tree (value_at listed.memories i)).memory in
+    let outside = owner_of_instance tree listed.units (memory_at tree (value_at listed.memories i)).instance in
+    let m = first_memory listed + i in
+    let to : Link → Bool = λ w. w.consumer == m in
+    let from_readers = flattened (reader_wires outside m) (readers_at circuit own) in
+    let from_writers = flattened (writer_wires outside m) (writers_at circuit own) in
+    let sources = numbered source_wires (first_source listed) circuit.ins in
+    let ports = numbered (port_wires tree listed.units) 1 listed.units in
+    let fields = numbered (field_wires circuit tree listed.units) (first_memory listed) listed.memories in
+    let trays = numbered (tray_wires circuit tree listed) (first_tray circuit listed) circuit.outs in
+    let taken : length (channels_to (routes hub) m) ≡ length (filter to (sources ++ (ports ++ (fields ++ trays)))) =
+    sym (length-map (channels_to (routes hub) m) (λ c. (wire_at (routes hub) c).signal))
+    ∙ ap length (ins-still hub base m (λ same. omega (arith, same)) ∙ signals-to hub.base m)
+    ∙ length-map (filter to hub.base) (λ (w : Link). w.signal) in
+    omega (
+      arith,
+      taken,
+      filter-few (λ c. (wire_at (routes hub) c).consumer == m) 0 (length (routes hub)),
+      filter-long to (field_wires circuit tree listed.units) (first_memory listed) listed.memories i lt,
+      readers-long m outside (readers_at circuit own),
+      writers-long m outside (writers_at circuit own),
+      both-long to from_readers from_writers,
+      both-long to fields trays,
+      both-long to ports (fields ++ trays),
+      both-long to sources (ports ++ (fields ++ trays)),
+    )
