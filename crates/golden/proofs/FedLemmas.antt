@@ -71,7 +71,7 @@ module _ (circuit partition trace : List ℕ) (capacity : ℕ) (fed : Fed) (is :
 
   -- its names are few
   pub few-named : AreFewNames plan design.tree
-  few-named = few-names design request capacity plan is.case.keeps is.case.cuts.faultless is.case.planned
+  few-named = few-names design request capacity plan is.case.designed is.case.keeps is.case.cuts.faultless is.case.planned
 
   -- and are those of the cut
   named : case_naming fed.case ≡ naming_of design request

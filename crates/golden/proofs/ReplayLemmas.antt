@@ -12,7 +12,8 @@ use Rattle.gg_flat.specs.Tree.{path_at}
 use Rattle.gg_flat.proofs.ListLemmas.{some-item}
 use Rattle.gg_order.specs.Design.{Ordered}
 use Rattle.gg_partfile.specs.declared.request.Request.{Request}
-use Rattle.gg_cut.specs.Channels.{capacity_of, wires_of}
+use Rattle.gg_cut.specs.Channels.{capacity_of}
+use Rattle.gg_cut.specs.Direct.{plan_wires}
 use Rattle.gg_cut.specs.Machines.{machine_count}
 use Rattle.gg_cut.specs.Listed.{listed_of}
 use Rattle.gg_cut.specs.Plan.{IsChannel, machine_names, wire_at}
@@ -77,7 +78,7 @@ module _ (design : Ordered) (request : Request) (default : ℕ) (plan : Plan) (c
   the_listed = listed_of design.tree request
 
   abbrev the_wires : List Wire
-  the_wires = wires_of design.circuit design.tree the_listed
+  the_wires = plan_wires design.circuit design.tree request
 
   abbrev flow : Flow
   flow = flow_of plan design rows
@@ -142,7 +143,7 @@ module _ (design : Ordered) (request : Request) (default : ℕ) (plan : Plan) (c
 
   -- ---- the steps
 
-  module _ (machines : List Machine) (built : AreBuilt plan columns n machines) (kept : Kept flow (opening_net machines (wires_of_plan plan) n)) where
+  module _ (machines : List Machine) (built : AreBuilt plan columns machines) (kept : Kept flow (opening_net machines (wires_of_plan plan) n)) where
     abbrev opening : Network
     opening = opening_net machines (wires_of_plan plan) n
 

@@ -10,7 +10,7 @@ use Rattle.gg_flat.specs.Tree.{InstanceTree, memory_at, path_at}
 use Rattle.gg_front.specs.Meaning.{MeansDesign}
 use Rattle.gg_order.specs.Design.{Ordered}
 use Rattle.gg_partfile.specs.declared.request.Request.{Request}
-use Rattle.gg_cut.specs.Channels.{wires_of}
+use Rattle.gg_cut.specs.Direct.{plan_wires}
 use Rattle.gg_cut.specs.Machines.{first_memory, is_memory, machine_count}
 use Rattle.gg_cut.specs.Listed.{listed_of}
 use Rattle.gg_cut.specs.Plan.{machine_names, wire_at}
@@ -73,7 +73,7 @@ naming_by design request listed wires =
     }
 
 abbrev pub naming_of : Ordered → Request → Naming
-naming_of design request = naming_by design request (listed_of design.tree request) (wires_of design.circuit design.tree (listed_of design.tree request))
+naming_of design request = naming_by design request (listed_of design.tree request) (plan_wires design.circuit design.tree request)
 
 -- ---- where the steps lead
 
@@ -138,7 +138,7 @@ lines_told setting marking wires = flat_map (channel_told setting marking wires)
 -- a line for each channel, in their order
 abbrev pub replay_text : Setting → Marking → List ℕ
 replay_text setting marking =
-    lines_told setting marking (wires_of setting.design.circuit setting.design.tree (listed_of setting.design.tree setting.request))
+    lines_told setting marking (plan_wires setting.design.circuit setting.design.tree setting.request)
 
 -- the text of `replay`, for the marking that the steps lead to
 abbrev pub IsReplayText : (circuit partition trace : List ℕ) (capacity : ℕ) (steps text : List ℕ) → Type 0

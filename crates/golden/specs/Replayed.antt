@@ -75,7 +75,7 @@ opening_of fed machines = opening_net machines (wires_of_plan fed.case.cut.plan)
 
 -- The machines of the plan's network, which carries the values of this flow.
 pub record Opened (fed : Fed) (flow : Flow) (machines : List Machine) : Type 0 where
-  pub built : AreBuilt fed.case.cut.plan fed.trace.columns fed.trace.rows machines
+  pub built : AreBuilt fed.case.cut.plan fed.trace.columns machines
   pub kept : Kept flow (opening_of fed machines)
 
 -- The text of the network that these steps lead to.
