@@ -1,5 +1,5 @@
 -- In a run of the reference circuit, a machine gives what its piece gives on what the machine takes.
-use Rattle.std.proofs.Common.{◌≡◌, ◌≢◌, ℕ, suc, Bool, ◌<◌, List, [], ◌∷◌, length, map, take, sym, ◌∙◌, ap, ap₂, subst, inl, inr, ◌⊎◌, refl, eq-eqb, arith}
+use Rattle.std.proofs.Common.{◌≡◌, ◌≢◌, ℕ, Bool, ◌<◌, List, length, map, take, sym, ◌∙◌, ap, subst, inl, inr, ◌⊎◌, refl, eq-eqb, arith}
 use Rattle.std.specs.Prelude.{◌↔◌, ◌&&◌, ◌==◌, Contains}
 use Rattle.std.specs.List.{range_with_len}
 use Rattle.std.proofs.lemmas.Bool.{and_from, eqb-true}
@@ -29,6 +29,7 @@ use Rattle.gg_cut.specs.Direct.{Hub, hub_of, routes}
 use Rattle.gg_pipe.specs.Reference.{IsReference, with_paths}
 use Rattle.gg_pipe.specs.Links.{pipes_of, seen_by, views_of, stream, AreHolders}
 use Rattle.gg_cut.proofs.OriginLemmas.{finds-any}
+use Rattle.gg_cut.proofs.SolveLemmas.{map-agree}
 use Rattle.gg_routes.proofs.RouteLemmas.{IsBase, no-echo, chosen-out}
 use Rattle.gg_routes.proofs.ChoiceLemmas.{any-wire}
 use Rattle.gg_pipe.proofs.ReferenceLemmas.{IsOwn, part_of_reference, run-paths, clocked-part}
@@ -48,11 +49,6 @@ pub record IsRoutedPart (hub : Hub) (m : ℕ) (part : Part) : Type 0 where
 -- a part of a cut is a machine's piece
 pub cut-part : (design : Ordered) (listed : Listed) (piped : ℕ → Bool) (direct : Bool) (m : ℕ) (part : Part) → IsCutPart design listed (hub_of design.circuit design.tree listed piped direct) m part → IsRoutedPart (hub_of design.circuit design.tree listed piped direct) m part
 cut-part design listed piped direct m part cut = record { is = cut.is; signals = cut.signals; ins = cut.ins; outs = cut.outs; held = cut.held; ordered = cut.ordered }
-
--- two functions that agree on the items of a list make the same list of it
-map-agree : {B : Type 0} (f g : ℕ → B) (xs : List ℕ) → ((i : ℕ) → i < length xs → f (value_at xs i) ≡ g (value_at xs i)) → map f xs ≡ map g xs
-map-agree f g [] same = refl
-map-agree f g (x ∷ xs) same = ap₂ (λ y l. y ∷ l) (same 0 (omega arith)) (map-agree f g xs (λ i lt. same (suc i) (omega arith)))
 
 module _ (hub : Hub) (base : IsBase hub) (all : FlatCircuit) (holder keeper : ℕ → ℕ) (reference : IsReference hub.circuit all (views_of hub holder keeper) (pipes_of hub)) (formed : IsWellFormed hub.circuit) (m : ℕ) (part : Part) (cut : IsRoutedPart hub m part) (holders : AreHolders hub holder keeper m part.memories) where
   -- a signal of the part that isn't an input isn't taken

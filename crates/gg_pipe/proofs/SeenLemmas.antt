@@ -16,8 +16,8 @@ use Rattle.gg_cut.specs.Direct.{Hub, is_own, routes, origin_within}
 use Rattle.gg_pipe.specs.Reference.{IsSeen, IsPiped}
 use Rattle.gg_pipe.specs.Links.{pipes_of, pipe_or, taken_as, seen_by, maker_or, maker_of}
 use Rattle.gg_cut.proofs.OriginLemmas.{any-finds, finds-any, clash, Chain, Here, Copy, chain}
-use Rattle.gg_routes.proofs.RouteLemmas.{IsBase, same-wire, own-no-wire, find-some, route-signal, out-routes, chosen-in}
-use Rattle.gg_cut.proofs.DirectLemmas.{IsFromBase}
+use Rattle.gg_routes.proofs.RouteLemmas.{IsBase, same-wire, own-no-wire, route-signal, out-routes, chosen-in}
+use Rattle.gg_cut.proofs.DirectLemmas.{find-some, IsFromBase}
 use Rattle.gg_routes.proofs.ChoiceLemmas.{takes-out, From, Same, Origin, gives-out, inner-none, any-wire}
 
 find-none : {A : Type 0} (test : A → Bool) (xs : List A) → list_any test xs ≡ false → find test xs ≡ None

@@ -8,9 +8,9 @@ ghost use Rattle.gg_cut.specs.Direct.{driver_names};
 ghost use Rattle.gg_routes.specs.Tables.{side_at, entry_at, AreKnown, is_kept, is_left, AreGone};
 
 use crate::lists::{push_if, push_some};
-use crate::marks::marks_of;
 use crate::names::names_of;
 use crate::sides::Side;
+use gg_cut::marks_of;
 use gg_flat::Piece;
 use std::alloc::{AllocError, Global};
 

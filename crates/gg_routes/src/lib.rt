@@ -18,7 +18,6 @@
 mod gone;
 mod laws;
 mod lists;
-mod marks;
 mod names;
 mod origins;
 mod plan;

@@ -11,9 +11,8 @@ ghost use Rattle.gg_routes.specs.Routes.{AreRoutes};
 ghost use Rattle.gg_routes.specs.Share.{is_past_hub, past_hub, stays_by};
 
 use crate::lists::push_if;
-use crate::marks::{clear, marks_of};
 use crate::routing::{Channels, routes};
-use gg_cut::{Listed, Wire};
+use gg_cut::{Listed, Wire, marks_of, unmarked};
 use gg_order::Design;
 use gg_partfile::Request;
 use gg_split::Split;
@@ -41,7 +40,7 @@ pub fn plan_routes(
     ensures gone { IfOk result (λ found. (s : ℕ) → s < length design.now.circuit.signals → is_marked found.gone s ≡ is_gone (plan_hub design.now.circuit design.now.tree request.now) s) }
     ensures sound { IfOk result (λ found. AreRoutes design.now listed.now (plan_hub design.now.circuit design.now.tree request.now)) }
 {
-    let piped = clear(alloc, design.piece().signal_count())?;
+    let piped = unmarked(alloc, design.piece().signal_count())?;
     let channels = routes(alloc, design, listed, split, &piped, request.direct)?;
     Ok(channels)
 }

@@ -11,7 +11,6 @@ ghost use Rattle.gg_routes.specs.Routable.{CanRoute, IsRouting};
 
 use crate::gone::gone_of;
 use crate::laws::channels_routed;
-use crate::marks::marks_of;
 use crate::names::{names_of, push_stops};
 use crate::origins::origins_of;
 use crate::routed::routed_of;
@@ -19,7 +18,7 @@ use crate::sides::{made_of, sides_of};
 use crate::straight::straight_of;
 use gg_bits::Items;
 use gg_closed::channels_once;
-use gg_cut::{Listed, Wire};
+use gg_cut::{Listed, Wire, marks_of};
 use gg_flat::{Piece, Tree};
 use gg_order::Design;
 use gg_split::Split;
