@@ -152,6 +152,9 @@ static WAYS: [&str; 4] = [
     "golden run k1.fir p.json k1.trace --workers 3",
 ];
 
+// The ways in which it is run with direct channels.
+static DIRECT_WAYS: [&str; 2] = [RUN, "golden run k1.fir p.json k1.trace --workers 2"];
+
 // What the second of two ways answers, with the status 255 if the first answers something else.
 fn alike(first: Answer, mut second: Answer) -> Answer {
     if !second.is_like(&first) {
@@ -160,8 +163,39 @@ fn alike(first: Answer, mut second: Answer) -> Answer {
     second
 }
 
-/// `run` on a circuit, a partition and a trace, where nothing fails, in each way. If not all of them answer the same, the
-/// status is 255.
+// What a call answered, if it answers the same in each of these ways; else the status is 255.
+fn same_in<R: Threads + Sync>(
+    rt: &R,
+    alloc: Global,
+    mut answer: Answer,
+    ways: &[&str],
+    circuit: &str,
+    partition: &str,
+    trace: &str,
+) -> Result<Answer, AllocError> {
+    for line in ways {
+        let next = ask_of(rt, alloc, line, circuit, partition, trace)?;
+        answer = alike(answer, next);
+    }
+    Ok(answer)
+}
+
+// A partition with direct channels: the key stands first. A text that is no object stays.
+fn with_direct(alloc: Global, partition: &str) -> Result<String, AllocError> {
+    let Some((before, behind)) = partition.split_once('{') else {
+        return String::from_str(alloc, partition);
+    };
+    let mut text = String::from_str(alloc, before)?;
+    text.push_str("{\"direct\":true")?;
+    if !behind.trim_start().starts_with('}') {
+        text.push_str(",")?;
+    }
+    text.push_str(behind)?;
+    Ok(text)
+}
+
+/// `run` on a circuit, a partition and a trace, where nothing fails, in each way; where it ends with status 0, with direct channels
+/// too. If not all of them answer the same, the status is 255.
 pub fn run<R: Threads + Sync>(
     rt: &R,
     alloc: Global,
@@ -169,10 +203,19 @@ pub fn run<R: Threads + Sync>(
     partition: &str,
     trace: &str,
 ) -> Result<Answer, AllocError> {
-    let mut answer = ask_of(rt, alloc, RUN, circuit, partition, trace)?;
-    for line in &WAYS {
-        let next = ask_of(rt, alloc, line, circuit, partition, trace)?;
-        answer = alike(answer, next);
+    let first = ask_of(rt, alloc, RUN, circuit, partition, trace)?;
+    let answer = same_in(rt, alloc, first, &WAYS, circuit, partition, trace)?;
+    if answer.status != 0 {
+        return Ok(answer);
     }
-    Ok(answer)
+    let direct = with_direct(alloc, partition)?;
+    same_in(
+        rt,
+        alloc,
+        answer,
+        &DIRECT_WAYS,
+        circuit,
+        direct.as_str(),
+        trace,
+    )
 }

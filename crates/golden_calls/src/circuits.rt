@@ -41,6 +41,14 @@ pub const BOTH: &str =
 pub const BANKS: &str =
     "circuit Banks :\nmodule Bank :\nmem m :\ndata-type => UInt<1>\ndepth => 1\nread-latency => 0\nwrite-latency => 1\nmodule Banks :\ninst u of Bank\ninst v of Bank\n";
 
+/// An instance whose output goes to two others and to the outside.
+pub const FORK: &str =
+    "circuit Fork :\nmodule Neg :\ninput a : UInt<4>\noutput b : UInt<4>\nb <= not(a)\nmodule Fork :\ninput x : UInt<4>\noutput p : UInt<4>\noutput q : UInt<5>\ninst u of Neg\ninst v of Neg\ninst w of Neg\nu.a <= x\nv.a <= u.b\nw.a <= u.b\np <= u.b\nq <= add(v.b, w.b)\n";
+
+/// An instance whose output is the address of a memory, and an output that is read.
+pub const KEPT: &str =
+    "circuit Kept :\nmodule Neg :\ninput a : UInt<2>\noutput b : UInt<2>\nb <= not(a)\nmodule Kept :\ninput clock : Clock\ninput x : UInt<2>\noutput y : UInt<2>\noutput z : UInt<2>\noutput r : UInt<2>\noutput q : UInt<2>\nmem m :\ndata-type => UInt<2>\ndepth => 4\nread-latency => 0\nwrite-latency => 1\nreader => r\nwriter => w\nread-under-write => undefined\ninst u of Neg\nu.a <= x\nm.r.clk <= clock\nm.w.clk <= clock\nm.r.addr <= u.b\nm.w.addr <= u.b\nm.r.en <= UInt<1>(1)\nm.w.en <= UInt<1>(1)\nm.w.mask <= UInt<1>(1)\nm.w.data <= x\ny <= m.r.data\nz <= u.b\nr <= u.b\nq <= not(r)\n";
+
 /// A trace of the counter.
 pub const TRACE: &str = "cycle reset\n0 1\n1 0\n2 0\n3 0\n";
 

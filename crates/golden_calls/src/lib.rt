@@ -1,7 +1,8 @@
 //! Calls of `golden` with files and sinks in memory, for tests. It promises nothing: golden's own contract says what a call does.
 //!
 //! [`call`] is a call whose loads and puts fail where its lists say; [`ask`], [`ask_of`] and [`run`] are calls in which nothing fails.
-//! [`run`] runs a circuit by the simulator and from the network, with 0 to 3 workers, which have to answer the same.
+//! [`run`] runs a circuit by the simulator and from the network, with 0 to 3 workers, also with direct channels; all have to answer the
+//! same.
 //! [`Answer::is`] compares what came of one with the status, the loads and the texts that were expected.
 #![tactic(auto)]
 
@@ -10,5 +11,6 @@ mod circuits;
 
 pub use calls::{Answer, CHECK, RUN, ask, ask_of, call, counter_files, files_of, run, words_of};
 pub use circuits::{
-    BANKS, BOTH, COUNTER, LATE, LOOP, MEMORY, PAIR, TEXT, TILES, TRACE, TWO, WIDE, counter, edited,
+    BANKS, BOTH, COUNTER, FORK, KEPT, LATE, LOOP, MEMORY, PAIR, TEXT, TILES, TRACE, TWO, WIDE,
+    counter, edited,
 };

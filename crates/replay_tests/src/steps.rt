@@ -18,6 +18,10 @@ const MEMORY_TRACE: &str = "cycle a v\n0 1 0f\n1 1 21\n2 3 55\n3 1 00\n";
 
 const LISTED: &str = "{\"memories\":[\"m\"]}";
 
+const DIRECT: &str = "{\"units\":[\"a\",\"b\"],\"direct\":true}";
+
+const DIRECT_FORK: &str = "{\"units\":[\"u\",\"v\"],\"direct\":true}";
+
 const SHARED: &str = "{\"units\":[\"u\",\"v\"],\"share\":[[\"u\",\"v\"]]}";
 
 const LATE_TRACE: &str = "cycle a e v\n0 1 1 2a\n1 0 0 00\n";
@@ -104,8 +108,9 @@ fn tokens_of_the_counter(rt: HostRuntime) -> Result<(), Fail> {
 // its first port. Two units of one host, of which one goes ahead. A memory through its first cycle, ahead of the hub; and on to its
 // second, which reads what the later of its two writers wrote. A memory of latency 1 that reads new words: its writer is due before its
 // reader. The two units of one host: only outputs; one in its second cycle while the other stays; two whole cycles; one tray ahead; both in
-// their second cycle before the hub takes what they gave, where a channel holds two tokens.
-static WORKED: [(&str, &str, &str, &str, &str, &str); 14] = [
+// their second cycle before the hub takes what they gave, where a channel holds two tokens. With direct channels: a whole cycle of units
+// that feed each other; a source and its two channels.
+static WORKED: [(&str, &str, &str, &str, &str, &str); 16] = [
     (
         REPLAY_1,
         PAIR,
@@ -217,6 +222,22 @@ static WORKED: [(&str, &str, &str, &str, &str, &str); 14] = [
         TWO_TRACE,
         "fire x\nlatch x\nfire u.a\nfire v.a\nlatch u.a\nlatch v.a\nfire v.s\nfinish v\nfire u.s\nfinish u\nfire v.s\nfire u.s\n",
         "x 1/1 01\nu.a 1/1 01\nu.s 2/0 00 01\nv.a 1/1 fe\nv.s 2/0 00 fe\np 0/0\nq 0/0\n",
+    ),
+    (
+        REPLAY_1,
+        PAIR,
+        DIRECT,
+        PAIR_TRACE,
+        "fire a.x\nlatch a.x\nfire b.m\nlatch b.m\nfire a.k\nlatch a.k\nfire q\nlatch q\nfinish in:x\nfinish a\nfinish b\nfinish hub:\nfinish out:q\nfire a.x\n",
+        "a.x 2/1 0f 81\na.k 1/1 1e\nb.m 1/1 0f\nq 1/1 11\n",
+    ),
+    (
+        REPLAY_1,
+        TWO,
+        DIRECT_FORK,
+        TWO_TRACE,
+        "fire u.a\nlatch u.a\nfire p\nfire x\nfinish in:x\nfire u.a\n",
+        "x 1/0 01\nu.a 2/1 01 10\nv.a 0/0\np 1/0 00\nq 0/0\n",
     ),
 ];
 
@@ -363,6 +384,21 @@ fn refused_steps_of_a_shared_unit(rt: HostRuntime) -> Result<(), Fail> {
         ("fire v.s\nfire p\n", "golden: step 2: NeedsInput u.s\n"),
     ] {
         let answer = replay_of(&rt, alloc, TWO, SHARED, TWO_TRACE, steps)?;
+        check(&rt, &answer, 9, 4, "", err);
+    }
+    Ok(())
+}
+
+// A source owes each of its channels a token.
+#[test]
+fn refused_steps_of_a_fork(rt: HostRuntime) -> Result<(), Fail> {
+    let alloc = rt.alloc();
+    for (steps, err) in [
+        ("fire u.a\nfinish in:x\n", "golden: step 2: Unfired x\n"),
+        ("fire x\nfinish in:x\n", "golden: step 2: Unfired u.a\n"),
+        ("fire u.s\n", "golden: step 1: Stranger\n"),
+    ] {
+        let answer = replay_of(&rt, alloc, TWO, DIRECT_FORK, TWO_TRACE, steps)?;
         check(&rt, &answer, 9, 4, "", err);
     }
     Ok(())

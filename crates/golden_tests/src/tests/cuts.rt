@@ -1,6 +1,6 @@
 //! What `check` prints.
 use super::check;
-use golden_calls::{BANKS, BOTH, CHECK, LATE, PAIR, TILES, TWO, ask_of};
+use golden_calls::{BANKS, BOTH, CHECK, FORK, KEPT, LATE, PAIR, TILES, TWO, ask_of};
 use std::test::Fail;
 
 // A memory, and beside it an instance that works its address out.
@@ -36,7 +36,7 @@ const STOPS: &str =
     "circuit Top :\nmodule Cell :\ninput clock : Clock\ninput i : UInt<2>\nstop(clock, eq(i, UInt<2>(1)), 1) : done\nmodule Top :\ninput clock : Clock\ninput x : UInt<2>\noutput y : UInt<2>\ninst c of Cell\nc.clock <= clock\nc.i <= x\ny <= x\nstop(clock, eq(x, UInt<2>(3)), 0) : last\n";
 
 // Words, a circuit, a partition, and the text.
-static CUTS: [(&str, &str, &str, &str); 21] = [
+static CUTS: [(&str, &str, &str, &str); 27] = [
     (
         "golden check k1.fir p.json --capacity 1",
         PAIR,
@@ -170,6 +170,48 @@ static CUTS: [(&str, &str, &str, &str); 21] = [
         STOPS,
         "{\"units\":[\"c\"]}",
         "machine hub: host 0\nmachine c host 1\nmachine in:x host 2\nmachine out:y host 3\nmachine halt:stop:0 host 4\nmachine halt:c.stop:0 host 5\nchannel x in:x hub: UInt<2> capacity 2 needs -\nchannel c.i hub: c UInt<2> capacity 2 needs x\nchannel y hub: out:y UInt<2> capacity 2 needs x\nchannel stop:0 hub: halt:stop:0 UInt<1> capacity 2 needs x\nchannel c.stop:0 c halt:c.stop:0 UInt<1> capacity 2 needs c.i\n",
+    ),
+    // all channels are direct
+    (
+        "golden check k1.fir p.json --capacity 1",
+        PAIR,
+        "{\"units\":[\"a\",\"b\"],\"direct\":true}",
+        "machine hub: host 0\nmachine a host 1\nmachine b host 2\nmachine in:x host 3\nmachine out:q host 4\nchannel a.x in:x a UInt<8> capacity 1 needs -\nchannel a.k b a UInt<8> capacity 1 needs b.m\nchannel b.m a b UInt<8> capacity 1 needs a.x\nchannel q a out:q UInt<8> capacity 1 needs a.x a.k\n",
+    ),
+    // a source that gives its values to the hub too
+    (
+        "golden check k1.fir p.json",
+        TWO,
+        "{\"units\":[\"u\",\"v\"],\"share\":[[\"u\",\"v\"]],\"direct\":true}",
+        "machine hub: host 0\nmachine u host 1\nmachine v host 1\nmachine in:x host 2\nmachine out:p host 3\nmachine out:q host 4\nchannel x in:x hub: UInt<8> capacity 2 needs -\nchannel u.a in:x u UInt<8> capacity 2 needs -\nchannel v.a hub: v UInt<8> capacity 2 needs x\nchannel p u out:p UInt<8> capacity 2 needs -\nchannel q v out:q UInt<8> capacity 2 needs -\n",
+    ),
+    // a fork of three
+    (
+        "golden check k1.fir p.json",
+        FORK,
+        "{\"units\":[\"u\",\"v\",\"w\"],\"direct\":true}",
+        "machine hub: host 0\nmachine u host 1\nmachine v host 2\nmachine w host 3\nmachine in:x host 4\nmachine out:p host 5\nmachine out:q host 6\nchannel u.a in:x u UInt<4> capacity 2 needs -\nchannel v.a u v UInt<4> capacity 2 needs u.a\nchannel v.b v hub: UInt<4> capacity 2 needs v.a\nchannel w.a u w UInt<4> capacity 2 needs u.a\nchannel w.b w hub: UInt<4> capacity 2 needs w.a\nchannel p u out:p UInt<4> capacity 2 needs u.a\nchannel q hub: out:q UInt<5> capacity 2 needs v.b w.b\n",
+    ),
+    // what the hub needs stays: for a memory that isn't listed, and for an output that is read
+    (
+        "golden check k1.fir p.json",
+        KEPT,
+        "{\"direct\":true,\"units\":[\"u\"]}",
+        "machine hub: host 0\nmachine u host 1\nmachine in:x host 2\nmachine out:y host 3\nmachine out:z host 4\nmachine out:r host 5\nmachine out:q host 6\nchannel x in:x hub: UInt<2> capacity 2 needs -\nchannel u.a in:x u UInt<2> capacity 2 needs -\nchannel u.b u hub: UInt<2> capacity 2 needs u.a\nchannel y hub: out:y UInt<2> capacity 2 needs u.b\nchannel z u out:z UInt<2> capacity 2 needs u.a\nchannel r hub: out:r UInt<2> capacity 2 needs u.b\nchannel q hub: out:q UInt<2> capacity 2 needs u.b\n",
+    ),
+    // a listed memory gives no direct channel
+    (
+        "golden check k1.fir p.json",
+        LATE,
+        "{\"memories\":[\"m\"],\"direct\":true}",
+        "machine hub: host 0\nmachine m host 1\nmachine in:a host 2\nmachine in:e host 3\nmachine in:v host 4\nmachine out:o host 5\nchannel m.r.addr in:a m UInt<2> capacity 2 needs -\nchannel m.r.en in:e m UInt<1> capacity 2 needs -\nchannel m.r.data m hub: UInt<8> capacity 2 needs -\nchannel m.w.addr in:a m UInt<2> capacity 2 needs -\nchannel m.w.en hub: m UInt<1> capacity 2 needs -\nchannel m.w.data in:v m UInt<8> capacity 2 needs -\nchannel m.w.mask hub: m UInt<1> capacity 2 needs -\nchannel o hub: out:o UInt<8> capacity 2 needs m.r.data\n",
+    ),
+    // a unit that feeds itself
+    (
+        "golden check k1.fir p.json",
+        BACK,
+        "{\"units\":[\"u\"],\"direct\":true}",
+        "machine hub: host 0\nmachine u host 1\nmachine in:x host 2\nmachine out:y host 3\nchannel u.a in:x u SInt<4> capacity 2 needs -\nchannel u.b u u SInt<4> capacity 2 needs u.a\nchannel y u out:y SInt<5> capacity 2 needs u.a u.b\n",
     ),
     // two units and their memories, which have no ports
     (

@@ -1,13 +1,15 @@
 //! Partitions: those that are accepted change nothing that is printed, and of the others the first fault is told.
 use super::check;
-use golden_calls::{Answer, BANKS, CHECK, LATE, MEMORY, PAIR, RUN, TILES, TWO, ask_of, run};
+use golden_calls::{
+    Answer, BANKS, CHECK, FORK, KEPT, LATE, MEMORY, PAIR, RUN, TILES, TWO, ask_of, run,
+};
 use itoa::Buffer;
 use std::alloc::{AllocError, Global};
 use std::test::Fail;
 use std::thread::Threads;
 
 // A circuit, a partition that it accepts, a trace, and the text of the run.
-static ACCEPTED: [(&str, &str, &str, &str); 9] = [
+static ACCEPTED: [(&str, &str, &str, &str); 11] = [
     (
         PAIR,
         "{\"units\":[\"a\",\"b\"]}",
@@ -56,6 +58,18 @@ static ACCEPTED: [(&str, &str, &str, &str); 9] = [
         "cycle\n0\n",
         "cycle\n0\n",
     ),
+    (
+        FORK,
+        "{\"units\":[\"u\",\"v\",\"w\"],\"share\":[[\"u\",\"v\",\"w\"]]}",
+        "cycle x\n0 1\n1 a\n",
+        "cycle p q\n0 e 02\n1 5 14\n",
+    ),
+    (
+        KEPT,
+        "{\"units\":[\"u\"]}",
+        "cycle x\n0 1\n1 1\n2 2\n",
+        "cycle y z r q\n0 0 2 2 1\n1 1 2 2 1\n2 0 1 1 2\n",
+    ),
     (BANKS, "{\n}", "cycle\n0\n", "cycle\n0\n"),
 ];
 
@@ -76,7 +90,7 @@ fn accepted_partitions_change_nothing(rt: HostRuntime) -> Result<(), Fail> {
 }
 
 // A circuit, a partition with a fault for it, and the line that tells the first.
-static REFUSED: [(&str, &str, &str); 23] = [
+static REFUSED: [(&str, &str, &str); 25] = [
     (TILES, "", "golden: partition: P1 -\n"),
     (TILES, "[]", "golden: partition: P1 -\n"),
     (TILES, "{} {}", "golden: partition: P1 -\n"),
@@ -91,6 +105,7 @@ static REFUSED: [(&str, &str, &str); 23] = [
         "{\"capacity\":{\"o\":1.5}}",
         "golden: partition: P1 capacity\n",
     ),
+    (TILES, "{\"direct\":1}", "golden: partition: P1 direct\n"),
     (
         TILES,
         "{\"units\":[\"tile.cor\"]}",
@@ -146,6 +161,12 @@ static REFUSED: [(&str, &str, &str); 23] = [
         TILES,
         "{\"capacity\":{\"tile.o\":1,\"o\":0}}",
         "golden: partition: P7 tile.o\n",
+    ),
+    // the channel has left
+    (
+        PAIR,
+        "{\"units\":[\"a\",\"b\"],\"direct\":true,\"capacity\":{\"a.k\":1,\"a.p\":1}}",
+        "golden: partition: P7 a.p\n",
     ),
     (
         TILES,
@@ -266,6 +287,50 @@ fn channels_past_the_limit(rt: HostRuntime) -> Result<(), Fail> {
             "",
             err,
         );
+    }
+    Ok(())
+}
+
+// A circuit whose output is an instance's behind a hundred nodes.
+fn chain_of_nodes(alloc: Global) -> Result<String, AllocError> {
+    let mut buffer = Buffer::new();
+    let mut circuit = String::from_str(
+        alloc,
+        "circuit Top :\nmodule Neg :\ninput a : UInt<4>\noutput b : UInt<4>\nb <= not(a)\nmodule Top :\ninput x : UInt<4>\noutput y : UInt<4>\ninst u of Neg\nu.a <= x\nnode n0 = u.b\n",
+    )?;
+    for number in 1u64..100 {
+        circuit.push_str("node n")?;
+        circuit.push_str(buffer.format(number))?;
+        circuit.push_str(" = n")?;
+        circuit.push_str(buffer.format(number - 1))?;
+        circuit.push_str("\n")?;
+    }
+    circuit.push_str("y <= n99\n")?;
+    Ok(circuit)
+}
+
+#[test]
+fn a_chain_of_copies(rt: HostRuntime) -> Result<(), Fail> {
+    let alloc = rt.alloc();
+    let circuit = chain_of_nodes(alloc)?;
+    let partition = "{\"units\":[\"u\"],\"direct\":true}";
+    for (line, loads, out) in [
+        (
+            CHECK,
+            2,
+            "machine hub: host 0\nmachine u host 1\nmachine in:x host 2\nmachine out:y host 3\nchannel u.a in:x u UInt<4> capacity 2 needs -\nchannel y u out:y UInt<4> capacity 2 needs u.a\n",
+        ),
+        (RUN, 3, "cycle y\n0 a\n"),
+    ] {
+        let answer = ask_of(
+            &rt,
+            alloc,
+            line,
+            circuit.as_str(),
+            partition,
+            "cycle x\n0 5\n",
+        )?;
+        check(&rt, &answer, 0, loads, out, "");
     }
     Ok(())
 }
