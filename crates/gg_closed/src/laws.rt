@@ -18,8 +18,8 @@ ghost use Rattle.gg_cut.specs.Plan.{channels_to, channels_from, signals_of, give
 ghost use Rattle.gg_closed.specs.Apart.{AreApart, AreFew, AreEnds, IsOwnerAtEnd};
 ghost use Rattle.gg_closed.specs.Longest.{listed_paths, IsLongestHolder, IsLongestCover};
 
-/// What a request lists is apart, if its entries have no fault. If the request has no fault at all, there is at most as much of it,
-/// and of channels, as a plan may have.
+/// What a request lists is apart, if its entries have no fault. If the request has no fault at all, it lists at most 256 units
+/// and memories, and the plan has at most 16,384 channels.
 pub fn listed_apart()
     ensures apart { (design : Ordered) (request : Request) → KeepsToTree design.circuit design.tree → first_of (entry_faults design.tree request) ≡ None → AreApart design.tree (listed_of design.tree request) }
     ensures few { (design : Ordered) (request : Request) → first_fault design request ≡ None → AreFew design.circuit design.tree request }

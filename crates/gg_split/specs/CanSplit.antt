@@ -10,8 +10,8 @@ use Rattle.gg_cut.specs.declared.listed.Listed.{Listed}
 use Rattle.gg_cut.specs.Channels.{wires_of}
 use Rattle.gg_closed.specs.Apart.{AreApart}
 
--- A circuit can be split: it is well formed, with its tree and an order, its memories are numbered by their places in the tree, and
--- the units that are listed lie apart. Channels can be numbered.
+-- A circuit can be split: it is well formed, with its tree and an order, its memories are numbered by their places in the tree,
+-- the units that are listed lie apart, and there are fewer than 2^32 channels.
 pub record CanSplit (circuit : FlatCircuit) (tree : InstanceTree) (order : List ℕ) (listed : Listed) : Type 0 where
   pub formed : IsWellFormed circuit
   pub fitting : IsTree circuit tree

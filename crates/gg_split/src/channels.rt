@@ -1,7 +1,7 @@
 //! The channels, in their order.
 ghost use Rattle.std.specs.Prelude.{◌≡◌, ℕ, ◌<◌, ◌++◌, length, map, All, OnOk, IfOk};
 ghost use Rattle.gg_flat.specs.Line.{value_at};
-ghost use Rattle.gg_flat.specs.Tree.{IsTree, instance_at, memory_at, parent_place};
+ghost use Rattle.gg_flat.specs.Tree.{IsTree, instance_at, parent_place};
 ghost use Rattle.gg_cut.specs.Listed.{owner_of, owner_of_instance};
 ghost use Rattle.gg_flat.specs.Circuit.{readers_at};
 ghost use Rattle.gg_flat.specs.Scoped.{writers_at};

@@ -1,5 +1,5 @@
 //! The split: the channels of a cut, and what each machine has.
-ghost use Rattle.std.specs.Prelude.{◌≡◌, ℕ, ◌<◌, ◌^◌, List, [], length, set, slice_index_or, IfOk};
+ghost use Rattle.std.specs.Prelude.{◌≡◌, ℕ, ◌<◌, ◌^◌, [], length, set, slice_index_or, IfOk};
 ghost use Rattle.gg_flat.specs.Line.{value_at};
 ghost use Rattle.gg_flat.specs.Tree.{IsTree, memory_at};
 ghost use Rattle.gg_moved.specs.KeepsToTree.{KeepsToTree};

@@ -1,10 +1,9 @@
 //! Tables: the machine of each signal, the channel of each signal, the machine of each memory.
 ghost use Rattle.std.specs.Prelude.{◌≡◌, ℕ, ◌<◌, ◌≤◌, ◌^◌, ◌==◌, ◌&&◌, nat_le, nat_lt, None, length, replicate, slice_index_or, All, AllPairs, IfOk};
 ghost use Rattle.gg_flat.specs.Line.{value_at};
-ghost use Rattle.gg_flat.specs.Tree.{IsTree, instance_at, memory_at};
+ghost use Rattle.gg_flat.specs.Tree.{instance_at, memory_at};
 ghost use Rattle.gg_cut.specs.Listed.{first_place, unit_or_hub, has_signal, memory_or, owner_of_instance, memory_owner};
-ghost use Rattle.gg_cut.specs.Plan.{wire_at};
-ghost use Rattle.gg_split.specs.Spread.{claimed, AreChannels, IsChannelBelow};
+ghost use Rattle.gg_split.specs.Spread.{claimed, AreChannels};
 
 use gg_cut::{Listed, Numbering, Wire};
 use gg_flat::Tree;
