@@ -1,5 +1,6 @@
 pub mod WorkedPair
 pub mod WorkedCells
+pub mod WorkedDirect
 pub mod PathLemmas
 pub mod FindLemmas
 pub mod ChainLemmas

@@ -7,8 +7,8 @@ use Rattle.gg_moved.specs.Moved.{unclocked_register, unclocked_memory}
 use Rattle.gg_cut.specs.declared.plan.Body.{Body}
 use Rattle.gg_cut.specs.declared.plan.Body.TheVariants.{Cut, Memory, Source, Tray}
 
--- Two pieces are one, but for their paths, for the clocks that their registers and ports follow, and for how their out-signals are
--- listed: both list the same signals, but maybe in another order.
+-- Two pieces are one, but for their paths, for the clocks that their registers and ports follow, and for how their out-signals
+-- are listed: both list the same signals, but maybe in another order, or a signal more often.
 pub record IsAlike (one other : FlatCircuit) : Type 0 where
   pub signals : one.signals ≡ other.signals
   pub registers : map (λ register. unclocked_register register) one.registers ≡ map (λ register. unclocked_register register) other.registers

@@ -77,8 +77,8 @@ abbrev pub MakesBy : Hub → ℕ → ℕ → Type 0
 MakesBy hub m s = ((s < length hub.circuit.signals) × (hub.owner s ≡ m) × IsInner hub.base s × (is_gone hub s ≡ false)) ⊎ Contains (givens_of (routes hub) (channels_from (routes hub) m)) s
 
 -- A machine's piece: exactly the signals that it makes or takes, in an order of evaluation, exactly the registers that those hold
--- which it doesn't take, and the memories that belong to it. The signals that it takes and those by which it gives, in the order of
--- its channels, are its in-signals and its out-signals.
+-- which it doesn't take, and the memories that belong to it. The signals that it takes and those by which it gives, in the order
+-- of its channels, are its in-signals and its out-signals.
 pub record IsCutPart (design : Ordered) (listed : Listed) (hub : Hub) (m : ℕ) (part : Part) : Type 0 where
   pub is : IsPart design.circuit part.piece part.globals part.held part.memories
   pub signals : (s : ℕ) → Contains part.globals s ↔ (MakesBy hub m s ⊎ Takes (routes hub) m s)

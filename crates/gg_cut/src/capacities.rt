@@ -1,6 +1,5 @@
 //! Channels by name, and the faults of capacities.
 ghost use Rattle.std.specs.Prelude.{◌≡◌, ◌==◌, ◌<◌, length, All};
-ghost use Rattle.std.specs.List.{list_any};
 ghost use Rattle.gg_cut.specs.Listed.{AreMarks, is_among};
 ghost use Rattle.gg_cut.specs.Channels.{channel_names};
 ghost use Rattle.gg_cut.specs.Fault.{Tells, unknown_channel, range_fault};

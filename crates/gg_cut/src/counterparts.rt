@@ -1,5 +1,5 @@
 //! The listed memories in shared units.
-ghost use Rattle.std.specs.Prelude.{◌≡◌, ℕ, List, ◌++◌, ◌<◌, ◌^◌, not, find, option_map, length, MatchBool, MatchOption, IfOk, IfErr};
+ghost use Rattle.std.specs.Prelude.{◌≡◌, ◌++◌, ◌<◌, ◌^◌, not, find, option_map, length, MatchBool, MatchOption, IfOk, IfErr};
 ghost use Rattle.std.specs.Prelude.{None, Some};
 ghost use Rattle.std.specs.List.{list_any};
 ghost use Rattle.gg_cut.specs.Listed.{is_among};

@@ -1,6 +1,6 @@
 //! The faults of a request's entries.
-ghost use Rattle.std.specs.Prelude.{◌≡◌, ℕ, List, [], ◌∷◌, ◌+◌, ◌-◌, ◌<◌, ◌^◌, ◌++◌, ◌==◌, Some, not, option_map, find, length, OnOk};
-ghost use Rattle.gg_cut.specs.Listed.{is_among, is_instance_path, is_memory_path};
+ghost use Rattle.std.specs.Prelude.{◌≡◌, [], ◌∷◌, ◌+◌, ◌-◌, ◌<◌, ◌^◌, ◌++◌, ◌==◌, Some, not, option_map, find, length, OnOk};
+ghost use Rattle.gg_cut.specs.Listed.{is_among};
 ghost use Rattle.gg_cut.specs.Fault.{IsTold, Tells, unknown_unit, unshared, unknown_memory, first_clash, same_path, repeated, entries, other_in, other_module, module_of};
 ghost use Rattle.gg_cut.specs.declared.fault.CutFault.TheVariants.{UnknownUnit, Doubled, OtherModule, UnknownMemory};
 

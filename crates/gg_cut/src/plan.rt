@@ -12,14 +12,14 @@ pub enum Body {
     Memory(Part),
     /// Gives the column of a top input, which has this place among the top's inputs.
     Source(u32),
-    /// Keeps the values of a top output.
+    /// Keeps the values of a top output or of a stop.
     Tray,
 }
 
 /// A machine. Channels are named by their numbers.
 #[derive(Drop)]
 pub struct Machine {
-    /// `hub:`, a unit's or a memory's path, or `in:` or `out:` and the name of a top port.
+    /// `hub:`, a unit's or a memory's path, `in:` or `out:` and the name of a top port, or `halt:` and the path of a stop.
     pub name: Name,
     /// The number of its host.
     pub host: u32,
@@ -27,14 +27,14 @@ pub struct Machine {
     pub body: Body,
     /// The channels that it takes, ascending.
     pub ins: Ids,
-    /// The channels that it gives, ascending.
+    /// The channels that it gives, ascending. Several may carry one of its signals.
     pub outs: Ids,
 }
 
 /// A channel. Machines and channels are named by their numbers.
 #[derive(Drop)]
 pub struct Channel {
-    /// The number in the circuit of the signal whose values it carries.
+    /// The number in the circuit of the signal whose values it carries, as its consumer takes it.
     pub signal: u32,
     /// The path of the signal.
     pub name: Name,

@@ -28,8 +28,8 @@ const MOST_UNITS: u64 = 256;
 /// The most channels.
 const MOST_CHANNELS: u64 = 16384;
 
-/// Judges the entries of a request for a design whose circuit keeps to its tree: which name nothing or occur twice, lists of units
-/// with different modules, and memories. Returns what the request lists.
+/// Judges the entries of a request for a design whose circuit keeps to its tree: which name nothing or occur twice, lists of
+/// units with different modules, and memories. Returns what the request lists.
 ///
 /// # Errors
 ///
