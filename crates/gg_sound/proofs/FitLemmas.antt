@@ -1,6 +1,6 @@
 -- The machines of the network have the ins and outs that the plan lists, and what they need and serve exists.
 use Rattle.std.proofs.Common.{◌≡◌, ℕ, ◌<◌, List, [], None, false, length, map, sym, ◌∙◌, ap, subst, arith}
-use Rattle.std.specs.Prelude.{Option, All, Contains, replicate}
+use Rattle.std.specs.Prelude.{Option, All, replicate}
 use Rattle.std.proofs.lemmas.List.{length-map, length-replicate, get_or-map}
 use Rattle.std.proofs.lemmas.List.Elements.{All-nil, All-weaker}
 use Rattle.gg_flat.specs.Line.{value_at}

@@ -1,5 +1,5 @@
 -- A listed memory gives by the routed channels what it gave before, in the same order: no direct channel has it as its giver.
-use Rattle.std.proofs.Common.{◌≡◌, ◌≢◌, ℕ, List, [], ◌∷◌, Bool, true, false, not, Option, None, Some, length, map, get_or, eq-eqb, refl, sym, ◌∙◌, ap, ap₂, subst, inl, inr, ◌⊎◌, arith}
+use Rattle.std.proofs.Common.{◌≡◌, ◌≢◌, ℕ, List, [], ◌∷◌, Bool, true, false, not, Option, None, Some, length, map, eq-eqb, refl, sym, ◌∙◌, ap, ap₂, inl, inr, ◌⊎◌}
 use Rattle.std.specs.Prelude.{◌==◌, cond, Contains, filter}
 use Rattle.std.specs.List.{list_any}
 use Rattle.std.proofs.lemmas.Bool.{and_parts, cases_Bool, cases_eq, ne_eqb}

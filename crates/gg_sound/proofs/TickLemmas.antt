@@ -2,7 +2,6 @@
 use Rattle.std.proofs.Common.{◌≡◌, ℕ, suc, List, [], ◌∷◌, None, Bool, true, ◌&&◌, length, map, refl, sym, ◌∙◌, ap, ap₂, arith}
 use Rattle.std.specs.Prelude.{Option, Some, ◌==◌, if◌then◌else◌, replicate}
 use Rattle.std.proofs.lemmas.List.{length-map, get_or_past}
-use Rattle.gg_flat.specs.declared.memory.UnderWrite.{UnderWrite}
 use Rattle.gg_flat.specs.declared.memory.Latency.{Latency}
 use Rattle.gg_flat.specs.declared.memory.Latency.TheVariants.{Zero, One}
 use Rattle.gg_flat.specs.declared.memory.Reader.{Reader}

@@ -22,8 +22,8 @@ pub fn plan_is_wired()
     ensures { (design : Ordered) (request : Request) (default : ℕ) (plan : Plan) (columns : List (List ℕ)) (n : ℕ) (rows : List (List ℕ)) (machines : List Machine) → IsGiven design request default plan columns n rows → AreBuilt plan columns machines → IsWired (plan_frame plan machines n) }
 {}
 
-/// There is no ring among the needs of the network's channels. A channel's rank is the place of its signal in the
-/// design's order of evaluation. A channel needs only channels of lower ranks.
+/// There is no ring among the needs of the network's channels. A channel's rank is the place in the design's order of
+/// evaluation of the signal by which it is given. A channel needs only channels of lower ranks.
 pub fn plan_has_no_ring()
     ensures { (design : Ordered) (request : Request) (default : ℕ) (plan : Plan) (columns : List (List ℕ)) (n : ℕ) (rows : List (List ℕ)) (machines : List Machine) → IsGiven design request default plan columns n rows → AreBuilt plan columns machines → HasNoRing (plan_frame plan machines n) }
 {}

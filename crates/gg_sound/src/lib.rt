@@ -1,8 +1,8 @@
 //! Facts about the network of a plan: it is wired, has no ring, and is solved by the circuit's own run.
 //!
 //! A plan (`IsPlan` of gg_cut) names machines and channels. Its network (`specs/Built`) has a machine for each of the
-//! plan's machines, before its first cycle, and the plan's channels between them. The crate has no code. For the plan
-//! of a design and of a request without a fault, and for such machines, it promises:
+//! plan's machines, before its first cycle, and the plan's channels between them, some of which may be direct. The crate
+//! has no code. For the plan of a design and of a request without a fault, and for such machines, it promises:
 //!
 //! - a machine has an in or an out for each channel that the plan lists for it, and the channel is connected there
 //!   (`plan_is_listed`);
@@ -14,18 +14,19 @@
 //!   limits (`plan_is_within`);
 //! - the ports that a machine serves are among its ports (`ports_are_named`), and the machines are before their first
 //!   cycle (`machines_are_opening`);
-//! - the machines can be built: a unit's signals are in an order of evaluation (`unit_is_ordered`), a source's channel
-//!   has a column (`source_has_column`), and a listed memory's part can be cut once more to give a memory alone
-//!   (`memory_is_chosen`).
+//! - the machines can be built: a unit's signals are in an order of evaluation (`unit_is_ordered`), a source has a
+//!   column and gives it on at least one channel (`source_has_column`), and a listed memory's part can be cut once more
+//!   to give a memory alone (`memory_is_chosen`).
 //!
 //! Why there is no ring: an out needs an in if the out's signal reaches the in's signal by a path of reads in the
 //! machine's piece. The piece is a part of the circuit, so the path is also one of the circuit. So the in's signal
-//! comes before the out's signal in the order of evaluation. The two signals differ, since no channel connects a
-//! machine with itself.
+//! comes before the out's signal in the order of evaluation. The two signals differ, since no machine takes a signal
+//! that it gives. The signal by which the in's channel is given is the in's signal, or the in's signal is a copy of it
+//! and comes after it.
 //!
 //! Why the circuit's run solves the network: the rows of a part in a run are a run of the part, on the columns of its
-//! own in-signals. A memory whose ports are all served is in its next state. Both ends of a channel have its signal's
-//! value.
+//! own in-signals. A memory whose ports are all served is in its next state. The signal by which a channel is given and
+//! the signal that its consumer takes have one value in each row.
 #![tactic(auto)]
 
 mod alone;

@@ -9,8 +9,8 @@ ghost use Rattle.gg_net.specs.Kept.{Solves, IsSound};
 ghost use Rattle.gg_net.specs.Net.{IsWithinLimits};
 ghost use Rattle.gg_sound.specs.Built.{AreBuilt, IsGiven, flow_of, plan_frame};
 
-/// The circuit's run solves the network. Each channel's list is its signal's column, which its producer's rows give and
-/// its consumer's rows take. Each machine can do all cycles: its rows are a run of its piece, from its part of the
+/// The circuit's run solves the network. Each channel's list is its signal's column, which its producer's rows give,
+/// maybe by a signal that it copies, and its consumer's rows take. Each machine can do all cycles: its rows are a run of its piece, from its part of the
 /// opening.
 pub fn plan_is_solved()
     ensures { (design : Ordered) (request : Request) (default : ℕ) (plan : Plan) (columns : List (List ℕ)) (n : ℕ) (rows : List (List ℕ)) (machines : List Machine) → IsGiven design request default plan columns n rows → AreBuilt plan columns machines → Solves (flow_of plan design rows) (plan_frame plan machines n) }
