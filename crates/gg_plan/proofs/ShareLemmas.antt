@@ -1,7 +1,8 @@
 -- What machines have by the routed channels.
 use Rattle.std.proofs.Common.{◌≡◌, ℕ, ◌<◌, List, length, get_or, Bool, false, sym, ◌∙◌, ap, subst, inl, inr, ◌⊎◌, eq-eqb, arith}
-use Rattle.std.specs.Prelude.{if◌then◌else◌, filter}
+use Rattle.std.specs.Prelude.{All, if◌then◌else◌, filter}
 use Rattle.std.proofs.lemmas.Bool.{cases_eq, ne_eqb}
+use Rattle.std.proofs.lemmas.List.{get_or_default}
 use Rattle.gg_moved.specs.KeepsToTree.{KeepsToTree}
 use Rattle.gg_order.specs.Design.{Ordered, IsDesign}
 use Rattle.gg_order.specs.Marks.{is_marked}
@@ -13,7 +14,7 @@ use Rattle.gg_cut.specs.Direct.{Hub, hub_of, plan_hub, routes, is_gone}
 use Rattle.gg_cut.specs.Plan.{channels_to, channels_from}
 use Rattle.gg_closed.specs.Apart.{AreApart}
 use Rattle.gg_split.specs.declared.share.Share.{Share}
-use Rattle.gg_split.specs.IsShare.{AreShares}
+use Rattle.gg_split.specs.IsShare.{IsShare, AreShares}
 use Rattle.gg_split.specs.Spread.{AreLists}
 use Rattle.gg_routes.specs.Routes.{AreRoutes}
 use Rattle.gg_routes.specs.Share.{IsPlanShare, stays_by}
@@ -26,15 +27,19 @@ pub share-at : (design : Ordered) (listed : Listed) (hub : Hub) (shares : List S
 share-at design listed hub shares m share are lt is =
     subst (λ (s : Share). IsPlanShare design listed hub m s.ins s.outs s.globals s.memories) (sym is) (are.each m share (omega (arith, lt, are.many)))
 
+-- the hub's signals, before the routing, are those of the circuit
+pub hub-known : (design : Ordered) (listed : Listed) (shares : List Share) (first : Share) → AreShares design listed shares → first ≡ get_or shares 0 first → All (λ s. s < length design.circuit.signals) first.globals
+hub-known design listed shares first are is = ((subst (IsShare design listed 0) (sym is) (are.each 0 first (omega arith))).choice (omega arith)).within
+
 -- the share of a machine by the routed channels
 module _ (design : Ordered) (listed : Listed) (piped : ℕ → Bool) (direct : Bool) (is : IsDesign design) (keeps : KeepsToTree design.circuit design.tree) (apart : AreApart design.tree listed) (are : AreRoutes design listed (hub_of design.circuit design.tree listed piped direct)) where
   abbrev hub : Hub
   hub = hub_of design.circuit design.tree listed piped direct
 
-  pub routed-share : (gone : List Bool) (ins outs : List (List ℕ)) (kept : List ℕ) (shares : List Share) (before share : Share) (m count : ℕ) → ((s : ℕ) → s < length design.circuit.signals → is_marked gone s ≡ is_gone hub s) → AreShares design listed shares
+  pub routed-share : (gone : List Bool) (ins outs : List (List ℕ)) (kept : List ℕ) (shares : List Share) (first before share : Share) (m count : ℕ) → ((s : ℕ) → s < length design.circuit.signals → is_marked gone s ≡ is_gone hub s) → AreShares design listed shares
       → AreLists (channels_to (routes hub)) count ins → AreLists (channels_from (routes hub)) count outs → m < count → count ≡ machine_count design.circuit listed
-      → kept ≡ filter (stays_by (routes hub) gone) (get_or shares 0 before).globals → before ≡ get_or shares m before → IsRoutedShare ins outs kept before m share → IsPlanShare design listed hub m share.ins share.outs share.globals share.memories
-  routed-share gone ins outs kept shares before share m count marks all takes gives lt many stay at routed = by (cases_eq m 0)
+      → kept ≡ filter (stays_by (routes hub) gone) first.globals → first ≡ get_or shares 0 first → before ≡ get_or shares m before → IsRoutedShare ins outs kept before m share → IsPlanShare design listed hub m share.ins share.outs share.globals share.memories
+  routed-share gone ins outs kept shares first before share m count marks all takes gives lt many stay start at routed = by (cases_eq m 0)
     where
       low : m < machine_count design.circuit listed
       low = omega (arith, lt, many)
@@ -49,11 +54,10 @@ module _ (design : Ordered) (listed : Listed) (piped : ℕ → Bool) (direct : B
 
       by : (m ≡ 0) ⊎ (m ≡ 0 → ⊥) → IsPlanShare design listed hub m share.ins share.outs share.globals share.memories
       by (inl zero) =
-          let first = get_or shares 0 before in
-          let own = all.each 0 before (omega (arith, low, zero)) in
+          let own = subst (IsShare design listed 0) (sym start) (all.each 0 first (omega (arith, low, zero))) in
           let made = hub-plan-share design listed piped direct is keeps apart are gone first.ins first.outs first.globals first.memories marks own in
           let chosen : share.globals ≡ kept = routed.signals ∙ ap (λ b. if b then kept else before.globals) (eq-eqb m 0 zero) in
-          let same : before ≡ first = at ∙ ap (λ k. get_or shares k before) zero in
+          let same : before ≡ first = at ∙ ap (λ k. get_or shares k before) zero ∙ get_or_default shares 0 before first (omega (arith, low, zero, all.many)) ∙ sym start in
           as-made (filter (stays_by (routes hub) gone) first.globals) first.memories (chosen ∙ stay) (routed.banks ∙ ap (λ (s : Share). s.memories) same)
           (subst (λ k. IsPlanShare design listed hub k (channels_to (routes hub) k) (channels_from (routes hub) k) (filter (stays_by (routes hub) gone) first.globals) first.memories) (sym zero) made)
       by (inr other) =
@@ -68,10 +72,10 @@ module _ (design : Ordered) (request : Request) (listed : Listed) (same : listed
   abbrev the_hub : Hub
   the_hub = plan_hub design.circuit design.tree request
 
-  pub plan-share-of : AreRoutes design listed the_hub → (gone : List Bool) (ins outs : List (List ℕ)) (kept : List ℕ) (shares : List Share) (before share : Share) (m count : ℕ) → ((s : ℕ) → s < length design.circuit.signals → is_marked gone s ≡ is_gone the_hub s) → AreShares design listed shares
+  pub plan-share-of : AreRoutes design listed the_hub → (gone : List Bool) (ins outs : List (List ℕ)) (kept : List ℕ) (shares : List Share) (first before share : Share) (m count : ℕ) → ((s : ℕ) → s < length design.circuit.signals → is_marked gone s ≡ is_gone the_hub s) → AreShares design listed shares
       → AreLists (channels_to (routes the_hub)) count ins → AreLists (channels_from (routes the_hub)) count outs → m < count → count ≡ machine_count design.circuit listed
-      → kept ≡ filter (stays_by (routes the_hub) gone) (get_or shares 0 before).globals → before ≡ get_or shares m before → IsRoutedShare ins outs kept before m share → IsPlanShare design listed the_hub m share.ins share.outs share.globals share.memories
-  plan-share-of are gone ins outs kept shares before share m count marks all takes gives lt many stay at routed =
+      → kept ≡ filter (stays_by (routes the_hub) gone) first.globals → first ≡ get_or shares 0 first → before ≡ get_or shares m before → IsRoutedShare ins outs kept before m share → IsPlanShare design listed the_hub m share.ins share.outs share.globals share.memories
+  plan-share-of are gone ins outs kept shares first before share m count marks all takes gives lt many stay start at routed =
       subst (λ (l : Listed). AreRoutes design l the_hub → AreShares design l shares → count ≡ machine_count design.circuit l → IsPlanShare design l the_hub m share.ins share.outs share.globals share.memories) (sym same)
-      (λ are all many. routed-share design (listed_of design.tree request) (λ s. false) request.direct is keeps apart are gone ins outs kept shares before share m count marks all takes gives lt many stay at routed)
+      (λ are all many. routed-share design (listed_of design.tree request) (λ s. false) request.direct is keeps apart are gone ins outs kept shares first before share m count marks all takes gives lt many stay start at routed)
       are all many
