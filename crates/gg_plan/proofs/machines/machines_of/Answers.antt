@@ -12,15 +12,15 @@ loop-number-init c = machines-none c.args.design.now c.args.request.now c.args.l
 
 pub body_at-requires-clause-share : goal.body_at-requires-clause-share
 body_at-requires-clause-share c =
-    let share = c.index-shares-number.result in
+    let share = c.index-share.result.now in
     let n = c.loop-number.number in
-    share-at c.args.design.now c.args.listed.now (plan_hub c.args.design.now.circuit c.args.design.now.tree c.args.request.now) c.in_ok-shares.shares.items n share (c.in_ok-shares.ensures {u = tt}) (omega (arith, c.loop-number-test.true)) c.index-shares-number.is
+    share-at c.args.design.now c.args.listed.now (plan_hub c.args.design.now.circuit c.args.design.now.tree c.args.request.now) c.in_ok-shares.shares.items n share (c.in_ok-shares.ensures {u = tt}) (omega (arith, c.loop-number-test.true, c.len-number-end.ensures)) c.index-share.ensures
 
 pub machine_at-requires-clause-share : goal.machine_at-requires-clause-share
 machine_at-requires-clause-share c =
-    let share = c.index-shares-number.result in
+    let share = c.index-share.result.now in
     let n = c.loop-number.number in
-    share-at c.args.design.now c.args.listed.now (plan_hub c.args.design.now.circuit c.args.design.now.tree c.args.request.now) c.in_ok-shares.shares.items n share (c.in_ok-shares.ensures {u = tt}) (omega (arith, c.loop-number-test.true)) c.index-shares-number.is
+    share-at c.args.design.now c.args.listed.now (plan_hub c.args.design.now.circuit c.args.design.now.tree c.args.request.now) c.in_ok-shares.shares.items n share (c.in_ok-shares.ensures {u = tt}) (omega (arith, c.loop-number-test.true, c.len-number-end.ensures)) c.index-share.ensures
 
 pub body_at-requires-clause-wires : goal.body_at-requires-clause-wires
 body_at-requires-clause-wires c = c.as_slice-wires.ensures ∙ c.requires.wires
@@ -47,5 +47,5 @@ returns c =
     let request = c.args.request.now in
     let listed = c.args.listed.now in
     let many = (c.in_ok-shares.ensures {u = tt}).many in
-    let done : c.loop-number.number ≡ machine_count design.circuit listed = omega (arith, c.loop-number-test.false, c.loop-number.auto.number-end, many) in
+    let done : c.loop-number.number ≡ machine_count design.circuit listed = omega (arith, c.loop-number-test.false, c.loop-number.auto.number-end, c.len-number-end.ensures, many) in
     machines-made design request listed (plan_hub c.args.design.now.circuit c.args.design.now.tree c.args.request.now) c.requires.faultless c.loop-number.machines.items (subst (λ k. AreMachinesTo design request listed (plan_hub c.args.design.now.circuit c.args.design.now.tree c.args.request.now) k c.loop-number.machines.items) done c.loop-number.invariant)
