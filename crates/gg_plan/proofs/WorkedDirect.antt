@@ -1,7 +1,7 @@
 -- The plan of the two units of WorkedShare, asked for with direct channels, in full.
 --
 -- `u.a` comes from the source of `x`, and `p` and `q` come from `u` and `v`. `x` goes to the hub too, which makes `v.a` of it.
-use Rattle.std.proofs.Common.{◌≡◌, ℕ, ◌<◌, List, [], ◌∷◌, true, set, refl, ap, arith, lit<, lit≤}
+use Rattle.std.proofs.Common.{◌≡◌, ℕ, ◌<◌, List, [], ◌∷◌, true, set, refl, arith, lit<, lit≤}
 use Rattle.std.specs.Prelude.{codes, slice_index_or}
 use Rattle.gg_bits.specs.declared.ops.Op1.TheVariants.{Not}
 use Rattle.gg_flat.specs.declared.line.Op.TheVariants.{Ref, One}

@@ -3,7 +3,7 @@
 -- The top has the input `x` and the outputs `p`, `q` and `w`; its instances `u` and `v` of module Inv have each the input `a` and the
 -- output `s`, which is the complement of `a`. `u.a` and `v.a` are `x`, `p` and `q` are `u.s` and `w` is `v.s`. So the hub has nothing
 -- left: the source of `x` is a fork, and `u` is one, but not `v`.
-use Rattle.std.proofs.Common.{◌≡◌, ℕ, zero, suc, ◌<◌, List, [], ◌∷◌, None, Some, true, set, length, refl, sym, ap, arith, lit<, lit≤}
+use Rattle.std.proofs.Common.{◌≡◌, ℕ, zero, suc, ◌<◌, List, [], ◌∷◌, None, Some, true, set, length, refl, ap, arith, lit<, lit≤}
 use Rattle.std.specs.Prelude.{codes, slice_index_or, Contains}
 use Rattle.gg_bits.specs.declared.ops.Op1.TheVariants.{Not}
 use Rattle.gg_flat.specs.declared.line.Op.TheVariants.{Ref, One}
