@@ -18,10 +18,12 @@ use Rattle.gg_cut.specs.declared.plan.Plan.{Plan}
 use Rattle.gg_cut.specs.declared.wires.Wire.{Wire}
 use Rattle.gg_cut.specs.Listed.{listed_of}
 use Rattle.gg_cut.specs.Machines.{first_memory, first_source, machine_count}
-use Rattle.gg_cut.specs.Channels.{wires_of}
+use Rattle.gg_cut.specs.Direct.{Hub, plan_hub, plan_wires}
 use Rattle.gg_cut.specs.Plan.{wire_at, channels_to, channels_from, IsBody}
 use Rattle.gg_closed.specs.Apart.{AreApart, AreFew}
 use Rattle.gg_closed.proofs.FaultlessLemmas.{faultless-apart, faultless-few}
+use Rattle.gg_routes.specs.Routes.{AreRoutes}
+use Rattle.gg_routes.proofs.RoutedLemmas.{plan-routed}
 use Rattle.gg_check.specs.CheckText.{AreChannelNeeds}
 use Rattle.gg_check.proofs.PlanLemmas.{channel-needs}
 use Rattle.gg_node.specs.Machine.{Machine, machine_at, needs_at}
@@ -58,12 +60,15 @@ both-true false b x y p q = absurd (cc)
 no-turns : (frame : Frame) (m : ℕ) (turns : List Turn) → turns ≡ [] → AreTurnsOf frame m [] turns
 no-turns frame m turns none = record { count = ap length none; each = λ i port turn lt. absurd (omega (arith, lt)) }
 
-module _ (design : Ordered) (request : Request) (default : ℕ) (plan : Plan) (columns : List (List ℕ)) (n : ℕ) (rows : List (List ℕ)) (machines : List Machine) (given : IsGiven design request default plan columns n rows) (built : AreBuilt plan columns n machines) where
+module _ (design : Ordered) (request : Request) (default : ℕ) (plan : Plan) (columns : List (List ℕ)) (n : ℕ) (rows : List (List ℕ)) (machines : List Machine) (given : IsGiven design request default plan columns n rows) (built : AreBuilt plan columns machines) where
   abbrev listed : Listed
   listed = listed_of design.tree request
 
   abbrev wires : List Wire
-  wires = wires_of design.circuit design.tree (listed_of design.tree request)
+  wires = plan_wires design.circuit design.tree request
+
+  abbrev hub : Hub
+  hub = plan_hub design.circuit design.tree request
 
   abbrev frame : Frame
   frame = plan_frame plan machines n
@@ -71,8 +76,11 @@ module _ (design : Ordered) (request : Request) (default : ℕ) (plan : Plan) (c
   apart : AreApart design.tree listed
   apart = faultless-apart design request given.faultless given.keeps.fitting
 
-  few : AreFew design.circuit design.tree listed
+  few : AreFew design.circuit design.tree request
   few = faultless-few design request given.faultless
+
+  routed : AreRoutes design listed hub
+  routed = plan-routed design request given.design_is given.keeps given.faultless
 
   are : AreLinks plan wires
   are = links design request default plan columns n rows machines given built
@@ -83,7 +91,7 @@ module _ (design : Ordered) (request : Request) (default : ℕ) (plan : Plan) (c
   link_of channel = record { producer = channel.producer; consumer = channel.consumer; capacity = channel.capacity; needs = channel.needs; piped = false }
 
   abbrev turns_of : ℕ → List Turn
-  turns_of m = machine_turns design.circuit design.tree (listed_of design.tree request) (wires_of design.circuit design.tree (listed_of design.tree request)) m
+  turns_of m = machine_turns design.circuit design.tree (listed_of design.tree request) (plan_wires design.circuit design.tree request) m
 
   abbrev ports_at : ℕ → ℕ
   ports_at m = machine_ports design.circuit design.tree (listed_of design.tree request) m
@@ -144,7 +152,7 @@ module _ (design : Ordered) (request : Request) (default : ℕ) (plan : Plan) (c
     place d = (joint_at (wires_of_plan plan) d).place
 
     below : p < length plan.machines
-    below = (are.ends c lt).producer
+    below = (are.ends c lt).0
 
     own-needs : HasOutNeeds wires p c needs (kind_of (machine_at machines p))
     own-needs =
@@ -152,7 +160,7 @@ module _ (design : Ordered) (request : Request) (default : ℕ) (plan : Plan) (c
         let any = some-item plan.channels c known in
         let machine = given.planned.machine p nameless below in
         subst (λ (link : Link). HasOutNeeds wires p c link.needs (kind_of (machine_at machines p))) (sym (link-is c any known))
-        (out-needs design listed given.design_is given.keeps apart few p c (record { known = lt; producer = refl }) columns n (machine_in plan p).body (machine_at machines p) (machine_in plan p).ins (get_or plan.channels c any).needs machine.body (built.each p below) machine.ins ((given.planned.channel c any known).needs nameless))
+        (out-needs design request given.design_is given.keeps given.faultless p c (record { known = lt; producer = refl }) columns (length (machine_in plan p).outs) (machine_in plan p).body (machine_at machines p) (machine_in plan p).ins (get_or plan.channels c any).needs machine.body (built.each p below) machine.ins ((given.planned.channel c any known).needs nameless))
 
     -- the place of a needed channel is its place among the channels that the machine takes
     place-is : (d : ℕ) → Contains needs d → place d ≡ place_in (channels_to wires p) d
@@ -218,16 +226,16 @@ module _ (design : Ordered) (request : Request) (default : ℕ) (plan : Plan) (c
     no-ports : (m < first_memory listed) ⊎ (first_source listed ≤ m) → ports_at m ≡ 0
     no-ports = otherwise (port_count design.circuit (memory_of design.tree listed m)) 0
 
-    body-ports : (body : Body) (machine : Machine) → IsBody design listed wires m body → IsBuilt columns n body machine → ports_at m ≡ (kind_of machine).port_count
-    body-ports (Cut part) machine body unit = subst (λ (t : Machine). ports_at m ≡ (kind_of t).port_count) (sym unit.is) (no-ports (inl body.0))
-    body-ports (Memory part) machine body stands =
-        let outer = memory-part design listed m part given.design_is given.keeps apart body.0 body.1 body.2 few in
+    body-ports : (outs : ℕ) (body : Body) (machine : Machine) → IsBody design listed hub m body → IsBuilt columns outs body machine → ports_at m ≡ (kind_of machine).port_count
+    body-ports outs (Cut part) machine body unit = subst (λ (t : Machine). ports_at m ≡ (kind_of t).port_count) (sym unit.is) (no-ports (inl body.0))
+    body-ports outs (Memory part) machine body stands =
+        let outer = memory-part design request m part given.design_is given.keeps apart routed body.0 body.1 body.2 few in
         let inner = sole stands.alone.piece.memories stands.is_memory.one in
         subst (λ (t : Machine). ports_at m ≡ (kind_of t).port_count) (sym stands.is)
         (of-memory (port_count design.circuit (memory_of design.tree listed m)) 0 body.0 body.1
-        ∙ memory-ports design listed m part given.design_is given.keeps apart body.0 body.1 body.2 machine stands outer.0 inner.0 outer.1 inner.1)
-    body-ports (Source place) machine body is = subst (λ (t : Machine). ports_at m ≡ (kind_of t).port_count) (sym is) (no-ports (inr (omega (arith, body.1))))
-    body-ports Tray machine body is =
+        ∙ memory-ports design request m part given.design_is given.keeps given.faultless body.0 body.1 body.2 machine stands outer.0 inner.0 outer.1 inner.1)
+    body-ports outs (Source place) machine body is = subst (λ (t : Machine). ports_at m ≡ (kind_of t).port_count) (sym is) (no-ports (inr (omega (arith, body.1))))
+    body-ports outs Tray machine body is =
         let low : first_source listed ≤ m = omega (arith, body) in
         subst (λ (t : Machine). ports_at m ≡ (kind_of t).port_count) (sym is) (no-ports (inr low))
 
@@ -235,19 +243,19 @@ module _ (design : Ordered) (request : Request) (default : ℕ) (plan : Plan) (c
     port-count =
         let below : m < length plan.machines = omega (arith, lt, given.planned.machine_total) in
         subst (λ k. ports_at m ≡ k.port_count) (sym (kind-is machines m (omega (arith, below, built.count))))
-        (body-ports (machine_in plan m).body (machine_at machines m) (given.planned.machine m nameless below).body (built.each m below))
+        (body-ports (length (machine_in plan m).outs) (machine_in plan m).body (machine_at machines m) (given.planned.machine m nameless below).body (built.each m below))
 
-    body-turns : (body : Body) (machine : Machine) → IsBody design listed wires m body → IsBuilt columns n body machine → AreTurnsOf frame m (kind_of machine).ports (turns_of m)
-    body-turns (Cut part) machine body unit = subst (λ (t : Machine). AreTurnsOf frame m (kind_of t).ports (turns_of m)) (sym unit.is) (no-turns frame m (turns_of m) (not-memory (inl body.0)))
-    body-turns (Memory part) machine body stands =
-        let outer = memory-part design listed m part given.design_is given.keeps apart body.0 body.1 body.2 few in
+    body-turns : (outs : ℕ) (body : Body) (machine : Machine) → IsBody design listed hub m body → IsBuilt columns outs body machine → AreTurnsOf frame m (kind_of machine).ports (turns_of m)
+    body-turns outs (Cut part) machine body unit = subst (λ (t : Machine). AreTurnsOf frame m (kind_of t).ports (turns_of m)) (sym unit.is) (no-turns frame m (turns_of m) (not-memory (inl body.0)))
+    body-turns outs (Memory part) machine body stands =
+        let outer = memory-part design request m part given.design_is given.keeps apart routed body.0 body.1 body.2 few in
         let inner = sole stands.alone.piece.memories stands.is_memory.one in
-        let are_turns = memory-turns design listed m part given.design_is given.keeps apart body.0 body.1 body.2 machine stands outer.0 inner.0 outer.1 inner.1 plan are frame refl in
+        let are_turns = memory-turns design request m part given.design_is given.keeps given.faultless body.0 body.1 body.2 machine stands outer.0 inner.0 outer.1 inner.1 plan are frame refl in
         let same = of-memory (memory_turns design.circuit wires (memory_of design.tree listed m)) [] body.0 body.1 in
         subst (λ (t : Machine). AreTurnsOf frame m (kind_of t).ports (turns_of m)) (sym stands.is)
         (subst (λ (l : List Turn). AreTurnsOf frame m (kind_of (opening_unit stands.alone.piece [])).ports l) (sym same) are_turns)
-    body-turns (Source place) machine body is = subst (λ (t : Machine). AreTurnsOf frame m (kind_of t).ports (turns_of m)) (sym is) (no-turns frame m (turns_of m) (not-memory (inr (omega (arith, body.1)))))
-    body-turns Tray machine body is =
+    body-turns outs (Source place) machine body is = subst (λ (t : Machine). AreTurnsOf frame m (kind_of t).ports (turns_of m)) (sym is) (no-turns frame m (turns_of m) (not-memory (inr (omega (arith, body.1)))))
+    body-turns outs Tray machine body is =
         let low : first_source listed ≤ m = omega (arith, body) in
         subst (λ (t : Machine). AreTurnsOf frame m (kind_of t).ports (turns_of m)) (sym is) (no-turns frame m (turns_of m) (not-memory (inr low)))
 
@@ -256,7 +264,7 @@ module _ (design : Ordered) (request : Request) (default : ℕ) (plan : Plan) (c
         let below : m < length plan.machines = omega (arith, lt, given.planned.machine_total) in
         subst (λ (l : List Turn). AreTurnsOf frame m (kind_at frame.kinds m).ports l) (sym (turns-are m lt))
         (subst (λ k. AreTurnsOf frame m k.ports (turns_of m)) (sym (kind-is machines m (omega (arith, below, built.count))))
-        (body-turns (machine_in plan m).body (machine_at machines m) (given.planned.machine m nameless below).body (built.each m below)))
+        (body-turns (length (machine_in plan m).outs) (machine_in plan m).body (machine_at machines m) (given.planned.machine m nameless below).body (built.each m below)))
 
   net-ports : layout.port_counts ≡ map (λ (kind : Kind). kind.port_count) frame.kinds
   net-ports =
@@ -290,11 +298,11 @@ module _ (design : Ordered) (request : Request) (default : ℕ) (plan : Plan) (c
   pub in-order : IsInOrder frame
   in-order = record { ins = joints-in-order plan wires are; outs = outs-in-order plan wires are }
 
-pub plan-layout : (design : Ordered) (request : Request) (default : ℕ) (plan : Plan) (columns : List (List ℕ)) (n : ℕ) (rows : List (List ℕ)) (machines : List Machine) → IsGiven design request default plan columns n rows → AreBuilt plan columns n machines
+pub plan-layout : (design : Ordered) (request : Request) (default : ℕ) (plan : Plan) (columns : List (List ℕ)) (n : ℕ) (rows : List (List ℕ)) (machines : List Machine) → IsGiven design request default plan columns n rows → AreBuilt plan columns machines
     → (layout : Layout) × (IsLayoutOf design request default n layout × HasLayout (plan_frame plan machines n) layout)
 plan-layout design request default plan columns n rows machines given built =
     (layout design request default plan columns n rows machines given built, (of-cut design request default plan columns n rows machines given built, of-network design request default plan columns n rows machines given built))
 
-pub plan-in-order : (design : Ordered) (request : Request) (default : ℕ) (plan : Plan) (columns : List (List ℕ)) (n : ℕ) (rows : List (List ℕ)) (machines : List Machine) → IsGiven design request default plan columns n rows → AreBuilt plan columns n machines
+pub plan-in-order : (design : Ordered) (request : Request) (default : ℕ) (plan : Plan) (columns : List (List ℕ)) (n : ℕ) (rows : List (List ℕ)) (machines : List Machine) → IsGiven design request default plan columns n rows → AreBuilt plan columns machines
     → IsInOrder (plan_frame plan machines n)
 plan-in-order design request default plan columns n rows machines given built = in-order design request default plan columns n rows machines given built

@@ -1,6 +1,6 @@
 -- A listed memory as a machine of the network: the channels of its fields, its turns, and what its outs need.
 use Rattle.std.proofs.Common.{◌≡◌, ◌≢◌, ℕ, ◌+◌, ◌-◌, ◌<◌, ◌≤◌, List, [], ◌∷◌, ◌++◌, length, map, get_or, refl, sym, ◌∙◌, ap, ap₂, subst, arith}
-use Rattle.std.specs.Prelude.{All, AllPairs, ◌==◌, None}
+use Rattle.std.specs.Prelude.{All, AllPairs, Contains, ◌==◌, None, true, not, filter}
 use Rattle.std.proofs.lemmas.List.{length-map, get_or-map}
 use Rattle.std.proofs.lemmas.Simd.{map-map}
 use Rattle.gg_flat.specs.declared.memory.Latency.{Latency}
@@ -20,15 +20,22 @@ use Rattle.gg_order.specs.Design.{Ordered, IsDesign}
 use Rattle.gg_part.specs.Part.{renamed_memory, renamed_reader, renamed_writer}
 use Rattle.gg_part.specs.declared.part.Part.{Part}
 use Rattle.gg_part.proofs.FormedLemmas.{IsWellFormed-part}
+use Rattle.gg_partfile.specs.declared.request.Request.{Request}
 use Rattle.gg_cut.specs.declared.listed.Listed.{Listed}
 use Rattle.gg_cut.specs.declared.plan.Plan.{Plan}
 use Rattle.gg_cut.specs.declared.wires.Wire.{Wire}
 use Rattle.gg_cut.specs.Machines.{first_memory, first_source, first_tray}
 use Rattle.gg_cut.specs.Channels.{wire, flattened, numbered, field_wires, port_wires, reader_wires, source_wires, tray_wires, wires_of, writer_wires}
+use Rattle.gg_cut.specs.Listed.{listed_of}
+use Rattle.gg_cut.specs.Fault.{first_fault}
+use Rattle.gg_cut.specs.Direct.{Hub, is_gone, route, plan_hub, plan_wires}
 use Rattle.gg_cut.specs.Plan.{wire_at, channels_to, IsCutPart}
 use Rattle.gg_closed.specs.Apart.{AreApart}
 use Rattle.gg_closed.proofs.KindLemmas.{outside_memory}
-use Rattle.gg_closed.proofs.ChoiceLemmas.{pairs-once}
+use Rattle.gg_closed.proofs.FaultlessLemmas.{faultless-apart}
+use Rattle.gg_routes.specs.Routes.{AreRoutes}
+use Rattle.gg_routes.proofs.RouteLemmas.{IsBase, port-stays, route-consumer, route-signal}
+use Rattle.gg_routes.proofs.RoutedLemmas.{routed-base, plan-routed}
 use Rattle.gg_memunit.specs.MemoryUnit.{count_of, needs_by, needs_of, ports_by, ports_of}
 use Rattle.gg_memunit.proofs.UnitLemmas.{of-sole}
 use Rattle.gg_node.specs.Machine.{Machine, Port, needs_at}
@@ -43,21 +50,27 @@ use Rattle.gg_sound.proofs.PortLemmas.{IsFitPort, ports-fit}
 use Rattle.gg_sound.proofs.FitLemmas.{ins-count}
 use Rattle.gg_sound.proofs.MemoryPartLemmas.{IsMemoryPart, known, whole}
 use Rattle.gg_layout.specs.CutLayout.{channel_of, turn_of, memory_turns, memory_of}
-use Rattle.gg_layout.proofs.BeforeLemmas.{IsBefore, before-left, before-right, flattened-before, numbered-before}
+use Rattle.gg_layout.proofs.BeforeLemmas.{IsBefore, before-left, before-right, filter-before, flattened-before, map-before, numbered-before}
 use Rattle.gg_layout.proofs.WireLemmas.{places-up}
 use Rattle.gg_layout.proofs.ChannelLemmas.{channel-back}
 use Rattle.gg_layout.proofs.TurnLemmas.{number_of, reader_of, writer_of, turns-alone}
 use Rattle.gg_layout.proofs.ReachLemmas.{AreReached, late-needs, same-cycle-needs}
 
-module _ (design : Ordered) (listed : Listed) (m : ℕ) (part : Part) (is : IsDesign design) (keeps : KeepsToTree design.circuit design.tree) (apart : AreApart design.tree listed) (low : first_memory listed ≤ m) (high : m < first_source listed) (cut : IsCutPart design listed (wires_of design.circuit design.tree listed) m part) (machine : Machine) (stands : IsMemoryOf part machine) where
+module _ (design : Ordered) (request : Request) (m : ℕ) (part : Part) (is : IsDesign design) (keeps : KeepsToTree design.circuit design.tree) (faultless : first_fault design request ≡ None) (low : first_memory (listed_of design.tree request) ≤ m) (high : m < first_source (listed_of design.tree request)) (cut : IsCutPart design (listed_of design.tree request) (plan_hub design.circuit design.tree request) m part) (machine : Machine) (stands : IsMemoryOf part machine) where
   abbrev circuit : FlatCircuit
   circuit = design.circuit
 
   abbrev tree : InstanceTree
   tree = design.tree
 
+  abbrev listed : Listed
+  listed = listed_of design.tree request
+
+  abbrev hub : Hub
+  hub = plan_hub design.circuit design.tree request
+
   abbrev wires : List Wire
-  wires = wires_of design.circuit design.tree listed
+  wires = plan_wires design.circuit design.tree request
 
   abbrev piece : FlatCircuit
   piece = stands.alone.piece
@@ -65,8 +78,17 @@ module _ (design : Ordered) (listed : Listed) (m : ℕ) (part : Part) (is : IsDe
   abbrev number : ℕ → ℕ
   number = number_of part.globals stands.alone.globals
 
+  apart : AreApart design.tree listed
+  apart = faultless-apart design request faultless keeps.fitting
+
+  routed : AreRoutes design listed hub
+  routed = plan-routed design request is keeps faultless
+
+  base : IsBase hub
+  base = routed-base design request is keeps faultless
+
   wires-once : AllPairs (λ (v w : Wire). v.signal ≢ w.signal) wires
-  wires-once = pairs-once circuit tree listed is.formed keeps.fitting keeps.scoped apart
+  wires-once = routed.once
 
   -- ---- fields
 
@@ -74,7 +96,7 @@ module _ (design : Ordered) (listed : Listed) (m : ℕ) (part : Part) (is : IsDe
   in-count = sym (length-map piece.ins (value_at stands.alone.globals)) ∙ ap length stands.ins
 
   channel-count : length part.piece.ins ≡ length (channels_to wires m)
-  channel-count = ins-count design listed wires m part cut
+  channel-count = ins-count design listed hub m part cut
 
   -- field x of the memory is in-signal x of the part
   in-at : (x : ℕ) → x < length piece.ins → value_at stands.alone.globals x ≡ value_at part.piece.ins x
@@ -111,7 +133,7 @@ module _ (design : Ordered) (listed : Listed) (m : ℕ) (part : Part) (is : IsDe
 
   module _ (outer inner : Memory) (own : IsMemoryPart part outer) (only : piece.memories ≡ inner ∷ []) where
     abbrev k : ℕ
-    k = memory_of design.tree listed m
+    k = memory_of design.tree (listed_of design.tree request) m
 
     inner-is : outer ≡ renamed_memory stands.alone.globals inner
     inner-is =
@@ -122,10 +144,10 @@ module _ (design : Ordered) (listed : Listed) (m : ℕ) (part : Part) (is : IsDe
         ∙ ap (λ (l : List Memory). renamed_memory stands.alone.globals (get_or l 0 inner)) only
 
     there : k < length circuit.memories
-    there = known design listed m part is keeps apart low high cut outer own.only
+    there = known design request m part is keeps apart routed low high cut outer own.only
 
     whole-is : get_or circuit.memories k outer ≡ renamed_memory part.globals (renamed_memory stands.alone.globals inner)
-    whole-is = whole design listed m part is keeps apart low high cut outer own.only ∙ ap (renamed_memory part.globals) inner-is
+    whole-is = whole design request m part is keeps apart routed low high cut outer own.only ∙ ap (renamed_memory part.globals) inner-is
 
     latency-is : latency_at circuit k ≡ inner.latency
     latency-is = get_or-map (λ (x : Memory). x.latency) circuit.memories k outer Zero there ∙ ap (λ (x : Memory). x.latency) whole-is
@@ -178,13 +200,13 @@ module _ (design : Ordered) (listed : Listed) (m : ℕ) (part : Part) (is : IsDe
       reader = get_or inner.readers o nobody
 
       abbrev i : ℕ
-      i = m - first_memory listed
+      i = m - first_memory (listed_of design.tree request)
 
       abbrev outside : ℕ
-      outside = outside_memory design.tree listed (m - first_memory listed)
+      outside = outside_memory design.tree (listed_of design.tree request) (m - first_memory (listed_of design.tree request))
 
       abbrev self : ℕ
-      self = first_memory listed + (m - first_memory listed)
+      self = first_memory (listed_of design.tree request) + (m - first_memory (listed_of design.tree request))
 
       self-is : self ≡ m
       self-is = omega (arith, low)
@@ -210,24 +232,46 @@ module _ (design : Ordered) (listed : Listed) (m : ℕ) (part : Part) (is : IsDe
           (subst (λ (r : Reader). IsBefore address enable (reader_wires outside self r)) (sym (get_or-map rename inner.readers o nobody (rename nobody) some)) at-reader))
 
       abbrev fields : List Wire
-      fields = numbered (field_wires design.circuit design.tree listed.units) (first_memory listed) listed.memories
+      fields =
+          numbered (field_wires design.circuit design.tree (listed_of design.tree request).units) (first_memory (listed_of design.tree request)) (listed_of design.tree request).memories
 
       abbrev trays : List Wire
-      trays = numbered (tray_wires design.circuit design.tree listed) (first_tray design.circuit listed) design.circuit.outs
+      trays = numbered (tray_wires design.circuit design.tree (listed_of design.tree request)) (first_tray design.circuit (listed_of design.tree request)) design.circuit.outs
 
       abbrev ports : List Wire
-      ports = numbered (port_wires design.tree listed.units) 1 listed.units
+      ports = numbered (port_wires design.tree (listed_of design.tree request).units) 1 (listed_of design.tree request).units
 
       abbrev sources : List Wire
-      sources = numbered source_wires (first_source listed) design.circuit.ins
+      sources = numbered source_wires (first_source (listed_of design.tree request)) design.circuit.ins
 
-      before : IsBefore address enable wires
-      before =
+      at-base : IsBefore address enable (wires_of circuit tree listed)
+      at-base =
           before-right address enable sources (ports ++ (fields ++ trays))
           (before-right address enable ports (fields ++ trays)
           (before-left address enable fields trays
           (numbered-before address enable (field_wires circuit tree listed.units) (first_memory listed) listed.memories i 0 (omega (arith, low, high))
           (before-left address enable (flattened (reader_wires outside self) (readers_at circuit k)) (flattened (writer_wires outside self) (writers_at circuit k)) at-readers))))
+
+      -- a channel that the memory takes stays
+      stays : (w : Wire) → Contains (wires_of circuit tree listed) w → w.consumer ≡ self → not (is_gone hub w.signal) ≡ true
+      stays w has to = ap not (port-stays hub base w has (λ none. omega (arith, to, none, low, self-is)))
+
+      -- the routed channels of the address and of the enable
+      abbrev to_address : Wire
+      to_address = route (plan_hub design.circuit design.tree request) address
+
+      abbrev to_enable : Wire
+      to_enable = route (plan_hub design.circuit design.tree request) enable
+
+      before : IsBefore to_address to_enable wires
+      before =
+          let all = wires_of circuit tree listed in
+          let b = at-base in
+          let inside = b.within in
+          let lower : b.first < length all = omega (arith, b.less, inside) in
+          let one = stays address (b.first, lower, b.is_first address) refl in
+          let other = stays enable (b.second, inside, b.is_second enable) refl in
+          map-before address enable (route hub) (filter (λ w. not (is_gone hub w.signal)) all) (filter-before address enable (λ w. not (is_gone hub w.signal)) all one other b)
 
       less : reader.addr < reader.en
       less =
@@ -238,9 +282,9 @@ module _ (design : Ordered) (listed : Listed) (m : ℕ) (part : Part) (is : IsDe
           let inside = before.within in
           let apart = before.less in
           let lower : c < length wires = omega (arith, apart, inside) in
-          let up = places-up wires m c d apart inside (ap (λ (w : Wire). w.consumer) one ∙ self-is) (ap (λ (w : Wire). w.consumer) other ∙ self-is) in
-          let first = field-place reader.addr c looks.0 lower (ap (λ (w : Wire). w.signal) one) in
-          let second = field-place reader.en d looks.1 inside (ap (λ (w : Wire). w.signal) other) in
+          let up = places-up wires m c d apart inside (ap (λ (w : Wire). w.consumer) one ∙ route-consumer hub base address ∙ self-is) (ap (λ (w : Wire). w.consumer) other ∙ route-consumer hub base enable ∙ self-is) in
+          let first = field-place reader.addr c looks.0 lower (ap (λ (w : Wire). w.signal) one ∙ route-signal hub base address) in
+          let second = field-place reader.en d looks.1 inside (ap (λ (w : Wire). w.signal) other ∙ route-signal hub base enable) in
           omega (arith, up, first, second)
 
       -- the out of the reader, and its driver

@@ -1,20 +1,26 @@
 -- The ins that an out of a machine needs are the ins of the channels that the out's channel needs.
-use Rattle.std.proofs.Common.{◌≡◌, ℕ, zero, suc, ◌<◌, ◌≤◌, List, [], ◌∷◌, length, refl, sym, ◌∙◌, ap, subst, arith}
-use Rattle.std.specs.Prelude.{Contains, AllPairs, ◌==◌}
+use Rattle.std.proofs.Common.{◌≡◌, ℕ, zero, suc, ◌<◌, ◌≤◌, List, [], false, None, length, refl, sym, ◌∙◌, ap, subst, arith}
+use Rattle.std.specs.Prelude.{Contains, AllPairs, ◌==◌, replicate}
 use Rattle.std.proofs.lemmas.List.{get_or-map}
 use Rattle.gg_flat.specs.Line.{value_at}
 use Rattle.gg_moved.specs.KeepsToTree.{KeepsToTree}
 use Rattle.gg_order.specs.Design.{Ordered, IsDesign}
 use Rattle.gg_part.specs.declared.part.Part.{Part}
+use Rattle.gg_partfile.specs.declared.request.Request.{Request}
 use Rattle.gg_cut.specs.declared.listed.Listed.{Listed}
 use Rattle.gg_cut.specs.declared.plan.Body.{Body}
 use Rattle.gg_cut.specs.declared.plan.Body.TheVariants.{Cut, Memory, Source, Tray}
 use Rattle.gg_cut.specs.declared.wires.Wire.{Wire}
 use Rattle.gg_cut.specs.Machines.{first_memory, first_source}
-use Rattle.gg_cut.specs.Channels.{wires_of}
+use Rattle.gg_cut.specs.Listed.{listed_of}
+use Rattle.gg_cut.specs.Fault.{first_fault}
+use Rattle.gg_cut.specs.Direct.{Hub, routes, plan_hub, plan_wires}
 use Rattle.gg_cut.specs.Plan.{wire_at, channels_to, channels_from, AreNeedsOf, IsBody, IsCutPart, NeedsIn}
 use Rattle.gg_closed.specs.Apart.{AreApart, AreFew}
 use Rattle.gg_closed.proofs.ListLemmas.{pairs-nil}
+use Rattle.gg_closed.proofs.FaultlessLemmas.{faultless-apart, faultless-few}
+use Rattle.gg_routes.specs.Routes.{AreRoutes}
+use Rattle.gg_routes.proofs.RoutedLemmas.{plan-routed}
 use Rattle.gg_memunit.specs.MemoryUnit.{needs_of}
 use Rattle.gg_memunit.proofs.UnitLemmas.{sole}
 use Rattle.gg_node.specs.Machine.{Machine, needs_at}
@@ -35,36 +41,39 @@ pub record HasOutNeeds (wires : List Wire) (m c : ℕ) (needs : List ℕ) (kind 
 
 -- ---- machines with a piece
 
-module _ (design : Ordered) (listed : Listed) (wires : List Wire) (m : ℕ) (part : Part) (cut : IsCutPart design listed wires m part) (c : ℕ) (is : IsGivenBy wires m c) where
+module _ (design : Ordered) (listed : Listed) (hub : Hub) (m : ℕ) (part : Part) (cut : IsCutPart design listed hub m part) (c : ℕ) (is : IsGivenBy (routes hub) m c) where
+  abbrev links : List Wire
+  links = routes hub
+
   abbrev pub out_of : ℕ
-  out_of = place_in (channels_from wires m) c
+  out_of = place_in (channels_from (routes hub) m) c
 
   pub out-low : out_of < length part.piece.outs
-  out-low = let at = given-placed wires m c is in let within = at.within in omega (arith, within, outs-count design listed wires m part cut)
+  out-low = let at = given-placed links m c is in let within = at.within in omega (arith, within, outs-count design listed hub m part cut)
 
-  out-signal : value_at part.globals (value_at part.piece.outs out_of) ≡ (wire_at wires c).given
+  out-signal : value_at part.globals (value_at part.piece.outs out_of) ≡ (wire_at links c).given
   out-signal =
-      let at = given-placed wires m c is in
+      let at = given-placed links m c is in
       sym (get_or-map (value_at part.globals) part.piece.outs out_of 0 0 out-low)
       ∙ ap (λ (l : List ℕ). value_at l out_of) cut.outs
-      ∙ get_or-map (λ k. (wire_at wires k).given) (channels_from wires m) out_of 0 0 at.within
-      ∙ ap (λ k. (wire_at wires k).given) at.is
+      ∙ get_or-map (λ k. (wire_at links k).given) (channels_from links m) out_of 0 0 at.within
+      ∙ ap (λ k. (wire_at links k).given) at.is
 
-  pub part-made : (channels needs own : List ℕ) → channels ≡ channels_to wires m → ((out : ℕ) → out < length part.globals → value_at part.globals out ≡ (wire_at wires c).given → AreNeedsOf part channels out needs)
-      → AreReached part.piece (value_at part.piece.outs out_of) own → AreMadeOf (place_in (channels_to wires m)) needs own
+  pub part-made : (channels needs own : List ℕ) → channels ≡ channels_to links m → ((out : ℕ) → out < length part.globals → value_at part.globals out ≡ (wire_at links c).given → AreNeedsOf part channels out needs)
+      → AreReached part.piece (value_at part.piece.outs out_of) own → AreMadeOf (place_in (channels_to links m)) needs own
   part-made channels needs own same are exact =
       let here = are (value_at part.piece.outs out_of) (cut.is.outs out_of out-low) out-signal in
-      let count = ins-count design listed wires m part cut in
-      let back : (i : ℕ) → i < length part.piece.ins → place_in (channels_to wires m) (value_at (channels_to wires m) i) ≡ i =
-      λ i lt. place-back (channels_to wires m) i (numbers-once (λ k. (wire_at wires k).consumer == m) (length wires)) (omega (arith, lt, count)) in
+      let count = ins-count design listed hub m part cut in
+      let back : (i : ℕ) → i < length part.piece.ins → place_in (channels_to links m) (value_at (channels_to links m) i) ≡ i =
+      λ i lt. place-back (channels_to links m) i (numbers-once (λ k. (wire_at links k).consumer == m) (length links)) (omega (arith, lt, count)) in
       record {
         into = λ d has.
             let need = (here d).0 has in
-            let at : value_at (channels_to wires m) need.place ≡ d = ap (λ (l : List ℕ). value_at l need.place) (sym same) ∙ need.is in
-            subst (λ i. Contains own i) (sym (ap (place_in (channels_to wires m)) (sym at) ∙ back need.place need.known)) ((exact.exact need.place).1 (need.known, need.reached));
+            let at : value_at (channels_to links m) need.place ≡ d = ap (λ (l : List ℕ). value_at l need.place) (sym same) ∙ need.is in
+            subst (λ i. Contains own i) (sym (ap (place_in (channels_to links m)) (sym at) ∙ back need.place need.known)) ((exact.exact need.place).1 (need.known, need.reached));
         back = λ i has.
             let at = (exact.exact i).0 has in
-            let d = value_at (channels_to wires m) i in
+            let d = value_at (channels_to links m) i in
             (d, ((here d).1 (record { place = i; known = at.0; is = ap (λ (l : List ℕ). value_at l i) same; reached = at.1 }), back i at.0));
       }
 
@@ -80,41 +89,59 @@ none-made f needs own none empty =
 none-up : (own : List ℕ) → own ≡ [] → AllPairs (λ a b. a < b) own
 none-up own empty = subst (λ (l : List ℕ). AllPairs (λ a b. a < b) l) (sym empty) (pairs-nil (λ a b. a < b))
 
-source-needs : (o : ℕ) → needs_at ([] ∷ []) o ≡ []
-source-needs zero = refl
-source-needs (suc o) = refl
+source-needs : (outs o : ℕ) → needs_at (replicate outs []) o ≡ []
+source-needs zero o = refl
+source-needs (suc outs) zero = refl
+source-needs (suc outs) (suc o) = source-needs outs o
 
 -- ---- all machines
 
-module _ (design : Ordered) (listed : Listed) (is : IsDesign design) (keeps : KeepsToTree design.circuit design.tree) (apart : AreApart design.tree listed) (few : AreFew design.circuit design.tree listed) (m c : ℕ) (given : IsGivenBy (wires_of design.circuit design.tree listed) m c) where
+module _ (design : Ordered) (request : Request) (is : IsDesign design) (keeps : KeepsToTree design.circuit design.tree) (faultless : first_fault design request ≡ None) (m c : ℕ) (given : IsGivenBy (plan_wires design.circuit design.tree request) m c) where
+  abbrev listed : Listed
+  listed = listed_of design.tree request
+
+  abbrev hub : Hub
+  hub = plan_hub design.circuit design.tree request
+
   abbrev wires : List Wire
-  wires = wires_of design.circuit design.tree listed
+  wires = plan_wires design.circuit design.tree request
 
   abbrev o : ℕ
-  o = place_in (channels_from (wires_of design.circuit design.tree listed) m) c
+  o = place_in (channels_from (plan_wires design.circuit design.tree request) m) c
 
-  unit-out-needs : (part : Part) (cut : IsCutPart design listed wires m part) (machine : Machine) → IsUnitOf part machine → (channels needs : List ℕ) → channels ≡ channels_to wires m
+  apart : AreApart design.tree listed
+  apart = faultless-apart design request faultless keeps.fitting
+
+  few : AreFew design.circuit design.tree request
+  few = faultless-few design request faultless
+
+  routed : AreRoutes design listed hub
+  routed = plan-routed design request is keeps faultless
+
+  unit-out-needs : (part : Part) (cut : IsCutPart design listed hub m part) (machine : Machine) → IsUnitOf part machine → (channels needs : List ℕ) → channels ≡ channels_to wires m
       → ((out : ℕ) → out < length part.globals → value_at part.globals out ≡ (wire_at wires c).given → AreNeedsOf part channels out needs) → HasOutNeeds wires m c needs (kind_of machine)
   unit-out-needs part cut machine unit channels needs same are =
-      let exact = unit.exact.each o (out-low design listed wires m part cut c given) in
+      let exact = unit.exact.each o (out-low design listed hub m part cut c given) in
       subst (λ (t : Machine). HasOutNeeds wires m c needs (kind_of t)) (sym unit.is)
-      (record { up = exact.ascending; made = part-made design listed wires m part cut c given channels needs (needs_at unit.needs o) same are (record { ascending = exact.ascending; exact = exact.exact }) })
+      (record { up = exact.ascending; made = part-made design listed hub m part cut c given channels needs (needs_at unit.needs o) same are (record { ascending = exact.ascending; exact = exact.exact }) })
 
-  memory-out-needs : (part : Part) (cut : IsCutPart design listed wires m part) (low : first_memory listed ≤ m) (high : m < first_source listed) (machine : Machine) → IsMemoryOf part machine → (channels needs : List ℕ) → channels ≡ channels_to wires m
+  memory-out-needs : (part : Part) (cut : IsCutPart design listed hub m part) (low : first_memory listed ≤ m) (high : m < first_source listed) (machine : Machine) → IsMemoryOf part machine → (channels needs : List ℕ) → channels ≡ channels_to wires m
       → ((out : ℕ) → out < length part.globals → value_at part.globals out ≡ (wire_at wires c).given → AreNeedsOf part channels out needs) → HasOutNeeds wires m c needs (kind_of machine)
   memory-out-needs part cut low high machine stands channels needs same are =
-      let outer = memory-part design listed m part is keeps apart low high cut few in
+      let outer = memory-part design request m part is keeps apart routed low high cut few in
       let inner = sole stands.alone.piece.memories stands.is_memory.one in
-      let exact = memory-needs design listed m part is keeps apart low high cut machine stands outer.0 inner.0 outer.1 inner.1 o (out-low design listed wires m part cut c given) in
+      let exact = memory-needs design request m part is keeps faultless low high cut machine stands outer.0 inner.0 outer.1 inner.1 o (out-low design listed hub m part cut c given) in
       subst (λ (t : Machine). HasOutNeeds wires m c needs (kind_of t)) (sym stands.is)
-      (record { up = exact.ascending; made = part-made design listed wires m part cut c given channels needs (needs_at (needs_of stands.alone.piece.memories) o) same are exact })
+      (record { up = exact.ascending; made = part-made design listed hub m part cut c given channels needs (needs_at (needs_of stands.alone.piece.memories) o) same are exact })
 
-  pub out-needs : (columns : List (List ℕ)) (n : ℕ) (body : Body) (machine : Machine) (channels needs : List ℕ) → IsBody design listed wires m body → IsBuilt columns n body machine → channels ≡ channels_to wires m → NeedsIn body channels (wire_at wires c).given needs → HasOutNeeds wires m c needs (kind_of machine)
-  out-needs columns n (Cut part) machine channels needs body built same are = unit-out-needs part body.1 machine built channels needs same are
-  out-needs columns n (Memory part) machine channels needs body built same are = memory-out-needs part body.2 body.0 body.1 machine built channels needs same are
-  out-needs columns n (Source place) machine channels needs body built same none =
+  pub out-needs : (columns : List (List ℕ)) (outs : ℕ) (body : Body) (machine : Machine) (channels needs : List ℕ) → IsBody design listed hub m body → IsBuilt columns outs body machine → channels ≡ channels_to wires m → NeedsIn body channels (wire_at wires c).given needs → HasOutNeeds wires m c needs (kind_of machine)
+  out-needs columns outs (Cut part) machine channels needs body built same are = unit-out-needs part body.1 machine built channels needs same are
+  out-needs columns outs (Memory part) machine channels needs body built same are = memory-out-needs part body.2 body.0 body.1 machine built channels needs same are
+  out-needs columns outs (Source place) machine channels needs body built same none =
+      let own = needs_at (replicate (length (replicate outs false)) []) o in
+      let empty = source-needs (length (replicate outs false)) o in
       subst (λ (t : Machine). HasOutNeeds wires m c needs (kind_of t)) (sym built)
-      (record { up = none-up (needs_at ([] ∷ []) o) (source-needs o); made = none-made (place_in (channels_to wires m)) needs (needs_at ([] ∷ []) o) none (source-needs o) })
-  out-needs columns n Tray machine channels needs body built same none =
+      (record { up = none-up own empty; made = none-made (place_in (channels_to wires m)) needs own none empty })
+  out-needs columns outs Tray machine channels needs body built same none =
       subst (λ (t : Machine). HasOutNeeds wires m c needs (kind_of t)) (sym built)
       (record { up = none-up [] refl; made = none-made (place_in (channels_to wires m)) needs [] none refl })

@@ -6,7 +6,7 @@ use Rattle.gg_partfile.specs.declared.request.Request.{Request}
 use Rattle.gg_cut.specs.declared.listed.Listed.{Listed}
 use Rattle.gg_cut.specs.declared.wires.Wire.{Wire}
 use Rattle.gg_cut.specs.Listed.{listed_of}
-use Rattle.gg_cut.specs.Channels.{wires_of}
+use Rattle.gg_cut.specs.Direct.{plan_wires}
 use Rattle.gg_check.specs.Alike.{AreAlike}
 use Rattle.gg_check.proofs.SameCutLemmas.{alike-is, needs-same}
 use Rattle.gg_marking.specs.Marking.{Link, Layout, link_at}
@@ -64,4 +64,4 @@ layout-of-cut-carried one other s request default n layout a =
 
 pub one-layout : (one other : Ordered) (request : Request) (default n : ℕ) (layout others : Layout) → AreAlike one other → IsLayoutOf one request default n layout → IsLayoutOf other request default n others → layout ≡ others
 one-layout one other request default n layout others s a b =
-    layout-once other request default n (listed_of other.tree request) (wires_of other.circuit other.tree (listed_of other.tree request)) layout others (layout-of-cut-carried one other s request default n layout a) b
+    layout-once other request default n (listed_of other.tree request) (plan_wires other.circuit other.tree request) layout others (layout-of-cut-carried one other s request default n layout a) b

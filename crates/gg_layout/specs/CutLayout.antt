@@ -14,7 +14,8 @@ use Rattle.gg_cut.specs.declared.listed.Listed.{Listed}
 use Rattle.gg_cut.specs.declared.wires.Wire.{Wire}
 use Rattle.gg_cut.specs.Listed.{first_place, listed_of}
 use Rattle.gg_cut.specs.Machines.{first_memory, is_memory, machine_count}
-use Rattle.gg_cut.specs.Channels.{capacity_of, wires_of}
+use Rattle.gg_cut.specs.Channels.{capacity_of}
+use Rattle.gg_cut.specs.Direct.{plan_wires}
 use Rattle.gg_cut.specs.Plan.{wire_at}
 use Rattle.gg_check.specs.CheckText.{AreChannelNeeds, channel_name}
 use Rattle.gg_node.specs.Machine.{Port}
@@ -74,4 +75,4 @@ pub record IsLayoutBy (design : Ordered) (request : Request) (default n : ℕ) (
 -- capacity
 abbrev pub IsLayoutOf : Ordered → Request → ℕ → ℕ → Layout → Type 0
 IsLayoutOf design request default n layout =
-    IsLayoutBy design request default n (listed_of design.tree request) (wires_of design.circuit design.tree (listed_of design.tree request)) layout
+    IsLayoutBy design request default n (listed_of design.tree request) (plan_wires design.circuit design.tree request) layout

@@ -13,8 +13,8 @@ ghost use Rattle.gg_layout.specs.CutLayout.{IsLayoutOf};
 /// The network of a plan has the layout of its cut. The ins and the outs of its machines are in the order of their
 /// channels.
 pub fn plan_has_layout()
-    ensures layout { (design : Ordered) (request : Request) (default : ℕ) (plan : Plan) (columns : List (List ℕ)) (n : ℕ) (rows : List (List ℕ)) (machines : List Machine) → IsGiven design request default plan columns n rows → AreBuilt plan columns n machines → (layout : Layout) × (IsLayoutOf design request default n layout × HasLayout (plan_frame plan machines n) layout) }
-    ensures order { (design : Ordered) (request : Request) (default : ℕ) (plan : Plan) (columns : List (List ℕ)) (n : ℕ) (rows : List (List ℕ)) (machines : List Machine) → IsGiven design request default plan columns n rows → AreBuilt plan columns n machines → IsInOrder (plan_frame plan machines n) }
+    ensures layout { (design : Ordered) (request : Request) (default : ℕ) (plan : Plan) (columns : List (List ℕ)) (n : ℕ) (rows : List (List ℕ)) (machines : List Machine) → IsGiven design request default plan columns n rows → AreBuilt plan columns machines → (layout : Layout) × (IsLayoutOf design request default n layout × HasLayout (plan_frame plan machines n) layout) }
+    ensures order { (design : Ordered) (request : Request) (default : ℕ) (plan : Plan) (columns : List (List ℕ)) (n : ℕ) (rows : List (List ℕ)) (machines : List Machine) → IsGiven design request default plan columns n rows → AreBuilt plan columns machines → IsInOrder (plan_frame plan machines n) }
 {}
 
 /// For all designs that are alike, the cut of a request has the same layout.
