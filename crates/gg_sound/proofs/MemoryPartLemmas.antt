@@ -39,7 +39,7 @@ use Rattle.gg_memunit.proofs.UnitLemmas.{sole}
 use Rattle.gg_sound.proofs.NumberLemmas.{numbers-once, one-in, one-is}
 use Rattle.gg_sound.proofs.ListedLemmas.{taken-is, given-is}
 use Rattle.gg_sound.proofs.SideLemmas.{link-one}
-use Rattle.gg_sound.proofs.StillLemmas.{words-still, givens-still}
+use Rattle.gg_sound.proofs.StillLemmas.{words-still, memory-plain}
 use Rattle.gg_sound.proofs.WordLemmas.{memory-gives, memory-few}
 use Rattle.gg_sound.proofs.BackLemmas.{distinct-back, contains-back, words-back}
 
@@ -162,7 +162,7 @@ module _ (design : Ordered) (request : Request) (m : ℕ) (part : Part) (is : Is
 
   -- the out-signals are the signals of the channels that the machine gives
   outs-are : map (value_at part.globals) part.piece.outs ≡ signals_of links (channels_from links m)
-  outs-are = cut.outs ∙ givens-still hub base m number-is-memory no-hub
+  outs-are = cut.outs ∙ memory-plain hub base m number-is-memory no-hub
 
   ins-once : AllPairs (λ a b. a ≢ b) part.piece.ins
   ins-once =

@@ -108,5 +108,5 @@ module _ (hub : Hub) (base : IsBase hub) (m : ℕ) (memory : hub.memory m ≡ tr
       ap₂ (λ s l. s ∷ l) (given-own (link_at (routes hub) c) (Contains-get_or (routes hub) c (wire 0 0 0) is.known) is.producer) (givens-own channels (λ d h. each d (further c channels d h)))
 
   -- it gives each channel by the channel's own signal
-  pub givens-still : givens_of (routes hub) (channels_from (routes hub) m) ≡ signals_of (routes hub) (channels_from (routes hub) m)
-  givens-still = givens-own (channels_from (routes hub) m) (given-is (routes hub) m)
+  pub memory-plain : givens_of (routes hub) (channels_from (routes hub) m) ≡ signals_of (routes hub) (channels_from (routes hub) m)
+  memory-plain = givens-own (channels_from (routes hub) m) (given-is (routes hub) m)
