@@ -15,14 +15,14 @@ use Rattle.gg_flat.specs.declared.piece.Driver.{Driver}
 use Rattle.gg_flat.specs.declared.piece.Driver.TheVariants.{Input, Held, MemoryWord, ReadRegister, Computed}
 use Rattle.gg_flat.specs.Line.{value_at, shape_at}
 use Rattle.gg_flat.specs.Circuit.{FlatCircuit, signal_shapes, driver_at}
-use Rattle.gg_flat.specs.Tree.{InstanceTree, memory_at}
+use Rattle.gg_flat.specs.Tree.{InstanceTree, memory_at, path_at}
 use Rattle.gg_flat.specs.Scoped.{memory_fields, stop_signals}
 use Rattle.gg_flat.specs.State.{State}
 use Rattle.gg_flat.specs.Settled.{Settled}
 use Rattle.gg_partfile.specs.declared.request.Request.{Request}
 use Rattle.gg_cut.specs.declared.wires.Wire.{Wire}
 use Rattle.gg_cut.specs.declared.listed.Listed.{Listed}
-use Rattle.gg_cut.specs.Listed.{listed_of, owner_of, memory_owner}
+use Rattle.gg_cut.specs.Listed.{is_among, listed_of, owner_of, memory_owner}
 use Rattle.gg_cut.specs.Machines.{is_memory}
 use Rattle.gg_cut.specs.Channels.{wires_of}
 
@@ -220,9 +220,13 @@ hub_of circuit tree listed piped direct =
 
 -- ---- what a request asks for
 
--- the hub of a request's cut: no channel has a token in it at the start
+-- The request asks for a pipe in the channel of signal s.
+abbrev pub is_piped : FlatCircuit → Request → ℕ → Bool
+is_piped circuit request s = is_among request.pipe (path_at circuit.paths s)
+
+-- the hub of a request's cut
 abbrev pub plan_hub : FlatCircuit → InstanceTree → Request → Hub
-plan_hub circuit tree request = hub_of circuit tree (listed_of tree request) (λ s. false) request.direct
+plan_hub circuit tree request = hub_of circuit tree (listed_of tree request) (is_piped circuit request) request.direct
 
 -- the channels of the plan: those of the cut, routed if the request asks for direct channels
 abbrev pub plan_wires : FlatCircuit → InstanceTree → Request → List Wire

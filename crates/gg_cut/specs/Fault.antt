@@ -153,15 +153,25 @@ channel_faults circuit request listed signals =
     ∷ option_map TooManyChannels (too_many_channels signals)
     ∷ []
 
+-- those of the pipes: names that aren't those of channels, and names that occur twice
+abbrev pub pipe_faults : FlatCircuit → Request → List ℕ → List (Option CutFault)
+pipe_faults circuit request signals =
+    option_map UnknownPipe (find (λ name. not (is_among (channel_names circuit signals) name)) request.pipe)
+    ∷ option_map DoubledPipe (repeated request.pipe)
+    ∷ []
+
 -- all of them, in the order in which they are told
 abbrev pub faults_in : FlatCircuit → InstanceTree → Request → List (Option CutFault)
-faults_in circuit tree request = entry_faults tree request ++ channel_faults circuit request (listed_of tree request) (plan_signals circuit tree request)
+faults_in circuit tree request =
+    entry_faults tree request
+    ++ (channel_faults circuit request (listed_of tree request) (plan_signals circuit tree request)
+    ++ pipe_faults circuit request (plan_signals circuit tree request))
 
 abbrev pub fault_in : FlatCircuit → InstanceTree → Request → Option CutFault
 fault_in circuit tree request = first_of (faults_in circuit tree request)
 
 -- The fault of a request for a design: the one with the least number. Among faults with the same number it is the
--- first in `units`, then in `share`, then in `memories`. For capacities it is the one with the least name.
+-- first in `units`, then in `share`, then in `memories`. For capacities it is the one with the least name, for pipes the first.
 abbrev pub first_fault : Ordered → Request → Option CutFault
 first_fault design request = fault_in design.circuit design.tree request
 

@@ -1,7 +1,7 @@
 -- The plan of a cut: its machines with their pieces, its channels, and what each channel needs.
 -- Source: MEMOCODE 2009 (a network of machines that are latency-insensitive: an output depends only on the inputs
 -- that it is computed from); ICCAD 2019 (instances and memories of a target as models of their own).
-use Rattle.std.specs.Prelude.{◌≡◌, ◌≢◌, ◌↔◌, ◌⊎◌, ℕ, ◌<◌, ◌≤◌, ◌+◌, ◌-◌, List, [], ◌∷◌, false, ◌++◌, ◌==◌, length, map, take, drop, filter, codes, slice_index_or, Contains, AllPairs}
+use Rattle.std.specs.Prelude.{◌≡◌, ◌≢◌, ◌↔◌, ◌⊎◌, ℕ, ◌<◌, ◌≤◌, ◌+◌, ◌-◌, List, [], ◌∷◌, Bool, ◌++◌, ◌==◌, length, map, take, drop, filter, codes, slice_index_or, Contains, AllPairs}
 use Rattle.std.specs.List.{range_with_len}
 use Rattle.gg_bits.specs.Shape.{shape}
 use Rattle.gg_flat.specs.Line.{value_at, shape_at}
@@ -24,7 +24,7 @@ use Rattle.gg_cut.specs.Listed.{listed_of, owner_of, memory_owner}
 use Rattle.gg_cut.specs.declared.wires.Wire.{Wire}
 use Rattle.gg_cut.specs.Machines.{first_memory, first_source, first_tray, machine_count}
 use Rattle.gg_cut.specs.Channels.{wire, capacity_of}
-use Rattle.gg_cut.specs.Direct.{Hub, routes, is_gone, plan_hub, plan_wires}
+use Rattle.gg_cut.specs.Direct.{Hub, routes, is_gone, is_piped, plan_hub, plan_wires}
 use Rattle.gg_cut.specs.Hosts.{host_of}
 use Rattle.gg_cut.specs.Alike.{AreAlike}
 
@@ -143,14 +143,15 @@ NeedsIn (Memory part) channels s needs = (out : ℕ) → out < length part.globa
 NeedsIn (Source place) channels s needs = needs ≡ []
 NeedsIn Tray channels s needs = needs ≡ []
 
--- channel c of the plan
-pub record IsChannel (design : Ordered) (capacity : List ℕ → ℕ) (machines : List Machine) (w : Wire) (channel : Channel) : Type 0 where
+-- channel c of the plan; `piped` tells the signals whose channels have a token in them at the start
+pub record IsChannel (design : Ordered) (capacity : List ℕ → ℕ) (piped : ℕ → Bool) (machines : List Machine) (w : Wire) (channel : Channel) : Type 0 where
   pub signal : channel.signal ≡ w.signal
   pub name : channel.name ≡ path_at design.circuit.paths w.signal
   pub type : shape channel.ty ≡ shape_at (signal_shapes design.circuit) w.signal
   pub producer : channel.producer ≡ w.producer
   pub consumer : channel.consumer ≡ w.consumer
   pub bound : channel.capacity ≡ capacity (path_at design.circuit.paths w.signal)
+  pub pipe : channel.pipe ≡ piped w.signal
   pub ascending : AllPairs (λ a b. a < b) channel.needs
   pub needs : (any : Machine) → NeedsIn (slice_index_or machines w.producer any).body (slice_index_or machines w.producer any).ins w.given channel.needs
 
@@ -163,7 +164,7 @@ pub record IsPlan (design : Ordered) (request : Request) (default : ℕ) (plan :
   pub machine_total : length plan.machines ≡ machine_count design.circuit (listed_of design.tree request)
   pub channel_total : length plan.channels ≡ length (plan_wires design.circuit design.tree request)
   pub machine : (m : ℕ) (any : Machine) → m < length plan.machines → IsMachine design request (listed_of design.tree request) (plan_hub design.circuit design.tree request) m (slice_index_or plan.machines m any)
-  pub channel : (c : ℕ) (any : Channel) → c < length plan.channels → IsChannel design (capacity_of request.capacity default) plan.machines (wire_at (plan_wires design.circuit design.tree request) c) (slice_index_or plan.channels c any)
+  pub channel : (c : ℕ) (any : Channel) → c < length plan.channels → IsChannel design (capacity_of request.capacity default) (is_piped design.circuit request) plan.machines (wire_at (plan_wires design.circuit design.tree request) c) (slice_index_or plan.channels c any)
   pub shared : (m n : ℕ) (any other : Machine) → m < length plan.machines → n < length plan.machines → m ≢ n
       → (slice_index_or plan.machines m any).host ≡ (slice_index_or plan.machines n other).host
       → AreAlike (slice_index_or plan.machines m any).body (slice_index_or plan.machines n other).body

@@ -46,6 +46,8 @@ pub struct Channel {
     pub consumer: u32,
     /// How many tokens it holds at most.
     pub capacity: u32,
+    /// Whether the token 0 is in it at the start.
+    pub pipe: bool,
     /// The in-channels of its producer that it depends on in a cycle, ascending.
     pub needs: Ids,
 }

@@ -6,7 +6,7 @@ use Rattle.gg_flat.specs.Run.{IsRunFrom, clocked_start, column}
 use Rattle.gg_part.specs.declared.part.Part.{Part}
 use Rattle.gg_cut.specs.Plan.{wire_at, channels_to, channels_from}
 use Rattle.gg_cut.specs.Direct.{Hub, routes}
-use Rattle.gg_pipe.specs.Links.{stream}
+use Rattle.gg_cut.specs.Solves.{stream}
 
 -- the values that the producer of channel c gives, by cycle
 abbrev pub given_column : Hub → List (List ℕ) → ℕ → List ℕ

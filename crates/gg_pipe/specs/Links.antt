@@ -1,7 +1,7 @@
 -- The two ends of a channel in the reference circuit: the signal by which its producer gives the value, and the signal by which
 -- its consumer gets it. They differ where the channel is direct or piped.
 -- Source: MEMOCODE 2009 (channels between the nodes of a dataflow network; tokens that are there at the start).
-use Rattle.std.specs.Prelude.{◌≡◌, ℕ, ◌<◌, ◌+◌, List, ◌∷◌, Bool, ◌==◌, ◌&&◌, if◌then◌else◌, Option, Some, None, length, map, filter, find, Contains}
+use Rattle.std.specs.Prelude.{◌≡◌, ℕ, ◌<◌, ◌+◌, List, ◌==◌, ◌&&◌, if◌then◌else◌, Option, Some, None, length, map, filter, find, Contains}
 use Rattle.std.specs.List.{list_any}
 use Rattle.gg_flat.specs.Circuit.{driver_at}
 use Rattle.gg_flat.specs.declared.piece.Driver.TheVariants.{Held}
@@ -37,10 +37,6 @@ maker_of hub s = maker_or (hub.owner s) (find (λ w. w.signal == s) hub.base)
 -- who names what, where `holder` has the machine that holds a register and `keeper` the machine of a memory
 abbrev pub views_of : Hub → (ℕ → ℕ) → (ℕ → ℕ) → Views
 views_of hub holder keeper = record { maker = maker_of hub; holder = holder; keeper = keeper; seen = seen_by hub; kept = taken_as hub }
-
--- the list of values of a channel whose producer gives these: a piped channel opens with the token 0
-abbrev pub stream : Bool → List ℕ → List ℕ
-stream piped values = if piped then 0 ∷ values else values
 
 -- each register is held by signals of one machine, and each memory of the part is the machine's
 pub record AreHolders (hub : Hub) (holder keeper : ℕ → ℕ) (m : ℕ) (memories : List ℕ) : Type 0 where

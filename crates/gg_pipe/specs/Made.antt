@@ -10,10 +10,12 @@ use Rattle.gg_flat.specs.declared.piece.Driver.TheVariants.{Input, Held, MemoryW
 use Rattle.gg_flat.specs.Circuit.{FlatCircuit, driver_at}
 use Rattle.gg_flat.specs.Tree.{InstanceTree, path_at}
 use Rattle.gg_cut.specs.declared.listed.Listed.{Listed}
-use Rattle.gg_cut.specs.Listed.{first_place, memory_owner}
-use Rattle.gg_cut.specs.Direct.{Hub, hub_of}
+use Rattle.gg_cut.specs.Listed.{first_place, listed_of, memory_owner}
+use Rattle.gg_cut.specs.Direct.{Hub, hub_of, is_piped, plan_hub}
+use Rattle.gg_order.specs.Design.{Ordered}
+use Rattle.gg_partfile.specs.declared.request.Request.{Request}
 use Rattle.gg_pipe.specs.Reference.{Views, driver_by, register_by, memory_by}
-use Rattle.gg_pipe.specs.Links.{pipes_of, maker_of, views_of}
+use Rattle.gg_pipe.specs.Links.{pipes_of, maker_of, seen_by, views_of}
 
 -- the items of a list, each with its number; the first number is n
 abbrev pub by_number : {A B : Type 0} → (ℕ → A → B) → ℕ → List A → List B
@@ -88,3 +90,11 @@ views_in circuit tree listed piped direct = let hub = hub_of circuit tree listed
 -- the reference circuit of the cut
 abbrev pub reference_circuit : FlatCircuit → InstanceTree → Listed → (ℕ → Bool) → Bool → FlatCircuit
 reference_circuit circuit tree listed piped direct = reference (hub_of circuit tree listed piped direct) (holder_of (hub_of circuit tree listed piped direct)) (keeper_of tree listed)
+
+-- The circuit that a request's network computes: the design's, with the registers of the pipes that the request asks for.
+abbrev pub plan_reference : Ordered → Request → FlatCircuit
+plan_reference design request = reference_circuit design.circuit design.tree (listed_of design.tree request) (is_piped design.circuit request) request.direct
+
+-- the signal of the reference circuit by which the machines of a request's cut see signal t of the design: machine m, and the outputs
+abbrev pub plan_seen : Ordered → Request → ℕ → ℕ → ℕ
+plan_seen design request m t = seen_by (plan_hub design.circuit design.tree request) m t

@@ -1,8 +1,8 @@
 -- The network of a plan: its channels, its machines before the first cycle, and the rows of its machines. The values
--- that its channels carry are gg_cut's `columns_of`. `flow_of` has all that it computes.
+-- that its channels carry are gg_cut's `columns_of`, and before them the token that a pipe opens with. `flow_of` has all that it computes.
 -- Source: MEMOCODE 2009 (a synchronous circuit as a network of its parts, whose streams are the circuit's own); ICCAD
 -- 2019 (units and memories of a target as models of their own, with sources for its inputs and sinks for its outputs).
-use Rattle.std.specs.Prelude.{◌≡◌, ℕ, suc, ◌^◌, ◌<◌, ◌≤◌, ◌==◌, ◌++◌, List, [], ◌∷◌, None, false, length, map, replicate, slice_index_or, unwrap_or}
+use Rattle.std.specs.Prelude.{◌≡◌, ℕ, suc, ◌^◌, ◌<◌, ◌≤◌, ◌==◌, ◌++◌, List, [], ◌∷◌, Bool, false, if◌then◌else◌, Option, None, Some, length, map, replicate, slice_index_or, unwrap_or}
 use Rattle.gg_limits.specs.Limits.{cycle_limit}
 use Rattle.gg_flat.specs.Circuit.{FlatCircuit}
 use Rattle.gg_flat.specs.Line.{value_at}
@@ -26,7 +26,8 @@ use Rattle.gg_cut.specs.declared.plan.Plan.{Plan}
 use Rattle.gg_cut.specs.Fault.{first_fault}
 use Rattle.gg_cut.specs.Listed.{first_place}
 use Rattle.gg_cut.specs.Plan.{IsPlan}
-use Rattle.gg_cut.specs.Solves.{columns_of}
+use Rattle.gg_cut.specs.Solves.{columns_of, streams}
+use Rattle.gg_pipe.specs.Made.{plan_reference, plan_seen, AreHeldOnce}
 use Rattle.gg_node.specs.Machine.{Machine, machine_at, no_state, source_machine, tray_machine}
 use Rattle.gg_fame5.specs.Machine as dataflow
 use Rattle.gg_memunit.specs.MemoryUnit as memory
@@ -48,7 +49,11 @@ machine_in plan m = slice_index_or plan.machines m nameless
 abbrev pub place_in : List ℕ → ℕ → ℕ
 place_in channels c = unwrap_or (first_place (λ d. d == c) channels) 0
 
--- the channel of the network for a channel of the plan, which has number c; it opens without a token
+-- the token with which a channel opens: 0 if it has a pipe
+abbrev pub first_token : Bool → Option ℕ
+first_token pipe = if pipe then Some 0 else None
+
+-- the channel of the network for a channel of the plan, which has number c
 abbrev pub wire_of : Plan → ℕ → Channel → Wire
 wire_of plan c channel =
     record {
@@ -57,7 +62,7 @@ wire_of plan c channel =
       consumer = channel.consumer;
       place = place_in (machine_in plan channel.consumer).ins c;
       capacity = channel.capacity;
-      first = None;
+      first = first_token channel.pipe;
     }
 
 -- the channels of the network, from number c on
@@ -130,16 +135,21 @@ pub record IsListedAt (plan : Plan) (m : ℕ) (kind : Kind) : Type 0 where
 
 -- ---- what the network has to do
 
--- the rows of a machine, from the rows of the circuit
-abbrev pub body_rows : Body → List (List ℕ) → List (List ℕ)
-body_rows (Cut part) rows = part_rows part.globals rows
-body_rows (Memory part) rows = part_rows (map (value_at part.globals) (part.piece.ins ++ part.piece.outs)) rows
-body_rows (Source place) rows = []
-body_rows Tray rows = []
+-- the rows of a machine, from the rows of the reference circuit, by whose signals it sees those of the design
+abbrev pub body_rows : (ℕ → ℕ) → Body → List (List ℕ) → List (List ℕ)
+body_rows seen (Cut part) rows = part_rows (map seen part.globals) rows
+body_rows seen (Memory part) rows = part_rows (map seen (map (value_at part.globals) (part.piece.ins ++ part.piece.outs))) rows
+body_rows seen (Source place) rows = []
+body_rows seen Tray rows = []
+
+-- the rows of these machines, of which the first has number m; `seen` tells by which signal a machine sees a signal
+abbrev pub rows_from : (ℕ → ℕ → ℕ) → ℕ → List planned.Machine → List (List ℕ) → List (List (List ℕ))
+rows_from seen m [] rows = []
+rows_from seen m (machine ∷ machines) rows = body_rows (seen m) machine.body rows ∷ rows_from seen (suc m) machines rows
 
 -- the rows of the machines of a plan
-abbrev pub rows_of : Plan → List (List ℕ) → List (List (List ℕ))
-rows_of plan rows = map (λ machine. body_rows machine.body rows) plan.machines
+abbrev pub rows_of : Ordered → Request → Plan → List (List ℕ) → List (List (List ℕ))
+rows_of design request plan rows = rows_from (plan_seen design request) 0 plan.machines rows
 
 -- the state in which a machine begins, if the circuit begins in this state: its part of it
 abbrev pub body_state : Body → State → State
@@ -152,18 +162,26 @@ body_state Tray state = no_state
 abbrev pub states_of : Plan → State → List State
 states_of plan state = map (λ machine. body_state machine.body state) plan.machines
 
--- What the network of a plan computes, from the rows of the circuit. All begins with cycle 0, with zeros.
-abbrev pub flow_of : Plan → Ordered → List (List ℕ) → Flow
-flow_of plan design rows = record { lists = columns_of plan rows; runs = rows_of plan rows; begin = 0; states = states_of plan (opening design.circuit) }
+-- What the network of a plan computes, from the rows of the reference circuit. All begins with cycle 0, with zeros.
+abbrev pub flow_of : Ordered → Request → Plan → List (List ℕ) → Flow
+flow_of design request plan rows =
+    record {
+      lists = streams plan.channels (columns_of plan rows);
+      runs = rows_of design request plan rows;
+      begin = 0;
+      states = states_of plan (opening (plan_reference design request));
+    }
 
--- A design whose circuit keeps to its tree, a request that has no fault for it, their plan, whose channels may hold at least one token each, and the
--- circuit's run of n cycles on the columns of its inputs.
+-- A design whose circuit keeps to its tree, in which no two signals hold one register; a request that
+-- has no fault for it; their plan, whose channels may hold at least one token each; and the run of n cycles of the reference circuit
+-- on the columns of the inputs.
 pub record IsGiven (design : Ordered) (request : Request) (default : ℕ) (plan : Plan) (columns : List (List ℕ)) (n : ℕ) (rows : List (List ℕ)) : Type 0 where
   pub design_is : IsDesign design
   pub keeps : KeepsToTree design.circuit design.tree
+  pub held : AreHeldOnce design.circuit
   pub faultless : first_fault design request ≡ None
   pub some : 0 < default
   pub planned : IsPlan design request default plan
   pub most : n ≤ cycle_limit
   pub given : IsColumns design.circuit n columns
-  pub run : IsRun design.circuit columns n rows
+  pub run : IsRun (plan_reference design request) columns n rows
