@@ -14,4 +14,3 @@ pub mod WireLemmas
 pub mod OriginLemmas
 pub mod DirectLemmas
 pub mod SameLemmas
-pub mod SolveLemmas

@@ -16,7 +16,7 @@ use Rattle.gg_flat.proofs.WorkedCircuits.{eight, nine, node}
 use Rattle.gg_flat.proofs.WorkedMemories.{signal, copy}
 use Rattle.gg_partfile.specs.declared.request.Request.{Request}
 use Rattle.gg_partfile.specs.Request.{no_request}
-use Rattle.gg_cut.specs.declared.fault.CutFault.TheVariants.{UnknownUnit, Doubled, OtherModule, UnknownMemory, UnknownChannel, OutOfRange}
+use Rattle.gg_cut.specs.declared.fault.CutFault.TheVariants.{UnknownUnit, Doubled, OtherModule, UnknownMemory, UnknownChannel, OutOfRange, UnknownPipe, DoubledPipe}
 use Rattle.gg_cut.specs.declared.listed.Listed.{Listed}
 use Rattle.gg_cut.specs.Listed.{listed_of, owner_of}
 use Rattle.gg_cut.specs.declared.numbering.Role.TheVariants.{Source, Tray}
@@ -177,6 +177,43 @@ nothing = refl
 
 over : fault_in circuit tree (record both_units { capacity = (codes "a.k", 4097) ∷ (codes "a.x", 0) ∷ [] }) ≡ Some (OutOfRange (codes "a.k") 4097)
 over = refl
+
+-- ---- pipes
+
+abbrev pub piped_units : List (List ℕ) → Request
+piped_units pipe = record both_units { pipe = pipe }
+
+pipe-known : fault_in circuit tree (piped_units (codes "q" ∷ codes "a.k" ∷ codes "x" ∷ [])) ≡ None
+pipe-known = refl
+
+pipe-unknown : fault_in circuit tree (piped_units (codes "zz" ∷ [])) ≡ Some (UnknownPipe (codes "zz"))
+pipe-unknown = refl
+
+-- the first in the order of the file
+pipe-first : fault_in circuit tree (piped_units (codes "a.k" ∷ codes "zz" ∷ codes "oo" ∷ [])) ≡ Some (UnknownPipe (codes "zz"))
+pipe-first = refl
+
+pipe-twice : fault_in circuit tree (piped_units (codes "q" ∷ codes "q" ∷ [])) ≡ Some (DoubledPipe (codes "q"))
+pipe-twice = refl
+
+-- a name that is no channel's is reported before one that stands twice, wherever it is
+pipe-unknown-first : fault_in circuit tree (piped_units (codes "q" ∷ codes "q" ∷ codes "zz" ∷ [])) ≡ Some (UnknownPipe (codes "zz"))
+pipe-unknown-first = refl
+
+-- capacities come before pipes
+pipe-last : fault_in circuit tree (record (piped_units (codes "zz" ∷ [])) { capacity = (codes "a.x", 0) ∷ [] }) ≡ Some (OutOfRange (codes "a.x") 0)
+pipe-last = refl
+
+-- with direct channels: a channel into the hub that is piped is no origin, so it stays; its copies are no channels
+pipe-stays : fault_in circuit tree (record direct_units { pipe = codes "b.n" ∷ [] }) ≡ None
+pipe-stays = refl
+
+piped-wires : plan_wires circuit tree (record direct_units { pipe = codes "b.n" ∷ [] }) ≡ record { signal = 2; given = 0; producer = 3; consumer = 1 } ∷ wire 3 0 1 ∷ record { signal = 6; given = 4; producer = 1; consumer = 2 } ∷ wire 7 2 0 ∷ record { signal = 1; given = 5; producer = 1; consumer = 4 } ∷ []
+piped-wires = refl
+
+-- a channel that is direct may be piped; the channel that left for it isn't one any more
+pipe-direct : fault_in circuit tree (record direct_units { pipe = codes "a.k" ∷ [] }) ≡ None
+pipe-direct = refl
 
 -- ---- limits
 

@@ -213,3 +213,4 @@ pub record IsSmall (request : Request) : Type 0 where
   pub units : length request.units < 2 ^ 32
   pub share : length (entries request.share) < 2 ^ 32
   pub memories : length request.memories < 2 ^ 32
+  pub pipe : length request.pipe < 2 ^ 32

@@ -35,8 +35,8 @@ pub(crate) fn channels_exist(
     Ok(())
 }
 
-// Whether a name is that of a channel.
-fn is_channel(piece: &Piece, signals: &[u32], marks: &[bool], name: &Name) -> bool
+/// Whether a name is that of a channel.
+pub(crate) fn is_channel(piece: &Piece, signals: &[u32], marks: &[bool], name: &Name) -> bool
     requires known { All (λ s. s < length piece.now.signals) signals.now }
     requires marks { AreMarks signals.now marks.now }
     requires count { length marks.now ≡ length piece.now.signals }

@@ -1,7 +1,7 @@
 //! Cutting a design into machines: what a request may ask for, and what the plan of a cut is.
 //!
-//! A request lists instances (units), lists of units that share a host, memories, and capacities of channels, and says
-//! whether channels are direct. The definitions in `specs/` say:
+//! A request lists instances (units), lists of units that share a host, memories, capacities of channels, and channels that are
+//! pipes, and says whether channels are direct. The definitions in `specs/` say:
 //!
 //! - what a request lists, by places in the tree of instances (Listed);
 //! - which faults it has, and in what order they are reported (Fault);
@@ -13,12 +13,11 @@
 //! The crate promises:
 //!
 //! - `judge_entries` returns what a request lists exactly if its entries have no fault, and else their first fault. With the
-//!   signals of the plan's channels, `judge_channels` tells the first of the other faults. Both together tell `first_fault`;
+//!   signals of the plan's channels, `judge_channels` tells the first fault of the capacities and of the numbers of units and of
+//!   channels, and `judge_pipes` the first of the pipes. The three together tell `first_fault`;
 //! - a [`Numbering`] tells the number of each machine, and what the machine with a number is;
 //! - `owners_of` gives each instance its machine: the unit that the instance is in, else the hub;
-//! - the channels carry exactly the signals by which they are counted and named (`channels_agree`);
-//! - the columns of the circuit's one run solve the plan (`columns_solve`): in the run of its own piece on its
-//!   inputs' columns, each machine's outputs have the columns that they have in the circuit.
+//! - the channels carry exactly the signals by which they are counted and named (`channels_agree`).
 #![tactic(auto)]
 
 mod capacities;
@@ -32,17 +31,18 @@ mod numbering;
 mod overlap;
 mod owners;
 mod paths;
+mod pipes;
 mod plan;
 mod signals;
 mod verdict;
 mod wires;
 
 pub use fault::CutFault;
-pub use laws::{channels_agree, columns_solve};
+pub use laws::channels_agree;
 pub use listed::Listed;
 pub use marks::{marks_of, unmarked};
 pub use numbering::{Numbering, Role};
 pub use owners::owners_of;
 pub use plan::{Body, Channel, Machine, Plan};
-pub use verdict::{judge_channels, judge_entries};
+pub use verdict::{judge_channels, judge_entries, judge_pipes};
 pub use wires::Wire;

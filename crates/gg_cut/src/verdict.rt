@@ -3,7 +3,7 @@ ghost use Rattle.std.specs.Prelude.{◌≡◌, ◌+◌, ◌<◌, ◌^◌, length
 ghost use Rattle.gg_flat.specs.Tree.{IsTree};
 ghost use Rattle.gg_moved.specs.KeepsToTree.{KeepsToTree};
 ghost use Rattle.gg_cut.specs.Listed.{listed_of};
-ghost use Rattle.gg_cut.specs.Fault.{IsSmall, Tells, first_of, entry_faults, channel_faults, too_many_channels, most_units};
+ghost use Rattle.gg_cut.specs.Fault.{IsSmall, Tells, first_of, entry_faults, channel_faults, pipe_faults, too_many_channels, most_units};
 ghost use Rattle.gg_cut.specs.declared.fault.CutFault.TheVariants.{TooManyUnits, TooManyChannels, NoMemory};
 
 use crate::capacities::{capacities_in_range, channels_exist};
@@ -15,6 +15,7 @@ use crate::fault::CutFault;
 use crate::listed::Listed;
 use crate::marks::marks_of;
 use crate::overlap::none_overlap;
+use crate::pipes::{pipes_exist, pipes_once};
 use crate::signals::{listed_memories, listed_units};
 use gg_bits::Ids;
 use gg_flat::{Piece, Tree};
@@ -133,6 +134,27 @@ pub fn judge_channels(
         listed.memories.as_slice().len() as u64,
     )?;
     few_channels(signals)?;
+    Ok(())
+}
+
+/// Judges the pipes that a request asks for. The channels have these signals, which their consumers take.
+///
+/// # Errors
+///
+/// Returns the first fault (`pipe_faults` in `specs/Fault`), exactly if there is one, or `NoMemory` if an allocation fails.
+pub fn judge_pipes(
+    alloc: Global,
+    piece: &Piece,
+    request: &Request,
+    signals: &[u32],
+) -> Result<(), CutFault>
+    requires small { IsSmall request.now }
+    requires known { All (λ s. s < length piece.now.signals) signals.now }
+    ensures { Tells (first_of (pipe_faults piece.now request.now signals.now)) result }
+{
+    let marks = marks_of(alloc, piece.signals().len(), signals)?;
+    pipes_exist(piece, signals, &marks, request.pipe.as_slice())?;
+    pipes_once(alloc, request.pipe.as_slice())?;
     Ok(())
 }
 

@@ -46,7 +46,7 @@ told-last d object fit = ap (λ b. cond b (first_wrong d) (Some (codes "-"))) ob
 asked : (d : Data) (request : Request) → Asks d request → wrong_key d ≡ None
 asked d request a =
     told-last d a.object
-    (fits [] texts (codes "units") d request.units refl a.units, (fits [] groups (codes "share") d request.share refl a.share, (fits [] texts (codes "memories") d request.memories refl a.memories, (fits [] numbers (codes "capacity") d request.capacity refl a.capacity, (fits false as_bool (codes "direct") d request.direct refl a.direct, tt)))))
+    (fits [] texts (codes "units") d request.units refl a.units, (fits [] groups (codes "share") d request.share refl a.share, (fits [] texts (codes "memories") d request.memories refl a.memories, (fits [] numbers (codes "capacity") d request.capacity refl a.capacity, (fits false as_bool (codes "direct") d request.direct refl a.direct, (fits [] texts (codes "pipe") d request.pipe refl a.pipe, tt))))))
     ∙ a.known
 
 pub refused-apart : (bytes key : List ℕ) (request : Request) → IsPartition bytes request → ¬ IsRefused bytes key

@@ -53,7 +53,7 @@ not-direct : Asks (object no_members) (record no_request { direct = true }) → 
 not-direct h = true≢false (sym (same_Some false true h.direct))
 
 -- a key whose feature isn't there is unknown, whatever its value
-later_key : told (codes "{\"pipe\": [\"a.k\"], \"direct\": true}") ≡ Some (codes "pipe")
+later_key : told (codes "{\"clocks\": {\"c\": [1, 2]}, \"pipe\": [\"a.k\"]}") ≡ Some (codes "clocks")
 unfolding serde_json_on_literals
 later_key = refl
 
@@ -68,6 +68,27 @@ direct_number = refl
 direct_after_capacity : told (codes "{\"direct\": 1, \"capacity\": []}") ≡ Some (codes "capacity")
 unfolding serde_json_on_literals
 direct_after_capacity = refl
+
+-- names in the order of the file, also one that stands there twice
+pipe : option_and_then (under [] texts (codes "pipe")) (read (codes "{\"pipe\": [\"q\", \"a.k\", \"q\"]}")) ≡ Some (codes "q" ∷ codes "a.k" ∷ codes "q" ∷ [])
+unfolding serde_json_on_literals
+pipe = refl
+
+no_pipe : option_and_then (under [] texts (codes "pipe")) (read (codes "{\"direct\": true}")) ≡ Some []
+unfolding serde_json_on_literals
+no_pipe = refl
+
+pipe_text : told (codes "{\"pipe\":\"a.k\"}") ≡ Some (codes "pipe")
+unfolding serde_json_on_literals
+pipe_text = refl
+
+pipe_number : told (codes "{\"pipe\": [\"a.k\", 1], \"zz\": 0}") ≡ Some (codes "pipe")
+unfolding serde_json_on_literals
+pipe_number = refl
+
+pipe_after_direct : told (codes "{\"pipe\": 1, \"direct\": 1}") ≡ Some (codes "direct")
+unfolding serde_json_on_literals
+pipe_after_direct = refl
 
 nothing : told [] ≡ Some (codes "-")
 unfolding serde_json_on_literals

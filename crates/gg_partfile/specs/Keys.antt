@@ -17,6 +17,7 @@ keys =
     ∷ record { name = codes "memories"; fits = λ d. is_some (texts d) }
     ∷ record { name = codes "capacity"; fits = λ d. is_some (numbers d) }
     ∷ record { name = codes "direct"; fits = λ d. is_some (as_bool d) }
+    ∷ record { name = codes "pipe"; fits = λ d. is_some (texts d) }
     ∷ []
 
 abbrev pub key_names : List (List ℕ)

@@ -1,5 +1,5 @@
 //! Partition files: which instances become units, which of them share a host, which memories are hosts of their own,
-//! the capacities of channels, and whether channels are direct.
+//! the capacities of channels, whether channels are direct, and which channels hold a token from the start.
 //!
 //! A partition file is a JSON text (RFC 8259): an object with optional keys. The keys that it may have stand in one list, in
 //! the order in which their values are judged (`keys` of specs/Keys, and `KEYS` of src/keys.rt). From this list follow the

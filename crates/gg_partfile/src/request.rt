@@ -26,7 +26,7 @@ pub type Bridges = Items<BridgeEntry>;
 
 /// What a partition asks for.
 ///
-/// No file may have the keys `pipe`, `clocks` and `bridges` yet, so these lists are empty.
+/// No file may have the keys `clocks` and `bridges` yet, so these lists are empty.
 #[derive(Debug, Drop)]
 pub struct Request {
     /// The paths of the instances that become units.

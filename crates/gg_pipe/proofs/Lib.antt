@@ -13,3 +13,4 @@ pub mod FormedLemmas
 pub mod OrderedLemmas
 pub mod WholeReference
 pub mod NothingLemmas
+pub mod SolveLemmas

@@ -1,5 +1,5 @@
 -- In a run of the reference circuit, a machine gives what its piece gives on what the machine takes.
-use Rattle.std.proofs.Common.{◌≡◌, ◌≢◌, ℕ, Bool, ◌<◌, List, length, map, take, sym, ◌∙◌, ap, subst, inl, inr, ◌⊎◌, refl, eq-eqb, arith}
+use Rattle.std.proofs.Common.{◌≡◌, ◌≢◌, ℕ, suc, Bool, ◌<◌, List, [], ◌∷◌, length, map, take, sym, ◌∙◌, ap, ap₂, subst, inl, inr, ◌⊎◌, refl, eq-eqb, arith}
 use Rattle.std.specs.Prelude.{◌↔◌, ◌&&◌, ◌==◌, Contains}
 use Rattle.std.specs.List.{range_with_len}
 use Rattle.std.proofs.lemmas.Bool.{and_from, eqb-true}
@@ -27,14 +27,19 @@ use Rattle.gg_closed.proofs.ListLemmas.{map-cases}
 use Rattle.gg_cut.specs.Plan.{wire_at, channels_to, channels_from, signals_of, givens_of, Takes, MakesBy, IsCutPart}
 use Rattle.gg_cut.specs.Direct.{Hub, hub_of, routes}
 use Rattle.gg_pipe.specs.Reference.{IsReference, with_paths}
-use Rattle.gg_pipe.specs.Links.{pipes_of, seen_by, views_of, stream, AreHolders}
+use Rattle.gg_cut.specs.Solves.{stream}
+use Rattle.gg_pipe.specs.Links.{pipes_of, seen_by, views_of, AreHolders}
 use Rattle.gg_cut.proofs.OriginLemmas.{finds-any}
-use Rattle.gg_cut.proofs.SolveLemmas.{map-agree}
 use Rattle.gg_routes.proofs.RouteLemmas.{IsBase, no-echo, chosen-out}
 use Rattle.gg_routes.proofs.ChoiceLemmas.{any-wire}
 use Rattle.gg_pipe.proofs.ReferenceLemmas.{IsOwn, part_of_reference, run-paths, clocked-part}
 use Rattle.gg_pipe.proofs.SeenLemmas.{maker-is, seen-takes, all-seen, seen-own}
 use Rattle.gg_pipe.proofs.LinkLemmas.{link-column}
+
+-- two functions that agree on the items of a list make the same list of it
+pub map-agree : {B : Type 0} (f g : ℕ → B) (xs : List ℕ) → ((i : ℕ) → i < length xs → f (value_at xs i) ≡ g (value_at xs i)) → map f xs ≡ map g xs
+map-agree f g [] same = refl
+map-agree f g (x ∷ xs) same = ap₂ (λ y l. y ∷ l) (same 0 (omega arith)) (map-agree f g xs (λ i lt. same (suc i) (omega arith)))
 
 -- What a machine's piece is to a hub: exactly the signals that the machine makes or takes, in an order of evaluation, and exactly
 -- the registers that those hold which it doesn't take.

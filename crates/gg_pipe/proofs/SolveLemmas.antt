@@ -36,11 +36,7 @@ use Rattle.gg_cut.specs.Solves.{GivesColumns, Answers, lists_of, Solves, columns
 use Rattle.gg_cut.proofs.WireLemmas.{all-plain, source-only, tray-never}
 use Rattle.gg_cut.proofs.DirectLemmas.{IsFromBase, routed-from}
 use Rattle.gg_cut.proofs.SameLemmas.{routes-same, kept-own}
-
--- two functions that agree on the items of a list make the same list of it
-pub map-agree : {B : Type 0} (f g : ℕ → B) (xs : List ℕ) → ((i : ℕ) → i < length xs → f (value_at xs i) ≡ g (value_at xs i)) → map f xs ≡ map g xs
-map-agree f g [] same = refl
-map-agree f g (x ∷ xs) same = ap₂ (λ y l. y ∷ l) (same 0 (omega arith)) (map-agree f g xs (λ i lt. same (suc i) (omega arith)))
+use Rattle.gg_pipe.proofs.MachineLemmas.{map-agree}
 
 -- ---- the lists of channels
 
