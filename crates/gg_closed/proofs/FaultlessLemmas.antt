@@ -1,22 +1,23 @@
 -- What a request without a fault lists is apart: no unit lies in another (AreApart).
-use Rattle.std.proofs.Common.{◌≡◌, ℕ, zero, suc, ◌+◌, ◌<◌, ◌≤◌, List, [], ◌∷◌, ◌++◌, length, get_or, Bool, true, false, not, refl, sym, ◌∙◌, ap, Some, None, inl, inr, ◌⊎◌, arith}
+use Rattle.std.proofs.Common.{◌≡◌, ◌≢◌, ℕ, zero, suc, ◌+◌, ◌<◌, ◌≤◌, List, [], ◌∷◌, ◌++◌, length, get_or, Bool, true, false, true≢false, not, refl, sym, ◌∙◌, ap, Some, None, inl, inr, ◌⊎◌, arith}
 use Rattle.std.specs.Prelude.{Option, ◌||◌, ◌==◌, find, cond, if◌then◌else◌, option_map, unwrap_or, nat_lt, All, AllPairs}
 use Rattle.std.specs.List.{list_any, range_with_len}
 use Rattle.std.proofs.lemmas.Bool.{cases_Bool, cases_lt, lt-ltb, ltb-false, or_parts}
 use Rattle.std.proofs.lemmas.List.{length-map}
 use Rattle.std.proofs.lemmas.List.Folds.{list_any-append}
 use Rattle.std.proofs.lemmas.List.Kept.{AllPairs-filter, AllPairs-cons}
+use Rattle.std.proofs.lemmas.Slice.Eq.{bytes_eq-Decides}
 use Rattle.std.proofs.lemmas.List.FromFn.{get_or-range_with_len, length-range_with_len}
 use Rattle.gg_flat.specs.Tree.{InstanceTree, IsTree, path_at}
 use Rattle.gg_partfile.specs.declared.request.Request.{Request}
 use Rattle.gg_order.specs.Design.{Ordered}
-use Rattle.gg_cut.specs.declared.fault.CutFault.TheVariants.{UnknownUnit, Doubled, OutOfRange, TooManyUnits, TooManyChannels}
+use Rattle.gg_cut.specs.declared.fault.CutFault.TheVariants.{UnknownUnit, Doubled, OutOfRange, TooManyUnits, TooManyChannels, UnknownPipe, DoubledPipe}
 use Rattle.gg_cut.specs.declared.listed.Listed.{Listed}
 use Rattle.gg_cut.specs.Listed.{is_among, is_lower, is_instance_path, instance_of, place_of, lies, listed_of}
-use Rattle.gg_cut.specs.Channels.{capacity_of}
+use Rattle.gg_cut.specs.Channels.{channel_names, capacity_of}
 use Rattle.gg_cut.specs.Direct.{plan_wires, plan_signals}
 use Rattle.gg_cut.specs.declared.wires.Wire.{Wire}
-use Rattle.gg_cut.specs.Fault.{unknown_unit, overlap, overlapping, first_clash, out_of_range, range_fault, too_many_units, too_many_channels, most_units, most_channels, first_of, entry_faults, channel_faults, first_fault}
+use Rattle.gg_cut.specs.Fault.{unknown_unit, overlap, overlapping, first_clash, out_of_range, range_fault, too_many_units, too_many_channels, most_units, most_channels, first_of, same_path, repeated, entry_faults, channel_faults, pipe_faults, first_fault}
 use Rattle.gg_cut.proofs.PathLemmas.{first_place-Some}
 use Rattle.gg_cut.proofs.RangeLemmas.{filter-below}
 use Rattle.gg_cut.proofs.FindLemmas.{none-at, none-front, none-back, none-map}
@@ -162,10 +163,27 @@ module _ (design : Ordered) (request : Request) (none : first_fault design reque
   signals = plan_signals design.circuit design.tree request
 
   pub no-entry-fault : first_of (entry_faults design.tree request) ≡ None
-  no-entry-fault = none-front (entry_faults design.tree request) (channel_faults design.circuit request listed signals) none
+  no-entry-fault = none-front (entry_faults design.tree request) (channel_faults design.circuit request listed signals ++ pipe_faults design.circuit request signals) none
+
+  -- nor do the channels and the pipes have one
+  later-none : first_of (channel_faults design.circuit request (listed_of design.tree request) (plan_signals design.circuit design.tree request) ++ pipe_faults design.circuit request (plan_signals design.circuit design.tree request)) ≡ None
+  later-none = none-back (entry_faults design.tree request) (channel_faults design.circuit request listed signals ++ pipe_faults design.circuit request signals) none
 
   pub channels-none : (i : ℕ) → get_or (channel_faults design.circuit request (listed_of design.tree request) (plan_signals design.circuit design.tree request)) i None ≡ None
-  channels-none i = none-at (channel_faults design.circuit request listed signals) i (none-back (entry_faults design.tree request) (channel_faults design.circuit request listed signals) none)
+  channels-none i = none-at (channel_faults design.circuit request listed signals) i (none-front (channel_faults design.circuit request listed signals) (pipe_faults design.circuit request signals) later-none)
+
+  pub pipes-none : (i : ℕ) → get_or (pipe_faults design.circuit request (plan_signals design.circuit design.tree request)) i None ≡ None
+  pipes-none i = none-at (pipe_faults design.circuit request signals) i (none-back (channel_faults design.circuit request listed signals) (pipe_faults design.circuit request signals) later-none)
+
+  -- each piped name is that of a channel, and none stands twice
+  pub faultless-pipes : All (λ name. is_among (channel_names design.circuit (plan_signals design.circuit design.tree request)) name ≡ true) request.pipe
+  faultless-pipes =
+      none-found (is_among (channel_names design.circuit signals)) request.pipe (none-map UnknownPipe (find (λ name. not (is_among (channel_names design.circuit signals) name)) request.pipe) (pipes-none 0))
+
+  pub faultless-pipes-once : AllPairs (λ a b. a ≢ b) request.pipe
+  faultless-pipes-once =
+      let clear = unclashed same_path [] request.pipe (none-map DoubledPipe (repeated request.pipe) (pipes-none 1)) in
+      λ i j d less lt same. true≢false (sym ((bytes_eq-Decides (get_or request.pipe j d) (get_or request.pipe i d)).1 (sym same)) ∙ clear.among i j d less lt)
 
   pub faultless-known : All (λ path. is_instance_path design.tree path ≡ true) request.units
   faultless-known = units-known design request no-entry-fault
