@@ -4,7 +4,7 @@ use Rattle.std.proofs.lemmas.Bool.{cases_lt}
 use Rattle.std.proofs.lemmas.List.{nil_from_length, length-map, length-append, get_or-map, get_or-append_right}
 use Rattle.gg_flat.specs.Line.{value_at}
 use Rattle.gg_flat.specs.Circuit.{FlatCircuit}
-use Rattle.gg_flat.specs.State.{opening}
+use Rattle.gg_flat.specs.State.{State, opening}
 use Rattle.gg_flat.proofs.ListLemmas.{once-apart}
 use Rattle.gg_part.specs.Part.{IsPart}
 use Rattle.gg_part.specs.PartRun.{part_state}
@@ -17,20 +17,19 @@ one-number [] one = absurd (omega arith)
 one-number (x ∷ []) one = refl
 one-number (x ∷ y ∷ numbers) one = absurd (omega arith)
 
--- a unit begins in its part of the circuit's state
-pub unit-begins : (whole : FlatCircuit) (part : Part) → IsPart whole part.piece part.globals part.held part.memories → opening part.piece ≡ part_state part.held part.memories (opening whole)
-unit-begins whole part is = sym (opening-part whole part.piece part.globals part.held part.memories is)
+-- a part begins in its part of the circuit's state
+part-begins : (whole : FlatCircuit) (part : Part) → IsPart whole part.piece part.globals part.held part.memories → opening part.piece ≡ part_state part.held part.memories (opening whole)
+part-begins whole part is = sym (opening-part whole part.piece part.globals part.held part.memories is)
 
--- a memory that stands alone begins with what it holds in the circuit
-pub memory-begins : (whole : FlatCircuit) (part alone : Part) → IsPart whole part.piece part.globals part.held part.memories → IsPart part.piece alone.piece alone.globals alone.held alone.memories → alone.memories ≡ 0 ∷ [] → alone.piece.registers ≡ [] → length part.memories ≡ 1
-    → opening alone.piece ≡ part_state [] part.memories (opening whole)
-memory-begins whole part alone is inner memories none one =
+-- a memory that stands alone begins with what its part takes from this state
+pub memory-begins : (part alone : Part) (state : State) → opening part.piece ≡ part_state part.held part.memories state → IsPart part.piece alone.piece alone.globals alone.held alone.memories → alone.memories ≡ 0 ∷ [] → alone.piece.registers ≡ [] → length part.memories ≡ 1 → opening alone.piece ≡ part_state [] part.memories state
+memory-begins part alone state begins inner memories none one =
     let held : alone.held ≡ [] = nil_from_length alone.held (sym inner.register_count ∙ ap length none) in
-    unit-begins part.piece alone inner
+    part-begins part.piece alone inner
     ∙ ap₂ (λ (held memories : List ℕ). part_state held memories (opening part.piece)) held memories
-    ∙ ap (part_state [] (0 ∷ [])) (unit-begins whole part is)
-    ∙ ap (λ (l : List ℕ). part_state [] (0 ∷ []) (part_state part.held l (opening whole))) (one-number part.memories one)
-    ∙ ap (λ (l : List ℕ). part_state [] l (opening whole)) (sym (one-number part.memories one))
+    ∙ ap (part_state [] (0 ∷ [])) begins
+    ∙ ap (λ (l : List ℕ). part_state [] (0 ∷ []) (part_state part.held l state)) (one-number part.memories one)
+    ∙ ap (λ (l : List ℕ). part_state [] l state) (sym (one-number part.memories one))
 
 -- each signal of a memory that stands alone is an in-signal or an out-signal
 pub memory-sides : (part alone : Part) → IsPart part.piece alone.piece alone.globals alone.held alone.memories → alone.globals ≡ part.piece.ins ++ part.piece.outs → map (value_at alone.globals) alone.piece.ins ≡ part.piece.ins → map (value_at alone.globals) alone.piece.outs ≡ part.piece.outs

@@ -12,12 +12,14 @@ use Rattle.gg_flat.specs.Run.{Start, IsRun, row_at}
 use Rattle.gg_flat.specs.WellFormed.{IsWellFormed}
 use Rattle.gg_flat.proofs.UniqueLemmas.{Settled-once}
 use Rattle.gg_flat.proofs.DependLemmas.{depends-reached}
-use Rattle.gg_part.specs.Part.{IsPart}
 use Rattle.gg_part.specs.PartRun.{part_rows, part_state}
 use Rattle.gg_part.specs.InOrder.{IsInOrder}
 use Rattle.gg_part.specs.declared.part.Part.{Part}
-use Rattle.gg_part.proofs.FormedLemmas.{IsWellFormed-part}
 use Rattle.gg_part.proofs.AlongLemmas.{IsOrder-numbers}
+use Rattle.gg_order.specs.Design.{Ordered}
+use Rattle.gg_cut.specs.declared.listed.Listed.{Listed}
+use Rattle.gg_cut.specs.Direct.{Hub, routes}
+use Rattle.gg_cut.specs.Plan.{channels_to, channels_from, signals_of, givens_of, IsCutPart}
 use Rattle.gg_node.specs.Machine.{RunsPiece, Machine, needs_at}
 use Rattle.gg_net.specs.Network.{Kind, kind_of}
 use Rattle.gg_net.specs.Kept.{in_columns, RunsRows, Runs, Answers, Asks}
@@ -27,9 +29,9 @@ use Rattle.gg_memunit.proofs.UnitLemmas.{sole}
 use Rattle.gg_memunit.proofs.DependLemmas.{memory-once, memory-suffices}
 use Rattle.gg_sound.specs.Built.{IsUnitOf, IsMemoryOf}
 use Rattle.gg_sound.proofs.AlikeLemmas.{opening-alike, once-alike, depends-alike, run-alike}
-use Rattle.gg_sound.proofs.ShownLemmas.{AreShown, part-shown, rows-twice, own-run}
+use Rattle.gg_sound.proofs.ShownLemmas.{AreShown, part-shown, seen-twice, rows-twice, own-run}
 use Rattle.gg_sound.proofs.ServeLemmas.{memory-serves}
-use Rattle.gg_sound.proofs.BeginLemmas.{unit-begins, memory-begins, memory-sides}
+use Rattle.gg_sound.proofs.BeginLemmas.{memory-begins, memory-sides}
 
 -- the start of a machine of this kind at cycle 0, in this state
 abbrev pub start_in : State → Kind → Start
@@ -54,17 +56,41 @@ pub record IsNamedAs (globals : List ℕ) (piece : FlatCircuit) (ins outs : List
   pub out_low : (o : ℕ) → o < length outs → value_at piece.outs o < length globals
   pub out_at : (o : ℕ) → o < length outs → value_at globals (value_at piece.outs o) ≡ value_at outs o
 
-pub part-named : (whole part : FlatCircuit) (globals held memories ins outs : List ℕ) → IsPart whole part globals held memories → map (value_at globals) part.ins ≡ ins → map (value_at globals) part.outs ≡ outs → IsNamedAs globals part ins outs
-part-named whole part globals held memories ins outs is has_ins has_outs =
-    let in_count : length part.ins ≡ length ins = sym (length-map part.ins (value_at globals)) ∙ ap length has_ins in
-    let out_count : length part.outs ≡ length outs = sym (length-map part.outs (value_at globals)) ∙ ap length has_outs in
+pub part-named : (globals : List ℕ) (piece : FlatCircuit) (ins outs : List ℕ) → ((i : ℕ) → i < length piece.ins → value_at piece.ins i < length globals) → ((o : ℕ) → o < length piece.outs → value_at piece.outs o < length globals) → map (value_at globals) piece.ins ≡ ins → map (value_at globals) piece.outs ≡ outs → IsNamedAs globals piece ins outs
+part-named globals piece ins outs low high has_ins has_outs =
+    let in_count : length piece.ins ≡ length ins = sym (length-map piece.ins (value_at globals)) ∙ ap length has_ins in
+    let out_count : length piece.outs ≡ length outs = sym (length-map piece.outs (value_at globals)) ∙ ap length has_outs in
     record {
       in_count = in_count;
       out_count = out_count;
-      in_low = λ i lt. (is.ins i (omega (arith, lt, in_count))).0;
-      in_at = λ i lt. sym (get_or-map (value_at globals) part.ins i 0 0 (omega (arith, lt, in_count))) ∙ ap (λ (l : List ℕ). value_at l i) has_ins;
-      out_low = λ o lt. is.outs o (omega (arith, lt, out_count));
-      out_at = λ o lt. sym (get_or-map (value_at globals) part.outs o 0 0 (omega (arith, lt, out_count))) ∙ ap (λ (l : List ℕ). value_at l o) has_outs;
+      in_low = λ i lt. low i (omega (arith, lt, in_count));
+      in_at = λ i lt. sym (get_or-map (value_at globals) piece.ins i 0 0 (omega (arith, lt, in_count))) ∙ ap (λ (l : List ℕ). value_at l i) has_ins;
+      out_low = λ o lt. high o (omega (arith, lt, out_count));
+      out_at = λ o lt. sym (get_or-map (value_at globals) piece.outs o 0 0 (omega (arith, lt, out_count))) ∙ ap (λ (l : List ℕ). value_at l o) has_outs;
+    }
+
+-- those of a cut's part
+pub cut-named : (design : Ordered) (listed : Listed) (hub : Hub) (m : ℕ) (part : Part) → IsCutPart design listed hub m part → IsNamedAs part.globals part.piece (signals_of (routes hub) (channels_to (routes hub) m)) (givens_of (routes hub) (channels_from (routes hub) m))
+cut-named design listed hub m part cut =
+    part-named part.globals part.piece (signals_of (routes hub) (channels_to (routes hub) m)) (givens_of (routes hub) (channels_from (routes hub) m)) (λ i lt. (cut.is.ins i lt).0) cut.is.outs cut.ins cut.outs
+
+-- the same where each signal of the circuit is seen by another number
+named-seen : (seen : ℕ → ℕ) (globals : List ℕ) (piece : FlatCircuit) (ins outs : List ℕ) → IsNamedAs globals piece ins outs → IsNamedAs (map seen globals) piece (map seen ins) (map seen outs)
+named-seen seen globals piece ins outs named =
+    let count = length-map globals seen in
+    let in_count = length-map ins seen in
+    let out_count = length-map outs seen in
+    record {
+      in_count = named.in_count ∙ sym in_count;
+      out_count = named.out_count ∙ sym out_count;
+      in_low = λ i lt. let low = named.in_low i (omega (arith, lt, in_count)) in omega (arith, low, count);
+      in_at = λ i lt.
+          let low : i < length ins = omega (arith, lt, in_count) in
+          get_or-map seen globals (value_at piece.ins i) 0 0 (named.in_low i low) ∙ ap seen (named.in_at i low) ∙ sym (get_or-map seen ins i 0 0 low);
+      out_low = λ o lt. let low = named.out_low o (omega (arith, lt, out_count)) in omega (arith, low, count);
+      out_at = λ o lt.
+          let low : o < length outs = omega (arith, lt, out_count) in
+          get_or-map seen globals (value_at piece.outs o) 0 0 (named.out_low o low) ∙ ap seen (named.out_at o low) ∙ sym (get_or-map seen outs o 0 0 low);
     }
 
 -- the in-signals and out-signals of a part of a part, in the numbers of the whole circuit
@@ -105,27 +131,24 @@ piece-does globals piece rows n ins outs kind begins own is able shown named run
       asks = λ i t low lt. subst (λ b. Asks b own i t (value_at (row_at rows t) (value_at ins i))) (sym is) (shown.at t (value_at piece.ins i) lt (named.in_low i low) ∙ ap (value_at (row_at rows t)) (named.in_at i low));
     }
 
-module _ (whole : FlatCircuit) (part : Part) (columns : List (List ℕ)) (n : ℕ) (rows : List (List ℕ)) (ins outs : List ℕ) (formed : IsWellFormed whole) (is : IsPart whole part.piece part.globals part.held part.memories) (named : IsNamedAs part.globals part.piece ins outs) (run : IsRun whole columns n rows) (most : n ≤ cycle_limit) where
+-- A machine with this part, which sees the circuit's signals by these numbers. What it sees of the circuit's n rows is a run of its piece, and
+-- it begins in its part of this state. The signals of its channels are `ins` and `outs`.
+module _ (part : Part) (seen : ℕ → ℕ) (n : ℕ) (rows : List (List ℕ)) (state : State) (ins outs : List ℕ) (formed : IsWellFormed part.piece) (named : IsNamedAs part.globals part.piece ins outs) (begins : opening part.piece ≡ part_state part.held part.memories state) (count : length rows ≡ n)
+    (run : IsRun part.piece (in_columns part.piece (part_rows (map seen part.globals) rows)) n (part_rows (map seen part.globals) rows)) (most : n ≤ cycle_limit) where
   shown : (globals : List ℕ) → AreShown globals n rows (part_rows globals rows)
-  shown globals = subst (λ k. AreShown globals k rows (part_rows globals rows)) run.count (part-shown globals rows)
+  shown globals = subst (λ k. AreShown globals k rows (part_rows globals rows)) count (part-shown globals rows)
 
-  part-formed : IsWellFormed part.piece
-  part-formed = IsWellFormed-part whole part.piece part.globals part.held part.memories formed is
-
-  part-run : IsRun part.piece (in_columns part.piece (part_rows part.globals rows)) n (part_rows part.globals rows)
-  part-run = own-run whole part.piece part.globals part.held part.memories is columns n rows run
-
-  pub unit-does : (machine : Machine) → IsInOrder part.piece → IsUnitOf part machine → DoesCycles rows n ins outs (kind_of machine) (part_state part.held part.memories (opening whole)) (part_rows part.globals rows)
+  pub unit-does : (machine : Machine) → IsInOrder part.piece → IsUnitOf part machine → DoesCycles rows n (map seen ins) (map seen outs) (kind_of machine) (part_state part.held part.memories state) (part_rows (map seen part.globals) rows)
   unit-does machine ordered unit =
-      let own = part_rows part.globals rows in
+      let mine = map seen part.globals in
+      let own = part_rows mine rows in
       let order = range_with_len 0 (length part.piece.signals) in
       let along = IsOrder-numbers part.piece ordered in
       let nothing : Option ℕ = None in
       let piece = unit.circuit in
-      let begins : opening piece ≡ part_state part.held part.memories (opening whole) = opening-alike piece part.piece unit.alike ∙ unit-begins whole part is in
-      subst (λ (t : Machine). DoesCycles rows n ins outs (kind_of t) (part_state part.held part.memories (opening whole)) own) (sym unit.is)
-      (subst (λ (s : State). DoesCycles rows n ins outs (kind_of (dataflow.opening_unit (record { circuit = piece; needs = unit.needs }) [])) s own) begins
-      (piece-does part.globals piece rows n ins outs _ (opening piece) own refl most (shown part.globals) (named-alike part.globals piece part.piece ins outs unit.alike.ins unit.outs named)
+      subst (λ (t : Machine). DoesCycles rows n (map seen ins) (map seen outs) (kind_of t) (part_state part.held part.memories state) own) (sym unit.is)
+      (subst (λ (s : State). DoesCycles rows n (map seen ins) (map seen outs) (kind_of (dataflow.opening_unit (record { circuit = piece; needs = unit.needs }) [])) s own) (opening-alike piece part.piece unit.alike ∙ begins)
+      (piece-does mine piece rows n (map seen ins) (map seen outs) _ (opening piece) own refl most (shown mine) (named-alike mine piece part.piece (map seen ins) (map seen outs) unit.alike.ins unit.outs (named-seen seen part.globals part.piece ins outs named))
       (record {
         formed = unit.formed;
         once = once-alike piece part.piece unit.alike (λ state inputs v w sv sw. Settled-once part.piece order state inputs v w along sv sw);
@@ -133,30 +156,33 @@ module _ (whole : FlatCircuit) (part : Part) (columns : List (List ℕ)) (n : �
             let there : o < length part.piece.outs = omega (arith, low, ap length unit.outs) in
             depends-alike piece part.piece unit.alike (value_at piece.outs o) (needs_at unit.needs o)
             (subst (λ (l : List ℕ). DependsOn part.piece (value_at l o) (needs_at unit.needs o)) (sym unit.outs)
-            (depends-reached part.piece order (value_at part.piece.outs o) (needs_at unit.needs o) part-formed along (part-formed.outs o there) (λ place within reaches. ((unit.exact.each o there).exact place).1 (within, reaches))));
+            (depends-reached part.piece order (value_at part.piece.outs o) (needs_at unit.needs o) formed along (formed.outs o there) (λ place within reaches. ((unit.exact.each o there).exact place).1 (within, reaches))));
         ins = length-replicate (length piece.ins) nothing;
         outs = length-replicate (length piece.outs) false;
-        is = run-alike piece part.piece unit.alike n own part-run;
+        is = run-alike piece part.piece unit.alike n own run;
         serves = tt;
       })))
 
-  pub memory-does : (machine : Machine) → length part.memories ≡ 1 → IsMemoryOf part machine → DoesCycles rows n ins outs (kind_of machine) (part_state [] part.memories (opening whole)) (part_rows (map (value_at part.globals) (part.piece.ins ++ part.piece.outs)) rows)
-  memory-does machine one memory =
+  pub memory-does : (machine : Machine) → length part.globals ≡ length part.piece.signals → length part.memories ≡ 1 → IsMemoryOf part machine → DoesCycles rows n (map seen ins) (map seen outs) (kind_of machine) (part_state [] part.memories state) (part_rows (map seen (map (value_at part.globals) (part.piece.ins ++ part.piece.outs))) rows)
+  memory-does machine total one memory =
       let found = sole memory.alone.piece.memories memory.is_memory.one in
-      let begins = part_state [] part.memories (opening whole) in
+      let start = part_state [] part.memories state in
       let alone = memory.alone in
       let piece = alone.piece in
-      let globals = map (value_at part.globals) alone.globals in
+      let mine = map seen part.globals in
+      let globals = map seen (map (value_at part.globals) alone.globals) in
       let own = part_rows globals rows in
       let nothing : Option ℕ = None in
-      let below : (s : ℕ) → s < length alone.globals → value_at alone.globals s < length part.globals = λ s lt. let low = memory.is_part.within s lt in omega (arith, low, is.count) in
-      let inner = part-named part.piece piece alone.globals alone.held alone.memories part.piece.ins part.piece.outs memory.is_part memory.ins memory.outs in
-      let alone_run = own-run part.piece piece alone.globals alone.held alone.memories memory.is_part (in_columns part.piece (part_rows part.globals rows)) n (part_rows part.globals rows) part-run in
-      let own_run = subst (λ (l : List (List ℕ)). IsRun piece (in_columns piece l) n l) (sym (rows-twice part.globals alone.globals rows below)) alone_run in
-      subst (λ (t : Machine). DoesCycles rows n ins outs (kind_of t) begins (part_rows (map (value_at part.globals) (part.piece.ins ++ part.piece.outs)) rows)) (sym memory.is)
-      (subst (λ (l : List ℕ). DoesCycles rows n ins outs (kind_of (memory_unit.opening_unit piece [])) begins (part_rows (map (value_at part.globals) l) rows)) memory.globals
-      (subst (λ (s : State). DoesCycles rows n ins outs (kind_of (memory_unit.opening_unit piece [])) s own) (memory-begins whole part alone is memory.is_part memory.memories memory.is_memory.alone one)
-      (piece-does globals piece rows n ins outs _ (opening piece) own refl most (shown globals) (named-twice part.globals alone.globals part.piece piece ins outs named inner)
+      let below : (s : ℕ) → s < length alone.globals → value_at alone.globals s < length part.globals = λ s lt. let low = memory.is_part.within s lt in omega (arith, low, total) in
+      let seen_below : (s : ℕ) → s < length alone.globals → value_at alone.globals s < length mine = λ s lt. let low = below s lt in omega (arith, low, length-map part.globals seen) in
+      let inner = part-named alone.globals piece part.piece.ins part.piece.outs (λ i lt. (memory.is_part.ins i lt).0) memory.is_part.outs memory.ins memory.outs in
+      let alone_run = own-run part.piece piece alone.globals alone.held alone.memories memory.is_part (in_columns part.piece (part_rows mine rows)) n (part_rows mine rows) run in
+      let same : own ≡ part_rows alone.globals (part_rows mine rows) = ap (λ (l : List ℕ). part_rows l rows) (seen-twice seen part.globals alone.globals below) ∙ rows-twice mine alone.globals rows seen_below in
+      let own_run = subst (λ (l : List (List ℕ)). IsRun piece (in_columns piece l) n l) (sym same) alone_run in
+      subst (λ (t : Machine). DoesCycles rows n (map seen ins) (map seen outs) (kind_of t) start (part_rows (map seen (map (value_at part.globals) (part.piece.ins ++ part.piece.outs))) rows)) (sym memory.is)
+      (subst (λ (l : List ℕ). DoesCycles rows n (map seen ins) (map seen outs) (kind_of (memory_unit.opening_unit piece [])) start (part_rows (map seen (map (value_at part.globals) l)) rows)) memory.globals
+      (subst (λ (s : State). DoesCycles rows n (map seen ins) (map seen outs) (kind_of (memory_unit.opening_unit piece [])) s own) (memory-begins part alone state begins memory.is_part memory.memories memory.is_memory.alone one)
+      (piece-does globals piece rows n (map seen ins) (map seen outs) _ (opening piece) own refl most (shown globals) (named-seen seen (map (value_at part.globals) alone.globals) piece ins outs (named-twice part.globals alone.globals part.piece piece ins outs named inner))
       (record {
         formed = memory.is_memory.formed;
         once = memory-once piece found.0 memory.is_memory found.1 (memory-sides part alone memory.is_part memory.globals memory.ins memory.outs);

@@ -15,6 +15,7 @@ pub mod OpeningLemmas
 mod WorkedNetwork
 mod WorkedFork
 pub mod ShownLemmas
+pub mod SeenLemmas
 pub mod ServeLemmas
 pub mod BeginLemmas
 pub mod TickLemmas

@@ -1,6 +1,6 @@
 -- The channels of a plan and those of its network.
-use Rattle.std.proofs.Common.{◌≡◌, ℕ, zero, suc, ◌+◌, ◌<◌, List, [], ◌∷◌, None, length, get_or, refl, sym, ◌∙◌, ap, subst, arith}
-use Rattle.std.specs.Prelude.{All}
+use Rattle.std.proofs.Common.{◌≡◌, ℕ, zero, suc, ◌+◌, ◌<◌, List, [], ◌∷◌, length, get_or, refl, sym, ◌∙◌, ap, subst, arith}
+use Rattle.std.proofs.lemmas.List.{get_or_default}
 use Rattle.gg_cut.specs.declared.plan.Channel.{Channel}
 use Rattle.gg_cut.specs.declared.plan.Plan.{Plan}
 use Rattle.gg_cut.specs.declared.wires.Wire.{Wire as Link}
@@ -8,7 +8,7 @@ use Rattle.gg_cut.specs.Plan.{wire_at as link_at, channels_to, channels_from}
 use Rattle.gg_net.specs.declared.shape.Wire.{Wire}
 use Rattle.gg_net.specs.Network.{wire_at}
 use Rattle.gg_flat.proofs.ListLemmas.{some-item}
-use Rattle.gg_sound.specs.Built.{machine_in, place_in, wire_of, wires_from, wires_of_plan}
+use Rattle.gg_sound.specs.Built.{machine_in, place_in, first_token, wire_of, wires_from, wires_of_plan}
 
 -- The channels of a plan are these links, whose ends are machines of the plan, and which its machines list. Each may
 -- hold a token.
@@ -33,21 +33,15 @@ wire-from plan a (channel ∷ channels) zero any lt = ap (λ k. wire_of plan k c
 wire-from plan a (channel ∷ channels) (suc c) any lt =
     wire-from plan (suc a) channels c any (omega (arith, lt)) ∙ ap (λ k. wire_of plan k (get_or channels c any)) (let same : suc a + c ≡ a + suc c = omega arith in same)
 
--- each of them opens without a token
-pub free-from : (plan : Plan) (a : ℕ) (channels : List Channel) → All (λ (wire : Wire). wire.first ≡ None) (wires_from plan a channels)
-free-from plan a [] c any lt = absurd (omega (arith, lt))
-free-from plan a (channel ∷ channels) zero any lt = refl
-free-from plan a (channel ∷ channels) (suc c) any lt = free-from plan (suc a) channels c any (omega (arith, lt))
-
 -- A channel of the network leads where its link does, and stands at the places at which the link's machines list it.
--- It may hold a token, and opens without one.
+-- It may hold a token, and opens with one if the plan's channel has a pipe.
 pub record IsLinkedAs (plan : Plan) (links : List Link) (c : ℕ) : Type 0 where
   pub producer : (wire_at (wires_of_plan plan) c).producer ≡ (link_at links c).producer
   pub out : (wire_at (wires_of_plan plan) c).out ≡ place_in (channels_from links (link_at links c).producer) c
   pub consumer : (wire_at (wires_of_plan plan) c).consumer ≡ (link_at links c).consumer
   pub place : (wire_at (wires_of_plan plan) c).place ≡ place_in (channels_to links (link_at links c).consumer) c
   pub some : 0 < (wire_at (wires_of_plan plan) c).capacity
-  pub first : (wire_at (wires_of_plan plan) c).first ≡ None
+  pub first : (any : Channel) → c < length plan.channels → (wire_at (wires_of_plan plan) c).first ≡ first_token (get_or plan.channels c any).pipe
 
 module _ (plan : Plan) (links : List Link) (are : AreLinks plan links) where
   pub length-wires : length (wires_of_plan plan) ≡ length links
@@ -68,5 +62,6 @@ module _ (plan : Plan) (links : List Link) (are : AreLinks plan links) where
         consumer = ap (λ w. w.consumer) is ∙ takes;
         place = ap (λ w. w.place) is ∙ ap (λ p. place_in (machine_in plan p).ins c) takes ∙ ap (λ l. place_in l c) (are.ins (link_at links c).consumer ends.1);
         some = subst (λ (w : Wire). 0 < w.capacity) (sym is) (are.some c any known);
-        first = ap (λ w. w.first) is;
+        first = λ other there.
+            ap (λ w. w.first) is ∙ ap (λ (d : Channel). first_token d.pipe) (get_or_default plan.channels c any other there);
       }

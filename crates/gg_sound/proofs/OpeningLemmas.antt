@@ -16,12 +16,14 @@ use Rattle.gg_cut.specs.Direct.{Hub, plan_hub}
 use Rattle.gg_cut.specs.Plan.{IsBody}
 use Rattle.gg_closed.proofs.FaultlessLemmas.{faultless-apart, faultless-few}
 use Rattle.gg_routes.proofs.RoutedLemmas.{plan-routed}
+use Rattle.gg_pipe.specs.Made.{plan_reference}
 use Rattle.gg_node.specs.Machine.{Machine, machine_at, no_state}
 use Rattle.gg_net.specs.Net.{IsOpening}
 use Rattle.gg_sound.specs.Built.{machine_in, nameless, IsBuilt, AreBuilt, IsGiven, body_state, states_of, flow_of}
 use Rattle.gg_sound.proofs.AlikeLemmas.{opening-alike}
 use Rattle.gg_sound.proofs.MemoryPartLemmas.{memory-part}
-use Rattle.gg_sound.proofs.BeginLemmas.{unit-begins, memory-begins}
+use Rattle.gg_sound.proofs.SeenLemmas.{seen-begins}
+use Rattle.gg_sound.proofs.BeginLemmas.{memory-begins}
 
 -- lists of empty latches and of clear flags, by their own length
 latches-of : (n : ℕ) → ◌≡◌ {A = List (Option ℕ)} (replicate n None) (replicate (length (replicate {A = Option ℕ} n None)) None)
@@ -38,12 +40,12 @@ module _ (design : Ordered) (request : Request) (default : ℕ) (plan : Plan) (c
   hub = plan_hub design.circuit design.tree request
 
   -- a machine with this body begins in its part of the opening
-  opens : (m outs : ℕ) (body : Body) (machine : Machine) → IsBody design listed hub m body → state_in (states_of plan (opening design.circuit)) m ≡ body_state body (opening design.circuit) → IsBuilt columns outs body machine → IsOpening (flow_of plan design rows) m machine
+  opens : (m outs : ℕ) (body : Body) (machine : Machine) → IsBody design listed hub m body → state_in (states_of plan (opening (plan_reference design request))) m ≡ body_state body (opening (plan_reference design request)) → IsBuilt columns outs body machine → IsOpening (flow_of design request plan rows) m machine
   opens m outs (Cut part) machine body begins unit =
-      subst (IsOpening (flow_of plan design rows) m) (sym unit.is)
+      subst (IsOpening (flow_of design request plan rows) m) (sym unit.is)
       (record {
         cycle = refl;
-        state = opening-alike unit.circuit part.piece unit.alike ∙ unit-begins design.circuit part body.1.is ∙ sym begins;
+        state = opening-alike unit.circuit part.piece unit.alike ∙ seen-begins design request given.design_is given.keeps given.held given.faultless m part body.1 ∙ sym begins;
         served = refl;
         latches = latches-of (length unit.circuit.ins);
         flags = flags-of (length unit.circuit.outs);
@@ -51,20 +53,22 @@ module _ (design : Ordered) (request : Request) (default : ℕ) (plan : Plan) (c
       })
   opens m outs (Memory part) machine body begins memory =
       let own = memory-part design request m part given.design_is given.keeps (faultless-apart design request given.faultless given.keeps.fitting) (plan-routed design request given.design_is given.keeps given.faultless) body.0 body.1 body.2 (faultless-few design request given.faultless) in
-      subst (IsOpening (flow_of plan design rows) m) (sym memory.is)
+      subst (IsOpening (flow_of design request plan rows) m) (sym memory.is)
       (record {
         cycle = refl;
-        state = memory-begins design.circuit part memory.alone body.2.is memory.is_part memory.memories memory.is_memory.alone own.1.count ∙ sym begins;
+        state =
+            memory-begins part memory.alone (opening (plan_reference design request)) (seen-begins design request given.design_is given.keeps given.held given.faultless m part body.2) memory.is_part memory.memories memory.is_memory.alone own.1.count
+            ∙ sym begins;
         served = refl;
         latches = latches-of (length memory.alone.piece.ins);
         flags = flags-of (length memory.alone.piece.outs);
         kept = refl;
       })
-  opens m outs (Source place) machine body begins is = subst (IsOpening (flow_of plan design rows) m) (sym is) (record { cycle = refl; state = refl; served = refl; latches = refl; flags = flags-of outs; kept = refl })
-  opens m outs Tray machine body begins is = subst (IsOpening (flow_of plan design rows) m) (sym is) (record { cycle = refl; state = refl; served = refl; latches = refl; flags = refl; kept = refl })
+  opens m outs (Source place) machine body begins is = subst (IsOpening (flow_of design request plan rows) m) (sym is) (record { cycle = refl; state = refl; served = refl; latches = refl; flags = flags-of outs; kept = refl })
+  opens m outs Tray machine body begins is = subst (IsOpening (flow_of design request plan rows) m) (sym is) (record { cycle = refl; state = refl; served = refl; latches = refl; flags = refl; kept = refl })
 
-  pub built-opening : (m : ℕ) → m < length machines → IsOpening (flow_of plan design rows) m (machine_at machines m)
+  pub built-opening : (m : ℕ) → m < length machines → IsOpening (flow_of design request plan rows) m (machine_at machines m)
   built-opening m lt =
       let known : m < length plan.machines = omega (arith, lt, built.count) in
       opens m (length (machine_in plan m).outs) (machine_in plan m).body (machine_at machines m) (given.planned.machine m nameless known).body
-      (get_or-map (λ (machine : planned.Machine). body_state machine.body (opening design.circuit)) plan.machines m nameless no_state known) (built.each m known)
+      (get_or-map (λ (machine : planned.Machine). body_state machine.body (opening (plan_reference design request))) plan.machines m nameless no_state known) (built.each m known)

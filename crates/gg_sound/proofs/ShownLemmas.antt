@@ -28,6 +28,12 @@ row-twice globals [] row below = refl
 row-twice globals (s ∷ own) row below =
     ap₂ (λ value values. value ∷ values) (sym (part_row-at globals row s (below 0 (omega arith)))) (row-twice globals own row (λ k lt. below (suc k) (omega (arith, lt))))
 
+-- the signals of a part of a part, by the numbers by which a machine sees them
+pub seen-twice : (seen : ℕ → ℕ) (globals own : List ℕ) → ((s : ℕ) → s < length own → value_at own s < length globals) → map seen (map (value_at globals) own) ≡ map (value_at (map seen globals)) own
+seen-twice seen globals [] below = refl
+seen-twice seen globals (s ∷ own) below =
+    ap₂ (λ number numbers. number ∷ numbers) (sym (get_or-map seen globals s 0 0 (below 0 (omega arith)))) (seen-twice seen globals own (λ k lt. below (suc k) (omega (arith, lt))))
+
 pub rows-twice : (globals own : List ℕ) (rows : List (List ℕ)) → ((s : ℕ) → s < length own → value_at own s < length globals) → part_rows (map (value_at globals) own) rows ≡ part_rows own (part_rows globals rows)
 rows-twice globals own [] below = refl
 rows-twice globals own (row ∷ rows) below = ap₂ (λ (head : List ℕ) (rest : List (List ℕ)). head ∷ rest) (row-twice globals own row below) (rows-twice globals own rows below)

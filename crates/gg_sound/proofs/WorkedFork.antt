@@ -21,7 +21,7 @@ abbrev machine : List ℕ → Body → List ℕ → List ℕ → planned.Machine
 machine name body ins outs = record { name = name; host = 0; body = body; ins = ins; outs = outs }
 
 abbrev channel : ℕ → List ℕ → ℕ → ℕ → Channel
-channel s name producer consumer = record { signal = s; name = name; ty = eight; producer = producer; consumer = consumer; capacity = 1; needs = [] }
+channel s name producer consumer = record { signal = s; name = name; ty = eight; producer = producer; consumer = consumer; capacity = 1; pipe = false; needs = [] }
 
 abbrev plan : Plan
 plan =

@@ -36,5 +36,5 @@ pub fn ports_are_named()
 
 /// The machines are before their first cycle, each in the state in which it begins.
 pub fn machines_are_opening()
-    ensures { (design : Ordered) (request : Request) (default : ℕ) (plan : Plan) (columns : List (List ℕ)) (n : ℕ) (rows : List (List ℕ)) (machines : List Machine) → IsGiven design request default plan columns n rows → AreBuilt plan columns machines → (m : ℕ) → m < length machines → IsOpening (flow_of plan design rows) m (machine_at machines m) }
+    ensures { (design : Ordered) (request : Request) (default : ℕ) (plan : Plan) (columns : List (List ℕ)) (n : ℕ) (rows : List (List ℕ)) (machines : List Machine) → IsGiven design request default plan columns n rows → AreBuilt plan columns machines → (m : ℕ) → m < length machines → IsOpening (flow_of design request plan rows) m (machine_at machines m) }
 {}

@@ -1,16 +1,17 @@
-//! Facts about the network of a plan: it is wired, has no ring, and is solved by the circuit's own run.
+//! Facts about the network of a plan: it is wired, has no ring, and is solved by a run of the circuit that it computes.
 //!
 //! A plan (`IsPlan` of gg_cut) names machines and channels. Its network (`specs/Built`) has a machine for each of the
-//! plan's machines, before its first cycle, and the plan's channels between them, some of which may be direct. The crate
-//! has no code. For the plan of a design and of a request without a fault, and for such machines, it promises:
+//! plan's machines, before its first cycle, and the plan's channels between them, some of which may be direct. A channel
+//! with a pipe opens with the token 0, the others open empty. So the network computes the reference circuit of gg_pipe,
+//! which has a register for each pipe; without pipes it is the design's circuit. The crate has no code. For the plan of a design and of a request without a fault, and for such machines, it promises:
 //!
 //! - a machine has an in or an out for each channel that the plan lists for it, and the channel is connected there
 //!   (`plan_is_listed`);
 //! - the network is wired: each in and each out has exactly one channel, and the ins that outs need and ports read
 //!   exist (`plan_is_wired`);
 //! - there is no ring among the needs of channels (`plan_has_no_ring`);
-//! - the columns of the circuit's own run solve the network, with the rows of each machine in that run
-//!   (`plan_is_solved`), so the network is sound, as `Net::new` of gg_net requires (`plan_is_sound`); it is within the
+//! - the columns of the reference circuit's run, each with the token that its channel opens with before it, solve the
+//!   network, with the rows of each machine in that run (`plan_is_solved`), so the network is sound, as `Net::new` of gg_net requires (`plan_is_sound`); it is within the
 //!   limits (`plan_is_within`);
 //! - the ports that a machine serves are among its ports (`ports_are_named`), and the machines are before their first
 //!   cycle (`machines_are_opening`);
@@ -24,9 +25,11 @@
 //! that it gives. The signal by which the in's channel is given is the in's signal, or the in's signal is a copy of it
 //! and comes after it.
 //!
-//! Why the circuit's run solves the network: the rows of a part in a run are a run of the part, on the columns of its
-//! own in-signals. A memory whose ports are all served is in its next state. The signal by which a channel is given and
-//! the signal that its consumer takes have one value in each row.
+//! Why the reference circuit's run solves the network: a machine's part is a part of the reference circuit, in which it
+//! sees the pipe in place of a piped channel that it takes. The rows of a part in a run are a run of the part, on the
+//! columns of its own in-signals. A memory whose ports are all served is in its next state. The signal by which a channel
+//! is given and the channel's own signal have one value in each row. A channel's consumer sees that value in the same
+//! row, or in the next one if the channel is piped.
 #![tactic(auto)]
 
 mod alone;
