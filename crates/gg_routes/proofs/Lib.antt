@@ -24,3 +24,5 @@ pub mod FewLemmas
 pub mod UnitLemmas
 pub mod NothingLemmas
 pub mod RoutedLemmas
+pub mod AgreeLemmas
+pub mod PipedTables

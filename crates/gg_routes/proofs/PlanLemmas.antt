@@ -1,24 +1,19 @@
 -- The channels of a plan, and what its machines have.
-use Rattle.std.proofs.Common.{◌≡◌, ◌≢◌, ◌<◌, ℕ, List, Bool, true, false, not, length, get_or, sym, ◌∙◌, ap, ap₂, subst, inl, inr, ◌⊎◌, None, refl, eq-eqb, arith}
+use Rattle.std.proofs.Common.{◌≡◌, ◌≢◌, ◌<◌, ℕ, List, Bool, true, false, not, length, get_or, sym, ◌∙◌, ap, subst, inl, inr, ◌⊎◌, None, refl, eq-eqb, arith}
 use Rattle.std.specs.Prelude.{◌↔◌, ◌&&◌, ◌==◌, Contains, AllPairs, filter, is_some}
 use Rattle.std.specs.List.{list_any}
-use Rattle.std.proofs.Math.Path.{fun_ext}
 use Rattle.std.proofs.lemmas.Bool.{and_parts, and_from, cases_Bool, eqb-true, ne_eqb, not-true, not_from_false}
 use Rattle.std.proofs.lemmas.List.Elements.{All-contains, Contains-get_or}
 use Rattle.std.proofs.lemmas.List.Kept.{AllPairs-filter}
-use Rattle.gg_flat.specs.Circuit.{FlatCircuit}
-use Rattle.gg_flat.specs.Tree.{InstanceTree}
 use Rattle.gg_flat.proofs.ListLemmas.{IsKept, Contains-map, Contains-filter, filter-cases}
 use Rattle.gg_moved.specs.KeepsToTree.{KeepsToTree}
 use Rattle.gg_order.specs.Design.{Ordered, IsDesign}
 use Rattle.gg_order.specs.Marks.{is_marked}
 use Rattle.gg_part.specs.InOrder.{Precedes, IsAlong}
-use Rattle.gg_partfile.specs.declared.request.Request.{Request}
 use Rattle.gg_cut.specs.declared.listed.Listed.{Listed}
 use Rattle.gg_cut.specs.declared.wires.Wire.{Wire}
-use Rattle.gg_cut.specs.Listed.{listed_of}
 use Rattle.gg_cut.specs.Channels.{wires_of}
-use Rattle.gg_cut.specs.Direct.{Hub, hub_of, plan_hub, is_direct, is_gone, direct_of, route, routes}
+use Rattle.gg_cut.specs.Direct.{Hub, hub_of, is_direct, is_gone, direct_of, route, routes}
 use Rattle.gg_cut.specs.Plan.{channels_to, channels_from, MakesBy, Takes, HasMemory}
 use Rattle.gg_cut.proofs.OriginLemmas.{any-finds, finds-any, clash}
 use Rattle.gg_closed.specs.Apart.{AreApart}
@@ -33,10 +28,6 @@ use Rattle.gg_routes.proofs.CutLemmas.{base-of}
 use Rattle.gg_routes.proofs.GoneLemmas.{Stays}
 use Rattle.gg_routes.proofs.RouteLemmas.{IsBase, IsRoute, Routing, Plain, Direct, routing, same-wire, apart-at, in-routes, out-routes, route-signal, route-consumer, plain-producer, direct-producer}
 use Rattle.gg_routes.proofs.ChoiceLemmas.{Made, Taken, had, hub-stays, hub-has, has-still, wire-made, wire-taken, wire-plain, inner-item, any-wire}
-
--- a routing with clear marks is that of a plan
-pub plan-hub-is : (circuit : FlatCircuit) (tree : InstanceTree) (request : Request) (listed : Listed) (marks : List Bool) → listed ≡ listed_of tree request → ((k : ℕ) → is_marked marks k ≡ false) → hub_of circuit tree listed (is_marked marks) request.direct ≡ plan_hub circuit tree request
-plan-hub-is circuit tree request listed marks same none = ap₂ (λ (l : Listed) (piped : ℕ → Bool). hub_of circuit tree l piped request.direct) same (fun_ext none)
 
 -- ---- what stays of the hub's signals
 

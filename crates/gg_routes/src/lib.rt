@@ -20,6 +20,7 @@ mod laws;
 mod lists;
 mod names;
 mod origins;
+mod piped;
 mod plan;
 mod routed;
 mod routing;

@@ -10,9 +10,11 @@ ghost use Rattle.gg_split.specs.IsShare.{AreShares};
 ghost use Rattle.gg_routes.specs.Routes.{AreRoutes};
 ghost use Rattle.gg_routes.specs.Share.{is_past_hub, past_hub, stays_by};
 
+use crate::laws::channels_routed;
 use crate::lists::push_if;
+use crate::piped::piped_of;
 use crate::routing::{Channels, routes};
-use gg_cut::{Listed, Wire, marks_of, unmarked};
+use gg_cut::{Listed, Wire, marks_of};
 use gg_order::Design;
 use gg_partfile::Request;
 use gg_split::Split;
@@ -40,7 +42,9 @@ pub fn plan_routes(
     ensures gone { IfOk result (λ found. (s : ℕ) → s < length design.now.circuit.signals → is_marked found.gone s ≡ is_gone (plan_hub design.now.circuit design.now.tree request.now) s) }
     ensures sound { IfOk result (λ found. AreRoutes design.now listed.now (plan_hub design.now.circuit design.now.tree request.now)) }
 {
-    let piped = unmarked(alloc, design.piece().signal_count())?;
+    channels_routed();
+    let _ = design.order();
+    let piped = piped_of(alloc, design.piece(), request.pipe.as_slice())?;
     let channels = routes(alloc, design, listed, split, &piped, request.direct)?;
     Ok(channels)
 }
