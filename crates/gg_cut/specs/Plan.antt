@@ -1,7 +1,7 @@
 -- The plan of a cut: its machines with their pieces, its channels, and what each channel needs.
 -- Source: MEMOCODE 2009 (a network of machines that are latency-insensitive: an output depends only on the inputs
 -- that it is computed from); ICCAD 2019 (instances and memories of a target as models of their own).
-use Rattle.std.specs.Prelude.{◌≡◌, ◌≢◌, ◌↔◌, ◌⊎◌, ℕ, ◌<◌, ◌≤◌, ◌+◌, ◌-◌, List, [], ◌∷◌, Bool, ◌++◌, ◌==◌, length, map, take, drop, filter, codes, slice_index_or, Contains, AllPairs}
+use Rattle.std.specs.Prelude.{◌≡◌, ◌≢◌, ◌↔◌, ◌⊎◌, ℕ, ◌<◌, ◌≤◌, ◌+◌, ◌-◌, List, [], ◌∷◌, Bool, false, ◌++◌, ◌==◌, length, map, take, drop, filter, codes, slice_index_or, Contains, AllPairs}
 use Rattle.std.specs.List.{range_with_len}
 use Rattle.gg_bits.specs.Shape.{shape}
 use Rattle.gg_flat.specs.Line.{value_at, shape_at}
