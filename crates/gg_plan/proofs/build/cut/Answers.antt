@@ -2,4 +2,4 @@ use Rattle.gg_plan.proofs.FaultlessLemmas.{entries-told}
 use Rattle.gg_plan.proofs.build.cut.Goals as goal
 
 pub returns-in_err-listed-clause-told : goal.returns-in_err-listed-clause-told
-returns-in_err-listed-clause-told c = entries-told c.args.design.now c.args.request.now c.in_err-listed.field-0 c.in_err-listed.ensures.told
+returns-in_err-listed-clause-told c = entries-told c.args.design.now c.args.request.now c.in_err-listed.field-0.0 c.in_err-listed.ensures.told
