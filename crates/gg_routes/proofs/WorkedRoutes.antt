@@ -4,6 +4,7 @@ use Rattle.std.specs.Prelude.{◌==◌, map}
 use Rattle.gg_bits.specs.declared.ops.Op1.TheVariants.{Not}
 use Rattle.gg_flat.specs.declared.line.Op.TheVariants.{Ref, One}
 use Rattle.gg_flat.specs.declared.piece.Driver.TheVariants.{Input, Held, MemoryWord, Computed}
+use Rattle.gg_flat.specs.declared.piece.Register.{Register}
 use Rattle.gg_flat.specs.declared.piece.Signal.{Signal}
 use Rattle.gg_flat.specs.Line.{value_at}
 use Rattle.gg_flat.proofs.WorkedCircuits.{eight, nine, node}
@@ -76,6 +77,10 @@ two =
 fork : routes two ≡ channel 0 0 3 0 ∷ channel 3 0 3 1 ∷ channel 6 6 0 2 ∷ channel 1 4 1 4 ∷ channel 2 7 2 5 ∷ []
 fork = refl
 
+-- a fork of three: `x` goes to two units and to an output
+three : routes (record (made_of (signal eight (Input 0) ∷ copy eight 0 ∷ copy eight 0 ∷ copy eight 0 ∷ []) (0 ∷ 1 ∷ 2 ∷ 0 ∷ []) (wire 0 3 0 ∷ wire 1 0 1 ∷ wire 2 0 2 ∷ wire 3 0 4 ∷ []) []) { memory = none }) ≡ channel 1 0 3 1 ∷ channel 2 0 3 2 ∷ channel 3 0 3 4 ∷ []
+three = refl
+
 -- a chain of two wires, of which the first is a field of a memory of the hub
 abbrev chain : List ℕ → Hub
 chain held = made_of (signal eight (Input 0) ∷ copy eight 0 ∷ copy eight 1 ∷ copy eight 2 ∷ copy eight 1 ∷ []) (0 ∷ 0 ∷ 0 ∷ 1 ∷ 0 ∷ []) (wire 0 3 0 ∷ wire 3 0 1 ∷ []) held
@@ -89,6 +94,21 @@ chain-gone = refl
 -- a memory names a copy, so the in-channel stays; the out-channel is direct all the same
 chain-held : routes (chain (4 ∷ [])) ≡ channel 0 0 3 0 ∷ channel 3 0 3 1 ∷ []
 chain-held = refl
+
+-- a register of the hub, which takes signal s, beside a wire that leads from the in-channel to an output
+abbrev holds : ℕ → Hub
+holds s =
+    let plain = made_of (signal eight (Input 0) ∷ copy eight 0 ∷ copy eight 1 ∷ signal eight (Held 0) ∷ []) (0 ∷ 0 ∷ 0 ∷ 0 ∷ []) (wire 0 3 0 ∷ wire 2 0 4 ∷ []) [] in
+    let register : Register = record { ty = eight; reset = None; next = Some (node eight (Ref s) ∷ []); clock = None } in
+    record plain { circuit = record plain.circuit { registers = register ∷ [] } }
+
+-- it takes the copy, so the in-channel stays
+register-reads : routes (holds 1) ≡ channel 0 0 3 0 ∷ channel 2 0 3 4 ∷ []
+register-reads = refl
+
+-- it takes itself, so the in-channel leaves
+register-keeps : routes (holds 3) ≡ channel 2 0 3 4 ∷ []
+register-keeps = refl
 
 -- an output that is named in the hub is not direct, and so its in-channel stays
 named-output : routes (made_of (signal eight (Input 0) ∷ copy eight 0 ∷ signal eight (Computed (node eight (Ref 1) ∷ node eight (One Not 0) ∷ [])) ∷ []) (0 ∷ 0 ∷ 0 ∷ []) (wire 0 3 0 ∷ wire 1 0 4 ∷ []) []) ≡ channel 0 0 3 0 ∷ channel 1 1 0 4 ∷ []
