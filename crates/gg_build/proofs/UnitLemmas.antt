@@ -25,7 +25,7 @@ use Rattle.gg_fame5.specs.Machine.{opening_unit, started_unit}
 use Rattle.gg_fame5.specs.Shared.{opening_machines}
 use Rattle.gg_sound.specs.Built.{IsUnitOf, nameless}
 use Rattle.gg_sound.proofs.AlikeLemmas.{needs-alike}
-use Rattle.gg_build.specs.Hosts.{ArePicked, ArePickedFor, ArePlaced, AreUnits, IsUnitBody, RunUnits, body_at}
+use Rattle.gg_build.specs.Hosts.{ArePicked, ArePickedFor, ArePlaced, AreUnits, IsUnitBody, RunUnits, body_at, outs_at}
 use Rattle.gg_build.specs.Wires.{IsNoted}
 
 -- ---- the places of out-signals
@@ -75,6 +75,10 @@ outs-within all machines group outs placed = λ t d lt.
 -- what one of these machines is
 pub body-of : (machines : List planned.Machine) (m : ℕ) (own : planned.Machine) → m < length machines → own ≡ get_or machines m own → body_at machines m ≡ own.body
 body-of machines m own lt is = ap (λ (o : planned.Machine). o.body) (get_or_default machines m nameless own lt ∙ sym is)
+
+-- how many channels one of these machines gives
+pub outs-of : (machines : List planned.Machine) (m : ℕ) (own : planned.Machine) → m < length machines → own ≡ get_or machines m own → outs_at machines m ≡ length own.outs
+outs-of machines m own lt is = ap (λ (o : planned.Machine). length o.outs) (get_or_default machines m nameless own lt ∙ sym is)
 
 -- one thread more
 pub placed-more : (all : List ℕ) (machines : List planned.Machine) (group : List ℕ) (count : ℕ) (old new : List (List ℕ)) (outs : List ℕ) → new ≡ old ++ outs ∷ [] → ArePlaced all machines group count old → ArePickedFor all (body_at machines (value_at group count)) outs → ArePlaced all machines group (count + 1) new

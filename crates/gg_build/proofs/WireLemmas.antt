@@ -119,7 +119,7 @@ module _ (plan : Plan) (links : List Link) (are : AreLinks plan links) where
 -- ---- the links of a request without a fault
 
 pub links-in : (plan : Plan) (is : IsFaultless plan) → AreLinks plan (plan_wires is.design.circuit is.design.tree is.request)
-links-in plan is = links-of is.design is.request is.default plan is.keeps is.faultless is.some is.planned
+links-in plan is = links-of is.design is.request is.default plan is.design_is is.keeps is.faultless is.some is.planned
 
 pub few-links : (plan : Plan) (is : IsFaultless plan) → length (plan_wires is.design.circuit is.design.tree is.request) < 2 ^ 32
 few-links plan is = let most = (faultless-few is.design is.request is.faultless).channels in omega (arith, most)

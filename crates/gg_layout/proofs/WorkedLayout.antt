@@ -26,7 +26,7 @@ use Rattle.gg_partfile.specs.Request.{no_request}
 use Rattle.gg_cut.specs.declared.listed.Listed.{Listed}
 use Rattle.gg_cut.specs.declared.wires.Wire.{Wire}
 use Rattle.gg_cut.specs.Listed.{listed_of}
-use Rattle.gg_cut.specs.Channels.{wires_of}
+use Rattle.gg_cut.specs.Channels.{wire, wires_of}
 use Rattle.gg_cut.specs.Direct.{plan_wires}
 use Rattle.gg_cut.proofs.WorkedPair.{input, output}
 use Rattle.gg_check.specs.CheckText.{AreChannelNeeds, IsPathInside, NeedsChannel}
@@ -261,6 +261,19 @@ without-turn is = let count : 0 ≡ 1 = ap (λ (turns : List (List Turn)). lengt
 -- and it is one of the ports
 without-port : ¬ IsLayoutOf design request 2 3 (record layout { port_counts = 0 ∷ 0 ∷ 0 ∷ 0 ∷ [] })
 without-port is = let count : 0 ≡ 1 = ap (λ (counts : List ℕ). value_at counts 1) is.ports in absurd (omega (arith, count))
+
+-- ---- the same with direct channels
+
+abbrev straight : Request
+straight = record request { direct = true }
+
+-- `m.r.addr` comes straight from the source of `a`, and `a` leaves; `o` is a copy of what a memory gives, so the hub still gives it
+straight-channels : plan_wires circuit tree straight ≡ record { signal = 2; given = 0; producer = 2; consumer = 1 } ∷ wire 3 0 1 ∷ wire 4 1 0 ∷ wire 1 0 3 ∷ []
+straight-channels = refl
+
+-- the turn has the numbers of the channels that are left
+straight-turns : memory_turns circuit (plan_wires circuit tree straight) 0 ≡ turn 0 (0 ∷ 1 ∷ []) ∷ []
+straight-turns = refl
 
 -- ---- a reader of the same cycle
 

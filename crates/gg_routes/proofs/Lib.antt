@@ -1,4 +1,3 @@
-pub mod WorkedRoutes
 pub mod NameLemmas
 pub mod GoneLemmas
 pub mod RouteLemmas
@@ -8,7 +7,6 @@ pub mod CutChoice
 pub mod CutLemmas
 pub mod SideLemmas
 pub mod WholeLemmas
-pub mod ShareLemmas
 pub mod SideTables
 pub mod ListTables
 pub mod HubTables

@@ -1,5 +1,5 @@
 -- What the host of a machine tells of a cycle.
-use Rattle.std.proofs.Common.{◌≡◌, ℕ, List, [], ◌∷◌, zero, suc, None, length, map, get_or, refl, sym, ap, ◌∙◌, subst, arith}
+use Rattle.std.proofs.Common.{◌≡◌, ℕ, List, [], ◌∷◌, zero, suc, None, map, get_or, sym, ap, ◌∙◌, subst, arith}
 use Rattle.std.specs.Prelude.{Contains, Option, unwrap_or}
 use Rattle.std.proofs.lemmas.List.{get_or-map, length-map}
 use Rattle.gg_node.specs.Machine.{Behaviour, GivesColumn, IsTray, KeepsLast, Machine, RunsPiece, kept_value, machine_at}

@@ -1,5 +1,6 @@
 -- The trays of a plan's network have the circuit's outputs.
 use Rattle.std.proofs.Common.{◌≡◌, ℕ, ◌+◌, ◌-◌, ◌<◌, ◌≤◌, List, [], length, sym, ap, ◌∙◌, arith}
+use Rattle.std.specs.Prelude.{Contains}
 use Rattle.std.proofs.lemmas.List.{get_or-map, length-map, ext_get_or}
 use Rattle.gg_flat.specs.Line.{value_at}
 use Rattle.gg_flat.proofs.ListLemmas.{some-item}
@@ -10,7 +11,7 @@ use Rattle.gg_cut.specs.Direct.{Hub, routes, plan_hub}
 use Rattle.gg_cut.specs.Machines.{first_tray}
 use Rattle.gg_cut.specs.Listed.{listed_of}
 use Rattle.gg_cut.specs.Plan as planned
-use Rattle.gg_cut.specs.Plan.{channels_to, IsBody}
+use Rattle.gg_cut.specs.Plan.{IsBody}
 use Rattle.gg_cut.specs.declared.listed.Listed.{Listed}
 use Rattle.gg_cut.specs.declared.plan.Body.{Body}
 use Rattle.gg_cut.specs.declared.plan.Body.TheVariants.{Cut, Memory, Source, Tray}
@@ -86,33 +87,45 @@ module _ (plan : Plan) (columns : List (List ℕ)) (n : ℕ) (flow : Flow) (run 
       ∙ tray-behaves run.design listed hub columns (length (machine_in plan m).outs) m (machine_in plan m).body (machine_at is.machines m) (omega arith)
       (run.given.planned.machine m nameless there).body (is.built.each m there)
 
+  -- the plan's channel of a tray
+  record IsTrayWire (k c : ℕ) : Type 0 where
+    known : c < length (routes hub)
+    consumer : (planned.wire_at (routes hub) c).consumer ≡ tray k
+    signal : (planned.wire_at (routes hub) c).signal ≡ value_at outs k
+
+  tray-wire : (k : ℕ) → k < length outs → (c : ℕ) × IsTrayWire k c
+  tray-wire k lt = by ((plan-routed run.design run.request run.given.design_is run.given.keeps run.given.faultless).trays k lt).one
+    where
+      by : Contains (planned.signals_of (routes hub) (planned.channels_to (routes hub) (tray k))) (value_at outs k) → (c : ℕ) × IsTrayWire k c
+      by has =
+          let takes = planned.channels_to (routes hub) (tray k) in
+          let low : has.0 < length takes = omega (arith, has.1, length-map takes (λ d. (planned.wire_at (routes hub) d).signal)) in
+          let at = taken-at (routes hub) (tray k) has.0 low in (
+            value_at takes has.0,
+            record { known = at.known; consumer = at.consumer; signal = sym (get_or-map (λ d. (planned.wire_at (routes hub) d).signal) takes has.0 0 (value_at outs k) low) ∙ has.2 },
+          )
+
   -- the channel of a tray
   record IsTrayChannel (k c : ℕ) : Type 0 where
     known : c < length net.wires
     taken : (wire_at net.wires c).consumer ≡ tray k
     list : list_at flow.lists c ≡ column run.rows (value_at outs k)
 
-  tray-channel : (k : ℕ) → k < length outs → (c : ℕ) × IsTrayChannel k c
-  tray-channel k lt =
-      let wires = routes hub in
-      let takes = channels_to wires (tray k) in
-      let has = ((plan-routed run.design run.request run.given.design_is run.given.keeps run.given.faultless).trays k lt).one in
-      let low : has.0 < length takes = omega (arith, has.1, length-map takes (λ d. (planned.wire_at wires d).signal)) in
-      let c = value_at takes has.0 in
-      let at = taken-at wires (tray k) has.0 low in
-      let signal : (planned.wire_at wires c).signal ≡ value_at outs k = sym (get_or-map (λ d. (planned.wire_at wires d).signal) takes has.0 0 (value_at outs k) low) ∙ has.2 in
-      let among : c < length plan.channels = omega (arith, at.known, run.given.planned.channel_total) in
+  tray-carries : (k c : ℕ) → IsTrayWire k c → IsTrayChannel k c
+  tray-carries k c wire =
+      let among : c < length plan.channels = omega (arith, wire.known, run.given.planned.channel_total) in
       let any : Channel = some-item plan.channels c among in
       let channel = run.given.planned.channel c any among in
-      let same : net.wires ≡ wires_of_plan plan = ap (λ (f : Frame). f.wires) is.frame in (
-        c,
-        record {
-          known = omega (arith, among, ap length same, length-from plan 0 plan.channels);
-          taken = ap (λ l. (wire_at l c).consumer) same ∙ ap (λ v. v.consumer) (wire-from plan 0 plan.channels c any among) ∙ channel.consumer ∙ at.consumer;
-          list = ap (λ (f : Flow). list_at f.lists c) run.flow_is ∙ get_or-map (λ (ch : Channel). column run.rows ch.signal) plan.channels c any [] among
-              ∙ ap (column run.rows) (channel.signal ∙ signal);
-        },
-      )
+      let same : net.wires ≡ wires_of_plan plan = ap (λ (f : Frame). f.wires) is.frame in
+      record {
+        known = omega (arith, among, ap length same, length-from plan 0 plan.channels);
+        taken = ap (λ l. (wire_at l c).consumer) same ∙ ap (λ v. v.consumer) (wire-from plan 0 plan.channels c any among) ∙ channel.consumer ∙ wire.consumer;
+        list = ap (λ (f : Flow). list_at f.lists c) run.flow_is ∙ get_or-map (λ (ch : Channel). column run.rows ch.signal) plan.channels c any [] among
+            ∙ ap (column run.rows) (channel.signal ∙ wire.signal);
+      }
+
+  tray-channel : (k : ℕ) → k < length outs → (c : ℕ) × IsTrayChannel k c
+  tray-channel k lt = let found = tray-wire k lt in (found.0, tray-carries k found.0 found.1)
 
   -- what the tray of an output tells
   tells : (k upto t : ℕ) → k < length outs → AllStandAt upto net → t < upto → upto ≤ t + tray_rows → told_value (machine_at net.machines (tray k)) t ≡ value_at (row_at run.rows t) (value_at outs k)

@@ -1,4 +1,4 @@
-use Rattle.std.proofs.Common.{◌≡◌, ◌+◌, ◌<◌, ℕ, Bool, List, length, get_or, sym, ◌∙◌, ap, ap₂, subst, arith}
+use Rattle.std.proofs.Common.{◌+◌, ◌<◌, ℕ, Bool, List, length, get_or, sym, ◌∙◌, ap, ap₂, subst, arith}
 use Rattle.std.specs.Prelude.{All, filter}
 use Rattle.std.proofs.lemmas.List.{length_push}
 use Rattle.gg_flat.specs.Circuit.{FlatCircuit}
@@ -45,15 +45,16 @@ loop-number-preserved c =
     let n = c.loop-number.number in
     let share = c.in_ok-share.share in
     let hub = plan_hub c.args.design.now.circuit c.args.design.now.tree c.args.request.now in
-    let shares = c.loop-number.shares.items in
-    (ap length c.in_ok-push.ensures.items ∙ length_push shares share ∙ ap (λ k. k + 1) c.loop-number.invariant.0,
-    each-push (λ m (s : Share). IsPlanShare design c.args.listed.now hub m s.ins s.outs s.globals s.memories) shares c.push.new.self.items share n c.loop-number.invariant.0 c.loop-number.invariant.1
-    (plan-share-of design c.args.request.now c.args.listed.now c.requires.listed (record { formed = c.piece.ensures.formed; ordered = c.order.ensures.ordered }) c.requires.keeps (faultless-apart design c.args.request.now c.requires.faultless c.requires.keeps.fitting) c.requires.sound
-    c.args.routed.now.gone c.in_ok-sides.sides.ins.items c.in_ok-sides.sides.outs.items c.deref.result.now c.args.split.now.shares c.index-before-0.result c.index-before-number.result share n (length c.as_slice-before.result.now) c.requires.gone c.requires.shares
-    (subst (λ (l : List Wire). AreLists (channels_to l) (length c.as_slice-before.result.now) c.in_ok-sides.sides.ins.items) (c.as_slice-wires.ensures ∙ c.requires.wires) c.in_ok-sides.ensures.ins)
-    (subst (λ (l : List Wire). AreLists (channels_from l) (length c.as_slice-before.result.now) c.in_ok-sides.sides.outs.items) (c.as_slice-wires.ensures ∙ c.requires.wires) c.in_ok-sides.ensures.outs)
-    c.loop-number-test.true (ap length c.as_slice-before.ensures ∙ c.requires.shares.many)
-    (c.deref.ensures.value ∙ c.in_ok-hub.ensures ∙ ap₂ (λ (l : List Wire) (g : List Bool). filter (stays_by l g) c.as_slice-2.result.now) (c.as_slice-wires.ensures ∙ c.requires.wires) c.as_slice.ensures ∙ ap (filter (stays_by (routes hub) c.args.routed.now.gone)) c.as_slice-2.ensures)
-    (c.index-before-0.is ∙ ap (λ (l : List Share). get_or l 0 c.index-before-0.result) c.as_slice-before.ensures)
-    (c.index-before-number.is ∙ ap (λ (l : List Share). get_or l n c.index-before-number.result) c.as_slice-before.ensures) c.in_ok-share.ensures)
-    c.in_ok-push.ensures.items)
+    let shares = c.loop-number.shares.items in (
+      ap length c.in_ok-push.ensures.items ∙ length_push shares share ∙ ap (λ k. k + 1) c.loop-number.invariant.0,
+      each-push (λ m (s : Share). IsPlanShare design c.args.listed.now hub m s.ins s.outs s.globals s.memories) shares c.push.new.self.items share n c.loop-number.invariant.0 c.loop-number.invariant.1
+          (plan-share-of design c.args.request.now c.args.listed.now c.requires.listed (record { formed = c.piece.ensures.formed; ordered = c.order.ensures.ordered }) c.requires.keeps (faultless-apart design c.args.request.now c.requires.faultless c.requires.keeps.fitting) c.requires.sound
+          c.args.routed.now.gone c.in_ok-sides.sides.ins.items c.in_ok-sides.sides.outs.items c.deref.result.now c.args.split.now.shares c.index-before-0.result c.index-before-number.result share n (length c.as_slice-before.result.now) c.requires.gone c.requires.shares
+          (subst (λ (l : List Wire). AreLists (channels_to l) (length c.as_slice-before.result.now) c.in_ok-sides.sides.ins.items) (c.as_slice-wires.ensures ∙ c.requires.wires) c.in_ok-sides.ensures.ins)
+          (subst (λ (l : List Wire). AreLists (channels_from l) (length c.as_slice-before.result.now) c.in_ok-sides.sides.outs.items) (c.as_slice-wires.ensures ∙ c.requires.wires) c.in_ok-sides.ensures.outs)
+          c.loop-number-test.true (ap length c.as_slice-before.ensures ∙ c.requires.shares.many)
+          (c.deref.ensures.value ∙ c.in_ok-hub.ensures ∙ ap₂ (λ (l : List Wire) (g : List Bool). filter (stays_by l g) c.as_slice-2.result.now) (c.as_slice-wires.ensures ∙ c.requires.wires) c.as_slice.ensures ∙ ap (filter (stays_by (routes hub) c.args.routed.now.gone)) c.as_slice-2.ensures)
+          (c.index-before-0.is ∙ ap (λ (l : List Share). get_or l 0 c.index-before-0.result) c.as_slice-before.ensures)
+          (c.index-before-number.is ∙ ap (λ (l : List Share). get_or l n c.index-before-number.result) c.as_slice-before.ensures) c.in_ok-share.ensures)
+          c.in_ok-push.ensures.items,
+    )
