@@ -33,7 +33,7 @@ use Rattle.gg_pipe.proofs.LinkLemmas.{link-column}
 use Rattle.gg_pipe.proofs.MachineLemmas.{IsRoutedPart, machine-run, outs-columns}
 
 -- the column of an in-signal is what it was given
-input-column : (circuit : FlatCircuit) (s p : ℕ) → p < length circuit.ins → s < length circuit.signals → driver_at circuit s ≡ Input p → (ratios : List Ratio) (columns : List (List ℕ)) (n : ℕ) (rows : List (List ℕ)) → IsColumns circuit n columns → IsRunFrom circuit (clocked_start circuit ratios) columns n rows → column rows s ≡ get_or columns p []
+pub input-column : (circuit : FlatCircuit) (s p : ℕ) → p < length circuit.ins → s < length circuit.signals → driver_at circuit s ≡ Input p → (ratios : List Ratio) (columns : List (List ℕ)) (n : ℕ) (rows : List (List ℕ)) → IsColumns circuit n columns → IsRunFrom circuit (clocked_start circuit ratios) columns n rows → column rows s ≡ get_or columns p []
 input-column circuit s p known low driver ratios columns n rows given run =
     let high : length (get_or columns p []) ≡ n = given.height p [] (omega (arith, known, given.count)) in
     let count : length (column rows s) ≡ n = length-map rows (λ (row : List ℕ). value_at row s) ∙ run.count in

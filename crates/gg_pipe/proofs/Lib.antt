@@ -13,4 +13,5 @@ pub mod FormedLemmas
 pub mod OrderedLemmas
 pub mod WholeReference
 pub mod NothingLemmas
+pub mod PlanLemmas
 pub mod SolveLemmas

@@ -21,13 +21,14 @@ use Rattle.gg_cut.proofs.PathLemmas.{IsPlace, place-tells}
 use Rattle.gg_cut.specs.Direct.{Hub, is_own, routes, origin_within}
 use Rattle.gg_cut.specs.Direct.{IsSame}
 use Rattle.gg_pipe.specs.Reference.{IsReference, driver_by, op_by}
-use Rattle.gg_pipe.specs.Links.{pipes_of, taken_as, seen_by, maker_of, views_of, stream}
+use Rattle.gg_cut.specs.Solves.{stream}
+use Rattle.gg_pipe.specs.Links.{pipes_of, taken_as, seen_by, maker_of, views_of}
 use Rattle.gg_cut.proofs.OriginLemmas.{finds-any, clash, IsCopied, copied-is, own-free}
 use Rattle.gg_routes.proofs.RouteLemmas.{IsBase}
 use Rattle.gg_cut.proofs.DirectLemmas.{IsFromBase}
 use Rattle.gg_cut.proofs.SameLemmas.{copy-wide, IsKeptIn, AreKeptIn, routes-same}
 use Rattle.gg_pipe.proofs.PipeLemmas.{IsPipe, pipe-column}
-use Rattle.gg_pipe.proofs.SeenLemmas.{maker-inner, maker-wire, unpiped, piped-as, seen-origin, pipes-known}
+use Rattle.gg_pipe.proofs.SeenLemmas.{maker-inner, maker-wire, unpiped, piped-as, takes-seen, seen-origin, pipes-known}
 
 module _ (hub : Hub) (base : IsBase hub) (all : FlatCircuit) (holder keeper : ℕ → ℕ) (reference : IsReference hub.circuit all (views_of hub holder keeper) (pipes_of hub)) (formed : IsWellFormed hub.circuit) where
   -- a copy of the hub that has an origin is a copy in the reference circuit
@@ -90,7 +91,7 @@ module _ (hub : Hub) (base : IsBase hub) (all : FlatCircuit) (holder keeper : �
     high s = length-map rows (λ (row : List ℕ). value_at row s) ∙ run.count
 
     -- the signal of a channel has the column of what is given
-    given-column : (r : Wire) → Contains (routes hub) r → column rows r.signal ≡ column rows r.given
+    pub given-column : (r : Wire) → Contains (routes hub) r → column rows r.signal ≡ column rows r.given
     given-column r h =
         same_number_lists (column rows r.signal) (column rows r.given) (high r.signal ∙ sym (high r.given)) (λ t inside.
         let lt : t < n = omega (arith, inside, high r.signal) in
@@ -127,3 +128,7 @@ module _ (hub : Hub) (base : IsBase hub) (all : FlatCircuit) (holder keeper : �
         by : (b : Bool) → hub.piped r.signal ≡ b → column rows (taken_as hub r.signal) ≡ take n (stream (hub.piped r.signal) (column rows r.given))
         by true e = place (first_place (λ p. p == r.signal) (pipes_of hub)) refl e ∙ ap (λ b. take n (stream b (column rows r.given))) (sym e)
         by false e = plain e ∙ ap (λ b. take n (stream b (column rows r.given))) (sym e)
+
+    -- so in the columns that it sees
+    pub seen-column : (r : Wire) → Contains (routes hub) r → column rows (seen_by hub r.consumer r.signal) ≡ take n (stream (hub.piped r.signal) (column rows r.given))
+    seen-column r h = ap (column rows) (takes-seen hub base r h) ∙ link-column r h

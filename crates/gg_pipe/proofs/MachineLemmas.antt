@@ -1,8 +1,8 @@
 -- In a run of the reference circuit, a machine gives what its piece gives on what the machine takes.
-use Rattle.std.proofs.Common.{◌≡◌, ◌≢◌, ℕ, suc, Bool, ◌<◌, List, [], ◌∷◌, length, map, take, sym, ◌∙◌, ap, ap₂, subst, inl, inr, ◌⊎◌, refl, eq-eqb, arith}
-use Rattle.std.specs.Prelude.{◌↔◌, ◌&&◌, ◌==◌, Contains}
+use Rattle.std.proofs.Common.{◌≡◌, ◌≢◌, ℕ, suc, Bool, ◌<◌, List, [], ◌∷◌, length, map, take, sym, ◌∙◌, ap, ap₂, subst, inl, inr, ◌⊎◌, refl, arith}
+use Rattle.std.specs.Prelude.{◌↔◌, ◌==◌, Contains}
 use Rattle.std.specs.List.{range_with_len}
-use Rattle.std.proofs.lemmas.Bool.{and_from, eqb-true}
+use Rattle.std.proofs.lemmas.Bool.{eqb-true}
 use Rattle.std.proofs.lemmas.List.{get_or-map, get_or_default, length-map}
 use Rattle.std.proofs.lemmas.List.Elements.{Contains-get_or}
 use Rattle.std.proofs.lemmas.Simd.{map-map}
@@ -29,12 +29,11 @@ use Rattle.gg_cut.specs.Direct.{Hub, hub_of, routes}
 use Rattle.gg_pipe.specs.Reference.{IsReference, with_paths}
 use Rattle.gg_cut.specs.Solves.{stream}
 use Rattle.gg_pipe.specs.Links.{pipes_of, seen_by, views_of, AreHolders}
-use Rattle.gg_cut.proofs.OriginLemmas.{finds-any}
-use Rattle.gg_routes.proofs.RouteLemmas.{IsBase, no-echo, chosen-out}
+use Rattle.gg_routes.proofs.RouteLemmas.{IsBase, chosen-out}
 use Rattle.gg_routes.proofs.ChoiceLemmas.{any-wire}
 use Rattle.gg_pipe.proofs.ReferenceLemmas.{IsOwn, part_of_reference, run-paths, clocked-part}
-use Rattle.gg_pipe.proofs.SeenLemmas.{maker-is, seen-takes, all-seen, seen-own}
-use Rattle.gg_pipe.proofs.LinkLemmas.{link-column}
+use Rattle.gg_pipe.proofs.SeenLemmas.{maker-is, all-seen, gives-seen, seen-own}
+use Rattle.gg_pipe.proofs.LinkLemmas.{seen-column}
 
 -- two functions that agree on the items of a list make the same list of it
 pub map-agree : {B : Type 0} (f g : ℕ → B) (xs : List ℕ) → ((i : ℕ) → i < length xs → f (value_at xs i) ≡ g (value_at xs i)) → map f xs ≡ map g xs
@@ -83,15 +82,12 @@ module _ (hub : Hub) (base : IsBase hub) (all : FlatCircuit) (holder keeper : �
         kept_by = λ k lt. holders.kept (value_at part.memories k) (Contains-get_or part.memories k 0 lt);
       }
 
+  -- so its piece is a part of the reference circuit
+  pub part-is : IsPart all (with_paths all part.piece (map (seen_by hub m) part.globals)) (map (seen_by hub m) part.globals) part.held part.memories
+  part-is = part_of_reference hub.circuit all (views_of hub holder keeper) (pipes_of hub) reference m (all-seen hub base m) part.piece part.globals part.held part.memories cut.is own-of
+
   mine-at : (s : ℕ) → s < length part.globals → value_at (map (seen_by hub m) part.globals) s ≡ seen_by hub m (value_at part.globals s)
   mine-at s lt = get_or-map (seen_by hub m) part.globals s 0 0 lt
-
-  -- what a machine gives it doesn't take
-  gives-free : (s : ℕ) → Contains (givens_of (routes hub) (channels_from (routes hub) m)) s → ¬ Takes (routes hub) m s
-  gives-free s h k =
-      let r = chosen-out (routes hub) any-wire (λ (q : Wire). q.producer == m) (λ (q : Wire). q.given) s h in
-      let t = chosen-out (routes hub) any-wire (λ (q : Wire). q.consumer == m) (λ (q : Wire). q.signal) s k in
-      no-echo hub base r.item t.item r.among t.among (eqb-true r.item.producer m r.passes ∙ sym (eqb-true t.item.consumer m t.passes)) (r.is ∙ sym t.is)
 
   module _ (ratios : List Ratio) (columns : List (List ℕ)) (n : ℕ) (rows : List (List ℕ)) (run : IsRunFrom all (clocked_start all ratios) columns n rows) where
     ins-columns : map (λ s. column rows (value_at (map (seen_by hub m) part.globals) s)) part.piece.ins ≡ map (λ c. take n (stream (hub.piped (wire_at (routes hub) c).signal) (column rows (wire_at (routes hub) c).given))) (channels_to (routes hub) m)
@@ -105,15 +101,17 @@ module _ (hub : Hub) (base : IsBase hub) (all : FlatCircuit) (holder keeper : �
         let kept = filter-cases (λ c. (wire_at (routes hub) c).consumer == m) (range_with_len 0 (length (routes hub))) c (Contains-get_or (channels_to (routes hub) m) i 0 lt) in
         let r = wire_at (routes hub) c in
         let among = Contains-get_or (routes hub) c any-wire (range-below (length (routes hub)) c kept.among) in
-        ap (column rows) (seen-takes hub base m r.signal (finds-any (λ (q : Wire). (q.consumer == m) && (q.signal == r.signal)) (routes hub) r among (and_from (r.consumer == m) (r.signal == r.signal) kept.passes (eq-eqb r.signal r.signal refl))))
-        ∙ link-column hub base all holder keeper reference formed ratios columns n rows run r among)
+        ap (λ k. column rows (seen_by hub k r.signal)) (sym (eqb-true r.consumer m kept.passes)) ∙ seen-column hub base all holder keeper reference formed ratios columns n rows run r among)
 
+    -- the part's rows are a run of the piece
+    pub own-run : IsRunFrom part.piece (clocked_start part.piece ratios) (part_columns (map (seen_by hub m) part.globals) part.piece rows) n (part_rows (map (seen_by hub m) part.globals) rows)
+    own-run =
+        run-paths part.piece (map (path_at all.paths) (map (seen_by hub m) part.globals)) (clocked_start part.piece ratios) (part_columns (map (seen_by hub m) part.globals) part.piece rows) n (part_rows (map (seen_by hub m) part.globals) rows)
+        (clocked-part all (with_paths all part.piece (map (seen_by hub m) part.globals)) (map (seen_by hub m) part.globals) part.held part.memories part-is ratios columns n rows run)
+
+    -- on what the machine takes
     pub machine-run : IsRunFrom part.piece (clocked_start part.piece ratios) (map (λ c. take n (stream (hub.piped (wire_at (routes hub) c).signal) (column rows (wire_at (routes hub) c).given))) (channels_to (routes hub) m)) n (part_rows (map (seen_by hub m) part.globals) rows)
-    machine-run =
-        subst (λ (given : List (List ℕ)). IsRunFrom part.piece (clocked_start part.piece ratios) given n (part_rows (map (seen_by hub m) part.globals) rows)) ins-columns
-        (run-paths part.piece (map (path_at all.paths) (map (seen_by hub m) part.globals)) (clocked_start part.piece ratios) (part_columns (map (seen_by hub m) part.globals) part.piece rows) n (part_rows (map (seen_by hub m) part.globals) rows)
-        (clocked-part all (with_paths all part.piece (map (seen_by hub m) part.globals)) (map (seen_by hub m) part.globals) part.held part.memories
-        (part_of_reference hub.circuit all (views_of hub holder keeper) (pipes_of hub) reference m (all-seen hub base m) part.piece part.globals part.held part.memories cut.is own-of) ratios columns n rows run))
+    machine-run = subst (λ (given : List (List ℕ)). IsRunFrom part.piece (clocked_start part.piece ratios) given n (part_rows (map (seen_by hub m) part.globals) rows)) ins-columns own-run
 
     column-part : (s : ℕ) → s < length part.globals → column (part_rows (map (seen_by hub m) part.globals) rows) s ≡ column rows (seen_by hub m (value_at part.globals s))
     column-part s lt =
@@ -128,4 +126,5 @@ module _ (hub : Hub) (base : IsBase hub) (all : FlatCircuit) (holder keeper : �
         ∙ ap (map (λ t. column rows (seen_by hub m t))) cut.outs
         ∙ map-agree (λ t. column rows (seen_by hub m t)) (column rows) (givens_of (routes hub) (channels_from (routes hub) m)) (λ i lt.
         let s = value_at (givens_of (routes hub) (channels_from (routes hub) m)) i in
-        ap (column rows) (seen-own hub base m s (gives-free s (Contains-get_or (givens_of (routes hub) (channels_from (routes hub) m)) i 0 lt))))
+        let r = chosen-out (routes hub) any-wire (λ (q : Wire). q.producer == m) (λ (q : Wire). q.given) s (Contains-get_or (givens_of (routes hub) (channels_from (routes hub) m)) i 0 lt) in
+        ap (column rows) (ap₂ (seen_by hub) (sym (eqb-true r.item.producer m r.passes)) (sym r.is) ∙ gives-seen hub base r.item r.among ∙ r.is))

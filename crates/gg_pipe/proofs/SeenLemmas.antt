@@ -2,7 +2,7 @@
 use Rattle.std.proofs.Common.{◌≡◌, ℕ, suc, ◌<◌, List, [], ◌∷◌, Bool, true, false, Option, Some, None, length, get_or, sym, ◌∙◌, ap, subst, inl, inr, ◌⊎◌, refl, eq-eqb, arith}
 use Rattle.std.specs.Prelude.{◌&&◌, ◌==◌, if◌then◌else◌, cond, Contains, filter, find}
 use Rattle.std.specs.List.{list_any}
-use Rattle.std.proofs.lemmas.Bool.{cases_Bool, and_parts, eqb-true, ne_eqb}
+use Rattle.std.proofs.lemmas.Bool.{cases_Bool, and_parts, and_from, eqb-true, ne_eqb}
 use Rattle.std.proofs.lemmas.List.Elements.{All-contains, Contains-get_or}
 use Rattle.gg_flat.specs.Line.{value_at}
 use Rattle.gg_flat.proofs.ListLemmas.{filter-cases}
@@ -16,7 +16,7 @@ use Rattle.gg_cut.specs.Direct.{Hub, is_own, routes, origin_within}
 use Rattle.gg_pipe.specs.Reference.{IsSeen, IsPiped}
 use Rattle.gg_pipe.specs.Links.{pipes_of, pipe_or, taken_as, seen_by, maker_or, maker_of}
 use Rattle.gg_cut.proofs.OriginLemmas.{any-finds, finds-any, clash, Chain, Here, Copy, chain}
-use Rattle.gg_routes.proofs.RouteLemmas.{IsBase, same-wire, own-no-wire, route-signal, out-routes, chosen-in}
+use Rattle.gg_routes.proofs.RouteLemmas.{IsBase, same-wire, own-no-wire, route-signal, out-routes, chosen-in, chosen-out, no-echo}
 use Rattle.gg_cut.proofs.DirectLemmas.{find-some, IsFromBase}
 use Rattle.gg_routes.proofs.ChoiceLemmas.{takes-out, From, Same, Origin, gives-out, inner-none, any-wire}
 
@@ -105,6 +105,17 @@ module _ (hub : Hub) (base : IsBase hub) where
       by : (list_any (λ (r : Wire). (r.consumer == m) && (r.signal == t)) (routes hub) ≡ true) ⊎ (list_any (λ (r : Wire). (r.consumer == m) && (r.signal == t)) (routes hub) ≡ false) → seen_by hub m t ≡ t
       by (inl e) = absurd (free (takes-any m t e))
       by (inr e) = seen-plain m t e
+
+  -- the consumer of a channel sees its signal as the channel's
+  pub takes-seen : (r : Wire) → Contains (routes hub) r → seen_by hub r.consumer r.signal ≡ taken_as hub r.signal
+  takes-seen r h = seen-takes r.consumer r.signal (finds-any (λ (q : Wire). (q.consumer == r.consumer) && (q.signal == r.signal)) (routes hub) r h (and_from (r.consumer == r.consumer) (r.signal == r.signal) (eq-eqb r.consumer r.consumer refl) (eq-eqb r.signal r.signal refl)))
+
+  -- its producer sees what it gives as it is
+  pub gives-seen : (r : Wire) → Contains (routes hub) r → seen_by hub r.producer r.given ≡ r.given
+  gives-seen r h =
+      seen-own r.producer r.given (λ k.
+      let t = chosen-out (routes hub) any-wire (λ (q : Wire). q.consumer == r.producer) (λ (q : Wire). q.signal) r.given k in
+      no-echo hub base r t.item h t.among (sym (eqb-true t.item.consumer r.producer t.passes)) (sym t.is))
 
   -- the hub sees a signal that has an origin as it is
   pub seen-origin : (n t x : ℕ) → origin_within hub n t ≡ Some x → seen_by hub 0 t ≡ t
