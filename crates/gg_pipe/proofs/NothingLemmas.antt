@@ -1,6 +1,6 @@
 -- Where nothing is piped, the reference circuit is the circuit.
 use Rattle.std.proofs.Common.{◌≡◌, ℕ, suc, List, [], ◌∷◌, ◌++◌, Bool, true, false, length, map, refl, ◌∙◌, ap, ap₂}
-use Rattle.std.specs.Prelude.{◌&&◌, ◌==◌, if◌then◌else◌, Option, Some, None}
+use Rattle.std.specs.Prelude.{◌&&◌, ◌==◌, if◌then◌else◌, Option, Some, None, cond, filter}
 use Rattle.std.specs.List.{list_any}
 use Rattle.std.proofs.lemmas.List.{append-nil, map-id}
 use Rattle.gg_flat.specs.declared.line.Node.{Node}
@@ -16,12 +16,15 @@ use Rattle.gg_flat.specs.declared.piece.Driver.{Driver}
 use Rattle.gg_flat.specs.declared.piece.Driver.TheVariants.{Input, Held, MemoryWord, ReadRegister, Computed}
 use Rattle.gg_flat.specs.Circuit.{FlatCircuit}
 use Rattle.gg_flat.proofs.ListLemmas.{map-same}
-use Rattle.gg_cut.specs.Listed.{first_place}
+use Rattle.gg_flat.specs.Tree.{path_at}
+use Rattle.gg_order.specs.Design.{Ordered}
+use Rattle.gg_partfile.specs.declared.request.Request.{Request}
+use Rattle.gg_cut.specs.Listed.{first_place, is_among, listed_of}
 use Rattle.gg_cut.specs.declared.wires.Wire.{Wire}
-use Rattle.gg_cut.specs.Direct.{Hub, routes}
+use Rattle.gg_cut.specs.Direct.{Hub, routes, is_piped, plan_hub}
 use Rattle.gg_pipe.specs.Reference.{Views, op_by, line_by, next_by, reset_by, register_by, reader_by, writer_by, memory_by, driver_by}
 use Rattle.gg_pipe.specs.Links.{pipes_of, pipe_or, taken_as, seen_by, views_of}
-use Rattle.gg_pipe.specs.Made.{by_number, seen_signal, reference_of, reference}
+use Rattle.gg_pipe.specs.Made.{by_number, seen_signal, reference_of, reference, holder_of, keeper_of, plan_reference}
 
 -- a function that changes nothing leaves a list as it is
 all-same : {A : Type 0} (f : A → A) → ((x : A) → f x ≡ x) → (xs : List A) → map f xs ≡ xs
@@ -111,3 +114,15 @@ module _ (hub : Hub) (holder keeper : ℕ → ℕ) (none : pipes_of hub ≡ []) 
   nothing-piped =
       ap (λ pipes. reference_of hub.circuit (views_of hub holder keeper) pipes) none
       ∙ same-circuit hub.circuit (views_of hub holder keeper) seen-same taken-same
+
+-- ---- a request that asks for no pipe
+
+filter-none : {A : Type 0} (test : A → Bool) → ((x : A) → test x ≡ false) → (xs : List A) → filter test xs ≡ []
+filter-none test none [] = refl
+filter-none test none (x ∷ xs) = ap (λ b. cond b (x ∷ filter test xs) (filter test xs)) (none x) ∙ filter-none test none xs
+
+pub plan-plain : (design : Ordered) (request : Request) → request.pipe ≡ [] → plan_reference design request ≡ design.circuit
+plan-plain design request none =
+    let hub = plan_hub design.circuit design.tree request in
+    nothing-piped hub (holder_of hub) (keeper_of design.tree (listed_of design.tree request))
+    (ap (map (λ (r : Wire). r.signal)) (filter-none (λ (r : Wire). is_piped design.circuit request r.signal) (λ r. ap (λ names. is_among names (path_at design.circuit.paths r.signal)) none) (routes hub)))

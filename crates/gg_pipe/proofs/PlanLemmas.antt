@@ -30,13 +30,14 @@ use Rattle.gg_routes.proofs.ChoiceLemmas.{any-wire}
 use Rattle.gg_routes.proofs.RouteLemmas.{IsBase}
 use Rattle.gg_routes.proofs.RoutedLemmas.{routed-base}
 use Rattle.gg_pipe.specs.Reference.{IsReference, IsSeen, with_paths, driver_by}
-use Rattle.gg_pipe.specs.Links.{pipes_of, maker_of, AreHolders}
+use Rattle.gg_pipe.specs.Links.{pipes_of, taken_as, maker_of, AreHolders}
 use Rattle.gg_pipe.specs.Made.{holder_of, keeper_of, plan_reference, plan_seen, views_in, IsFresh, AreHeldOnce}
+use Rattle.gg_pipe.specs.Follows.{Follows}
 use Rattle.gg_pipe.proofs.HolderLemmas.{holder-is, keeper-is}
 use Rattle.gg_pipe.proofs.LinkLemmas.{given-column, seen-column}
 use Rattle.gg_pipe.proofs.MachineLemmas.{map-agree, IsRoutedPart, cut-part, part-is, own-run}
-use Rattle.gg_pipe.proofs.FollowLemmas.{input-column}
-use Rattle.gg_pipe.proofs.SeenLemmas.{all-seen, seen-own, gives-seen}
+use Rattle.gg_pipe.proofs.FollowLemmas.{input-column, follows}
+use Rattle.gg_pipe.proofs.SeenLemmas.{all-seen, seen-own, takes-seen, gives-seen}
 use Rattle.gg_pipe.proofs.WholeReference.{made, ordered, whole-formed}
 
 -- lists of in-signals that have the same shapes take the same columns
@@ -91,6 +92,10 @@ module _ (design : Ordered) (request : Request) (is : IsDesign design) (keeps : 
   pub plan-gives : (c : ℕ) → c < length (plan_wires design.circuit design.tree request) → plan_seen design request (wire_at (plan_wires design.circuit design.tree request) c).producer (wire_at (plan_wires design.circuit design.tree request) c).given ≡ (wire_at (plan_wires design.circuit design.tree request) c).given
   plan-gives c lt = gives-seen hub base (wire_at (plan_wires design.circuit design.tree request) c) (among c lt)
 
+  -- what its consumer sees; a tray keeps it
+  pub plan-kept : (c : ℕ) → c < length (plan_wires design.circuit design.tree request) → plan_seen design request (wire_at (plan_wires design.circuit design.tree request) c).consumer (wire_at (plan_wires design.circuit design.tree request) c).signal ≡ taken_as (plan_hub design.circuit design.tree request) (wire_at (plan_wires design.circuit design.tree request) c).signal
+  plan-kept c lt = takes-seen hub base (wire_at (plan_wires design.circuit design.tree request) c) (among c lt)
+
   -- ---- pieces
 
   holders : (m : ℕ) (part : Part) → IsCutPart design (listed_of design.tree request) (plan_hub design.circuit design.tree request) m part → AreHolders (plan_hub design.circuit design.tree request) (holder_of (plan_hub design.circuit design.tree request)) (keeper_of design.tree (listed_of design.tree request)) m part.memories
@@ -107,6 +112,10 @@ module _ (design : Ordered) (request : Request) (is : IsDesign design) (keeps : 
   module _ (columns : List (List ℕ)) (n : ℕ) (rows : List (List ℕ)) (run : IsRun (plan_reference design request) columns n rows) where
     pub plan-run : (m : ℕ) (part : Part) → IsCutPart design (listed_of design.tree request) (plan_hub design.circuit design.tree request) m part → IsRun part.piece (part_columns (map (plan_seen design request m) part.globals) part.piece rows) n (part_rows (map (plan_seen design request m) part.globals) rows)
     plan-run m part cut = own-run hub base (plan_reference design request) (holder_of hub) (keeper_of design.tree listed) plan-made is.formed m part (routed m part cut) (holders m part cut) [] columns n rows run
+
+    -- so the machine follows the run
+    pub plan-follows : (m : ℕ) (part : Part) → IsCutPart design (listed_of design.tree request) (plan_hub design.circuit design.tree request) m part → Follows (plan_hub design.circuit design.tree request) m [] n part rows
+    plan-follows m part cut = follows hub base is.formed (holder_of hub) (keeper_of design.tree listed) m part (routed m part cut) (holders m part cut) [] columns n rows run
 
     -- the signal of a channel has the column of what is given
     pub plan-given : (c : ℕ) → c < length (plan_wires design.circuit design.tree request) → column rows (wire_at (plan_wires design.circuit design.tree request) c).signal ≡ column rows (wire_at (plan_wires design.circuit design.tree request) c).given

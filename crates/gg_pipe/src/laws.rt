@@ -1,23 +1,27 @@
 //! Laws: facts about the definitions. Each is the contract of a function with an empty body.
-ghost use Rattle.std.specs.Prelude.{◌≡◌, ◌++◌, Contains, ℕ, ◌+◌, ◌<◌, List, [], Bool, length, slice_index_or};
+ghost use Rattle.std.specs.Prelude.{◌≡◌, ◌++◌, Contains, ℕ, ◌+◌, ◌<◌, List, [], Bool, None, length, map, slice_index_or};
 ghost use Rattle.std.specs.List.{range_with_len};
 ghost use Rattle.gg_flat.specs.Circuit.{FlatCircuit};
 ghost use Rattle.gg_flat.specs.Tree.{InstanceTree};
 ghost use Rattle.gg_flat.specs.WellFormed.{IsWellFormed};
 ghost use Rattle.gg_flat.specs.Order.{IsOrder};
 ghost use Rattle.gg_flat.specs.Clock.{Ratio};
-ghost use Rattle.gg_flat.specs.Run.{IsColumns, IsRunFrom, clocked_start, column};
+ghost use Rattle.gg_flat.specs.Run.{IsColumns, IsRun, IsRunFrom, clocked_start, column};
 ghost use Rattle.gg_moved.specs.KeepsToTree.{KeepsToTree};
 ghost use Rattle.gg_part.specs.declared.part.Part.{Part};
 ghost use Rattle.gg_order.specs.Design.{Ordered, IsDesign};
+ghost use Rattle.gg_partfile.specs.declared.request.Request.{Request};
+ghost use Rattle.gg_cut.specs.declared.plan.Plan.{Plan};
 ghost use Rattle.gg_cut.specs.declared.listed.Listed.{Listed};
 ghost use Rattle.gg_cut.specs.Machines.{first_source};
-ghost use Rattle.gg_cut.specs.Plan.{wire_at, channels_from, IsCutPart};
+ghost use Rattle.gg_cut.specs.Fault.{first_fault};
+ghost use Rattle.gg_cut.specs.Plan.{wire_at, channels_from, IsCutPart, IsPlan};
+ghost use Rattle.gg_cut.specs.Solves.{Solves, columns_of};
 ghost use Rattle.gg_closed.specs.Apart.{AreApart};
-ghost use Rattle.gg_cut.specs.Direct.{hub_of, routes};
+ghost use Rattle.gg_cut.specs.Direct.{hub_of, plan_hub, routes};
 ghost use Rattle.gg_pipe.specs.Reference.{IsReference};
 ghost use Rattle.gg_pipe.specs.Links.{pipes_of, taken_as};
-ghost use Rattle.gg_pipe.specs.Made.{reference_circuit, views_in, IsFresh, AreHeldOnce};
+ghost use Rattle.gg_pipe.specs.Made.{plan_reference, reference_circuit, views_in, IsFresh, AreHeldOnce};
 ghost use Rattle.gg_pipe.specs.Follows.{Follows, given_column, taken_column};
 
 use gg_closed::channels_once;
@@ -46,6 +50,12 @@ pub fn sources_follow()
     channels_once();
 }
 
+/// The columns of a run of the reference circuit solve the plan of a request without a fault, if the run was given the
+/// columns of the top inputs.
+pub fn columns_solve()
+    ensures { (design : Ordered) (request : Request) (default : ℕ) (plan : Plan) (columns : List (List ℕ)) (n : ℕ) (rows : List (List ℕ)) → IsDesign design → KeepsToTree design.circuit design.tree → AreHeldOnce design.circuit → first_fault design request ≡ None → IsPlan design request default plan → IsColumns design.circuit n columns → IsRun (plan_reference design request) columns n rows → Solves plan columns n (columns_of plan rows) }
+{}
+
 /// The reference circuit has the signals, the registers and the memories of the design, with the names by which their
 /// machines see signals, and behind them a register for each piped channel, which takes the channel's value in each tick. It
 /// is well formed if no path of the design begins with `pipe:`. The order of the design, behind the pipes, is an order of it.
@@ -57,7 +67,13 @@ pub fn reference_formed()
     channels_once();
 }
 
-/// Where no channel is piped, the reference circuit is the circuit itself.
+/// Each output's value in the reference circuit is what its tray keeps.
+pub fn outputs_kept()
+    ensures { (design : Ordered) (request : Request) → (plan_reference design request).outs ≡ map (taken_as (plan_hub design.circuit design.tree request)) design.circuit.outs }
+{}
+
+/// Where no channel is piped, the reference circuit is the circuit itself. So it is for a request that asks for no pipe.
 pub fn nothing_piped()
-    ensures { (circuit : FlatCircuit) (tree : InstanceTree) (listed : Listed) (piped : ℕ → Bool) (direct : Bool) → pipes_of (hub_of circuit tree listed piped direct) ≡ [] → reference_circuit circuit tree listed piped direct ≡ circuit }
+    ensures cut { (circuit : FlatCircuit) (tree : InstanceTree) (listed : Listed) (piped : ℕ → Bool) (direct : Bool) → pipes_of (hub_of circuit tree listed piped direct) ≡ [] → reference_circuit circuit tree listed piped direct ≡ circuit }
+    ensures request { (design : Ordered) (request : Request) → request.pipe ≡ [] → plan_reference design request ≡ design.circuit }
 {}
