@@ -162,7 +162,7 @@ module _ (design : Ordered) (request : Request) (default : ℕ) (plan : Plan) (c
       let at = given.planned.machine m nameless lt in
       subst (λ (kind : Kind). DoesCycles rows n (ins_of_machine m) (outs_of_machine m) kind (state_in (states_of plan start) m) (rows_at (rows_of design request plan rows) m)) (sym (kind-is machines m (omega (arith, lt, built.count))))
       (subst (λ (s : State). DoesCycles rows n (ins_of_machine m) (outs_of_machine m) (kind_of (machine_at machines m)) s (rows_at (rows_of design request plan rows) m)) (sym (get_or-map (λ (machine : planned.Machine). body_state machine.body start) plan.machines m nameless no_state lt))
-      (subst (DoesCycles rows n (ins_of_machine m) (outs_of_machine m) (kind_of (machine_at machines m)) (body_state own.body start)) (sym (rows-at seen 0 plan.machines rows m lt))
+      (subst (DoesCycles rows n (ins_of_machine m) (outs_of_machine m) (kind_of (machine_at machines m)) (body_state own.body start)) (sym (rows-at seen 0 plan.machines rows m lt ∙ ap (λ k. body_rows (plan_seen design request k) own.body rows) (let same : 0 + m ≡ m = omega arith in same)))
       (body-does m (length own.outs) own.body (machine_at machines m) (omega (arith, lt, given.planned.machine_total)) at.body (built.each m lt))))
 
   -- ---- channels
