@@ -18,13 +18,13 @@ module _ (circuit : FlatCircuit) (tree : InstanceTree) (listed : Listed) (direct
 
   within-same : (n s : ℕ) → origin_within one n s ≡ origin_within other n s
   within-same zero s = refl
-  within-same (suc n) s = by (is_taken one s) refl
+  within-same (suc n) s = by (is_taken one s) refl (fun_ext (within-same n))
     where
-      by : (taken : Bool) → is_taken one s ≡ taken
+      by : (taken : Bool) → is_taken one s ≡ taken → origin_within one n ≡ origin_within other n
           → (if taken then (if p s then None else Some s) else (if is_own one s then option_and_then (origin_within one n) (copied circuit s) else None))
           ≡ (if taken then (if q s then None else Some s) else (if is_own one s then option_and_then (origin_within other n) (copied circuit s) else None))
-      by true e = ap (λ b. if b then None else Some s) (agree s e)
-      by false e = ap (λ (from : ℕ → Option ℕ). if is_own one s then option_and_then from (copied circuit s) else None) (fun_ext (within-same n))
+      by true e rest = ap (λ b. if b then None else Some s) (agree s e)
+      by false e rest = ap (λ (from : ℕ → Option ℕ). if is_own one s then option_and_then from (copied circuit s) else None) rest
 
   origins : origin one ≡ origin other
   origins = fun_ext (λ s. within-same (length circuit.signals) s)

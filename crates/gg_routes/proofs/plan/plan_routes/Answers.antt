@@ -15,14 +15,14 @@ routes-requires-clause-piped c =
 pub returns-clause-wires : goal.returns-clause-wires
 returns-clause-wires c =
     let is : IsDesign c.args.design.now = record { formed = c.piece.ensures.formed; ordered = c.order.ensures.ordered } in
-    let marked : (s : ℕ) → s < length c.args.design.now.circuit.signals → is_marked c.deref.result.now s ≡ is_piped c.args.design.now.circuit c.args.request.now s = marked-as c.args.design.now.circuit c.piece.result.now c.args.request.now c.as_slice.result c.deref.result.now c.in_ok-piped.piped.items c.piece.ensures.circuit c.as_slice.ensures c.deref.ensures.value c.in_ok-piped.ensures.marks in
+    let marked : (s : ℕ) → s < length c.args.design.now.circuit.signals → is_marked c.deref.result.now s ≡ is_piped c.args.design.now.circuit c.args.request.now s = marked-as c.args.design.now.circuit c.piece.result.now c.args.request.now c.as_slice.result.now c.deref.result.now c.in_ok-piped.piped.items c.piece.ensures.circuit c.as_slice.ensures c.deref.ensures.value c.in_ok-piped.ensures.marks in
     c.in_ok-channels.ensures.wires
     ∙ planned-wires c.args.design.now c.args.request.now c.args.listed.now c.deref.result.now is c.requires.keeps c.requires.apart c.requires.listed marked
 
 pub returns-clause-gone : goal.returns-clause-gone
 returns-clause-gone c = λ s lt.
     let is : IsDesign c.args.design.now = record { formed = c.piece.ensures.formed; ordered = c.order.ensures.ordered } in
-    let marked : (s : ℕ) → s < length c.args.design.now.circuit.signals → is_marked c.deref.result.now s ≡ is_piped c.args.design.now.circuit c.args.request.now s = marked-as c.args.design.now.circuit c.piece.result.now c.args.request.now c.as_slice.result c.deref.result.now c.in_ok-piped.piped.items c.piece.ensures.circuit c.as_slice.ensures c.deref.ensures.value c.in_ok-piped.ensures.marks in
+    let marked : (s : ℕ) → s < length c.args.design.now.circuit.signals → is_marked c.deref.result.now s ≡ is_piped c.args.design.now.circuit c.args.request.now s = marked-as c.args.design.now.circuit c.piece.result.now c.args.request.now c.as_slice.result.now c.deref.result.now c.in_ok-piped.piped.items c.piece.ensures.circuit c.as_slice.ensures c.deref.ensures.value c.in_ok-piped.ensures.marks in
     c.in_ok-channels.ensures.gone s lt
     ∙ planned-gone c.args.design.now c.args.request.now c.args.listed.now c.deref.result.now is c.requires.keeps c.requires.apart c.requires.listed marked s
 
