@@ -31,5 +31,6 @@ mod straight;
 pub use laws::{
     channels_routed, machines_few, nothing_direct, plan_is_routed, shares_routed, units_still,
 };
+pub use piped::piped_of;
 pub use plan::{plan_routes, staying};
 pub use routing::{Channels, routes};

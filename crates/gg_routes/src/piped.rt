@@ -14,11 +14,7 @@ use std::alloc::{AllocError, Global};
 /// # Errors
 ///
 /// Returns `AllocError` if an allocation fails.
-pub(crate) fn piped_of(
-    alloc: Global,
-    piece: &Piece,
-    names: &[Name],
-) -> Result<Vec<bool>, AllocError>
+pub fn piped_of(alloc: Global, piece: &Piece, names: &[Name]) -> Result<Vec<bool>, AllocError>
     ensures count { IfOk result (λ marks. length marks.items ≡ length piece.now.signals) }
     ensures marks { IfOk result (λ marks. (s : ℕ) → s < length piece.now.signals → is_marked marks.items s ≡ is_among names.now (path_at piece.now.paths s)) }
 {
