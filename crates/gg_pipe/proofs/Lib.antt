@@ -1,4 +1,5 @@
 pub mod WorkedReference
+pub mod WorkedPipes
 pub mod RenameLemmas
 pub mod ReferenceLemmas
 pub mod PipeLemmas

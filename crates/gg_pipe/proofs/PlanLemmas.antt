@@ -1,13 +1,11 @@
 -- What the plan of a request without a fault is to its reference circuit: each machine's piece is a part of it, and each channel's two
 -- ends are signals of it.
-use Rattle.std.proofs.Common.{◌≡◌, ◌≢◌, ℕ, ◌<◌, List, [], ◌∷◌, ◌++◌, Bool, None, length, map, take, get_or, refl, sym, ◌∙◌, ap, ap₂, subst, arith}
+use Rattle.std.proofs.Common.{◌≡◌, ℕ, ◌<◌, List, [], ◌++◌, None, length, map, take, get_or, sym, ◌∙◌, ap, subst, arith}
 use Rattle.std.specs.Prelude.{Contains}
 use Rattle.std.specs.List.{range_with_len}
 use Rattle.std.proofs.lemmas.List.Elements.{Contains-get_or}
-use Rattle.gg_flat.specs.Line.{value_at, shape_at}
+use Rattle.gg_flat.specs.Line.{value_at, shape_at, AreTyped}
 use Rattle.gg_flat.specs.Circuit.{FlatCircuit, signal_shapes}
-use Rattle.gg_flat.specs.Settled.{IsInputs}
-use Rattle.gg_flat.specs.Line.{AreTyped}
 use Rattle.gg_flat.specs.Order.{IsOrder}
 use Rattle.gg_flat.specs.WellFormed.{IsWellFormed}
 use Rattle.gg_flat.specs.Run.{IsRun, IsColumns, inputs_at, column}
@@ -18,11 +16,10 @@ use Rattle.gg_part.specs.declared.part.Part.{Part}
 use Rattle.gg_order.specs.Design.{Ordered, IsDesign}
 use Rattle.gg_partfile.specs.declared.request.Request.{Request}
 use Rattle.gg_cut.specs.declared.listed.Listed.{Listed}
-use Rattle.gg_cut.specs.declared.wires.Wire.{Wire}
 use Rattle.gg_cut.specs.Listed.{listed_of}
 use Rattle.gg_cut.specs.Fault.{first_fault}
 use Rattle.gg_cut.specs.Plan.{wire_at, Takes, IsCutPart}
-use Rattle.gg_cut.specs.Direct.{Hub, routes, is_piped, plan_hub, plan_wires}
+use Rattle.gg_cut.specs.Direct.{Hub, is_piped, plan_hub, plan_wires}
 use Rattle.gg_cut.specs.Solves.{stream}
 use Rattle.gg_closed.specs.Apart.{AreApart}
 use Rattle.gg_closed.proofs.FaultlessLemmas.{faultless-apart}

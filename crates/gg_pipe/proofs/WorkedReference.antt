@@ -142,6 +142,10 @@ address-driver = refl
 address-reader : readers_at (stored-all 1) 0 ≡ record { addr = 5; en = 2; word = 3; clock = None } ∷ []
 address-reader = refl
 
+-- the memory sees the pipe, and the hub, which gives the address, sees the address
+address-seen : map (λ m. seen_by (cut stored (0 ∷ 2 ∷ 2 ∷ 2 ∷ 0 ∷ []) (wire 0 3 0 ∷ wire 1 0 2 ∷ wire 2 0 2 ∷ wire 3 2 0 ∷ wire 4 0 4 ∷ []) 1) m 1) (2 ∷ 0 ∷ []) ≡ 5 ∷ 1 ∷ []
+address-seen = refl
+
 -- the data piped: they are the memory's as before, and the hub reads the pipe
 data-reader : readers_at (stored-all 3) 0 ≡ record { addr = 1; en = 2; word = 3; clock = None } ∷ []
 data-reader = refl

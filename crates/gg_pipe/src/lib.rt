@@ -3,4 +3,7 @@
 
 mod laws;
 
-pub use laws::{channels_follow, columns_solve, nothing_piped, outputs_kept, parts_follow, reference_formed, sources_follow};
+pub use laws::{
+    channels_follow, columns_solve, nothing_piped, outputs_kept, parts_follow, reference_formed,
+    sources_follow,
+};
