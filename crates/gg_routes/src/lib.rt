@@ -6,7 +6,7 @@
 //!
 //! - [`routes`] gives the channels that are left, in their order, and tells which signals leave the plan, just as the
 //!   definitions say (`routes`, `is_gone`); [`plan_routes`] gives those of a request;
-//! - [`staying`] gives what stays of the hub's signals;
+//! - [`piped_of`] marks the signals with some names, and [`staying`] gives what stays of the hub's signals;
 //! - these channels are good for a network as the channels before are (`channels_routed`, `AreRoutes` in
 //!   `specs/Routes`): no two carry one signal; both signals of a channel have one value in every settled cycle; a machine
 //!   doesn't take what it gives; the hub, a unit and a listed memory make parts of the circuit; a source gives its input on
