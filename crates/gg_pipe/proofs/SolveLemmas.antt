@@ -2,11 +2,11 @@
 use Rattle.std.proofs.Common.{◌≡◌, ℕ, zero, suc, ◌+◌, ◌-◌, ◌<◌, ◌≤◌, List, [], ◌∷◌, Bool, None, length, map, take, get_or, refl, sym, ◌∙◌, ap, ap₂, subst, arith}
 use Rattle.std.specs.Prelude.{◌==◌, Contains, filter}
 use Rattle.std.specs.List.{range_with_len}
-use Rattle.std.proofs.lemmas.List.{get_or-map, length-map}
+use Rattle.std.proofs.lemmas.List.{get_or-map, get_or-take, length-map}
 use Rattle.std.proofs.lemmas.List.Elements.{All-map, Contains-get_or}
 use Rattle.std.proofs.lemmas.Simd.{map-map}
 use Rattle.gg_flat.specs.Line.{value_at}
-use Rattle.gg_flat.specs.Run.{IsRun, IsColumns, column}
+use Rattle.gg_flat.specs.Run.{IsRun, IsColumns, row_at, column}
 use Rattle.gg_flat.proofs.ListLemmas.{some-item, filter-cases, range-below, Contains-map}
 use Rattle.gg_moved.specs.KeepsToTree.{KeepsToTree}
 use Rattle.gg_order.specs.Design.{Ordered, IsDesign}
@@ -20,16 +20,17 @@ use Rattle.gg_cut.specs.declared.wires.Wire.{Wire}
 use Rattle.gg_cut.specs.Listed.{listed_of}
 use Rattle.gg_cut.specs.Fault.{first_fault}
 use Rattle.gg_cut.specs.Machines.{first_source, first_tray, machine_count}
-use Rattle.gg_cut.specs.Direct.{Hub, plan_hub, plan_wires}
+use Rattle.gg_cut.specs.Direct.{Hub, is_piped, plan_hub, plan_wires}
 use Rattle.gg_cut.specs.Plan.{wire_at, channels_to, channels_from, givens_of, IsBody, IsPlan}
 use Rattle.gg_cut.specs.Solves.{Answers, lists_of, stream, streams, Solves, columns_of}
 use Rattle.gg_routes.specs.Routes.{AreRoutes, GivesInput}
 use Rattle.gg_routes.proofs.RoutedLemmas.{routed-base, plan-routed}
-use Rattle.gg_pipe.specs.Made.{holder_of, keeper_of, plan_reference, AreHeldOnce}
+use Rattle.gg_pipe.specs.Links.{taken_as}
+use Rattle.gg_pipe.specs.Made.{holder_of, keeper_of, plan_reference, plan_seen, AreHeldOnce}
 use Rattle.gg_pipe.specs.Follows.{given_column, taken_column}
 use Rattle.gg_pipe.proofs.FollowLemmas.{source-column}
 use Rattle.gg_pipe.proofs.MachineLemmas.{map-agree}
-use Rattle.gg_pipe.proofs.PlanLemmas.{plan-columns, plan-follows, plan-given}
+use Rattle.gg_pipe.proofs.PlanLemmas.{plan-columns, plan-follows, plan-given, plan-taken, plan-kept}
 
 -- what the consumers of channel c take
 pub streams-at : (channels : List Channel) (lists : List (List ℕ)) (c : ℕ) (any : Channel) → length lists ≡ length channels → c < length channels → get_or (streams channels lists) c [] ≡ stream (get_or channels c any).pipe (get_or lists c [])
@@ -125,3 +126,24 @@ module _ (design : Ordered) (request : Request) (default : ℕ) (plan : Plan) (i
             (subst (Answers machine.body n columns (map (taken_column hub n rows) (channels_to wires m))) (sym outs)
             (answers m machine.body (omega (arith, lt, planned.machine_total)) at.body));
       }
+
+  -- ---- channels and outputs, by cycle
+
+  -- what a channel's consumer takes is the column that it sees
+  pub plan-list : (c : ℕ) → c < length (plan_wires design.circuit design.tree request) → take n (get_or (streams plan.channels (columns_of plan rows)) c [])
+      ≡ column rows (plan_seen design request (wire_at (plan_wires design.circuit design.tree request) c).consumer (wire_at (plan_wires design.circuit design.tree request) c).signal)
+  plan-list c lt =
+      stream-at c lt
+      ∙ ap (λ l. take n (stream (is_piped design.circuit request (wire_at wires c).signal) l)) (sym (plan-given design request is keeps held none columns n rows run c lt))
+      ∙ sym (plan-taken design request is keeps held none columns n rows run c lt)
+
+  -- what a tray takes is the column of the output in the reference circuit
+  pub plan-output : (k c : ℕ) → k < length design.circuit.outs → c < length (plan_wires design.circuit design.tree request) → (wire_at (plan_wires design.circuit design.tree request) c).signal ≡ value_at design.circuit.outs k
+      → take n (get_or (streams plan.channels (columns_of plan rows)) c []) ≡ column rows (value_at (plan_reference design request).outs k)
+  plan-output k c low lt same = plan-list c lt ∙ ap (column rows) (plan-kept design request is keeps held none c lt ∙ ap (taken_as hub) same ∙ sym (get_or-map (taken_as hub) design.circuit.outs k 0 0 low))
+
+  pub plan-output-value : (k c t : ℕ) → k < length design.circuit.outs → c < length (plan_wires design.circuit design.tree request) → (wire_at (plan_wires design.circuit design.tree request) c).signal ≡ value_at design.circuit.outs k → t < n
+      → value_at (get_or (streams plan.channels (columns_of plan rows)) c []) t ≡ value_at (row_at rows t) (value_at (plan_reference design request).outs k)
+  plan-output-value k c t low lt same below =
+      sym (get_or-take n (get_or (streams plan.channels lists) c []) t 0 below) ∙ ap (λ (l : List ℕ). value_at l t) (plan-output k c low lt same)
+      ∙ get_or-map (λ (row : List ℕ). value_at row (value_at (plan_reference design request).outs k)) rows t [] 0 (omega (arith, below, run.count))
