@@ -16,7 +16,7 @@ use Rattle.gg_part.specs.declared.part.Part.{Part}
 use Rattle.gg_partfile.specs.declared.request.Request.{Request}
 use Rattle.gg_cut.specs.Machines.{first_source, machine_count}
 use Rattle.gg_cut.specs.Channels.{capacity_of}
-use Rattle.gg_cut.specs.Direct.{Hub, routes, plan_hub, plan_wires}
+use Rattle.gg_cut.specs.Direct.{Hub, routes, is_piped, plan_hub, plan_wires}
 use Rattle.gg_cut.specs.Listed.{listed_of}
 use Rattle.gg_cut.specs.Plan.{AreNeedsOf, IsBody, IsChannel, IsCutPart, IsMachine, IsNeed, IsPlan, NeedsIn, channels_from, channels_to, signals_of, wire_at}
 use Rattle.gg_cut.specs.declared.listed.Listed.{Listed}
@@ -191,7 +191,7 @@ pub channel-needs : (design : Ordered) (request : Request) (default : ℕ) (plan
 channel-needs design request default plan is c any lt =
     let listed = listed_of design.tree request in
     let wires = plan_wires design.circuit design.tree request in
-    let channel : IsChannel design (capacity_of request.capacity default) plan.machines (wire_at wires c) (slice_index_or plan.channels c any) = is.channel c any (omega (arith, lt, is.channel_total)) in
+    let channel : IsChannel design (capacity_of request.capacity default) (is_piped design.circuit request) plan.machines (wire_at wires c) (slice_index_or plan.channels c any) = is.channel c any (omega (arith, lt, is.channel_total)) in
     let m = (wire_at wires c).producer in
     record {
       ascending = channel.ascending;

@@ -12,7 +12,7 @@ use Rattle.gg_order.specs.Design.{Ordered}
 use Rattle.gg_partfile.specs.declared.request.Request.{Request}
 use Rattle.gg_cut.specs.Machines.{machine_count}
 use Rattle.gg_cut.specs.Channels.{capacity_of}
-use Rattle.gg_cut.specs.Direct.{plan_wires}
+use Rattle.gg_cut.specs.Direct.{is_piped, plan_wires}
 use Rattle.gg_cut.specs.Listed.{listed_of, instance_of}
 use Rattle.gg_cut.specs.Plan.{IsChannel, IsPlan, machine_names, tray_names, wire_at}
 use Rattle.gg_cut.specs.declared.listed.Listed.{Listed}
@@ -107,7 +107,7 @@ module _ (design : Ordered) (request : Request) (default : ℕ) (plan : Plan) (i
   channel-line-is c any lt =
       let channel = slice_index_or plan.channels c any in
       let w = wire_at the_wires c in
-      let at : IsChannel design (capacity_of request.capacity default) plan.machines w channel = is.channel c any lt in
+      let at : IsChannel design (capacity_of request.capacity default) (is_piped design.circuit request) plan.machines w channel = is.channel c any lt in
       let needs = channel-needs design request default plan is c any (omega (arith, lt, is.channel_total)) in
       let mine = plans.machine_names plan.machines in
       let names = machine_names design request the_listed in
@@ -115,13 +115,14 @@ module _ (design : Ordered) (request : Request) (default : ℕ) (plan : Plan) (i
       let needed : map (path_at (channel_names plan.channels)) channel.needs ≡ map (channel_name design.circuit the_wires) (slice_index_or the_needs c []) =
       map-on (path_at (channel_names plan.channels)) (channel_name design.circuit the_wires) channel.needs (λ d has. let known = ((needs.each d).0 has).known in name-at d (omega (arith, known, is.channel_total)))
       ∙ ap (map (channel_name design.circuit the_wires)) (sym (needs-at c any lt)) in
-      ap (λ x. channel_line x (path_at mine channel.producer) (path_at mine channel.consumer) (shape channel.ty) channel.capacity (map (path_at (channel_names plan.channels)) channel.needs)) at.name
-      ∙ ap (λ x. channel_line name (path_at mine x) (path_at mine channel.consumer) (shape channel.ty) channel.capacity (map (path_at (channel_names plan.channels)) channel.needs)) at.producer
-      ∙ ap (λ x. channel_line name (path_at mine w.producer) (path_at mine x) (shape channel.ty) channel.capacity (map (path_at (channel_names plan.channels)) channel.needs)) at.consumer
-      ∙ ap (λ (x : List (List ℕ)). channel_line name (path_at x w.producer) (path_at x w.consumer) (shape channel.ty) channel.capacity (map (path_at (channel_names plan.channels)) channel.needs)) names-are
-      ∙ ap (λ (x : Shape). channel_line name (path_at names w.producer) (path_at names w.consumer) x channel.capacity (map (path_at (channel_names plan.channels)) channel.needs)) at.type
-      ∙ ap (λ x. channel_line name (path_at names w.producer) (path_at names w.consumer) (shape_at (signal_shapes design.circuit) w.signal) x (map (path_at (channel_names plan.channels)) channel.needs)) at.bound
-      ∙ ap (λ x. channel_line name (path_at names w.producer) (path_at names w.consumer) (shape_at (signal_shapes design.circuit) w.signal) (capacity_of request.capacity default name) x) needed
+      ap (λ x. channel_line x (path_at mine channel.producer) (path_at mine channel.consumer) (shape channel.ty) channel.capacity channel.pipe (map (path_at (channel_names plan.channels)) channel.needs)) at.name
+      ∙ ap (λ x. channel_line name (path_at mine x) (path_at mine channel.consumer) (shape channel.ty) channel.capacity channel.pipe (map (path_at (channel_names plan.channels)) channel.needs)) at.producer
+      ∙ ap (λ x. channel_line name (path_at mine w.producer) (path_at mine x) (shape channel.ty) channel.capacity channel.pipe (map (path_at (channel_names plan.channels)) channel.needs)) at.consumer
+      ∙ ap (λ (x : List (List ℕ)). channel_line name (path_at x w.producer) (path_at x w.consumer) (shape channel.ty) channel.capacity channel.pipe (map (path_at (channel_names plan.channels)) channel.needs)) names-are
+      ∙ ap (λ (x : Shape). channel_line name (path_at names w.producer) (path_at names w.consumer) x channel.capacity channel.pipe (map (path_at (channel_names plan.channels)) channel.needs)) at.type
+      ∙ ap (λ x. channel_line name (path_at names w.producer) (path_at names w.consumer) (shape_at (signal_shapes design.circuit) w.signal) x channel.pipe (map (path_at (channel_names plan.channels)) channel.needs)) at.bound
+      ∙ ap (λ x. channel_line name (path_at names w.producer) (path_at names w.consumer) (shape_at (signal_shapes design.circuit) w.signal) (capacity_of request.capacity default name) x (map (path_at (channel_names plan.channels)) channel.needs)) at.pipe
+      ∙ ap (λ x. channel_line name (path_at names w.producer) (path_at names w.consumer) (shape_at (signal_shapes design.circuit) w.signal) (capacity_of request.capacity default name) (is_piped design.circuit request w.signal) x) needed
 
   pub plan-text-is : IsTextOfCut design request default (plan_text plan)
   plan-text-is = record {

@@ -12,7 +12,7 @@ use Rattle.gg_cut.specs.Channels.{wires_of}
 use Rattle.gg_cut.specs.Direct.{plan_wires}
 use Rattle.gg_cut.specs.Plan.{channels_to, signals_of}
 use Rattle.gg_cut.specs.declared.wires.Wire.{Wire}
-use Rattle.gg_cut.proofs.WorkedPair.{circuit, tree, listed, both_units, direct_units}
+use Rattle.gg_cut.proofs.WorkedPair.{circuit, tree, listed, both_units, direct_units, piped_units}
 use Rattle.gg_check.specs.CheckText.{IsPathInside, NeedsChannel, channel_text, machine_text}
 
 abbrev pub design : Ordered
@@ -40,6 +40,16 @@ one-need = refl
 no-need : channel_text design both_units 1 listed wires 0 [] ≡ codes "channel x in:x hub: UInt<8> capacity 1 needs -\n"
 unfolding digits
 no-need = refl
+
+-- a channel with a pipe; its needs are as before
+pipe-line : channel_text design (piped_units (codes "a.k" ∷ [])) 1 listed wires 2 (6 ∷ []) ≡ codes "channel a.k hub: a UInt<8> capacity 1 pipe needs b.n\n"
+unfolding digits
+pipe-line = refl
+
+-- a channel that isn't named has none
+no-pipe-line : channel_text design (piped_units (codes "a.k" ∷ [])) 1 listed wires 6 (5 ∷ []) ≡ codes "channel b.n b hub: UInt<8> capacity 1 needs b.m\n"
+unfolding digits
+no-pipe-line = refl
 
 -- ---- needs
 
@@ -102,6 +112,11 @@ direct-lines : channel_text design direct_units 1 listed direct 0 [] ++ channel_
     ≡ codes "channel a.x in:x a UInt<8> capacity 1 needs -\nchannel a.k b a UInt<8> capacity 1 needs b.m\nchannel b.m a b UInt<8> capacity 1 needs a.x\nchannel q a out:q UInt<8> capacity 1 needs a.x a.k\n"
 unfolding digits
 direct-lines = refl
+
+-- a direct channel may have a pipe
+direct-pipe-line : channel_text design (record direct_units { pipe = codes "a.k" ∷ [] }) 1 listed direct 1 (2 ∷ []) ≡ codes "channel a.k b a UInt<8> capacity 1 pipe needs b.m\n"
+unfolding digits
+direct-pipe-line = refl
 
 -- `b` takes the channel of the signal 6
 abbrev pub only_six : List ℕ

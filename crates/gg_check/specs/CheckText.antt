@@ -1,7 +1,7 @@
 -- The text of `check`: a line for each machine that the request cuts the design into, and one for each channel with what it needs.
 -- Sources: MEMOCODE 2009 for machines, channels and what an output of a machine depends on; ICCAD 2019 for hosts that several
 -- units share. How the lines look is this program's own.
-use Rattle.std.specs.Prelude.{◌≡◌, ◌↔◌, ℕ, ◌<◌, List, [], ◌∷◌, ◌++◌, length, map, flat_map, slice_index_or, codes, decimal, Contains, AllPairs}
+use Rattle.std.specs.Prelude.{◌≡◌, ◌↔◌, ℕ, ◌<◌, List, [], ◌∷◌, ◌++◌, Bool, if◌then◌else◌, length, map, flat_map, slice_index_or, codes, decimal, Contains, AllPairs}
 use Rattle.std.specs.List.{range_with_len}
 use Rattle.gg_bits.specs.Shape.{Shape}
 use Rattle.gg_bits.specs.declared.types.Kind.{Kind}
@@ -14,7 +14,7 @@ use Rattle.gg_order.specs.Design.{Ordered}
 use Rattle.gg_partfile.specs.declared.request.Request.{Request}
 use Rattle.gg_cut.specs.Machines.{first_source, machine_count}
 use Rattle.gg_cut.specs.Channels.{capacity_of}
-use Rattle.gg_cut.specs.Direct.{plan_wires}
+use Rattle.gg_cut.specs.Direct.{is_piped, plan_wires}
 use Rattle.gg_cut.specs.Hosts.{host_of}
 use Rattle.gg_cut.specs.Listed.{listed_of}
 use Rattle.gg_cut.specs.Plan.{channels_to, machine_names, signals_of, wire_at}
@@ -65,9 +65,13 @@ needs_text (name ∷ names) = spaced (name ∷ names)
 abbrev pub machine_line : (name : List ℕ) (host : ℕ) → List ℕ
 machine_line name host = codes "machine " ++ name ++ codes " host " ++ decimal host ++ codes "\n"
 
-abbrev pub channel_line : (name producer consumer : List ℕ) (shape : Shape) (capacity : ℕ) (needs : List (List ℕ)) → List ℕ
-channel_line name producer consumer shape capacity needs =
-    codes "channel " ++ name ++ codes " " ++ producer ++ codes " " ++ consumer ++ codes " " ++ type_text shape ++ codes " capacity " ++ decimal capacity ++ codes " needs"
+-- the word that tells a channel with a pipe
+abbrev pub pipe_text : Bool → List ℕ
+pipe_text pipe = if pipe then codes " pipe" else []
+
+abbrev pub channel_line : (name producer consumer : List ℕ) (shape : Shape) (capacity : ℕ) (pipe : Bool) (needs : List (List ℕ)) → List ℕ
+channel_line name producer consumer shape capacity pipe needs =
+    codes "channel " ++ name ++ codes " " ++ producer ++ codes " " ++ consumer ++ codes " " ++ type_text shape ++ codes " capacity " ++ decimal capacity ++ pipe_text pipe ++ codes " needs"
     ++ needs_text needs ++ codes "\n"
 
 -- ---- the text, for a design, a request, what it lists, and the capacity of the channels that it doesn't name
@@ -88,6 +92,7 @@ channel_text design request default listed wires c needs =
     (path_at (machine_names design request listed) (wire_at wires c).consumer)
     (shape_at (signal_shapes design.circuit) (wire_at wires c).signal)
     (capacity_of request.capacity default (channel_name design.circuit wires c))
+    (is_piped design.circuit request (wire_at wires c).signal)
     (map (channel_name design.circuit wires) needs)
 
 -- The text has the machines' lines in their order, then the channels' lines. `needs` has the needs of each channel.

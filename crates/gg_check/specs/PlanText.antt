@@ -23,7 +23,7 @@ line_of_machine machine = machine_line machine.name machine.host
 -- the line of a channel, if machines and channels have these names
 abbrev pub line_of_channel : List (List ℕ) → List (List ℕ) → Channel → List ℕ
 line_of_channel machines channels channel =
-    channel_line channel.name (path_at machines channel.producer) (path_at machines channel.consumer) (shape channel.ty) channel.capacity (map (path_at channels) channel.needs)
+    channel_line channel.name (path_at machines channel.producer) (path_at machines channel.consumer) (shape channel.ty) channel.capacity channel.pipe (map (path_at channels) channel.needs)
 
 abbrev pub plan_text : Plan → List ℕ
 plan_text plan = flat_map line_of_machine plan.machines ++ flat_map (line_of_channel (machine_names plan.machines) (channel_names plan.channels)) plan.channels

@@ -1,7 +1,7 @@
 //! The line of a machine, and the line of a channel.
 ghost use Rattle.std.specs.Prelude.{◌≡◌, ◌++◌, IfOk, OnOk, codes, decimal, string_bytes};
 ghost use Rattle.gg_bits.specs.Shape.{shape};
-ghost use Rattle.gg_check.specs.CheckText.{type_text};
+ghost use Rattle.gg_check.specs.CheckText.{pipe_text, type_text};
 ghost use Rattle.gg_check.specs.PlanText.{channel_names, line_of_channel, line_of_machine, machine_names};
 
 use crate::names::machine_name;
@@ -53,22 +53,36 @@ fn line_front(
     Ok(line)
 }
 
-// The rest of a channel's line: the type, the capacity and the needs.
-fn push_rest(line: &mut String, ty: &str, capacity: u32, needs: &str) -> Result<(), AllocError>
-    ensures { OnOk result (string_bytes line.new ≡ string_bytes line.old ++ codes " " ++ ty.now ++ codes " capacity " ++ decimal capacity ++ codes " needs" ++ needs.now ++ codes "\n") }
+// The word that tells a channel with a pipe.
+fn pipe_text(pipe: bool) -> &'static str
+    ensures { result.now ≡ pipe_text pipe }
+{
+    if pipe { " pipe" } else { "" }
+}
+
+// The rest of a channel's line: the type, the capacity, the pipe and the needs.
+fn push_rest(
+    line: &mut String,
+    ty: &str,
+    capacity: u32,
+    pipe: bool,
+    needs: &str,
+) -> Result<(), AllocError>
+    ensures { OnOk result (string_bytes line.new ≡ string_bytes line.old ++ codes " " ++ ty.now ++ codes " capacity " ++ decimal capacity ++ pipe_text pipe ++ codes " needs" ++ needs.now ++ codes "\n") }
 {
     let mut buffer = Buffer::new();
     line.push_str(" ")?;
     line.push_str(ty)?;
     line.push_str(" capacity ")?;
     line.push_str(buffer.format(capacity))?;
+    line.push_str(pipe_text(pipe))?;
     line.push_str(" needs")?;
     line.push_str(needs)?;
     line.push_str("\n")
 }
 
 /// The line of a channel of a plan with these machines and channels. It has the channel's name, its two machines, its
-/// type, its capacity, and the names of the channels that it needs, or `-`.
+/// type, its capacity, the word `pipe` if it has a pipe, and the names of the channels that it needs, or `-`.
 pub fn channel_line(
     alloc: Global,
     machines: &[Machine],
@@ -82,6 +96,12 @@ pub fn channel_line(
     let ty = type_text(alloc, channel.ty)?;
     let needs = needs_text(alloc, channels, channel.needs.as_slice())?;
     let mut line = line_front(alloc, channel.name.as_str(), producer, consumer)?;
-    push_rest(&mut line, ty.as_str(), channel.capacity, needs.as_str())?;
+    push_rest(
+        &mut line,
+        ty.as_str(),
+        channel.capacity,
+        channel.pipe,
+        needs.as_str(),
+    )?;
     Ok(line)
 }

@@ -32,7 +32,7 @@ use Rattle.gg_memunit.proofs.UnitLemmas.{sole}
 use Rattle.gg_net.specs.Network.{Frame, Kind, kind_of, kind_at, no_kind, wire_at as joint_at}
 use Rattle.gg_marking.specs.Marking.{Link, Turn, Layout, link_at, turns_at}
 use Rattle.gg_marking.specs.Fits.{AreTaken, AreTurnsOf, HasLayout, IsInOrder, IsLinkOf, places_of}
-use Rattle.gg_sound.specs.Built.{machine_in, nameless, place_in, wires_of_plan, AreBuilt, IsBuilt, IsGiven, plan_frame}
+use Rattle.gg_sound.specs.Built.{machine_in, nameless, place_in, first_token, wires_of_plan, AreBuilt, IsBuilt, IsGiven, plan_frame}
 use Rattle.gg_sound.proofs.LinkLemmas.{AreLinks, length-wires, linked}
 use Rattle.gg_sound.proofs.PlanLemmas.{links}
 use Rattle.gg_sound.proofs.FitLemmas.{kind-is}
@@ -56,6 +56,11 @@ both-true : {A : Type 0} (a b : Bool) (x y : A) → a ≡ true → b ≡ true �
 both-true true true x y p q = refl
 both-true true false x y p q = absurd (cc)
 both-true false b x y p q = absurd (cc)
+
+-- a channel opens with a token exactly if it has a pipe
+has-token : (pipe : Bool) → pipe ≡ is_some (first_token pipe)
+has-token true = refl
+has-token false = refl
 
 no-turns : (frame : Frame) (m : ℕ) (turns : List Turn) → turns ≡ [] → AreTurnsOf frame m [] turns
 no-turns frame m turns none = record { count = ap length none; each = λ i port turn lt. absurd (omega (arith, lt)) }
@@ -88,7 +93,7 @@ module _ (design : Ordered) (request : Request) (default : ℕ) (plan : Plan) (c
   -- ---- the layout
 
   abbrev link_of : Channel → Link
-  link_of channel = record { producer = channel.producer; consumer = channel.consumer; capacity = channel.capacity; needs = channel.needs; piped = false }
+  link_of channel = record { producer = channel.producer; consumer = channel.consumer; capacity = channel.capacity; needs = channel.needs; piped = channel.pipe }
 
   abbrev turns_of : ℕ → List Turn
   turns_of m = machine_turns design.circuit design.tree (listed_of design.tree request) (plan_wires design.circuit design.tree request) m
@@ -133,7 +138,7 @@ module _ (design : Ordered) (request : Request) (default : ℕ) (plan : Plan) (c
         consumer = ap (λ (link : Link). link.consumer) is ∙ channel.consumer;
         capacity = ap (λ (link : Link). link.capacity) is ∙ channel.bound;
         needs = link-needs c lt;
-        piped = ap (λ (link : Link). link.piped) is;
+        piped = ap (λ (link : Link). link.piped) is ∙ channel.pipe;
       }
 
   pub of-cut : IsLayoutBy design request default n listed wires layout
@@ -205,7 +210,7 @@ module _ (design : Ordered) (request : Request) (default : ℕ) (plan : Plan) (c
           producer = cut.producer ∙ sym link.producer;
           consumer = cut.consumer ∙ sym link.consumer;
           capacity = ap (λ (l : Link). l.capacity) (link-is c any known) ∙ sym (joint-capacity plan wires are c any known);
-          piped = cut.piped ∙ sym (ap is_some link.first);
+          piped = ap (λ (l : Link). l.piped) (link-is c any known) ∙ has-token (get_or plan.channels c any).pipe ∙ sym (ap is_some (link.first any known));
           needs = needs-are;
           taken = needs-taken;
         }

@@ -4,7 +4,7 @@
 -- The top has the input `a`, the output `o` and a memory `m` whose only reader `r` has the address `a` and is always enabled; `o`
 -- is its data. Signals 0 and 1 are `a` and `o`; 2, 3 and 4 are the reader's address, enable and data. The hub is machine 0, `m` is
 -- 1, the source of `a` is 2 and the tray of `o` is 3; the channels are, from 0 on: `a`, `m.r.addr`, `m.r.en`, `m.r.data`, `o`.
-use Rattle.std.proofs.Common.{◌≡◌, ℕ, zero, suc, ◌<◌, List, [], ◌∷◌, None, true, false, true≢false, set, refl, ap, subst, inl, inr, ◌⊎◌, arith, lit<}
+use Rattle.std.proofs.Common.{◌≡◌, ℕ, zero, suc, ◌<◌, List, [], ◌∷◌, None, true, false, true≢false, set, refl, sym, ap, subst, inl, inr, ◌⊎◌, arith, lit<}
 use Rattle.std.specs.Prelude.{codes, length, map, slice_index_or, Contains, AllPairs}
 use Rattle.std.proofs.lemmas.List.Kept.{AllPairs-cons}
 use Rattle.std.proofs.lemmas.List.Elements.{All-nil}
@@ -236,14 +236,41 @@ is-layout =
       end = refl;
     }
 
+-- ---- the same with a pipe
+
+abbrev piping : Request
+piping = record request { pipe = codes "m.r.addr" ∷ [] }
+
+abbrev with_pipe : Layout
+with_pipe = record layout { links = set layout.links 1 (record { producer = 0; consumer = 1; capacity = 5; needs = 0 ∷ []; piped = true }) }
+
+-- the address' channel opens with a token, and needs what it needs without the pipe
+pipe-layout : IsLayoutOf design piping 2 3 with_pipe
+pipe-layout =
+    record {
+      channels = refl;
+      link = five (λ c. IsChannelLink design piping 2 listed wires c (link_at with_pipe c))
+          (record { producer = refl; consumer = refl; capacity = refl; needs = needs-a; piped = refl })
+          (record { producer = refl; consumer = refl; capacity = refl; needs = needs-address; piped = refl })
+          (record { producer = refl; consumer = refl; capacity = refl; needs = needs-enable; piped = refl })
+          (record { producer = refl; consumer = refl; capacity = refl; needs = needs-data; piped = refl })
+          (record { producer = refl; consumer = refl; capacity = refl; needs = needs-output; piped = refl });
+      ports = refl;
+      turns = refl;
+      end = refl;
+    }
+
+without-token : ¬ IsLayoutOf design piping 2 3 layout
+without-token is = absurd (true≢false (sym (is.link 1 (lit< tt)).piped))
+
 -- ---- what is no layout
 
 -- a channel that the request names has the request's capacity, and not the default
 with-default : ¬ IsLayoutOf design request 2 3 (record layout { links = set layout.links 1 (link 0 1 2 (0 ∷ [])) })
 with-default is = let capacity = (is.link 1 (lit< tt)).capacity in absurd (omega (arith, capacity))
 
--- no channel opens with a token
-with-token : ¬ IsLayoutOf design request 2 3 (record layout { links = set layout.links 1 (record { producer = 0; consumer = 1; capacity = 5; needs = 0 ∷ []; piped = true }) })
+-- a channel without a pipe opens without a token
+with-token : ¬ IsLayoutOf design request 2 3 with_pipe
 with-token is = absurd (true≢false (is.link 1 (lit< tt)).piped)
 
 -- no need may be left out

@@ -2,7 +2,7 @@
 -- ports of each machine, and the ports that it serves in a cycle, in their order.
 -- Sources: MEMOCODE 2009 for channels, their bounds and what an output of a machine depends on; ICCAD 2019 for memories
 -- of a target that are served port by port.
-use Rattle.std.specs.Prelude.{◌≡◌, ℕ, ◌-◌, ◌<◌, List, [], false, ◌==◌, if◌then◌else◌, length, map, unwrap_or}
+use Rattle.std.specs.Prelude.{◌≡◌, ℕ, ◌-◌, ◌<◌, List, [], ◌==◌, if◌then◌else◌, length, map, unwrap_or}
 use Rattle.std.specs.List.{range_with_len}
 use Rattle.gg_flat.specs.Circuit.{FlatCircuit, latency_at, readers_at}
 use Rattle.gg_flat.specs.Line.{value_at}
@@ -15,7 +15,7 @@ use Rattle.gg_cut.specs.declared.wires.Wire.{Wire}
 use Rattle.gg_cut.specs.Listed.{first_place, listed_of}
 use Rattle.gg_cut.specs.Machines.{first_memory, is_memory, machine_count}
 use Rattle.gg_cut.specs.Channels.{capacity_of}
-use Rattle.gg_cut.specs.Direct.{plan_wires}
+use Rattle.gg_cut.specs.Direct.{is_piped, plan_wires}
 use Rattle.gg_cut.specs.Plan.{wire_at}
 use Rattle.gg_check.specs.CheckText.{AreChannelNeeds, channel_name}
 use Rattle.gg_node.specs.Machine.{Port}
@@ -27,13 +27,13 @@ use Rattle.gg_marking.specs.Marking.{Link, Turn, Layout, link_at}
 
 -- The link is channel c of the cut. It has the channel's ends, the capacity that the request gives for the channel's
 -- name, else the default, and exactly the channels that the channel needs in the circuit, in their order. It opens
--- without a token.
+-- with a token exactly if the request asks for a pipe in the channel.
 pub record IsChannelLink (design : Ordered) (request : Request) (default : ℕ) (listed : Listed) (wires : List Wire) (c : ℕ) (link : Link) : Type 0 where
   pub producer : link.producer ≡ (wire_at wires c).producer
   pub consumer : link.consumer ≡ (wire_at wires c).consumer
   pub capacity : link.capacity ≡ capacity_of request.capacity default (channel_name design.circuit wires c)
   pub needs : AreChannelNeeds design.circuit listed wires c link.needs
-  pub piped : link.piped ≡ false
+  pub piped : link.piped ≡ is_piped design.circuit request (wire_at wires c).signal
 
 -- ---- ports
 

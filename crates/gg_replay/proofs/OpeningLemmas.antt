@@ -1,31 +1,54 @@
 -- The log before the first cycle.
-use Rattle.std.proofs.Common.{◌≡◌, ℕ, ◌<◌, ◌≤◌, List, [], None, length, sym, ap, ◌∙◌, ⊎_elim}
-use Rattle.std.specs.Prelude.{All, replicate, take}
+use Rattle.std.proofs.Common.{◌≡◌, ℕ, zero, suc, ◌<◌, ◌≤◌, List, [], ◌∷◌, Option, None, Some, length, map, get_or, refl, sym, ap, ◌∙◌, ⊎_elim, arith}
+use Rattle.std.specs.Prelude.{take}
 use Rattle.std.proofs.lemmas.Bool.{cases_lt}
-use Rattle.std.proofs.lemmas.List.{length-replicate, get_or-replicate, get_or_past}
+use Rattle.std.proofs.lemmas.List.{get_or-map, get_or_past, length-map}
+use Rattle.gg_flat.specs.Line.{value_at}
 use Rattle.gg_flat.specs.Streams.{Flow}
 use Rattle.gg_node.specs.Machine.{Machine, no_machine, machine_at, flag_at}
 use Rattle.gg_net.specs.declared.shape.Wire.{Wire}
-use Rattle.gg_net.specs.Network.{wire_at, given_by, puts, entered_by, entered}
-use Rattle.gg_net.specs.Kept.{list_at}
+use Rattle.gg_net.specs.Network.{Network, wire_at, given_by, puts, entered_by, entered, opening_queue}
+use Rattle.gg_net.specs.Kept.{Kept, list_at}
 use Rattle.gg_net.specs.Net.{IsOpening, opening_net}
 use Rattle.gg_marking.proofs.OpeningLemmas.{none-put}
-use Rattle.gg_replay.specs.Log.{AreFronts}
+use Rattle.gg_replay.specs.Log.{AreFronts, opening_log, tokens_at}
 
-module _ (flow : Flow) (machines : List Machine) (wires : List Wire) (end : ℕ) (starts : flow.begin ≡ 0) (free : All (λ (wire : Wire). wire.first ≡ None) wires)
+-- the first value of a list
+front-one : (list : List ℕ) → 0 < length list → value_at list 0 ∷ [] ≡ take 1 list
+front-one [] some = absurd (omega (arith, some))
+front-one (x ∷ list) some = refl
+
+abbrev no_wire : Wire
+no_wire = record { producer = 0; out = 0; consumer = 0; place = 0; capacity = 0; first = None }
+
+module _ (flow : Flow) (machines : List Machine) (wires : List Wire) (end : ℕ) (starts : flow.begin ≡ 0) (kept : Kept flow (opening_net machines wires end))
     (opening : (m : ℕ) → m < length machines → IsOpening flow m (machine_at machines m)) where
-  none-entered : (c : ℕ) → c < length wires → entered (opening_net machines wires end) c ≡ 0
-  none-entered c lt =
-      let wire : Wire = wire_at wires c in
-      ap (λ first. entered_by first (puts (opening_net machines wires end) c)) (free c (record { producer = 0; out = 0; consumer = 0; place = 0; capacity = 0; first = None }) lt)
-      ∙ ⊎_elim
-      (λ (there : wire.producer < length machines). none-put flow machines wires end opening c there ∙ starts)
-      (λ (past : length machines ≤ wire.producer). ap (λ (x : Machine). given_by x.cycle (flag_at x.flags wire.out)) (get_or_past machines wire.producer no_machine past))
-      (cases_lt wire.producer (length machines))
+  abbrev net : Network
+  net = opening_net machines wires end
 
-  pub empty-fronts : AreFronts flow (opening_net machines wires end) (replicate (length wires) [])
-  empty-fronts =
+  none-put-yet : (c : ℕ) → puts net c ≡ 0
+  none-put-yet c =
+      let m = (wire_at wires c).producer in
+      ⊎_elim
+      (λ (there : m < length machines). none-put flow machines wires end opening c there ∙ starts)
+      (λ (past : length machines ≤ m). ap (λ (x : Machine). given_by x.cycle (flag_at x.flags (wire_at wires c).out)) (get_or_past machines m no_machine past))
+      (cases_lt m (length machines))
+
+  -- the token with which a channel opens is the first of its list
+  opens-so : (c : ℕ) → c < length wires → (first : Option ℕ) → (wire_at wires c).first ≡ first → opening_queue first ≡ take (entered_by first 0) (list_at flow.lists c)
+  opens-so c lt None is = refl
+  opens-so c lt (Some token) is =
+      let long = kept.sound.solves.long c lt in
+      let count : length (list_at flow.lists c) ≡ suc end = long ∙ ap (λ first. entered_by first end) is in
+      ap (λ x. x ∷ []) (kept.sound.solves.opens c token lt is ∙ ap (value_at (list_at flow.lists c)) starts) ∙ front-one (list_at flow.lists c) (omega (arith, count))
+
+  pub first-fronts : AreFronts flow net (opening_log wires)
+  first-fronts =
       record {
-        count = length-replicate (length wires) [];
-        each = λ c lt. get_or-replicate (length wires) c [] [] lt ∙ sym (ap (λ n. take n (list_at flow.lists c)) (none-entered c lt));
+        count = length-map wires (λ (wire : Wire). opening_queue wire.first);
+        each =
+            λ c lt.
+            get_or-map (λ (wire : Wire). opening_queue wire.first) wires c no_wire [] lt
+            ∙ opens-so c lt (wire_at wires c).first refl
+            ∙ ap (λ n. take (entered_by (wire_at wires c).first n) (list_at flow.lists c)) (sym (none-put-yet c));
       }

@@ -1,11 +1,16 @@
 -- The log of a network: for each channel the tokens that have entered it so far.
 -- Source: MEMOCODE 2009 (the k-th token of each queue is the signal's value in cycle k).
-use Rattle.std.specs.Prelude.{◌≡◌, ℕ, ◌<◌, List, [], Option, take, length, slice_index_or}
+use Rattle.std.specs.Prelude.{◌≡◌, ℕ, ◌<◌, List, [], Option, take, length, map, slice_index_or}
 use Rattle.gg_flat.specs.Streams.{Flow}
 use Rattle.gg_net.specs.declared.event.Event.{Event}
-use Rattle.gg_net.specs.Network.{Network, entered}
+use Rattle.gg_net.specs.declared.shape.Wire.{Wire}
+use Rattle.gg_net.specs.Network.{Network, entered, opening_queue}
 use Rattle.gg_net.specs.Kept.{Kept, list_at}
 use Rattle.gg_marking.specs.Steps.{IsStep}
+
+-- the log of these channels before the first cycle: the tokens with which they open
+abbrev pub opening_log : List Wire → List (List ℕ)
+opening_log wires = map (λ wire. opening_queue wire.first) wires
 
 -- the tokens of a channel
 abbrev pub tokens_at : List (List ℕ) → ℕ → List ℕ

@@ -7,8 +7,8 @@
 //! - A [`Log`] has for each channel the tokens that have entered it, in their order: the one that it opens with, if
 //!   there is one, and those that were put. It is right if for each channel these are the first values of the channel's
 //!   list, as many as have entered it. If the log is right before the steps, it is right after them, also if a step is
-//!   refused. Before the first cycle a log without tokens is right, if all begins with cycle 0 and no channel opens
-//!   with a token ([`opens_with_empty_log`]).
+//!   refused. Before the first cycle a log of the tokens with which the channels open is right, if all begins with
+//!   cycle 0 ([`opens_with_first_tokens`]).
 //! - [`channel_line`] returns the exact line of a channel: its name, its counts and its tokens.
 //!
 //! Any call that allocates may return `AllocError` or `Stop::NoMemory`.
@@ -20,7 +20,7 @@ mod log;
 mod steps;
 mod stop;
 
-pub use laws::opens_with_empty_log;
+pub use laws::opens_with_first_tokens;
 pub use line::channel_line;
 pub use log::Log;
 pub use steps::replay;

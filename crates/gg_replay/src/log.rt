@@ -1,7 +1,9 @@
 //! `Log`: the tokens that have entered the channels of a network.
-ghost use Rattle.std.specs.Prelude.{◌≡◌, ◌<◌, ◌++◌, ◌∷◌, [], length, replicate, slice_set, IfOk, OnOk};
-ghost use Rattle.gg_replay.specs.Log.{tokens_at};
+ghost use Rattle.std.specs.Prelude.{◌≡◌, ◌<◌, ◌++◌, ◌∷◌, [], length, slice_set, IfOk, OnOk};
+ghost use Rattle.gg_net.specs.Network.{opening_queue};
+ghost use Rattle.gg_replay.specs.Log.{opening_log, tokens_at};
 
+use gg_net::Wire;
 use std::alloc::{AllocError, Global};
 use std::marker::Model;
 
@@ -19,18 +21,29 @@ impl Model for Log {
     ghost view = { λ log. map (λ list. list.items) log.lists.items };
 }
 
+// The token with which a channel opens, if there is one.
+fn first_tokens(alloc: Global, first: Option<u128>) -> Result<Vec<u128>, AllocError>
+    ensures { IfOk result (λ tokens. tokens.items ≡ opening_queue first) }
+{
+    let mut tokens = Vec::new(alloc);
+    if let Some(token) = first {
+        tokens.push(token)?;
+    }
+    Ok(tokens)
+}
+
 impl Log {
-    /// A log for this many channels, without tokens.
+    /// A log for these channels before the first cycle. It has the tokens with which they open, and no others.
     ///
     /// # Errors
     ///
     /// Returns `AllocError` if an allocation fails.
-    pub fn new(alloc: Global, channels: usize) -> Result<Log, AllocError>
-        ensures { IfOk result (λ log. log ≡ replicate channels []) }
+    pub fn new(alloc: Global, wires: &[Wire]) -> Result<Log, AllocError>
+        ensures { IfOk result (λ log. log ≡ opening_log wires.now) }
     {
         let mut lists = Vec::new(alloc);
-        for _ in 0..channels {
-            lists.push(Vec::new(alloc))?;
+        for wire in wires {
+            lists.push(first_tokens(alloc, wire.first)?)?;
         }
         Ok(Log { lists })
     }

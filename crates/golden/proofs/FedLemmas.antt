@@ -141,7 +141,7 @@ module _ (circuit partition trace : List ℕ) (capacity : ℕ) (fed : Fed) (is :
           let x = own-setting own.0 are in
           let same : text ≡ replay_text (setting own.0) (marking_of goes.net) =
           goes.is
-          ∙ text-is design request capacity plan columns n rows given own.0 goes.net own.1.0
+          ∙ text-is design request capacity plan columns n rows given own.0 goes.net
           (frame-has design request capacity plan columns n rows given goes.machines goes.opened.built goes.opened.kept events goes.net goes.steps)
           (wires-count design request capacity plan columns n rows given goes.machines goes.opened.built goes.opened.kept events goes.net goes.steps) in (
             (setting own.0, x, (marking_of goes.net, leads)),

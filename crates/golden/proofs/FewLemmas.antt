@@ -12,7 +12,7 @@ use Rattle.gg_flat.specs.declared.tree.MemoryInstance.{MemoryInstance}
 use Rattle.gg_moved.specs.KeepsToTree.{KeepsToTree}
 use Rattle.gg_order.specs.Design.{IsDesign, Ordered}
 use Rattle.gg_partfile.specs.declared.request.Request.{Request}
-use Rattle.gg_cut.specs.Direct.{plan_wires}
+use Rattle.gg_cut.specs.Direct.{is_piped, plan_wires}
 use Rattle.gg_cut.specs.Machines.{first_memory, first_source, is_memory}
 use Rattle.gg_cut.specs.Fault.{first_fault}
 use Rattle.gg_cut.specs.Listed.{listed_of}
@@ -59,7 +59,7 @@ module _ (design : Ordered) (request : Request) (default : ℕ) (plan : Plan) (i
           | inl known ↦
               let ports : length (memory_at design.tree place).ports ≡ port_count design.circuit own = (keeps.fitting.held place known).ports in
               let counted : port_count design.circuit own ≡ length (readers_at design.circuit own) + length (writers_at design.circuit own) = ports-counted design.circuit.memories own in
-              let most : length (readers_at design.circuit own) + length (writers_at design.circuit own) ≤ length wires_in = memory-few design.circuit design.tree listed (λ s. false) request.direct (routed-base design request is keeps faultless) i lt in
+              let most : length (readers_at design.circuit own) + length (writers_at design.circuit own) ≤ length wires_in = memory-few design.circuit design.tree listed (is_piped design.circuit request) request.direct (routed-base design request is keeps faultless) i lt in
               let channels = few.channels in
               omega (arith, ports, counted, most, channels)
           | inr above ↦ past place (omega (arith, above))

@@ -1,5 +1,5 @@
 -- How the steps of a plan's network end.
-use Rattle.std.proofs.Common.{◌≡◌, ℕ, ◌+◌, ◌<◌, ◌≤◌, List, [], ◌++◌, length, replicate, take, get_or, refl, sym, ap, ◌∙◌, subst, arith}
+use Rattle.std.proofs.Common.{◌≡◌, ℕ, ◌+◌, ◌<◌, ◌≤◌, List, [], ◌++◌, length, take, get_or, refl, sym, ap, ◌∙◌, subst, arith}
 use Rattle.std.specs.Prelude.{IfOk, MatchResult, Option, Result, Ok, Err, codes, decimal, flat_map}
 use Rattle.std.specs.List.{range_with_len}
 use Rattle.std.proofs.lemmas.List.{get_or-map, take_all}
@@ -11,17 +11,18 @@ use Rattle.gg_cut.specs.declared.plan.Plan.{Plan}
 use Rattle.gg_node.specs.Machine.{machine_at}
 use Rattle.gg_net.specs.declared.event.Event.{Event}
 use Rattle.gg_net.specs.declared.event.Refusal.{Refusal}
+use Rattle.gg_net.specs.declared.shape.Wire.{Wire}
 use Rattle.gg_net.specs.Kept.{Kept, list_at}
 use Rattle.gg_net.specs.Net.{IsOpening, opening_net}
 use Rattle.gg_net.specs.Network.{Frame, Network, puts, entered, takes}
 use Rattle.gg_marking.specs.Goes.{Stopped}
 use Rattle.gg_marking.specs.Steps.{Steps, StopsAt}
 use Rattle.gg_marking.proofs.StepsLemmas.{steps-frame}
-use Rattle.gg_replay.specs.Log.{AreFronts, tokens_at}
+use Rattle.gg_replay.specs.Log.{AreFronts, opening_log, tokens_at}
 use Rattle.gg_replay.specs.ReplayText.{channel_line}
-use Rattle.gg_replay.proofs.OpeningLemmas.{empty-fronts}
+use Rattle.gg_replay.proofs.OpeningLemmas.{first-fronts}
 use Rattle.gg_sound.specs.Built.{wires_of_plan}
-use Rattle.gg_sound.proofs.LinkLemmas.{length-from, free-from}
+use Rattle.gg_sound.proofs.LinkLemmas.{length-from}
 use Rattle.gg_sound.proofs.OpeningLemmas.{built-opening}
 use Rattle.gg_steps.specs.Naming.{Naming}
 use Rattle.gg_told.specs.declared.endings.Ending.{Ending}
@@ -36,16 +37,15 @@ use Rattle.golden.specs.declared.case.Fed.{Fed}
 use Rattle.gg_told.proofs.EndingLemmas.{IfRefused-map}
 
 module _ (plan : Plan) (columns : List (List ℕ)) (n : ℕ) (flow : Flow) (net : Network) (opens : IsOpeningOf plan columns n net) where
-  -- before the first cycle a log without tokens is right
-  pub opening-log : (log : List (List ℕ)) (count : ℕ) → IsToRun plan columns n flow → count ≡ length net.wires → log ≡ replicate count [] → AreFronts flow net log
-  opening-log log count run same is =
+  -- before the first cycle a log of the tokens with which the channels open is right
+  pub opening-right : (log : List (List ℕ)) (wires : List Wire) → IsToRun plan columns n flow → Kept flow net → wires ≡ net.wires → log ≡ opening_log wires → AreFronts flow net log
+  opening-right log wires run kept same is =
       let machines = opens.machines in
       let opening = opening_net machines (wires_of_plan plan) n in
-      let fronts : AreFronts flow opening (replicate (length (wires_of_plan plan)) []) =
-      empty-fronts flow machines (wires_of_plan plan) n (ap (λ (f : Flow). f.begin) run.flow_is) (free-from plan 0 plan.channels)
+      let fronts : AreFronts flow opening (opening_log (wires_of_plan plan)) =
+      first-fronts flow machines (wires_of_plan plan) n (ap (λ (f : Flow). f.begin) run.flow_is) (subst (λ (x : Network). Kept flow x) opens.is kept)
       (λ m lt. subst (λ (f : Flow). IsOpening f m (machine_at machines m)) (sym run.flow_is) (built-opening run.design run.request run.default plan columns n run.rows machines run.given opens.built m lt)) in
-      let wires : count ≡ length (wires_of_plan plan) = same ∙ ap (λ (x : Network). length x.wires) opens.is in
-      let given : log ≡ replicate (length (wires_of_plan plan)) [] = is ∙ ap (λ k. replicate k []) wires in
+      let given : log ≡ opening_log (wires_of_plan plan) = is ∙ ap opening_log (same ∙ ap (λ (x : Network). x.wires) opens.is) in
       subst (λ (x : Network). AreFronts flow x log) (sym opens.is) (subst (λ l. AreFronts flow opening l) (sym given) fronts)
 
   -- steps don't change the number of channels

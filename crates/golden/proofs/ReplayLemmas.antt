@@ -13,10 +13,11 @@ use Rattle.gg_flat.proofs.ListLemmas.{some-item}
 use Rattle.gg_order.specs.Design.{Ordered}
 use Rattle.gg_partfile.specs.declared.request.Request.{Request}
 use Rattle.gg_cut.specs.Channels.{capacity_of}
-use Rattle.gg_cut.specs.Direct.{plan_wires}
+use Rattle.gg_cut.specs.Direct.{is_piped, plan_wires}
 use Rattle.gg_cut.specs.Machines.{machine_count}
 use Rattle.gg_cut.specs.Listed.{listed_of}
 use Rattle.gg_cut.specs.Plan.{IsChannel, machine_names, wire_at}
+use Rattle.gg_cut.specs.Solves.{stream}
 use Rattle.gg_cut.specs.declared.listed.Listed.{Listed}
 use Rattle.gg_cut.specs.declared.plan.Channel.{Channel}
 use Rattle.gg_cut.specs.declared.plan.Machine as planned
@@ -32,16 +33,18 @@ use Rattle.gg_net.specs.Network.{Frame, Network, frame_of}
 use Rattle.gg_net.specs.Network as network
 use Rattle.gg_marking.specs.Fits.{HasLayout, marking_of}
 use Rattle.gg_marking.specs.Goes.{Stopped, replayed_from}
-use Rattle.gg_marking.specs.Marking.{Layout, opening_marking, and_one, puts, takes}
+use Rattle.gg_marking.specs.Marking.{Layout, opening_marking, entered, puts, takes}
 use Rattle.gg_marking.specs.Steps.{Steps, StopsAt}
 use Rattle.gg_marking.proofs.CountLemmas.{puts-are, entered-are, takes-are}
 use Rattle.gg_marking.proofs.OpeningLemmas.{opens-so}
 use Rattle.gg_marking.proofs.StepsLemmas.{all-done, steps-frame, stops-at}
 use Rattle.gg_measure.proofs.NetLemmas.{can-run}
 use Rattle.gg_progress.specs.Counts.{CanRun}
+use Rattle.gg_pipe.specs.Made.{plan_reference}
 use Rattle.gg_sound.specs.Built.{AreBuilt, IsGiven, flow_of, wires_of_plan}
 use Rattle.gg_sound.proofs.LinkLemmas.{length-from}
 use Rattle.gg_sound.proofs.OpeningLemmas.{built-opening}
+use Rattle.gg_sound.proofs.SolvedLemmas.{stream-at}
 use Rattle.gg_layout.specs.CutLayout.{IsLayoutOf}
 use Rattle.gg_layout.proofs.LayoutLemmas.{plan-layout, plan-in-order}
 use Rattle.gg_replay.specs.ReplayText.{channel_line}
@@ -54,7 +57,7 @@ setting_of design request n columns rows layout = record { design = design; requ
 
 -- The circuit's run, and the layout of the request's cut, whose network can go on.
 pub record AreSet (design : Ordered) (request : Request) (default n : ℕ) (columns rows : List (List ℕ)) (layout : Layout) : Type 0 where
-  pub run : IsRun design.circuit columns n rows
+  pub run : IsRun (plan_reference design request) columns n rows
   pub laid : IsLayoutOf design request default n layout
   pub able : CanRun layout
 
@@ -81,7 +84,7 @@ module _ (design : Ordered) (request : Request) (default : ℕ) (plan : Plan) (c
   the_wires = plan_wires design.circuit design.tree request
 
   abbrev flow : Flow
-  flow = flow_of plan design rows
+  flow = flow_of design request plan rows
 
   abbrev path_of : ℕ → List ℕ
   path_of = path_at (machine_names design request the_listed)
@@ -109,7 +112,7 @@ module _ (design : Ordered) (request : Request) (default : ℕ) (plan : Plan) (c
 
   -- ---- the text
 
-  module _ (layout : Layout) (net : Network) (of_cut : IsLayoutOf design request default n layout) (has : HasLayout (frame_of net) layout) (count : length net.wires ≡ length plan.channels) where
+  module _ (layout : Layout) (net : Network) (has : HasLayout (frame_of net) layout) (count : length net.wires ≡ length plan.channels) where
     abbrev the_setting : Setting
     the_setting = setting_of design request n columns rows layout
 
@@ -118,23 +121,23 @@ module _ (design : Ordered) (request : Request) (default : ℕ) (plan : Plan) (c
         let any = some-item plan.channels c lt in
         let own = slice_index_or plan.channels c any in
         let w = wire_at the_wires c in
-        let at : IsChannel design (capacity_of request.capacity default) plan.machines w own = given.planned.channel c any lt in
+        let at : IsChannel design (capacity_of request.capacity default) (is_piped design.circuit request) plan.machines w own = given.planned.channel c any lt in
         let known : c < length net.wires = omega (arith, lt, count) in
         let name = channel_name design.circuit the_wires c in
         let wide = (shape_at (signal_shapes design.circuit) w.signal).width in
         let named : name_in plan c ≡ name = get_or-map (λ (channel : Channel). channel.name) plan.channels c any [] lt ∙ at.name in
         let width : width_in plan c ≡ wide = get_or-map (λ (channel : Channel). channel.ty.width) plan.channels c any 0 lt ∙ ap (λ (z : Shape). z.width) at.type in
         let put : network.puts net c ≡ puts layout (marking_of net) c = puts-are net layout has c known in
-        let own_link = of_cut.link c (omega (arith, lt, given.planned.channel_total)) in
-        let have : network.entered net c ≡ puts layout (marking_of net) c = entered-are net layout has c known ∙ ap (and_one (puts layout (marking_of net) c)) own_link.piped in
+        let have : network.entered net c ≡ entered layout (marking_of net) c = entered-are net layout has c known in
         let took : network.takes net c ≡ takes layout (marking_of net) c = takes-are net layout has c known in
-        let carried : list_at flow.lists c ≡ column rows w.signal = get_or-map (λ (channel : Channel). column rows channel.signal) plan.channels c any [] lt ∙ ap (column rows) at.signal in
+        let carried : list_at flow.lists c ≡ stream (is_piped design.circuit request w.signal) (column rows w.signal) =
+        stream-at plan.channels rows c any lt ∙ ap (λ p. stream p (column rows own.signal)) at.pipe ∙ ap (λ s. stream (is_piped design.circuit request w.signal) (column rows s)) at.signal in
         ap (λ x. channel_line x (width_in plan c) (network.puts net c) (network.takes net c) (take (network.entered net c) (list_at flow.lists c))) named
         ∙ ap (λ x. channel_line name x (network.puts net c) (network.takes net c) (take (network.entered net c) (list_at flow.lists c))) width
         ∙ ap (λ x. channel_line name wide x (network.takes net c) (take (network.entered net c) (list_at flow.lists c))) put
         ∙ ap (λ x. channel_line name wide (puts layout (marking_of net) c) x (take (network.entered net c) (list_at flow.lists c))) took
         ∙ ap (λ x. channel_line name wide (puts layout (marking_of net) c) (takes layout (marking_of net) c) (take x (list_at flow.lists c))) have
-        ∙ ap (λ x. channel_line name wide (puts layout (marking_of net) c) (takes layout (marking_of net) c) (take (puts layout (marking_of net) c) x)) carried
+        ∙ ap (λ x. channel_line name wide (puts layout (marking_of net) c) (takes layout (marking_of net) c) (take (entered layout (marking_of net) c) x)) carried
 
     pub text-is : net_text plan flow net ≡ replay_text the_setting (marking_of net)
     text-is =

@@ -10,15 +10,16 @@ use Rattle.gg_flat.specs.Tree.{InstanceTree, memory_at, path_at}
 use Rattle.gg_front.specs.Meaning.{MeansDesign}
 use Rattle.gg_order.specs.Design.{Ordered}
 use Rattle.gg_partfile.specs.declared.request.Request.{Request}
-use Rattle.gg_cut.specs.Direct.{plan_wires}
+use Rattle.gg_cut.specs.Direct.{is_piped, plan_wires}
 use Rattle.gg_cut.specs.Machines.{first_memory, is_memory, machine_count}
 use Rattle.gg_cut.specs.Listed.{listed_of}
 use Rattle.gg_cut.specs.Plan.{machine_names, wire_at}
+use Rattle.gg_cut.specs.Solves.{stream}
 use Rattle.gg_cut.specs.declared.listed.Listed.{Listed}
 use Rattle.gg_cut.specs.declared.wires.Wire.{Wire}
 use Rattle.gg_check.specs.CheckText.{channel_name}
 use Rattle.gg_net.specs.declared.event.Event.{Event}
-use Rattle.gg_marking.specs.Marking.{Layout, Marking, opening_marking, puts, takes}
+use Rattle.gg_marking.specs.Marking.{Layout, Marking, opening_marking, entered, puts, takes}
 use Rattle.gg_marking.specs.Goes.{Stopped, replayed_from}
 use Rattle.gg_progress.specs.Measure.{all_dues}
 use Rattle.gg_layout.specs.CutLayout.{IsLayoutOf}
@@ -124,13 +125,13 @@ GoesOnUntilAll circuit partition trace capacity steps =
 
 -- ---- the text
 
--- The line of channel c: its counts, and the tokens that were put so far, which are the first values of its signal in
--- the circuit's run.
+-- The line of channel c: its counts, and the tokens that have entered it so far. They are the first values of its signal in
+-- the reference circuit's run, and before them the token 0 if the channel has a pipe.
 abbrev pub channel_told : Setting → Marking → List Wire → ℕ → List ℕ
 channel_told setting marking wires c =
     channel_line (channel_name setting.design.circuit wires c) (shape_at (signal_shapes setting.design.circuit) (wire_at wires c).signal).width
     (puts setting.layout marking c) (takes setting.layout marking c)
-    (take (puts setting.layout marking c) (column setting.rows (wire_at wires c).signal))
+    (take (entered setting.layout marking c) (stream (is_piped setting.design.circuit setting.request (wire_at wires c).signal) (column setting.rows (wire_at wires c).signal)))
 
 abbrev pub lines_told : Setting → Marking → List Wire → List ℕ
 lines_told setting marking wires = flat_map (channel_told setting marking wires) (range_with_len 0 (length wires))

@@ -122,7 +122,7 @@ pub(crate) fn replay_net<Z: Streams, K: Sink>(
     let plan = &fed.case.cut.plan;
     let mut net = build::<Z>(alloc, plan, &fed.trace)?;
     net.kept();
-    let mut log = Log::new(alloc, net.channels())?;
+    let mut log = Log::new(alloc, net.shape().wires.as_slice())?;
     match replay(&mut net, events, &mut log) {
         Ok(()) => print_net(alloc, plan, &net, &log, out),
         Err(Stop::Refused { step, cause }) => Err(end_at_step(alloc, names, events, step, cause)),

@@ -2,14 +2,14 @@ use Rattle.std.proofs.Common.{refl, subst}
 use Rattle.gg_replay.specs.Stopping.{IsStop}
 use Rattle.gg_replay.specs.declared.stop.Stop.{Stop}
 use Rattle.gg_told.specs.Endings.{PrintsText}
-use Rattle.golden.proofs.NetLemmas.{opening-log, wires-stay, net-goes, net-stopped, told-so}
+use Rattle.golden.proofs.NetLemmas.{opening-right, wires-stay, net-goes, net-stopped, told-so}
 use Rattle.golden.proofs.network.replay_net.Goals as goal
 
 pub replay-requires-clause-logged : goal.replay-requires-clause-logged
 replay-requires-clause-logged g c κs within =
     let fed = c.args.fed.now in
-    opening-log fed.case.cut.plan fed.trace.columns fed.trace.rows g.Z.Streams.flow c.in_ok-net.net c.in_ok-net.ensures
-    c.in_ok-log.log c.channels.result c.requires.run c.channels.ensures c.in_ok-log.ensures
+    opening-right fed.case.cut.plan fed.trace.columns fed.trace.rows g.Z.Streams.flow c.in_ok-net.net c.in_ok-net.ensures
+    c.in_ok-log.log c.shape.result.now.wires.items c.requires.run c.kept.ensures c.shape.ensures.wires c.in_ok-log.ensures
 
 pub print_net-requires-clause-wires : goal.print_net-requires-clause-wires
 print_net-requires-clause-wires g c κs within =

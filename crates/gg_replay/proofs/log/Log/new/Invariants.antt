@@ -1,5 +1,6 @@
-use Rattle.std.proofs.Common.{◌≡◌, [], map, replicate}
+use Rattle.std.proofs.Common.{◌≡◌, map, take}
+use Rattle.gg_replay.specs.Log.{opening_log}
 use Rattle.gg_replay.proofs.log.Log.new.Given as goal
 
-abbrev pub invariant-loop : goal.invariant-loop
-invariant-loop l = map (λ list. list.items) l.lists.items ≡ replicate l.counter []
+abbrev pub invariant-loop-wire : goal.invariant-loop-wire
+invariant-loop-wire l = map (λ list. list.items) l.lists.items ≡ opening_log (take l.wire-index l.wires)
