@@ -1,10 +1,7 @@
 -- A list of lists whose parts are shown by a function, as the items of a `Vec`.
-use Rattle.std.proofs.Common.{◌≡◌, ℕ, ◌+◌, ◌<◌, List, [], ◌∷◌, ◌++◌, length, map, sym, ap, ◌∙◌, arith}
-use Rattle.std.specs.Prelude.{slice_set, slice_index_or, take}
-use Rattle.std.proofs.lemmas.List.{map-append, map-set, get_or-map, length-map, take_more}
-use Rattle.gg_net.specs.declared.shape.Wire.{Wire}
-use Rattle.gg_net.specs.Network.{opening_queue}
-use Rattle.gg_replay.specs.Log.{opening_log}
+use Rattle.std.proofs.Common.{◌≡◌, ℕ, ◌<◌, List, [], ◌∷◌, ◌++◌, length, map, sym, ap, ◌∙◌, arith}
+use Rattle.std.specs.Prelude.{slice_set, slice_index_or}
+use Rattle.std.proofs.lemmas.List.{map-set, get_or-map, length-map}
 
 -- one of the parts has one more item
 pub one-pushed : {X : Type 0} (shown : X → List ℕ) (parts : List X) (log : List (List ℕ)) (i token : ℕ) (old new : X) → map shown parts ≡ log → i < length log → old ≡ slice_index_or parts i old → shown new ≡ shown old ++ token ∷ []
@@ -15,13 +12,3 @@ one-pushed shown parts log i token old new view within is more =
     map-set shown parts i new
     ∙ ap (λ l. slice_set l i (shown new)) view
     ∙ ap (λ l. slice_set log i l) (more ∙ ap (λ l. l ++ token ∷ []) same)
-
--- one channel more is opened
-pub one-opened : {X : Type 0} (shown : X → List ℕ) (parts : List X) (new : X) (wires : List Wire) (i : ℕ) (wire : Wire) → map shown parts ≡ opening_log (take i wires) → i < length wires → shown new ≡ opening_queue (slice_index_or wires i wire).first
-    → map shown (parts ++ new ∷ []) ≡ opening_log (take (i + 1) wires)
-one-opened shown parts new wires i wire view within is =
-    map-append shown parts (new ∷ [])
-    ∙ ap (λ l. l ++ shown new ∷ []) view
-    ∙ ap (λ l. opening_log (take i wires) ++ l ∷ []) is
-    ∙ sym (map-append (λ (w : Wire). opening_queue w.first) (take i wires) (slice_index_or wires i wire ∷ []))
-    ∙ ap opening_log (sym (take_more wires i wire within))

@@ -1,5 +1,5 @@
 -- The log before the first cycle.
-use Rattle.std.proofs.Common.{◌≡◌, ℕ, zero, suc, ◌<◌, ◌≤◌, List, [], ◌∷◌, Option, None, Some, length, map, get_or, refl, sym, ap, ◌∙◌, ⊎_elim, arith}
+use Rattle.std.proofs.Common.{◌≡◌, ℕ, suc, ◌<◌, ◌≤◌, List, [], ◌∷◌, Option, None, Some, length, refl, sym, ap, ◌∙◌, ⊎_elim, arith}
 use Rattle.std.specs.Prelude.{take}
 use Rattle.std.proofs.lemmas.Bool.{cases_lt}
 use Rattle.std.proofs.lemmas.List.{get_or-map, get_or_past, length-map}
@@ -7,11 +7,11 @@ use Rattle.gg_flat.specs.Line.{value_at}
 use Rattle.gg_flat.specs.Streams.{Flow}
 use Rattle.gg_node.specs.Machine.{Machine, no_machine, machine_at, flag_at}
 use Rattle.gg_net.specs.declared.shape.Wire.{Wire}
-use Rattle.gg_net.specs.Network.{Network, wire_at, given_by, puts, entered_by, entered, opening_queue}
+use Rattle.gg_net.specs.Network.{Network, wire_at, given_by, puts, entered_by, opening_queue}
 use Rattle.gg_net.specs.Kept.{Kept, list_at}
 use Rattle.gg_net.specs.Net.{IsOpening, opening_net}
 use Rattle.gg_marking.proofs.OpeningLemmas.{none-put}
-use Rattle.gg_replay.specs.Log.{AreFronts, opening_log, tokens_at}
+use Rattle.gg_replay.specs.Log.{AreFronts, opening_log}
 
 -- the first value of a list
 front-one : (list : List ℕ) → 0 < length list → value_at list 0 ∷ [] ≡ take 1 list

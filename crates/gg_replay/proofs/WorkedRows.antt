@@ -8,7 +8,7 @@ use Rattle.gg_flat.specs.Line.{value_at}
 use Rattle.gg_flat.specs.Streams.{Flow}
 use Rattle.gg_net.specs.declared.event.Refusal.TheVariants.{Stranger}
 use Rattle.gg_net.specs.Network.{Network, entered}
-use Rattle.gg_replay.specs.Log.{AreFronts}
+use Rattle.gg_replay.specs.Log.{AreFronts, opening_log}
 use Rattle.gg_replay.specs.Stopping.{IsStop}
 use Rattle.gg_replay.specs.declared.stop.Stop.TheVariants.{Refused}
 use Rattle.gg_replay.specs.ReplayText.{channel_line}
@@ -32,6 +32,11 @@ nine-bits = refl
 no-token : channel_line (codes "x") 4 1 0 [] ≡ codes "x 1/0\n"
 unfolding digits
 no-token = refl
+
+-- before the first step, a channel that opens with a token
+opens-with-zero : channel_line (codes "a.k") 8 0 0 (0 ∷ []) ≡ codes "a.k 0/0 00\n"
+unfolding digits
+opens-with-zero = refl
 
 -- ---- logs: machine 0 is in cycle 2, and has given its token of that cycle at out 0, and not at out 1
 
@@ -80,6 +85,10 @@ piped-fronts = record { count = refl; each = each }
 
 not-without-first : AreFronts flow piped ((5 ∷ 6 ∷ 7 ∷ []) ∷ (1 ∷ 2 ∷ []) ∷ []) → ⊥
 not-without-first fronts = omega (arith, ap length (fronts.each 1 (lit< tt)))
+
+-- before the first cycle a log has the tokens with which channels open
+opened : opening_log piped.wires ≡ [] ∷ (1 ∷ []) ∷ []
+opened = refl
 
 -- ---- stops
 

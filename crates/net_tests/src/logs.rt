@@ -1,4 +1,5 @@
 //! gg_replay: a log can be built and a line can be written with ample memory.
+use gg_net::Wire;
 use gg_replay::{Log, channel_line};
 use std::alloc::{AllocError, Global};
 use std::test::Fail;
@@ -33,14 +34,34 @@ fn lines_of_channels(rt: HostRuntime) -> Result<(), Fail> {
     Ok(())
 }
 
-// Whether a log for three channels has no token in the last.
-fn is_empty_log(alloc: Global) -> Result<bool, AllocError> {
-    let log = Log::new(alloc, 3)?;
-    Ok(log.tokens(2).is_empty())
+// Two channels, of which only the second opens with a token.
+static WIRES: [Wire; 2] = [
+    Wire {
+        producer: 0,
+        out: 0,
+        consumer: 1,
+        place: 0,
+        capacity: 1,
+        first: None,
+    },
+    Wire {
+        producer: 0,
+        out: 1,
+        consumer: 1,
+        place: 1,
+        capacity: 1,
+        first: Some(0),
+    },
+];
+
+// Whether a log of these channels has only the token with which the second opens.
+fn has_first_token(alloc: Global) -> Result<bool, AllocError> {
+    let log = Log::new(alloc, &WIRES)?;
+    Ok(log.tokens(0).is_empty() && log.tokens(1) == &[0])
 }
 
 #[test]
 fn a_log_is_made(rt: HostRuntime) -> Result<(), Fail> {
-    assert!(rt; is_empty_log(rt.alloc())?);
+    assert!(rt; has_first_token(rt.alloc())?);
     Ok(())
 }
