@@ -19,7 +19,7 @@ use Rattle.gg_flattened.specs.Flat.{FlatSignal, flat_signal, signals_at, flat_si
 use Rattle.gg_flattened.specs.IsFlat.{IsFlat}
 use Rattle.gg_flattened.specs.Known.{types_of}
 use Rattle.gg_flattened.specs.Memories.{Bank, bank_of, type_shape}
-use Rattle.gg_flattened.specs.Signals.{Types, Cause, Connected, Expressed, Kept, Own, own, own_of_port, own_of_kind, own_signals, own_stops, stop_of_kind, stop_signal, OwnBank, own_bank, own_banks, bank_of_kind, cause_of_port, field_name, memory_signals, reader_signals, readers_signals, writer_signals}
+use Rattle.gg_flattened.specs.Signals.{Types, Cause, Connected, Expressed, Kept, Own, own, own_of_port, own_of_kind, own_signals, own_stops, stop_of_kind, stop_signal, OwnBank, own_bank, own_banks, bank_of_kind, cause_of_port, field_name, memory_signals, reader_signals, readers_signals, stop_name, writer_signals}
 use Rattle.gg_flattened.proofs.StopLemmas.{numbered-among}
 use Rattle.gg_flattened.proofs.AmongLemmas.{MadeOf, from-map, from-flat_map, from-filter_map, in-filter_map}
 use Rattle.gg_tree.specs.IsTreeOf.{IsTreeOf, site_paths, signal_paths, memories_of}
@@ -154,9 +154,9 @@ module _ (circuit : CircuitTree) (names : AreNamesOfCircuit circuit) where
       by-statement o m =
           (kind-paths (types_of circuit) k m.of.line m.of.kind (All-contains AreNamesOfStatement (body k).statements m.of (words k) m.among)).each o m.made
 
-  -- each signal of a module has the path of a signal for its name: what is declared, and the stops
-  own-path : (k : ℕ) (o : Own) → Contains (own_signals (types_of circuit) k (body k)) o → IsSignalPath o.name
-  own-path k o c = go (Contains-append_cases declared stopped o (subst (λ l. Contains l o) (sym (append_assoc (filter_map own_of_port (body k).ports) (flat_map (λ (s : Stmt). own_of_kind (types_of circuit) k s.kind) (body k).statements) stopped)) c))
+  -- each signal of a module has a path for its name, or it is a stop
+  pub own-name : (k : ℕ) (o : Own) → Contains (own_signals (types_of circuit) k (body k)) o → IsPath o.name ⊎ ((n : ℕ) × (o.name ≡ stop_name n))
+  own-name k o c = go (Contains-append_cases declared stopped o (subst (λ l. Contains l o) (sym (append_assoc (filter_map own_of_port (body k).ports) (flat_map (λ (s : Stmt). own_of_kind (types_of circuit) k s.kind) (body k).statements) stopped)) c))
     where
       declared : List Own
       declared = filter_map own_of_port (body k).ports ++ flat_map (λ (s : Stmt). own_of_kind (types_of circuit) k s.kind) (body k).statements
@@ -164,12 +164,20 @@ module _ (circuit : CircuitTree) (names : AreNamesOfCircuit circuit) where
       stopped : List Own
       stopped = map stop_signal (own_stops (body k).statements)
 
-      go : Contains declared o ⊎ Contains stopped o → IsSignalPath o.name
-      go (inl h) = path-signal o.name ((declared-paths k).each o h)
+      go : Contains declared o ⊎ Contains stopped o → IsPath o.name ⊎ ((n : ℕ) × (o.name ≡ stop_name n))
+      go (inl h) = inl ((declared-paths k).each o h)
       go (inr h) =
           let s = from-map stop_signal (own_stops (body k).statements) o h in
           let n = numbered-among 0 (filter_map (λ (s : Stmt). stop_of_kind s.kind) (body k).statements) s.of s.among in
-          subst IsSignalPath (sym n.named ∙ ap (λ (x : Own). x.name) s.made) (stop-path n.number)
+          inr (n.number, sym (ap (λ (x : Own). x.name) s.made) ∙ n.named)
+
+  -- so it has the path of a signal for its name
+  own-path : (k : ℕ) (o : Own) → Contains (own_signals (types_of circuit) k (body k)) o → IsSignalPath o.name
+  own-path k o c = go (own-name k o c)
+    where
+      go : IsPath o.name ⊎ ((n : ℕ) × (o.name ≡ stop_name n)) → IsSignalPath o.name
+      go (inl is) = path-signal o.name is
+      go (inr stop) = subst IsSignalPath (sym stop.1) (stop-path stop.0)
 
   -- ---- sites
 
@@ -190,7 +198,7 @@ module _ (circuit : CircuitTree) (names : AreNamesOfCircuit circuit) where
           let named = held-word circuit.modules (body x.number).statements m.of (words x.number) m.among in
           below (site_below x m.of) (joined-path x.path m.of.name bytes (name-path m.of.name named)).bytes y m.made
 
-  site-bytes : (s : Site) → Contains (sites_of circuit) s → HasPathBytes s.path
+  pub site-bytes : (s : Site) → Contains (sites_of circuit) s → HasPathBytes s.path
   site-bytes s c = go (place_of circuit.name (module_names circuit)) c
     where
       go : (o : Option ℕ) → Contains (sites_from circuit.modules o) s → HasPathBytes s.path
@@ -231,7 +239,7 @@ module _ (circuit : CircuitTree) (names : AreNamesOfCircuit circuit) where
       let s = from-map (λ (x : Site). x.path) (sites_of circuit) path c in
       subst HasPathBytes s.made (site-bytes s.of s.among)
 
-  all-of : (P : List ℕ → Type 0) (paths : List (List ℕ)) → ((path : List ℕ) → Contains paths path → P path) → All P paths
+  pub all-of : (P : List ℕ → Type 0) (paths : List (List ℕ)) → ((path : List ℕ) → Contains paths path → P path) → All P paths
   all-of P paths h = λ k d lt. h (get_or paths k d) (Contains-get_or paths k d lt)
 
   pub flat-paths : (flat : FlatCircuit) → IsFlat circuit flat → All IsSignalPath flat.paths

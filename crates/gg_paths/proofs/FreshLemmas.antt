@@ -1,0 +1,80 @@
+-- No path of a signal begins with `pipe:`. A name has no colon, and what is before the colon of a stop is no such word.
+use Rattle.std.proofs.Common.{◌≡◌, ◌≢◌, ◌⊎◌, inl, inr, ℕ, zero, suc, Bool, true, List, [], ◌∷◌, ◌++◌, codes, refl, sym, ap, ◌∙◌, subst, arith}
+use Rattle.std.specs.Prelude.{All, Contains}
+use Rattle.std.specs.List.{list_all}
+use Rattle.std.proofs.lemmas.Bool.{and_parts}
+use Rattle.gg_ast.specs.Names.{AreNamesOfCircuit, is_name_byte}
+use Rattle.gg_ast.specs.Tree.{CircuitTree}
+use Rattle.gg_read.specs.Text.{Spells}
+use Rattle.gg_flat.specs.Circuit.{FlatCircuit}
+use Rattle.gg_flat.specs.Tree.{joined, path_at}
+use Rattle.gg_flattened.proofs.AmongLemmas.{from-map, from-flat_map}
+use Rattle.gg_flattened.specs.Flat.{FlatSignal, flat_signal, signals_at, flat_signals}
+use Rattle.gg_flattened.specs.IsFlat.{IsFlat}
+use Rattle.gg_flattened.specs.Known.{types_of}
+use Rattle.gg_flattened.specs.Signals.{own_signals, stop_name}
+use Rattle.gg_count.specs.Sites.{module_at, sites_of}
+use Rattle.gg_tree.specs.IsTreeOf.{signal_paths}
+use Rattle.gg_paths.specs.Paths.{HasPathBytes, IsPath, is_path_byte}
+use Rattle.gg_paths.proofs.PathLemmas.{all-of, own-name, site-bytes}
+use Rattle.gg_paths.proofs.SpeltLemmas.{names-spelt}
+
+-- the path doesn't begin with `pipe:`
+abbrev IsUnpiped : List ℕ → Type 0
+IsUnpiped path = (rest : List ℕ) → path ≢ codes "pipe:" ++ rest
+
+abbrev head_of : List ℕ → ℕ
+head_of [] = 0
+head_of (b ∷ bs) = b
+
+abbrev tail_of : List ℕ → List ℕ
+tail_of [] = []
+tail_of (b ∷ bs) = bs
+
+-- a byte that has a property isn't one that hasn't
+differs : (p : ℕ → Bool) (a b : ℕ) → p a ≡ true → p b ≢ true → a ≢ b
+differs p a b is other same = other (subst (λ (x : ℕ). p x ≡ true) same is)
+
+-- bytes of a path and a dot don't begin with a word and a colon
+dot-apart : (word outer name rest : List ℕ) → list_all is_name_byte word ≡ true → HasPathBytes outer → outer ++ 46 ∷ name ≡ word ++ 58 ∷ rest → ⊥
+dot-apart [] [] name rest named bytes e = let same : 46 ≡ 58 = ap head_of e in absurd (omega (arith, same))
+dot-apart [] (b ∷ outer) name rest named bytes e =
+    differs is_path_byte b 58 (and_parts (is_path_byte b) (list_all is_path_byte outer) bytes).0 (λ is. absurd (cc)) (ap head_of e)
+dot-apart (w ∷ word) [] name rest named bytes e =
+    differs is_name_byte w 46 (and_parts (is_name_byte w) (list_all is_name_byte word) named).0 (λ is. absurd (cc)) (sym (ap head_of e))
+dot-apart (w ∷ word) (b ∷ outer) name rest named bytes e =
+    dot-apart word outer name rest (and_parts (is_name_byte w) (list_all is_name_byte word) named).1 (and_parts (is_path_byte b) (list_all is_path_byte outer) bytes).1 (ap tail_of e)
+
+-- a path has no colon
+path-unpiped : (path : List ℕ) → HasPathBytes path → IsUnpiped path
+path-unpiped path bytes rest e = let clash : list_all is_path_byte (codes "pipe:" ++ rest) ≡ true = subst HasPathBytes e bytes in absurd (cc)
+
+stop-unpiped : (n : ℕ) → IsUnpiped (stop_name n)
+stop-unpiped n rest e = let same : 115 ≡ 112 = ap head_of e in absurd (omega (arith, same))
+
+joined-unpiped : (outer name : List ℕ) → HasPathBytes outer → IsUnpiped name → IsUnpiped (joined outer name)
+joined-unpiped [] name bytes h = h
+joined-unpiped (b ∷ outer) name bytes h = λ rest e. dot-apart (codes "pipe") (b ∷ outer) name rest refl bytes e
+
+module _ (circuit : CircuitTree) (names : AreNamesOfCircuit circuit) where
+  signal-unpiped : (path : List ℕ) → Contains (signal_paths circuit) path → IsUnpiped path
+  signal-unpiped path c =
+      let x = from-map (λ (s : FlatSignal). s.path) (flat_signals (types_of circuit) circuit.modules (sites_of circuit)) path c in
+      let s = from-flat_map (signals_at (types_of circuit) circuit.modules) (sites_of circuit) x.of x.among in
+      let o = from-map (flat_signal circuit.modules s.of) (own_signals (types_of circuit) s.of.number (module_at circuit.modules s.of.number)) x.of s.made in
+      subst IsUnpiped (ap (λ (z : FlatSignal). z.path) o.made ∙ x.made)
+      (joined-unpiped s.of.path o.of.name (site-bytes circuit names s.of s.among) (go o.of.name (own-name circuit names s.of.number o.of o.among)))
+    where
+      go : (name : List ℕ) → IsPath name ⊎ ((n : ℕ) × (name ≡ stop_name n)) → IsUnpiped name
+      go name (inl is) = path-unpiped name is.bytes
+      go name (inr stop) = subst IsUnpiped (sym stop.1) (stop-unpiped stop.0)
+
+-- the path with any number is one of them, or empty
+at-unpiped : (paths : List (List ℕ)) → All IsUnpiped paths → (s : ℕ) → IsUnpiped (path_at paths s)
+at-unpiped [] h s = λ rest e. absurd (cc)
+at-unpiped (path ∷ paths) h zero = h 0 [] (omega arith)
+at-unpiped (path ∷ paths) h (suc s) = at-unpiped paths (λ k d lt. h (suc k) d (omega (arith, lt))) s
+
+pub none-piped : (text : List ℕ) (circuit : CircuitTree) (flat : FlatCircuit) → Spells text circuit → IsFlat circuit flat → (s : ℕ) (path : List ℕ) → path_at flat.paths s ≢ codes "pipe:" ++ path
+none-piped text circuit flat spelt is s =
+    at-unpiped flat.paths (subst (All IsUnpiped) (sym is.paths) (all-of circuit (names-spelt text circuit spelt) IsUnpiped (signal_paths circuit) (signal-unpiped circuit (names-spelt text circuit spelt)))) s
