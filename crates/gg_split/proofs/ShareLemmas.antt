@@ -48,20 +48,21 @@ module _ (circuit : FlatCircuit) (tree : InstanceTree) (order : List ℕ) (liste
   known-in : (s : ℕ) → Contains order s → s < length circuit.signals
   known-in s h = let lt = ordered.signals h.0 h.1 in subst (λ t. t < length circuit.signals) (get_or_default order h.0 0 s h.1 ∙ h.2) lt
 
+  -- a signal that no channel carries belongs to the machine of the instance that has it
+  pub inner-owner : (owners : List ℕ) → ((s : ℕ) → value_at owners s ≡ unit_or_hub (first_place (has_signal tree s) listed.units)) → (s : ℕ) → s < length circuit.signals → ((c : ℕ) → c < length (wires_of circuit tree listed) → ¬ ((wire_at (wires_of circuit tree listed) c).signal ≡ s)) → owner_of circuit tree listed s ≡ value_at owners s
+  inner-owner owners owns s lt inner =
+      let at = innermost circuit tree fits s lt in
+      owner-signal circuit tree listed fits scoped apart at.place s at.is (inner-plain circuit tree listed fits scoped apart s inner)
+      ∙ sym (place-signal circuit tree listed fits apart at.place s at.is)
+      ∙ sym (owns s)
+
   module _ (owners : List ℕ) (channels : List (Option ℕ)) (owns : (s : ℕ) → value_at owners s ≡ unit_or_hub (first_place (has_signal tree s) listed.units)) (marked : AreChannels (wires_of circuit tree listed) channels) (many : length channels ≡ length circuit.signals) (m : ℕ) where
     channel-is : (s : ℕ) → s < length circuit.signals → IsChannelBelow (wires_of circuit tree listed) (length (wires_of circuit tree listed)) s (slice_index_or channels s None)
     channel-is s lt = marked s (omega (arith, lt, many))
 
-    owner-is : (s : ℕ) → s < length circuit.signals → ((c : ℕ) → c < length (wires_of circuit tree listed) → ¬ ((wire_at (wires_of circuit tree listed) c).signal ≡ s)) → owner_of circuit tree listed s ≡ value_at owners s
-    owner-is s lt inner =
-        let at = innermost circuit tree fits s lt in
-        owner-signal circuit tree listed fits scoped apart at.place s at.is (inner-plain circuit tree listed fits scoped apart s inner)
-        ∙ sym (place-signal circuit tree listed fits apart at.place s at.is)
-        ∙ sym (owns s)
-
     -- a machine makes or takes each signal that is spread to it
     spread-gets : (s : ℕ) → s < length circuit.signals → (found : Option ℕ) → IsChannelBelow (wires_of circuit tree listed) (length (wires_of circuit tree listed)) s found → has_by (wires_of circuit tree listed) (value_at owners s) m found ≡ true → Gets circuit tree listed fits scoped apart m s
-    spread-gets s lt None inner e = inl (inl (lt, owner-is s lt inner ∙ true-eqb (value_at owners s) m (sym e), inner))
+    spread-gets s lt None inner e = inl (inl (lt, inner-owner owners owns s lt inner ∙ true-eqb (value_at owners s) m (sym e), inner))
     spread-gets s lt (Some c) at e = by (or_cases ((wire_at (wires_of circuit tree listed) c).producer == m) ((wire_at (wires_of circuit tree listed) c).consumer == m) e)
       where
         by : (((wire_at (wires_of circuit tree listed) c).producer == m) ≡ true) ⊎ (((wire_at (wires_of circuit tree listed) c).consumer == m) ≡ true) → Gets circuit tree listed fits scoped apart m s
@@ -75,7 +76,7 @@ module _ (circuit : FlatCircuit) (tree : InstanceTree) (order : List ℕ) (liste
 
     -- each signal that a machine makes or takes is spread to it
     gets-spread : (s : ℕ) → s < length circuit.signals → (found : Option ℕ) → IsChannelBelow (wires_of circuit tree listed) (length (wires_of circuit tree listed)) s found → Gets circuit tree listed fits scoped apart m s → has_by (wires_of circuit tree listed) (value_at owners s) m found ≡ true
-    gets-spread s lt None inner (inl (inl own)) = eq-eqb (value_at owners s) m (sym (owner-is s lt inner) ∙ own.1)
+    gets-spread s lt None inner (inl (inl own)) = eq-eqb (value_at owners s) m (sym (inner-owner owners owns s lt inner) ∙ own.1)
     gets-spread s lt None inner (inl (inr h)) =
         let w = given-out circuit tree listed m s h in absurd (no-channel circuit tree listed fits scoped apart s w.wire inner w.among w.is)
     gets-spread s lt None inner (inr h) =

@@ -10,19 +10,22 @@
 //! - what the hub, a unit or a memory has makes a part of the circuit (`IsChoice` in gg_part): for each signal that
 //!   it makes, it makes or takes all that the signal's driver, register or memory names.
 //!
-//! `sides_of` gives the channels that each machine takes and gives, by any list of channels.
+//! `sides_of` gives the channels that each machine takes and gives, by any list of channels. `owned_of` gives the channels before the
+//! routing, and tells which machine signals and memories belong to.
 //!
 //! One pass over the order gives all machines their signals. It uses a table of the channel of each signal and a
 //! table of the owner of each signal.
 #![tactic(auto)]
 
 mod channels;
+mod owned;
 mod parting;
 mod pile;
 mod share;
 mod spread;
 mod tables;
 
+pub use owned::{Owned, owned_of};
 pub use parting::split;
 pub use pile::Pile;
 pub use share::{Share, Split};

@@ -66,8 +66,12 @@ fn split_all(
     })
 }
 
-// The numbers of the machines, if there are fewer than 2^32.
-fn numbering_of(piece: &Piece, listed: &Listed) -> Result<Numbering, AllocError>
+/// The numbers of the machines.
+///
+/// # Errors
+///
+/// Returns `AllocError` if there are 4,294,967,296 machines or more.
+pub(crate) fn numbering_of(piece: &Piece, listed: &Listed) -> Result<Numbering, AllocError>
     ensures numbers { IfOk result (λ numbering. numbering ≡ numbering_of piece.now listed.now) }
     ensures few { IfOk result (λ numbering. machine_count piece.now listed.now < 2 ^ 32) }
 {
