@@ -1,19 +1,37 @@
--- How a command ends whose first files are read: what it ends with behind them is how it ends.
+-- What a case is to its reference circuit. How a command ends whose first files are read: what it ends with behind them is how it ends.
 use Rattle.std.proofs.Common.{ℕ, List, inl, inr}
 use Rattle.std.specs.Prelude.{Result}
 use Rattle.gg_io.specs.Told.{Told}
+use Rattle.gg_flat.specs.Order.{IsOrder}
+use Rattle.gg_paths.proofs.FreshLemmas.{none-piped}
+use Rattle.gg_pipe.specs.Made.{IsFresh, plan_reference}
+use Rattle.gg_pipe.proofs.PlanLemmas.{plan-ordered}
+use Rattle.gg_build.specs.Build.{reference_order}
 use Rattle.gg_told.specs.Said.{Said}
 use Rattle.gg_told.specs.Order.{Order}
 use Rattle.gg_told.specs.Ends.{Loads, Puts}
 use Rattle.gg_told.specs.Endings.{EndedOn, StopsBy}
 use Rattle.gg_told.specs.declared.endings.Ending.{Ending}
 use Rattle.gg_told.proofs.EndingLemmas.{GoOn, accepted-ends, later-stops, loads-same}
-use Rattle.golden.specs.Case.{CaseRead, FedRead, case_order, trace_order}
+use Rattle.golden.specs.Case.{IsCase, CaseRead, FedRead, case_order, trace_order}
 use Rattle.golden.specs.Commands.{Asked, read_order, fed_order}
 use Rattle.golden.specs.Partition.{IsPartitionFor}
 use Rattle.golden.specs.Run.{IsTraceFor}
 use Rattle.golden.specs.declared.case.Case.{Case}
 use Rattle.golden.specs.declared.case.Fed.{Fed}
+
+-- ---- the circuit
+
+-- no path of a circuit's signals begins with `pipe:`
+pub case-fresh : {circuit partition : List ℕ} {capacity : ℕ} {case : Case} → IsCase circuit partition capacity case → IsFresh case.design.circuit
+case-fresh {circuit = circuit} {case = case} is = λ s path lt.
+    let means = is.means.means in
+    none-piped circuit means.text.circuit case.design.circuit means.text.spelt means.flattened s path
+
+-- the reference circuit has an order
+pub case-ordered : {circuit partition : List ℕ} {capacity : ℕ} {case : Case} → IsCase circuit partition capacity case
+    → IsOrder (plan_reference case.design case.cut.request) (reference_order case.design case.cut.request)
+case-ordered {case = case} is = plan-ordered case.design case.cut.request is.designed is.keeps is.held is.cuts.faultless
 
 -- ---- refusals
 

@@ -1,16 +1,13 @@
 -- The summary of a demo's network is that of what its three texts mean, and the only one.
-use Rattle.std.proofs.Common.{◌≡◌, ℕ, ◌+◌, ◌-◌, ◌*◌, ◌<◌, List, ◌++◌, length, refl, sym, ap, ◌∙◌, subst, arith}
+use Rattle.std.proofs.Common.{◌≡◌, ℕ, ◌+◌, ◌-◌, ◌*◌, ◌<◌, List, ◌++◌, length, sym, ap, ◌∙◌, subst, arith}
 use Rattle.std.specs.Prelude.{Result, slice_index}
 use Rattle.std.proofs.lemmas.List.{length-map}
-use Rattle.gg_build.specs.Build.{IsToRun}
-use Rattle.gg_build.proofs.AlongLemmas.{given-along}
+use Rattle.gg_build.specs.Build.{reference_order, reference_rows}
 use Rattle.gg_demo.specs.CircuitText.{demo_circuit}
 use Rattle.gg_demo.specs.PartitionText.{demo_partition}
 use Rattle.gg_demo.specs.SummaryText.{demo_summary, fold_line, folded, last_line, network_line, size_line}
 use Rattle.gg_demo.specs.TraceText.{demo_cycles, demo_trace}
-use Rattle.gg_flat.specs.Along.{rows_along}
 use Rattle.gg_flat.specs.Circuit.{FlatCircuit}
-use Rattle.gg_flat.specs.Run.{IsRun}
 use Rattle.gg_marking.specs.Fits.{HasLayout, marking_of}
 use Rattle.gg_marking.specs.Marking.{Layout, Marking, opening_marking}
 use Rattle.gg_measure.specs.Nets.{net_left}
@@ -22,6 +19,7 @@ use Rattle.gg_order.specs.Design.{Ordered}
 use Rattle.gg_progress.specs.Counts.{counts_of}
 use Rattle.gg_progress.specs.Measure.{all_dues, left}
 use Rattle.gg_progress.proofs.EndLemmas.{opening-left}
+use Rattle.gg_pipe.specs.Made.{plan_reference}
 use Rattle.gg_sound.specs.Built.{IsGiven, wires_of_plan}
 use Rattle.gg_summed.specs.Sums.{AreSums, FoldsRows, output_column, sums_text}
 use Rattle.gg_summed.specs.declared.sums.Sums.{Sums}
@@ -36,10 +34,13 @@ use Rattle.golden.specs.Demo.{IsDemoText, demo_capacity, setting_summary}
 use Rattle.golden.specs.Replay.{IsSetting, Setting}
 use Rattle.golden.specs.Replayed.{fed_flow}
 use Rattle.golden.specs.declared.case.Fed.{Fed}
+use Rattle.golden.proofs.CaseLemmas.{case-ordered}
+use Rattle.golden.proofs.FedLemmas.{to-replay}
+use Rattle.golden.proofs.FedLemmas as fed_setting
 use Rattle.golden.proofs.PartitionLemmas.{DesignsAgree}
 use Rattle.golden.proofs.ReplayLemmas.{AreSet, are-set, laid, opens, setting_of}
-use Rattle.golden.proofs.SettingLemmas.{cycles-same, layouts-same, rows-same}
-use Rattle.golden.proofs.TextLemmas.{OneFlat, OneRun}
+use Rattle.golden.proofs.SettingLemmas.{cycles-same, layouts-same, references-same, rows-same}
+use Rattle.golden.proofs.TextLemmas.{OneRun}
 
 -- ---- lines
 
@@ -67,12 +68,12 @@ summary_by seed size circuit rows n layout =
     demo_summary seed size (length layout.turns) (length layout.links) (n * (2 * length layout.links + length layout.turns + all_dues layout)) (output_column circuit rows 0) (output_column circuit rows 1)
 
 -- settings that have these in common have the same summary
-summary-same : (seed size : ℕ) (a b : Setting) → a.design.circuit ≡ b.design.circuit → a.rows ≡ b.rows → a.cycles ≡ b.cycles → a.layout ≡ b.layout → setting_summary seed size a ≡ setting_summary seed size b
+summary-same : (seed size : ℕ) (a b : Setting) → plan_reference a.design a.request ≡ plan_reference b.design b.request → a.rows ≡ b.rows → a.cycles ≡ b.cycles → a.layout ≡ b.layout → setting_summary seed size a ≡ setting_summary seed size b
 summary-same seed size a b circuits rows cycles layouts =
     ap (λ (c : FlatCircuit). summary_by seed size c a.rows a.cycles a.layout) circuits
-    ∙ ap (λ (r : List (List ℕ)). summary_by seed size b.design.circuit r a.cycles a.layout) rows
-    ∙ ap (λ n. summary_by seed size b.design.circuit b.rows n a.layout) cycles
-    ∙ ap (λ (l : Layout). summary_by seed size b.design.circuit b.rows b.cycles l) layouts
+    ∙ ap (λ (r : List (List ℕ)). summary_by seed size (plan_reference b.design b.request) r a.cycles a.layout) rows
+    ∙ ap (λ n. summary_by seed size (plan_reference b.design b.request) b.rows n a.layout) cycles
+    ∙ ap (λ (l : Layout). summary_by seed size (plan_reference b.design b.request) b.rows b.cycles l) layouts
 
 -- ---- the network of a demo
 
@@ -92,22 +93,18 @@ module _ (seed size : ℕ) (fed : Fed) (is : IsFed (demo_circuit size) (demo_par
   abbrev n : ℕ
   n = fed.trace.rows
 
-  -- the circuit's run, computed along the design's order
+  -- the reference circuit's run, computed along its order
   abbrev ran : List (List ℕ)
-  ran = rows_along design.circuit design.order fed.trace.columns n
+  ran = reference_rows design fed.case.cut.request fed.trace.columns n
+
+  abbrev reference : FlatCircuit
+  reference = plan_reference design fed.case.cut.request
 
   given : IsGiven design fed.case.cut.request demo_capacity fed.case.cut.plan fed.trace.columns n ran
-  given =
-      given-along design fed.case.cut.request demo_capacity fed.case.cut.plan fed.trace.columns n is.case.designed is.case.keeps is.case.cuts.faultless is.case.planned
-      is.case.bounded.0 is.case.bounded.1 is.most is.columns
+  given = fed_setting.given circuit partition trace demo_capacity fed is
 
-  -- the network can be built for what it computes
-  pub to-sum : (run : IsToRun fed.case.cut.plan fed.trace.columns n (fed_flow fed)) × (run.design ≡ design)
-  to-sum =
-      (record { design = design; request = fed.case.cut.request; default = demo_capacity; rows = ran; given = given; room = is.case.bounded.1; flow_is = refl }, refl)
-
-  module _ (agree : DesignsAgree) (flats : OneFlat) (once : OneRun) (some : 0 < size) (whole : n ≡ demo_cycles size) (sums : Sums) (run : IsToRun fed.case.cut.plan fed.trace.columns n (fed_flow fed)) (same : run.design ≡ design)
-      (are : AreSums fed.case.cut.plan fed.trace.columns n (fed_flow fed) run sums) where
+  module _ (agree : DesignsAgree) (once : OneRun) (some : 0 < size) (whole : n ≡ demo_cycles size) (sums : Sums)
+      (are : AreSums fed.case.cut.plan fed.trace.columns n (fed_flow fed) (to-replay circuit partition trace demo_capacity fed is) sums) where
     abbrev opening : Network
     opening = opening_net are.opens.machines (wires_of_plan fed.case.cut.plan) n
 
@@ -143,22 +140,12 @@ module _ (seed size : ℕ) (fed : Fed) (is : IsFed (demo_circuit size) (demo_par
         ∙ opening-left layout (can-run (fed_flow fed) opening kept layout own.1) 0 (omega arith)
         ∙ ap (λ k. k * (2 * length layout.links + length layout.turns + all_dues layout)) (let e : layout.end - 0 ≡ n = omega (arith, own.2.laid.end) in e)
 
-    rows : run.rows ≡ a.rows
-    rows =
-        once design.circuit design.order fed.trace.columns n run.rows a.rows is.case.designed.ordered
-        (subst (λ (d : Ordered). IsRun d.circuit fed.trace.columns n run.rows) same run.given.run) own.2.run
-
-    folds : FoldsRows design.circuit a.rows n sums.fold
-    folds =
-        subst (λ (r : List (List ℕ)). FoldsRows design.circuit r n sums.fold) rows
-        (subst (λ (d : Ordered). FoldsRows d.circuit run.rows n sums.fold) same are.folds)
-
     text : sums_text seed size sums ≡ setting_summary seed size a
     text =
-        let f = subst (λ k. FoldsRows design.circuit a.rows k sums.fold) whole folds in
+        let f = subst (λ k. FoldsRows reference a.rows k sums.fold) whole are.folds in
         let lt : 0 < 4 * size = omega (arith, some) in
         summary-of seed size (length layout.turns) (length layout.links) (n * (2 * length layout.links + length layout.turns + all_dues layout))
-        (output_column design.circuit a.rows 0) (output_column design.circuit a.rows 1) sums machines channels steps (f.last_y lt) (f.last_z lt) f.all_y f.all_z
+        (output_column reference a.rows 0) (output_column reference a.rows 1) sums machines channels steps (f.last_y lt) (f.last_z lt) f.all_y f.all_z
 
     -- the text for these sums is the summary of the demo, and there is no other
     pub sums-only : IsOnly (IsDemoText seed size) (sums_text seed size sums)
@@ -170,8 +157,8 @@ module _ (seed size : ℕ) (fed : Fed) (is : IsFed (demo_circuit size) (demo_par
               let b = told.0 in
               let y = told.1 in
               told.2
-              ∙ summary-same seed size b a (flats circuit b.design.circuit design.circuit y.means.means is.case.means.means)
-              (rows-same flats once circuit partition trace demo_capacity design.circuit design.order is.case.designed.ordered is.case.means.means n fed.trace.columns a.rows own.2.run is.feeds b y)
+              ∙ summary-same seed size b a (references-same agree circuit partition trace demo_capacity b a y x)
+              (rows-same agree once circuit partition trace demo_capacity a (reference_order design fed.case.cut.request) (case-ordered is.case) x is.feeds b y)
               (cycles-same agree circuit partition trace demo_capacity b a y x) (layouts-same agree circuit partition trace demo_capacity b a y x)
               ∙ sym text;
         }

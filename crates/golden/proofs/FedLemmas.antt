@@ -1,8 +1,10 @@
 -- How the steps of a file end for what was read: the text that is printed is the only one, and what is reported is right.
-use Rattle.std.proofs.Common.{◌≡◌, ◌↔◌, ℕ, ◌+◌, ◌*◌, ◌<◌, List, length, refl, sym, ap, ◌∙◌, subst}
+use Rattle.std.proofs.Common.{◌≡◌, ◌↔◌, ℕ, ◌+◌, ◌*◌, ◌<◌, ◌≤◌, List, length, sym, ap, ◌∙◌, subst}
 use Rattle.std.specs.Prelude.{Option, Result, Ok}
-use Rattle.gg_flat.specs.Along.{rows_along}
+use Rattle.gg_flat.specs.Ports.{output_ports}
 use Rattle.gg_flat.specs.Run.{IsRun}
+use Rattle.gg_flat.specs.Scoped.{stop_signals}
+use Rattle.gg_flat.specs.declared.ports.Port.{Port}
 use Rattle.gg_order.specs.Design.{Ordered}
 use Rattle.gg_partfile.specs.declared.request.Request.{Request}
 use Rattle.gg_cut.specs.declared.plan.Plan.{Plan}
@@ -12,26 +14,33 @@ use Rattle.gg_marking.specs.Marking.{Layout, Marking}
 use Rattle.gg_progress.specs.Measure.{all_dues}
 use Rattle.gg_paths.specs.Paths.{HavePaths}
 use Rattle.gg_paths.proofs.PortLemmas.{have-paths}
+use Rattle.gg_pipe.specs.Made.{plan_reference}
 use Rattle.gg_sound.specs.Built.{IsGiven}
+use Rattle.gg_build.specs.Build.{reference_order, reference_rows}
 use Rattle.gg_build.proofs.AlongLemmas.{given-along, to-run}
 use Rattle.gg_steps.specs.Naming.{Naming}
 use Rattle.gg_steps.specs.Steps.{steps_of}
 use Rattle.gg_told.specs.Said.{Said}
 use Rattle.gg_told.specs.Ends.{Puts}
-use Rattle.gg_told.specs.Endings.{PrintsOrStops}
+use Rattle.gg_told.specs.Endings.{Prints, PrintsOrStops}
 use Rattle.gg_told.specs.declared.endings.Ending.{Ending}
 use Rattle.gg_told.proofs.EndingLemmas.{judged-map}
 use Rattle.gg_trace.specs.Fields.{text_lines}
 use Rattle.golden.specs.Case.{IsFed}
 use Rattle.golden.specs.Replay.{CanGoOn, GoesOnUntilAll, IsReplayText, IsReplayed, IsSetting, Setting, TellsSteps, all_steps, naming_of, replay_text, replayed}
 use Rattle.golden.specs.Replayed.{AreFewNames, IsNetText, IsToReplay, TellsStop, case_naming, fed_flow}
+use Rattle.gg_printed.specs.Printed.{text_to}
+use Rattle.golden.specs.RunText.{run_text}
 use Rattle.golden.specs.declared.case.Fed.{Fed}
+use Rattle.golden.proofs.CaseLemmas.{case-fresh, case-ordered}
+use Rattle.golden.proofs.OutputLemmas.{output-ports-count, output-ports-few}
+use Rattle.golden.proofs.PrintingLemmas.{outputs-print}
 use Rattle.golden.proofs.FewLemmas.{few-names}
 use Rattle.golden.proofs.GoOnLemmas.{follows-few, line-follows}
 use Rattle.golden.proofs.PartitionLemmas.{DesignsAgree}
 use Rattle.golden.proofs.ReplayLemmas.{AreSet, are-set, frame-has, laid, naming-is, setting_of, stopped-so, text-is, went, wires-count}
 use Rattle.golden.proofs.SettingLemmas.{designs-alike, layouts-same, leads-same, ok-same, requests-same, rows-same, texts-same}
-use Rattle.golden.proofs.TextLemmas.{OneFlat, OneRun}
+use Rattle.golden.proofs.TextLemmas.{OneRun}
 
 -- ---- what a circuit, a partition and a trace that were read give
 
@@ -51,23 +60,31 @@ module _ (circuit partition trace : List ℕ) (capacity : ℕ) (fed : Fed) (is :
   abbrev n : ℕ
   n = fed.trace.rows
 
-  -- the circuit's run, computed along the design's order
+  -- the reference circuit's run, computed along its order
   abbrev rows : List (List ℕ)
-  rows = rows_along design.circuit design.order columns n
+  rows = reference_rows design request columns n
 
-  given : IsGiven design request capacity plan columns n rows
-  given = given-along design request capacity plan columns n is.case.designed is.case.keeps is.case.cuts.faultless is.case.planned is.case.bounded.0 is.case.bounded.1 is.most is.columns
+  pub given : IsGiven fed.case.design fed.case.cut.request capacity fed.case.cut.plan fed.trace.columns fed.trace.rows (reference_rows fed.case.design fed.case.cut.request fed.trace.columns fed.trace.rows)
+  given = given-along design request capacity plan columns n is.case.designed is.case.keeps is.case.held (case-fresh is.case) is.case.cuts.faultless is.case.planned is.case.bounded.0 is.case.bounded.1 is.most is.columns
 
   -- the plan's network can be built
   pub to-replay : IsToReplay fed (fed_flow fed)
-  to-replay = to-run design request capacity plan columns n is.case.designed is.case.keeps is.case.cuts.faultless is.case.planned is.case.bounded.0 is.case.bounded.1 is.most is.columns
+  to-replay = to-run design request capacity plan columns n is.case.designed is.case.keeps is.case.held (case-fresh is.case) is.case.cuts.faultless is.case.planned is.case.bounded.0 is.case.bounded.1 is.most is.columns
 
-  -- and it is that of the design
-  pub to-print : (run : IsToReplay fed (fed_flow fed)) × (run.design ≡ design)
-  to-print = (record { design = design; request = request; default = capacity; rows = rows; given = given; room = is.case.bounded.1; flow_is = refl }, refl)
-
-  pub own-run : IsRun design.circuit columns n rows
+  pub own-run : IsRun (plan_reference fed.case.design fed.case.cut.request) fed.trace.columns fed.trace.rows (reference_rows fed.case.design fed.case.cut.request fed.trace.columns fed.trace.rows)
   own-run = given.run
+
+  -- what is printed of that run for the ports of the top's outputs is printed of the outputs
+  pub fed-prints : {T : Type 0} (before now : Option (List ℕ)) (failed : Type 0) (r : Result T Ending) (ports : List Port) (ran : List (List ℕ)) → ports ≡ output_ports fed.case.design.circuit fed.case.design.tree
+      → Prints before now failed (text_to (plan_reference fed.case.design fed.case.cut.request) ports ran fed.trace.rows) r → Prints before now failed (run_text fed.case.design fed.case.cut.request ran fed.trace.rows) r
+  fed-prints {T = T} before now failed r ports ran e prints =
+      let stops = stop_signals design.tree in
+      outputs-print T before now failed r design request stops ports n is.case.keeps.scoped.outs e
+      (ap (λ (l : List Port). length l) e ∙ output-ports-count design.circuit design.tree stops is.case.keeps.scoped.outs is.case.designed.formed) ran prints
+
+  -- there are no more such ports than out-signals
+  pub fed-ports : (ports : List Port) → ports ≡ output_ports fed.case.design.circuit fed.case.design.tree → length ports ≤ length fed.case.design.circuit.outs
+  fed-ports ports e = output-ports-few design.circuit design.tree (stop_signals design.tree) is.case.keeps.scoped.outs is.case.designed.formed ports e
 
   -- its names are few
   pub few-named : AreFewNames plan design.tree
@@ -83,7 +100,7 @@ module _ (circuit partition trace : List ℕ) (capacity : ℕ) (fed : Fed) (is :
   own-setting : (layout : Layout) → AreSet design request capacity n columns rows layout → IsSetting circuit partition trace capacity (setting layout)
   own-setting layout are = record { means = is.case.means; cuts = is.case.cuts; feeds = is.feeds.feeds; run = are.run; laid = are.laid }
 
-  module _ (agree : DesignsAgree) (flats : OneFlat) (once : OneRun) where
+  module _ (agree : DesignsAgree) (once : OneRun) where
     -- the text of the marking that the steps lead to is the only one
     only-replay-text : (layout : Layout) (are : AreSet design request capacity n columns rows layout) (steps : List ℕ) (marking : Marking)
         → replayed (setting layout) steps ≡ Ok marking → (other : List ℕ) → IsReplayText circuit partition trace capacity steps other
@@ -94,7 +111,7 @@ module _ (circuit partition trace : List ℕ) (capacity : ℕ) (fed : Fed) (is :
         let same = ok-same (replayed b steps) (replayed a steps) another marking (leads-same agree circuit partition trace capacity b a y x steps) led leads in
         told ∙ texts-same b a another marking (designs-alike agree circuit partition trace capacity b a y x) (requests-same agree circuit partition trace capacity b a y x)
         (layouts-same agree circuit partition trace capacity b a y x)
-        (rows-same flats once circuit partition trace capacity design.circuit design.order is.case.designed.ordered is.case.means.means n columns rows are.run is.feeds b y) same
+        (rows-same agree once circuit partition trace capacity a (reference_order design request) (case-ordered is.case) x is.feeds b y) same
 
     -- a line can be added to the steps exactly if they are fewer than all
     on-until-all : (layout : Layout) (are : AreSet design request capacity n columns rows layout) (steps : List ℕ) (marking : Marking)

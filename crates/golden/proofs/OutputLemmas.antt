@@ -55,6 +55,5 @@ module _ (circuit : FlatCircuit) (tree : InstanceTree) (stops : List ℕ) (outs 
   pub output-ports-count : length (output_ports circuit tree) ≡ length (outputs_of tree)
   output-ports-count = ports-count circuit formed (outputs_of tree) output-known
 
-  pub output-ports-few : (simulated : FlatCircuit) (ports : List Port) → simulated ≡ circuit → ports ≡ output_ports circuit tree → length ports ≤ length simulated.outs
-  output-ports-few simulated ports e f =
-      omega (arith, few, output-ports-count, ap (λ (p : List Port). length p) f, ap (λ (c : FlatCircuit). length c.outs) e)
+  pub output-ports-few : (ports : List Port) → ports ≡ output_ports circuit tree → length ports ≤ length circuit.outs
+  output-ports-few ports e = omega (arith, few, output-ports-count, ap (λ (p : List Port). length p) e)

@@ -1,5 +1,5 @@
 -- The rows of a run, one by one.
-use Rattle.std.proofs.Common.{◌≡◌, ℕ, suc, ◌+◌, ◌<◌, List, [], ◌++◌, length, take, sym, ap, ◌∙◌, subst, arith}
+use Rattle.std.proofs.Common.{◌≡◌, ℕ, suc, ◌+◌, ◌<◌, List, [], ◌++◌, length, map, take, sym, ap, ◌∙◌, subst, arith}
 use Rattle.std.specs.Prelude.{Option, Result, Err}
 use Rattle.std.specs.Io.KnownBytes.{append_known}
 use Rattle.std.proofs.lemmas.List.{take-map}
@@ -20,8 +20,12 @@ use Rattle.gg_told.specs.declared.endings.Ending.{Ending}
 use Rattle.gg_told.specs.Ends.{IsFront}
 use Rattle.gg_flat.specs.Ports.{output_ports}
 use Rattle.gg_flat.specs.Clock.{Ratio, edges_at}
-use Rattle.gg_flat.specs.Tree.{InstanceTree}
-use Rattle.golden.specs.RunText.{columns_of, outputs_of}
+use Rattle.gg_order.specs.Design.{Ordered}
+use Rattle.gg_partfile.specs.declared.request.Request.{Request}
+use Rattle.gg_cut.specs.Direct.{plan_hub}
+use Rattle.gg_pipe.specs.Links.{taken_as}
+use Rattle.gg_pipe.specs.Made.{plan_reference}
+use Rattle.golden.specs.RunText.{columns_of, outputs_kept, outputs_of, run_text}
 use Rattle.gg_told.specs.Endings.{Prints, PrintsOn}
 use Rattle.gg_told.specs.WentOn.{SinkWentOn}
 use Rattle.gg_told.proofs.WritingLemmas.{append_known-append, on-then, rose-earlier, stop-within}
@@ -115,21 +119,16 @@ module _ {K : Type 0} {circuit : FlatCircuit} {inputs : Table} {ports : List Por
       (subst (λ (x : List ℕ). IsFront x whole) (sym (trace_text-more ports (shown_columns circuit ports rows) t shown ((follows-so rows run).row (length ports)))) front)
       prints)
 
--- the first of the out-signals are the top's outputs, so what is printed for as many ports is printed for these
-pub outputs-print : (T : Type 0) (before now : Option (List ℕ)) (failed : Type 0) (r : Result T Ending) (circuit : FlatCircuit) (tree : InstanceTree) (stops : List ℕ) (ports : List Port) (n : ℕ)
-    → outputs_of tree ++ stops ≡ circuit.outs → ports ≡ output_ports circuit tree → length ports ≡ length (outputs_of tree) → (rows : List (List ℕ))
-    → Prints before now failed (text_to circuit ports rows n) r → Prints before now failed (trace_text (output_ports circuit tree) (columns_of (outputs_of tree) rows) n) r
-outputs-print T before now failed r circuit tree stops ports n outs f count rows prints =
-    let shown : take (length ports) circuit.outs ≡ outputs_of tree =
-    ap (λ k. take k circuit.outs) count ∙ ap (take (length (outputs_of tree))) (sym outs) ∙ take-append_seam (outputs_of tree) stops in
-    subst (λ (signals : List ℕ). Prints before now failed (trace_text (output_ports circuit tree) (columns_of signals rows) n) r) shown
-    (subst (λ (p : List Port). Prints before now failed (trace_text p (columns_of (take (length ports) circuit.outs) rows) n) r) f prints)
-
--- the same of what is printed for the simulated circuit, in any run
-pub run-prints : (T : Type 0) (before now : Option (List ℕ)) (failed : Type 0) (r : Result T Ending) (circuit simulated : FlatCircuit) (tree : InstanceTree) (stops : List ℕ) (ports : List Port) (columns : List (List ℕ)) (n : ℕ)
-    → simulated ≡ circuit → outputs_of tree ++ stops ≡ circuit.outs → ports ≡ output_ports circuit tree → length ports ≡ length (outputs_of tree) → (rows : List (List ℕ)) → IsRun circuit columns n rows
-    → ((rows : List (List ℕ)) → IsRun simulated columns n rows → Prints before now failed (text_to simulated ports rows n) r)
-    → Prints before now failed (trace_text (output_ports circuit tree) (columns_of (outputs_of tree) rows) n) r
-run-prints T before now failed r circuit simulated tree stops ports columns n e outs f count rows run prints =
-    outputs-print T before now failed r circuit tree stops ports n outs f count rows
-    (subst (λ (c : FlatCircuit). IsRun c columns n rows → Prints before now failed (text_to c ports rows n) r) e (prints rows) run)
+-- the first out-signals of the reference circuit have the values of the top's outputs, so what is printed for as many ports is
+-- printed for these
+pub outputs-print : (T : Type 0) (before now : Option (List ℕ)) (failed : Type 0) (r : Result T Ending) (design : Ordered) (request : Request) (stops : List ℕ) (ports : List Port) (n : ℕ)
+    → outputs_of design.tree ++ stops ≡ design.circuit.outs → ports ≡ output_ports design.circuit design.tree → length ports ≡ length (outputs_of design.tree) → (rows : List (List ℕ))
+    → Prints before now failed (text_to (plan_reference design request) ports rows n) r → Prints before now failed (run_text design request rows n) r
+outputs-print T before now failed r design request stops ports n outs f count rows prints =
+    let kept = taken_as (plan_hub design.circuit design.tree request) in
+    let first : take (length ports) design.circuit.outs ≡ outputs_of design.tree =
+    ap (λ k. take k design.circuit.outs) count ∙ ap (take (length (outputs_of design.tree))) (sym outs) ∙ take-append_seam (outputs_of design.tree) stops in
+    let shown : take (length ports) (plan_reference design request).outs ≡ outputs_kept design request =
+    take-map kept (length ports) design.circuit.outs ∙ ap (map kept) first in
+    subst (λ (signals : List ℕ). Prints before now failed (trace_text (output_ports design.circuit design.tree) (columns_of signals rows) n) r) shown
+    (subst (λ (p : List Port). Prints before now failed (trace_text p (columns_of (take (length ports) (plan_reference design request).outs) rows) n) r) f prints)

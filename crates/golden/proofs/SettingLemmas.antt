@@ -1,10 +1,7 @@
 -- Two settings of the same bytes: the same steps may be done, and the same is reported for a step that isn't.
 use Rattle.std.proofs.Common.{◌≡◌, ℕ, List, refl, sym, ap, ◌∙◌, subst, inr}
 use Rattle.std.specs.Prelude.{Result, Ok, Err}
-use Rattle.gg_flat.specs.Circuit.{FlatCircuit}
 use Rattle.gg_flat.specs.Order.{IsOrder}
-use Rattle.gg_flat.specs.Run.{IsRun}
-use Rattle.gg_front.specs.Meaning.{Means}
 use Rattle.gg_order.specs.Design.{Ordered}
 use Rattle.gg_partfile.proofs.OnceLemmas.{request-once}
 use Rattle.gg_partfile.specs.declared.request.Request.{Request}
@@ -14,6 +11,7 @@ use Rattle.gg_marking.specs.Marking.{Layout, Marking, opening_marking}
 use Rattle.gg_marking.specs.Goes.{Stopped, replayed_from}
 use Rattle.gg_layout.specs.CutLayout.{IsLayoutOf}
 use Rattle.gg_layout.proofs.OneLemmas.{one-layout}
+use Rattle.gg_pipe.specs.Made.{plan_reference}
 use Rattle.gg_steps.specs.Naming.{Naming}
 use Rattle.gg_steps.specs.Steps.{steps_of}
 use Rattle.gg_told.specs.Said.{Said}
@@ -22,7 +20,7 @@ use Rattle.golden.specs.Replay.{AreDone, IsSetting, Setting, TellsSteps, naming_
 use Rattle.golden.specs.RunText.{FeedsOnly}
 use Rattle.gg_told.proofs.OrderLemmas.{exact-by}
 use Rattle.golden.proofs.PartitionLemmas.{DesignsAgree}
-use Rattle.golden.proofs.TextLemmas.{OneFlat, OneRun, same-run}
+use Rattle.golden.proofs.TextLemmas.{OneRun, reference-same, same-run}
 
 -- ---- names
 
@@ -37,6 +35,9 @@ module _ (agree : DesignsAgree) (circuit partition trace : List ℕ) (capacity :
 
   pub requests-same : a.request ≡ b.request
   requests-same = request-once partition a.request b.request x.cuts.asks y.cuts.asks
+
+  pub references-same : plan_reference a.design a.request ≡ plan_reference b.design b.request
+  references-same = reference-same a.design b.design designs-alike a.request b.request requests-same
 
   pub cycles-same : a.cycles ≡ b.cycles
   cycles-same = sym x.feeds.count ∙ y.feeds.count
@@ -103,9 +104,10 @@ texts-same a b one other s requests layouts rows same =
     ∙ ap (λ (r : List (List ℕ)). replay_text (record a { design = b.design; request = b.request; layout = b.layout; rows = r }) one) rows
     ∙ ap (λ (m : Marking). replay_text b m) same
 
--- each setting of the same circuit and trace has the rows of this run
-pub rows-same : OneFlat → OneRun → (circuit partition trace : List ℕ) (capacity : ℕ) (flat : FlatCircuit) (order : List ℕ) → IsOrder flat order → Means circuit flat
-    → (n : ℕ) (columns rows : List (List ℕ)) → IsRun flat columns n rows → FeedsOnly flat trace n columns
-    → (other : Setting) → IsSetting circuit partition trace capacity other → other.rows ≡ rows
-rows-same flats once circuit partition trace capacity flat order ordered means n columns rows run feeds other y =
-    (same-run flats once circuit trace flat order ordered means n columns rows run feeds other.design.circuit y.means.means other.cycles other.columns other.rows y.feeds y.run).1
+-- each setting of the same circuit and trace has the rows of this one
+pub rows-same : DesignsAgree → OneRun → (circuit partition trace : List ℕ) (capacity : ℕ) (own : Setting) (order : List ℕ) → IsOrder (plan_reference own.design own.request) order
+    → IsSetting circuit partition trace capacity own → FeedsOnly own.design.circuit trace own.cycles own.columns
+    → (other : Setting) → IsSetting circuit partition trace capacity other → other.rows ≡ own.rows
+rows-same agree once circuit partition trace capacity own order ordered x feeds other y =
+    (same-run once trace own.design.circuit (plan_reference own.design own.request) order ordered own.cycles own.columns own.rows x.run feeds other.design.circuit (plan_reference other.design other.request)
+    (designs-alike agree circuit partition trace capacity other own y x).circuit (references-same agree circuit partition trace capacity other own y x) other.cycles other.columns other.rows y.feeds y.run).1

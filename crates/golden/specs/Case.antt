@@ -1,27 +1,32 @@
 -- What the code has once the first files of a command are read.
-use Rattle.std.specs.Prelude.{ℕ, ◌≤◌, List}
+use Rattle.std.specs.Prelude.{ℕ, ◌≤◌, List, Result}
 use Rattle.gg_limits.specs.Limits.{cycle_limit}
 use Rattle.gg_cut.specs.Plan.{IsPlan}
-use Rattle.gg_flat.specs.Run.{IsColumns}
+use Rattle.gg_flat.specs.Run.{IsColumns, IsRun}
 use Rattle.gg_front.specs.Meaning.{MeansDesign}
 use Rattle.gg_io.specs.Told.{Told}
 use Rattle.gg_moved.specs.KeepsToTree.{KeepsToTree}
 use Rattle.gg_order.specs.Design.{IsDesign}
+use Rattle.gg_io.specs.declared.output.Sink
+use Rattle.gg_pipe.specs.Made.{AreHeldOnce, plan_reference}
+use Rattle.gg_told.specs.Endings.{PrintsOn}
+use Rattle.gg_told.specs.declared.endings.Ending.{Ending}
 use Rattle.gg_told.specs.Order.{CanBe, Order, Write}
 use Rattle.gg_words.specs.Range.{IsCapacity}
 use Rattle.golden.specs.Commands.{Asked, read_order, fed_order}
 use Rattle.golden.specs.Partition.{Cuts, partition_file_for}
 use Rattle.golden.specs.Run.{circuit_file, trace_file_for}
-use Rattle.golden.specs.RunText.{FeedsOnly}
+use Rattle.golden.specs.RunText.{FeedsOnly, run_text}
 use Rattle.golden.specs.declared.case.Case.{Case}
 use Rattle.golden.specs.declared.case.Fed.{Fed}
 
--- The bytes of a circuit and of a partition mean this design, which keeps to its tree, and this request. This is the plan
--- of their cut, with this capacity of the channels that the request doesn't name.
+-- The bytes of a circuit and of a partition mean this design, which keeps to its tree and in which no two signals hold one register,
+-- and this request. This is the plan of their cut, with this capacity of the channels that the request doesn't name.
 pub record IsCase (circuit partition : List ℕ) (capacity : ℕ) (case : Case) : Type 0 where
   pub means : MeansDesign circuit case.design
   pub designed : IsDesign case.design
   pub keeps : KeepsToTree case.design.circuit case.design.tree
+  pub held : AreHeldOnce case.design.circuit
   pub cuts : Cuts case.design partition case.cut.request
   pub bounded : IsCapacity capacity
   pub planned : IsPlan case.design case.cut.request capacity case.cut.plan
@@ -40,6 +45,12 @@ pub record IsFed (circuit partition trace : List ℕ) (capacity : ℕ) (fed : Fe
   pub feeds : FeedsOnly fed.case.design.circuit trace fed.trace.rows fed.trace.columns
   pub most : fed.trace.rows ≤ cycle_limit
   pub columns : IsColumns fed.case.design.circuit fed.trace.rows fed.trace.columns
+
+-- The text of the run of the reference circuit on what the trace gives is printed, or printing stopped.
+abbrev pub PrintsFed : {T K : Type 0} → Sink.Ghosts K → (out out' : K) → Fed → Result T Ending → Type 0
+PrintsFed sink out out' fed result =
+    (rows : List (List ℕ)) × IsRun (plan_reference fed.case.design fed.case.cut.request) fed.trace.columns fed.trace.rows rows
+    × PrintsOn sink out out' (run_text fed.case.design fed.case.cut.request rows fed.trace.rows) result
 
 -- the trace is that of bytes that the third file can have
 pub record FedRead (files : List ℕ → Told) (asked : Asked) (trace : List ℕ) (fed : Fed) : Type 0 where

@@ -43,11 +43,12 @@ trace_of (Replay circuit partition trace steps capacity) = Some trace
 trace_of (Check circuit partition capacity) = None
 trace_of (Demo seed size workers) = None
 
--- What comes after a circuit and a partition with these bytes: `run` writes the text of the circuit's run on a trace,
+-- What comes after a circuit and a partition with these bytes: `run` writes the text of the circuit's run on a trace, with the pipes
+-- that the partition asks for,
 -- `replay` that of the marking that the steps of a file lead to, `check` that of the cut. `demo` has no files before its
 -- text, the summary of the demo.
 abbrev pub order_behind : Cmd → (circuit partition : List ℕ) → Order
-order_behind (Run circuit partition trace capacity workers mono) c p = Load (trace_file_for c trace) (λ t. Write (IsTextOf c t))
+order_behind (Run circuit partition trace capacity workers mono) c p = Load (trace_file_for c trace) (λ t. Write (IsTextOf c p t))
 order_behind (Replay circuit partition trace steps capacity) c p =
     Load (trace_file_for c trace) (λ t. Load (steps_file_for c p t capacity steps) (λ s. Write (IsReplayOf c p t capacity s)))
 order_behind (Check circuit partition capacity) c p = Write (IsCutTextOf c p capacity)

@@ -5,6 +5,7 @@ use Rattle.gg_demo.specs.CircuitText.{demo_circuit}
 use Rattle.gg_demo.specs.PartitionText.{demo_partition}
 use Rattle.gg_demo.specs.SummaryText.{demo_summary}
 use Rattle.gg_demo.specs.TraceText.{demo_trace}
+use Rattle.gg_pipe.specs.Made.{plan_reference}
 use Rattle.gg_summed.specs.Sums.{output_column}
 use Rattle.golden.specs.Replay.{IsSetting, Setting, all_steps}
 
@@ -17,12 +18,12 @@ demo_capacity = 2
 abbrev pub IsDemoSetting : (seed size : ℕ) → Setting → Type 0
 IsDemoSetting seed size setting = IsSetting (demo_circuit size) (demo_partition size) (demo_trace seed size) demo_capacity setting
 
--- The summary in a setting: how many machines, channels and steps there are, and the columns that the circuit's first two
--- out-signals, y and z, have in its own run.
+-- The summary in a setting: how many machines, channels and steps there are, and the columns that the first two out-signals, y
+-- and z, have in the run of the reference circuit. That is the circuit itself, since a demo's partition asks for no pipe.
 abbrev pub setting_summary : (seed size : ℕ) → Setting → List ℕ
 setting_summary seed size setting =
     demo_summary seed size (length setting.layout.turns) (length setting.layout.links) (all_steps setting)
-    (output_column setting.design.circuit setting.rows 0) (output_column setting.design.circuit setting.rows 1)
+    (output_column (plan_reference setting.design setting.request) setting.rows 0) (output_column (plan_reference setting.design setting.request) setting.rows 1)
 
 -- the summary of the demo of this seed and size
 abbrev pub IsDemoText : (seed size : ℕ) (text : List ℕ) → Type 0

@@ -1,6 +1,6 @@
 -- The partition of a command: what its file holds, and which fault it has for a circuit.
 -- Sources: RFC 8259 and ICCAD 2019, as named in the crates that read a partition and check it. The numbers of the
--- faults are this program's own: P1 is a fault of the file, P2 to P9 are faults, for a design, of the request that it
+-- faults are this program's own: P1 is a fault of the file, P2 to P11 are faults, for a design, of the request that it
 -- holds.
 use Rattle.std.specs.Prelude.{◌≡◌, ℕ, List, Some, None}
 use Rattle.gg_cut.specs.Fault as cut
@@ -22,7 +22,7 @@ pub record Cuts (design : Ordered) (bytes : List ℕ) (request : Request) : Type
   pub faultless : cut.first_fault design request ≡ None
 
 -- The bytes have the fault with this text: they hold no request (P1), or this is the first fault that the request that
--- they hold has for the design (P2 to P9).
+-- they hold has for the design (P2 to P11).
 pub data HasFault (design : Ordered) (bytes text : List ℕ) : Type 0 where
   OfFile : (key : List ℕ) (wrong : file.IsRefused bytes key) (is : text ≡ file.fault_text (WrongKey key)) → HasFault design bytes text
   OfRequest : (request : Request) (asks : IsPartition bytes request) (fault : CutFault) (first : cut.first_fault design request ≡ Some fault) (is : text ≡ cut.fault_text fault) → HasFault design bytes text

@@ -19,6 +19,7 @@ use Rattle.gg_cut.specs.declared.listed.Listed.{Listed}
 use Rattle.gg_cut.specs.declared.wires.Wire.{Wire}
 use Rattle.gg_check.specs.CheckText.{channel_name}
 use Rattle.gg_net.specs.declared.event.Event.{Event}
+use Rattle.gg_pipe.specs.Made.{plan_reference}
 use Rattle.gg_marking.specs.Marking.{Layout, Marking, opening_marking, entered, puts, takes}
 use Rattle.gg_marking.specs.Goes.{Stopped, replayed_from}
 use Rattle.gg_progress.specs.Measure.{all_dues}
@@ -38,8 +39,8 @@ use Rattle.golden.specs.RunText.{Feeds}
 
 -- ---- what a circuit, a partition and a trace mean
 
--- A design, a request, the columns of the top's inputs for some cycles, the circuit's run on them, and the layout of
--- the request's cut.
+-- A design, a request, the columns of the top's inputs for some cycles, the run of the reference circuit on them, and the
+-- layout of the request's cut.
 pub record Setting : Type 0 where
   pub design : Ordered
   pub request : Request
@@ -54,7 +55,7 @@ pub record IsSetting (circuit partition trace : List ℕ) (capacity : ℕ) (sett
   pub means : MeansDesign circuit setting.design
   pub cuts : Cuts setting.design partition setting.request
   pub feeds : Feeds setting.design.circuit trace setting.cycles setting.columns
-  pub run : IsRun setting.design.circuit setting.columns setting.cycles setting.rows
+  pub run : IsRun (plan_reference setting.design setting.request) setting.columns setting.cycles setting.rows
   pub laid : IsLayoutOf setting.design setting.request capacity setting.cycles setting.layout
 
 -- ---- names

@@ -63,7 +63,7 @@ net_text plan flow net = flat_map (net_line plan flow net) (range_with_len 0 (le
 
 -- what the plan's network computes on the trace
 abbrev pub fed_flow : Fed → Flow
-fed_flow fed = flow_along fed.case.design fed.case.cut.plan fed.trace.columns fed.trace.rows
+fed_flow fed = flow_along fed.case.design fed.case.cut.request fed.case.cut.plan fed.trace.columns fed.trace.rows
 
 -- the plan's network can be built for this flow
 abbrev pub IsToReplay : Fed → Flow → Type 0

@@ -3,6 +3,8 @@ use Rattle.std.specs.Prelude.{◌≡◌, ◌≢◌, ℕ, List}
 use Rattle.gg_flat.specs.Circuit.{FlatCircuit}
 use Rattle.gg_front.specs.Meaning.{Means, MeansDesign}
 use Rattle.gg_order.specs.Design.{Ordered}
+use Rattle.gg_partfile.specs.Partition.{IsPartition}
+use Rattle.gg_partfile.specs.declared.request.Request.{Request}
 use Rattle.gg_front.specs.Accepted.{IsAcceptedText}
 use Rattle.gg_front.specs.Fault.{HasFrontFault, front_text}
 use Rattle.gg_front.specs.declared.fault.FrontFault.{FrontFault}
@@ -51,6 +53,7 @@ TellsTraceFor circuit trace said = (flat : FlatCircuit) × Means circuit flat ×
 abbrev pub trace_file_for : (circuit name : List ℕ) → File
 trace_file_for circuit name = trace_file name (IsTraceFor circuit) (TellsTraceFor circuit)
 
--- the text of the run of the circuit that these bytes mean, on this trace
-abbrev pub IsTextOf : (circuit trace text : List ℕ) → Type 0
-IsTextOf circuit trace text = (design : Ordered) × MeansDesign circuit design × IsRunText design.circuit design.tree trace text
+-- The text of the run of a design that these bytes mean, with the pipes that the partition's request asks for, on this trace.
+abbrev pub IsTextOf : (circuit partition trace text : List ℕ) → Type 0
+IsTextOf circuit partition trace text =
+    (design : Ordered) × MeansDesign circuit design × ((request : Request) × IsPartition partition request × IsRunText design request trace text)

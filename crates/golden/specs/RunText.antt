@@ -1,5 +1,6 @@
--- The text of a circuit's own run on a trace: what `run` writes.
--- Source: ICCAD 2019 (Golden Gate) for target cycles as rows; FIRRTL Specification for what a cycle is (crate gg_flat).
+-- The text of the run of a design on a trace, with the pipes that a request asks for: what `run` writes.
+-- Source: ICCAD 2019 (Golden Gate) for target cycles as rows; FIRRTL Specification for what a cycle is (crate gg_flat). MEMOCODE 2009
+-- (a buffer with a token in it at the start) for pipes, by which gg_pipe defines the reference circuit.
 use Rattle.std.specs.Prelude.{◌≡◌, ℕ, List, map}
 use Rattle.gg_flat.specs.Circuit.{FlatCircuit}
 use Rattle.gg_flat.specs.Run.{IsRun, column}
@@ -8,6 +9,11 @@ use Rattle.gg_trace.specs.Printing.{trace_text}
 use Rattle.gg_flat.specs.Ports.{in_ports, output_ports}
 use Rattle.gg_flat.specs.Scoped.{output_signals}
 use Rattle.gg_flat.specs.Tree.{InstanceTree, instance_at}
+use Rattle.gg_order.specs.Design.{Ordered}
+use Rattle.gg_partfile.specs.declared.request.Request.{Request}
+use Rattle.gg_cut.specs.Direct.{plan_hub}
+use Rattle.gg_pipe.specs.Links.{taken_as}
+use Rattle.gg_pipe.specs.Made.{plan_reference}
 
 -- the top's outputs, in port order
 abbrev pub outputs_of : InstanceTree → List ℕ
@@ -30,13 +36,21 @@ pub record FeedsOnly (circuit : FlatCircuit) (trace : List ℕ) (n : ℕ) (colum
 abbrev pub IsTraceOf : FlatCircuit → List ℕ → Type 0
 IsTraceOf circuit trace = (n : ℕ) × (columns : List (List ℕ)) × Feeds circuit trace n columns
 
--- The text of the circuit's run. The trace gives the columns of its inputs for some cycles, and `rows` is its run on
--- them. The text is a header and a row for each cycle, with the columns of the top's outputs in the run. Stops are
--- printed nowhere.
-pub record IsRunText (circuit : FlatCircuit) (tree : InstanceTree) (trace text : List ℕ) : Type 0 where
+-- the signals of the reference circuit that have the values of the top's outputs: an output itself, or the register of its pipe
+abbrev pub outputs_kept : Ordered → Request → List ℕ
+outputs_kept design request = map (taken_as (plan_hub design.circuit design.tree request)) (outputs_of design.tree)
+
+-- a header, and a row for each cycle, with the columns of the top's outputs in a run of the reference circuit
+abbrev pub run_text : Ordered → Request → (rows : List (List ℕ)) → (n : ℕ) → List ℕ
+run_text design request rows n = trace_text (output_ports design.circuit design.tree) (columns_of (outputs_kept design request) rows) n
+
+-- The text of the run of a design with the pipes that a request asks for. The trace gives the columns of the circuit's inputs for some
+-- cycles, and `rows` is the run of the reference circuit on them. The reference circuit has the same inputs, and it is the
+-- circuit itself if the request asks for no pipe (gg_pipe's law `nothing_piped`). Stops are printed nowhere.
+pub record IsRunText (design : Ordered) (request : Request) (trace text : List ℕ) : Type 0 where
   pub cycles : ℕ
   pub columns : List (List ℕ)
   pub rows : List (List ℕ)
-  pub feeds : Feeds circuit trace cycles columns
-  pub run : IsRun circuit columns cycles rows
-  pub is : text ≡ trace_text (output_ports circuit tree) (columns_of (outputs_of tree) rows) cycles
+  pub feeds : Feeds design.circuit trace cycles columns
+  pub run : IsRun (plan_reference design request) columns cycles rows
+  pub is : text ≡ run_text design request rows cycles

@@ -6,6 +6,8 @@ ghost use Rattle.gg_demo.specs.PartitionText.{demo_partition};
 ghost use Rattle.gg_demo.specs.TraceText.{demo_cycles, demo_trace};
 ghost use Rattle.gg_front.specs.Meaning.{MeansDesign};
 ghost use Rattle.gg_moved.specs.KeepsToTree.{KeepsToTree};
+ghost use Rattle.gg_pipe.specs.Made.{AreHeldOnce};
+ghost use Rattle.gg_summed.specs.Sums.{AreSums};
 ghost use Rattle.gg_told.specs.Ends.{puts_of};
 ghost use Rattle.gg_told.specs.Endings.{PrintsOrStops};
 ghost use Rattle.gg_told.specs.Order.{IsOnly};
@@ -13,6 +15,7 @@ ghost use Rattle.gg_told.specs.WentOn.{SinkWentOn};
 ghost use Rattle.golden.specs.Case.{IsFed};
 ghost use Rattle.golden.specs.Demo.{IsDemoText, demo_capacity};
 ghost use Rattle.golden.specs.Partition.{Cuts};
+ghost use Rattle.golden.specs.Replayed.{IsToReplay};
 
 use crate::case::{Case, Fed};
 use crate::limits::{CIRCUIT_LIMIT, PARTITION_LIMIT};
@@ -22,10 +25,11 @@ use gg_demo::{circuit_text, partition_text, trace_text};
 use gg_flat::run_once;
 use gg_front::{front, one_meaning};
 use gg_io::{Gate, Sink};
+use gg_net::Streams;
 use gg_order::Design;
-use gg_summed::{put_summary, sum_net};
+use gg_summed::{Sums, put_summary, sum_net};
 use gg_told::Ending;
-use std::alloc::Global;
+use std::alloc::{AllocError, Global};
 use std::marker::Brand;
 use std::thread::Threads;
 
@@ -37,6 +41,7 @@ fn demo_design(alloc: Global, size: u32) -> Result<Design, Ending>
     requires { 0 < size }
     ensures means { IfOk result (MeansDesign (demo_circuit size)) }
     ensures keeps { IfOk result (λ design. KeepsToTree design.circuit design.tree) }
+    ensures held { IfOk result (λ design. AreHeldOnce design.circuit) }
 {
     let text = circuit_text(alloc, size)?;
     let bytes = text.as_bytes();
@@ -94,6 +99,31 @@ fn is_whole(fed: &Fed, size: u32) -> bool
     piece.outs().len() >= 2 && fed.trace.rows() == 4 * u64::from(size)
 }
 
+// Runs the network of the plan, whose channels carry the values of a flow, and folds its rows.
+fn sum_fed<R: Threads + Sync, Z: Streams, G: Gate + Sync>(
+    rt: &R,
+    alloc: Global,
+    fed: &Fed,
+    workers: u32,
+    gate: &G,
+) -> Result<Sums, AllocError>
+    requires few { workers ≤ 64 }
+    requires run { (run : IsToReplay fed.now Z.flow) × (run.design ≡ fed.now.case.design) }
+    requires two { 2 ≤ length fed.now.case.design.circuit.outs }
+    ensures { IfOk result (λ sums. (run : IsToReplay fed.now Z.flow) → run.design ≡ fed.now.case.design → AreSums fed.now.case.cut.plan fed.now.trace.columns fed.now.trace.rows Z.flow run sums) }
+{
+    let case = &fed.case;
+    sum_net::<R, Z, G>(
+        rt,
+        alloc,
+        &case.design,
+        &case.cut.plan,
+        &fed.trace,
+        workers,
+        gate,
+    )
+}
+
 // Runs the network of a demo, and writes the summary.
 fn print_demo<R: Threads + Sync, K: Sink, G: Gate + Sync>(
     rt: &R,
@@ -116,16 +146,7 @@ fn print_demo<R: Threads + Sync, K: Sink, G: Gate + Sync>(
     if !is_whole(fed, size) {
         return Err(Ending::NoMemory);
     }
-    let case = &fed.case;
-    let sums = sum_net::<R, Brand, G>(
-        rt,
-        alloc,
-        &case.design,
-        &case.cut.plan,
-        &fed.trace,
-        workers,
-        gate,
-    )?;
+    let sums = sum_fed::<R, Brand, G>(rt, alloc, fed, workers, gate)?;
     put_summary(alloc, seed, size, &sums, out)
 }
 

@@ -13,13 +13,18 @@ ghost use Rattle.gg_moved.specs.KeepsToTree.{KeepsToTree};
 ghost use Rattle.gg_refsim.specs.Cycle.{Cycle};
 ghost use Rattle.gg_trace.specs.Printing.{row_line, trace_text};
 ghost use Rattle.gg_flat.specs.Ports.{output_ports};
+ghost use Rattle.gg_pipe.specs.Made.{plan_reference};
+ghost use Rattle.gg_printed.specs.Printed.{text_to};
+ghost use Rattle.golden.specs.Case.{IsCase, IsFed, PrintsFed};
 ghost use Rattle.golden.specs.RunText.{columns_of, outputs_of};
 ghost use Rattle.gg_told.specs.Endings.{Prints, PrintsOn};
 ghost use Rattle.gg_told.specs.WentOn.{SinkWentOn};
 
+use crate::case::{Case, Fed};
 use gg_flat::{InstancePort, Ports, Tree, runs_along, settled_once};
 use gg_io::Sink;
 use gg_order::Design;
+use gg_pipe::pipe;
 use gg_refsim::Mono;
 use gg_told::{Ending, put};
 use gg_trace::{Trace, header_text, row_text};
@@ -145,18 +150,19 @@ pub(crate) fn top_ports(alloc: Global, design: &Design) -> Result<Ports, AllocEr
     Ok(ports)
 }
 
-/// Prints the run of a design on these inputs, by the simulator: the top's outputs, cycle by cycle.
-pub(crate) fn print_run<K: Sink>(
+// Prints the run of a design's circuit on these inputs, by the simulator: a value for each port, of the first out-signals.
+fn print_simulated<K: Sink>(
     alloc: Global,
     design: &Design,
+    ports: &Ports,
     inputs: &Trace,
     out: &mut K,
 ) -> Result<(), Ending>
-    requires keeps { KeepsToTree design.now.circuit design.now.tree }
     requires few { inputs.now.rows ≤ cycle_limit }
     requires fed { IsColumns design.now.circuit inputs.now.rows inputs.now.columns }
+    requires ports { length ports.now ≤ length design.now.circuit.outs }
     ensures prints { (rows : List (List ℕ)) × IsRun design.now.circuit inputs.now.columns inputs.now.rows rows
-        × PrintsOn K.Sink out.old out.new (trace_text (output_ports design.now.circuit design.now.tree) (columns_of (outputs_of design.now.tree) rows) inputs.now.rows) result }
+        × PrintsOn K.Sink out.old out.new (text_to design.now.circuit ports.now rows inputs.now.rows) result }
     ensures out { SinkWentOn K.Sink out.old out.new }
 {
     runs_along();
@@ -164,10 +170,56 @@ pub(crate) fn print_run<K: Sink>(
     let _ = design.order();
     // and for that on its piece
     let _ = design.piece();
-    let ports = top_ports(alloc, design)?;
     let mut mono = match Mono::with_clocks(alloc, design, &[]) {
         Ok(mono) => mono,
         Err(_) => return Err(Ending::NoMemory),
     };
-    print_all(alloc, &mut mono, &ports, inputs, out)
+    print_all(alloc, &mut mono, ports, inputs, out)
+}
+
+// The design's reference circuit, with an order. Numbers of 32 bits should suffice for its signals.
+fn reference_of(alloc: Global, case: &Case) -> Result<Design, AllocError>
+    requires { (circuit : List ℕ) × (partition : List ℕ) × (capacity : ℕ) × IsCase circuit partition capacity case.now }
+    ensures { IfOk result (λ made. made.circuit ≡ plan_reference case.now.design case.now.cut.request) }
+{
+    let design = &case.design;
+    let plan = &case.cut.plan;
+    let signals = design.piece().signal_count() as u64;
+    let channels = plan.channels.as_slice().len() as u64;
+    if signals.saturating_add(channels) > u64::from(u32::MAX) {
+        return Err(AllocError);
+    }
+    pipe(alloc, design, plan)
+}
+
+// Prints the run of the reference circuit on a trace, by the simulator: a value for each port, of the first out-signals.
+fn print_reference<K: Sink>(
+    alloc: Global,
+    fed: &Fed,
+    ports: &Ports,
+    out: &mut K,
+) -> Result<(), Ending>
+    requires fed { (circuit : List ℕ) × (partition : List ℕ) × (trace : List ℕ) × (capacity : ℕ) × IsFed circuit partition trace capacity fed.now }
+    requires ports { length ports.now ≤ length fed.now.case.design.circuit.outs }
+    ensures prints { (rows : List (List ℕ)) × IsRun (plan_reference fed.now.case.design fed.now.case.cut.request) fed.now.trace.columns fed.now.trace.rows rows
+        × PrintsOn K.Sink out.old out.new (text_to (plan_reference fed.now.case.design fed.now.case.cut.request) ports.now rows fed.now.trace.rows) result }
+    ensures out { SinkWentOn K.Sink out.old out.new }
+{
+    let reference = reference_of(alloc, &fed.case)?;
+    print_simulated(alloc, &reference, ports, &fed.trace, out)
+}
+
+/// Prints the run of a design on a trace, by the simulator: the top's outputs, cycle by cycle. If the request asks for pipes, the
+/// reference circuit is simulated.
+pub(crate) fn print_run<K: Sink>(alloc: Global, fed: &Fed, out: &mut K) -> Result<(), Ending>
+    requires fed { (circuit : List ℕ) × (partition : List ℕ) × (trace : List ℕ) × (capacity : ℕ) × IsFed circuit partition trace capacity fed.now }
+    ensures prints { PrintsFed K.Sink out.old out.new fed.now result }
+    ensures out { SinkWentOn K.Sink out.old out.new }
+{
+    let case = &fed.case;
+    let ports = top_ports(alloc, &case.design)?;
+    if case.cut.request.pipe.as_slice().is_empty() {
+        return print_simulated(alloc, &case.design, &ports, &fed.trace, out);
+    }
+    print_reference(alloc, fed, &ports, out)
 }

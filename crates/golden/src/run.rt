@@ -1,15 +1,11 @@
 //! The command `run`.
 ghost use Rattle.std.specs.Prelude.{◌≤◌, ℕ, List};
-ghost use Rattle.gg_flat.specs.Ports.{output_ports};
-ghost use Rattle.gg_flat.specs.Run.{IsRun};
 ghost use Rattle.gg_words.specs.Range.{IsCapacity};
 ghost use Rattle.golden.specs.Commands.{asking, fed_order};
-ghost use Rattle.gg_told.specs.Endings.{EndedOn, PrintsOn};
+ghost use Rattle.gg_told.specs.Endings.{EndedOn};
 ghost use Rattle.gg_told.specs.Order.{Write};
 ghost use Rattle.golden.specs.Run.{IsTextOf};
-ghost use Rattle.golden.specs.RunText.{columns_of, outputs_of};
-ghost use Rattle.gg_trace.specs.Printing.{trace_text};
-ghost use Rattle.golden.specs.Case.{IsFed};
+ghost use Rattle.golden.specs.Case.{IsFed, PrintsFed};
 ghost use Rattle.gg_told.specs.Ends.{loads_of, puts_of};
 ghost use Rattle.gg_told.specs.WentOn.{ShelfWentOn, SinkWentOn};
 
@@ -23,7 +19,7 @@ use gg_told::Ending;
 use std::alloc::Global;
 use std::thread::Threads;
 
-// Prints the run of a design on a trace: by the simulator if `mono`, and else from the network of the cut.
+// Prints the run of a design on a trace, with its pipes: by the simulator if `mono`, and else from the network of the cut.
 fn print_text<R: Threads + Sync, K: Sink, G: Gate + Sync>(
     rt: &R,
     alloc: Global,
@@ -35,19 +31,18 @@ fn print_text<R: Threads + Sync, K: Sink, G: Gate + Sync>(
 ) -> Result<(), Ending>
     requires fed { (circuit : List ℕ) × (partition : List ℕ) × (trace : List ℕ) × (capacity : ℕ) × IsFed circuit partition trace capacity fed.now }
     requires few { workers ≤ 64 }
-    ensures prints { (rows : List (List ℕ)) × IsRun fed.now.case.design.circuit fed.now.trace.columns fed.now.trace.rows rows
-        × PrintsOn K.Sink out.old out.new (trace_text (output_ports fed.now.case.design.circuit fed.now.case.design.tree) (columns_of (outputs_of fed.now.case.design.tree) rows) fed.now.trace.rows) result }
+    ensures prints { PrintsFed K.Sink out.old out.new fed.now result }
     ensures out { SinkWentOn K.Sink out.old out.new }
 {
     if mono {
-        print_run(alloc, &fed.case.design, &fed.trace, out)
+        print_run(alloc, fed, out)
     } else {
         print_fed(rt, alloc, fed, workers, out, gate)
     }
 }
 
-/// `run`: reads the circuit, the partition and the trace, and writes the text of the circuit's run: by the simulator if
-/// `mono`, and else from the network of the cut, which this many workers run.
+/// `run`: reads the circuit, the partition and the trace, and writes the text of the run of the circuit with the pipes that the
+/// partition asks for: by the simulator if `mono`, and else from the network of the cut, which this many workers run.
 pub(crate) fn run<R: Threads + Sync, S: Shelf, K: Sink, G: Gate + Sync>(
     rt: &R,
     alloc: Global,
@@ -63,7 +58,7 @@ pub(crate) fn run<R: Threads + Sync, S: Shelf, K: Sink, G: Gate + Sync>(
 ) -> Result<(), Ending>
     requires capacity { IsCapacity capacity }
     requires few { workers ≤ 64 }
-    ensures ended { EndedOn (loads_of S.Shelf shelf.old shelf.new) (puts_of K.Sink out.old out.new) (fed_order (asking circuit.now partition.now capacity) trace.now (λ c p t. Write (IsTextOf c t))) result }
+    ensures ended { EndedOn (loads_of S.Shelf shelf.old shelf.new) (puts_of K.Sink out.old out.new) (fed_order (asking circuit.now partition.now capacity) trace.now (λ c p t. Write (IsTextOf c p t))) result }
     ensures shelf { ShelfWentOn S.Shelf shelf.old shelf.new }
     ensures out { SinkWentOn K.Sink out.old out.new }
 {

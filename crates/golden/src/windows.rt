@@ -1,24 +1,56 @@
 //! Printing of the run of a circuit from the network of a plan.
-ghost use Rattle.std.specs.Prelude.{◌≤◌, ℕ, List};
-ghost use Rattle.gg_flat.specs.Ports.{output_ports};
-ghost use Rattle.gg_flat.specs.Run.{IsRun};
+ghost use Rattle.std.specs.Prelude.{◌≡◌, ◌≤◌, ℕ, List, length};
+ghost use Rattle.gg_pipe.specs.Made.{plan_reference};
+ghost use Rattle.gg_printed.specs.Printed.{text_to};
 ghost use Rattle.gg_told.specs.Endings.{PrintsOn};
 ghost use Rattle.gg_told.specs.WentOn.{SinkWentOn};
-ghost use Rattle.gg_trace.specs.Printing.{trace_text};
-ghost use Rattle.golden.specs.Case.{IsFed};
-ghost use Rattle.golden.specs.RunText.{columns_of, outputs_of};
+ghost use Rattle.golden.specs.Case.{IsFed, PrintsFed};
+ghost use Rattle.golden.specs.Replayed.{IsToReplay};
 
 use crate::case::Fed;
 use crate::printing::top_ports;
+use gg_flat::Ports;
 use gg_io::{Gate, Sink};
+use gg_net::Streams;
 use gg_printed::print_net;
 use gg_told::Ending;
 use std::alloc::Global;
 use std::marker::Brand;
 use std::thread::Threads;
 
-/// Prints the run of a design on a trace, from the network of the plan: the top's outputs, cycle by cycle. The network is
-/// run by this many workers.
+// Prints the run of a design on a trace, from the network of the plan, whose channels carry the values of a flow.
+fn print_windows<R: Threads + Sync, Z: Streams, K: Sink, G: Gate + Sync>(
+    rt: &R,
+    alloc: Global,
+    fed: &Fed,
+    ports: &Ports,
+    workers: u32,
+    out: &mut K,
+    gate: &G,
+) -> Result<(), Ending>
+    requires few { workers ≤ 64 }
+    requires run { (run : IsToReplay fed.now Z.flow) × (run.design ≡ fed.now.case.design) }
+    requires ports { length ports.now ≤ length fed.now.case.design.circuit.outs }
+    ensures prints { (run : IsToReplay fed.now Z.flow) → run.design ≡ fed.now.case.design
+        → PrintsOn K.Sink out.old out.new (text_to (plan_reference run.design run.request) ports.now run.rows fed.now.trace.rows) result }
+    ensures out { SinkWentOn K.Sink out.old out.new }
+{
+    let case = &fed.case;
+    print_net::<R, Z, K, G>(
+        rt,
+        alloc,
+        &case.design,
+        &case.cut.plan,
+        &fed.trace,
+        ports,
+        workers,
+        out,
+        gate,
+    )
+}
+
+/// Prints the run of a design on a trace, with its pipes, from the network of the plan: the top's outputs, cycle by cycle. The
+/// network is run by this many workers.
 pub(crate) fn print_fed<R: Threads + Sync, K: Sink, G: Gate + Sync>(
     rt: &R,
     alloc: Global,
@@ -29,21 +61,9 @@ pub(crate) fn print_fed<R: Threads + Sync, K: Sink, G: Gate + Sync>(
 ) -> Result<(), Ending>
     requires fed { (circuit : List ℕ) × (partition : List ℕ) × (trace : List ℕ) × (capacity : ℕ) × IsFed circuit partition trace capacity fed.now }
     requires few { workers ≤ 64 }
-    ensures prints { (rows : List (List ℕ)) × IsRun fed.now.case.design.circuit fed.now.trace.columns fed.now.trace.rows rows
-        × PrintsOn K.Sink out.old out.new (trace_text (output_ports fed.now.case.design.circuit fed.now.case.design.tree) (columns_of (outputs_of fed.now.case.design.tree) rows) fed.now.trace.rows) result }
+    ensures prints { PrintsFed K.Sink out.old out.new fed.now result }
     ensures out { SinkWentOn K.Sink out.old out.new }
 {
-    let design = &fed.case.design;
-    let ports = top_ports(alloc, design)?;
-    print_net::<R, Brand, K, G>(
-        rt,
-        alloc,
-        design,
-        &fed.case.cut.plan,
-        &fed.trace,
-        &ports,
-        workers,
-        out,
-        gate,
-    )
+    let ports = top_ports(alloc, &fed.case.design)?;
+    print_windows::<R, Brand, K, G>(rt, alloc, fed, &ports, workers, out, gate)
 }

@@ -20,6 +20,10 @@ const LISTED: &str = "{\"memories\":[\"m\"]}";
 
 const DIRECT: &str = "{\"units\":[\"a\",\"b\"],\"direct\":true}";
 
+const PIPED: &str = "{\"units\":[\"a\",\"b\"],\"pipe\":[\"a.k\"]}";
+
+const PIPED_INPUT: &str = "{\"units\":[\"a\",\"b\"],\"pipe\":[\"x\"]}";
+
 const DIRECT_FORK: &str = "{\"units\":[\"u\",\"v\"],\"direct\":true}";
 
 const SHARED: &str = "{\"units\":[\"u\",\"v\"],\"share\":[[\"u\",\"v\"]]}";
@@ -109,8 +113,9 @@ fn tokens_of_the_counter(rt: HostRuntime) -> Result<(), Fail> {
 // second, which reads what the later of its two writers wrote. A memory of latency 1 that reads new words: its writer is due before its
 // reader. The two units of one host: only outputs; one in its second cycle while the other stays; two whole cycles; one tray ahead; both in
 // their second cycle before the hub takes what they gave, where a channel holds two tokens. With direct channels: a whole cycle of units
-// that feed each other; a source and its two channels.
-static WORKED: [(&str, &str, &str, &str, &str, &str); 16] = [
+// that feed each other; a source and its two channels. With a pipe, whose queue opens with a token: no steps; its token is latched before
+// its producer goes; and a second token.
+static WORKED: [(&str, &str, &str, &str, &str, &str); 19] = [
     (
         REPLAY_1,
         PAIR,
@@ -238,6 +243,30 @@ static WORKED: [(&str, &str, &str, &str, &str, &str); 16] = [
         TWO_TRACE,
         "fire u.a\nlatch u.a\nfire p\nfire x\nfinish in:x\nfire u.a\n",
         "x 1/0 01\nu.a 2/1 01 10\nv.a 0/0\np 1/0 00\nq 0/0\n",
+    ),
+    (
+        REPLAY_1,
+        PAIR,
+        PIPED,
+        PAIR_TRACE,
+        "",
+        "x 0/0\na.x 0/0\na.k 0/0 00\na.p 0/0\na.q 0/0\nb.m 0/0\nb.n 0/0\nq 0/0\n",
+    ),
+    (
+        REPLAY_1,
+        PAIR,
+        PIPED,
+        PAIR_TRACE,
+        "latch a.k\nfire x\nlatch x\nfire a.x\nlatch a.x\nfire a.q\nlatch a.q\nfire q\n",
+        "x 1/1 0f\na.x 1/1 0f\na.k 0/1 00\na.p 0/0\na.q 1/1 0f\nb.m 0/0\nb.n 0/0\nq 1/0 0f\n",
+    ),
+    (
+        REPLAY,
+        PAIR,
+        PIPED,
+        PAIR_TRACE,
+        "fire x\nlatch x\nfire a.x\nlatch a.x\nfire a.p\nlatch a.p\nfire b.m\nlatch b.m\nfire b.n\nlatch b.n\nfire a.k\n",
+        "x 1/1 0f\na.x 1/1 0f\na.k 1/0 00 1e\na.p 1/1 0f\na.q 0/0\nb.m 1/1 0f\nb.n 1/1 1e\nq 0/0\n",
     ),
 ];
 
@@ -399,6 +428,24 @@ fn refused_steps_of_a_fork(rt: HostRuntime) -> Result<(), Fail> {
         ("fire u.s\n", "golden: step 1: Stranger\n"),
     ] {
         let answer = replay_of(&rt, alloc, TWO, DIRECT_FORK, TWO_TRACE, steps)?;
+        check(&rt, &answer, 9, 4, "", err);
+    }
+    Ok(())
+}
+
+// The token that a channel opens with takes room.
+#[test]
+fn refused_steps_of_a_pipe(rt: HostRuntime) -> Result<(), Fail> {
+    let alloc = rt.alloc();
+    for (steps, err) in [
+        ("fire x\n", "golden: step 1: Full x 1\n"),
+        ("latch x\nlatch x\n", "golden: step 2: Latched\n"),
+        (
+            "latch x\nfire x\nfinish in:x\nfire x\n",
+            "golden: step 4: Full x 1\n",
+        ),
+    ] {
+        let answer = replay_of(&rt, alloc, PAIR, PIPED_INPUT, PAIR_TRACE, steps)?;
         check(&rt, &answer, 9, 4, "", err);
     }
     Ok(())

@@ -138,7 +138,7 @@ fn plain_files_are_run(rt: HostRuntime) -> Result<(), Fail> {
 }
 
 // Circuits with instances and memories, with a line changed, a trace, and the text of the run.
-static WHOLE: [(&str, usize, &str, &str, &str); 5] = [
+static WHOLE: [(&str, usize, &str, &str, &str); 6] = [
     (
         LOOP,
         9,
@@ -152,6 +152,14 @@ static WHOLE: [(&str, usize, &str, &str, &str); 5] = [
         "",
         "cycle x\n0 0f\n1 81\n",
         "cycle q\n0 11\n1 83\n",
+    ),
+    // a register where a pipe of `q` would be
+    (
+        PAIR,
+        24,
+        "reg r : UInt<8>, clock\nr <= a.q\nq <= r",
+        "cycle x\n0 0f\n1 81\n",
+        "cycle q\n0 00\n1 11\n",
     ),
     (
         MEMORY,

@@ -36,7 +36,7 @@ const STOPS: &str =
     "circuit Top :\nmodule Cell :\ninput clock : Clock\ninput i : UInt<2>\nstop(clock, eq(i, UInt<2>(1)), 1) : done\nmodule Top :\ninput clock : Clock\ninput x : UInt<2>\noutput y : UInt<2>\ninst c of Cell\nc.clock <= clock\nc.i <= x\ny <= x\nstop(clock, eq(x, UInt<2>(3)), 0) : last\n";
 
 // Words, a circuit, a partition, and the text.
-static CUTS: [(&str, &str, &str, &str); 27] = [
+static CUTS: [(&str, &str, &str, &str); 29] = [
     (
         "golden check k1.fir p.json --capacity 1",
         PAIR,
@@ -212,6 +212,19 @@ static CUTS: [(&str, &str, &str, &str); 27] = [
         BACK,
         "{\"units\":[\"u\"],\"direct\":true}",
         "machine hub: host 0\nmachine u host 1\nmachine in:x host 2\nmachine out:y host 3\nchannel u.a in:x u SInt<4> capacity 2 needs -\nchannel u.b u u SInt<4> capacity 2 needs u.a\nchannel y u out:y SInt<5> capacity 2 needs u.a u.b\n",
+    ),
+    // a pipe, and one in a channel of the hub, which is then no direct channel
+    (
+        "golden check k1.fir p.json --capacity 1",
+        PAIR,
+        "{\"units\":[\"a\",\"b\"],\"pipe\":[\"a.k\"]}",
+        "machine hub: host 0\nmachine a host 1\nmachine b host 2\nmachine in:x host 3\nmachine out:q host 4\nchannel x in:x hub: UInt<8> capacity 1 needs -\nchannel a.x hub: a UInt<8> capacity 1 needs x\nchannel a.k hub: a UInt<8> capacity 1 pipe needs b.n\nchannel a.p a hub: UInt<8> capacity 1 needs a.x\nchannel a.q a hub: UInt<8> capacity 1 needs a.x a.k\nchannel b.m hub: b UInt<8> capacity 1 needs a.p\nchannel b.n b hub: UInt<8> capacity 1 needs b.m\nchannel q hub: out:q UInt<8> capacity 1 needs a.q\n",
+    ),
+    (
+        "golden check k1.fir p.json --capacity 1",
+        PAIR,
+        "{\"units\":[\"a\",\"b\"],\"direct\":true,\"pipe\":[\"b.n\"]}",
+        "machine hub: host 0\nmachine a host 1\nmachine b host 2\nmachine in:x host 3\nmachine out:q host 4\nchannel a.x in:x a UInt<8> capacity 1 needs -\nchannel a.k hub: a UInt<8> capacity 1 needs b.n\nchannel b.m a b UInt<8> capacity 1 needs a.x\nchannel b.n b hub: UInt<8> capacity 1 pipe needs b.m\nchannel q a out:q UInt<8> capacity 1 needs a.x a.k\n",
     ),
     // two units and their memories, which have no ports
     (

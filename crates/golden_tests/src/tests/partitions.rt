@@ -1,4 +1,4 @@
-//! Partitions: those that are accepted change nothing that is printed, and of the others the first fault is told.
+//! Partitions: those that are accepted change nothing that is printed but by their pipes, and of the others the first fault is told.
 use super::check;
 use golden_calls::{
     Answer, BANKS, CHECK, FORK, KEPT, LATE, MEMORY, PAIR, RUN, TILES, TWO, ask_of, run,
@@ -89,8 +89,84 @@ fn accepted_partitions_change_nothing(rt: HostRuntime) -> Result<(), Fail> {
     Ok(())
 }
 
+// A circuit, a partition with pipes, a trace, and the text of the run: a channel between two units; a top output; a top input; a channel that
+// another passes on; two pipes in one path, and two that meet; an output that the hub reads, which sees it as it is; the hub's
+// in-channel, by which a memory of the hub is read; a listed memory's address; a channel between units of one host.
+static PIPED: [(&str, &str, &str, &str); 10] = [
+    (
+        PAIR,
+        "{\"units\":[\"a\",\"b\"],\"pipe\":[\"a.k\"]}",
+        "cycle x\n0 0f\n1 81\n",
+        "cycle q\n0 0f\n1 9f\n",
+    ),
+    (
+        PAIR,
+        "{\"units\":[\"a\",\"b\"],\"pipe\":[\"q\"]}",
+        "cycle x\n0 0f\n1 81\n",
+        "cycle q\n0 00\n1 11\n",
+    ),
+    (
+        PAIR,
+        "{\"units\":[\"a\",\"b\"],\"pipe\":[\"x\"]}",
+        "cycle x\n0 0f\n1 81\n",
+        "cycle q\n0 00\n1 11\n",
+    ),
+    (
+        PAIR,
+        "{\"units\":[\"a\",\"b\"],\"pipe\":[\"b.n\"]}",
+        "cycle x\n0 0f\n1 81\n",
+        "cycle q\n0 0f\n1 9f\n",
+    ),
+    (
+        PAIR,
+        "{\"units\":[\"a\",\"b\"],\"pipe\":[\"b.n\",\"b.m\"]}",
+        "cycle x\n0 0f\n1 81\n",
+        "cycle q\n0 0f\n1 81\n",
+    ),
+    (
+        PAIR,
+        "{\"units\":[\"a\",\"b\"],\"pipe\":[\"a.x\",\"a.k\"]}",
+        "cycle x\n0 0f\n1 81\n",
+        "cycle q\n0 00\n1 0f\n",
+    ),
+    (
+        KEPT,
+        "{\"units\":[\"u\"],\"pipe\":[\"r\"]}",
+        "cycle x\n0 1\n1 1\n2 2\n",
+        "cycle y z r q\n0 0 2 0 1\n1 1 2 2 1\n2 0 1 2 2\n",
+    ),
+    (
+        KEPT,
+        "{\"units\":[\"u\"],\"pipe\":[\"u.b\"]}",
+        "cycle x\n0 1\n1 1\n2 2\n",
+        "cycle y z r q\n0 0 0 0 3\n1 0 2 2 1\n2 1 2 2 1\n",
+    ),
+    (
+        MEMORY,
+        "{\"memories\":[\"m\"],\"pipe\":[\"m.r.addr\"]}",
+        "cycle a v\n0 1 0f\n1 1 21\n2 3 55\n3 1 00\n",
+        "cycle o0 o1\n0 00 00\n1 f0 f0\n2 de 00\n3 00 00\n",
+    ),
+    (
+        FORK,
+        "{\"units\":[\"u\",\"v\",\"w\"],\"share\":[[\"u\",\"v\",\"w\"]],\"pipe\":[\"v.a\"]}",
+        "cycle x\n0 1\n1 a\n",
+        "cycle p q\n0 e 10\n1 5 0b\n",
+    ),
+];
+
+#[test]
+fn pipes_delay_by_a_cycle(rt: HostRuntime) -> Result<(), Fail> {
+    let alloc = rt.alloc();
+    for (circuit, partition, trace, out) in &PIPED {
+        let answer = run(&rt, alloc, circuit, partition, trace)?;
+        check(&rt, &answer, 0, 3, out, "");
+    }
+    Ok(())
+}
+
 // A circuit, a partition with a fault for it, and the line that tells the first.
-static REFUSED: [(&str, &str, &str); 25] = [
+static REFUSED: [(&str, &str, &str); 32] = [
     (TILES, "", "golden: partition: P1 -\n"),
     (TILES, "[]", "golden: partition: P1 -\n"),
     (TILES, "{} {}", "golden: partition: P1 -\n"),
@@ -106,6 +182,38 @@ static REFUSED: [(&str, &str, &str); 25] = [
         "golden: partition: P1 capacity\n",
     ),
     (TILES, "{\"direct\":1}", "golden: partition: P1 direct\n"),
+    (TILES, "{\"pipe\":\"o\"}", "golden: partition: P1 pipe\n"),
+    (
+        PAIR,
+        "{\"units\":[\"a\",\"b\"],\"pipe\":[\"zz\"]}",
+        "golden: partition: P10 zz\n",
+    ),
+    (
+        PAIR,
+        "{\"units\":[\"a\",\"b\"],\"pipe\":[\"q\",\"q\"]}",
+        "golden: partition: P11 q\n",
+    ),
+    (
+        PAIR,
+        "{\"units\":[\"a\",\"b\"],\"pipe\":[\"q\",\"q\",\"zz\"]}",
+        "golden: partition: P10 zz\n",
+    ),
+    (
+        PAIR,
+        "{\"units\":[\"b\"],\"pipe\":[\"q\",\"a.k\"]}",
+        "golden: partition: P10 a.k\n",
+    ),
+    (
+        PAIR,
+        "{\"units\":[\"a\",\"b\"],\"pipe\":[\"zz\"],\"capacity\":{\"q\":0}}",
+        "golden: partition: P8 q 0\n",
+    ),
+    // the channel has left
+    (
+        PAIR,
+        "{\"units\":[\"a\",\"b\"],\"direct\":true,\"pipe\":[\"a.x\"],\"capacity\":{\"x\":1}}",
+        "golden: partition: P7 x\n",
+    ),
     (
         TILES,
         "{\"units\":[\"tile.cor\"]}",

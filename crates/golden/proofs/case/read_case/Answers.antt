@@ -30,6 +30,7 @@ returns-clause-read g c =
         means = accepted.2;
         designed = record { formed = c.piece.ensures.formed; ordered = c.order.ensures.ordered };
         keeps = c.in_ok-design.ensures.keeps;
+        held = c.in_ok-design.ensures.held;
         cuts = cut.2;
         bounded = c.requires;
         planned = c.in_ok-cut.ensures.planned;

@@ -10,6 +10,7 @@ returns c =
         means = c.in_ok-design.ensures.means;
         designed = record { formed = c.piece.ensures.formed; ordered = c.order.ensures.ordered };
         keeps = c.in_ok-design.ensures.keeps;
+        held = c.in_ok-design.ensures.held;
         cuts = c.in_ok-cut.ensures.cuts;
         bounded = (omega arith, omega arith);
         planned = c.in_ok-cut.ensures.planned;

@@ -1,6 +1,6 @@
-use Rattle.gg_build.specs.Build.{flow_along}
+use Rattle.golden.specs.Replayed.{fed_flow}
 use Rattle.golden.proofs.demo.print_demo.Given as goal
 
 -- what the plan's network computes on the trace
-abbrev pub ghosts-sum_net : goal.ghosts-sum_net
-ghosts-sum_net g a = record { flow = flow_along a.design.now a.plan.now a.inputs.now.columns a.inputs.now.rows }
+abbrev pub ghosts-sum_fed : goal.ghosts-sum_fed
+ghosts-sum_fed g a = record { flow = fed_flow a.fed.now }

@@ -1,41 +1,53 @@
-use Rattle.std.proofs.Common.{length, refl, ap, ◌∙◌}
-use Rattle.gg_flat.specs.Scoped.{stop_signals}
-use Rattle.gg_refsim.specs.Cycle.{Simulation}
+use Rattle.std.proofs.Common.{List, ℕ, ◌×◌, refl, sym, subst}
+use Rattle.std.proofs.lemmas.List.{nil_from_length}
+use Rattle.gg_flat.specs.Circuit.{FlatCircuit}
+use Rattle.gg_flat.specs.Run.{IsRun}
+use Rattle.gg_pipe.proofs.NothingLemmas.{plan-plain}
+use Rattle.gg_printed.specs.Printed.{text_to}
+use Rattle.gg_told.specs.Endings.{PrintsOn}
 use Rattle.gg_told.proofs.EndingLemmas.{exit-is}
 use Rattle.gg_told.proofs.WritingLemmas.{none-front}
-use Rattle.golden.proofs.OutputLemmas.{output-ports-count, output-ports-few}
-use Rattle.golden.proofs.PrintingLemmas.{run-prints}
+use Rattle.golden.proofs.FedLemmas.{fed-ports, fed-prints, own-run}
 use Rattle.golden.proofs.printing.print_run.Goals as goal
+
+pub top_ports-requires : goal.top_ports-requires
+top_ports-requires g c = c.requires.fed.4.case.keeps
 
 pub returns-in_err-ports-clause-prints : goal.returns-in_err-ports-clause-prints
 returns-in_err-ports-clause-prints g c =
-    rw (exit-is c.from_residual.ensures.1) (
-      _,
-      c.runs_along.ensures.opening c.args.design.now.circuit c.args.design.now.order c.args.inputs.now.columns c.args.inputs.now.rows c.piece.ensures.formed c.order.ensures.ordered c.requires.fed,
-      none-front _ _ _ refl,
-    )
+    let r = c.requires.fed in
+    rw (exit-is c.from_residual.ensures.1) (_, own-run r.0 r.1 r.2 r.3 c.args.fed.now r.4, none-front _ _ _ refl)
 
-pub returns-in-Err-clause-prints : goal.returns-in-Err-clause-prints
-returns-in-Err-clause-prints g c = (
-  _,
-  c.runs_along.ensures.opening c.args.design.now.circuit c.args.design.now.order c.args.inputs.now.columns c.args.inputs.now.rows c.piece.ensures.formed c.order.ensures.ordered c.requires.fed,
-  none-front _ _ _ refl,
-)
+pub print_simulated-requires-clause-few : goal.print_simulated-requires-clause-few
+print_simulated-requires-clause-few g c = c.requires.fed.4.most
 
-pub print_all-requires-clause-ports : goal.print_all-requires-clause-ports
-print_all-requires-clause-ports g c =
-    output-ports-few c.args.design.now.circuit c.args.design.now.tree (stop_signals c.args.design.now.tree) c.requires.keeps.scoped.outs c.piece.ensures.formed
-    c.in-Ok.mono.circuit c.in_ok-ports.ports (ap (λ (mono : Simulation). mono.circuit) c.in-Ok.ensures) c.in_ok-ports.ensures
+pub print_simulated-requires-clause-fed : goal.print_simulated-requires-clause-fed
+print_simulated-requires-clause-fed g c = c.requires.fed.4.columns
+
+pub print_simulated-requires-clause-ports : goal.print_simulated-requires-clause-ports
+print_simulated-requires-clause-ports g c =
+    let r = c.requires.fed in
+    fed-ports r.0 r.1 r.2 r.3 c.args.fed.now r.4 c.in_ok-ports.ports c.in_ok-ports.ensures
+
+pub print_reference-requires-clause-ports : goal.print_reference-requires-clause-ports
+print_reference-requires-clause-ports g c =
+    let r = c.requires.fed in
+    fed-ports r.0 r.1 r.2 r.3 c.args.fed.now r.4 c.in_ok-ports.ports c.in_ok-ports.ensures
+
+pub returns-then-is_empty-clause-prints : goal.returns-then-is_empty-clause-prints
+returns-then-is_empty-clause-prints g c =
+    let r = c.requires.fed in
+    let fed = c.args.fed.now in
+    let none = nil_from_length fed.case.cut.request.pipe c.if-is_empty.true in
+    let prints =
+    subst
+    (λ (f : FlatCircuit). (rows : List (List ℕ)) × IsRun f fed.trace.columns fed.trace.rows rows
+    × PrintsOn g.K.Sink c.args.out.now c.print_simulated.new.out (text_to f c.in_ok-ports.ports rows fed.trace.rows) c.print_simulated.result)
+    (sym (plan-plain fed.case.design fed.case.cut.request none)) c.print_simulated.ensures.prints in
+    (prints.0, prints.1, fed-prints r.0 r.1 r.2 r.3 fed r.4 _ _ _ c.print_simulated.result c.in_ok-ports.ports prints.0 c.in_ok-ports.ensures prints.2)
 
 pub returns-clause-prints : goal.returns-clause-prints
 returns-clause-prints g c =
-    let circuit = c.args.design.now.circuit in
-    let tree = c.args.design.now.tree in
-    let outs = c.requires.keeps.scoped.outs in
-    let run = c.runs_along.ensures.opening circuit c.args.design.now.order c.args.inputs.now.columns c.args.inputs.now.rows c.piece.ensures.formed c.order.ensures.ordered c.requires.fed in
-    let ports = c.in_ok-ports.ensures in (
-      _,
-      run,
-      run-prints (Unit {0}) _ _ _ c.print_all.result circuit _ tree (stop_signals tree) c.in_ok-ports.ports c.args.inputs.now.columns c.args.inputs.now.rows (ap (λ (mono : Simulation). mono.circuit) c.in-Ok.ensures) outs ports
-          (ap length ports ∙ output-ports-count circuit tree (stop_signals tree) outs c.piece.ensures.formed) _ run c.print_all.ensures.prints,
-    )
+    let r = c.requires.fed in
+    let prints = c.print_reference.ensures.prints in
+    (prints.0, prints.1, fed-prints r.0 r.1 r.2 r.3 c.args.fed.now r.4 _ _ _ c.print_reference.result c.in_ok-ports.ports prints.0 c.in_ok-ports.ensures prints.2)

@@ -1,4 +1,5 @@
 use Rattle.std.proofs.Common.{inr, subst, List, ℕ}
+use Rattle.gg_paths.proofs.HeldLemmas.{held-once}
 use Rattle.golden.specs.Run.{TellsCircuit}
 use Rattle.gg_told.proofs.EndingLemmas.{IfRefused-map}
 use Rattle.golden.proofs.reading.read_circuit.Goals as goal
@@ -12,3 +13,6 @@ returns-clause-refused g c =
       subst (λ (b : List ℕ). TellsCircuit b said) c.as_slice.ensures.value (c.in-Err.fault, c.in-Err.ensures.refused, h.0, h.1),
     ))
     c.end_at_circuit.result c.end_at_circuit.ensures
+
+pub returns-in-Ok-clause-held : goal.returns-in-Ok-clause-held
+returns-in-Ok-clause-held g c = held-once c.in-Ok.design.circuit c.in-Ok.ensures.ok.means.formed c.in-Ok.ensures.held

@@ -1,6 +1,6 @@
-use Rattle.gg_build.specs.Build.{flow_along}
+use Rattle.golden.specs.Replayed.{fed_flow}
 use Rattle.golden.proofs.windows.print_fed.Given as goal
 
 -- what the plan's network computes on the trace
-abbrev pub ghosts-print_net : goal.ghosts-print_net
-ghosts-print_net g a = record { flow = flow_along a.design.now a.plan.now a.inputs.now.columns a.inputs.now.rows }
+abbrev pub ghosts-print_windows : goal.ghosts-print_windows
+ghosts-print_windows g a = record { flow = fed_flow a.fed.now }

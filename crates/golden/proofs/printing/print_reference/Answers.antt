@@ -1,0 +1,47 @@
+use Rattle.std.proofs.Common.{List, ℕ, ◌≤◌, ◌×◌, length, refl, sym, ap, ◌∙◌, subst}
+use Rattle.std.proofs.lemmas.List.{length-map}
+use Rattle.gg_cut.specs.Direct.{plan_hub}
+use Rattle.gg_flat.specs.Circuit.{FlatCircuit}
+use Rattle.gg_flat.specs.Run.{IsColumns, IsRun}
+use Rattle.gg_pipe.specs.Links.{taken_as}
+use Rattle.gg_pipe.proofs.PlanLemmas.{plan-columns}
+use Rattle.gg_printed.specs.Printed.{text_to}
+use Rattle.gg_told.specs.Endings.{PrintsOn}
+use Rattle.gg_told.proofs.EndingLemmas.{exit-is}
+use Rattle.gg_told.proofs.WritingLemmas.{none-front}
+use Rattle.golden.proofs.FedLemmas.{own-run}
+use Rattle.golden.proofs.printing.print_reference.Goals as goal
+
+pub reference_of-requires : goal.reference_of-requires
+reference_of-requires g c = let r = c.requires.fed in (r.0, r.1, r.3, r.4.case)
+
+pub returns-in_err-reference-clause-prints : goal.returns-in_err-reference-clause-prints
+returns-in_err-reference-clause-prints g c =
+    let r = c.requires.fed in
+    rw (exit-is c.from_residual.ensures.1) (_, own-run r.0 r.1 r.2 r.3 c.args.fed.now r.4, none-front _ _ _ refl)
+
+pub print_simulated-requires-clause-few : goal.print_simulated-requires-clause-few
+print_simulated-requires-clause-few g c = c.requires.fed.4.most
+
+pub print_simulated-requires-clause-fed : goal.print_simulated-requires-clause-fed
+print_simulated-requires-clause-fed g c =
+    let fed = c.args.fed.now in
+    let is = c.requires.fed.4 in
+    let case = is.case in
+    subst (λ (f : FlatCircuit). IsColumns f fed.trace.rows fed.trace.columns) (sym c.in_ok-reference.ensures)
+    (plan-columns fed.case.design fed.case.cut.request case.designed case.keeps case.held case.cuts.faultless fed.trace.rows fed.trace.columns is.columns)
+
+pub print_simulated-requires-clause-ports : goal.print_simulated-requires-clause-ports
+print_simulated-requires-clause-ports g c =
+    let design = c.args.fed.now.case.design in
+    let request = c.args.fed.now.case.cut.request in
+    subst (λ (f : FlatCircuit). length c.args.ports.now ≤ length f.outs) (sym c.in_ok-reference.ensures)
+    (subst (λ k. length c.args.ports.now ≤ k) (sym (length-map design.circuit.outs (taken_as (plan_hub design.circuit design.tree request)))) c.requires.ports)
+
+pub returns-clause-prints : goal.returns-clause-prints
+returns-clause-prints g c =
+    let fed = c.args.fed.now in
+    subst
+    (λ (f : FlatCircuit). (rows : List (List ℕ)) × IsRun f fed.trace.columns fed.trace.rows rows
+    × PrintsOn g.K.Sink c.args.out.now c.print_simulated.new.out (text_to f c.args.ports.now rows fed.trace.rows) c.print_simulated.result)
+    c.in_ok-reference.ensures c.print_simulated.ensures.prints
