@@ -17,7 +17,7 @@ use Rattle.gg_pipe.specs.Made.{by_number, seen_signal, pipe_signal, pipe_registe
 
 -- ---- items by number
 
-length-by : {A B : Type 0} (f : ℕ → A → B) (n : ℕ) (xs : List A) → length (by_number f n xs) ≡ length xs
+pub length-by : {A B : Type 0} (f : ℕ → A → B) (n : ℕ) (xs : List A) → length (by_number f n xs) ≡ length xs
 length-by f n [] = refl
 length-by f n (x ∷ xs) = ap suc (length-by f (suc n) xs)
 
