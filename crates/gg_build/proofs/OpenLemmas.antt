@@ -60,7 +60,7 @@ module _ (plan : Plan) (columns : List (List ℕ)) (n : ℕ) (hosts : List Node)
           few = at.few;
         }
 
-    is-sound : IsSound (flow_of plan design rows) (plan_frame plan (machines_by lists_of stations) n)
+    is-sound : IsSound (flow_of design request plan rows) (plan_frame plan (machines_by lists_of stations) n)
     is-sound =
         let machines = machines_by lists_of stations in
         record {
@@ -69,7 +69,7 @@ module _ (plan : Plan) (columns : List (List ℕ)) (n : ℕ) (hosts : List Node)
           solves = plan-solved design request default plan columns n rows machines given are-built;
         }
 
-    opens-plan : default ≤ capacity_limit → Opens (flow_of plan design rows) lists_of stations (wires_of_plan plan) n
+    opens-plan : default ≤ capacity_limit → Opens (flow_of design request plan rows) lists_of stations (wires_of_plan plan) n
     opens-plan most =
         let machines = machines_by lists_of stations in
         record {

@@ -14,7 +14,7 @@ use Rattle.gg_cut.proofs.RangeLemmas.{filter-few}
 use Rattle.gg_closed.proofs.FaultlessLemmas.{faultless-few}
 use Rattle.gg_net.specs.declared.shape.Wire.{Wire}
 use Rattle.gg_net.specs.Network.{wire_at}
-use Rattle.gg_sound.specs.Built.{nameless, wire_of, wires_of_plan}
+use Rattle.gg_sound.specs.Built.{nameless, first_token, wire_of, wires_of_plan}
 use Rattle.gg_sound.proofs.LinkLemmas.{AreLinks, length-from, wire-from}
 use Rattle.gg_sound.proofs.ListedLemmas.{given-at, given-in, taken-at, taken-in, at-in, at-out}
 use Rattle.gg_sound.proofs.GivenLemmas.{links-of}
@@ -97,7 +97,7 @@ module _ (plan : Plan) (links : List Link) (are : AreLinks plan links) where
   -- ---- the network's channels
 
   abbrev at_places : Channel → ℕ → ℕ → Wire
-  at_places channel o i = record { producer = channel.producer; out = o; consumer = channel.consumer; place = i; capacity = channel.capacity; first = None }
+  at_places channel o i = record { producer = channel.producer; out = o; consumer = channel.consumer; place = i; capacity = channel.capacity; first = first_token channel.pipe }
 
   wire-is : (outs ins : List ℕ) (wires : List Wire) → ArePlaces (outs_of plan.machines) (length plan.channels) outs → ArePlaces (ins_of plan.machines) (length plan.channels) ins → AreWires plan.channels outs ins (length plan.channels) wires → (c : ℕ) → c < length plan.channels → wire_at wires c ≡ wire_at (wires_of_plan plan) c
   wire-is outs ins wires placed_outs placed_ins at c lt =

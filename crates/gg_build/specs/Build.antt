@@ -1,7 +1,8 @@
 -- The network of a plan before its first cycle.
 -- Source: MEMOCODE 2009 (a synchronous circuit as a network of its parts, whose streams are the circuit's own); ICCAD
 -- 2019 (units and memories of a target as models of their own).
-use Rattle.std.specs.Prelude.{◌≡◌, ℕ, ◌<◌, ◌≤◌, List, None}
+use Rattle.std.specs.Prelude.{◌≡◌, ℕ, ◌<◌, ◌≤◌, List, None, ◌++◌, length}
+use Rattle.std.specs.List.{range_with_len}
 use Rattle.gg_limits.specs.Limits.{capacity_limit}
 use Rattle.gg_flat.specs.Along.{rows_along}
 use Rattle.gg_flat.specs.Streams.{Flow}
@@ -9,8 +10,11 @@ use Rattle.gg_moved.specs.KeepsToTree.{KeepsToTree}
 use Rattle.gg_order.specs.Design.{Ordered, IsDesign}
 use Rattle.gg_partfile.specs.declared.request.Request.{Request}
 use Rattle.gg_cut.specs.declared.plan.Plan.{Plan}
+use Rattle.gg_cut.specs.Direct.{plan_hub}
 use Rattle.gg_cut.specs.Fault.{first_fault}
 use Rattle.gg_cut.specs.Plan.{IsPlan}
+use Rattle.gg_pipe.specs.Links.{pipes_of}
+use Rattle.gg_pipe.specs.Made.{plan_reference}
 use Rattle.gg_node.specs.Machine.{Machine}
 use Rattle.gg_net.specs.Network.{Network}
 use Rattle.gg_net.specs.Net.{opening_net}
@@ -29,8 +33,8 @@ pub record IsFaultless (plan : Plan) : Type 0 where
   pub planned : IsPlan design request default plan
 
 -- The plan is that of a design and of a request without a fault for it. A channel that the request doesn't name may
--- hold at most as many tokens as a queue. The flow is what the plan's network computes in the circuit's run of n cycles
--- on these columns of its inputs.
+-- hold at most as many tokens as a queue. The flow is what the plan's network computes in the run of n cycles of the reference
+-- circuit on these columns of its inputs.
 pub record IsToRun (plan : Plan) (columns : List (List ℕ)) (n : ℕ) (flow : Flow) : Type 0 where
   pub design : Ordered
   pub request : Request
@@ -38,14 +42,22 @@ pub record IsToRun (plan : Plan) (columns : List (List ℕ)) (n : ℕ) (flow : F
   pub rows : List (List ℕ)
   pub given : IsGiven design request default plan columns n rows
   pub room : default ≤ capacity_limit
-  pub flow_is : flow ≡ flow_of plan design rows
+  pub flow_is : flow ≡ flow_of design request plan rows
 
--- What the plan's network computes in the circuit's run on these columns. The run is computed along the design's order.
-abbrev pub flow_along : Ordered → Plan → List (List ℕ) → ℕ → Flow
-flow_along design plan columns n = flow_of plan design (rows_along design.circuit design.order columns n)
+-- an order of the reference circuit: its pipes, and behind them the design's order
+abbrev pub reference_order : Ordered → Request → List ℕ
+reference_order design request = range_with_len (length design.circuit.signals) (length (pipes_of (plan_hub design.circuit design.tree request))) ++ design.order
 
--- A network is that of the plan before its first cycle. It has the plan's machines, the plan's channels with empty
--- queues, and n cycles to do.
+-- the rows of the reference circuit's run on these columns, computed along its order
+abbrev pub reference_rows : Ordered → Request → List (List ℕ) → ℕ → List (List ℕ)
+reference_rows design request columns n = rows_along (plan_reference design request) (reference_order design request) columns n
+
+-- What the plan's network computes in the reference circuit's run on these columns.
+abbrev pub flow_along : Ordered → Request → Plan → List (List ℕ) → ℕ → Flow
+flow_along design request plan columns n = flow_of design request plan (reference_rows design request columns n)
+
+-- A network is that of the plan before its first cycle. It has the plan's machines, the plan's channels, each with the token that it
+-- opens with, and n cycles to do.
 pub record IsOpeningOf (plan : Plan) (columns : List (List ℕ)) (n : ℕ) (net : Network) : Type 0 where
   pub machines : List Machine
   pub built : AreBuilt plan columns machines

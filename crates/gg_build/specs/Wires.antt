@@ -1,10 +1,11 @@
 -- The places of channels in the lists of their machines.
 -- Source: MEMOCODE 2009 (nodes with inputs and outputs, connected by queues).
-use Rattle.std.specs.Prelude.{◌≡◌, ℕ, ◌^◌, ◌<◌, ◌≤◌, List, [], None, length, All, Contains, slice_index_or}
+use Rattle.std.specs.Prelude.{◌≡◌, ℕ, ◌^◌, ◌<◌, ◌≤◌, List, [], length, All, Contains, slice_index_or}
 use Rattle.gg_flat.specs.Line.{value_at}
 use Rattle.gg_cut.specs.declared.plan.Channel.{Channel}
 use Rattle.gg_net.specs.declared.shape.Wire.{Wire}
 use Rattle.gg_net.specs.Network.{wire_at}
+use Rattle.gg_sound.specs.Built.{first_token}
 
 -- channel c is at place p of the list of a machine
 pub record IsPlaceAt (channels : List ℕ) (c p : ℕ) : Type 0 where
@@ -40,7 +41,8 @@ pub record ArePlaces (lists : List (List ℕ)) (count : ℕ) (places : List ℕ)
   pub total : length places ≡ count
   pub each : (c : ℕ) → c < count → IsPlace lists c (value_at places c)
 
--- The network's channels for the first `count` channels of the plan, at these places. They open without a token.
+-- The network's channels for the first `count` channels of the plan, at these places. A piped channel opens with the token 0, any other
+-- without one.
 pub record AreWires (channels : List Channel) (outs ins : List ℕ) (count : ℕ) (wires : List Wire) : Type 0 where
   pub total : length wires ≡ count
-  pub each : (c : ℕ) (any : Channel) → c < count → wire_at wires c ≡ record { producer = (slice_index_or channels c any).producer; out = value_at outs c; consumer = (slice_index_or channels c any).consumer; place = value_at ins c; capacity = (slice_index_or channels c any).capacity; first = None }
+  pub each : (c : ℕ) (any : Channel) → c < count → wire_at wires c ≡ record { producer = (slice_index_or channels c any).producer; out = value_at outs c; consumer = (slice_index_or channels c any).consumer; place = value_at ins c; capacity = (slice_index_or channels c any).capacity; first = first_token (slice_index_or channels c any).pipe }

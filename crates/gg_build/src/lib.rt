@@ -4,8 +4,8 @@
 //! The crate promises:
 //!
 //! - [`build`] builds the network of a plan for an input trace (`IsOpeningOf` in `specs/Build`). It has each machine of
-//!   the plan before its first cycle, the plan's channels with empty queues, at the ins and outs where the machines
-//!   list them, and as many cycles to do as the trace has rows. The hub and the units run their parts of the circuit,
+//!   the plan before its first cycle, the plan's channels at the ins and outs where the machines list them, each queue
+//!   empty but for the token 0 of a piped channel, and as many cycles to do as the trace has rows. The hub and the units run their parts of the circuit,
 //!   and need exactly what they depend on. Each listed memory is a machine of its own, and its ports are served one by
 //!   one. A source gives the column of its top input. A tray keeps the last 1,024 values ([`TRAY_ROWS`]). A source or a
 //!   unit has an out for each channel that it gives, also where it gives one signal on several channels.

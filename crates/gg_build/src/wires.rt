@@ -2,7 +2,7 @@
 ghost use Rattle.std.specs.Prelude.{◌≡◌, ◌^◌, ◌<◌, ◌≤◌, ℕ, length, map, All, IfOk, slice_index_or};
 ghost use Rattle.gg_flat.specs.Line.{value_at};
 ghost use Rattle.gg_cut.specs.declared.plan.Channel.{Channel};
-ghost use Rattle.gg_sound.specs.Built.{wires_of_plan};
+ghost use Rattle.gg_sound.specs.Built.{first_token, wires_of_plan};
 ghost use Rattle.gg_build.specs.Build.{IsFaultless};
 ghost use Rattle.gg_build.specs.Wires.{IsNoted, AreListed, ArePlaces, AreWires};
 
@@ -45,6 +45,13 @@ fn places_of(alloc: Global, machines: &[Machine], count: usize) -> Result<Places
     Ok(Places { outs, ins })
 }
 
+// The token that is in a channel at the start.
+fn opens_with(pipe: bool) -> Option<u128>
+    ensures { result ≡ first_token pipe }
+{
+    if pipe { Some(0) } else { None }
+}
+
 // These channels, at these places.
 fn wires_at(
     alloc: Global,
@@ -65,7 +72,7 @@ fn wires_at(
             consumer: channel.consumer,
             place: ins[number],
             capacity: channel.capacity,
-            first: None,
+            first: opens_with(channel.pipe),
         })?;
     }
     Ok(wires)

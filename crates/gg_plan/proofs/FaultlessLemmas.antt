@@ -1,6 +1,6 @@
 -- What a request without a fault says of its capacities, and which fault is the first.
-use Rattle.std.proofs.Common.{◌≡◌, ℕ, zero, suc, ◌^◌, ◌<◌, ◌≤◌, List, [], ◌∷◌, Bool, true, false, refl, sym, ◌∙◌, ap, inl, inr, Some, None, arith}
-use Rattle.std.specs.Prelude.{cond, ◌||◌, ◌==◌, nat_lt, All}
+use Rattle.std.proofs.Common.{◌≡◌, ℕ, zero, suc, ◌^◌, ◌<◌, ◌≤◌, List, [], ◌∷◌, ◌++◌, Bool, true, false, refl, sym, ◌∙◌, ap, inl, inr, Some, None, arith}
+use Rattle.std.specs.Prelude.{cond, ◌||◌, ◌==◌, nat_lt, All, Option}
 use Rattle.std.proofs.lemmas.Bool.{ltb-false, or_parts}
 use Rattle.gg_limits.specs.Limits.{capacity_limit}
 use Rattle.gg_order.specs.Design.{Ordered}
@@ -10,7 +10,7 @@ use Rattle.gg_cut.specs.declared.fault.CutFault.TheVariants.{OutOfRange}
 use Rattle.gg_cut.specs.Listed.{listed_of}
 use Rattle.gg_cut.specs.Channels.{capacity_of}
 use Rattle.gg_cut.specs.Direct.{plan_signals}
-use Rattle.gg_cut.specs.Fault.{or_else, IsTold, first_of, entry_faults, channel_faults, out_of_range, range_fault, first_fault}
+use Rattle.gg_cut.specs.Fault.{or_else, IsTold, first_of, entry_faults, channel_faults, pipe_faults, out_of_range, range_fault, first_fault}
 use Rattle.gg_cut.proofs.FindLemmas.{none-map, first-append}
 use Rattle.gg_closed.proofs.FaultlessLemmas as closed
 use Rattle.gg_plan.specs.Made.{IsCapacity}
@@ -38,17 +38,36 @@ capacities-small capacities none = in-range capacities (none-map (λ pair. OutOf
 pub capacity-sound : (capacities : List (List ℕ × ℕ)) (default : ℕ) (name : List ℕ) → range_fault capacities ≡ None → IsCapacity default → IsCapacity (capacity_of capacities default name)
 capacity-sound capacities default name none own = closed.capacity-is (λ n. IsCapacity n) (λ n some few. (some, few)) capacities default name none own
 
--- ---- the faults of channels
+-- ---- the faults of channels and of pipes
 
--- if the entries have no fault, the first fault is that of the channels
-pub channels-first : (design : Ordered) (request : Request) → first_of (entry_faults design.tree request) ≡ None → first_of (channel_faults design.circuit request (listed_of design.tree request) (plan_signals design.circuit design.tree request)) ≡ first_fault design request
-channels-first design request none =
-    let faults = channel_faults design.circuit request (listed_of design.tree request) (plan_signals design.circuit design.tree request) in
-    ap (λ f. or_else f (first_of faults)) (sym none) ∙ sym (first-append (entry_faults design.tree request) faults)
+module _ (design : Ordered) (request : Request) where
+  abbrev of_entries : List (Option CutFault)
+  of_entries = entry_faults design.tree request
 
--- a fault of the entries is the first of all
-pub entries-told : (design : Ordered) (request : Request) (cause : CutFault) → IsTold (first_of (entry_faults design.tree request)) cause → IsTold (first_fault design request) cause
-entries-told design request cause (inl memory) = inl memory
-entries-told design request cause (inr told) =
-    let faults = channel_faults design.circuit request (listed_of design.tree request) (plan_signals design.circuit design.tree request) in
-    inr (first-append (entry_faults design.tree request) faults ∙ ap (λ f. or_else f (first_of faults)) told)
+  abbrev of_channels : List (Option CutFault)
+  of_channels = channel_faults design.circuit request (listed_of design.tree request) (plan_signals design.circuit design.tree request)
+
+  abbrev of_pipes : List (Option CutFault)
+  of_pipes = pipe_faults design.circuit request (plan_signals design.circuit design.tree request)
+
+  -- a fault of the entries is the first of all
+  pub entries-told : (cause : CutFault) → IsTold (first_of (entry_faults design.tree request)) cause → IsTold (first_fault design request) cause
+  entries-told cause (inl memory) = inl memory
+  entries-told cause (inr told) =
+      inr (first-append of_entries (of_channels ++ of_pipes) ∙ ap (λ f. or_else f (first_of (of_channels ++ of_pipes))) told)
+
+  module _ (none : first_of (entry_faults design.tree request) ≡ None) where
+    -- if the entries have no fault, the first fault is that of the channels, and else that of the pipes
+    later-first : or_else (first_of of_channels) (first_of of_pipes) ≡ first_fault design request
+    later-first =
+        sym (first-append of_channels of_pipes)
+        ∙ ap (λ f. or_else f (first_of (of_channels ++ of_pipes))) (sym none)
+        ∙ sym (first-append of_entries (of_channels ++ of_pipes))
+
+    pub channels-told : (cause : CutFault) → IsTold (first_of (channel_faults design.circuit request (listed_of design.tree request) (plan_signals design.circuit design.tree request))) cause → IsTold (first_fault design request) cause
+    channels-told cause (inl memory) = inl memory
+    channels-told cause (inr told) = inr (sym later-first ∙ ap (λ f. or_else f (first_of of_pipes)) told)
+
+    pub pipes-first : first_of (channel_faults design.circuit request (listed_of design.tree request) (plan_signals design.circuit design.tree request)) ≡ None
+        → first_of (pipe_faults design.circuit request (plan_signals design.circuit design.tree request)) ≡ first_fault design request
+    pipes-first some = ap (λ f. or_else f (first_of of_pipes)) (sym some) ∙ later-first

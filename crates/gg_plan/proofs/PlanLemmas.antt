@@ -18,7 +18,7 @@ use Rattle.gg_cut.specs.Listed.{listed_of, instance_of}
 use Rattle.gg_cut.specs.Fault.{range_fault}
 use Rattle.gg_cut.specs.Machines.{machine_count}
 use Rattle.gg_cut.specs.Channels.{wire, capacity_of}
-use Rattle.gg_cut.specs.Direct.{Hub, routes}
+use Rattle.gg_cut.specs.Direct.{Hub, routes, is_piped}
 use Rattle.gg_cut.specs.Plan.{wire_at, channels_to, channels_from, signals_of, givens_of, IsCutPart, IsBody, IsMachine, NeedsIn}
 use Rattle.gg_flat.specs.Tree.{path_at}
 use Rattle.gg_routes.specs.Routes.{AreRoutes}
@@ -66,16 +66,16 @@ with-some : {X : Type 0} (machines : List Machine) (m : ℕ) → m < length mach
 with-some [] m lt f = absurd (omega arith)
 with-some (machine ∷ machines) m lt f = f machine
 
-pub channels-made : (design : Ordered) (whole : FlatCircuit) (capacity : List ℕ → ℕ) (wires : List Wire) (machines : List Machine) (table : List (List ℕ)) (channels : List Channel) → whole ≡ design.circuit
-    → ((c : ℕ) → c < length wires → (wire_at wires c).producer < length machines) → AreTold wires machines table → AreWired whole capacity wires table channels → AreChannels design capacity wires machines channels
-channels-made design whole capacity wires machines table channels same given told wired =
+pub channels-made : (design : Ordered) (request : Request) (whole : FlatCircuit) (capacity : List ℕ → ℕ) (wires : List Wire) (machines : List Machine) (table : List (List ℕ)) (channels : List Channel) → whole ≡ design.circuit
+    → ((c : ℕ) → c < length wires → (wire_at wires c).producer < length machines) → AreTold wires machines table → AreWired whole capacity (is_piped whole request) wires table channels → AreChannels design capacity (is_piped design.circuit request) wires machines channels
+channels-made design request whole capacity wires machines table channels same given told wired =
     record {
       total = wired.count;
       each = λ c any lt.
           let known : c < length wires = omega (arith, lt, wired.count) in
           let w = wire_at wires c in
           let channel = get_or channels c any in
-          let is = subst (λ (circuit : FlatCircuit). IsWired circuit capacity w channel) same (wired.each c any lt) in
+          let is = subst (λ (circuit : FlatCircuit). IsWired circuit capacity (is_piped circuit request) w channel) same (wired.each c any lt) in
           let needs : get_or table c [] ≡ channel.needs = sym (wired.needs c any lt) in
           record {
             signal = is.signal;
@@ -84,6 +84,7 @@ channels-made design whole capacity wires machines table channels same given tol
             producer = is.producer;
             consumer = is.consumer;
             bound = is.bound;
+            pipe = is.pipe;
             ascending = subst (λ (l : List ℕ). AllPairs (λ a b. a < b) l) needs (with-some machines w.producer (given c known) (λ some. (told.each c some known).ascending));
             needs = λ some. subst (λ (l : List ℕ). NeedsIn (get_or machines w.producer some).body (get_or machines w.producer some).ins w.given l) needs (told.each c some known).needs;
           };
@@ -107,7 +108,7 @@ known-below design listed hub wires whole same sound all c lt =
     omega (arith, below, count)
 
 -- each channel's capacity is one that a channel may have
-pub bounds-sound : (design : Ordered) (request : Request) (default : ℕ) (wires : List Wire) (machines : List Machine) (channels : List Channel) → IsCapacity default → range_fault request.capacity ≡ None → AreChannels design (capacity_of request.capacity default) wires machines channels → All (λ channel. IsCapacity channel.capacity) channels
+pub bounds-sound : (design : Ordered) (request : Request) (default : ℕ) (wires : List Wire) (machines : List Machine) (channels : List Channel) → IsCapacity default → range_fault request.capacity ≡ None → AreChannels design (capacity_of request.capacity default) (is_piped design.circuit request) wires machines channels → All (λ channel. IsCapacity channel.capacity) channels
 bounds-sound design request default wires machines channels own none are = λ c any lt.
     let is = are.each c any lt in
     subst IsCapacity (sym is.bound) (capacity-sound request.capacity default (path_at design.circuit.paths (wire_at wires c).signal) none own)

@@ -1,6 +1,6 @@
 -- The part of a unit by the routed channels, and by the channels before.
 use Rattle.std.proofs.Common.{◌≡◌, ◌≢◌, ℕ, ◌<◌, List, sym, ◌∙◌, subst}
-use Rattle.std.specs.Prelude.{Bool, false}
+use Rattle.std.specs.Prelude.{Bool}
 use Rattle.gg_moved.specs.KeepsToTree.{KeepsToTree}
 use Rattle.gg_order.specs.Design.{Ordered, IsDesign}
 use Rattle.gg_part.specs.declared.part.Part.{Part}
@@ -9,7 +9,7 @@ use Rattle.gg_partfile.specs.declared.request.Request.{Request}
 use Rattle.gg_cut.specs.declared.listed.Listed.{Listed}
 use Rattle.gg_cut.specs.Listed.{listed_of}
 use Rattle.gg_cut.specs.Machines.{first_source}
-use Rattle.gg_cut.specs.Direct.{Hub, hub_of, plan_hub, routes}
+use Rattle.gg_cut.specs.Direct.{Hub, hub_of, is_piped, plan_hub, routes}
 use Rattle.gg_cut.specs.Plan.{channels_from, givens_of, IsCutPart}
 use Rattle.gg_closed.specs.Apart.{AreApart}
 use Rattle.gg_routes.specs.Share.{IsPlanShare}
@@ -32,7 +32,7 @@ unit-routed design listed piped direct m is keeps apart other =
 pub plan-unit-routed : (design : Ordered) (request : Request) (listed : Listed) → listed ≡ listed_of design.tree request → IsDesign design → KeepsToTree design.circuit design.tree → AreApart design.tree listed → (m : ℕ) → m ≢ 0 → IsUnitRouted design listed (plan_hub design.circuit design.tree request) m
 plan-unit-routed design request listed same is keeps apart m other =
     subst (λ (l : Listed). IsUnitRouted design l (plan_hub design.circuit design.tree request) m) (sym same)
-    (unit-routed design (listed_of design.tree request) (λ s. false) request.direct m is keeps (subst (AreApart design.tree) same apart) other)
+    (unit-routed design (listed_of design.tree request) (is_piped design.circuit request) request.direct m is keeps (subst (AreApart design.tree) same apart) other)
 
 module _ (design : Ordered) (listed : Listed) (hub : Hub) (m : ℕ) (part : Part) (routed : IsUnitRouted design listed hub m) where
   pub to-unit : IsCutPart design listed hub m part → IsUnitPart design listed m (givens_of (routes hub) (channels_from (routes hub) m)) part

@@ -146,8 +146,8 @@ machines =
 
 abbrev pub channels : List Channel
 channels =
-    record { signal = 2; name = codes "tile.core.o"; ty = nibble; producer = 1; consumer = 0; capacity = 2; needs = [] }
-    ∷ record { signal = 0; name = codes "o"; ty = nibble; producer = 0; consumer = 2; capacity = 2; needs = 0 ∷ [] } ∷ []
+    record { signal = 2; name = codes "tile.core.o"; ty = nibble; producer = 1; consumer = 0; capacity = 2; pipe = false; needs = [] }
+    ∷ record { signal = 0; name = codes "o"; ty = nibble; producer = 0; consumer = 2; capacity = 2; pipe = false; needs = 0 ∷ [] } ∷ []
 
 is-machine : (m : ℕ) (any : Machine) → m < 3 → IsMachine design request listed routed m (slice_index_or machines m any)
 is-machine m any =
@@ -157,11 +157,11 @@ is-machine m any =
     (record { name = refl; host = refl; body = lit≤ tt; ins = refl; outs = refl })
     m
 
-is-channel : (c : ℕ) (any : Channel) → c < 2 → IsChannel design (capacity_of [] 2) machines (wire_at wires c) (slice_index_or channels c any)
+is-channel : (c : ℕ) (any : Channel) → c < 2 → IsChannel design (capacity_of [] 2) (λ s. false) machines (wire_at wires c) (slice_index_or channels c any)
 is-channel c any =
-    both (λ k. IsChannel design (capacity_of [] 2) machines (wire_at wires k) (slice_index_or channels k any))
-    (record { signal = refl; name = refl; type = refl; producer = refl; consumer = refl; bound = refl; ascending = ascending [] refl; needs = λ other. has-needs core [] 2 [] refl })
-    (record { signal = refl; name = refl; type = refl; producer = refl; consumer = refl; bound = refl; ascending = ascending (0 ∷ []) refl; needs = λ other. has-needs hub (0 ∷ []) 0 (0 ∷ []) refl })
+    both (λ k. IsChannel design (capacity_of [] 2) (λ s. false) machines (wire_at wires k) (slice_index_or channels k any))
+    (record { signal = refl; name = refl; type = refl; producer = refl; consumer = refl; bound = refl; pipe = refl; ascending = ascending [] refl; needs = λ other. has-needs core [] 2 [] refl })
+    (record { signal = refl; name = refl; type = refl; producer = refl; consumer = refl; bound = refl; pipe = refl; ascending = ascending (0 ∷ []) refl; needs = λ other. has-needs hub (0 ∷ []) 0 (0 ∷ []) refl })
     c
 
 pub is-plan : IsPlan design request 2 (record { machines = machines; channels = channels; listed = listed })
@@ -169,7 +169,7 @@ is-plan = record { listed = refl; machine_total = refl; channel_total = refl; ma
 
 -- the plan for another default is another
 other-default : ¬ IsPlan design request 3 (record { machines = machines; channels = channels; listed = listed })
-other-default is = let bound : 2 ≡ 3 = (is.channel 0 (record { signal = 0; name = []; ty = nibble; producer = 0; consumer = 0; capacity = 0; needs = [] }) (lit< tt)).bound in absurd (omega (arith, bound))
+other-default is = let bound : 2 ≡ 3 = (is.channel 0 (record { signal = 0; name = []; ty = nibble; producer = 0; consumer = 0; capacity = 0; pipe = false; needs = [] }) (lit< tt)).bound in absurd (omega (arith, bound))
 
 -- ---- requests that are refused
 

@@ -1,7 +1,7 @@
 -- The plan of the two units of WorkedShare, asked for with direct channels, in full.
 --
 -- `u.a` comes from the source of `x`, and `p` and `q` come from `u` and `v`. `x` goes to the hub too, which makes `v.a` of it.
-use Rattle.std.proofs.Common.{◌≡◌, ℕ, ◌<◌, List, [], ◌∷◌, true, set, refl, arith, lit<, lit≤}
+use Rattle.std.proofs.Common.{◌≡◌, false, ℕ, ◌<◌, List, [], ◌∷◌, true, set, refl, arith, lit<, lit≤}
 use Rattle.std.specs.Prelude.{codes, slice_index_or}
 use Rattle.gg_bits.specs.declared.ops.Op1.TheVariants.{Not}
 use Rattle.gg_flat.specs.declared.line.Op.TheVariants.{Ref, One}
@@ -84,7 +84,7 @@ machines =
 
 abbrev channel : ℕ → List ℕ → ℕ → ℕ → List ℕ → Channel
 channel s name producer consumer needs =
-    record { signal = s; name = name; ty = eight; producer = producer; consumer = consumer; capacity = 2; needs = needs }
+    record { signal = s; name = name; ty = eight; producer = producer; consumer = consumer; capacity = 2; pipe = false; needs = needs }
 
 abbrev channels : List Channel
 channels =
@@ -113,17 +113,17 @@ is-machine m any =
       ),
     ) m
 
-is-channel : (c : ℕ) (any : Channel) → c < 5 → IsChannel design (capacity_of [] 2) machines (wire_at wires c) (slice_index_or channels c any)
+is-channel : (c : ℕ) (any : Channel) → c < 5 → IsChannel design (capacity_of [] 2) (λ s. false) machines (wire_at wires c) (slice_index_or channels c any)
 is-channel c any =
-    each-below (λ k. IsChannel design (capacity_of [] 2) machines (wire_at wires k) (slice_index_or channels k any)) 5 (
-      record { signal = refl; name = refl; type = refl; producer = refl; consumer = refl; bound = refl; ascending = ascending [] refl; needs = λ other. refl },
+    each-below (λ k. IsChannel design (capacity_of [] 2) (λ s. false) machines (wire_at wires k) (slice_index_or channels k any)) 5 (
+      record { signal = refl; name = refl; type = refl; producer = refl; consumer = refl; bound = refl; pipe = refl; ascending = ascending [] refl; needs = λ other. refl },
       (
-        record { signal = refl; name = refl; type = refl; producer = refl; consumer = refl; bound = refl; ascending = ascending [] refl; needs = λ other. refl },
+        record { signal = refl; name = refl; type = refl; producer = refl; consumer = refl; bound = refl; pipe = refl; ascending = ascending [] refl; needs = λ other. refl },
         (
-          record { signal = refl; name = refl; type = refl; producer = refl; consumer = refl; bound = refl; ascending = ascending (0 ∷ []) refl; needs = λ other. has-needs hub (0 ∷ []) 6 (0 ∷ []) refl },
+          record { signal = refl; name = refl; type = refl; producer = refl; consumer = refl; bound = refl; pipe = refl; ascending = ascending (0 ∷ []) refl; needs = λ other. has-needs hub (0 ∷ []) 6 (0 ∷ []) refl },
           (
-            record { signal = refl; name = refl; type = refl; producer = refl; consumer = refl; bound = refl; ascending = ascending [] refl; needs = λ other. has-needs part_u (1 ∷ []) 4 [] refl },
-            (record { signal = refl; name = refl; type = refl; producer = refl; consumer = refl; bound = refl; ascending = ascending [] refl; needs = λ other. has-needs part_v (2 ∷ []) 7 [] refl }, tt),
+            record { signal = refl; name = refl; type = refl; producer = refl; consumer = refl; bound = refl; pipe = refl; ascending = ascending [] refl; needs = λ other. has-needs part_u (1 ∷ []) 4 [] refl },
+            (record { signal = refl; name = refl; type = refl; producer = refl; consumer = refl; bound = refl; pipe = refl; ascending = ascending [] refl; needs = λ other. has-needs part_v (2 ∷ []) 7 [] refl }, tt),
           ),
         ),
       ),

@@ -3,7 +3,7 @@
 -- The top has the input `x` and the outputs `p`, `q` and `w`; its instances `u` and `v` of module Inv have each the input `a` and the
 -- output `s`, which is the complement of `a`. `u.a` and `v.a` are `x`, `p` and `q` are `u.s` and `w` is `v.s`. So the hub has nothing
 -- left: the source of `x` is a fork, and `u` is one, but not `v`.
-use Rattle.std.proofs.Common.{◌≡◌, ℕ, zero, suc, ◌<◌, List, [], ◌∷◌, None, Some, true, set, length, refl, ap, arith, lit<, lit≤}
+use Rattle.std.proofs.Common.{◌≡◌, false, ℕ, zero, suc, ◌<◌, List, [], ◌∷◌, None, Some, true, set, length, refl, ap, arith, lit<, lit≤}
 use Rattle.std.specs.Prelude.{codes, slice_index_or, Contains}
 use Rattle.gg_bits.specs.declared.ops.Op1.TheVariants.{Not}
 use Rattle.gg_flat.specs.declared.line.Op.TheVariants.{Ref, One}
@@ -143,7 +143,7 @@ machines =
 
 abbrev channel : ℕ → List ℕ → ℕ → ℕ → List ℕ → Channel
 channel s name producer consumer needs =
-    record { signal = s; name = name; ty = eight; producer = producer; consumer = consumer; capacity = 2; needs = needs }
+    record { signal = s; name = name; ty = eight; producer = producer; consumer = consumer; capacity = 2; pipe = false; needs = needs }
 
 -- a channel has the name that it has without direct channels, and its producer's needs
 abbrev channels : List Channel
@@ -179,17 +179,17 @@ is-machine m any =
       ),
     ) m
 
-is-channel : (c : ℕ) (any : Channel) → c < 5 → IsChannel design (capacity_of [] 2) machines (wire_at wires c) (slice_index_or channels c any)
+is-channel : (c : ℕ) (any : Channel) → c < 5 → IsChannel design (capacity_of [] 2) (λ s. false) machines (wire_at wires c) (slice_index_or channels c any)
 is-channel c any =
-    each-below (λ k. IsChannel design (capacity_of [] 2) machines (wire_at wires k) (slice_index_or channels k any)) 5 (
-      record { signal = refl; name = refl; type = refl; producer = refl; consumer = refl; bound = refl; ascending = ascending [] refl; needs = λ other. refl },
+    each-below (λ k. IsChannel design (capacity_of [] 2) (λ s. false) machines (wire_at wires k) (slice_index_or channels k any)) 5 (
+      record { signal = refl; name = refl; type = refl; producer = refl; consumer = refl; bound = refl; pipe = refl; ascending = ascending [] refl; needs = λ other. refl },
       (
-        record { signal = refl; name = refl; type = refl; producer = refl; consumer = refl; bound = refl; ascending = ascending [] refl; needs = λ other. refl },
+        record { signal = refl; name = refl; type = refl; producer = refl; consumer = refl; bound = refl; pipe = refl; ascending = ascending [] refl; needs = λ other. refl },
         (
-          record { signal = refl; name = refl; type = refl; producer = refl; consumer = refl; bound = refl; ascending = ascending (0 ∷ []) refl; needs = λ other. has-needs part_u (0 ∷ []) 5 (0 ∷ []) refl },
+          record { signal = refl; name = refl; type = refl; producer = refl; consumer = refl; bound = refl; pipe = refl; ascending = ascending (0 ∷ []) refl; needs = λ other. has-needs part_u (0 ∷ []) 5 (0 ∷ []) refl },
           (
-            record { signal = refl; name = refl; type = refl; producer = refl; consumer = refl; bound = refl; ascending = ascending (0 ∷ []) refl; needs = λ other. has-needs part_u (0 ∷ []) 5 (0 ∷ []) refl },
-            (record { signal = refl; name = refl; type = refl; producer = refl; consumer = refl; bound = refl; ascending = ascending (1 ∷ []) refl; needs = λ other. has-needs part_v (1 ∷ []) 7 (1 ∷ []) refl }, tt),
+            record { signal = refl; name = refl; type = refl; producer = refl; consumer = refl; bound = refl; pipe = refl; ascending = ascending (0 ∷ []) refl; needs = λ other. has-needs part_u (0 ∷ []) 5 (0 ∷ []) refl },
+            (record { signal = refl; name = refl; type = refl; producer = refl; consumer = refl; bound = refl; pipe = refl; ascending = ascending (1 ∷ []) refl; needs = λ other. has-needs part_v (1 ∷ []) 7 (1 ∷ []) refl }, tt),
           ),
         ),
       ),

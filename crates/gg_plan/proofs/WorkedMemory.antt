@@ -197,7 +197,7 @@ machines =
 
 abbrev channel : ℕ → List ℕ → Ty → ℕ → ℕ → List ℕ → Channel
 channel s name ty producer consumer needs =
-    record { signal = s; name = name; ty = ty; producer = producer; consumer = consumer; capacity = 2; needs = needs }
+    record { signal = s; name = name; ty = ty; producer = producer; consumer = consumer; capacity = 2; pipe = false; needs = needs }
 
 -- a channel that always carries a 1 needs nothing
 abbrev pub channels : List Channel
@@ -243,43 +243,43 @@ is-machine m any =
       ),
     ) m
 
-is-channel : (c : ℕ) (any : Channel) → c < 18 → IsChannel design (capacity_of [] 2) machines (wire_at wires c) (slice_index_or channels c any)
+is-channel : (c : ℕ) (any : Channel) → c < 18 → IsChannel design (capacity_of [] 2) (λ s. false) machines (wire_at wires c) (slice_index_or channels c any)
 is-channel c any =
-    each-below (λ k. IsChannel design (capacity_of [] 2) machines (wire_at wires k) (slice_index_or channels k any)) 18 (
-      record { signal = refl; name = refl; type = refl; producer = refl; consumer = refl; bound = refl; ascending = ascending [] refl; needs = λ other. refl },
+    each-below (λ k. IsChannel design (capacity_of [] 2) (λ s. false) machines (wire_at wires k) (slice_index_or channels k any)) 18 (
+      record { signal = refl; name = refl; type = refl; producer = refl; consumer = refl; bound = refl; pipe = refl; ascending = ascending [] refl; needs = λ other. refl },
       (
-        record { signal = refl; name = refl; type = refl; producer = refl; consumer = refl; bound = refl; ascending = ascending [] refl; needs = λ other. refl },
+        record { signal = refl; name = refl; type = refl; producer = refl; consumer = refl; bound = refl; pipe = refl; ascending = ascending [] refl; needs = λ other. refl },
         (
-          record { signal = refl; name = refl; type = refl; producer = refl; consumer = refl; bound = refl; ascending = ascending (0 ∷ []) refl; needs = λ other. has-needs hub hub_ins 4 (0 ∷ []) refl },
+          record { signal = refl; name = refl; type = refl; producer = refl; consumer = refl; bound = refl; pipe = refl; ascending = ascending (0 ∷ []) refl; needs = λ other. has-needs hub hub_ins 4 (0 ∷ []) refl },
           (
-            record { signal = refl; name = refl; type = refl; producer = refl; consumer = refl; bound = refl; ascending = ascending [] refl; needs = λ other. has-needs hub hub_ins 5 [] refl },
+            record { signal = refl; name = refl; type = refl; producer = refl; consumer = refl; bound = refl; pipe = refl; ascending = ascending [] refl; needs = λ other. has-needs hub hub_ins 5 [] refl },
             (
-              record { signal = refl; name = refl; type = refl; producer = refl; consumer = refl; bound = refl; ascending = ascending (2 ∷ 3 ∷ []) refl; needs = λ other. has-needs memory memory_ins 6 (2 ∷ 3 ∷ []) refl },
+              record { signal = refl; name = refl; type = refl; producer = refl; consumer = refl; bound = refl; pipe = refl; ascending = ascending (2 ∷ 3 ∷ []) refl; needs = λ other. has-needs memory memory_ins 6 (2 ∷ 3 ∷ []) refl },
               (
-                record { signal = refl; name = refl; type = refl; producer = refl; consumer = refl; bound = refl; ascending = ascending (0 ∷ []) refl; needs = λ other. has-needs hub hub_ins 7 (0 ∷ []) refl },
+                record { signal = refl; name = refl; type = refl; producer = refl; consumer = refl; bound = refl; pipe = refl; ascending = ascending (0 ∷ []) refl; needs = λ other. has-needs hub hub_ins 7 (0 ∷ []) refl },
                 (
-                  record { signal = refl; name = refl; type = refl; producer = refl; consumer = refl; bound = refl; ascending = ascending (1 ∷ []) refl; needs = λ other. has-needs hub hub_ins 8 (1 ∷ []) refl },
+                  record { signal = refl; name = refl; type = refl; producer = refl; consumer = refl; bound = refl; pipe = refl; ascending = ascending (1 ∷ []) refl; needs = λ other. has-needs hub hub_ins 8 (1 ∷ []) refl },
                   (
-                    record { signal = refl; name = refl; type = refl; producer = refl; consumer = refl; bound = refl; ascending = ascending (5 ∷ 6 ∷ []) refl; needs = λ other. has-needs memory memory_ins 9 (5 ∷ 6 ∷ []) refl },
+                    record { signal = refl; name = refl; type = refl; producer = refl; consumer = refl; bound = refl; pipe = refl; ascending = ascending (5 ∷ 6 ∷ []) refl; needs = λ other. has-needs memory memory_ins 9 (5 ∷ 6 ∷ []) refl },
                     (
-                      record { signal = refl; name = refl; type = refl; producer = refl; consumer = refl; bound = refl; ascending = ascending (0 ∷ []) refl; needs = λ other. has-needs hub hub_ins 10 (0 ∷ []) refl },
+                      record { signal = refl; name = refl; type = refl; producer = refl; consumer = refl; bound = refl; pipe = refl; ascending = ascending (0 ∷ []) refl; needs = λ other. has-needs hub hub_ins 10 (0 ∷ []) refl },
                       (
-                        record { signal = refl; name = refl; type = refl; producer = refl; consumer = refl; bound = refl; ascending = ascending [] refl; needs = λ other. has-needs hub hub_ins 11 [] refl },
+                        record { signal = refl; name = refl; type = refl; producer = refl; consumer = refl; bound = refl; pipe = refl; ascending = ascending [] refl; needs = λ other. has-needs hub hub_ins 11 [] refl },
                         (
-                          record { signal = refl; name = refl; type = refl; producer = refl; consumer = refl; bound = refl; ascending = ascending (1 ∷ []) refl; needs = λ other. has-needs hub hub_ins 12 (1 ∷ []) refl },
+                          record { signal = refl; name = refl; type = refl; producer = refl; consumer = refl; bound = refl; pipe = refl; ascending = ascending (1 ∷ []) refl; needs = λ other. has-needs hub hub_ins 12 (1 ∷ []) refl },
                           (
-                            record { signal = refl; name = refl; type = refl; producer = refl; consumer = refl; bound = refl; ascending = ascending [] refl; needs = λ other. has-needs hub hub_ins 13 [] refl },
+                            record { signal = refl; name = refl; type = refl; producer = refl; consumer = refl; bound = refl; pipe = refl; ascending = ascending [] refl; needs = λ other. has-needs hub hub_ins 13 [] refl },
                             (
-                              record { signal = refl; name = refl; type = refl; producer = refl; consumer = refl; bound = refl; ascending = ascending (0 ∷ []) refl; needs = λ other. has-needs hub hub_ins 14 (0 ∷ []) refl },
+                              record { signal = refl; name = refl; type = refl; producer = refl; consumer = refl; bound = refl; pipe = refl; ascending = ascending (0 ∷ []) refl; needs = λ other. has-needs hub hub_ins 14 (0 ∷ []) refl },
                               (
-                                record { signal = refl; name = refl; type = refl; producer = refl; consumer = refl; bound = refl; ascending = ascending [] refl; needs = λ other. has-needs hub hub_ins 15 [] refl },
+                                record { signal = refl; name = refl; type = refl; producer = refl; consumer = refl; bound = refl; pipe = refl; ascending = ascending [] refl; needs = λ other. has-needs hub hub_ins 15 [] refl },
                                 (
-                                  record { signal = refl; name = refl; type = refl; producer = refl; consumer = refl; bound = refl; ascending = ascending (1 ∷ []) refl; needs = λ other. has-needs hub hub_ins 16 (1 ∷ []) refl },
+                                  record { signal = refl; name = refl; type = refl; producer = refl; consumer = refl; bound = refl; pipe = refl; ascending = ascending (1 ∷ []) refl; needs = λ other. has-needs hub hub_ins 16 (1 ∷ []) refl },
                                   (
-                                    record { signal = refl; name = refl; type = refl; producer = refl; consumer = refl; bound = refl; ascending = ascending [] refl; needs = λ other. has-needs hub hub_ins 17 [] refl },
+                                    record { signal = refl; name = refl; type = refl; producer = refl; consumer = refl; bound = refl; pipe = refl; ascending = ascending [] refl; needs = λ other. has-needs hub hub_ins 17 [] refl },
                                     (
-                                      record { signal = refl; name = refl; type = refl; producer = refl; consumer = refl; bound = refl; ascending = ascending (4 ∷ []) refl; needs = λ other. has-needs hub hub_ins 2 (4 ∷ []) refl },
-                                      (record { signal = refl; name = refl; type = refl; producer = refl; consumer = refl; bound = refl; ascending = ascending (7 ∷ []) refl; needs = λ other. has-needs hub hub_ins 3 (7 ∷ []) refl }, tt),
+                                      record { signal = refl; name = refl; type = refl; producer = refl; consumer = refl; bound = refl; pipe = refl; ascending = ascending (4 ∷ []) refl; needs = λ other. has-needs hub hub_ins 2 (4 ∷ []) refl },
+                                      (record { signal = refl; name = refl; type = refl; producer = refl; consumer = refl; bound = refl; pipe = refl; ascending = ascending (7 ∷ []) refl; needs = λ other. has-needs hub hub_ins 3 (7 ∷ []) refl }, tt),
                                     ),
                                   ),
                                 ),

@@ -63,7 +63,7 @@ design = record { circuit = circuit; tree = tree; order = 0 ∷ 2 ∷ 4 ∷ 5 �
 -- a channel of capacity 2 that carries eight bits
 abbrev channel : ℕ → List ℕ → ℕ → ℕ → List ℕ → Channel
 channel s name producer consumer needs =
-    record { signal = s; name = name; ty = eight; producer = producer; consumer = consumer; capacity = 2; needs = needs }
+    record { signal = s; name = name; ty = eight; producer = producer; consumer = consumer; capacity = 2; pipe = false; needs = needs }
 
 -- ---- `u` as a unit
 
@@ -159,13 +159,13 @@ is-machine m any =
     (record { name = refl; host = refl; body = lit≤ tt; ins = refl; outs = refl })
     m
 
-is-channel : (c : ℕ) (any : Channel) → c < 4 → IsChannel design (capacity_of [] 2) machines (wire_at wires c) (slice_index_or channels c any)
+is-channel : (c : ℕ) (any : Channel) → c < 4 → IsChannel design (capacity_of [] 2) (λ s. false) machines (wire_at wires c) (slice_index_or channels c any)
 is-channel c any =
-    four (λ k. IsChannel design (capacity_of [] 2) machines (wire_at wires k) (slice_index_or channels k any))
-    (record { signal = refl; name = refl; type = refl; producer = refl; consumer = refl; bound = refl; ascending = ascending [] refl; needs = λ other. refl })
-    (record { signal = refl; name = refl; type = refl; producer = refl; consumer = refl; bound = refl; ascending = ascending (0 ∷ []) refl; needs = λ other. has-needs hub (0 ∷ 2 ∷ []) 2 (0 ∷ []) refl })
-    (record { signal = refl; name = refl; type = refl; producer = refl; consumer = refl; bound = refl; ascending = ascending (1 ∷ []) refl; needs = λ other. has-needs unit (1 ∷ []) 3 (1 ∷ []) refl })
-    (record { signal = refl; name = refl; type = refl; producer = refl; consumer = refl; bound = refl; ascending = ascending (2 ∷ []) refl; needs = λ other. has-needs hub (0 ∷ 2 ∷ []) 1 (2 ∷ []) refl })
+    four (λ k. IsChannel design (capacity_of [] 2) (λ s. false) machines (wire_at wires k) (slice_index_or channels k any))
+    (record { signal = refl; name = refl; type = refl; producer = refl; consumer = refl; bound = refl; pipe = refl; ascending = ascending [] refl; needs = λ other. refl })
+    (record { signal = refl; name = refl; type = refl; producer = refl; consumer = refl; bound = refl; pipe = refl; ascending = ascending (0 ∷ []) refl; needs = λ other. has-needs hub (0 ∷ 2 ∷ []) 2 (0 ∷ []) refl })
+    (record { signal = refl; name = refl; type = refl; producer = refl; consumer = refl; bound = refl; pipe = refl; ascending = ascending (1 ∷ []) refl; needs = λ other. has-needs unit (1 ∷ []) 3 (1 ∷ []) refl })
+    (record { signal = refl; name = refl; type = refl; producer = refl; consumer = refl; bound = refl; pipe = refl; ascending = ascending (2 ∷ []) refl; needs = λ other. has-needs hub (0 ∷ 2 ∷ []) 1 (2 ∷ []) refl })
     c
 
 pub is-plan : IsPlan design outer 2 (record { machines = machines; channels = channels; listed = listed })
@@ -339,13 +339,13 @@ is-lower-machine m any =
     m
 
 -- the needs of the hub's channels go through the ports of `u`
-is-lower-channel : (c : ℕ) (any : Channel) → c < 4 → IsChannel design (capacity_of [] 2) lower_machines (wire_at lower_wires c) (slice_index_or lower_channels c any)
+is-lower-channel : (c : ℕ) (any : Channel) → c < 4 → IsChannel design (capacity_of [] 2) (λ s. false) lower_machines (wire_at lower_wires c) (slice_index_or lower_channels c any)
 is-lower-channel c any =
-    four (λ k. IsChannel design (capacity_of [] 2) lower_machines (wire_at lower_wires k) (slice_index_or lower_channels k any))
-    (record { signal = refl; name = refl; type = refl; producer = refl; consumer = refl; bound = refl; ascending = ascending [] refl; needs = λ other. refl })
-    (record { signal = refl; name = refl; type = refl; producer = refl; consumer = refl; bound = refl; ascending = ascending (0 ∷ []) refl; needs = λ other. has-needs around (0 ∷ 2 ∷ []) 4 (0 ∷ []) refl })
-    (record { signal = refl; name = refl; type = refl; producer = refl; consumer = refl; bound = refl; ascending = ascending (1 ∷ []) refl; needs = λ other. has-needs within (1 ∷ []) 5 (1 ∷ []) refl })
-    (record { signal = refl; name = refl; type = refl; producer = refl; consumer = refl; bound = refl; ascending = ascending (2 ∷ []) refl; needs = λ other. has-needs around (0 ∷ 2 ∷ []) 1 (2 ∷ []) refl })
+    four (λ k. IsChannel design (capacity_of [] 2) (λ s. false) lower_machines (wire_at lower_wires k) (slice_index_or lower_channels k any))
+    (record { signal = refl; name = refl; type = refl; producer = refl; consumer = refl; bound = refl; pipe = refl; ascending = ascending [] refl; needs = λ other. refl })
+    (record { signal = refl; name = refl; type = refl; producer = refl; consumer = refl; bound = refl; pipe = refl; ascending = ascending (0 ∷ []) refl; needs = λ other. has-needs around (0 ∷ 2 ∷ []) 4 (0 ∷ []) refl })
+    (record { signal = refl; name = refl; type = refl; producer = refl; consumer = refl; bound = refl; pipe = refl; ascending = ascending (1 ∷ []) refl; needs = λ other. has-needs within (1 ∷ []) 5 (1 ∷ []) refl })
+    (record { signal = refl; name = refl; type = refl; producer = refl; consumer = refl; bound = refl; pipe = refl; ascending = ascending (2 ∷ []) refl; needs = λ other. has-needs around (0 ∷ 2 ∷ []) 1 (2 ∷ []) refl })
     c
 
 pub is-lower-plan : IsPlan design lower 2 (record { machines = lower_machines; channels = lower_channels; listed = lower_listed })

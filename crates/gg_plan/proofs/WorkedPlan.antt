@@ -111,7 +111,7 @@ machines =
 -- a channel that carries eight bits
 abbrev pub channel : ℕ → List ℕ → ℕ → ℕ → ℕ → List ℕ → Channel
 channel s name producer consumer capacity needs =
-    record { signal = s; name = name; ty = eight; producer = producer; consumer = consumer; capacity = capacity; needs = needs }
+    record { signal = s; name = name; ty = eight; producer = producer; consumer = consumer; capacity = capacity; pipe = false; needs = needs }
 
 -- all have capacity 1, except `a.x`
 abbrev pub channels : ℕ → List Channel
@@ -189,23 +189,23 @@ bounds capacity n =
     (1 ≡ capacity (codes "x")) × (n ≡ capacity (codes "a.x")) × (1 ≡ capacity (codes "a.k")) × (1 ≡ capacity (codes "a.p"))
     × (1 ≡ capacity (codes "a.q")) × (1 ≡ capacity (codes "b.m")) × (1 ≡ capacity (codes "b.n")) × (1 ≡ capacity (codes "q"))
 
-is-channel : (capacity : List ℕ → ℕ) (n : ℕ) → bounds capacity n → (c : ℕ) (any : Channel) → c < 8 → IsChannel design capacity machines (wire_at wires c) (slice_index_or (channels n) c any)
+is-channel : (capacity : List ℕ → ℕ) (n : ℕ) → bounds capacity n → (c : ℕ) (any : Channel) → c < 8 → IsChannel design capacity (λ s. false) machines (wire_at wires c) (slice_index_or (channels n) c any)
 is-channel capacity n b c any =
-    each-below (λ k. IsChannel design capacity machines (wire_at wires k) (slice_index_or (channels n) k any)) 8 (
-      record { signal = refl; name = refl; type = refl; producer = refl; consumer = refl; bound = b.0; ascending = ascending [] refl; needs = λ other. refl },
+    each-below (λ k. IsChannel design capacity (λ s. false) machines (wire_at wires k) (slice_index_or (channels n) k any)) 8 (
+      record { signal = refl; name = refl; type = refl; producer = refl; consumer = refl; bound = b.0; pipe = refl; ascending = ascending [] refl; needs = λ other. refl },
       (
-        record { signal = refl; name = refl; type = refl; producer = refl; consumer = refl; bound = b.1; ascending = ascending (0 ∷ []) refl; needs = λ other. has-needs hub (0 ∷ 3 ∷ 4 ∷ 6 ∷ []) 2 (0 ∷ []) refl },
+        record { signal = refl; name = refl; type = refl; producer = refl; consumer = refl; bound = b.1; pipe = refl; ascending = ascending (0 ∷ []) refl; needs = λ other. has-needs hub (0 ∷ 3 ∷ 4 ∷ 6 ∷ []) 2 (0 ∷ []) refl },
         (
-          record { signal = refl; name = refl; type = refl; producer = refl; consumer = refl; bound = b.2; ascending = ascending (6 ∷ []) refl; needs = λ other. has-needs hub (0 ∷ 3 ∷ 4 ∷ 6 ∷ []) 3 (6 ∷ []) refl },
+          record { signal = refl; name = refl; type = refl; producer = refl; consumer = refl; bound = b.2; pipe = refl; ascending = ascending (6 ∷ []) refl; needs = λ other. has-needs hub (0 ∷ 3 ∷ 4 ∷ 6 ∷ []) 3 (6 ∷ []) refl },
           (
-            record { signal = refl; name = refl; type = refl; producer = refl; consumer = refl; bound = b.3; ascending = ascending (1 ∷ []) refl; needs = λ other. has-needs part_a (1 ∷ 2 ∷ []) 4 (1 ∷ []) refl },
+            record { signal = refl; name = refl; type = refl; producer = refl; consumer = refl; bound = b.3; pipe = refl; ascending = ascending (1 ∷ []) refl; needs = λ other. has-needs part_a (1 ∷ 2 ∷ []) 4 (1 ∷ []) refl },
             (
-              record { signal = refl; name = refl; type = refl; producer = refl; consumer = refl; bound = b.4; ascending = ascending (1 ∷ 2 ∷ []) refl; needs = λ other. has-needs part_a (1 ∷ 2 ∷ []) 5 (1 ∷ 2 ∷ []) refl },
+              record { signal = refl; name = refl; type = refl; producer = refl; consumer = refl; bound = b.4; pipe = refl; ascending = ascending (1 ∷ 2 ∷ []) refl; needs = λ other. has-needs part_a (1 ∷ 2 ∷ []) 5 (1 ∷ 2 ∷ []) refl },
               (
-                record { signal = refl; name = refl; type = refl; producer = refl; consumer = refl; bound = b.5; ascending = ascending (3 ∷ []) refl; needs = λ other. has-needs hub (0 ∷ 3 ∷ 4 ∷ 6 ∷ []) 6 (3 ∷ []) refl },
+                record { signal = refl; name = refl; type = refl; producer = refl; consumer = refl; bound = b.5; pipe = refl; ascending = ascending (3 ∷ []) refl; needs = λ other. has-needs hub (0 ∷ 3 ∷ 4 ∷ 6 ∷ []) 6 (3 ∷ []) refl },
                 (
-                  record { signal = refl; name = refl; type = refl; producer = refl; consumer = refl; bound = b.6; ascending = ascending (5 ∷ []) refl; needs = λ other. has-needs part_b (5 ∷ []) 7 (5 ∷ []) refl },
-                  (record { signal = refl; name = refl; type = refl; producer = refl; consumer = refl; bound = b.7; ascending = ascending (4 ∷ []) refl; needs = λ other. has-needs hub (0 ∷ 3 ∷ 4 ∷ 6 ∷ []) 1 (4 ∷ []) refl }, tt),
+                  record { signal = refl; name = refl; type = refl; producer = refl; consumer = refl; bound = b.6; pipe = refl; ascending = ascending (5 ∷ []) refl; needs = λ other. has-needs part_b (5 ∷ []) 7 (5 ∷ []) refl },
+                  (record { signal = refl; name = refl; type = refl; producer = refl; consumer = refl; bound = b.7; pipe = refl; ascending = ascending (4 ∷ []) refl; needs = λ other. has-needs hub (0 ∷ 3 ∷ 4 ∷ 6 ∷ []) 1 (4 ∷ []) refl }, tt),
                 ),
               ),
             ),

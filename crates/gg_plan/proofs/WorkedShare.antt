@@ -207,7 +207,7 @@ machines =
 
 abbrev channel : ℕ → List ℕ → ℕ → ℕ → List ℕ → Channel
 channel s name producer consumer needs =
-    record { signal = s; name = name; ty = eight; producer = producer; consumer = consumer; capacity = 2; needs = needs }
+    record { signal = s; name = name; ty = eight; producer = producer; consumer = consumer; capacity = 2; pipe = false; needs = needs }
 
 -- a channel whose value a register holds needs nothing
 abbrev pub channels : List Channel
@@ -239,21 +239,21 @@ is-machine m any =
       ),
     ) m
 
-is-channel : (c : ℕ) (any : Channel) → c < 7 → IsChannel design (capacity_of [] 2) machines (wire_at wires c) (slice_index_or channels c any)
+is-channel : (c : ℕ) (any : Channel) → c < 7 → IsChannel design (capacity_of [] 2) (λ s. false) machines (wire_at wires c) (slice_index_or channels c any)
 is-channel c any =
-    each-below (λ k. IsChannel design (capacity_of [] 2) machines (wire_at wires k) (slice_index_or channels k any)) 7 (
-      record { signal = refl; name = refl; type = refl; producer = refl; consumer = refl; bound = refl; ascending = ascending [] refl; needs = λ other. refl },
+    each-below (λ k. IsChannel design (capacity_of [] 2) (λ s. false) machines (wire_at wires k) (slice_index_or channels k any)) 7 (
+      record { signal = refl; name = refl; type = refl; producer = refl; consumer = refl; bound = refl; pipe = refl; ascending = ascending [] refl; needs = λ other. refl },
       (
-        record { signal = refl; name = refl; type = refl; producer = refl; consumer = refl; bound = refl; ascending = ascending (0 ∷ []) refl; needs = λ other. has-needs hub (0 ∷ 2 ∷ 4 ∷ []) 3 (0 ∷ []) refl },
+        record { signal = refl; name = refl; type = refl; producer = refl; consumer = refl; bound = refl; pipe = refl; ascending = ascending (0 ∷ []) refl; needs = λ other. has-needs hub (0 ∷ 2 ∷ 4 ∷ []) 3 (0 ∷ []) refl },
         (
-          record { signal = refl; name = refl; type = refl; producer = refl; consumer = refl; bound = refl; ascending = ascending [] refl; needs = λ other. has-needs part_u (1 ∷ []) 4 [] refl },
+          record { signal = refl; name = refl; type = refl; producer = refl; consumer = refl; bound = refl; pipe = refl; ascending = ascending [] refl; needs = λ other. has-needs part_u (1 ∷ []) 4 [] refl },
           (
-            record { signal = refl; name = refl; type = refl; producer = refl; consumer = refl; bound = refl; ascending = ascending (0 ∷ []) refl; needs = λ other. has-needs hub (0 ∷ 2 ∷ 4 ∷ []) 6 (0 ∷ []) refl },
+            record { signal = refl; name = refl; type = refl; producer = refl; consumer = refl; bound = refl; pipe = refl; ascending = ascending (0 ∷ []) refl; needs = λ other. has-needs hub (0 ∷ 2 ∷ 4 ∷ []) 6 (0 ∷ []) refl },
             (
-              record { signal = refl; name = refl; type = refl; producer = refl; consumer = refl; bound = refl; ascending = ascending [] refl; needs = λ other. has-needs part_v (3 ∷ []) 7 [] refl },
+              record { signal = refl; name = refl; type = refl; producer = refl; consumer = refl; bound = refl; pipe = refl; ascending = ascending [] refl; needs = λ other. has-needs part_v (3 ∷ []) 7 [] refl },
               (
-                record { signal = refl; name = refl; type = refl; producer = refl; consumer = refl; bound = refl; ascending = ascending (2 ∷ []) refl; needs = λ other. has-needs hub (0 ∷ 2 ∷ 4 ∷ []) 1 (2 ∷ []) refl },
-                (record { signal = refl; name = refl; type = refl; producer = refl; consumer = refl; bound = refl; ascending = ascending (4 ∷ []) refl; needs = λ other. has-needs hub (0 ∷ 2 ∷ 4 ∷ []) 2 (4 ∷ []) refl }, tt),
+                record { signal = refl; name = refl; type = refl; producer = refl; consumer = refl; bound = refl; pipe = refl; ascending = ascending (2 ∷ []) refl; needs = λ other. has-needs hub (0 ∷ 2 ∷ 4 ∷ []) 1 (2 ∷ []) refl },
+                (record { signal = refl; name = refl; type = refl; producer = refl; consumer = refl; bound = refl; pipe = refl; ascending = ascending (4 ∷ []) refl; needs = λ other. has-needs hub (0 ∷ 2 ∷ 4 ∷ []) 2 (4 ∷ []) refl }, tt),
               ),
             ),
           ),

@@ -2,7 +2,7 @@
 -- channel.
 -- Source: MEMOCODE 2009 (a network of machines that are latency-insensitive); ICCAD 2019 (instances and memories of a
 -- target as models of their own).
-use Rattle.std.specs.Prelude.{◌≡◌, ◌≢◌, ℕ, ◌<◌, ◌≤◌, List, [], length, map, slice_index_or, AllPairs, ◌==◌, if◌then◌else◌}
+use Rattle.std.specs.Prelude.{◌≡◌, ◌≢◌, ℕ, ◌<◌, ◌≤◌, List, [], Bool, length, map, slice_index_or, AllPairs, ◌==◌, if◌then◌else◌}
 use Rattle.gg_limits.specs.Limits.{capacity_limit}
 use Rattle.gg_bits.specs.Shape.{shape}
 use Rattle.gg_flat.specs.Line.{value_at, shape_at}
@@ -104,24 +104,25 @@ pub record AreTold (wires : List Wire) (machines : List Machine) (table : List (
   pub each : (c : ℕ) (any : Machine) → c < length wires → AreGiven (slice_index_or machines (wire_at wires c).producer any) (wire_at wires c) (slice_index_or table c [])
 
 -- a channel, without its needs
-pub record IsWired (circuit : FlatCircuit) (capacity : List ℕ → ℕ) (w : Wire) (channel : Channel) : Type 0 where
+pub record IsWired (circuit : FlatCircuit) (capacity : List ℕ → ℕ) (piped : ℕ → Bool) (w : Wire) (channel : Channel) : Type 0 where
   pub signal : channel.signal ≡ w.signal
   pub name : channel.name ≡ path_at circuit.paths w.signal
   pub type : shape channel.ty ≡ shape_at (signal_shapes circuit) w.signal
   pub producer : channel.producer ≡ w.producer
   pub consumer : channel.consumer ≡ w.consumer
   pub bound : channel.capacity ≡ capacity (path_at circuit.paths w.signal)
+  pub pipe : channel.pipe ≡ piped w.signal
 
 -- the channels, with the needs of a table
-pub record AreWired (circuit : FlatCircuit) (capacity : List ℕ → ℕ) (wires : List Wire) (table : List (List ℕ)) (channels : List Channel) : Type 0 where
+pub record AreWired (circuit : FlatCircuit) (capacity : List ℕ → ℕ) (piped : ℕ → Bool) (wires : List Wire) (table : List (List ℕ)) (channels : List Channel) : Type 0 where
   pub count : length channels ≡ length wires
-  pub each : (c : ℕ) (any : Channel) → c < length channels → IsWired circuit capacity (wire_at wires c) (slice_index_or channels c any)
+  pub each : (c : ℕ) (any : Channel) → c < length channels → IsWired circuit capacity piped (wire_at wires c) (slice_index_or channels c any)
   pub needs : (c : ℕ) (any : Channel) → c < length channels → (slice_index_or channels c any).needs ≡ slice_index_or table c []
 
 -- the channels of a plan
-pub record AreChannels (design : Ordered) (capacity : List ℕ → ℕ) (wires : List Wire) (machines : List Machine) (channels : List Channel) : Type 0 where
+pub record AreChannels (design : Ordered) (capacity : List ℕ → ℕ) (piped : ℕ → Bool) (wires : List Wire) (machines : List Machine) (channels : List Channel) : Type 0 where
   pub total : length channels ≡ length wires
-  pub each : (c : ℕ) (any : Channel) → c < length channels → IsChannel design capacity machines (wire_at wires c) (slice_index_or channels c any)
+  pub each : (c : ℕ) (any : Channel) → c < length channels → IsChannel design capacity piped machines (wire_at wires c) (slice_index_or channels c any)
 
 -- ---- what machines have
 

@@ -5,7 +5,7 @@ ghost use Rattle.gg_cut.specs.declared.plan.Channel.{Channel};
 ghost use Rattle.gg_moved.specs.KeepsToTree.{KeepsToTree};
 ghost use Rattle.gg_cut.specs.Listed.{listed_of};
 ghost use Rattle.gg_order.specs.Marks.{is_marked};
-ghost use Rattle.gg_cut.specs.Direct.{plan_hub, plan_wires, is_gone};
+ghost use Rattle.gg_cut.specs.Direct.{plan_hub, plan_wires, is_gone, is_piped};
 ghost use Rattle.gg_cut.specs.Fault.{IsSmall, Tells, first_of, entry_faults, first_fault};
 ghost use Rattle.gg_cut.specs.Machines.{machine_count};
 ghost use Rattle.gg_cut.specs.Plan.{IsPlan};
@@ -19,7 +19,7 @@ use crate::machines::machines_of;
 use crate::needs::needs_table;
 use gg_bits::Items;
 use gg_closed::listed_apart;
-use gg_cut::{Channel, CutFault, Listed, Machine, Plan, Wire, judge_channels, judge_entries};
+use gg_cut::{Channel, CutFault, Listed, Machine, Plan, Wire, judge_channels, judge_entries, judge_pipes};
 use gg_order::Design;
 use gg_part::part_formed;
 use gg_partfile::Request;
@@ -61,6 +61,7 @@ fn plan_of(
     listed: Listed,
     default_capacity: u32,
 ) -> Result<Plan, CutFault>
+    requires small { IsSmall request.now }
     requires capacity { IsCapacity default_capacity }
     requires keeps { KeepsToTree design.now.circuit design.now.tree }
     requires entries { first_of (entry_faults design.now.tree request.now) ≡ None }
@@ -87,7 +88,7 @@ fn plan_of(
     Ok(plan)
 }
 
-// Judges the channels of a plan whose entries have no fault.
+// Judges the channels and the pipes of a plan whose entries have no fault.
 fn judge_routed(
     alloc: Global,
     design: &Design,
@@ -95,6 +96,7 @@ fn judge_routed(
     listed: &Listed,
     wires: &[Wire],
 ) -> Result<(), CutFault>
+    requires small { IsSmall request.now }
     requires entries { first_of (entry_faults design.now.tree request.now) ≡ None }
     requires listed { listed.now ≡ listed_of design.now.tree request.now }
     requires units { length listed.now.units < 2 ^ 32 }
@@ -104,7 +106,8 @@ fn judge_routed(
     ensures { Tells (first_fault design.now request.now) result }
 {
     let signals = all_signals(alloc, wires)?;
-    judge_channels(alloc, design.piece(), request, listed, &signals)
+    judge_channels(alloc, design.piece(), request, listed, &signals)?;
+    judge_pipes(alloc, design.piece(), request, &signals)
 }
 
 // The signals that the consumers of channels take.
@@ -173,7 +176,7 @@ fn channels_for(
     requires wires { wires.now ≡ plan_wires design.now.circuit design.now.tree request.now }
     requires sound { AreRoutes design.now listed.now (plan_hub design.now.circuit design.now.tree request.now) }
     requires machines { AreMachines design.now request.now listed.now (plan_hub design.now.circuit design.now.tree request.now) machines.now }
-    ensures { IfOk result (λ channels. AreChannels design.now (capacity_of request.now.capacity default_capacity) wires.now machines.now channels.items) }
+    ensures { IfOk result (λ channels. AreChannels design.now (capacity_of request.now.capacity default_capacity) (is_piped design.now.circuit request.now) wires.now machines.now channels.items) }
 {
     let _ = listed;
     let _ = design.piece();
@@ -183,7 +186,7 @@ fn channels_for(
         alloc,
         design.piece(),
         wires,
-        request.capacity.as_slice(),
+        request,
         default_capacity,
         &mut table,
     )?;

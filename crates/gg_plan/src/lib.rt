@@ -4,14 +4,14 @@
 //! gg_cut's `IsPlan` defines what a plan is. The crate promises:
 //!
 //! - `cut` returns the plan of a design and a request exactly if the request has no fault, and else its first fault.
-//!   Each channel's capacity is from 1 to 4,096;
+//!   Each channel's capacity is from 1 to 4,096. The channels are those that are left by gg_cut's `specs/Direct`;
 //! - `deps` returns the channels that a channel of a plan needs. It allocates nothing.
 //!
 //! A unit that isn't the first machine of its host gets the part of the first one, with its own numbers, paths and clocks
 //! (`moved`): so units of one host run one program. By a law of gg_duplicates that is the part that the plan asks for.
 //!
-//! The time that `cut` takes is that of gg_split, gg_part and gg_needs, and otherwise linear, with one exception: to
-//! find the hosts it compares each entry of `share` with the units, of which there are at most 256.
+//! The time that `cut` takes is that of gg_split, gg_routes, gg_part and gg_needs, and otherwise linear, with one exception:
+//! to find the hosts it compares each entry of `share` with the units, of which there are at most 256.
 #![tactic(auto)]
 
 mod build;

@@ -83,7 +83,7 @@ pub(crate) fn machines_of(
         )?;
         let host = hosts[number];
         let machine = machine_at(
-            alloc, design, request, listed, &numbering, wires, share, body, host, number,
+            alloc, design, request, listed, &numbering, share, body, host, number,
         )?;
         machines.push(machine)?;
     }
@@ -97,7 +97,6 @@ fn machine_at(
     request: &Request,
     listed: &Listed,
     numbering: &Numbering,
-    wires: &[Wire],
     share: &Share,
     body: Body,
     host: u32,
@@ -112,7 +111,6 @@ fn machine_at(
     ensures machine { IfOk result (λ machine. IsMachine design.now request.now listed.now (plan_hub design.now.circuit design.now.tree request.now) number machine) }
     ensures body { IfOk result (λ machine. machine.body ≡ body) }
 {
-    let _ = wires;
     let name = machine_name(alloc, design, request, listed, numbering, number)?;
     let ins = copied(alloc, share.ins.as_slice())?;
     let outs = copied(alloc, share.outs.as_slice())?;

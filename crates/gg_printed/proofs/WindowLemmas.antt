@@ -2,7 +2,6 @@
 use Rattle.std.proofs.Common.{◌≡◌, ℕ, ◌+◌, ◌<◌, ◌≤◌, List, [], length, refl, sym, ap, ◌∙◌, subst, arith}
 use Rattle.std.specs.Prelude.{Option, Result, Ok, Err}
 use Rattle.std.specs.Io.KnownBytes.{append_known}
-use Rattle.gg_flat.specs.Run.{IsRun}
 use Rattle.gg_flat.specs.Streams.{Flow}
 use Rattle.gg_flat.specs.declared.ports.Port.{Port}
 use Rattle.gg_build.specs.Build.{IsOpeningOf, IsToRun}
@@ -11,7 +10,7 @@ use Rattle.gg_io.specs.Count.{Rose}
 use Rattle.gg_io.specs.declared.output.Sink
 use Rattle.gg_measure.specs.Nets.{AllStandAt}
 use Rattle.gg_net.specs.Network.{Frame, Network, frame_of}
-use Rattle.gg_order.specs.Design.{Ordered}
+use Rattle.gg_pipe.specs.Made.{plan_reference}
 use Rattle.gg_sound.specs.Built.{tray_rows}
 use Rattle.gg_sound.proofs.OpeningLemmas.{built-opening}
 use Rattle.gg_told.specs.Ends.{IsFront}
@@ -40,10 +39,6 @@ opening-stands plan columns n flow net run opens =
       within = omega arith;
     }
 
--- the circuit's run is that of the design
-pub run-of : (design : Ordered) (plan : Plan) (columns : List (List ℕ)) (n : ℕ) (flow : Flow) (run : IsToRun plan columns n flow) → run.design ≡ design → IsRun design.circuit columns n run.rows
-run-of design plan columns n flow run same = subst (λ (d : Ordered). IsRun d.circuit columns n run.rows) same run.given.run
-
 -- a network with the frame of one of a plan is one of the plan
 pub stands-on : (plan : Plan) (columns : List (List ℕ)) (n cycle cycle' : ℕ) (old new : Network) → StandsAt plan columns n cycle old → frame_of new ≡ frame_of old → AllStandAt cycle' new → cycle' ≤ old.end
     → StandsAt plan columns n cycle' new
@@ -62,8 +57,8 @@ module _ {K : Type 0} (flow : Flow) (net : Network) (ports : List Port) (sink : 
   RowsTo out' cycle =
       (plan : Plan) (columns : List (List ℕ)) (n : ℕ) (run : IsToRun plan columns n flow) (base : Option (List ℕ)) → StandsAt plan columns n upto net
       → count ≡ length run.design.circuit.outs → begun ≤ upto → upto ≤ begun + tray_rows
-      → sink.written out ≡ append_known base (text_to run.design.circuit ports run.rows begun)
-      → sink.written out' ≡ append_known base (text_to run.design.circuit ports run.rows cycle)
+      → sink.written out ≡ append_known base (text_to (plan_reference run.design run.request) ports run.rows begun)
+      → sink.written out' ≡ append_known base (text_to (plan_reference run.design run.request) ports run.rows cycle)
 
   -- The rows from `begun` on and before a cycle are on the output.
   pub record RowsPrinted (out' : K) (cycle : ℕ) : Type 0 where
@@ -76,7 +71,7 @@ abbrev pub RowOf : {K T : Type 0} (flow : Flow) (net : Network) (ports : List Po
 RowOf flow net ports sink out out' count cycle result =
     (plan : Plan) (columns : List (List ℕ)) (n upto : ℕ) (run : IsToRun plan columns n flow) → StandsAt plan columns n upto net
     → count ≡ length run.design.circuit.outs → cycle < upto → upto ≤ cycle + tray_rows
-    → PrintsOn sink out out' (row_line ports cycle (row_of (shown_columns run.design.circuit ports run.rows) cycle)) result
+    → PrintsOn sink out out' (row_line ports cycle (row_of (shown_columns (plan_reference run.design run.request) ports run.rows) cycle)) result
 
 module _ {K : Type 0} {flow : Flow} {net : Network} {ports : List Port} {sink : Sink.Ghosts K} {out out' : K} {begun upto count cycle : ℕ}
     (printed : RowsPrinted flow net ports sink out begun upto count out' cycle) (lt : cycle < upto) (count' : ℕ) (same : count' ≡ count) where
@@ -85,11 +80,11 @@ module _ {K : Type 0} {flow : Flow} {net : Network} {ports : List Port} {sink : 
   row-next done out'' row on =
       record {
         written = λ plan columns n run base stands counted low near begins.
-            let columns' = shown_columns run.design.circuit ports run.rows in
+            let columns' = shown_columns (plan_reference run.design run.request) ports run.rows in
             let near' : upto ≤ cycle + tray_rows = omega (arith, near, printed.low) in
             row plan columns n upto run stands (same ∙ counted) lt near'
             ∙ ap (λ w. append_known w (row_line ports cycle (row_of columns' cycle))) (printed.written plan columns n run base stands counted low near begins)
-            ∙ append_known-append base (text_to run.design.circuit ports run.rows cycle) (row_line ports cycle (row_of columns' cycle))
+            ∙ append_known-append base (text_to (plan_reference run.design run.request) ports run.rows cycle) (row_line ports cycle (row_of columns' cycle))
             ∙ ap (append_known base) (trace_text-more ports columns' cycle (row_of columns' cycle) refl);
         low = omega (arith, printed.low);
         on = on-then printed.on on;
@@ -99,17 +94,17 @@ module _ {K : Type 0} {flow : Flow} {net : Network} {ports : List Port} {sink : 
   pub row-stop : {T : Type 0} (out'' : K) (r : Result T Ending) (ending : Ending) → r ≡ Err ending → RowOf {T = T} flow net ports sink out' out'' count' cycle (Err ending)
       → (plan : Plan) (columns : List (List ℕ)) (n : ℕ) (run : IsToRun plan columns n flow) (base : Option (List ℕ)) → StandsAt plan columns n upto net
       → count ≡ length run.design.circuit.outs → begun ≤ upto → upto ≤ begun + tray_rows
-      → sink.written out ≡ append_known base (text_to run.design.circuit ports run.rows begun)
-      → Prints base (sink.written out'') (Rose (sink.faults out) (sink.faults out'')) (text_to run.design.circuit ports run.rows upto) r
+      → sink.written out ≡ append_known base (text_to (plan_reference run.design run.request) ports run.rows begun)
+      → Prints base (sink.written out'') (Rose (sink.faults out) (sink.faults out'')) (text_to (plan_reference run.design run.request) ports run.rows upto) r
   row-stop {T = T} out'' r ending e row plan columns n run base stands counted low near begins =
-      let columns' = shown_columns run.design.circuit ports run.rows in
+      let columns' = shown_columns (plan_reference run.design run.request) ports run.rows in
       let line = row_line ports cycle (row_of columns' cycle) in
       let near' : upto ≤ cycle + tray_rows = omega (arith, near, printed.low) in
-      let front : IsFront (text_to run.design.circuit ports run.rows (cycle + 1)) (text_to run.design.circuit ports run.rows upto) = trace_text-front ports columns' upto (cycle + 1) (omega (arith, lt)) in
+      let front : IsFront (text_to (plan_reference run.design run.request) ports run.rows (cycle + 1)) (text_to (plan_reference run.design run.request) ports run.rows upto) = trace_text-front ports columns' upto (cycle + 1) (omega (arith, lt)) in
       rw e
-      (stop-within T base _ _ _ _ (text_to run.design.circuit ports run.rows cycle) line (text_to run.design.circuit ports run.rows upto) ending (printed.written plan columns n run base stands counted low near begins)
+      (stop-within T base _ _ _ _ (text_to (plan_reference run.design run.request) ports run.rows cycle) line (text_to (plan_reference run.design run.request) ports run.rows upto) ending (printed.written plan columns n run base stands counted low near begins)
       (rose-earlier _ _ _ printed.on.faults_stay_or_rise)
-      (subst (λ (x : List ℕ). IsFront x (text_to run.design.circuit ports run.rows upto)) (sym (trace_text-more ports columns' cycle (row_of columns' cycle) refl)) front)
+      (subst (λ (x : List ℕ). IsFront x (text_to (plan_reference run.design run.request) ports run.rows upto)) (sym (trace_text-more ports columns' cycle (row_of columns' cycle) refl)) front)
       (row plan columns n upto run stands (same ∙ counted) lt near'))
 
 -- ---- one window after another
@@ -122,24 +117,24 @@ pub record WindowsRun {K : Type 0} (flow : Flow) (start : Network) (ports : List
   pub on : SinkWentOn sink out out'
   pub written : (plan : Plan) (columns : List (List ℕ)) (n : ℕ) (run : IsToRun plan columns n flow) (base : Option (List ℕ)) → StandsAt plan columns n 0 start
       → count ≡ length run.design.circuit.outs
-      → sink.written out ≡ append_known base (text_to run.design.circuit ports run.rows 0)
-      → sink.written out' ≡ append_known base (text_to run.design.circuit ports run.rows begun)
+      → sink.written out ≡ append_known base (text_to (plan_reference run.design run.request) ports run.rows 0)
+      → sink.written out' ≡ append_known base (text_to (plan_reference run.design run.request) ports run.rows begun)
 
 -- what the rows of a window owe
 abbrev pub WindowOf : {K T : Type 0} (flow : Flow) (net : Network) (ports : List Port) (sink : Sink.Ghosts K) (out out' : K) (count begun upto : ℕ) (result : Result T Ending) → Type 0
 WindowOf flow net ports sink out out' count begun upto result =
     (plan : Plan) (columns : List (List ℕ)) (n : ℕ) (run : IsToRun plan columns n flow) (base : Option (List ℕ)) → StandsAt plan columns n upto net
     → count ≡ length run.design.circuit.outs → begun ≤ upto → upto ≤ begun + tray_rows
-    → sink.written out ≡ append_known base (text_to run.design.circuit ports run.rows begun)
-    → Prints base (sink.written out') (Rose (sink.faults out) (sink.faults out')) (text_to run.design.circuit ports run.rows upto) result
+    → sink.written out ≡ append_known base (text_to (plan_reference run.design run.request) ports run.rows begun)
+    → Prints base (sink.written out') (Rose (sink.faults out) (sink.faults out')) (text_to (plan_reference run.design run.request) ports run.rows upto) result
 
 -- what all windows owe
 abbrev pub WindowsOf : {K T : Type 0} (flow : Flow) (start : Network) (ports : List Port) (sink : Sink.Ghosts K) (out out' : K) (count : ℕ) (result : Result T Ending) → Type 0
 WindowsOf flow start ports sink out out' count result =
     (plan : Plan) (columns : List (List ℕ)) (n : ℕ) (run : IsToRun plan columns n flow) (base : Option (List ℕ)) → StandsAt plan columns n 0 start
     → count ≡ length run.design.circuit.outs
-    → sink.written out ≡ append_known base (text_to run.design.circuit ports run.rows 0)
-    → Prints base (sink.written out') (Rose (sink.faults out) (sink.faults out')) (text_to run.design.circuit ports run.rows n) result
+    → sink.written out ≡ append_known base (text_to (plan_reference run.design run.request) ports run.rows 0)
+    → Prints base (sink.written out') (Rose (sink.faults out) (sink.faults out')) (text_to (plan_reference run.design run.request) ports run.rows n) result
 
 -- before the first window
 pub windows-start : {K : Type 0} {flow : Flow} {start : Network} {ports : List Port} {sink : Sink.Ghosts K} {out : K} {count : ℕ} → AllStandAt 0 start
@@ -153,15 +148,15 @@ module _ {K : Type 0} {flow : Flow} {start : Network} {ports : List Port} {sink 
   pub windows-end : {T : Type 0} (done : T) → start.end ≤ begun → WindowsOf flow start ports sink out out' count (Ok done)
   windows-end done le plan columns n run base stands counted begins =
       let all : begun ≡ n = omega (arith, le, ran.within, ap (λ (f : Frame). f.end) stands.of_plan.frame) in
-      ran.written plan columns n run base stands counted begins ∙ ap (λ t. append_known base (text_to run.design.circuit ports run.rows t)) all
+      ran.written plan columns n run base stands counted begins ∙ ap (λ t. append_known base (text_to (plan_reference run.design run.request) ports run.rows t)) all
 
   -- the next can't be run for want of memory
   pub windows-want : {T : Type 0} (r : Result T Ending) → r ≡ Err NoMemory → WindowsOf flow start ports sink out out' count r
   windows-want r e plan columns n run base stands counted begins =
       let below : begun ≤ n = omega (arith, ran.within, ap (λ (f : Frame). f.end) stands.of_plan.frame) in
       rw e (
-        text_to run.design.circuit ports run.rows begun,
-        trace_text-front ports (shown_columns run.design.circuit ports run.rows) n begun below,
+        text_to (plan_reference run.design run.request) ports run.rows begun,
+        trace_text-front ports (shown_columns (plan_reference run.design run.request) ports run.rows) n begun below,
         ran.written plan columns n run base stands counted begins,
       )
 
@@ -195,9 +190,9 @@ module _ {K : Type 0} {flow : Flow} {start : Network} {ports : List Port} {sink 
         → WindowsOf flow start ports sink out out'' count r
     windows-stop {T = T} out'' r ending e rows plan columns n run base stands counted begins =
         let now = sink.written out'' in
-        let columns' = shown_columns run.design.circuit ports run.rows in
+        let columns' = shown_columns (plan_reference run.design run.request) ports run.rows in
         let below : upto ≤ n = omega (arith, most, ap (λ (f : Frame). f.end) stands.of_plan.frame) in
         rw e
-        (stop-within T base base now (Rose (sink.faults out') (sink.faults out'')) (Rose (sink.faults out) (sink.faults out'')) [] (text_to run.design.circuit ports run.rows upto) (text_to run.design.circuit ports run.rows n) ending
+        (stop-within T base base now (Rose (sink.faults out') (sink.faults out'')) (Rose (sink.faults out) (sink.faults out'')) [] (text_to (plan_reference run.design run.request) ports run.rows upto) (text_to (plan_reference run.design run.request) ports run.rows n) ending
         (sym (append_known-nil base)) (rose-earlier _ _ _ ran.on.faults_stay_or_rise) (trace_text-front ports columns' n upto below)
         (rows plan columns n run base (next-stands plan columns n stands) (counts ∙ counted) low near (ran.written plan columns n run base stands counted begins)))

@@ -1,11 +1,11 @@
-//! `print_net`: the run of a circuit is printed from the network of its plan.
+//! `print_net`: the run of the reference circuit of a plan is printed from the plan's network.
 ghost use Rattle.std.specs.Prelude.{◌≡◌, ◌+◌, ◌<◌, ◌≤◌, ℕ, List, Option, length};
 ghost use Rattle.std.specs.Io.KnownBytes.{append_known};
 ghost use Rattle.gg_build.specs.Build.{IsToRun};
 ghost use Rattle.gg_cut.specs.declared.plan.Plan.{Plan};
-ghost use Rattle.gg_flat.specs.Run.{IsRun};
 ghost use Rattle.gg_io.specs.Count.{Rose};
 ghost use Rattle.gg_measure.specs.Nets.{AllStandAt};
+ghost use Rattle.gg_pipe.specs.Made.{plan_reference};
 ghost use Rattle.gg_sound.specs.Built.{tray_rows};
 ghost use Rattle.gg_told.specs.Endings.{Prints, PrintsOn};
 ghost use Rattle.gg_told.specs.WentOn.{SinkWentOn};
@@ -39,7 +39,7 @@ fn print_cycle<Z: Streams, K: Sink>(
     requires ports { length ports.now ≤ length outs.old }
     ensures prints { (plan : Plan) (columns : List (List ℕ)) (n upto : ℕ) (run : IsToRun plan columns n Z.flow) → StandsAt plan columns n upto net.now
         → length outs.old ≡ length run.design.circuit.outs → cycle < upto → upto ≤ cycle + tray_rows
-        → PrintsOn K.Sink out.old out.new (row_line ports.now cycle (row_of (shown_columns run.design.circuit ports.now run.rows) cycle)) result }
+        → PrintsOn K.Sink out.old out.new (row_line ports.now cycle (row_of (shown_columns (plan_reference run.design run.request) ports.now run.rows) cycle)) result }
     ensures out { SinkWentOn K.Sink out.old out.new }
 {
     output_values(net, cycle, outs);
@@ -62,8 +62,8 @@ fn print_window<Z: Streams, K: Sink>(
     requires ports { length ports.now ≤ length outs.old }
     ensures prints { (plan : Plan) (columns : List (List ℕ)) (n : ℕ) (run : IsToRun plan columns n Z.flow) (base : Option (List ℕ)) → StandsAt plan columns n upto net.now
         → length outs.old ≡ length run.design.circuit.outs → begun ≤ upto → upto ≤ begun + tray_rows
-        → K.written out.old ≡ append_known base (text_to run.design.circuit ports.now run.rows begun)
-        → Prints base (K.written out.new) (Rose (K.faults out.old) (K.faults out.new)) (text_to run.design.circuit ports.now run.rows upto) result }
+        → K.written out.old ≡ append_known base (text_to (plan_reference run.design run.request) ports.now run.rows begun)
+        → Prints base (K.written out.new) (Rose (K.faults out.old) (K.faults out.new)) (text_to (plan_reference run.design run.request) ports.now run.rows upto) result }
     ensures out { SinkWentOn K.Sink out.old out.new }
 {
     for cycle in begun..upto {
@@ -89,8 +89,8 @@ fn print_windows<R: Threads + Sync, Z: Streams, K: Sink, G: Gate + Sync>(
     requires ports { length ports.now ≤ length outs.old }
     ensures prints { (plan : Plan) (columns : List (List ℕ)) (n : ℕ) (run : IsToRun plan columns n Z.flow) (base : Option (List ℕ)) → StandsAt plan columns n 0 net.entry
         → length outs.old ≡ length run.design.circuit.outs
-        → K.written out.old ≡ append_known base (text_to run.design.circuit ports.now run.rows 0)
-        → Prints base (K.written out.new) (Rose (K.faults out.old) (K.faults out.new)) (text_to run.design.circuit ports.now run.rows n) result }
+        → K.written out.old ≡ append_known base (text_to (plan_reference run.design run.request) ports.now run.rows 0)
+        → Prints base (K.written out.new) (Rose (K.faults out.old) (K.faults out.new)) (text_to (plan_reference run.design run.request) ports.now run.rows n) result }
     ensures out { SinkWentOn K.Sink out.old out.new }
 {
     let end = net.end();
@@ -108,8 +108,8 @@ fn print_windows<R: Threads + Sync, Z: Streams, K: Sink, G: Gate + Sync>(
     Ok(())
 }
 
-/// Prints the run of a design's circuit from the network of a plan of it: a header, and then the rows, a window at a time.
-/// The network is run by this many workers, and then by steps in the fixed order. The values of a row are those of the
+/// Prints the run of the reference circuit of a plan of the design from the plan's network: a header, and then the rows, a window
+/// at a time. The network is run by this many workers, and then by steps in the fixed order. The values of a row are those of the
 /// first out-signals, one for each port.
 ///
 /// # Errors
@@ -130,8 +130,8 @@ pub fn print_net<R: Threads + Sync, Z: Streams, K: Sink, G: Gate + Sync>(
     requires few { workers ≤ 64 }
     requires run { (run : IsToRun plan.now inputs.now.columns inputs.now.rows Z.flow) × (run.design ≡ design.now) }
     requires ports { length ports.now ≤ length design.now.circuit.outs }
-    ensures prints { (rows : List (List ℕ)) × IsRun design.now.circuit inputs.now.columns inputs.now.rows rows
-        × PrintsOn K.Sink out.old out.new (text_to design.now.circuit ports.now rows inputs.now.rows) result }
+    ensures prints { (run : IsToRun plan.now inputs.now.columns inputs.now.rows Z.flow) → run.design ≡ design.now
+        → PrintsOn K.Sink out.old out.new (text_to (plan_reference run.design run.request) ports.now run.rows inputs.now.rows) result }
     ensures out { SinkWentOn K.Sink out.old out.new }
 {
     let mut outs = vec![in alloc; 0u128; design.piece().outs().len()]?;

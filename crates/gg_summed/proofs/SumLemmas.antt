@@ -12,6 +12,7 @@ use Rattle.gg_flat.specs.Run.{row_at}
 use Rattle.gg_flat.specs.Streams.{Flow}
 use Rattle.gg_measure.specs.Nets.{AllStandAt}
 use Rattle.gg_net.specs.Network.{Frame, Network, frame_of}
+use Rattle.gg_pipe.specs.Made.{plan_reference}
 use Rattle.gg_sound.specs.Built.{tray_rows}
 use Rattle.gg_sound.proofs.OpeningLemmas.{built-opening}
 use Rattle.gg_windows.specs.Rows.{IsNetOfPlan, outputs_in}
@@ -44,7 +45,7 @@ abbrev pub FoldsTo : (flow : Flow) (net : Network) (begun upto count : ℕ) (bef
 FoldsTo flow net begun upto count before now cycle =
     (plan : Plan) (columns : List (List ℕ)) (n : ℕ) (run : IsToRun plan columns n flow) → IsNetOfPlan plan columns n net → AllStandAt upto net → upto ≤ n
     → count ≡ length run.design.circuit.outs → begun ≤ upto → upto ≤ begun + tray_rows
-    → FoldsRows run.design.circuit run.rows begun before → FoldsRows run.design.circuit run.rows cycle now
+    → FoldsRows (plan_reference run.design run.request) run.rows begun before → FoldsRows (plan_reference run.design run.request) run.rows cycle now
 
 -- The rows from `begun` on and before a cycle are folded.
 pub record RowsFolded (flow : Flow) (net : Network) (begun upto count : ℕ) (before now : Fold) (cycle : ℕ) : Type 0 where
@@ -55,14 +56,14 @@ pub record RowsFolded (flow : Flow) (net : Network) (begun upto count : ℕ) (be
 pub window-row : {flow : Flow} {net : Network} {begun upto count : ℕ} {before now : Fold} {cycle : ℕ} (next : Fold) → RowsFolded flow net begun upto count before now cycle → cycle < upto
     → ((plan : Plan) (columns : List (List ℕ)) (n upto : ℕ) (run : IsToRun plan columns n flow) → IsNetOfPlan plan columns n net → AllStandAt upto net → upto ≤ n
     → count ≡ length run.design.circuit.outs → cycle < upto → upto ≤ cycle + tray_rows
-    → FoldsRows run.design.circuit run.rows cycle now → FoldsRows run.design.circuit run.rows (suc cycle) next)
+    → FoldsRows (plan_reference run.design run.request) run.rows cycle now → FoldsRows (plan_reference run.design run.request) run.rows (suc cycle) next)
     → RowsFolded flow net begun upto count before next (cycle + 1)
 window-row {upto = upto} {cycle = cycle} next so lt row =
     record {
       low = omega (arith, so.low);
       folds = λ plan columns n run of_plan all within counted low near begins.
           let one : suc cycle ≡ cycle + 1 = omega arith in
-          subst (λ k. FoldsRows run.design.circuit run.rows k next) one
+          subst (λ k. FoldsRows (plan_reference run.design run.request) run.rows k next) one
           (row plan columns n upto run of_plan all within counted lt (omega (arith, near, so.low)) (so.folds plan columns n run of_plan all within counted low near begins));
     }
 
@@ -74,19 +75,19 @@ pub record WindowsFolded (flow : Flow) (start : Network) (count begun : ℕ) (ne
   pub all : AllStandAt begun net
   pub within : begun ≤ start.end
   pub folds : (plan : Plan) (columns : List (List ℕ)) (n : ℕ) (run : IsToRun plan columns n flow) → IsNetOfPlan plan columns n start
-      → count ≡ length run.design.circuit.outs → FoldsRows run.design.circuit run.rows begun fold
+      → count ≡ length run.design.circuit.outs → FoldsRows (plan_reference run.design run.request) run.rows begun fold
 
 -- the network before its first cycle, with nothing folded
 pub none-folded : (flow : Flow) (start : Network) (count : ℕ) (fold : Fold) → AllStandAt 0 start → ((ys zs : List ℕ) → IsFolded ys zs 0 fold) → WindowsFolded flow start count 0 start fold
 none-folded flow start count fold all empty =
-    record { frame = refl; all = all; within = omega arith; folds = λ plan columns n run of_plan counted. empty (output_column run.design.circuit run.rows 0) (output_column run.design.circuit run.rows 1) }
+    record { frame = refl; all = all; within = omega arith; folds = λ plan columns n run of_plan counted. empty (output_column (plan_reference run.design run.request) run.rows 0) (output_column (plan_reference run.design run.request) run.rows 1) }
 
 -- all windows are run
 pub all-folded : {flow : Flow} {start : Network} {count begun : ℕ} {net : Network} {fold : Fold} → WindowsFolded flow start count begun net fold → start.end ≤ begun
-    → (plan : Plan) (columns : List (List ℕ)) (n : ℕ) (run : IsToRun plan columns n flow) → IsNetOfPlan plan columns n start → count ≡ length run.design.circuit.outs → FoldsRows run.design.circuit run.rows n fold
+    → (plan : Plan) (columns : List (List ℕ)) (n : ℕ) (run : IsToRun plan columns n flow) → IsNetOfPlan plan columns n start → count ≡ length run.design.circuit.outs → FoldsRows (plan_reference run.design run.request) run.rows n fold
 all-folded {begun = begun} {fold = fold} ran past plan columns n run of_plan counted =
     let whole : begun ≡ n = omega (arith, past, ran.within, ap (λ (f : Frame). f.end) of_plan.frame) in
-    subst (λ k. FoldsRows run.design.circuit run.rows k fold) whole (ran.folds plan columns n run of_plan counted)
+    subst (λ k. FoldsRows (plan_reference run.design run.request) run.rows k fold) whole (ran.folds plan columns n run of_plan counted)
 
 -- the network of a plan before its first cycle stands there, and has a machine for each out-signal
 pub opening-stands : (plan : Plan) (columns : List (List ℕ)) (n : ℕ) (flow : Flow) (net : Network) → IsToRun plan columns n flow → IsOpeningOf plan columns n net → AllStandAt 0 net

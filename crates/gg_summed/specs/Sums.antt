@@ -13,6 +13,7 @@ use Rattle.gg_flat.specs.Streams.{Flow}
 use Rattle.gg_measure.specs.Nets.{net_left}
 use Rattle.gg_net.specs.Kept.{Kept}
 use Rattle.gg_net.specs.Network.{Network}
+use Rattle.gg_pipe.specs.Made.{plan_reference}
 use Rattle.gg_summed.specs.declared.sums.Sums.{Sums}
 
 -- the column of out-signal k of a circuit in a run
@@ -23,7 +24,7 @@ output_column circuit rows k = column rows (value_at circuit.outs k)
 abbrev pub FoldsRows : FlatCircuit → (rows : List (List ℕ)) → (n : ℕ) → Fold → Type 0
 FoldsRows circuit rows n fold = IsFolded (output_column circuit rows 0) (output_column circuit rows 1) n fold
 
--- The sums are those of the plan's network before its first cycle, and of the rows of the circuit's own run.
+-- The sums are those of the plan's network before its first cycle, and of the rows of the reference circuit's run.
 pub record AreSums (plan : Plan) (columns : List (List ℕ)) (n : ℕ) (flow : Flow) (run : IsToRun plan columns n flow) (sums : Sums) : Type 0 where
   pub net : Network
   pub opens : IsOpeningOf plan columns n net
@@ -31,7 +32,7 @@ pub record AreSums (plan : Plan) (columns : List (List ℕ)) (n : ℕ) (flow : F
   pub machines : sums.machines ≡ length net.machines
   pub channels : sums.channels ≡ length net.wires
   pub steps : sums.steps ≡ net_left net
-  pub folds : FoldsRows run.design.circuit run.rows n sums.fold
+  pub folds : FoldsRows (plan_reference run.design run.request) run.rows n sums.fold
 
 -- the four lines for these sums
 abbrev pub sums_text : (seed size : ℕ) → Sums → List ℕ

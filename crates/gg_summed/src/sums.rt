@@ -3,6 +3,7 @@ ghost use Rattle.std.specs.Prelude.{◌≡◌, ◌+◌, ◌<◌, ◌≤◌, ℕ,
 ghost use Rattle.gg_build.specs.Build.{IsToRun};
 ghost use Rattle.gg_cut.specs.declared.plan.Plan.{Plan};
 ghost use Rattle.gg_measure.specs.Nets.{AllStandAt};
+ghost use Rattle.gg_pipe.specs.Made.{plan_reference};
 ghost use Rattle.gg_sound.specs.Built.{tray_rows};
 ghost use Rattle.gg_summed.specs.Sums.{AreSums, FoldsRows};
 ghost use Rattle.gg_windows.specs.Rows.{IsNetOfPlan};
@@ -39,7 +40,7 @@ fn fold_cycle<Z: Streams>(net: &Net<Node<'_>, Z>, cycle: u64, outs: &mut [u128],
     requires two { 2 ≤ length outs.old }
     ensures { (plan : Plan) (columns : List (List ℕ)) (n upto : ℕ) (run : IsToRun plan columns n Z.flow) → IsNetOfPlan plan columns n net.now → AllStandAt upto net.now → upto ≤ n
         → length outs.old ≡ length run.design.circuit.outs → cycle < upto → upto ≤ cycle + tray_rows
-        → FoldsRows run.design.circuit run.rows cycle fold.old → FoldsRows run.design.circuit run.rows (suc cycle) fold.new }
+        → FoldsRows (plan_reference run.design run.request) run.rows cycle fold.old → FoldsRows (plan_reference run.design run.request) run.rows (suc cycle) fold.new }
 {
     output_values(net, cycle, outs);
     fold.add(outs[0], outs[1]);
@@ -57,7 +58,7 @@ fn fold_window<Z: Streams>(
     requires two { 2 ≤ length outs.old }
     ensures { (plan : Plan) (columns : List (List ℕ)) (n : ℕ) (run : IsToRun plan columns n Z.flow) → IsNetOfPlan plan columns n net.now → AllStandAt upto net.now → upto ≤ n
         → length outs.old ≡ length run.design.circuit.outs → begun ≤ upto → upto ≤ begun + tray_rows
-        → FoldsRows run.design.circuit run.rows begun fold.old → FoldsRows run.design.circuit run.rows upto fold.new }
+        → FoldsRows (plan_reference run.design run.request) run.rows begun fold.old → FoldsRows (plan_reference run.design run.request) run.rows upto fold.new }
 {
     for cycle in begun..upto {
         fold_cycle(net, cycle, outs, fold);
@@ -78,7 +79,7 @@ fn fold_windows<R: Threads + Sync, Z: Streams, G: Gate + Sync>(
     requires outs { length outs.old ≤ length net.machines }
     requires two { 2 ≤ length outs.old }
     ensures { IfOk result (λ fold. (plan : Plan) (columns : List (List ℕ)) (n : ℕ) (run : IsToRun plan columns n Z.flow) → IsNetOfPlan plan columns n net.entry
-        → length outs.old ≡ length run.design.circuit.outs → FoldsRows run.design.circuit run.rows n fold) }
+        → length outs.old ≡ length run.design.circuit.outs → FoldsRows (plan_reference run.design run.request) run.rows n fold) }
 {
     let end = net.end();
     let mut net = net;
@@ -114,7 +115,7 @@ pub fn sum_net<R: Threads + Sync, Z: Streams, G: Gate + Sync>(
     requires few { workers ≤ 64 }
     requires run { (run : IsToRun plan.now inputs.now.columns inputs.now.rows Z.flow) × (run.design ≡ design.now) }
     requires two { 2 ≤ length design.now.circuit.outs }
-    ensures { IfOk result (λ sums. (run : IsToRun plan.now inputs.now.columns inputs.now.rows Z.flow) × (run.design ≡ design.now) × AreSums plan.now inputs.now.columns inputs.now.rows Z.flow run sums) }
+    ensures { IfOk result (λ sums. (run : IsToRun plan.now inputs.now.columns inputs.now.rows Z.flow) → run.design ≡ design.now → AreSums plan.now inputs.now.columns inputs.now.rows Z.flow run sums) }
 {
     let piece = design.piece();
     let mut outs = vec![in alloc; 0u128; piece.outs().len()]?;

@@ -1,10 +1,11 @@
--- The trays of a plan's network have the circuit's outputs.
+-- The trays of a plan's network have the outputs of the reference circuit.
 use Rattle.std.proofs.Common.{◌≡◌, ℕ, ◌+◌, ◌-◌, ◌<◌, ◌≤◌, List, [], length, sym, ap, ◌∙◌, arith}
 use Rattle.std.specs.Prelude.{Contains}
 use Rattle.std.proofs.lemmas.List.{get_or-map, length-map, ext_get_or}
 use Rattle.gg_flat.specs.Line.{value_at}
 use Rattle.gg_flat.proofs.ListLemmas.{some-item}
-use Rattle.gg_flat.specs.Run.{column, row_at}
+use Rattle.gg_flat.specs.Circuit.{FlatCircuit}
+use Rattle.gg_flat.specs.Run.{row_at}
 use Rattle.gg_flat.specs.Streams.{Flow}
 use Rattle.gg_order.specs.Design.{Ordered}
 use Rattle.gg_cut.specs.Direct.{Hub, routes, plan_hub}
@@ -17,7 +18,11 @@ use Rattle.gg_cut.specs.declared.plan.Body.{Body}
 use Rattle.gg_cut.specs.declared.plan.Body.TheVariants.{Cut, Memory, Source, Tray}
 use Rattle.gg_cut.specs.declared.plan.Channel.{Channel}
 use Rattle.gg_cut.specs.declared.plan.Plan.{Plan}
+use Rattle.gg_cut.specs.Solves.{columns_of, streams}
 use Rattle.gg_routes.proofs.RoutedLemmas.{plan-routed}
+use Rattle.gg_pipe.specs.Links.{taken_as}
+use Rattle.gg_pipe.specs.Made.{plan_reference}
+use Rattle.gg_pipe.proofs.SolveLemmas.{plan-output-value}
 use Rattle.gg_node.specs.Machine.{KeepsLast, Machine, machine_at}
 use Rattle.gg_net.specs.Network.{Network, Frame, Kind, frame_of, kind_of, kind_at, wire_at}
 use Rattle.gg_net.specs.Kept.{Kept, list_at}
@@ -109,7 +114,9 @@ module _ (plan : Plan) (columns : List (List ℕ)) (n : ℕ) (flow : Flow) (run 
   record IsTrayChannel (k c : ℕ) : Type 0 where
     known : c < length net.wires
     taken : (wire_at net.wires c).consumer ≡ tray k
-    list : list_at flow.lists c ≡ column run.rows (value_at outs k)
+    list : list_at flow.lists c ≡ list_at (streams plan.channels (columns_of plan run.rows)) c
+    planned : c < length (routes hub)
+    signal : (planned.wire_at (routes hub) c).signal ≡ value_at outs k
 
   tray-carries : (k c : ℕ) → IsTrayWire k c → IsTrayChannel k c
   tray-carries k c wire =
@@ -120,32 +127,41 @@ module _ (plan : Plan) (columns : List (List ℕ)) (n : ℕ) (flow : Flow) (run 
       record {
         known = omega (arith, among, ap length same, length-from plan 0 plan.channels);
         taken = ap (λ l. (wire_at l c).consumer) same ∙ ap (λ v. v.consumer) (wire-from plan 0 plan.channels c any among) ∙ channel.consumer ∙ wire.consumer;
-        list = ap (λ (f : Flow). list_at f.lists c) run.flow_is ∙ get_or-map (λ (ch : Channel). column run.rows ch.signal) plan.channels c any [] among
-            ∙ ap (column run.rows) (channel.signal ∙ wire.signal);
+        list = ap (λ (f : Flow). list_at f.lists c) run.flow_is;
+        planned = wire.known;
+        signal = wire.signal;
       }
 
   tray-channel : (k : ℕ) → k < length outs → (c : ℕ) × IsTrayChannel k c
   tray-channel k lt = let found = tray-wire k lt in (found.0, tray-carries k found.0 found.1)
 
+  abbrev all : FlatCircuit
+  all = plan_reference run.design run.request
+
   -- what the tray of an output tells
-  tells : (k upto t : ℕ) → k < length outs → AllStandAt upto net → t < upto → upto ≤ t + tray_rows → told_value (machine_at net.machines (tray k)) t ≡ value_at (row_at run.rows t) (value_at outs k)
-  tells k upto t lt all done near =
+  tells : (k upto t : ℕ) → k < length outs → AllStandAt upto net → t < upto → upto ≤ t + tray_rows → told_value (machine_at net.machines (tray k)) t ≡ value_at (row_at run.rows t) (value_at all.outs k)
+  tells k upto t lt stand done near =
       let m = tray k in
       let there : m < length net.machines = omega (arith, lt, count) in
       let found = tray-channel k lt in
-      let at = all m there in
+      let at = stand m there in
       let begin : flow.begin ≡ 0 = ap (λ (f : Flow). f.begin) run.flow_is in
       let end : net.end ≡ n = ap (λ (f : Frame). f.end) is.frame in
-      let within : t < length run.rows = omega (arith, done, at, (kept.machines m there).within, end, run.given.run.count) in
+      let within : t < n = omega (arith, done, at, (kept.machines m there).within, end) in
       tray-tells flow net m found.0 t kept
       (record { there = there; known = found.1.known; taken = found.1.taken; rows = tray_rows; tray = behaves k lt; begun = omega (arith, begin); done = omega (arith, done, at); last = omega (arith, near, at) })
-      ∙ ap (λ l. value_at l t) found.1.list ∙ get_or-map (λ row. value_at row (value_at outs k)) run.rows t [] 0 within
+      ∙ ap (λ l. value_at l t) found.1.list
+      ∙ plan-output-value run.design run.request run.default plan run.given.design_is run.given.keeps run.given.held run.given.faultless run.given.planned columns n run.rows run.given.given run.given.run k found.0 t lt found.1.planned found.1.signal within
+
+  -- the reference circuit has as many out-signals
+  outs-count : length all.outs ≡ length outs
+  outs-count = length-map outs (taken_as hub)
 
   pub outputs-are : (upto t : ℕ) (values : List ℕ) → length values ≡ length outs → AllStandAt upto net → t < upto → upto ≤ t + tray_rows
-      → ((k : ℕ) → k < length values → value_at values k ≡ told_value (machine_at net.machines (length net.machines - length values + k)) t) → values ≡ outputs_in run.design.circuit run.rows t
-  outputs-are upto t values same all done near told =
-      ext_get_or 0 values (outputs_in run.design.circuit run.rows t) (same ∙ sym (length-map outs (value_at (row_at run.rows t))))
+      → ((k : ℕ) → k < length values → value_at values k ≡ told_value (machine_at net.machines (length net.machines - length values + k)) t) → values ≡ outputs_in (plan_reference run.design run.request) run.rows t
+  outputs-are upto t values same all_done done near told =
+      ext_get_or 0 values (outputs_in all run.rows t) (same ∙ sym (length-map all.outs (value_at (row_at run.rows t)) ∙ outs-count))
       (λ k lt.
       let low : k < length outs = omega (arith, lt, same) in
       let place : length net.machines - length values + k ≡ tray k = omega (arith, count, same) in
-      told k lt ∙ ap (λ m. told_value (machine_at net.machines m) t) place ∙ tells k upto t low all done near ∙ sym (get_or-map (value_at (row_at run.rows t)) outs k 0 0 low))
+      told k lt ∙ ap (λ m. told_value (machine_at net.machines m) t) place ∙ tells k upto t low all_done done near ∙ sym (get_or-map (value_at (row_at run.rows t)) all.outs k 0 0 (omega (arith, low, outs-count))))

@@ -8,7 +8,7 @@
 //!   machines then stand there, and no count is past it;
 //! - [`tray_value`] returns the value of a cycle that a tray keeps: the one that the tray's channel carries in that cycle;
 //! - [`output_values`] returns the values of the circuit's outputs in a cycle, from the network of a plan: those of the
-//!   circuit's own run.
+//!   reference circuit's run.
 #![tactic(auto)]
 
 mod laws;

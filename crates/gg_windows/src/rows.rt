@@ -2,6 +2,7 @@
 ghost use Rattle.std.specs.Prelude.{◌≡◌, ℕ, ◌+◌, ◌<◌, ◌≤◌, List, length};
 ghost use Rattle.gg_flat.specs.Line.{value_at};
 ghost use Rattle.gg_cut.specs.declared.plan.Plan.{Plan};
+ghost use Rattle.gg_pipe.specs.Made.{plan_reference};
 ghost use Rattle.gg_node.specs.Machine.{machine_at};
 ghost use Rattle.gg_net.specs.Kept.{list_at};
 ghost use Rattle.gg_measure.specs.Nets.{AllStandAt};
@@ -24,7 +25,7 @@ pub fn tray_value<Z: Streams>(net: &Net<Node<'_>, Z>, machine: u32, cycle: u64) 
 }
 
 /// Writes the values of the circuit's outputs in a cycle, in port order, from a network of its plan. They are those of
-/// the circuit's own run.
+/// the reference circuit's run.
 ///
 /// The network should stand at the end of the cycle's window, which is no longer than what a tray keeps, and there should
 /// be a place for each output.
@@ -32,7 +33,7 @@ pub fn output_values<Z: Streams>(net: &Net<Node<'_>, Z>, cycle: u64, outs: &mut 
     requires { length outs.old ≤ length net.now.machines }
     ensures { (plan : Plan) (columns : List (List ℕ)) (n upto : ℕ) (run : IsToRun plan columns n Z.flow) → IsNetOfPlan plan columns n net.now
         → length outs.old ≡ length run.design.circuit.outs → AllStandAt upto net.now → cycle < upto → upto ≤ cycle + tray_rows
-        → outs.new ≡ outputs_in run.design.circuit run.rows cycle }
+        → outs.new ≡ outputs_in (plan_reference run.design run.request) run.rows cycle }
 {
     net.kept();
     net.within_limits();

@@ -1,9 +1,8 @@
-use Rattle.std.proofs.Common.{ℕ, List, ◌<◌, ◌^◌, sym, subst, get_or}
-use Rattle.std.specs.Prelude.{All}
+use Rattle.std.proofs.Common.{List, sym, subst, get_or}
 use Rattle.gg_cut.specs.Channels.{capacity_of}
 use Rattle.gg_cut.specs.declared.wires.Wire.{Wire}
 use Rattle.gg_cut.specs.Direct.{plan_hub}
-use Rattle.gg_plan.specs.Made.{IsFit, AreWired}
+use Rattle.gg_plan.specs.Made.{IsFit}
 use Rattle.gg_closed.proofs.FaultlessLemmas.{range-free}
 use Rattle.gg_plan.proofs.FaultlessLemmas.{capacities-small}
 use Rattle.gg_plan.proofs.PlanLemmas.{machine-fit, given-below, known-below, channels-made}
@@ -21,16 +20,12 @@ pub channels_of-requires-clause-known : goal.channels_of-requires-clause-known
 channels_of-requires-clause-known c = known-below c.args.design.now c.args.listed.now (plan_hub c.args.design.now.circuit c.args.design.now.tree c.args.request.now) c.args.wires.now c.piece-2.result.now c.requires.wires c.requires.sound c.piece-2.ensures.circuit
 
 pub channels_of-requires-clause-range : goal.channels_of-requires-clause-range
-channels_of-requires-clause-range c =
-    subst (λ (l : List (List ℕ × ℕ)). All (λ pair. pair.1 < 2 ^ 32) l) (sym c.as_slice.ensures) (capacities-small c.args.request.now.capacity (range-free c.args.design.now c.args.request.now c.requires.faultless))
+channels_of-requires-clause-range c = capacities-small c.args.request.now.capacity (range-free c.args.design.now c.args.request.now c.requires.faultless)
 
 pub returns : goal.returns
 returns c =
     let design = c.args.design.now in
     let wires = c.args.wires.now in
     let machines = c.args.machines.now in
-    let table = c.in_ok-table.table.items in
-    let channels = c.in_ok-channels.channels.items in
-    channels-made design c.piece-2.result.now (capacity_of c.args.request.now.capacity c.args.default_capacity) wires machines table channels c.piece-2.ensures.circuit
-    (given-below design c.args.request.now c.args.listed.now (plan_hub c.args.design.now.circuit c.args.design.now.tree c.args.request.now) wires machines c.requires.wires c.requires.sound c.requires.machines) (c.in_ok-table.ensures {u = tt})
-    (subst (λ (l : List (List ℕ × ℕ)). AreWired c.piece-2.result.now (capacity_of l c.args.default_capacity) wires table channels) c.as_slice.ensures (c.in_ok-channels.ensures {u = tt}))
+    channels-made design c.args.request.now c.piece-2.result.now (capacity_of c.args.request.now.capacity c.args.default_capacity) wires machines c.in_ok-table.table.items c.in_ok-channels.channels.items c.piece-2.ensures.circuit
+    (given-below design c.args.request.now c.args.listed.now (plan_hub c.args.design.now.circuit c.args.design.now.tree c.args.request.now) wires machines c.requires.wires c.requires.sound c.requires.machines) (c.in_ok-table.ensures {u = tt}) (c.in_ok-channels.ensures {u = tt})

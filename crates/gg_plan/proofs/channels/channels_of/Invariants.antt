@@ -2,6 +2,7 @@ use Rattle.std.proofs.Common.{◌≡◌, ℕ, ◌<◌, ◌≤◌, [], length}
 use Rattle.std.specs.Prelude.{slice_index_or}
 use Rattle.gg_cut.specs.declared.plan.Channel.{Channel}
 use Rattle.gg_cut.specs.Channels.{capacity_of}
+use Rattle.gg_cut.specs.Direct.{is_piped}
 use Rattle.gg_cut.specs.Plan.{wire_at}
 use Rattle.gg_plan.specs.Made.{IsWired}
 use Rattle.gg_plan.proofs.channels.channels_of.Given as goal
@@ -11,5 +12,5 @@ invariant-loop-number l =
     (length l.table.items ≡ length l.initial.table.items)
     × ((k : ℕ) → l.«number» ≤ k → slice_index_or l.table.items k [] ≡ slice_index_or l.initial.table.items k [])
     × (length l.channels.items ≡ l.«number»)
-    × ((k : ℕ) (any : Channel) → k < l.«number» → IsWired l.piece (capacity_of l.capacities l.default) (wire_at l.wires k) (slice_index_or l.channels.items k any))
+    × ((k : ℕ) (any : Channel) → k < l.«number» → IsWired l.piece (capacity_of l.request.capacity l.default) (is_piped l.piece l.request) (wire_at l.wires k) (slice_index_or l.channels.items k any))
     × ((k : ℕ) (any : Channel) → k < l.«number» → (slice_index_or l.channels.items k any).needs ≡ slice_index_or l.initial.table.items k [])

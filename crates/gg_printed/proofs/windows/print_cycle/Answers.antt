@@ -1,5 +1,6 @@
 use Rattle.std.proofs.Common.{ℕ, ◌<◌, List, length, take, refl, ap, ◌∙◌, subst, arith}
 use Rattle.gg_flat.specs.declared.ports.Port.{Port}
+use Rattle.gg_pipe.specs.Made.{plan_reference}
 use Rattle.gg_told.specs.Endings.{PrintsOn}
 use Rattle.gg_told.proofs.EndingLemmas.{exit-is}
 use Rattle.gg_told.proofs.WritingLemmas.{none-front}
@@ -17,7 +18,7 @@ returns-clause-prints g c =
     let ports = c.args.ports.now in
     let outs = c.output_values.new.outs in
     let within : c.args.cycle < length run.rows = omega (arith, lt, stands.within, run.given.run.count) in
-    let shown = shown-row run.design.circuit ports run.rows c.args.cycle outs within (c.output_values.ensures plan columns n upto run stands.of_plan counted stands.all lt near) in
+    let shown = shown-row (plan_reference run.design run.request) ports run.rows c.args.cycle outs within (c.output_values.ensures plan columns n upto run stands.of_plan counted stands.all lt near) in
     subst
     (λ (line : List ℕ). PrintsOn g.K.Sink c.args.out.now c.put.new.out line c.put.result)
     (c.as_bytes.ensures ∙ c.in_ok-text.ensures ∙ ap (row_line ports c.args.cycle) (ap (λ (l : List Port). take (length l) outs) c.as_slice-shown.ensures ∙ shown))

@@ -1,41 +1,31 @@
-use Rattle.std.proofs.Common.{◌≡◌, length, refl, ap, ◌∙◌, subst, arith}
+use Rattle.std.proofs.Common.{◌≡◌, length, refl, ap, ◌∙◌, arith}
 use Rattle.std.specs.Io.KnownBytes.{append_known}
 use Rattle.gg_flat.specs.Circuit.{FlatCircuit}
-use Rattle.gg_io.specs.Count.{Rose}
 use Rattle.gg_order.specs.Design.{Ordered}
-use Rattle.gg_told.specs.Endings.{Prints}
+use Rattle.gg_pipe.specs.Made.{plan_reference}
 use Rattle.gg_told.proofs.EndingLemmas.{exit-is}
 use Rattle.gg_told.proofs.WritingLemmas.{none-front, prints-more, rose-earlier}
 use Rattle.gg_windows.proofs.OutputLemmas.{opening-is-net, outs-few}
-use Rattle.gg_printed.specs.Printed.{shown_columns, text_to}
+use Rattle.gg_printed.specs.Printed.{shown_columns}
 use Rattle.gg_printed.proofs.RowLemmas.{header-stop}
-use Rattle.gg_printed.proofs.WindowLemmas.{opening-stands, run-of}
+use Rattle.gg_printed.proofs.WindowLemmas.{opening-stands}
 use Rattle.gg_printed.proofs.windows.print_net.Goals as goal
 
 pub returns-in_err-outs-clause-prints : goal.returns-in_err-outs-clause-prints
-returns-in_err-outs-clause-prints g c =
-    let run = c.requires.run in
-    rw (exit-is c.from_residual.ensures.1) (run.0.rows, run-of c.args.design.now c.args.plan.now _ _ g.Z.Streams.flow run.0 run.1, none-front _ _ _ refl)
+returns-in_err-outs-clause-prints g c = λ run same. rw (exit-is c.from_residual.ensures.1) (none-front _ _ _ refl)
 
 pub returns-in_err-header-clause-prints : goal.returns-in_err-header-clause-prints
-returns-in_err-header-clause-prints g c =
-    let run = c.requires.run in
-    rw (exit-is c.from_residual-in_err-header.ensures.1) (run.0.rows, run-of c.args.design.now c.args.plan.now _ _ g.Z.Streams.flow run.0 run.1, none-front _ _ _ refl)
+returns-in_err-header-clause-prints g c = λ run same. rw (exit-is c.from_residual-in_err-header.ensures.1) (none-front _ _ _ refl)
 
 pub returns-in_err-net-clause-prints : goal.returns-in_err-net-clause-prints
-returns-in_err-net-clause-prints g c =
-    let run = c.requires.run in
-    rw (exit-is c.from_residual-in_err-net.ensures.1) (run.0.rows, run-of c.args.design.now c.args.plan.now _ _ g.Z.Streams.flow run.0 run.1, none-front _ _ _ refl)
+returns-in_err-net-clause-prints g c = λ run same. rw (exit-is c.from_residual-in_err-net.ensures.1) (none-front _ _ _ refl)
 
 pub returns-in_err-put-clause-prints : goal.returns-in_err-put-clause-prints
 returns-in_err-put-clause-prints g c =
-    let run = c.requires.run in
-    let columns = shown_columns c.args.design.now.circuit c.args.ports.now run.0.rows in
-    rw (exit-is c.from_residual-in_err-put.ensures.1) (
-      run.0.rows,
-      run-of c.args.design.now c.args.plan.now _ _ g.Z.Streams.flow run.0 run.1,
-      header-stop (Unit {0}) _ _ _ c.args.ports.now columns c.args.inputs.now.rows c.as_bytes.result.now c.in_err-put.field-0.0 (c.as_bytes.ensures ∙ c.in_ok-header.ensures) c.in_err-put.ensures.prints,
-    )
+    λ run same.
+    let columns = shown_columns (plan_reference run.design run.request) c.args.ports.now run.rows in
+    rw (exit-is c.from_residual-in_err-put.ensures.1)
+    (header-stop (Unit {0}) _ _ _ c.args.ports.now columns c.args.inputs.now.rows c.as_bytes.result.now c.in_err-put.field-0.0 (c.as_bytes.ensures ∙ c.in_ok-header.ensures) c.in_err-put.ensures.prints)
 
 pub print_windows-requires-clause-opening : goal.print_windows-requires-clause-opening
 print_windows-requires-clause-opening g c κs within =
@@ -69,25 +59,19 @@ print_windows-requires-clause-ports g c =
 
 pub returns-clause-prints : goal.returns-clause-prints
 returns-clause-prints g c =
-    let run = c.requires.run in
+    λ run same.
     let trace = c.args.inputs.now in
     let base = g.K.Sink.written c.args.out.now in
-    let counted : length c.as_mut_slice.result.now ≡ length run.0.design.circuit.outs =
+    let counted : length c.as_mut_slice.result.now ≡ length run.design.circuit.outs =
     omega (
       arith,
       c.in_ok-outs.ensures.len,
       ap length c.outs.ensures,
       ap (λ (f : FlatCircuit). length f.outs) c.piece.ensures.circuit,
-      ap (λ (d : Ordered). length d.circuit.outs) run.1,
+      ap (λ (d : Ordered). length d.circuit.outs) same,
       ap length c.as_mut_slice.ensures.value,
     ) in
-    let stands = opening-stands c.args.plan.now trace.columns trace.rows g.Z.Streams.flow c.in_ok-net.net run.0 c.in_ok-net.ensures in
+    let stands = opening-stands c.args.plan.now trace.columns trace.rows g.Z.Streams.flow c.in_ok-net.net run c.in_ok-net.ensures in
     let begins = c.in_ok-put.ensures.prints ∙ ap (append_known base) (c.as_bytes.ensures ∙ c.in_ok-header.ensures) in
-    let prints = c.print_windows.ensures.prints c.args.plan.now trace.columns trace.rows run.0 base stands counted begins in (
-      run.0.rows,
-      run-of c.args.design.now c.args.plan.now _ _ g.Z.Streams.flow run.0 run.1,
-      prints-more (Unit {0}) _ _ _ _ _ c.print_windows.result (rose-earlier _ _ _ c.put.ensures.out.faults_stay_or_rise)
-          (subst
-          (λ (d : Ordered). Prints base (g.K.Sink.written c.print_windows.new.out) (Rose (g.K.Sink.faults c.put.new.out) (g.K.Sink.faults c.print_windows.new.out)) (text_to d.circuit c.args.ports.now run.0.rows trace.rows) c.print_windows.result)
-          run.1 prints),
-    )
+    prints-more (Unit {0}) _ _ _ _ _ c.print_windows.result (rose-earlier _ _ _ c.put.ensures.out.faults_stay_or_rise)
+    (c.print_windows.ensures.prints c.args.plan.now trace.columns trace.rows run base stands counted begins)

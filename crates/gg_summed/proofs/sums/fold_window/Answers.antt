@@ -1,4 +1,5 @@
 use Rattle.std.proofs.Common.{◌≡◌, length, subst, arith}
+use Rattle.gg_pipe.specs.Made.{plan_reference}
 use Rattle.gg_summed.specs.Sums.{FoldsRows}
 use Rattle.gg_summed.proofs.SumLemmas.{window-row}
 use Rattle.gg_summed.proofs.sums.fold_window.Goals as goal
@@ -16,4 +17,4 @@ returns g c =
     let past = c.loop-cycle-test.false in
     let end = c.loop-cycle.auto.cycle-end in
     let whole : c.loop-cycle.cycle ≡ c.args.upto = omega (arith, low) in
-    subst (λ k. FoldsRows run.design.circuit run.rows k c.loop-cycle.fold) whole (c.loop-cycle.invariant.folds plan columns n run of_plan all within counted low near folds)
+    subst (λ k. FoldsRows (plan_reference run.design run.request) run.rows k c.loop-cycle.fold) whole (c.loop-cycle.invariant.folds plan columns n run of_plan all within counted low near folds)
