@@ -3,6 +3,7 @@ ghost use Rattle.std.specs.Prelude.{IfSome};
 ghost use Rattle.gg_cut.specs.Fault.{IsSmall};
 ghost use Rattle.gg_flat.specs.Run.{IsColumns};
 ghost use Rattle.gg_moved.specs.KeepsToTree.{KeepsToTree};
+ghost use Rattle.gg_pipe.specs.Made.{AreHeldOnce, IsFresh};
 
 use gg_front::front;
 use gg_order::Design;
@@ -15,7 +16,9 @@ const LIMIT: usize = 4_194_304;
 
 /// The design of a circuit. `None` if it has a fault or is too long, or if an allocation fails.
 pub fn design_of(alloc: Global, circuit: &str) -> Option<Design>
-    ensures { IfSome result (λ design. KeepsToTree design.circuit design.tree) }
+    ensures keeps { IfSome result (λ design. KeepsToTree design.circuit design.tree) }
+    ensures held { IfSome result (λ design. AreHeldOnce design.circuit) }
+    ensures fresh { IfSome result (λ design. IsFresh design.circuit) }
 {
     let bytes = circuit.as_bytes();
     if bytes.len() > LIMIT {

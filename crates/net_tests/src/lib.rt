@@ -21,6 +21,8 @@ mod networks;
 #[cfg(test)]
 mod pieces;
 #[cfg(test)]
+mod pipes;
+#[cfg(test)]
 mod sharing;
 #[cfg(test)]
 mod simulators;

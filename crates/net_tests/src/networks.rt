@@ -3,6 +3,7 @@ ghost use Rattle.std.specs.Prelude.{◌≡◌, ◌<◌, length};
 ghost use Rattle.gg_build.specs.Build.{IsToRun};
 ghost use Rattle.gg_cut.specs.Fault.{IsSmall};
 ghost use Rattle.gg_moved.specs.KeepsToTree.{KeepsToTree};
+ghost use Rattle.gg_pipe.specs.Made.{AreHeldOnce, IsFresh};
 ghost use Rattle.gg_flat.specs.Run.{IsColumns};
 
 use crate::measures::end_alike;
@@ -146,13 +147,14 @@ fn has_ended<Z: Streams>(net: &Net<Node<'_>, Z>, machine: u32) -> bool
         && net.test(Event::Finish { machine }) == Err(Refusal::Ended)
 }
 
-// Whether a channel has a token put and taken in each cycle.
+// Whether a channel has a token put and taken in each cycle, and holds one exactly if it opened with one.
 fn is_spent<Z: Streams>(net: &Net<Node<'_>, Z>, channel: u32) -> bool
     requires { channel < length net.now.wires }
 {
+    let first = net.shape().wires.as_slice()[channel as usize].first;
     net.puts(channel) == net.end()
         && net.takes(channel) == net.end()
-        && net.newest(channel).is_none()
+        && net.newest(channel).is_some() == first.is_some()
 }
 
 // Whether machine 1 serves as expected.
@@ -209,17 +211,17 @@ fn is_built_twice<Z: Streams>(alloc: Global, plan: &Plan, inputs: &Trace, case: 
     }
 }
 
-// Whether the network of a plan runs as expected.
+// Whether the network of a plan runs as expected. What it computes is picked where this is called, by the design and the request.
 fn is_built<Z: Streams>(
     alloc: Global,
-    design: &Design,
+    _design: &Design,
+    _request: &Request,
     plan: &Plan,
     inputs: &Trace,
     case: &Case,
 ) -> bool
     requires { IsToRun plan.now inputs.now.columns inputs.now.rows Z.flow }
 {
-    let _ = design;
     is_built_once::<Z>(alloc, plan, inputs, case) && is_built_twice::<Z>(alloc, plan, inputs, case)
 }
 
@@ -227,6 +229,8 @@ fn is_built<Z: Streams>(
 fn is_cut(alloc: Global, design: &Design, request: &Request, inputs: &Trace, case: &Case) -> bool
     requires small { IsSmall request.now }
     requires keeps { KeepsToTree design.now.circuit design.now.tree }
+    requires held { AreHeldOnce design.now.circuit }
+    requires fresh { IsFresh design.now.circuit }
     requires fed { IsColumns design.now.circuit inputs.now.rows inputs.now.columns }
 {
     // for the design's invariant on its parts
@@ -234,7 +238,7 @@ fn is_cut(alloc: Global, design: &Design, request: &Request, inputs: &Trace, cas
     let _ = design.piece();
     let _ = inputs.rows();
     match cut(alloc, design, request, 1) {
-        Ok(plan) => is_built::<Brand>(alloc, design, &plan, inputs, case),
+        Ok(plan) => is_built::<Brand>(alloc, design, request, &plan, inputs, case),
         Err(fault) => {
             drop(fault);
             false
@@ -244,7 +248,9 @@ fn is_cut(alloc: Global, design: &Design, request: &Request, inputs: &Trace, cas
 
 // Whether the network of a design and a partition runs as expected on a trace.
 fn is_fed(alloc: Global, design: &Design, partition: &str, trace: &str, case: &Case) -> bool
-    requires { KeepsToTree design.now.circuit design.now.tree }
+    requires keeps { KeepsToTree design.now.circuit design.now.tree }
+    requires held { AreHeldOnce design.now.circuit }
+    requires fresh { IsFresh design.now.circuit }
 {
     match request_of(alloc, partition) {
         Some(request) => match inputs_of(alloc, design, trace) {

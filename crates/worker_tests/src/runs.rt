@@ -3,6 +3,7 @@ ghost use Rattle.gg_build.specs.Build.{IsToRun};
 ghost use Rattle.gg_cut.specs.Fault.{IsSmall};
 ghost use Rattle.gg_flat.specs.Run.{IsColumns};
 ghost use Rattle.gg_moved.specs.KeepsToTree.{KeepsToTree};
+ghost use Rattle.gg_pipe.specs.Made.{AreHeldOnce, IsFresh};
 
 use crate::lodge::{Lodge, beside_none};
 use gg_build::{Node, build};
@@ -121,12 +122,14 @@ fn goes<R: Threads + Sync, L: Link, Z: Streams, G: Gate + Sync>(
     }
 }
 
-// Whether a run of the network of a plan leaves what is expected. What it computes is picked where this is called, by the design.
+// Whether a run of the network of a plan leaves what is expected. What it computes is picked where this is called, by the
+// design and the request.
 fn is_run<R: Threads + Sync, L: Link, Z: Streams, G: Gate + Sync>(
     rt: &R,
     home: L::Home,
     alloc: Global,
     _design: &Design,
+    _request: &Request,
     plan: &Plan,
     inputs: &Trace,
     run: &Run,
@@ -153,6 +156,8 @@ fn is_cut<R: Threads + Sync, L: Link, G: Gate + Sync>(
 ) -> bool
     requires small { IsSmall request.now }
     requires keeps { KeepsToTree design.now.circuit design.now.tree }
+    requires held { AreHeldOnce design.now.circuit }
+    requires fresh { IsFresh design.now.circuit }
     requires fed { IsColumns design.now.circuit inputs.now.rows inputs.now.columns }
 {
     // for the design's invariant on its parts
@@ -160,7 +165,9 @@ fn is_cut<R: Threads + Sync, L: Link, G: Gate + Sync>(
     let _ = design.piece();
     let _ = inputs.rows();
     match cut(alloc, design, request, 1) {
-        Ok(plan) => { is_run::<R, L, Brand, G>(rt, home, alloc, design, &plan, inputs, run, gate) }
+        Ok(plan) => {
+            is_run::<R, L, Brand, G>(rt, home, alloc, design, request, &plan, inputs, run, gate)
+        }
         Err(fault) => {
             drop(fault);
             false
@@ -178,7 +185,9 @@ fn is_fed<R: Threads + Sync, L: Link, G: Gate + Sync>(
     run: &Run,
     gate: &G,
 ) -> bool
-    requires { KeepsToTree design.now.circuit design.now.tree }
+    requires keeps { KeepsToTree design.now.circuit design.now.tree }
+    requires held { AreHeldOnce design.now.circuit }
+    requires fresh { IsFresh design.now.circuit }
 {
     match request_of(alloc, texts.partition) {
         Some(request) => match inputs_of(alloc, design, texts.trace) {

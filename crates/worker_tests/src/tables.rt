@@ -1,5 +1,5 @@
-//! Runs with rings, from tables: few and many workers, cycles up to which machines are stepped, channels of capacity 1, direct channels, and a
-//! host without threads.
+//! Runs with rings, from tables: few and many workers, cycles up to which machines are stepped, channels of capacity 1, direct channels,
+//! pipes, and a host without threads.
 use crate::runs::{Run, Texts, is_expected};
 use gg_io::NoGate;
 use gg_ring::Ring;
@@ -24,7 +24,7 @@ struct Table {
     rows: &'static [Row],
 }
 
-static TABLES: [Table; 9] = [
+static TABLES: [Table; 14] = [
     // two units that feed each other in one cycle: five hosts
     Table {
         texts: Texts {
@@ -140,6 +140,67 @@ static TABLES: [Table; 9] = [
         },
         lodge: false,
         kept: &[0, 1, 0x11],
+        rows: &[(0, 0, 3, 30, 30), (0, 2, 3, 0, 29)],
+    },
+    // a unit that takes what the other gave a cycle before
+    Table {
+        texts: Texts {
+            circuit: PAIR,
+            partition: "{\"units\":[\"a\",\"b\"],\"pipe\":[\"a.k\"]}",
+            trace: PAIR_TRACE,
+        },
+        lodge: false,
+        kept: &[0x0f, 0x9f],
+        rows: &[
+            (0, 0, 2, 42, 42),
+            (0, 1, 2, 0, 0),
+            (0, 2, 2, 0, 41),
+            (1, 2, 2, 0, 20),
+            (0, 64, 1, 21, 41),
+        ],
+    },
+    // the same without the hub between them
+    Table {
+        texts: Texts {
+            circuit: PAIR,
+            partition: "{\"units\":[\"a\",\"b\"],\"direct\":true,\"pipe\":[\"a.k\"]}",
+            trace: PAIR_TRACE,
+        },
+        lodge: false,
+        kept: &[0x0f, 0x9f],
+        rows: &[(0, 0, 2, 26, 26), (0, 2, 2, 0, 25)],
+    },
+    // an output that comes a cycle late
+    Table {
+        texts: Texts {
+            circuit: PAIR,
+            partition: "{\"units\":[\"a\",\"b\"],\"pipe\":[\"q\"]}",
+            trace: PAIR_TRACE,
+        },
+        lodge: false,
+        kept: &[0, 0x11],
+        rows: &[(0, 0, 2, 42, 42), (0, 2, 2, 0, 41)],
+    },
+    // of two units on one host, one takes its input a cycle late
+    Table {
+        texts: Texts {
+            circuit: SUMS,
+            partition: "{\"units\":[\"u\",\"v\"],\"share\":[[\"u\",\"v\"]],\"direct\":true,\"pipe\":[\"v.a\"]}",
+            trace: SUMS_TRACE,
+        },
+        lodge: false,
+        kept: &[0, 0, 0xfe],
+        rows: &[(0, 0, 3, 48, 48), (0, 2, 3, 0, 47)],
+    },
+    // a unit that takes its own output a cycle late
+    Table {
+        texts: Texts {
+            circuit: BACK,
+            partition: "{\"units\":[\"u\"],\"direct\":true,\"pipe\":[\"u.a\"]}",
+            trace: SUMS_TRACE,
+        },
+        lodge: false,
+        kept: &[0, 1, 0x10],
         rows: &[(0, 0, 3, 30, 30), (0, 2, 3, 0, 29)],
     },
 ];

@@ -24,7 +24,7 @@ judge_pipes-requires-clause-known c =
 
 pub returns-in_err-judge_channels : goal.returns-in_err-judge_channels
 returns-in_err-judge_channels c =
-    let p = err_from_is_err_and c.from_residual.result c.from_residual.ensures.1 in
+    let p = err_from_is_err_and c.from_residual-in_err-judge_channels.result c.from_residual-in_err-judge_channels.ensures.1 in
     let cause = c.in_err-judge_channels.field-0.0 in
     let signals = c.deref.ensures.value ∙ c.in_ok-signals.ensures ∙ ap (map (λ (w : Wire). w.signal)) c.requires.wires in
     rw (p.1, p.2) (channels-told c.args.design.now c.args.request.now c.requires.entries cause
