@@ -19,7 +19,9 @@ use crate::machines::machines_of;
 use crate::needs::needs_table;
 use gg_bits::Items;
 use gg_closed::listed_apart;
-use gg_cut::{Channel, CutFault, Listed, Machine, Plan, Wire, judge_channels, judge_entries, judge_pipes};
+use gg_cut::{
+    Channel, CutFault, Listed, Machine, Plan, Wire, judge_channels, judge_entries, judge_pipes,
+};
 use gg_order::Design;
 use gg_part::part_formed;
 use gg_partfile::Request;

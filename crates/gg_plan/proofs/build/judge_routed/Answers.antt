@@ -38,9 +38,9 @@ returns c =
     let signals = c.deref.ensures.value ∙ c.in_ok-signals.ensures ∙ ap (map (λ (w : Wire). w.signal)) c.requires.wires in
     let again = c.deref-2.ensures.value ∙ c.in_ok-signals.ensures ∙ ap (map (λ (w : Wire). w.signal)) c.requires.wires in
     let none =
-        sym (ap (λ (circuit : FlatCircuit). first_of (channel_faults circuit c.args.request.now c.args.listed.now c.deref.result.now)) c.piece.ensures.circuit
-        ∙ ap₂ (λ (l : Listed) (s : List ℕ). first_of (channel_faults c.args.design.now.circuit c.args.request.now l s)) c.requires.listed signals)
-        ∙ c.in_ok-judge_channels.ensures
+    sym (ap (λ (circuit : FlatCircuit). first_of (channel_faults circuit c.args.request.now c.args.listed.now c.deref.result.now)) c.piece.ensures.circuit
+    ∙ ap₂ (λ (l : Listed) (s : List ℕ). first_of (channel_faults c.args.design.now.circuit c.args.request.now l s)) c.requires.listed signals)
+    ∙ c.in_ok-judge_channels.ensures
     in
     subst (λ (fault : Option CutFault). Tells fault c.judge_pipes.result)
     (ap (λ (circuit : FlatCircuit). first_of (pipe_faults circuit c.args.request.now c.deref-2.result.now)) c.piece-2.ensures.circuit

@@ -29,8 +29,8 @@ loop-number-preserved c =
       grind (arith, common_steps),
       each-push (λ k ch. IsWired c.args.piece.now (capacity_of request.capacity c.args.default) (is_piped c.args.piece.now request) (wire_at wires k) ch) c.loop-number.channels.items c.push.new.self.items channel n was.2 was.3
           (c.in_ok-channel.ensures.wired (capacity_of request.capacity c.args.default) (is_piped c.args.piece.now request)
-            (λ s lt. ap (λ l. value_at l s) c.deref.ensures.value ∙ c.in_ok-bounds.ensures.capacities s lt ∙ ap (λ l. capacity_of l c.args.default (path_at c.args.piece.now.paths s)) c.as_slice.ensures)
-            (λ s lt. ap (λ l. is_marked l s) c.deref-in-loop-number.ensures.value ∙ c.in_ok-piped.ensures.marks s lt ∙ ap (λ l. is_among l (path_at c.args.piece.now.paths s)) c.as_slice-2.ensures))
+          (λ s lt. ap (λ l. value_at l s) c.deref.ensures.value ∙ c.in_ok-bounds.ensures.capacities s lt ∙ ap (λ l. capacity_of l c.args.default (path_at c.args.piece.now.paths s)) c.as_slice.ensures)
+          (λ s lt. ap (λ l. is_marked l s) c.deref-in-loop-number.ensures.value ∙ c.in_ok-piped.ensures.marks s lt ∙ ap (λ l. is_among l (path_at c.args.piece.now.paths s)) c.as_slice-2.ensures))
           c.in_ok-push.ensures.items,
       each-push (λ k (ch : Channel). ch.needs ≡ get_or first k []) c.loop-number.channels.items c.push.new.self.items channel n was.2 was.4
           (c.in_ok-channel.ensures.needs ∙ c.take_list-needs.ensures.list ∙ was.1 n (omega arith))
