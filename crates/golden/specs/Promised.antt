@@ -29,7 +29,7 @@ use Rattle.golden.specs.Words.{AskForCommand, TellsUnasked}
 -- and `err` are the two outputs, before and after it.
 pub record Promised (words : List (List ℕ)) (loads : Loads) (out err : Puts) (status : ℕ) : Type 0 where
   -- The headline: status, text and line are an outcome of the words and the files. At status 0 the text is that of the
-  -- circuit's own run, of the marking that the steps lead to, of the cut, or of the demo, and there is no other.
+  -- reference circuit's run, of the marking that the steps lead to, of the cut, or of the demo, and there is no other.
   pub outcome : Answered words loads out err status
   -- The cause of each status. For a fault of a file, and for words that aren't a command, it also gives the line.
   pub judged : IsJudgement status

@@ -147,12 +147,12 @@ fn answer<R: Threads + Sync, S: Shelf, K: Sink, E: Sink, G: Gate + Sync>(
 /// one line to `err`. Returns the status. The first word is the program's own name. All memory comes from `alloc`: the
 /// files, one at a time, what is built from them, and the lines of refusals. If an allocation fails the status is 5.
 ///
-/// `run CIRCUIT PARTITION TRACE` writes the text of the circuit's own run on the trace: a header, then a row for each
-/// cycle. It runs the network of the cut, up to 1,024 cycles before their rows are written: by its workers, each in a
-/// thread of `rt`, and then by steps in the fixed order. With `--mono` it runs the simulator. Only the workers call the
-/// gate. `replay CIRCUIT PARTITION TRACE STEPS` does the steps of a file, one after another, on the network of the
-/// cut, beginning before its first cycle. It writes a line for each channel, with the number of tokens that were put,
-/// the number that were taken, and the tokens that were put. `check CIRCUIT PARTITION` writes a line for each machine
+/// `run CIRCUIT PARTITION TRACE` writes the text of the run on the trace of the circuit with the pipes that the partition
+/// asks for: a header, then a row for each cycle. It runs the network of the cut, up to 1,024 cycles before their rows are
+/// written: by its workers, each in a thread of `rt`, and then by steps in the fixed order. With `--mono` it runs the
+/// simulator. Only the workers call the gate. `replay CIRCUIT PARTITION TRACE STEPS` does the steps of a file, one after
+/// another, on the network of the cut, beginning before its first cycle. It writes a line for each channel, with the number
+/// of tokens that were put, the number that were taken, and the tokens that it had so far. `check CIRCUIT PARTITION` writes a line for each machine
 /// of the cut, then one for each channel. `demo SEED SIZE` makes a circuit, a partition and a trace, runs their network and
 /// writes a summary. Statuses:
 ///

@@ -1,7 +1,8 @@
 //! The program golden as one call. [`golden`] does what the words of a call ask for, with files from a shelf. It writes
 //! the text to one output and at most one line to another, and returns the status. gg_words defines which words are
-//! which command. `run` prints the circuit's own run on the trace, from the network of the cut that the partition asks for,
-//! window by window, or by the simulator. The text is the same, whatever the cut and the number of workers.
+//! which command. `run` prints the run on the trace of the circuit with the pipes that the partition asks for, from the network
+//! of the cut, window by window, or by the simulator. The text is the same, whatever the rest of the partition and the number
+//! of workers.
 //! `replay` does a list of steps on the network of the cut, and prints the tokens of each channel. `check` prints the
 //! machines, the channels and the needs of the cut that the partition asks for. A partition with a fault is refused.
 //! `demo` makes a circuit, a partition and a trace, runs their network, and prints a summary.
@@ -11,11 +12,12 @@
 //! - `outcome`: the status, the text on `out` and the line on `err` are those of one end of the command that the words
 //!   ask for, or of words that ask for none. A command is an order of files. It ends if a file is refused, after each
 //!   file before it was accepted; if a put fails; if an allocation fails; or with its whole text. With status 0 the
-//!   text on `out` is that of the circuit's own run on the trace (`IsTextOf`). For any flat circuit that the bytes
-//!   mean, each of its runs on the trace has this text and no other (`IsOnly`). The same holds for the text of the cut
+//!   text on `out` is that of the run of the reference circuit on the trace (`IsTextOf`): the circuit with a register for
+//!   each pipe, and its own where there is none. For any flat circuit that the bytes
+//!   mean, each such run on the trace has this text and no other (`IsOnly`). The same holds for the text of the cut
 //!   (`IsCutTextOf`), for the summary of a demo (`IsDemoText`), and for the text of the marking that the steps lead to
 //!   (`IsReplayOf`). The tokens of each
-//!   channel are the first values of its signal in the circuit's own run.
+//!   channel are the first values of its signal in that run, behind the 0 of a pipe.
 //! - Causes (`judged`, `no_command`, `not_loaded`, `not_written`, `over`): each status except 0 and 5 has its reason. A
 //!   load or a put that failed is counted by its shelf or output. `nothing_written`: a refusal leaves `out` as it was.
 //! - Faults are reported (`unasked`, `due`, `unread`, `partitioned`, `traced`, `stepped`): words that aren't a command
