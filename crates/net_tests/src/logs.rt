@@ -57,7 +57,7 @@ static WIRES: [Wire; 2] = [
 // Whether a log of these channels has only the token with which the second opens.
 fn has_first_token(alloc: Global) -> Result<bool, AllocError> {
     let log = Log::new(alloc, &WIRES)?;
-    Ok(log.tokens(0).is_empty() && log.tokens(1) == &[0])
+    Ok(log.tokens(0).is_empty() && log.tokens(1) == [0].as_slice())
 }
 
 #[test]
