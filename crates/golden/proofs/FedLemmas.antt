@@ -1,5 +1,5 @@
 -- How the steps of a file end for what was read: the text that is printed is the only one, and what is reported is right.
-use Rattle.std.proofs.Common.{◌≡◌, ◌↔◌, ℕ, ◌+◌, ◌*◌, ◌<◌, ◌≤◌, List, length, sym, ap, ◌∙◌, subst}
+use Rattle.std.proofs.Common.{◌≡◌, ◌↔◌, ℕ, ◌+◌, ◌*◌, ◌<◌, ◌≤◌, List, length, refl, sym, ap, ◌∙◌, subst}
 use Rattle.std.specs.Prelude.{Option, Result, Ok}
 use Rattle.gg_flat.specs.Ports.{output_ports}
 use Rattle.gg_flat.specs.Run.{IsRun}
@@ -17,7 +17,7 @@ use Rattle.gg_paths.proofs.PortLemmas.{have-paths}
 use Rattle.gg_pipe.specs.Made.{plan_reference}
 use Rattle.gg_sound.specs.Built.{IsGiven}
 use Rattle.gg_build.specs.Build.{reference_order, reference_rows}
-use Rattle.gg_build.proofs.AlongLemmas.{given-along, to-run}
+use Rattle.gg_build.proofs.AlongLemmas.{given-along}
 use Rattle.gg_steps.specs.Naming.{Naming}
 use Rattle.gg_steps.specs.Steps.{steps_of}
 use Rattle.gg_told.specs.Said.{Said}
@@ -68,8 +68,8 @@ module _ (circuit partition trace : List ℕ) (capacity : ℕ) (fed : Fed) (is :
   given = given-along design request capacity plan columns n is.case.designed is.case.keeps is.case.held (case-fresh is.case) is.case.cuts.faultless is.case.planned is.case.bounded.0 is.case.bounded.1 is.most is.columns
 
   -- the plan's network can be built
-  pub to-replay : IsToReplay fed (fed_flow fed)
-  to-replay = to-run design request capacity plan columns n is.case.designed is.case.keeps is.case.held (case-fresh is.case) is.case.cuts.faultless is.case.planned is.case.bounded.0 is.case.bounded.1 is.most is.columns
+  abbrev pub to-replay : IsToReplay fed (fed_flow fed)
+  to-replay = record { design = design; request = request; default = capacity; rows = rows; given = given; room = is.case.bounded.1; flow_is = refl }
 
   pub own-run : IsRun (plan_reference fed.case.design fed.case.cut.request) fed.trace.columns fed.trace.rows (reference_rows fed.case.design fed.case.cut.request fed.trace.columns fed.trace.rows)
   own-run = given.run

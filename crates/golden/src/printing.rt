@@ -1,5 +1,5 @@
 //! Printing of the run of a circuit.
-ghost use Rattle.std.specs.Prelude.{◌≡◌, ◌+◌, ◌++◌, ◌∷◌, ◌<◌, ◌≤◌, ℕ, List, [], length, take, Option, IfOk, OnOk};
+ghost use Rattle.std.specs.Prelude.{◌≡◌, ◌+◌, ◌++◌, ◌∷◌, ◌^◌, ◌<◌, ◌≤◌, true, ℕ, List, [], length, take, Option, IfOk, OnOk};
 ghost use Rattle.std.specs.Io.KnownBytes.{append_known};
 ghost use Rattle.gg_limits.specs.Limits.{cycle_limit};
 ghost use Rattle.gg_flat.specs.Clock.{edges_at};
@@ -177,19 +177,25 @@ fn print_simulated<K: Sink>(
     print_all(alloc, &mut mono, ports, inputs, out)
 }
 
-// The design's reference circuit, with an order. Numbers of 32 bits should suffice for its signals.
+// Whether numbers of 32 bits suffice for the signals and the channels of a case together.
+fn has_room(case: &Case) -> bool
+    ensures { result ≡ true → length case.now.design.circuit.signals + length case.now.cut.plan.channels < 2 ^ 32 }
+{
+    let signals = case.design.piece().signal_count() as u64;
+    let channels = case.cut.plan.channels.as_slice().len() as u64;
+    signals.saturating_add(channels) < 4_294_967_296
+}
+
+// The reference circuit of a case, with an order.
 fn reference_of(alloc: Global, case: &Case) -> Result<Design, AllocError>
     requires { (circuit : List ℕ) × (partition : List ℕ) × (capacity : ℕ) × IsCase circuit partition capacity case.now }
     ensures { IfOk result (λ made. made.circuit ≡ plan_reference case.now.design case.now.cut.request) }
 {
-    let design = &case.design;
-    let plan = &case.cut.plan;
-    let signals = design.piece().signal_count() as u64;
-    let channels = plan.channels.as_slice().len() as u64;
-    if signals.saturating_add(channels) > u64::from(u32::MAX) {
+    if !has_room(case) {
         return Err(AllocError);
     }
-    pipe(alloc, design, plan)
+    let made = pipe(alloc, &case.design, &case.cut.plan)?;
+    Ok(made)
 }
 
 // Prints the run of the reference circuit on a trace, by the simulator: a value for each port, of the first out-signals.

@@ -1,0 +1,16 @@
+use Rattle.std.proofs.Common.{ℕ, ◌+◌, ◌^◌, ◌<◌, List, length, arith}
+use Rattle.gg_piped.specs.CanPipe.{CanPipe}
+use Rattle.golden.specs.Case.{IsCase}
+use Rattle.golden.specs.declared.case.Case.{Case}
+use Rattle.golden.proofs.CaseLemmas.{case-fresh}
+use Rattle.golden.proofs.printing.reference_of.Goals as goal
+
+can-pipe : {circuit partition : List ℕ} {capacity : ℕ} {case : Case} → IsCase circuit partition capacity case → length case.design.circuit.signals + length case.cut.plan.channels < 2 ^ 32 → CanPipe case.design case.cut.plan
+can-pipe {capacity = capacity} {case = case} is few =
+    record { request = case.cut.request; default = capacity; keeps = is.keeps; held = is.held; fresh = case-fresh is; none = is.cuts.faultless; is = is.planned; few = few }
+
+pub pipe-requires : goal.pipe-requires
+pipe-requires c = can-pipe c.requires.3 (c.has_room.ensures (grind (arith, c.if-not-has_room.false)))
+
+pub returns : goal.returns
+returns c = c.in_ok-made.ensures.circuit (can-pipe c.requires.3 (c.has_room.ensures (grind (arith, c.if-not-has_room.false))))
