@@ -16,3 +16,7 @@ pub mod WholeReference
 pub mod NothingLemmas
 pub mod PlanLemmas
 pub mod SolveLemmas
+pub mod BuildLemmas
+pub mod TableLemmas
+pub mod ViewLemmas
+pub mod PipingLemmas
