@@ -24,4 +24,5 @@ pub mod WorkedMemory
 pub mod WorkedShare
 pub mod WorkedFork
 pub mod WorkedDirect
+pub mod WorkedPipe
 pub mod WorkedCore
