@@ -34,7 +34,7 @@ use Rattle.gg_plan.proofs.WorkedTests.{ascending, names-below, has-needs}
 use Rattle.gg_plan.proofs.WorkedHosts.{unshared}
 use Rattle.gg_plan.proofs.WorkedParts.{is-part, no-memories, is-cut-part}
 
-abbrev nibble : Ty
+abbrev pub nibble : Ty
 nibble = uint_type 4 (lit≤ tt) (lit≤ tt)
 
 abbrev pub circuit : FlatCircuit
@@ -120,13 +120,13 @@ core =
       memories = [];
     }
 
-hub-part : IsPart circuit hub.piece hub.globals [] []
+pub hub-part : IsPart circuit hub.piece hub.globals [] []
 hub-part =
     is-part circuit hub.piece hub.globals refl refl refl refl refl refl
     ((lit< tt, refl), ((names-below 3 (node nibble (Ref 0) ∷ []) refl, refl), ((names-below 3 (node nibble (Ref 1) ∷ []) refl, refl), tt)))
     ((lit< tt, refl), tt) refl refl refl
 
-core-part : IsPart circuit core.piece core.globals [] []
+pub core-part : IsPart circuit core.piece core.globals [] []
 core-part =
     is-part circuit core.piece core.globals refl refl refl refl refl refl
     ((names-below 1 (node nibble (Literal (value 10)) ∷ []) refl, refl), tt)
