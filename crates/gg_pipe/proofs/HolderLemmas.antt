@@ -22,7 +22,7 @@ use Rattle.gg_pipe.specs.Links.{maker_of}
 use Rattle.gg_pipe.specs.Made.{holds, holder_of, keeper_of, AreHeldOnce}
 use Rattle.gg_cut.proofs.OriginLemmas.{finds-any, clash}
 
-pub holds-is : (r : ℕ) (driver : Driver) → holds r driver ≡ true → driver ≡ Held r
+holds-is : (r : ℕ) (driver : Driver) → holds r driver ≡ true → driver ≡ Held r
 holds-is r (Input place) e = absurd (clash false e refl)
 holds-is r (Held register) e = ap Held (eqb-true register r e)
 holds-is r (MemoryWord memory reader addr en) e = absurd (clash false e refl)

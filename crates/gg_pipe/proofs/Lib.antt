@@ -16,7 +16,3 @@ pub mod WholeReference
 pub mod NothingLemmas
 pub mod PlanLemmas
 pub mod SolveLemmas
-pub mod BuildLemmas
-pub mod TableLemmas
-pub mod ViewLemmas
-pub mod PipingLemmas

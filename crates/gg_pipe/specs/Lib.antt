@@ -2,5 +2,3 @@ pub mod Reference
 pub mod Links
 pub mod Made
 pub mod Follows
-pub mod Tables
-pub mod CanPipe

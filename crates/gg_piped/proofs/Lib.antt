@@ -1,0 +1,4 @@
+pub mod BuildLemmas
+pub mod TableLemmas
+pub mod ViewLemmas
+pub mod PipingLemmas

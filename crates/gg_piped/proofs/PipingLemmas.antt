@@ -1,0 +1,209 @@
+-- The tables of a plan make its reference circuit.
+use Rattle.std.proofs.Common.{◌≡◌, ◌≢◌, ℕ, zero, suc, ◌+◌, ◌<◌, ◌≤◌, ◌⊎◌, List, ◌++◌, Bool, true, false, Option, Some, None, codes, length, map, get_or, refl, sym, ◌∙◌, ap, subst, inl, inr, eq-eqb, arith}
+use Rattle.std.specs.Prelude.{◌^◌, All, AllPairs, Contains, filter, unwrap_or, replicate}
+use Rattle.std.specs.List.{list_any, range_with_len}
+use Rattle.std.proofs.lemmas.Bool.{cases_Bool, cases_lt, eqb-true}
+use Rattle.std.proofs.lemmas.List.{length-map, get_or_default}
+use Rattle.std.proofs.lemmas.List.Elements.{Contains-get_or}
+use Rattle.std.proofs.lemmas.List.FromFn.{get_or-range_with_len, length-range_with_len}
+use Rattle.std.proofs.lemmas.List.Sums.{length-filter, count_by-le-length}
+use Rattle.gg_flat.specs.declared.piece.Driver.{Driver}
+use Rattle.gg_flat.specs.declared.piece.Driver.TheVariants.{Input, Held, MemoryWord, ReadRegister, Computed}
+use Rattle.gg_flat.specs.Circuit.{FlatCircuit, driver_at}
+use Rattle.gg_flat.specs.Line.{value_at}
+use Rattle.gg_flat.specs.Tree.{path_at}
+use Rattle.gg_flat.specs.WellFormed.{MayDrive}
+use Rattle.gg_flat.proofs.ListLemmas.{in-range}
+use Rattle.gg_order.specs.Design.{Ordered, IsDesign}
+use Rattle.gg_cut.specs.declared.listed.Listed.{Listed}
+use Rattle.gg_cut.specs.declared.plan.Channel.{Channel}
+use Rattle.gg_cut.specs.declared.plan.Plan.{Plan}
+use Rattle.gg_cut.specs.declared.wires.Wire.{Wire}
+use Rattle.gg_cut.specs.Channels.{wires_of}
+use Rattle.gg_cut.specs.Listed.{first_place, listed_of, owner_of, memory_owner}
+use Rattle.gg_cut.specs.Plan.{wire_at, IsInner}
+use Rattle.gg_cut.specs.Direct.{Hub, routes, plan_hub, is_piped}
+use Rattle.gg_cut.proofs.PathLemmas.{first_place-Some}
+use Rattle.gg_cut.proofs.OriginLemmas.{any-finds, finds-any, clash}
+use Rattle.gg_closed.specs.Apart.{AreApart}
+use Rattle.gg_closed.proofs.FaultlessLemmas.{faultless-apart}
+use Rattle.gg_routes.proofs.ChoiceLemmas.{any-wire}
+use Rattle.gg_routes.proofs.RouteLemmas.{IsBase}
+use Rattle.gg_routes.proofs.RoutedLemmas.{routed-base}
+use Rattle.gg_split.specs.declared.owned.Owned.{Owned}
+use Rattle.gg_piped.specs.declared.tables.Tables.{Tables}
+use Rattle.gg_pipe.specs.Links.{pipes_of, maker_of, seen_by}
+use Rattle.gg_pipe.specs.Made.{plan_reference, reference_of, views_in, holder_of, keeper_of, holds}
+use Rattle.gg_piped.specs.CanPipe.{CanPipe}
+use Rattle.gg_piped.specs.Tables.{views_by, seen_in, AreSameViews, AreOwned, AreTables, CanFill, IsFilled, piped_signals, piped_takers}
+use Rattle.gg_pipe.proofs.HolderLemmas.{holder-is, keeper-is}
+use Rattle.gg_pipe.proofs.SeenLemmas.{pipes-known}
+use Rattle.gg_pipe.proofs.PlanLemmas.{plan-formed}
+use Rattle.gg_piped.proofs.TableLemmas.{chosen-agree, piped_routes, pipes-once, kept-is, seen-is, seen-empty, makers-are}
+use Rattle.gg_piped.proofs.ViewLemmas.{reference-agree}
+
+holds-is : (r : ℕ) (driver : Driver) → holds r driver ≡ true → driver ≡ Held r
+holds-is r (Input place) e = absurd (clash false e refl)
+holds-is r (Held register) e = ap Held (eqb-true register r e)
+holds-is r (MemoryWord memory reader addr en) e = absurd (clash false e refl)
+holds-is r (ReadRegister memory reader) e = absurd (clash false e refl)
+holds-is r (Computed line) e = absurd (clash false e refl)
+
+repeated : (n x r : ℕ) → r < n → value_at (replicate n x) r ≡ x
+repeated zero x r lt = absurd (omega (arith, lt))
+repeated (suc n) x zero lt = refl
+repeated (suc n) x (suc r) lt = repeated n x r (omega (arith, lt))
+
+-- the signals and the pipes are few
+pub few-pipes : (design : Ordered) (plan : Plan) (can : CanPipe design plan) → length design.circuit.signals + length (piped_signals plan.channels) < 2 ^ 32
+few-pipes design plan can =
+    let few = can.few in
+    let chosen = length-filter (λ (channel : Channel). channel.pipe) plan.channels in
+    let most = count_by-le-length (λ (channel : Channel). channel.pipe) plan.channels in
+    let long = length-map (filter (λ (channel : Channel). channel.pipe) plan.channels) (λ (channel : Channel). channel.signal) in
+    omega (arith, few, chosen, most, long)
+
+module _ (design : Ordered) (plan : Plan) (is : IsDesign design) (can : CanPipe design plan) where
+  abbrev circuit : FlatCircuit
+  circuit = design.circuit
+
+  abbrev hub : Hub
+  hub = plan_hub design.circuit design.tree can.request
+
+  abbrev listed : Listed
+  listed = listed_of design.tree can.request
+
+  base : IsBase (plan_hub design.circuit design.tree can.request)
+  base = routed-base design can.request is can.keeps can.none
+
+  pub plan-apart : AreApart design.tree plan.listed
+  plan-apart = subst (AreApart design.tree) (sym can.is.listed) (faultless-apart design can.request can.none can.keeps.fitting)
+
+  -- ---- pipes
+
+  pub pipes-are : piped_signals plan.channels ≡ pipes_of (plan_hub design.circuit design.tree can.request)
+  pipes-are =
+      chosen-agree (λ (channel : Channel). channel.signal) (λ (w : Wire). w.signal) (λ (channel : Channel). channel.pipe) (λ (w : Wire). hub.piped w.signal) plan.channels (routes hub) can.is.channel_total
+      (λ c x w lt. let at = can.is.channel c x lt in let same = wires-at c w lt in (at.signal ∙ ap (λ (v : Wire). v.signal) same, at.pipe ∙ ap (λ (v : Wire). hub.piped v.signal) same))
+    where
+      wires-at : (c : ℕ) (w : Wire) → c < length plan.channels → wire_at (routes hub) c ≡ get_or (routes hub) c w
+      wires-at c w lt = get_or_default (routes hub) c any-wire w (let total = can.is.channel_total in omega (arith, lt, total))
+
+  pub takers-are : piped_takers plan.channels ≡ map (λ (w : Wire). w.consumer) (piped_routes (plan_hub design.circuit design.tree can.request))
+  takers-are =
+      chosen-agree (λ (channel : Channel). channel.consumer) (λ (w : Wire). w.consumer) (λ (channel : Channel). channel.pipe) (λ (w : Wire). hub.piped w.signal) plan.channels (routes hub) can.is.channel_total
+      (λ c x w lt. let at = can.is.channel c x lt in let same = wires-at c w lt in (at.consumer ∙ ap (λ (v : Wire). v.consumer) same, at.pipe ∙ ap (λ (v : Wire). hub.piped v.signal) same))
+    where
+      wires-at : (c : ℕ) (w : Wire) → c < length plan.channels → wire_at (routes hub) c ≡ get_or (routes hub) c w
+      wires-at c w lt = get_or_default (routes hub) c any-wire w (let total = can.is.channel_total in omega (arith, lt, total))
+
+  pub known-pipes : All (λ s. s < length design.circuit.signals) (piped_signals plan.channels)
+  known-pipes = subst (All (λ s. s < length circuit.signals)) (sym pipes-are) (λ k d lt. subst (λ s. s < length circuit.signals) (sym (get_or_default (pipes_of hub) k d 0 lt)) (pipes-known hub base k lt))
+
+  -- no path comes twice
+  pub distinct-paths : AllPairs (λ a b. a ≢ b) (design.circuit.paths ++ map (λ c. codes "pipe:" ++ path_at design.circuit.paths c) (piped_signals plan.channels))
+  distinct-paths =
+      subst (λ (pipes : List ℕ). AllPairs (λ a b. a ≢ b) (circuit.paths ++ map (λ c. codes "pipe:" ++ path_at circuit.paths c) pipes)) (sym pipes-are)
+      (plan-formed design can.request is can.keeps can.held can.none can.fresh).distinct
+
+  module _ (owned : Owned) (owns : AreOwned design plan.listed owned) where
+    wires-are : owned.wires ≡ hub.base
+    wires-are = owns.wires ∙ ap (wires_of circuit design.tree) can.is.listed
+
+    pub can-fill : CanFill design.circuit (piped_signals plan.channels) owned
+    can-fill =
+        record {
+          known = known-pipes;
+          once = subst (AllPairs (λ a b. a ≢ b)) (sym pipes-are) (pipes-once hub base);
+          few = few-pipes design plan can;
+          held = can.held;
+          registers = λ s r lt held. (subst (MayDrive circuit s) held (is.formed.drivers s lt)).0;
+          wires = subst (λ n. All (λ (w : Wire). w.signal < n) owned.wires) (sym owns.count) (subst (All (λ (w : Wire). w.signal < length circuit.signals)) (sym wires-are) base.known);
+          wires_once = subst (AllPairs (λ (v w : Wire). v.signal ≢ w.signal)) (sym wires-are) base.once;
+        }
+
+    module _ (tables : Tables) (are : AreTables design.circuit plan.channels (piped_signals plan.channels) owned tables) where
+      pipes : IsFilled (pipes_of hub) (range_with_len (length circuit.signals) (length (pipes_of hub))) (length (pipes_of hub)) (replicate (length circuit.signals) 0) tables.pipes
+      pipes = subst (λ (l : List ℕ). IsFilled l (range_with_len (length circuit.signals) (length l)) (length l) (replicate (length circuit.signals) 0) tables.pipes) pipes-are are.pipes
+
+      takers : IsFilled (pipes_of hub) (map (λ (r : Wire). r.consumer) (piped_routes hub)) (length (pipes_of hub)) (replicate (length circuit.signals) 0) tables.takers
+      takers =
+          subst (λ (l : List ℕ). IsFilled l (map (λ (r : Wire). r.consumer) (piped_routes hub)) (length l) (replicate (length circuit.signals) 0) tables.takers) pipes-are
+          (subst (λ (l : List ℕ). IsFilled (piped_signals plan.channels) l (length (piped_signals plan.channels)) (replicate (length circuit.signals) 0) tables.takers) takers-are are.takers)
+
+      makers : (s : ℕ) → s < length circuit.signals → value_at tables.makers s ≡ maker_of hub s
+      makers =
+          makers-are hub base owned.signals tables.makers
+          (subst (λ (l : List Wire). IsFilled (map (λ (w : Wire). w.signal) l) (map (λ (w : Wire). w.producer) l) (length l) owned.signals tables.makers) wires-are are.makers)
+          (λ s lt inner. owns.signals s lt (subst (λ (l : List Wire). IsInner l s) (sym wires-are) inner) ∙ ap (λ l. owner_of circuit design.tree l s) can.is.listed)
+
+      seen : (m s : ℕ) → seen_in tables m s ≡ seen_by hub m s
+      seen = seen-is hub base tables pipes takers
+
+      -- the machine of the signal that holds a register, or any where it makes no difference
+      holder : (r t : ℕ) → r < length circuit.registers → seen_in tables (value_at tables.holders r) t ≡ seen_by hub (holder_of hub r) t
+      holder r t lt = by (cases_Bool (list_any test numbers))
+        where
+          test : ℕ → Bool
+          test s = holds r (driver_at circuit s)
+
+          numbers : List ℕ
+          numbers = range_with_len 0 (length circuit.signals)
+
+          by : (list_any test numbers ≡ true) ⊎ (list_any test numbers ≡ false) → seen_in tables (value_at tables.holders r) t ≡ seen_by hub (holder_of hub r) t
+          by (inl some) =
+              let found = any-finds test numbers some in
+              let s = found.item in
+              let low : s < length circuit.signals = below s found.among in
+              let held = holds-is r (driver_at circuit s) found.passes in
+              ap (λ m. seen_in tables m t) (are.holders.held s r low held ∙ makers s low ∙ sym (holder-is hub can.held s r low held)) ∙ seen (holder_of hub r) t
+            where
+              below : (s : ℕ) → Contains numbers s → s < length circuit.signals
+              below s h =
+                  let inside = h.1 in
+                  let long = length-range_with_len 0 (length circuit.signals) in
+                  let low : h.0 < length circuit.signals = omega (arith, inside, long) in
+                  let read = get_or-range_with_len 0 (length circuit.signals) h.0 s low in
+                  let same = h.2 in
+                  omega (arith, low, read, same)
+          by (inr none) = plain (cases_lt 0 (length circuit.signals))
+            where
+              free : (s : ℕ) → s < length circuit.signals → ¬ (driver_at circuit s ≡ Held r)
+              free s low held = clash (list_any test numbers) (finds-any test numbers s (in-range (length circuit.signals) s low) (ap (holds r) held ∙ eq-eqb r r refl)) none
+
+              first : value_at tables.holders r ≡ value_at tables.makers 0
+              first = are.holders.rest r free ∙ repeated (length circuit.registers) (value_at tables.makers 0) r lt
+
+              zeroth : holder_of hub r ≡ maker_of hub 0
+              zeroth = by-place (first_place test numbers) refl
+                where
+                  by-place : (o : Option ℕ) → first_place test numbers ≡ o → holder_of hub r ≡ maker_of hub 0
+                  by-place None e = ap (λ o. maker_of hub (unwrap_or o 0)) e
+                  by-place (Some k) e = let at = first_place-Some test numbers k e in absurd (clash (list_any test numbers) (finds-any test numbers (value_at numbers k) (Contains-get_or numbers k 0 at.within) (at.passes 0)) none)
+
+              plain : (0 < length circuit.signals) ⊎ (length circuit.signals ≤ 0) → seen_in tables (value_at tables.holders r) t ≡ seen_by hub (holder_of hub r) t
+              plain (inl some) = ap (λ m. seen_in tables m t) (first ∙ makers 0 some ∙ sym zeroth) ∙ seen (holder_of hub r) t
+              plain (inr empty) = seen-empty hub base tables pipes empty (value_at tables.holders r) t ∙ sym (seen-empty hub base tables pipes empty (holder_of hub r) t) ∙ seen (holder_of hub r) t
+
+      keeper : (k : ℕ) → k < length circuit.memories → value_at tables.keepers k ≡ keeper_of design.tree listed k
+      keeper k lt =
+          let count = can.keeps.fitting.count in
+          let known : k < length design.tree.memories = omega (arith, lt, count) in
+          ap (λ (l : List ℕ). value_at l k) are.keepers
+          ∙ owns.memories k known
+          ∙ ap (λ l. memory_owner design.tree l k) can.is.listed
+          ∙ sym (keeper-is circuit design.tree listed can.keeps.fitting (memory_owner design.tree listed k) k (record { place = k; known = known; is = can.keeps.copies.number k known; owner = refl }))
+
+      same-views : AreSameViews circuit (views_by tables) (views_in circuit design.tree listed (is_piped circuit can.request) can.request.direct)
+      same-views =
+          record {
+            maker = λ s t lt. ap (λ m. seen_in tables m t) (makers s lt) ∙ seen (maker_of hub s) t;
+            holder = holder;
+            keeper = λ k t lt. ap (λ m. seen_in tables m t) (keeper k lt) ∙ seen (keeper_of design.tree listed k) t;
+            kept = kept-is hub base tables pipes;
+          }
+
+      pub reference-is : reference_of design.circuit (views_by tables) (piped_signals plan.channels) ≡ plan_reference design can.request
+      reference-is =
+          ap (reference_of circuit (views_by tables)) pipes-are
+          ∙ reference-agree circuit (views_by tables) (views_in circuit design.tree listed (is_piped circuit can.request) can.request.direct) (pipes_of hub) same-views
