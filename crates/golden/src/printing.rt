@@ -24,7 +24,7 @@ use crate::case::{Case, Fed};
 use gg_flat::{InstancePort, Ports, Tree, runs_along, settled_once};
 use gg_io::Sink;
 use gg_order::Design;
-use gg_pipe::pipe;
+use gg_piped::pipe;
 use gg_refsim::Mono;
 use gg_told::{Ending, put};
 use gg_trace::{Trace, header_text, row_text};

@@ -1,5 +1,5 @@
 use Rattle.std.proofs.Common.{ℕ, ◌+◌, ◌^◌, ◌<◌, List, length, arith}
-use Rattle.gg_pipe.specs.CanPipe.{CanPipe}
+use Rattle.gg_piped.specs.CanPipe.{CanPipe}
 use Rattle.golden.specs.Case.{IsCase}
 use Rattle.golden.specs.declared.case.Case.{Case}
 use Rattle.golden.proofs.CaseLemmas.{case-fresh}
