@@ -10,7 +10,7 @@ use Rattle.gg_partfile.specs.declared.request.Request.{Request}
 use Rattle.gg_cut.specs.declared.listed.Listed.{Listed}
 use Rattle.gg_cut.specs.Listed.{listed_of}
 use Rattle.gg_cut.specs.Machines.{machine_count}
-use Rattle.gg_cut.specs.Direct.{Hub, hub_of, plan_hub, routes, is_gone}
+use Rattle.gg_cut.specs.Direct.{Hub, hub_of, plan_hub, routes, is_gone, is_piped}
 use Rattle.gg_cut.specs.Plan.{channels_to, channels_from}
 use Rattle.gg_closed.specs.Apart.{AreApart}
 use Rattle.gg_split.specs.declared.share.Share.{Share}
@@ -77,5 +77,5 @@ module _ (design : Ordered) (request : Request) (listed : Listed) (same : listed
       → kept ≡ filter (stays_by (routes the_hub) gone) first.globals → first ≡ get_or shares 0 first → before ≡ get_or shares m before → IsRoutedShare ins outs kept before m share → IsPlanShare design listed the_hub m share.ins share.outs share.globals share.memories
   plan-share-of are gone ins outs kept shares first before share m count marks all takes gives lt many stay start at routed =
       subst (λ (l : Listed). AreRoutes design l the_hub → AreShares design l shares → count ≡ machine_count design.circuit l → IsPlanShare design l the_hub m share.ins share.outs share.globals share.memories) (sym same)
-      (λ are all many. routed-share design (listed_of design.tree request) (λ s. false) request.direct is keeps apart are gone ins outs kept shares first before share m count marks all takes gives lt many stay start at routed)
+      (λ are all many. routed-share design (listed_of design.tree request) (is_piped design.circuit request) request.direct is keeps apart are gone ins outs kept shares first before share m count marks all takes gives lt many stay start at routed)
       are all many
