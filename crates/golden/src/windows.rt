@@ -19,7 +19,7 @@ use std::marker::Brand;
 use std::thread::Threads;
 
 // Prints the run of a design on a trace, from the network of the plan, whose channels carry the values of a flow.
-fn print_windows<R: Threads + Sync, Z: Streams, K: Sink, G: Gate + Sync>(
+fn print_flow<R: Threads + Sync, Z: Streams, K: Sink, G: Gate + Sync>(
     rt: &R,
     alloc: Global,
     fed: &Fed,
@@ -65,5 +65,5 @@ pub(crate) fn print_fed<R: Threads + Sync, K: Sink, G: Gate + Sync>(
     ensures out { SinkWentOn K.Sink out.old out.new }
 {
     let ports = top_ports(alloc, &fed.case.design)?;
-    print_windows::<R, Brand, K, G>(rt, alloc, fed, &ports, workers, out, gate)
+    print_flow::<R, Brand, K, G>(rt, alloc, fed, &ports, workers, out, gate)
 }

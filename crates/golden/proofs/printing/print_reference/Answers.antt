@@ -1,4 +1,4 @@
-use Rattle.std.proofs.Common.{List, ℕ, ◌≤◌, ◌×◌, length, refl, sym, subst}
+use Rattle.std.proofs.Common.{List, ℕ, ◌≤◌, length, refl, sym, subst}
 use Rattle.std.proofs.lemmas.List.{length-map}
 use Rattle.gg_cut.specs.Direct.{plan_hub}
 use Rattle.gg_flat.specs.Circuit.{FlatCircuit}

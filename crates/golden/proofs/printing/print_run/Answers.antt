@@ -1,4 +1,5 @@
-use Rattle.std.proofs.Common.{List, ℕ, ◌×◌, refl, sym, subst}
+use Rattle.std.proofs.Common.{◌≡◌, List, ℕ, length, refl, sym, ap, ◌∙◌, subst, arith}
+use Rattle.std.proofs.lemmas.Bool.Decides.{nat_tests}
 use Rattle.std.proofs.lemmas.List.{nil_from_length}
 use Rattle.gg_flat.specs.Circuit.{FlatCircuit}
 use Rattle.gg_flat.specs.Run.{IsRun}
@@ -38,7 +39,8 @@ pub returns-then-is_empty-clause-prints : goal.returns-then-is_empty-clause-prin
 returns-then-is_empty-clause-prints g c =
     let r = c.requires.fed in
     let fed = c.args.fed.now in
-    let none = nil_from_length fed.case.cut.request.pipe c.if-is_empty.true in
+    let empty : length c.as_slice.result.now ≡ 0 = grind (arith, nat_tests) in
+    let none = nil_from_length fed.case.cut.request.pipe (sym (ap length c.as_slice.ensures) ∙ empty) in
     let prints =
     subst
     (λ (f : FlatCircuit). (rows : List (List ℕ)) × IsRun f fed.trace.columns fed.trace.rows rows

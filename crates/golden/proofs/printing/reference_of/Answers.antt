@@ -5,7 +5,7 @@ use Rattle.golden.specs.declared.case.Case.{Case}
 use Rattle.golden.proofs.CaseLemmas.{case-fresh}
 use Rattle.golden.proofs.printing.reference_of.Goals as goal
 
-can-pipe : {circuit partition : List ℕ} {capacity : ℕ} {case : Case} → IsCase circuit partition capacity case → length case.design.circuit.signals + length case.cut.plan.channels < 2 ^ 32 → CanPipe case.design case.cut.plan
+abbrev can-pipe : {circuit partition : List ℕ} {capacity : ℕ} {case : Case} → IsCase circuit partition capacity case → length case.design.circuit.signals + length case.cut.plan.channels < 2 ^ 32 → CanPipe case.design case.cut.plan
 can-pipe {capacity = capacity} {case = case} is few =
     record { request = case.cut.request; default = capacity; keeps = is.keeps; held = is.held; fresh = case-fresh is; none = is.cuts.faultless; is = is.planned; few = few }
 

@@ -7,11 +7,11 @@ use Rattle.golden.proofs.windows.print_fed.Goals as goal
 pub top_ports-requires : goal.top_ports-requires
 top_ports-requires g c = c.requires.fed.4.case.keeps
 
-pub print_windows-requires-clause-run : goal.print_windows-requires-clause-run
-print_windows-requires-clause-run g c κs within = let r = c.requires.fed in (to-replay r.0 r.1 r.2 r.3 c.args.fed.now r.4, refl)
+pub print_flow-requires-clause-run : goal.print_flow-requires-clause-run
+print_flow-requires-clause-run g c κs within = let r = c.requires.fed in (to-replay r.0 r.1 r.2 r.3 c.args.fed.now r.4, refl)
 
-pub print_windows-requires-clause-ports : goal.print_windows-requires-clause-ports
-print_windows-requires-clause-ports g c κs within =
+pub print_flow-requires-clause-ports : goal.print_flow-requires-clause-ports
+print_flow-requires-clause-ports g c κs within =
     let r = c.requires.fed in
     fed-ports r.0 r.1 r.2 r.3 c.args.fed.now r.4 c.in_ok-ports.ports c.in_ok-ports.ensures
 
@@ -25,4 +25,4 @@ returns-clause-prints g c =
     let r = c.requires.fed in
     let fed = c.args.fed.now in
     let run = to-replay r.0 r.1 r.2 r.3 fed r.4 in
-    (run.rows, run.given.run, fed-prints r.0 r.1 r.2 r.3 fed r.4 _ _ _ c.print_windows.result c.in_ok-ports.ports run.rows c.in_ok-ports.ensures (c.print_windows.ensures.prints run refl))
+    (run.rows, run.given.run, fed-prints r.0 r.1 r.2 r.3 fed r.4 _ _ _ c.print_flow.result c.in_ok-ports.ports run.rows c.in_ok-ports.ensures (c.print_flow.ensures.prints run refl))

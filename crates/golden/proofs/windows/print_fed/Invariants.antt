@@ -2,5 +2,5 @@ use Rattle.golden.specs.Replayed.{fed_flow}
 use Rattle.golden.proofs.windows.print_fed.Given as goal
 
 -- what the plan's network computes on the trace
-abbrev pub ghosts-print_windows : goal.ghosts-print_windows
-ghosts-print_windows g a = record { flow = fed_flow a.fed.now }
+abbrev pub ghosts-print_flow : goal.ghosts-print_flow
+ghosts-print_flow g a = record { flow = fed_flow a.fed.now }
