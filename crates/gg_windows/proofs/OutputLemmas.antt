@@ -1,5 +1,5 @@
 -- The trays of a plan's network have the outputs of the reference circuit.
-use Rattle.std.proofs.Common.{◌≡◌, ℕ, ◌+◌, ◌-◌, ◌<◌, ◌≤◌, List, [], length, sym, ap, ◌∙◌, arith}
+use Rattle.std.proofs.Common.{◌≡◌, ℕ, ◌+◌, ◌-◌, ◌<◌, ◌≤◌, List, length, sym, ap, ◌∙◌, arith}
 use Rattle.std.specs.Prelude.{Contains}
 use Rattle.std.proofs.lemmas.List.{get_or-map, length-map, ext_get_or}
 use Rattle.gg_flat.specs.Line.{value_at}
@@ -115,7 +115,7 @@ module _ (plan : Plan) (columns : List (List ℕ)) (n : ℕ) (flow : Flow) (run 
     known : c < length net.wires
     taken : (wire_at net.wires c).consumer ≡ tray k
     list : list_at flow.lists c ≡ list_at (streams plan.channels (columns_of plan run.rows)) c
-    planned : c < length (routes hub)
+    routed : c < length (routes hub)
     signal : (planned.wire_at (routes hub) c).signal ≡ value_at outs k
 
   tray-carries : (k c : ℕ) → IsTrayWire k c → IsTrayChannel k c
@@ -128,7 +128,7 @@ module _ (plan : Plan) (columns : List (List ℕ)) (n : ℕ) (flow : Flow) (run 
         known = omega (arith, among, ap length same, length-from plan 0 plan.channels);
         taken = ap (λ l. (wire_at l c).consumer) same ∙ ap (λ v. v.consumer) (wire-from plan 0 plan.channels c any among) ∙ channel.consumer ∙ wire.consumer;
         list = ap (λ (f : Flow). list_at f.lists c) run.flow_is;
-        planned = wire.known;
+        routed = wire.known;
         signal = wire.signal;
       }
 
@@ -151,7 +151,7 @@ module _ (plan : Plan) (columns : List (List ℕ)) (n : ℕ) (flow : Flow) (run 
       tray-tells flow net m found.0 t kept
       (record { there = there; known = found.1.known; taken = found.1.taken; rows = tray_rows; tray = behaves k lt; begun = omega (arith, begin); done = omega (arith, done, at); last = omega (arith, near, at) })
       ∙ ap (λ l. value_at l t) found.1.list
-      ∙ plan-output-value run.design run.request run.default plan run.given.design_is run.given.keeps run.given.held run.given.faultless run.given.planned columns n run.rows run.given.given run.given.run k found.0 t lt found.1.planned found.1.signal within
+      ∙ plan-output-value run.design run.request run.default plan run.given.design_is run.given.keeps run.given.held run.given.faultless run.given.planned columns n run.rows run.given.given run.given.run k found.0 t lt found.1.routed found.1.signal within
 
   -- the reference circuit has as many out-signals
   outs-count : length all.outs ≡ length outs
