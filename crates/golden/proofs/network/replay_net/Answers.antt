@@ -1,4 +1,5 @@
-use Rattle.std.proofs.Common.{refl, subst}
+use Rattle.std.proofs.Common.{refl, ap, ◌∙◌, subst}
+use Rattle.gg_replay.specs.Log.{opening_log}
 use Rattle.gg_replay.specs.Stopping.{IsStop}
 use Rattle.gg_replay.specs.declared.stop.Stop.{Stop}
 use Rattle.gg_told.specs.Endings.{PrintsText}
@@ -9,7 +10,7 @@ pub replay-requires-clause-logged : goal.replay-requires-clause-logged
 replay-requires-clause-logged g c κs within =
     let fed = c.args.fed.now in
     opening-right fed.case.cut.plan fed.trace.columns fed.trace.rows g.Z.Streams.flow c.in_ok-net.net c.in_ok-net.ensures
-    c.in_ok-log.log c.shape.result.now.wires.items c.requires.run c.kept.ensures c.shape.ensures.wires c.in_ok-log.ensures
+    c.in_ok-log.log c.shape.result.now.wires.items c.requires.run c.kept.ensures c.shape.ensures.wires (c.in_ok-log.ensures ∙ ap opening_log c.as_slice.ensures.value)
 
 pub print_net-requires-clause-wires : goal.print_net-requires-clause-wires
 print_net-requires-clause-wires g c κs within =
