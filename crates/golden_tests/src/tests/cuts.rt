@@ -36,7 +36,7 @@ const STOPS: &str =
     "circuit Top :\nmodule Cell :\ninput clock : Clock\ninput i : UInt<2>\nstop(clock, eq(i, UInt<2>(1)), 1) : done\nmodule Top :\ninput clock : Clock\ninput x : UInt<2>\noutput y : UInt<2>\ninst c of Cell\nc.clock <= clock\nc.i <= x\ny <= x\nstop(clock, eq(x, UInt<2>(3)), 0) : last\n";
 
 // Words, a circuit, a partition, and the text.
-static CUTS: [(&str, &str, &str, &str); 29] = [
+static CUTS: [(&str, &str, &str, &str); 21] = [
     (
         "golden check k1.fir p.json --capacity 1",
         PAIR,
@@ -171,6 +171,17 @@ static CUTS: [(&str, &str, &str, &str); 29] = [
         "{\"units\":[\"c\"]}",
         "machine hub: host 0\nmachine c host 1\nmachine in:x host 2\nmachine out:y host 3\nmachine halt:stop:0 host 4\nmachine halt:c.stop:0 host 5\nchannel x in:x hub: UInt<2> capacity 2 needs -\nchannel c.i hub: c UInt<2> capacity 2 needs x\nchannel y hub: out:y UInt<2> capacity 2 needs x\nchannel stop:0 hub: halt:stop:0 UInt<1> capacity 2 needs x\nchannel c.stop:0 c halt:c.stop:0 UInt<1> capacity 2 needs c.i\n",
     ),
+    // two units and their memories, which have no ports
+    (
+        "golden check k1.fir p.json",
+        BANKS,
+        "{\"units\":[\"u\",\"v\"],\"share\":[[\"v\",\"u\"]],\"memories\":[\"v.m\",\"u.m\"]}",
+        "machine hub: host 0\nmachine u host 1\nmachine v host 1\nmachine u.m host 2\nmachine v.m host 3\n",
+    ),
+];
+
+// The same with direct channels, and with pipes.
+static ROUTED: [(&str, &str, &str, &str); 8] = [
     // all channels are direct
     (
         "golden check k1.fir p.json --capacity 1",
@@ -226,19 +237,22 @@ static CUTS: [(&str, &str, &str, &str); 29] = [
         "{\"units\":[\"a\",\"b\"],\"direct\":true,\"pipe\":[\"b.n\"]}",
         "machine hub: host 0\nmachine a host 1\nmachine b host 2\nmachine in:x host 3\nmachine out:q host 4\nchannel a.x in:x a UInt<8> capacity 1 needs -\nchannel a.k hub: a UInt<8> capacity 1 needs b.n\nchannel b.m a b UInt<8> capacity 1 needs a.x\nchannel b.n b hub: UInt<8> capacity 1 pipe needs b.m\nchannel q a out:q UInt<8> capacity 1 needs a.x a.k\n",
     ),
-    // two units and their memories, which have no ports
-    (
-        "golden check k1.fir p.json",
-        BANKS,
-        "{\"units\":[\"u\",\"v\"],\"share\":[[\"v\",\"u\"]],\"memories\":[\"v.m\",\"u.m\"]}",
-        "machine hub: host 0\nmachine u host 1\nmachine v host 1\nmachine u.m host 2\nmachine v.m host 3\n",
-    ),
 ];
 
 #[test]
 fn cuts_are_printed(rt: HostRuntime) -> Result<(), Fail> {
     let alloc = rt.alloc();
     for (line, circuit, partition, out) in &CUTS {
+        let answer = ask_of(&rt, alloc, line, circuit, partition, "")?;
+        check(&rt, &answer, 0, 2, out, "");
+    }
+    Ok(())
+}
+
+#[test]
+fn routed_cuts_are_printed(rt: HostRuntime) -> Result<(), Fail> {
+    let alloc = rt.alloc();
+    for (line, circuit, partition, out) in &ROUTED {
         let answer = ask_of(&rt, alloc, line, circuit, partition, "")?;
         check(&rt, &answer, 0, 2, out, "");
     }
