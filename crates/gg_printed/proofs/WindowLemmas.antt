@@ -1,14 +1,18 @@
 -- Windows, one after another: the network stands at the end of each, and the rows before it are printed.
-use Rattle.std.proofs.Common.{◌≡◌, ℕ, ◌+◌, ◌<◌, ◌≤◌, List, [], length, refl, sym, ap, ◌∙◌, subst, arith}
+use Rattle.std.proofs.Common.{◌≡◌, ℕ, ◌+◌, ◌<◌, ◌≤◌, List, [], length, refl, sym, ap, ◌∙◌, subst, ⊎_elim, arith}
 use Rattle.std.specs.Prelude.{Option, Result, Ok, Err}
+use Rattle.std.proofs.lemmas.Bool.{cases_lt}
 use Rattle.std.specs.Io.KnownBytes.{append_known}
 use Rattle.gg_flat.specs.Streams.{Flow}
 use Rattle.gg_flat.specs.declared.ports.Port.{Port}
 use Rattle.gg_build.specs.Build.{IsOpeningOf, IsToRun}
+use Rattle.gg_cut.specs.Listed.{listed_of}
+use Rattle.gg_cut.specs.Machines.{first_tray}
 use Rattle.gg_cut.specs.declared.plan.Plan.{Plan}
 use Rattle.gg_io.specs.Count.{Rose}
 use Rattle.gg_io.specs.declared.output.Sink
 use Rattle.gg_measure.specs.Nets.{AllStandAt}
+use Rattle.gg_net.specs.Kept.{Kept}
 use Rattle.gg_net.specs.Network.{Frame, Network, frame_of}
 use Rattle.gg_pipe.specs.Made.{plan_reference}
 use Rattle.gg_sound.specs.Built.{tray_rows}
@@ -23,7 +27,8 @@ use Rattle.gg_trace.specs.Printing.{row_line}
 use Rattle.gg_trace.specs.Table.{row_of}
 use Rattle.gg_windows.proofs.OutputLemmas.{net-stays, opening-is-net}
 use Rattle.gg_windows.specs.Window.{window_end}
-use Rattle.gg_printed.specs.Printed.{StandsAt, shown_columns, text_to}
+use Rattle.gg_printed.specs.Printed.{RowsAreKept, StandsAt, shown_columns, text_to}
+use Rattle.gg_printed.proofs.KeepLemmas.{kept-row}
 use Rattle.gg_printed.proofs.RowLemmas.{trace_text-front, trace_text-more}
 
 -- ---- the network
@@ -109,7 +114,12 @@ module _ {K : Type 0} {flow : Flow} {net : Network} {ports : List Port} {sink : 
 
 -- ---- one window after another
 
--- The network has been run from its first cycle up to one, and the rows before that are on the output.
+-- what comes to the trays in the first n cycles
+abbrev pub KeptTo : (flow : Flow) (start : Network) (ports : List Port) (plan : Plan) (columns : List (List ℕ)) (n t : ℕ) → IsToRun plan columns n flow → Type 0
+KeptTo flow start ports plan columns n t run =
+    RowsAreKept start (first_tray run.design.circuit (listed_of run.design.tree run.request)) t (shown_columns (plan_reference run.design run.request) ports run.rows)
+
+-- The network has been run from its first cycle up to one, and the rows before that are on the output and came to the trays.
 pub record WindowsRun {K : Type 0} (flow : Flow) (start : Network) (ports : List Port) (sink : Sink.Ghosts K) (out : K) (count : ℕ) (out' : K) (begun : ℕ) (net : Network) : Type 0 where
   pub frame : frame_of net ≡ frame_of start
   pub all : AllStandAt begun net
@@ -119,6 +129,7 @@ pub record WindowsRun {K : Type 0} (flow : Flow) (start : Network) (ports : List
       → count ≡ length run.design.circuit.outs
       → sink.written out ≡ append_known base (text_to (plan_reference run.design run.request) ports run.rows 0)
       → sink.written out' ≡ append_known base (text_to (plan_reference run.design run.request) ports run.rows begun)
+  pub kept : (plan : Plan) (columns : List (List ℕ)) (n : ℕ) (run : IsToRun plan columns n flow) → IsOpeningOf plan columns n start → KeptTo flow start ports plan columns n begun run
 
 -- what the rows of a window owe
 abbrev pub WindowOf : {K T : Type 0} (flow : Flow) (net : Network) (ports : List Port) (sink : Sink.Ghosts K) (out out' : K) (count begun upto : ℕ) (result : Result T Ending) → Type 0
@@ -140,7 +151,7 @@ WindowsOf flow start ports sink out out' count result =
 pub windows-start : {K : Type 0} {flow : Flow} {start : Network} {ports : List Port} {sink : Sink.Ghosts K} {out : K} {count : ℕ} → AllStandAt 0 start
     → WindowsRun flow start ports sink out count out 0 start
 windows-start all =
-    record { frame = refl; all = all; within = omega arith; on = record { faults_stay_or_rise = omega arith; refused_stay_or_rise = omega arith }; written = λ plan columns n run base stands counted begins. begins }
+    record { frame = refl; all = all; within = omega arith; on = record { faults_stay_or_rise = omega arith; refused_stay_or_rise = omega arith }; written = λ plan columns n run base stands counted begins. begins; kept = λ plan columns n run opens t lt. absurd (omega (arith, lt)) }
 
 module _ {K : Type 0} {flow : Flow} {start : Network} {ports : List Port} {sink : Sink.Ghosts K} {out : K} {count : ℕ} {out' : K} {begun : ℕ} {net : Network}
     (ran : WindowsRun flow start ports sink out count out' begun net) where
@@ -149,6 +160,10 @@ module _ {K : Type 0} {flow : Flow} {start : Network} {ports : List Port} {sink 
   windows-end done le plan columns n run base stands counted begins =
       let all : begun ≡ n = omega (arith, le, ran.within, ap (λ (f : Frame). f.end) stands.of_plan.frame) in
       ran.written plan columns n run base stands counted begins ∙ ap (λ t. append_known base (text_to (plan_reference run.design run.request) ports run.rows t)) all
+
+  -- and all rows came to the trays
+  pub windows-kept : start.end ≤ begun → (plan : Plan) (columns : List (List ℕ)) (n : ℕ) (run : IsToRun plan columns n flow) → IsOpeningOf plan columns n start → KeptTo flow start ports plan columns n n run
+  windows-kept le plan columns n run opens t lt = ran.kept plan columns n run opens t (omega (arith, lt, le, ap (λ (x : Network). x.end) opens.is))
 
   -- the next can't be run for want of memory
   pub windows-want : {T : Type 0} (r : Result T Ending) → r ≡ Err NoMemory → WindowsOf flow start ports sink out out' count r
@@ -173,9 +188,18 @@ module _ {K : Type 0} {flow : Flow} {start : Network} {ports : List Port} {sink 
     next-stands : (plan : Plan) (columns : List (List ℕ)) (n : ℕ) → StandsAt plan columns n 0 start → StandsAt plan columns n upto next
     next-stands plan columns n stands = stands-on plan columns n 0 upto start next stands (same ∙ ran.frame) all most
 
+    -- the rows of the window come to the trays
+    next-kept : Kept flow next → (plan : Plan) (columns : List (List ℕ)) (n : ℕ) (run : IsToRun plan columns n flow) → IsOpeningOf plan columns n start → KeptTo flow start ports plan columns n upto run
+    next-kept stays plan columns n run opens t lt =
+        ⊎_elim
+        (λ (past : t < begun). ran.kept plan columns n run opens t past)
+        (λ (now : begun ≤ t). kept-row plan columns n flow run ports start next opens stays (same ∙ ran.frame) upto t all lt (omega (arith, near, now)) (omega (arith, lt, most, ap (λ (x : Network). x.end) opens.is)))
+        (cases_lt t begun)
+
     -- the rows of the window follow those before it
-    pub windows-next : {T : Type 0} (done : T) (out'' : K) → WindowOf flow next ports sink out' out'' count' begun upto (Ok done) → SinkWentOn sink out' out'' → WindowsRun flow start ports sink out count out'' upto next
-    windows-next done out'' rows on =
+    pub windows-next : {T : Type 0} (done : T) (out'' : K) → WindowOf flow next ports sink out' out'' count' begun upto (Ok done) → SinkWentOn sink out' out'' → Kept flow next
+        → WindowsRun flow start ports sink out count out'' upto next
+    windows-next done out'' rows on stays =
         record {
           frame = same ∙ ran.frame;
           all = all;
@@ -183,6 +207,7 @@ module _ {K : Type 0} {flow : Flow} {start : Network} {ports : List Port} {sink 
           on = on-then ran.on on;
           written = λ plan columns n run base stands counted begins.
               rows plan columns n run base (next-stands plan columns n stands) (counts ∙ counted) low near (ran.written plan columns n run base stands counted begins);
+          kept = next-kept stays;
         }
 
     -- the rows of the window stop

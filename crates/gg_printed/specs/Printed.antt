@@ -1,6 +1,8 @@
--- The text of a circuit's run, and a network of a plan all of whose machines stand at one cycle.
--- Source: ICCAD 2019 (Golden Gate) for target cycles as rows; MEMOCODE 2009 (what a network has done is said by its counts).
-use Rattle.std.specs.Prelude.{ℕ, ◌≤◌, List, length, map, take}
+-- The text of a circuit's run, a network of a plan all of whose machines stand at one cycle, and columns that come to the trays.
+-- Source: ICCAD 2019 (Golden Gate) for target cycles as rows; MEMOCODE 2009 (what a network has done is said by its counts; the
+-- k-th token of each queue is the value of its signal in cycle k, in whatever order the nodes go on).
+use Rattle.std.specs.Prelude.{ℕ, ◌<◌, ◌≤◌, List, length, map, take}
+use Rattle.gg_build.specs.Build.{IsOpeningOf}
 use Rattle.gg_cut.specs.declared.plan.Plan.{Plan}
 use Rattle.gg_flat.specs.Circuit.{FlatCircuit}
 use Rattle.gg_flat.specs.Run.{column}
@@ -8,7 +10,8 @@ use Rattle.gg_flat.specs.declared.ports.Port.{Port}
 use Rattle.gg_measure.specs.Nets.{AllStandAt}
 use Rattle.gg_net.specs.Network.{Network}
 use Rattle.gg_trace.specs.Printing.{trace_text}
-use Rattle.gg_windows.specs.Rows.{IsNetOfPlan}
+use Rattle.gg_trace.specs.Table.{row_of}
+use Rattle.gg_windows.specs.Rows.{IsNetOfPlan, TraysKeep}
 
 -- the columns of the first out-signals of a circuit in a run, one for each port
 abbrev pub shown_columns : FlatCircuit → List Port → (rows : List (List ℕ)) → List (List ℕ)
@@ -23,3 +26,13 @@ pub record StandsAt (plan : Plan) (columns : List (List ℕ)) (n cycle : ℕ) (n
   pub of_plan : IsNetOfPlan plan columns n net
   pub all : AllStandAt cycle net
   pub within : cycle ≤ n
+
+-- From this network host steps bring the first n rows of these columns to the trays from number `first` on.
+abbrev pub RowsAreKept : (opening : Network) (first n : ℕ) (shown : List (List ℕ)) → Type 0
+RowsAreKept opening first n shown = (t : ℕ) → t < n → TraysKeep opening first t (row_of shown t)
+
+-- The network of a plan before its first cycle is such a network. `columns` are those of the top's inputs.
+pub record AreShown (plan : Plan) (columns : List (List ℕ)) (n first : ℕ) (shown : List (List ℕ)) : Type 0 where
+  pub opening : Network
+  pub opens : IsOpeningOf plan columns n opening
+  pub kept : RowsAreKept opening first n shown

@@ -1,7 +1,9 @@
 //! `print_net`: the run of the reference circuit of a plan is printed from the plan's network.
-ghost use Rattle.std.specs.Prelude.{◌≡◌, ◌+◌, ◌<◌, ◌≤◌, ℕ, List, Option, length};
+ghost use Rattle.std.specs.Prelude.{◌≡◌, ◌+◌, ◌<◌, ◌≤◌, ℕ, List, Option, IfOk, length};
 ghost use Rattle.std.specs.Io.KnownBytes.{append_known};
-ghost use Rattle.gg_build.specs.Build.{IsToRun};
+ghost use Rattle.gg_build.specs.Build.{IsOpeningOf, IsToRun};
+ghost use Rattle.gg_cut.specs.Listed.{listed_of};
+ghost use Rattle.gg_cut.specs.Machines.{first_tray};
 ghost use Rattle.gg_cut.specs.declared.plan.Plan.{Plan};
 ghost use Rattle.gg_io.specs.Count.{Rose};
 ghost use Rattle.gg_measure.specs.Nets.{AllStandAt};
@@ -11,7 +13,7 @@ ghost use Rattle.gg_told.specs.Endings.{Prints, PrintsOn};
 ghost use Rattle.gg_told.specs.WentOn.{SinkWentOn};
 ghost use Rattle.gg_trace.specs.Printing.{row_line};
 ghost use Rattle.gg_trace.specs.Table.{row_of};
-ghost use Rattle.gg_printed.specs.Printed.{StandsAt, shown_columns, text_to};
+ghost use Rattle.gg_printed.specs.Printed.{AreShown, RowsAreKept, StandsAt, shown_columns, text_to};
 
 use gg_build::{Node, build};
 use gg_cut::Plan;
@@ -91,6 +93,8 @@ fn print_windows<R: Threads + Sync, Z: Streams, K: Sink, G: Gate + Sync>(
         → length outs.old ≡ length run.design.circuit.outs
         → K.written out.old ≡ append_known base (text_to (plan_reference run.design run.request) ports.now run.rows 0)
         → Prints base (K.written out.new) (Rose (K.faults out.old) (K.faults out.new)) (text_to (plan_reference run.design run.request) ports.now run.rows n) result }
+    ensures kept { IfOk result (λ done. (plan : Plan) (columns : List (List ℕ)) (n : ℕ) (run : IsToRun plan columns n Z.flow) → IsOpeningOf plan columns n net.entry
+        → RowsAreKept net.entry (first_tray run.design.circuit (listed_of run.design.tree run.request)) n (shown_columns (plan_reference run.design run.request) ports.now run.rows)) }
     ensures out { SinkWentOn K.Sink out.old out.new }
 {
     let end = net.end();
@@ -102,6 +106,7 @@ fn print_windows<R: Threads + Sync, Z: Streams, K: Sink, G: Gate + Sync>(
             Ok(net) => net,
             Err(_) => return Err(Ending::NoMemory),
         };
+        net.kept();
         print_window(alloc, &net, ports, begun, upto, outs, out)?;
         begun = upto;
     }
@@ -110,7 +115,7 @@ fn print_windows<R: Threads + Sync, Z: Streams, K: Sink, G: Gate + Sync>(
 
 /// Prints the run of the reference circuit of a plan of the design from the plan's network: a header, and then the rows, a window
 /// at a time. The network is run by this many workers, and then by steps in the fixed order. The values of a row are those of the
-/// first out-signals, one for each port.
+/// first out-signals, one for each port. Host steps bring them to the trays of the plan's network, and bring no others there.
 ///
 /// # Errors
 ///
@@ -132,6 +137,8 @@ pub fn print_net<R: Threads + Sync, Z: Streams, K: Sink, G: Gate + Sync>(
     requires ports { length ports.now ≤ length design.now.circuit.outs }
     ensures prints { (run : IsToRun plan.now inputs.now.columns inputs.now.rows Z.flow) → run.design ≡ design.now
         → PrintsOn K.Sink out.old out.new (text_to (plan_reference run.design run.request) ports.now run.rows inputs.now.rows) result }
+    ensures kept { IfOk result (λ done. (run : IsToRun plan.now inputs.now.columns inputs.now.rows Z.flow) → run.design ≡ design.now
+        → AreShown plan.now inputs.now.columns inputs.now.rows (first_tray run.design.circuit (listed_of run.design.tree run.request)) (shown_columns (plan_reference run.design run.request) ports.now run.rows)) }
     ensures out { SinkWentOn K.Sink out.old out.new }
 {
     let mut outs = vec![in alloc; 0u128; design.piece().outs().len()]?;

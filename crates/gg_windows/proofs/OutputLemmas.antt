@@ -1,5 +1,5 @@
 -- The trays of a plan's network have the outputs of the reference circuit.
-use Rattle.std.proofs.Common.{◌≡◌, ℕ, ◌+◌, ◌-◌, ◌<◌, ◌≤◌, List, length, sym, ap, ◌∙◌, arith}
+use Rattle.std.proofs.Common.{◌≡◌, ℕ, ◌+◌, ◌-◌, ◌<◌, ◌≤◌, List, Some, length, sym, ap, ◌∙◌, arith}
 use Rattle.std.specs.Prelude.{Contains}
 use Rattle.std.proofs.lemmas.List.{get_or-map, length-map, ext_get_or}
 use Rattle.gg_flat.specs.Line.{value_at}
@@ -23,7 +23,7 @@ use Rattle.gg_routes.proofs.RoutedLemmas.{plan-routed}
 use Rattle.gg_pipe.specs.Links.{taken_as}
 use Rattle.gg_pipe.specs.Made.{plan_reference}
 use Rattle.gg_pipe.proofs.SolveLemmas.{plan-output-value}
-use Rattle.gg_node.specs.Machine.{KeepsLast, Machine, machine_at}
+use Rattle.gg_node.specs.Machine.{KeepsLast, Machine, kept_value, machine_at}
 use Rattle.gg_net.specs.Network.{Network, Frame, Kind, frame_of, kind_of, kind_at, wire_at}
 use Rattle.gg_net.specs.Kept.{Kept, list_at}
 use Rattle.gg_measure.specs.Nets.{AllStandAt}
@@ -32,8 +32,8 @@ use Rattle.gg_sound.proofs.FitLemmas.{kind-is}
 use Rattle.gg_sound.proofs.LinkLemmas.{length-from, wire-from}
 use Rattle.gg_sound.proofs.ListedLemmas.{taken-at}
 use Rattle.gg_build.specs.Build.{IsToRun, IsOpeningOf}
-use Rattle.gg_windows.specs.Rows.{IsNetOfPlan, outputs_in, told_value}
-use Rattle.gg_windows.proofs.TrayLemmas.{tray-tells}
+use Rattle.gg_windows.specs.Rows.{IsNetOfPlan, StillHas, outputs_in, told_value}
+use Rattle.gg_windows.proofs.TrayLemmas.{tray-keeps, tray-only, tray-tells}
 
 pub opening-is-net : (plan : Plan) (columns : List (List ℕ)) (n : ℕ) (net : Network) → IsOpeningOf plan columns n net → IsNetOfPlan plan columns n net
 opening-is-net plan columns n net is = record { machines = is.machines; built = is.built; frame = ap frame_of is.is }
@@ -138,24 +138,53 @@ module _ (plan : Plan) (columns : List (List ℕ)) (n : ℕ) (flow : Flow) (run 
   abbrev all : FlatCircuit
   all = plan_reference run.design run.request
 
-  -- what the tray of an output tells
-  tells : (k upto t : ℕ) → k < length outs → AllStandAt upto net → t < upto → upto ≤ t + tray_rows → told_value (machine_at net.machines (tray k)) t ≡ value_at (row_at run.rows t) (value_at all.outs k)
-  tells k upto t lt stand done near =
-      let m = tray k in
-      let there : m < length net.machines = omega (arith, lt, count) in
-      let found = tray-channel k lt in
-      let at = stand m there in
+  -- the values of its channel are those of the reference circuit's out-signal
+  carried : (k c t : ℕ) → k < length outs → IsTrayChannel k c → t < n → value_at (list_at flow.lists c) t ≡ value_at (row_at run.rows t) (value_at all.outs k)
+  carried k c t lt channel within =
+      ap (λ l. value_at l t) channel.list
+      ∙ plan-output-value run.design run.request run.default plan run.given.design_is run.given.keeps run.given.held run.given.faultless run.given.planned columns n run.rows run.given.given run.given.run k c t lt channel.routed channel.signal within
+
+  -- no machine is past the end
+  within-end : (m t : ℕ) → m < length net.machines → t < (machine_at net.machines m).cycle → t < n
+  within-end m t there done = omega (arith, done, (kept.machines m there).within, ap (λ (f : Frame). f.end) is.frame)
+
+  -- the tray of an output still has the values of a window at the end of which all machines stand
+  still-has : (k upto t : ℕ) (lt : k < length outs) → AllStandAt upto net → t < upto → upto ≤ t + tray_rows → StillHas net (tray k) (tray-channel k lt).0 flow.begin t
+  still-has k upto t lt stand done near =
+      let there : tray k < length net.machines = omega (arith, lt, count) in
+      let channel = (tray-channel k lt).1 in
+      let at = stand (tray k) there in
       let begin : flow.begin ≡ 0 = ap (λ (f : Flow). f.begin) run.flow_is in
-      let end : net.end ≡ n = ap (λ (f : Frame). f.end) is.frame in
-      let within : t < n = omega (arith, done, at, (kept.machines m there).within, end) in
-      tray-tells flow net m found.0 t kept
-      (record { there = there; known = found.1.known; taken = found.1.taken; rows = tray_rows; tray = behaves k lt; begun = omega (arith, begin); done = omega (arith, done, at); last = omega (arith, near, at) })
-      ∙ ap (λ l. value_at l t) found.1.list
-      ∙ plan-output-value run.design run.request run.default plan run.given.design_is run.given.keeps run.given.held run.given.faultless run.given.planned columns n run.rows run.given.given run.given.run k found.0 t lt found.1.routed found.1.signal within
+      record { there = there; known = channel.known; taken = channel.taken; rows = tray_rows; tray = behaves k lt; begun = omega (arith, begin); done = omega (arith, done, at); last = omega (arith, near, at) }
 
   -- the reference circuit has as many out-signals
   outs-count : length all.outs ≡ length outs
   outs-count = length-map outs (taken_as hub)
+
+  -- the value of an output in a row
+  output-is : (k t : ℕ) → k < length outs → value_at (outputs_in all run.rows t) k ≡ value_at (row_at run.rows t) (value_at all.outs k)
+  output-is k t lt = get_or-map (value_at (row_at run.rows t)) all.outs k 0 0 (omega (arith, lt, outs-count))
+
+  -- what the tray of an output keeps and tells of a cycle of such a window
+  pub keeps : (k upto t : ℕ) → k < length outs → AllStandAt upto net → t < upto → upto ≤ t + tray_rows → kept_value (machine_at net.machines (tray k)) t ≡ Some (value_at (outputs_in all run.rows t) k)
+  keeps k upto t lt stand done near =
+      let has = still-has k upto t lt stand done near in
+      let found = tray-channel k lt in
+      tray-keeps flow net (tray k) found.0 t kept has ∙ ap Some (carried k found.0 t lt found.1 (within-end (tray k) t has.there has.done) ∙ sym (output-is k t lt))
+
+  tells : (k upto t : ℕ) → k < length outs → AllStandAt upto net → t < upto → upto ≤ t + tray_rows → told_value (machine_at net.machines (tray k)) t ≡ value_at (outputs_in all run.rows t) k
+  tells k upto t lt stand done near =
+      let has = still-has k upto t lt stand done near in
+      let found = tray-channel k lt in
+      tray-tells flow net (tray k) found.0 t kept has ∙ carried k found.0 t lt found.1 (within-end (tray k) t has.there has.done) ∙ sym (output-is k t lt)
+
+  -- the tray of an output never keeps another value of a cycle
+  pub keeps-only : (k t value : ℕ) → k < length outs → kept_value (machine_at net.machines (tray k)) t ≡ Some value → value ≡ value_at (outputs_in all run.rows t) k
+  keeps-only k t value lt has =
+      let there : tray k < length net.machines = omega (arith, lt, count) in
+      let found = tray-channel k lt in
+      let told = tray-only flow net (tray k) found.0 tray_rows t value kept there found.1.known found.1.taken (behaves k lt) has in
+      told.1 ∙ carried k found.0 t lt found.1 (within-end (tray k) t there told.0) ∙ sym (output-is k t lt)
 
   pub outputs-are : (upto t : ℕ) (values : List ℕ) → length values ≡ length outs → AllStandAt upto net → t < upto → upto ≤ t + tray_rows
       → ((k : ℕ) → k < length values → value_at values k ≡ told_value (machine_at net.machines (length net.machines - length values + k)) t) → values ≡ outputs_in (plan_reference run.design run.request) run.rows t
@@ -164,4 +193,4 @@ module _ (plan : Plan) (columns : List (List ℕ)) (n : ℕ) (flow : Flow) (run 
       (λ k lt.
       let low : k < length outs = omega (arith, lt, same) in
       let place : length net.machines - length values + k ≡ tray k = omega (arith, count, same) in
-      told k lt ∙ ap (λ m. told_value (machine_at net.machines m) t) place ∙ tells k upto t low all_done done near ∙ sym (get_or-map (value_at (row_at run.rows t)) all.outs k 0 0 (omega (arith, low, outs-count))))
+      told k lt ∙ ap (λ m. told_value (machine_at net.machines m) t) place ∙ tells k upto t low all_done done near)

@@ -1,5 +1,6 @@
 use Rattle.std.proofs.Common.{◌≡◌, length, refl, ap, ◌∙◌, arith}
 use Rattle.std.specs.Io.KnownBytes.{append_known}
+use Rattle.std.proofs.lemmas.Result.{IfOk-weaker}
 use Rattle.gg_flat.specs.Circuit.{FlatCircuit}
 use Rattle.gg_order.specs.Design.{Ordered}
 use Rattle.gg_pipe.specs.Made.{plan_reference}
@@ -75,3 +76,10 @@ returns-clause-prints g c =
     let begins = c.in_ok-put.ensures.prints ∙ ap (append_known base) (c.as_bytes.ensures ∙ c.in_ok-header.ensures) in
     prints-more (Unit {0}) _ _ _ _ _ c.print_windows.result (rose-earlier _ _ _ c.put.ensures.out.faults_stay_or_rise)
     (c.print_windows.ensures.prints c.args.plan.now trace.columns trace.rows run base stands counted begins)
+
+pub returns-clause-kept : goal.returns-clause-kept
+returns-clause-kept g c =
+    let trace = c.args.inputs.now in
+    IfOk-weaker c.print_windows.result _ _
+    (λ done kept run same. record { opening = c.in_ok-net.net; opens = c.in_ok-net.ensures; kept = kept c.args.plan.now trace.columns trace.rows run c.in_ok-net.ensures })
+    c.print_windows.ensures.kept

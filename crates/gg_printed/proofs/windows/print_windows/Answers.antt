@@ -3,7 +3,7 @@ use Rattle.gg_told.specs.declared.endings.Ending.TheVariants.{NoMemory}
 use Rattle.gg_told.proofs.EndingLemmas.{exit-is}
 use Rattle.gg_windows.specs.Window.{window_end}
 use Rattle.gg_windows.proofs.FrameLemmas.{same-end, same-machines}
-use Rattle.gg_printed.proofs.WindowLemmas.{windows-end, windows-next, windows-start, windows-stop, windows-want}
+use Rattle.gg_printed.proofs.WindowLemmas.{windows-end, windows-kept, windows-next, windows-start, windows-stop, windows-want}
 use Rattle.gg_printed.proofs.windows.print_windows.Goals as goal
 
 pub loop-begun-init : goal.loop-begun-init
@@ -44,7 +44,7 @@ loop-begun-preserved g c =
     let more : c.loop-begun.begun < c.args.net.end = omega (arith, c.loop-begun-test.true, c.end-end.ensures) in
     let ends = c.window_end-upto.ensures ∙ ap (window_end c.loop-begun.begun) c.end-end.ensures in
     windows-next c.loop-begun.invariant c.in-Ok.net c.window_end-upto.result more ends c.in-Ok.ensures.within.frame c.in-Ok.ensures.there _ same
-    c.in_ok-print_window.field-0 c.print_window.new.out c.in_ok-print_window.ensures.prints c.print_window.ensures.out
+    c.in_ok-print_window.field-0 c.print_window.new.out c.in_ok-print_window.ensures.prints c.print_window.ensures.out c.kept.ensures
 
 pub loop-begun-smaller : goal.loop-begun-smaller
 loop-begun-smaller g c = omega (arith, c.loop-begun-test.true, c.window_end-upto.ensures)
@@ -53,3 +53,8 @@ pub returns-clause-prints : goal.returns-clause-prints
 returns-clause-prints g c =
     let past : c.args.net.end ≤ c.loop-begun.begun = omega (arith, c.loop-begun-test.false, c.end-end.ensures) in
     windows-end c.loop-begun.invariant {T = Unit {0}} tt past
+
+pub returns-clause-kept : goal.returns-clause-kept
+returns-clause-kept g c =
+    let past : c.args.net.end ≤ c.loop-begun.begun = omega (arith, c.loop-begun-test.false, c.end-end.ensures) in
+    λ plan columns n run opens. windows-kept c.loop-begun.invariant past plan columns n run opens
