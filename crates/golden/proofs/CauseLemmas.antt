@@ -4,6 +4,9 @@ use Rattle.std.specs.Prelude.{Result, Ok}
 use Rattle.gg_told.specs.Said.{Said}
 use Rattle.gg_told.specs.Order.{StopsAt, DueAt, IsDueAccepted, IsExact, IsJudgement}
 use Rattle.gg_told.specs.Ends.{Loads}
+use Rattle.gg_told.specs.Endings.{IfRefused}
+use Rattle.gg_told.specs.declared.endings.Ending.{Ending}
+use Rattle.gg_told.proofs.EndingLemmas.{IfRefused-map}
 use Rattle.gg_told.proofs.EndsLemmas.{WhyEnds, Stopped, Wrote, Failed, Wanted, SaysDue, complete-ends, due-ends, ends-why, unjudged-0, unjudged-2, unjudged-3, unjudged-4, unjudged-5, unjudged-8}
 use Rattle.gg_told.proofs.OrderLemmas.{Why, Lost, Cut, Judged, why-stops}
 use Rattle.gg_words.specs.Meaning as command_line
@@ -28,6 +31,11 @@ pub word-fault : (words : List (List ℕ)) (fault : WordFault) → fault ≢ wor
 word-fault words (word.Refused kind) some h = h
 word-fault words (word.WrongNumber value) some h = h
 word-fault words word.NoMemory some h = absurd (some refl)
+
+-- so what is reported for such a fault is reported for words that are no command
+pub refused-unasked : (words : List (List ℕ)) (fault : WordFault) (ending : Ending) → (fault ≢ word.NoMemory → (command : Cmd) → IsCommand words command → ⊥) → command_line.IfWordFault words fault
+    → IfRefused (λ said. (fault ≢ word.NoMemory) × TellsWords fault said) ending → IfRefused (λ said. (¬ AskForCommand words) × TellsUnasked words said) ending
+refused-unasked words fault ending none has = IfRefused-map (λ said h. ((λ asked. none h.0 asked.0 asked.1), (fault, word-fault words fault h.0 has, h.1))) ending
 
 -- what is reported for words that are no command has the status 2
 fault-status : (fault : WordFault) (said : Said) → TellsWords fault said → said.status ≡ 2

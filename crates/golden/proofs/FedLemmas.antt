@@ -1,12 +1,14 @@
 -- How the steps of a file end for what was read: the text that is printed is the only one, and what is reported is right.
 use Rattle.std.proofs.Common.{◌≡◌, ◌↔◌, ℕ, ◌+◌, ◌*◌, ◌<◌, ◌≤◌, List, length, refl, sym, ap, ◌∙◌, subst}
 use Rattle.std.specs.Prelude.{Option, Result, Ok}
+use Rattle.std.proofs.lemmas.List.{length-map}
 use Rattle.gg_flat.specs.Ports.{output_ports}
-use Rattle.gg_flat.specs.Run.{IsRun}
+use Rattle.gg_flat.specs.Run.{IsRun, column}
 use Rattle.gg_flat.specs.Scoped.{stop_signals}
 use Rattle.gg_flat.specs.declared.ports.Port.{Port}
 use Rattle.gg_order.specs.Design.{Ordered}
 use Rattle.gg_partfile.specs.declared.request.Request.{Request}
+use Rattle.gg_cut.specs.Direct.{plan_hub}
 use Rattle.gg_cut.specs.declared.plan.Plan.{Plan}
 use Rattle.gg_net.specs.declared.event.Event.{Event}
 use Rattle.gg_marking.specs.Fits.{marking_of}
@@ -14,6 +16,7 @@ use Rattle.gg_marking.specs.Marking.{Layout, Marking}
 use Rattle.gg_progress.specs.Measure.{all_dues}
 use Rattle.gg_paths.specs.Paths.{HavePaths}
 use Rattle.gg_paths.proofs.PortLemmas.{have-paths}
+use Rattle.gg_pipe.specs.Links.{taken_as}
 use Rattle.gg_pipe.specs.Made.{plan_reference}
 use Rattle.gg_sound.specs.Built.{IsGiven}
 use Rattle.gg_build.specs.Build.{reference_order, reference_rows}
@@ -26,15 +29,17 @@ use Rattle.gg_told.specs.Endings.{Prints, PrintsOrStops}
 use Rattle.gg_told.specs.declared.endings.Ending.{Ending}
 use Rattle.gg_told.proofs.EndingLemmas.{judged-map}
 use Rattle.gg_trace.specs.Fields.{text_lines}
-use Rattle.golden.specs.Case.{IsFed}
+use Rattle.golden.specs.Case.{AreFedToTrays, IsFed}
+use Rattle.golden.specs.Network.{IsNetworkText}
 use Rattle.golden.specs.Replay.{CanGoOn, GoesOnUntilAll, IsReplayText, IsReplayed, IsSetting, Setting, TellsSteps, all_steps, naming_of, replay_text, replayed}
 use Rattle.golden.specs.Replayed.{AreFewNames, IsNetText, IsToReplay, TellsStop, case_naming, fed_flow}
-use Rattle.gg_printed.specs.Printed.{text_to}
-use Rattle.golden.specs.RunText.{run_text}
+use Rattle.gg_printed.specs.Printed.{shown_columns, text_to}
+use Rattle.golden.specs.Run.{IsTextOf}
+use Rattle.golden.specs.RunText.{columns_of, outputs_kept, outputs_of, run_text}
 use Rattle.golden.specs.declared.case.Fed.{Fed}
 use Rattle.golden.proofs.CaseLemmas.{case-fresh, case-ordered}
 use Rattle.golden.proofs.OutputLemmas.{output-ports-count, output-ports-few}
-use Rattle.golden.proofs.PrintingLemmas.{outputs-print}
+use Rattle.golden.proofs.PrintingLemmas.{outputs-print, shown-kept}
 use Rattle.golden.proofs.FewLemmas.{few-names}
 use Rattle.golden.proofs.GoOnLemmas.{follows-few, line-follows}
 use Rattle.golden.proofs.PartitionLemmas.{DesignsAgree}
@@ -81,6 +86,19 @@ module _ (circuit partition trace : List ℕ) (capacity : ℕ) (fed : Fed) (is :
       let stops = stop_signals design.tree in
       outputs-print T before now failed r design request stops ports n is.case.keeps.scoped.outs e
       (ap (λ (l : List Port). length l) e ∙ output-ports-count design.circuit design.tree stops is.case.keeps.scoped.outs is.case.designed.formed) ran prints
+
+  -- their columns are those of the outputs, one for each port
+  pub fed-shown : (ports : List Port) (ran : List (List ℕ)) → ports ≡ output_ports fed.case.design.circuit fed.case.design.tree
+      → shown_columns (plan_reference fed.case.design fed.case.cut.request) ports ran ≡ columns_of (outputs_kept fed.case.design fed.case.cut.request) ran
+  fed-shown ports ran e =
+      let stops = stop_signals design.tree in
+      shown-kept design request stops ports is.case.keeps.scoped.outs
+      (ap (λ (l : List Port). length l) e ∙ output-ports-count design.circuit design.tree stops is.case.keeps.scoped.outs is.case.designed.formed) ran
+
+  pub fed-each : (ran : List (List ℕ)) → length (columns_of (outputs_kept fed.case.design fed.case.cut.request) ran) ≡ length (output_ports fed.case.design.circuit fed.case.design.tree)
+  fed-each ran =
+      length-map (outputs_kept design request) (column ran) ∙ length-map (outputs_of design.tree) (taken_as (plan_hub design.circuit design.tree request))
+      ∙ sym (output-ports-count design.circuit design.tree (stop_signals design.tree) is.case.keeps.scoped.outs is.case.designed.formed)
 
   -- there are no more such ports than out-signals
   pub fed-ports : (ports : List Port) → ports ≡ output_ports fed.case.design.circuit fed.case.design.tree → length ports ≤ length fed.case.design.circuit.outs
@@ -185,3 +203,35 @@ module _ (circuit partition trace : List ℕ) (capacity : ℕ) (fed : Fed) (is :
           judged-map text-so stop-so
           (subst (λ (x : Naming). PrintsOrStops out (IsNetText fed (fed_flow fed) (steps_of x steps)) (TellsStop fed (fed_flow fed) x (steps_of x steps)) r) (own ∙ named)
           (subst (λ (x : List (Option Event)). PrintsOrStops out (IsNetText fed (fed_flow fed) x) (TellsStop fed (fed_flow fed) naming x) r) spelt judged))
+
+-- ---- the text of the run
+
+-- what is printed of a run of what was read is a text of the run
+pub run-text-of : {circuit partition trace : List ℕ} {capacity : ℕ} {fed : Fed} → IsFed circuit partition trace capacity fed → (ran : List (List ℕ)) → IsRun (plan_reference fed.case.design fed.case.cut.request) fed.trace.columns fed.trace.rows ran
+    → IsTextOf circuit partition trace (run_text fed.case.design fed.case.cut.request ran fed.trace.rows)
+run-text-of {fed = fed} is ran run = (
+  fed.case.design,
+  is.case.means,
+  (fed.case.cut.request, is.case.cuts.asks, record { cycles = fed.trace.rows; columns = fed.trace.columns; rows = ran; feeds = is.feeds.feeds; run = run; is = refl }),
+)
+
+-- if its columns come to the trays, it is the text of the network
+pub network-text-of : {circuit partition trace : List ℕ} {capacity : ℕ} {fed : Fed} → IsFed circuit partition trace capacity fed → (ran : List (List ℕ)) → AreFedToTrays fed (columns_of (outputs_kept fed.case.design fed.case.cut.request) ran)
+    → IsNetworkText circuit partition trace capacity (run_text fed.case.design fed.case.cut.request ran fed.trace.rows)
+network-text-of {circuit = circuit} {partition = partition} {trace = trace} {capacity = capacity} {fed = fed} is ran kept =
+    record {
+      design = fed.case.design;
+      means = is.case.means;
+      designed = is.case.designed;
+      request = fed.case.cut.request;
+      cuts = is.case.cuts;
+      plan = fed.case.cut.plan;
+      planned = is.case.planned;
+      cycles = fed.trace.rows;
+      columns = fed.trace.columns;
+      feeds = is.feeds.feeds;
+      shown = columns_of (outputs_kept fed.case.design fed.case.cut.request) ran;
+      each = fed-each circuit partition trace capacity fed is ran;
+      kept = kept;
+      is = refl;
+    }

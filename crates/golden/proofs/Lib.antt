@@ -11,6 +11,8 @@ pub mod GoOnLemmas
 pub mod LineLemmas
 pub mod NamingLemmas
 pub mod NetLemmas
+pub mod NetworkLemmas
+pub mod OnlyLemmas
 pub mod OrderRows
 pub mod OutputLemmas
 pub mod PartitionLemmas

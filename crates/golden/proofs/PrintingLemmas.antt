@@ -119,16 +119,19 @@ module _ {K : Type 0} {circuit : FlatCircuit} {inputs : Table} {ports : List Por
       (subst (λ (x : List ℕ). IsFront x whole) (sym (trace_text-more ports (shown_columns circuit ports rows) t shown ((follows-so rows run).row (length ports)))) front)
       prints)
 
--- the first out-signals of the reference circuit have the values of the top's outputs, so what is printed for as many ports is
--- printed for these
+-- the first out-signals of the reference circuit have the values of the top's outputs
+pub shown-kept : (design : Ordered) (request : Request) (stops : List ℕ) (ports : List Port) → outputs_of design.tree ++ stops ≡ design.circuit.outs → length ports ≡ length (outputs_of design.tree) → (rows : List (List ℕ))
+    → shown_columns (plan_reference design request) ports rows ≡ columns_of (outputs_kept design request) rows
+shown-kept design request stops ports outs count rows =
+    let kept = taken_as (plan_hub design.circuit design.tree request) in
+    let first : take (length ports) design.circuit.outs ≡ outputs_of design.tree =
+    ap (λ k. take k design.circuit.outs) count ∙ ap (take (length (outputs_of design.tree))) (sym outs) ∙ take-append_seam (outputs_of design.tree) stops in
+    ap (λ (signals : List ℕ). columns_of signals rows) (take-map kept (length ports) design.circuit.outs ∙ ap (map kept) first)
+
+-- so what is printed for as many ports is printed for these
 pub outputs-print : (T : Type 0) (before now : Option (List ℕ)) (failed : Type 0) (r : Result T Ending) (design : Ordered) (request : Request) (stops : List ℕ) (ports : List Port) (n : ℕ)
     → outputs_of design.tree ++ stops ≡ design.circuit.outs → ports ≡ output_ports design.circuit design.tree → length ports ≡ length (outputs_of design.tree) → (rows : List (List ℕ))
     → Prints before now failed (text_to (plan_reference design request) ports rows n) r → Prints before now failed (run_text design request rows n) r
 outputs-print T before now failed r design request stops ports n outs f count rows prints =
-    let kept = taken_as (plan_hub design.circuit design.tree request) in
-    let first : take (length ports) design.circuit.outs ≡ outputs_of design.tree =
-    ap (λ k. take k design.circuit.outs) count ∙ ap (take (length (outputs_of design.tree))) (sym outs) ∙ take-append_seam (outputs_of design.tree) stops in
-    let shown : take (length ports) (plan_reference design request).outs ≡ outputs_kept design request =
-    take-map kept (length ports) design.circuit.outs ∙ ap (map kept) first in
-    subst (λ (signals : List ℕ). Prints before now failed (trace_text (output_ports design.circuit design.tree) (columns_of signals rows) n) r) shown
-    (subst (λ (p : List Port). Prints before now failed (trace_text p (columns_of (take (length ports) (plan_reference design request).outs) rows) n) r) f prints)
+    subst (λ (columns : List (List ℕ)). Prints before now failed (trace_text (output_ports design.circuit design.tree) columns n) r) (shown-kept design request stops ports outs count rows)
+    (subst (λ (p : List Port). Prints before now failed (trace_text p (shown_columns (plan_reference design request) ports rows) n) r) f prints)

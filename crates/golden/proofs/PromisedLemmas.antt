@@ -1,5 +1,5 @@
 -- What is promised of a call, clause by clause.
-use Rattle.std.proofs.Common.{◌≡◌, ◌≢◌, ℕ, List, ◌≤◌, length, refl, ap, sym, ◌∙◌, subst, inl, inr, ◌⊎◌}
+use Rattle.std.proofs.Common.{◌≡◌, ◌≢◌, ℕ, List, ◌≤◌, false, length, refl, ap, sym, ◌∙◌, subst, inl, inr, ◌⊎◌}
 use Rattle.std.specs.Prelude.{Option, Some, Err}
 use Rattle.std.specs.Io.KnownBytes.{append_known}
 use Rattle.std.proofs.lemmas.Option.{same_Some}
@@ -28,6 +28,7 @@ use Rattle.gg_words.specs.declared.command.Cmd.TheVariants.{Run, Replay, Check, 
 use Rattle.golden.specs.Commands.{Asked, asked_by, asking, order_behind, order_by, order_of, read_order, trace_of}
 use Rattle.golden.specs.Limits.{circuit_limit, partition_limit, steps_limit, trace_limit}
 use Rattle.golden.specs.Lines.{TellsUnread, partition_fault, trace_fault}
+use Rattle.golden.specs.Network.{RanNetwork}
 use Rattle.golden.specs.Outcome.{Answered}
 use Rattle.golden.specs.Partition.{HasFault, IsPartitionFor, TellsPartitionFor, partition_file_for}
 use Rattle.golden.specs.Promised.{Promised}
@@ -176,9 +177,12 @@ module _ {words : List (List ℕ)} {loads : Loads} {out err : Puts} {status : �
           (setting.design.circuit, is.means.means, (setting.cycles, setting.columns, is.feeds))
           (first-only loads.files (steps_file_for c p t capacity steps) _ s said ((((exact command).1 c).1 p).1 t).0 hs ls refuses (λ other h. (((unique command asked c).1 p).1 t).0 s other said h refuses)))
 
-    pub promised : OneMeaning → UniqueOrders → OneReading → Promised words loads out err status
-    promised once unique one = record {
+    pub promised : OneMeaning → UniqueOrders → OneReading
+        → ((circuit partition trace : List ℕ) (capacity workers : ℕ) → IsCommand words (Run circuit partition trace capacity workers false) → status ≡ 0 → RanNetwork loads out circuit partition trace capacity)
+        → Promised words loads out err status
+    promised once unique one network = record {
       outcome = a;
+      by_network = network;
       judged = judged;
       no_command = no_command;
       not_loaded = lost-3 loads out.failed words status a.text a.line caused;

@@ -5,6 +5,7 @@ pub mod Commands
 pub mod Demo
 pub mod Limits
 pub mod Lines
+pub mod Network
 pub mod Outcome
 pub mod Partition
 pub mod Promised

@@ -1,5 +1,5 @@
 -- What the program promises for each call: how it ends, why, and what has to be reported.
-use Rattle.std.specs.Prelude.{◌≡◌, ◌≢◌, ℕ, ◌≤◌, ◌⊎◌, Err, List, Some, length}
+use Rattle.std.specs.Prelude.{◌≡◌, ◌≢◌, ℕ, ◌≤◌, ◌⊎◌, Err, List, Some, false, length}
 use Rattle.gg_io.specs.Told.{Holds}
 use Rattle.gg_read.specs.Text.{HasReadFault}
 use Rattle.gg_read.specs.declared.text.ReadFault.{ReadFault}
@@ -16,10 +16,11 @@ use Rattle.gg_trace.specs.Trace.{IsFirstFault}
 use Rattle.gg_trace.specs.declared.faults.TraceFault.{TraceFault}
 use Rattle.gg_words.specs.Meaning.{IsCommand}
 use Rattle.gg_words.specs.declared.command.Cmd.{Cmd}
-use Rattle.gg_words.specs.declared.command.Cmd.TheVariants.{Replay}
+use Rattle.gg_words.specs.declared.command.Cmd.TheVariants.{Replay, Run}
 use Rattle.golden.specs.Commands.{Asked, asked_by, order_of, trace_of}
 use Rattle.golden.specs.Limits.{circuit_limit, partition_limit, steps_limit, trace_limit}
 use Rattle.golden.specs.Lines.{TellsUnread, partition_fault, trace_fault}
+use Rattle.golden.specs.Network.{RanNetwork}
 use Rattle.golden.specs.Outcome.{Answered}
 use Rattle.golden.specs.Partition.{HasFault, IsPartitionFor}
 use Rattle.golden.specs.Replay.{IsSetting, Setting, replayed, stopped_said}
@@ -31,6 +32,10 @@ pub record Promised (words : List (List ℕ)) (loads : Loads) (out err : Puts) (
   -- The headline: status, text and line are an outcome of the words and the files. At status 0 the text is that of the
   -- reference circuit's run, of the marking that the steps lead to, of the cut, or of the demo, and there is no other.
   pub outcome : Answered words loads out err status
+  -- `run` without `--mono`: at status 0 the text is also that of the network of the cut, for the same bytes of the files, and the
+  -- network has no other. It isn't claimed of a call with `--mono`.
+  pub by_network : (circuit partition trace : List ℕ) (capacity workers : ℕ) → IsCommand words (Run circuit partition trace capacity workers false) → status ≡ 0
+      → RanNetwork loads out circuit partition trace capacity
   -- The cause of each status. For a fault of a file, and for words that aren't a command, it also gives the line.
   pub judged : IsJudgement status
       → (command : Cmd) × IsCommand words command × ((said : Said) × StopsAt loads.files ⊥ ⊥ (order_of command) said × Tells err status said)

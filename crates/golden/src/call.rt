@@ -1,7 +1,9 @@
 //! The top call.
-ghost use Rattle.std.specs.Prelude.{◌≡◌, ℕ, List};
+ghost use Rattle.std.specs.Prelude.{◌≡◌, ℕ, List, false};
 ghost use Rattle.gg_words.specs.Meaning as command_line;
 ghost use Rattle.gg_words.specs.Meaning.{texts};
+ghost use Rattle.gg_words.specs.declared.command.Cmd.TheVariants.{Run};
+ghost use Rattle.golden.specs.Network.{RanNetwork};
 ghost use Rattle.golden.specs.Outcome.{CallEnded, Answered};
 ghost use Rattle.gg_told.specs.Endings.{said_by};
 ghost use Rattle.gg_told.specs.Ends.{Reports, loads_of, puts_of};
@@ -31,6 +33,8 @@ fn do_command<R: Threads + Sync, S: Shelf, K: Sink, G: Gate + Sync>(
 ) -> Result<(), Ending>
     requires { (words : List (List ℕ)) × command_line.IsCommand words cmd.now }
     ensures ended { (words : List (List ℕ)) → command_line.IsCommand words cmd.now → CallEnded words (loads_of S.Shelf shelf.old shelf.new) (puts_of K.Sink out.old out.new) result }
+    ensures network { (circuit partition trace : List ℕ) (capacity workers : ℕ) → cmd.now ≡ Run circuit partition trace capacity workers false → (said_by result).status ≡ 0
+        → RanNetwork (loads_of S.Shelf shelf.old shelf.new) (puts_of K.Sink out.old out.new) circuit partition trace capacity }
     ensures shelf { ShelfWentOn S.Shelf shelf.old shelf.new }
     ensures out { SinkWentOn K.Sink out.old out.new }
 {
@@ -102,6 +106,8 @@ fn command<R: Threads + Sync, S: Shelf, K: Sink, G: Gate + Sync>(
     gate: &G,
 ) -> Result<(), Ending>
     ensures ended { CallEnded (texts given.now) (loads_of S.Shelf shelf.old shelf.new) (puts_of K.Sink out.old out.new) result }
+    ensures network { (circuit partition trace : List ℕ) (capacity workers : ℕ) → command_line.IsCommand (texts given.now) (Run circuit partition trace capacity workers false) → (said_by result).status ≡ 0
+        → RanNetwork (loads_of S.Shelf shelf.old shelf.new) (puts_of K.Sink out.old out.new) circuit partition trace capacity }
     ensures shelf { ShelfWentOn S.Shelf shelf.old shelf.new }
     ensures out { SinkWentOn K.Sink out.old out.new }
 {
@@ -135,6 +141,8 @@ fn answer<R: Threads + Sync, S: Shelf, K: Sink, E: Sink, G: Gate + Sync>(
     gate: &G,
 ) -> u8
     ensures answered { Answered (texts words.now) (loads_of S.Shelf shelf.old shelf.new) (puts_of K.Sink out.old out.new) (puts_of E.Sink err.old err.new) result }
+    ensures network { (circuit partition trace : List ℕ) (capacity workers : ℕ) → command_line.IsCommand (texts words.now) (Run circuit partition trace capacity workers false) → result ≡ 0
+        → RanNetwork (loads_of S.Shelf shelf.old shelf.new) (puts_of K.Sink out.old out.new) circuit partition trace capacity }
     ensures shelf { ShelfWentOn S.Shelf shelf.old shelf.new }
     ensures out { SinkWentOn K.Sink out.old out.new }
     ensures err { SinkWentOn E.Sink err.old err.new }

@@ -18,6 +18,9 @@
 //!   (`IsCutTextOf`), for the summary of a demo (`IsDemoText`), and for the text of the marking that the steps lead to
 //!   (`IsReplayOf`). The tokens of each
 //!   channel are the first values of its signal in that run, behind the 0 of a pipe.
+//! - `by_network`: the text that `run` wrote without `--mono`, with status 0, is also that of the network of the cut (`IsNetworkText`). Host
+//!   steps bring its rows to the trays of the top's outputs, and bring no others there, in whatever order they are done. So the network
+//!   has no other text. This isn't claimed of `--mono`.
 //! - Causes (`judged`, `no_command`, `not_loaded`, `not_written`, `over`): each status except 0 and 5 has its reason. A
 //!   load or a put that failed is counted by its shelf or output. `nothing_written`: a refusal leaves `out` as it was.
 //! - Faults are reported (`unasked`, `due`, `unread`, `partitioned`, `traced`, `stepped`): words that aren't a command

@@ -1,15 +1,17 @@
 //! The command `run`.
-ghost use Rattle.std.specs.Prelude.{◌≤◌, ℕ, List};
+ghost use Rattle.std.specs.Prelude.{◌≡◌, ◌≤◌, ℕ, List, false};
 ghost use Rattle.gg_words.specs.Range.{IsCapacity};
 ghost use Rattle.golden.specs.Commands.{asking, fed_order};
-ghost use Rattle.gg_told.specs.Endings.{EndedOn};
+ghost use Rattle.gg_told.specs.Endings.{EndedOn, said_by};
 ghost use Rattle.gg_told.specs.Order.{Write};
 ghost use Rattle.golden.specs.Run.{IsTextOf};
-ghost use Rattle.golden.specs.Case.{IsFed, PrintsFed};
+ghost use Rattle.golden.specs.Case.{IsFed, PrintsFed, PrintsFedByNetwork};
+ghost use Rattle.golden.specs.Network.{RanNetwork};
 ghost use Rattle.gg_told.specs.Ends.{loads_of, puts_of};
 ghost use Rattle.gg_told.specs.WentOn.{ShelfWentOn, SinkWentOn};
 
 use crate::case::{Fed, read_fed};
+use crate::laws::refusals_are_exact;
 use crate::printing::print_run;
 use crate::windows::print_fed;
 use gg_flat::run_once;
@@ -32,6 +34,7 @@ fn print_text<R: Threads + Sync, K: Sink, G: Gate + Sync>(
     requires fed { (circuit : List ℕ) × (partition : List ℕ) × (trace : List ℕ) × (capacity : ℕ) × IsFed circuit partition trace capacity fed.now }
     requires few { workers ≤ 64 }
     ensures prints { PrintsFed K.Sink out.old out.new fed.now result }
+    ensures network { mono ≡ false → PrintsFedByNetwork K.Sink out.old out.new fed.now result }
     ensures out { SinkWentOn K.Sink out.old out.new }
 {
     if mono {
@@ -59,11 +62,13 @@ pub(crate) fn run<R: Threads + Sync, S: Shelf, K: Sink, G: Gate + Sync>(
     requires capacity { IsCapacity capacity }
     requires few { workers ≤ 64 }
     ensures ended { EndedOn (loads_of S.Shelf shelf.old shelf.new) (puts_of K.Sink out.old out.new) (fed_order (asking circuit.now partition.now capacity) trace.now (λ c p t. Write (IsTextOf c p t))) result }
+    ensures network { mono ≡ false → (said_by result).status ≡ 0 → RanNetwork (loads_of S.Shelf shelf.old shelf.new) (puts_of K.Sink out.old out.new) circuit.now partition.now trace.now capacity }
     ensures shelf { ShelfWentOn S.Shelf shelf.old shelf.new }
     ensures out { SinkWentOn K.Sink out.old out.new }
 {
     one_meaning();
     run_once();
+    refusals_are_exact();
     let fed = read_fed(alloc, shelf, circuit, partition, trace, capacity)?;
     print_text(rt, alloc, &fed, workers, mono, out, gate)
 }

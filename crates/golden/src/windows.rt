@@ -1,10 +1,12 @@
 //! Printing of the run of a circuit from the network of a plan.
-ghost use Rattle.std.specs.Prelude.{◌≡◌, ◌≤◌, ℕ, List, length};
+ghost use Rattle.std.specs.Prelude.{◌≡◌, ◌≤◌, ℕ, List, IfOk, length};
+ghost use Rattle.gg_cut.specs.Listed.{listed_of};
+ghost use Rattle.gg_cut.specs.Machines.{first_tray};
 ghost use Rattle.gg_pipe.specs.Made.{plan_reference};
-ghost use Rattle.gg_printed.specs.Printed.{text_to};
+ghost use Rattle.gg_printed.specs.Printed.{AreShown, shown_columns, text_to};
 ghost use Rattle.gg_told.specs.Endings.{PrintsOn};
 ghost use Rattle.gg_told.specs.WentOn.{SinkWentOn};
-ghost use Rattle.golden.specs.Case.{IsFed, PrintsFed};
+ghost use Rattle.golden.specs.Case.{IsFed, PrintsFedByNetwork};
 ghost use Rattle.golden.specs.Replayed.{IsToReplay};
 
 use crate::case::Fed;
@@ -33,6 +35,8 @@ fn print_flow<R: Threads + Sync, Z: Streams, K: Sink, G: Gate + Sync>(
     requires ports { length ports.now ≤ length fed.now.case.design.circuit.outs }
     ensures prints { (run : IsToReplay fed.now Z.flow) → run.design ≡ fed.now.case.design
         → PrintsOn K.Sink out.old out.new (text_to (plan_reference run.design run.request) ports.now run.rows fed.now.trace.rows) result }
+    ensures kept { IfOk result (λ done. (run : IsToReplay fed.now Z.flow) → run.design ≡ fed.now.case.design
+        → AreShown fed.now.case.cut.plan fed.now.trace.columns fed.now.trace.rows (first_tray run.design.circuit (listed_of run.design.tree run.request)) (shown_columns (plan_reference run.design run.request) ports.now run.rows)) }
     ensures out { SinkWentOn K.Sink out.old out.new }
 {
     let case = &fed.case;
@@ -50,7 +54,7 @@ fn print_flow<R: Threads + Sync, Z: Streams, K: Sink, G: Gate + Sync>(
 }
 
 /// Prints the run of a design on a trace, with its pipes, from the network of the plan: the top's outputs, cycle by cycle. The
-/// network is run by this many workers.
+/// network is run by this many workers. Host steps bring the rows to its trays.
 pub(crate) fn print_fed<R: Threads + Sync, K: Sink, G: Gate + Sync>(
     rt: &R,
     alloc: Global,
@@ -61,7 +65,7 @@ pub(crate) fn print_fed<R: Threads + Sync, K: Sink, G: Gate + Sync>(
 ) -> Result<(), Ending>
     requires fed { (circuit : List ℕ) × (partition : List ℕ) × (trace : List ℕ) × (capacity : ℕ) × IsFed circuit partition trace capacity fed.now }
     requires few { workers ≤ 64 }
-    ensures prints { PrintsFed K.Sink out.old out.new fed.now result }
+    ensures prints { PrintsFedByNetwork K.Sink out.old out.new fed.now result }
     ensures out { SinkWentOn K.Sink out.old out.new }
 {
     let ports = top_ports(alloc, &fed.case.design)?;

@@ -1,9 +1,10 @@
 use Rattle.std.proofs.Common.{subst}
 use Rattle.std.specs.Prelude.{◌≡◌}
 use Rattle.gg_words.specs.Range.{AreInRange}
-use Rattle.gg_words.specs.declared.command.Cmd.TheVariants.{Run, Replay, Check, Demo}
+use Rattle.gg_words.specs.declared.command.Cmd.TheVariants.{Run, Replay, Check}
 use Rattle.golden.proofs.CallLemmas.{asked-ends}
 use Rattle.golden.proofs.DemoLemmas.{demo-ends}
+use Rattle.golden.proofs.NetworkLemmas.{ran-by}
 use Rattle.golden.proofs.call.do_command.Goals as goal
 
 pub run-requires-clause-capacity : goal.run-requires-clause-capacity
@@ -56,3 +57,21 @@ returns-in-Check-clause-ended g c = λ words asks.
 
 pub returns-in-Demo-clause-ended : goal.returns-in-Demo-clause-ended
 returns-in-Demo-clause-ended g c = λ words asks. asked-ends c.in-Demo.is asks (demo-ends c.demo.ensures.ended)
+
+pub returns-in-Run-clause-network : goal.returns-in-Run-clause-network
+returns-in-Run-clause-network g c =
+    let p = c.as_str.ensures in
+    let q = c.as_str-in-Run.ensures in
+    let r = c.as_str-in-Run-2.ensures in
+    let is = c.in-Run.is in
+    let e : c.args.cmd.now ≡ Run c.as_str.result.now c.as_str-in-Run.result.now c.as_str-in-Run-2.result.now c.in-Run.capacity c.in-Run.workers c.in-Run.mono = cc in
+    ran-by e c.run.ensures.network
+
+pub returns-in-Replay-clause-network : goal.returns-in-Replay-clause-network
+returns-in-Replay-clause-network g c = λ circuit partition trace capacity workers asked. let is = c.in-Replay.is in absurd (cc)
+
+pub returns-in-Check-clause-network : goal.returns-in-Check-clause-network
+returns-in-Check-clause-network g c = λ circuit partition trace capacity workers asked. let is = c.in-Check.is in absurd (cc)
+
+pub returns-in-Demo-clause-network : goal.returns-in-Demo-clause-network
+returns-in-Demo-clause-network g c = λ circuit partition trace capacity workers asked. let is = c.in-Demo.is in absurd (cc)

@@ -1,7 +1,9 @@
-use Rattle.std.proofs.Common.{refl}
+use Rattle.std.proofs.Common.{refl, subst}
+use Rattle.std.proofs.lemmas.Result.{IfOk-weaker}
 use Rattle.gg_told.proofs.EndingLemmas.{exit-is}
 use Rattle.gg_told.proofs.WritingLemmas.{none-front}
-use Rattle.golden.proofs.FedLemmas.{fed-ports, fed-prints, own-run, to-replay}
+use Rattle.golden.specs.Case.{AreFedToTrays}
+use Rattle.golden.proofs.FedLemmas.{fed-ports, fed-prints, fed-shown, own-run, to-replay}
 use Rattle.golden.proofs.windows.print_fed.Goals as goal
 
 pub top_ports-requires : goal.top_ports-requires
@@ -18,11 +20,16 @@ print_flow-requires-clause-ports g c κs within =
 pub returns-in_err-ports-clause-prints : goal.returns-in_err-ports-clause-prints
 returns-in_err-ports-clause-prints g c =
     let r = c.requires.fed in
-    rw (exit-is c.from_residual.ensures.1) (_, own-run r.0 r.1 r.2 r.3 c.args.fed.now r.4, none-front _ _ _ refl)
+    rw (exit-is c.from_residual.ensures.1) (_, own-run r.0 r.1 r.2 r.3 c.args.fed.now r.4, none-front _ _ _ refl, tt)
 
 pub returns-clause-prints : goal.returns-clause-prints
 returns-clause-prints g c =
     let r = c.requires.fed in
     let fed = c.args.fed.now in
     let run = to-replay r.0 r.1 r.2 r.3 fed r.4 in
-    (run.rows, run.given.run, fed-prints r.0 r.1 r.2 r.3 fed r.4 _ _ _ c.print_flow.result c.in_ok-ports.ports run.rows c.in_ok-ports.ensures (c.print_flow.ensures.prints run refl))
+    let shown = fed-shown r.0 r.1 r.2 r.3 fed r.4 c.in_ok-ports.ports run.rows c.in_ok-ports.ensures in (
+      run.rows,
+      run.given.run,
+      fed-prints r.0 r.1 r.2 r.3 fed r.4 _ _ _ c.print_flow.result c.in_ok-ports.ports run.rows c.in_ok-ports.ensures (c.print_flow.ensures.prints run refl),
+      IfOk-weaker c.print_flow.result _ _ (λ done kept. subst (AreFedToTrays fed) shown (kept run refl)) c.print_flow.ensures.kept,
+    )

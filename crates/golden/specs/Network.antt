@@ -1,0 +1,54 @@
+-- What the network of a cut prints: the text of what its trays get.
+-- Sources: MEMOCODE 2009 (the k-th token of each queue is the value of its signal in cycle k, in whatever order the nodes go on);
+-- ICCAD 2019 (sinks at the outputs of a target). The text is this program's own.
+use Rattle.std.specs.Prelude.{◌≡◌, ℕ, List, length}
+use Rattle.std.specs.Io.KnownBytes.{append_known}
+use Rattle.gg_flat.specs.Ports.{output_ports}
+use Rattle.gg_front.specs.Meaning.{MeansDesign}
+use Rattle.gg_order.specs.Design.{IsDesign, Ordered}
+use Rattle.gg_partfile.specs.declared.request.Request.{Request}
+use Rattle.gg_cut.specs.Listed.{listed_of}
+use Rattle.gg_cut.specs.Machines.{first_tray}
+use Rattle.gg_cut.specs.Plan.{IsPlan}
+use Rattle.gg_cut.specs.declared.plan.Plan.{Plan}
+use Rattle.gg_printed.specs.Printed.{AreShown}
+use Rattle.gg_trace.specs.Printing.{trace_text}
+use Rattle.gg_told.specs.Ends.{Loads, Puts}
+use Rattle.gg_told.specs.Order.{CanBe, IsOnly}
+use Rattle.golden.specs.Partition.{Cuts, partition_file_for}
+use Rattle.golden.specs.Run.{IsTextOf, circuit_file, trace_file_for}
+use Rattle.golden.specs.RunText.{Feeds}
+
+-- The text of the network of a cut. The bytes of a circuit, a partition and a trace mean a design, a request and columns for some
+-- cycles, and the network is that of the request's plan, with this capacity of the channels that the request doesn't name. The text
+-- is a header, and a row for each cycle: the values of that cycle that host steps bring to the trays of the top's outputs. No
+-- other values come there, whatever steps are done. The circuit's run isn't spoken of.
+pub record IsNetworkText (circuit partition trace : List ℕ) (capacity : ℕ) (text : List ℕ) : Type 0 where
+  pub design : Ordered
+  pub means : MeansDesign circuit design
+  pub designed : IsDesign design
+  pub request : Request
+  pub cuts : Cuts design partition request
+  pub plan : Plan
+  pub planned : IsPlan design request capacity plan
+  pub cycles : ℕ
+  pub columns : List (List ℕ)
+  pub feeds : Feeds design.circuit trace cycles columns
+  pub shown : List (List ℕ)
+  pub each : length shown ≡ length (output_ports design.circuit design.tree)
+  pub kept : AreShown plan columns cycles (first_tray design.circuit (listed_of design.tree request)) shown
+  pub is : text ≡ trace_text (output_ports design.circuit design.tree) shown cycles
+
+-- The files of a circuit, a partition and a trace can have some bytes whose run has a text that was written. It is also the text
+-- of the network of their cut, and the only one.
+pub record RanNetwork (loads : Loads) (out : Puts) (circuit partition trace : List ℕ) (capacity : ℕ) : Type 0 where
+  pub circuit_bytes : List ℕ
+  pub partition_bytes : List ℕ
+  pub trace_bytes : List ℕ
+  pub at_circuit : CanBe loads.files (circuit_file circuit) circuit_bytes
+  pub at_partition : CanBe loads.files (partition_file_for circuit_bytes partition) partition_bytes
+  pub at_trace : CanBe loads.files (trace_file_for circuit_bytes trace) trace_bytes
+  pub text : List ℕ
+  pub written : out.after ≡ append_known out.before text
+  pub of_run : IsTextOf circuit_bytes partition_bytes trace_bytes text
+  pub of_network : IsOnly (IsNetworkText circuit_bytes partition_bytes trace_bytes capacity) text
