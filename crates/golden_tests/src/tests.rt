@@ -9,6 +9,7 @@ mod partitions;
 mod refusals;
 mod traces;
 mod windows;
+mod workers;
 
 use golden_calls::Answer;
 use std::process::Abort;

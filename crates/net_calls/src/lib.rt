@@ -1,14 +1,16 @@
-//! Networks from texts, for tests: circuits, partitions and traces, read. It promises nothing: the
+//! Networks from texts, for tests: circuits, partitions and traces, read; and a gate at which two workers meet. It promises nothing: the
 //! contracts of the crates below say what each call does.
 //!
 //! A value of a design or a plan makes a proof long: it is dropped once for each way out of the function that owns it. So a function that
 //! owns one has a single way out, and all others take references.
 #![tactic(auto)]
 
+mod meeting;
 mod networks;
 mod reading;
 mod texts;
 
+pub use meeting::Meeting;
 pub use networks::{is_at_most, keeps};
 pub use reading::{design_of, inputs_of, request_of};
 pub use texts::{
