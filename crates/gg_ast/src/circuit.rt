@@ -17,13 +17,26 @@ use std::marker::Model;
 ///
 /// It is built row by row, beginning with the header. If an allocation fails in a call that adds something, the circuit
 /// stays as it was.
-#[derive(Debug, Drop)]
 pub struct Circuit {
     line: u64,
     name: Name,
     modules: Vec<Module>,
     // Each name of a module, and the place of the first module that has it.
     places: IndexMap<String, usize>,
+}
+
+impl Drop for Circuit {
+    fn drop(self) {
+        let Self {
+            line: _,
+            name,
+            modules,
+            places,
+        } = self;
+        drop(name);
+        drop(modules);
+        drop(places);
+    }
 }
 
 impl Model for Circuit {

@@ -3,7 +3,7 @@ use gg_bits::{Kind, Name, Op1, Op2, OpN};
 use std::marker::Model;
 
 /// A reference, of one to three names with dots between them (FIRRTL Specification, "References", "Sub-fields").
-#[derive(Debug, Drop)]
+#[derive(Drop)]
 pub enum Reference {
     /// `x`: a port, wire, register or node of the module.
     Local(Name),
@@ -14,7 +14,7 @@ pub enum Reference {
 }
 
 /// The radix of a literal's digits.
-#[derive(Clone, Copy, Debug, PartialEq, Eq)]
+#[derive(Clone, Copy, PartialEq, Eq)]
 pub enum Radix {
     /// A text that begins with `b`.
     Binary,
@@ -27,7 +27,6 @@ pub enum Radix {
 }
 
 /// A literal as it is written: `UInt<8>("h-3")` or `SInt<4>(-3)`. Whether its value fits is not checked here.
-#[derive(Debug, Drop)]
 pub struct Literal {
     /// Whether it is a `UInt` or an `SInt`.
     pub kind: Kind,
@@ -41,10 +40,23 @@ pub struct Literal {
     pub digits: Name,
 }
 
+impl Drop for Literal {
+    fn drop(self) {
+        let Self {
+            kind: _,
+            width: _,
+            radix: _,
+            negative: _,
+            digits,
+        } = self;
+        drop(digits);
+    }
+}
+
 /// An expression. It is on the line of its statement, or of the reset that it belongs to. A contract sees it as a
 /// `Term`, so two expressions are equal where their terms are.
 #[cycle(expression)]
-#[derive(Debug, Drop)]
+#[derive(Drop)]
 pub struct Expr {
     /// Its operation or its leaf.
     pub kind: ExprKind,
@@ -52,7 +64,7 @@ pub struct Expr {
 
 /// The operation of an expression with its operands, or a leaf.
 #[cycle(expression)]
-#[derive(Debug, Drop)]
+#[derive(Drop)]
 pub enum ExprKind {
     /// A reference to a named signal.
     Named(Reference),

@@ -8,7 +8,7 @@ use std::alloc::{AllocError, Global};
 use std::marker::Model;
 
 /// The direction of a port.
-#[derive(Clone, Copy, Debug, PartialEq, Eq)]
+#[derive(Clone, Copy, PartialEq, Eq)]
 pub enum Direction {
     /// `input`.
     Input,
@@ -17,7 +17,7 @@ pub enum Direction {
 }
 
 /// A type as it is written (FIRRTL Specification, "Ground Types"): any width that a `u32` holds.
-#[derive(Clone, Copy, Debug, PartialEq, Eq)]
+#[derive(Clone, Copy, PartialEq, Eq)]
 pub enum GroundType {
     /// `UInt<WIDTH>`.
     UInt(u32),
@@ -28,7 +28,6 @@ pub enum GroundType {
 }
 
 /// A port, with its line.
-#[derive(Debug, Drop)]
 pub struct Port {
     /// The line of the port, counted from 1.
     pub line: u64,
@@ -40,13 +39,38 @@ pub struct Port {
     pub ty: GroundType,
 }
 
+impl Drop for Port {
+    fn drop(self) {
+        let Self {
+            line: _,
+            name,
+            direction: _,
+            ty: _,
+        } = self;
+        drop(name);
+    }
+}
+
 /// A module: its name, its ports and its statements in the order of the file. A contract sees it as a `ModuleTree`.
-#[derive(Debug, Drop)]
 pub struct Module {
     line: u64,
     name: Name,
     ports: Vec<Port>,
     statements: Vec<Stmt>,
+}
+
+impl Drop for Module {
+    fn drop(self) {
+        let Self {
+            line: _,
+            name,
+            ports,
+            statements,
+        } = self;
+        drop(name);
+        drop(ports);
+        drop(statements);
+    }
 }
 
 impl Model for Module {

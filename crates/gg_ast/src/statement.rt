@@ -9,12 +9,18 @@ use std::alloc::{AllocError, Global};
 use std::marker::Model;
 
 /// A statement, with the line on which it begins, counted from 1.
-#[derive(Debug, Drop)]
 pub struct Stmt {
     /// The line on which the statement begins.
     pub line: u64,
     /// What it says.
     pub kind: StmtKind,
+}
+
+impl Drop for Stmt {
+    fn drop(self) {
+        let Self { line: _, kind } = self;
+        drop(kind);
+    }
 }
 
 impl Stmt {
@@ -31,7 +37,7 @@ impl Stmt {
 }
 
 /// What a statement says.
-#[derive(Debug, Drop)]
+#[derive(Drop)]
 pub enum StmtKind {
     /// `wire NAME : TYPE`.
     Wire {
@@ -87,7 +93,6 @@ pub enum StmtKind {
 }
 
 /// A register's reset: if the condition is 1 the register takes the initial value.
-#[derive(Debug, Drop)]
 pub struct Reset {
     /// The line of the reset: the register's own, or a later one if the reset has a line of its own.
     pub line: u64,
@@ -97,8 +102,19 @@ pub struct Reset {
     pub init: Expr,
 }
 
+impl Drop for Reset {
+    fn drop(self) {
+        let Self {
+            line: _,
+            condition,
+            init,
+        } = self;
+        drop(condition);
+        drop(init);
+    }
+}
+
 /// A field of a memory, with its line.
-#[derive(Debug, Drop)]
 pub struct Field {
     /// The line of the field.
     pub line: u64,
@@ -106,8 +122,15 @@ pub struct Field {
     pub kind: MemoryField,
 }
 
+impl Drop for Field {
+    fn drop(self) {
+        let Self { line: _, kind } = self;
+        drop(kind);
+    }
+}
+
 /// What a field of a memory says.
-#[derive(Debug, Drop)]
+#[derive(Drop)]
 pub enum MemoryField {
     /// `data-type => TYPE`.
     DataType(GroundType),
@@ -126,7 +149,7 @@ pub enum MemoryField {
 }
 
 /// What a reader of latency 1 gives if a writer writes the same word in the same cycle.
-#[derive(Clone, Copy, Debug, PartialEq, Eq)]
+#[derive(Clone, Copy, PartialEq, Eq)]
 pub enum ReadUnderWrite {
     /// The word before the write.
     Old,
@@ -150,7 +173,7 @@ pub enum Report {
 }
 
 /// An argument of such a statement.
-#[derive(Debug, Drop)]
+#[derive(Drop)]
 pub enum Argument {
     /// An expression.
     Value(Expr),
@@ -159,9 +182,15 @@ pub enum Argument {
 }
 
 /// The arguments of such a statement, in order. A contract sees them as their list.
-#[derive(Debug, Drop)]
 pub struct Arguments {
     items: Vec<Argument>,
+}
+
+impl Drop for Arguments {
+    fn drop(self) {
+        let Self { items } = self;
+        drop(items);
+    }
 }
 
 impl Model for Arguments {
@@ -204,9 +233,15 @@ impl Arguments {
 }
 
 /// The fields of a memory, in the order of the file. A contract sees them as their list.
-#[derive(Debug, Drop)]
 pub struct Fields {
     items: Vec<Field>,
+}
+
+impl Drop for Fields {
+    fn drop(self) {
+        let Self { items } = self;
+        drop(items);
+    }
 }
 
 impl Model for Fields {

@@ -10,9 +10,16 @@ use std::marker::Model;
 /// A list. A contract sees it as the list of its items.
 ///
 /// It is made from a `Vec` and returns it, without allocating.
-#[derive(Debug, Drop)]
+#[derive(Debug)]
 pub struct Items<T> {
     items: Vec<T>,
+}
+
+impl<T: Drop> Drop for Items<T> {
+    fn drop(self) {
+        let Self { items } = self;
+        drop(items);
+    }
 }
 
 /// A list of names. A contract sees it as the list of their bytes.

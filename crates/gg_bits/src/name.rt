@@ -17,9 +17,15 @@ use std::marker::Model;
 /// A text: a name, a path or a line. A contract sees it as its bytes, so two names are equal where their bytes are.
 ///
 /// It is made from a `String` and returns it, without allocating. Names are ordered by their bytes.
-#[derive(Drop)]
 pub struct Name {
     text: String,
+}
+
+impl Drop for Name {
+    fn drop(self) {
+        let Self { text } = self;
+        drop(text);
+    }
 }
 
 impl Model for Name {

@@ -15,7 +15,7 @@ pub enum Kind {
 }
 
 /// A ground type: a kind, and a width of 1 to 128 bits.
-#[derive(Clone, Copy, Debug, PartialEq, Eq, Hash)]
+#[derive(Clone, Copy, PartialEq, Eq, Hash)]
 pub struct Ty {
     /// Whether values are signed.
     pub kind: Kind,
@@ -26,7 +26,7 @@ pub struct Ty {
 }
 
 /// A value: the pattern of its bits, below 2 to the width of its type.
-#[derive(Clone, Copy, Debug, PartialEq, Eq, Hash)]
+#[derive(Clone, Copy, PartialEq, Eq, Hash)]
 pub struct Val(pub u128);
 
 /// The first thing that is wrong with an operation's operands: first the kinds, then the parameters, then the width of

@@ -6,7 +6,6 @@ use gg_cut::Machine;
 use std::alloc::{AllocError, Global};
 
 /// The machines of a plan by hosts.
-#[derive(Drop)]
 pub(crate) struct Groups {
     /// The host of each machine.
     pub hosts: Vec<u32>,
@@ -14,6 +13,19 @@ pub(crate) struct Groups {
     pub threads: Vec<u32>,
     /// The machines of each host, by thread.
     pub members: Vec<Vec<u32>>,
+}
+
+impl Drop for Groups {
+    fn drop(self) {
+        let Self {
+            hosts,
+            threads,
+            members,
+        } = self;
+        drop(hosts);
+        drop(threads);
+        drop(members);
+    }
 }
 
 // The host that has this number in the plan. If it has no machine yet, it is the next host.

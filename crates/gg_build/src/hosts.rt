@@ -105,7 +105,7 @@ fn memory_host<'a>(alloc: Global, part: &Part) -> Result<Node<'a>, AllocError>
     ensures { IfOk result (λ node. IsHost (IsMemoryOf part.now) node) }
 {
     let alone = alone_of(alloc, part)?;
-    let unit = MemUnit::with_clocks(alloc, alone.piece, &[])?;
+    let unit = MemUnit::with_clocks(alloc, alone.into_piece(), &[])?;
     Ok(Node::Memory(unit))
 }
 

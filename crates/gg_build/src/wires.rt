@@ -12,10 +12,17 @@ use std::alloc::{AllocError, Global};
 
 // For each channel its place among the channels that its producer gives, and its place among the channels that its
 // consumer takes.
-#[derive(Drop)]
 struct Places {
     outs: Vec<u32>,
     ins: Vec<u32>,
+}
+
+impl Drop for Places {
+    fn drop(self) {
+        let Self { outs, ins } = self;
+        drop(outs);
+        drop(ins);
+    }
 }
 
 /// Writes for each of these numbers its place in this list.

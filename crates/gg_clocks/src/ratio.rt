@@ -8,7 +8,7 @@ use std::marker::Model;
 
 /// How often a clock has an edge: in `m` of `d` base ticks, where `1 <= m <= d <= 65535`. A contract sees it as the
 /// `Ratio` of gg_flat.
-#[derive(Clone, Copy, Debug, PartialEq, Eq)]
+#[derive(Clone, Copy, PartialEq, Eq)]
 pub struct Ratio {
     m: u64,
     d: u64,

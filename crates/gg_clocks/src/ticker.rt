@@ -7,7 +7,7 @@ use crate::ratio::Ratio;
 use std::marker::Model;
 
 /// A clock that is asked tick by tick whether it has an edge. A contract sees its ratio and the number of ticks made.
-#[derive(Debug, Drop)]
+#[derive(Drop)]
 pub struct Ticker {
     ratio: Ratio,
     // How far it is from one edge to the next: the remainder of `count * m` by `d`.

@@ -12,12 +12,23 @@ use std::marker::Model;
 pub type Ratios = Items<Ratio>;
 
 /// Which tick it is, and which clocks have an edge in it. A contract sees the ratios of the clocks and the tick.
-#[derive(Debug, Drop)]
 pub struct Timing {
     ratios: Vec<Ratio>,
     tick: u64,
     // for each clock, whether it has an edge in this tick
     edges: Vec<bool>,
+}
+
+impl Drop for Timing {
+    fn drop(self) {
+        let Self {
+            ratios,
+            tick: _,
+            edges,
+        } = self;
+        drop(ratios);
+        drop(edges);
+    }
 }
 
 impl Model for Timing {

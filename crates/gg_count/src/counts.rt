@@ -34,7 +34,7 @@ pub struct Excess {
 }
 
 /// The counts of a circuit, over its top and all instances below it.
-#[derive(Clone, Copy, Debug, PartialEq, Eq)]
+#[derive(Clone, Copy, PartialEq, Eq)]
 pub struct Counts {
     /// How many sites are above the deepest instance, counting the top.
     pub depth: u64,

@@ -2,10 +2,17 @@
 use gg_bits::Ids;
 
 /// What a request lists.
-#[derive(Debug, Drop)]
 pub struct Listed {
     /// The instances that are units, in the order of the request.
     pub units: Ids,
     /// The places in the tree of the listed memories, in the order of the tree.
     pub memories: Ids,
+}
+
+impl Drop for Listed {
+    fn drop(self) {
+        let Self { units, memories } = self;
+        drop(units);
+        drop(memories);
+    }
 }

@@ -9,7 +9,7 @@ use std::marker::Model;
 
 /// How many machines of each kind a cut has, and so which number each of them has: first the hub, then the units, the listed
 /// memories, a source for each top input and a tray for each top output. There are fewer than 2^32. A contract sees the counts.
-#[derive(Clone, Copy, Debug)]
+#[derive(Clone, Copy)]
 pub struct Numbering {
     units: u32,
     memories: u32,
@@ -18,7 +18,7 @@ pub struct Numbering {
 }
 
 /// What a machine is: the hub, or a unit, a listed memory, a source or a tray by its place among those of its kind.
-#[derive(Clone, Copy, Debug, PartialEq, Eq)]
+#[derive(Clone, Copy, PartialEq, Eq)]
 pub enum Role {
     Hub,
     Unit(u32),

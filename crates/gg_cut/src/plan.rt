@@ -17,7 +17,6 @@ pub enum Body {
 }
 
 /// A machine. Channels are named by their numbers.
-#[derive(Drop)]
 pub struct Machine {
     /// `hub:`, a unit's or a memory's path, `in:` or `out:` and the name of a top port, or `halt:` and the path of a stop.
     pub name: Name,
@@ -31,8 +30,23 @@ pub struct Machine {
     pub outs: Ids,
 }
 
+impl Drop for Machine {
+    fn drop(self) {
+        let Self {
+            name,
+            host: _,
+            body,
+            ins,
+            outs,
+        } = self;
+        drop(name);
+        drop(body);
+        drop(ins);
+        drop(outs);
+    }
+}
+
 /// A channel. Machines and channels are named by their numbers.
-#[derive(Drop)]
 pub struct Channel {
     /// The number in the circuit of the signal whose values it carries, as its consumer takes it.
     pub signal: u32,
@@ -52,9 +66,25 @@ pub struct Channel {
     pub needs: Ids,
 }
 
+impl Drop for Channel {
+    fn drop(self) {
+        let Self {
+            signal: _,
+            name,
+            ty: _,
+            producer: _,
+            consumer: _,
+            capacity: _,
+            pipe: _,
+            needs,
+        } = self;
+        drop(name);
+        drop(needs);
+    }
+}
+
 /// The plan of a cut: the hub, the units, the listed memories, the sources and the trays; the channels between them; and what the
 /// request lists.
-#[derive(Drop)]
 pub struct Plan {
     /// The machines, by number.
     pub machines: Items<Machine>,
@@ -62,4 +92,17 @@ pub struct Plan {
     pub channels: Items<Channel>,
     /// What the request lists.
     pub listed: Listed,
+}
+
+impl Drop for Plan {
+    fn drop(self) {
+        let Self {
+            machines,
+            channels,
+            listed,
+        } = self;
+        drop(machines);
+        drop(channels);
+        drop(listed);
+    }
 }

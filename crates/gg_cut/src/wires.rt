@@ -2,7 +2,7 @@
 
 /// A channel: its signals, and the machines that give and take its values, all by their numbers. What the producer gives is what the
 /// consumer takes, so in each cycle both signals have one value.
-#[derive(Clone, Copy, Debug, PartialEq, Eq)]
+#[derive(Clone, Copy, PartialEq, Eq)]
 pub struct Wire {
     /// The number in the circuit of the signal that the consumer takes.
     pub signal: u32,

@@ -19,9 +19,15 @@ use std::sync::ledger::Ledger;
 
 /// A piece of a cut circuit as a machine of its own. It is a host of one thread. Its ins are the piece's in-signals,
 /// and its outs are the out-signals, both in port order. A contract sees it as a host that several threads could share.
-#[derive(Drop)]
 pub struct Unit<'a> {
     shared: Shared<'a>,
+}
+
+impl Drop for Unit<'_> {
+    fn drop(self) {
+        let Self { shared } = self;
+        drop(shared);
+    }
 }
 
 impl<'a> Model for Unit<'a> {

@@ -21,7 +21,6 @@ use std::sync::ledger::Ledger;
 
 /// What one thread has of its own: which out of the program each of its outs is, its clocks and its cycle, its state, a
 /// latch for each in and a flag for each out. Threads share slots. A call that uses slots wants them to hold the lane.
-#[derive(Drop)]
 pub(crate) struct Lane {
     // None: all outs of the program, in order
     outs: Option<Ids>,
@@ -30,6 +29,23 @@ pub(crate) struct Lane {
     state: State,
     latches: Vec<Option<u128>>,
     flags: Vec<bool>,
+}
+
+impl Drop for Lane {
+    fn drop(self) {
+        let Self {
+            outs,
+            timing,
+            state,
+            latches,
+            flags,
+        } = self;
+        drop(outs);
+        drop(timing);
+        drop(state);
+        drop(latches);
+        drop(flags);
+    }
 }
 
 impl Model for Lane {

@@ -23,12 +23,25 @@ use std::sync::ledger::{Blank, Ledger};
 
 /// Several threads of one program. Its machines are those of its threads. The slots hold the thread whose turn it is. A
 /// contract sees the program, the lanes of the threads, whose turn it is and the slots.
-#[derive(Drop)]
 pub struct Shared<'a> {
     program: Program<'a>,
     lanes: Vec<Lane>,
     turn: u32,
     slots: Slots,
+}
+
+impl Drop for Shared<'_> {
+    fn drop(self) {
+        let Self {
+            program,
+            lanes,
+            turn: _,
+            slots,
+        } = self;
+        drop(program);
+        drop(lanes);
+        drop(slots);
+    }
 }
 
 impl<'a> Model for Shared<'a> {

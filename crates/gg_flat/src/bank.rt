@@ -14,10 +14,17 @@ use std::alloc::{AllocError, Global};
 use std::marker::Model;
 
 /// What a memory holds before a cycle: its words, and a read register for each reader if the read latency is 1.
-#[derive(Debug, Drop)]
 pub struct Bank {
     words: Vec<u128>,
     reads: Vec<u128>,
+}
+
+impl Drop for Bank {
+    fn drop(self) {
+        let Self { words, reads } = self;
+        drop(words);
+        drop(reads);
+    }
 }
 
 impl Model for Bank {

@@ -9,7 +9,7 @@ use std::marker::Model;
 ///
 /// These are the expressions of the FIRRTL Specification ("Expressions"): a reference, a literal, a primitive
 /// operation or a multiplexer.
-#[derive(Clone, Copy, Debug, PartialEq, Eq)]
+#[derive(Clone, Copy, PartialEq, Eq)]
 pub enum Op {
     /// The value of a signal, named by its number.
     Ref(u32),
@@ -26,7 +26,7 @@ pub enum Op {
 }
 
 /// A node of a line: what it does, and the type of its value.
-#[derive(Clone, Copy, Debug, PartialEq, Eq)]
+#[derive(Clone, Copy, PartialEq, Eq)]
 pub struct Node {
     /// The type of the value.
     pub ty: Ty,
@@ -37,9 +37,15 @@ pub struct Node {
 /// An expression as a list of nodes. Each node names only earlier ones; the last is the result.
 ///
 /// A contract sees it as the list of its nodes.
-#[derive(Debug, Drop)]
 pub struct Line {
     nodes: Vec<Node>,
+}
+
+impl Drop for Line {
+    fn drop(self) {
+        let Self { nodes } = self;
+        drop(nodes);
+    }
 }
 
 impl Model for Line {

@@ -7,7 +7,7 @@ use std::alloc::AllocError;
 use std::marker::Model;
 
 /// What a late reader gives if a writer writes the word that it reads (FIRRTL Specification, "Memories").
-#[derive(Clone, Copy, Debug, PartialEq, Eq)]
+#[derive(Clone, Copy, PartialEq, Eq)]
 pub enum UnderWrite {
     /// The word before the writes.
     Old,
@@ -18,7 +18,7 @@ pub enum UnderWrite {
 }
 
 /// The read latency of a memory: how many cycles after its address a reader gives the word.
-#[derive(Clone, Copy, Debug, PartialEq, Eq)]
+#[derive(Clone, Copy, PartialEq, Eq)]
 pub enum Latency {
     /// The same cycle.
     Zero,
@@ -27,7 +27,7 @@ pub enum Latency {
 }
 
 /// A read port. Its fields are signals, given by their numbers.
-#[derive(Clone, Copy, Debug, PartialEq, Eq)]
+#[derive(Clone, Copy, PartialEq, Eq)]
 pub struct Reader {
     /// The address: unsigned, of the memory's address width.
     pub addr: u32,
@@ -40,7 +40,7 @@ pub struct Reader {
 }
 
 /// A write port. Its fields are signals, given by their numbers.
-#[derive(Clone, Copy, Debug, PartialEq, Eq)]
+#[derive(Clone, Copy, PartialEq, Eq)]
 pub struct Writer {
     /// The address: unsigned, of the memory's address width.
     pub addr: u32,
@@ -57,9 +57,15 @@ pub struct Writer {
 /// The read ports of a memory, in the order of the file. A contract sees the list.
 ///
 /// It is made from a `Vec`, without allocating.
-#[derive(Debug, Drop)]
 pub struct Readers {
     items: Vec<Reader>,
+}
+
+impl Drop for Readers {
+    fn drop(self) {
+        let Self { items } = self;
+        drop(items);
+    }
 }
 
 impl Model for Readers {
@@ -101,9 +107,15 @@ impl From<Vec<Reader>> for Readers {
 /// The write ports of a memory, in the order of the file. A contract sees the list.
 ///
 /// It is made from a `Vec`, without allocating.
-#[derive(Debug, Drop)]
 pub struct Writers {
     items: Vec<Writer>,
+}
+
+impl Drop for Writers {
+    fn drop(self) {
+        let Self { items } = self;
+        drop(items);
+    }
 }
 
 impl Model for Writers {
@@ -143,7 +155,6 @@ impl From<Vec<Writer>> for Writers {
 }
 
 /// A memory: the type of its words, how many there are, its read latency, and its ports.
-#[derive(Debug, Drop)]
 pub struct Memory {
     /// The type of its words.
     pub word: Ty,
@@ -155,6 +166,20 @@ pub struct Memory {
     pub readers: Readers,
     /// Its write ports. If two write the same word, the later in this order wins.
     pub writers: Writers,
+}
+
+impl Drop for Memory {
+    fn drop(self) {
+        let Self {
+            word: _,
+            depth: _,
+            latency: _,
+            readers,
+            writers,
+        } = self;
+        drop(readers);
+        drop(writers);
+    }
 }
 
 impl Clone for Memory {

@@ -12,9 +12,15 @@ use std::marker::Model;
 
 /// Named models: flat circuits that say how what stands outside a circuit behaves. No two have the same name. A
 /// contract sees them in the order in which they were added, each as a pair: its name, as bytes, and its `FlatCircuit`.
-#[derive(Drop)]
 pub struct Models {
     pieces: IndexMap<Name, Piece>,
+}
+
+impl Drop for Models {
+    fn drop(self) {
+        let Self { pieces } = self;
+        drop(pieces);
+    }
 }
 
 impl Model for Models {

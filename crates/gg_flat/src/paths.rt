@@ -39,9 +39,15 @@ impl Error for AddError {}
 /// their bytes.
 ///
 /// There are fewer than 4,294,967,296 of them, so a `u32` can number them.
-#[derive(Drop)]
 pub struct Paths {
     names: IndexSet<Name>,
+}
+
+impl Drop for Paths {
+    fn drop(self) {
+        let Self { names } = self;
+        drop(names);
+    }
 }
 
 impl Model for Paths {

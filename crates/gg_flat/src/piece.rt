@@ -11,7 +11,7 @@ use std::alloc::{AllocError, Global};
 use std::marker::Model;
 
 /// What gives a signal its value in a cycle.
-#[derive(Debug, Drop)]
+#[derive(Drop)]
 pub enum Driver {
     /// The outside: the input at this place among the in-signals.
     Input(u32),
@@ -43,12 +43,18 @@ impl Clone for Driver {
 }
 
 /// A signal of a flat circuit: a port, wire, register, node or memory field that is not a Clock.
-#[derive(Debug, Drop)]
 pub struct Signal {
     /// The type of its values.
     pub ty: Ty,
     /// What gives it its value.
     pub driver: Driver,
+}
+
+impl Drop for Signal {
+    fn drop(self) {
+        let Self { ty: _, driver } = self;
+        drop(driver);
+    }
 }
 
 impl Clone for Signal {
@@ -63,12 +69,19 @@ impl Clone for Signal {
 }
 
 /// A register's reset: if the condition is 1, the register takes the init.
-#[derive(Debug, Drop)]
 pub struct Reset {
     /// One unsigned bit.
     pub condition: Line,
     /// The value that the register takes.
     pub init: Line,
+}
+
+impl Drop for Reset {
+    fn drop(self) {
+        let Self { condition, init } = self;
+        drop(condition);
+        drop(init);
+    }
 }
 
 impl Clone for Reset {
@@ -83,7 +96,6 @@ impl Clone for Reset {
 }
 
 /// A register: its type, its reset, its connection, and its clock. Without a connection it keeps its value.
-#[derive(Debug, Drop)]
 pub struct Register {
     /// The type of its values.
     pub ty: Ty,
@@ -93,6 +105,19 @@ pub struct Register {
     pub next: Option<Line>,
     /// The clock that it follows, by its place among the piece's clocks; none: every tick.
     pub clock: Option<u32>,
+}
+
+impl Drop for Register {
+    fn drop(self) {
+        let Self {
+            ty: _,
+            reset,
+            next,
+            clock: _,
+        } = self;
+        drop(reset);
+        drop(next);
+    }
 }
 
 impl Clone for Register {
@@ -110,7 +135,6 @@ impl Clone for Register {
 
 /// A flat circuit, or a part of one. A contract sees it as a `FlatCircuit`: lists of paths, signals, registers,
 /// memories, in-signals and out-signals, and the number of clocks. No two signals have the same path.
-#[derive(Drop)]
 pub struct Piece {
     paths: Paths,
     signals: Vec<Signal>,
@@ -119,6 +143,26 @@ pub struct Piece {
     ins: Vec<u32>,
     outs: Vec<u32>,
     clocks: u32,
+}
+
+impl Drop for Piece {
+    fn drop(self) {
+        let Self {
+            paths,
+            signals,
+            registers,
+            memories,
+            ins,
+            outs,
+            clocks: _,
+        } = self;
+        drop(paths);
+        drop(signals);
+        drop(registers);
+        drop(memories);
+        drop(ins);
+        drop(outs);
+    }
 }
 
 impl Model for Piece {

@@ -5,7 +5,6 @@ use gg_bits::{Name, Ty};
 use std::marker::Model;
 
 /// A port: its name, and the type of its values.
-#[derive(Debug, Drop)]
 pub struct Port {
     /// The name.
     pub name: Name,
@@ -13,12 +12,25 @@ pub struct Port {
     pub ty: Ty,
 }
 
+impl Drop for Port {
+    fn drop(self) {
+        let Self { name, ty: _ } = self;
+        drop(name);
+    }
+}
+
 /// A list of ports. A contract sees it as the list.
 ///
 /// It is made from a `Vec`, without allocating.
-#[derive(Debug, Drop)]
 pub struct Ports {
     items: Vec<Port>,
+}
+
+impl Drop for Ports {
+    fn drop(self) {
+        let Self { items } = self;
+        drop(items);
+    }
 }
 
 impl Model for Ports {

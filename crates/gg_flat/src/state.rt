@@ -17,10 +17,17 @@ use std::alloc::{AllocError, Global};
 use std::marker::Model;
 
 /// The values of a circuit's registers before a cycle, and what each of its memories holds.
-#[derive(Debug, Drop)]
 pub struct State {
     registers: Vec<u128>,
     banks: Vec<Bank>,
+}
+
+impl Drop for State {
+    fn drop(self) {
+        let Self { registers, banks } = self;
+        drop(registers);
+        drop(banks);
+    }
 }
 
 impl Model for State {

@@ -9,7 +9,7 @@ use std::alloc::{AllocError, Global};
 use std::marker::Model;
 
 /// A port of an instance.
-#[derive(Clone, Copy, Debug, PartialEq, Eq)]
+#[derive(Clone, Copy, PartialEq, Eq)]
 pub struct InstancePort {
     /// Its signal, by its number.
     pub signal: u32,
@@ -21,7 +21,6 @@ pub struct InstancePort {
 pub type ClockNumbers = Items<Option<u32>>;
 
 /// An instance of a module, or the top. Signals, memories and other instances are given by their numbers.
-#[derive(Debug, Drop)]
 pub struct Instance {
     /// The instance that holds it; none for the top.
     pub parent: Option<u32>,
@@ -38,6 +37,23 @@ pub struct Instance {
     /// For each of its Clock inputs, in port order, the Clock input of its parent that it follows. For each of the top
     /// it is that one itself.
     pub clocks: ClockNumbers,
+}
+
+impl Drop for Instance {
+    fn drop(self) {
+        let Self {
+            parent: _,
+            module: _,
+            first: _,
+            end: _,
+            ports,
+            memories,
+            clocks,
+        } = self;
+        drop(ports);
+        drop(memories);
+        drop(clocks);
+    }
 }
 
 impl Clone for Instance {
@@ -57,7 +73,6 @@ impl Clone for Instance {
 }
 
 /// A memory in the tree, with the data that a flat circuit has no signal for. The tree keeps its path.
-#[derive(Debug, Drop)]
 pub struct MemoryInstance {
     /// The instance that holds it.
     pub instance: u32,
@@ -67,6 +82,19 @@ pub struct MemoryInstance {
     pub ports: Names,
     /// For each of these ports, the Clock input of its instance that it follows.
     pub clocks: ClockNumbers,
+}
+
+impl Drop for MemoryInstance {
+    fn drop(self) {
+        let Self {
+            instance: _,
+            memory: _,
+            ports,
+            clocks,
+        } = self;
+        drop(ports);
+        drop(clocks);
+    }
 }
 
 impl Clone for MemoryInstance {
@@ -83,7 +111,7 @@ impl Clone for MemoryInstance {
 }
 
 /// A stop in the tree: where the circuit asks for the end of a run (FIRRTL Specification, "Stop").
-#[derive(Clone, Copy, Debug, PartialEq, Eq)]
+#[derive(Clone, Copy, PartialEq, Eq)]
 pub struct StopInstance {
     /// The instance whose module has it.
     pub instance: u32,
@@ -99,7 +127,6 @@ pub struct StopInstance {
 ///
 /// The tree doesn't check what it is given. The code that fills it for a circuit must prove that it is the tree of that
 /// circuit (`IsTree` in `specs/Tree`).
-#[derive(Drop)]
 pub struct Tree {
     paths: Paths,
     instances: Vec<Instance>,
@@ -108,6 +135,27 @@ pub struct Tree {
     clocks: Vec<Name>,
     register_clocks: Vec<Option<u32>>,
     stops: Vec<StopInstance>,
+}
+
+impl Drop for Tree {
+    fn drop(self) {
+        let Self {
+            paths,
+            instances,
+            memory_paths,
+            memories,
+            clocks,
+            register_clocks,
+            stops,
+        } = self;
+        drop(paths);
+        drop(instances);
+        drop(memory_paths);
+        drop(memories);
+        drop(clocks);
+        drop(register_clocks);
+        drop(stops);
+    }
 }
 
 impl Model for Tree {

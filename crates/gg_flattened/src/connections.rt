@@ -24,10 +24,17 @@ pub enum Source<'a> {
 }
 
 /// The connected sinks by their written names, each with what its first connection gives it.
-#[derive(Drop)]
 pub struct Sinks<'a> {
     pub names: Paths,
     pub sources: Vec<Source<'a>>,
+}
+
+impl Drop for Sinks<'_> {
+    fn drop(self) {
+        let Self { names, sources } = self;
+        drop(names);
+        drop(sources);
+    }
 }
 
 /// The connections that statements make.

@@ -24,7 +24,6 @@ pub struct Instance<'a> {
 }
 
 /// A memory of a module.
-#[derive(Drop)]
 pub struct OwnMemory<'a> {
     /// Its name.
     pub name: &'a Name,
@@ -32,15 +31,38 @@ pub struct OwnMemory<'a> {
     pub bank: Bank<'a>,
 }
 
+impl Drop for OwnMemory<'_> {
+    fn drop(self) {
+        let Self { name: _, bank } = self;
+        drop(bank);
+    }
+}
+
 /// A module: its signals, the instances that it holds, its memories and its stops, each in the order of the file, and
 /// its connections.
-#[derive(Drop)]
 pub struct Digest<'a> {
     pub signals: Vec<OwnSignal<'a>>,
     pub instances: Vec<Instance<'a>>,
     pub memories: Vec<OwnMemory<'a>>,
     pub stops: Vec<OwnStop<'a>>,
     pub sinks: Sinks<'a>,
+}
+
+impl Drop for Digest<'_> {
+    fn drop(self) {
+        let Self {
+            signals,
+            instances,
+            memories,
+            stops,
+            sinks,
+        } = self;
+        drop(signals);
+        drop(instances);
+        drop(memories);
+        drop(stops);
+        drop(sinks);
+    }
 }
 
 // The instances that statements make.

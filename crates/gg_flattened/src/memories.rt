@@ -12,13 +12,26 @@ use gg_types::{said_depth, said_type};
 use std::alloc::{AllocError, Global};
 
 /// A memory: its words, how many there are, its latency, and the names of its ports in the order of the file.
-#[derive(Drop)]
 pub struct Bank<'a> {
     pub word: Ty,
     pub depth: u32,
     pub latency: Latency,
     pub readers: Vec<&'a Name>,
     pub writers: Vec<&'a Name>,
+}
+
+impl Drop for Bank<'_> {
+    fn drop(self) {
+        let Self {
+            word: _,
+            depth: _,
+            latency: _,
+            readers,
+            writers,
+        } = self;
+        drop(readers);
+        drop(writers);
+    }
 }
 
 /// The type of a signal. A Clock has none, nor does a type whose width is 0 or above 128.

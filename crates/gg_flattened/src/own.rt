@@ -33,11 +33,21 @@ pub enum Origin<'a> {
 }
 
 /// A signal of a module: its name as it is written there, its type, and what gives it its value.
-#[derive(Drop)]
 pub struct OwnSignal<'a> {
     pub name: Name,
     pub ty: Ty,
     pub origin: Origin<'a>,
+}
+
+impl Drop for OwnSignal<'_> {
+    fn drop(self) {
+        let Self {
+            name,
+            ty: _,
+            origin: _,
+        } = self;
+        drop(name);
+    }
 }
 
 // Adds a signal.

@@ -16,11 +16,21 @@ use gg_types::Typed;
 use std::alloc::{AllocError, Global};
 
 /// What holds an instance: its path, the place of its module, and the name that the instance has there.
-#[derive(Drop)]
 pub struct Around<'a> {
     pub path: Name,
     pub number: u32,
     pub name: &'a Name,
+}
+
+impl Drop for Around<'_> {
+    fn drop(self) {
+        let Self {
+            path,
+            number: _,
+            name: _,
+        } = self;
+        drop(path);
+    }
 }
 
 /// A step from an instance to what holds it: the place of the module there, and the name that the instance has in it.
@@ -35,7 +45,6 @@ pub struct Step<'a> {
 ///
 /// For each of its Clock inputs, in port order, it has the Clock input that it follows of what holds it, and the clock of
 /// the circuit that it follows.
-#[derive(Drop)]
 pub struct Place<'a> {
     pub path: Name,
     pub number: u32,
@@ -47,14 +56,48 @@ pub struct Place<'a> {
     pub clocks: Vec<Option<u32>>,
 }
 
+impl Drop for Place<'_> {
+    fn drop(self) {
+        let Self {
+            path,
+            number: _,
+            depth: _,
+            outer,
+            parent: _,
+            steps,
+            own_clocks,
+            clocks,
+        } = self;
+        drop(path);
+        drop(outer);
+        drop(steps);
+        drop(own_clocks);
+        drop(clocks);
+    }
+}
+
 /// What is needed of a site for the instances that it holds.
-#[derive(Drop)]
 pub struct Above<'a> {
     pub path: Name,
     pub number: u32,
     pub depth: u32,
     pub steps: Vec<Step<'a>>,
     pub clocks: Vec<Option<u32>>,
+}
+
+impl Drop for Above<'_> {
+    fn drop(self) {
+        let Self {
+            path,
+            number: _,
+            depth: _,
+            steps,
+            clocks,
+        } = self;
+        drop(path);
+        drop(steps);
+        drop(clocks);
+    }
 }
 
 // The steps of an instance from which one more step leads to these.

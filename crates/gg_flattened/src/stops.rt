@@ -8,11 +8,21 @@ use gg_bits::Name;
 use std::alloc::{AllocError, Global};
 
 /// A stop of a module: its name, and what is written for its clock and its condition.
-#[derive(Drop)]
 pub struct OwnStop<'a> {
     pub name: Name,
     pub clock: &'a Expr,
     pub condition: &'a Expr,
+}
+
+impl Drop for OwnStop<'_> {
+    fn drop(self) {
+        let Self {
+            name,
+            clock: _,
+            condition: _,
+        } = self;
+        drop(name);
+    }
 }
 
 // The name of the stop of this number.

@@ -17,11 +17,23 @@ use gg_types::Typed;
 use std::alloc::{AllocError, Global};
 
 /// The paths and types of all signals, and the paths of all memories, in order.
-#[derive(Drop)]
 pub struct Table {
     pub paths: Paths,
     pub types: Vec<Ty>,
     pub memories: Paths,
+}
+
+impl Drop for Table {
+    fn drop(self) {
+        let Self {
+            paths,
+            types,
+            memories,
+        } = self;
+        drop(paths);
+        drop(types);
+        drop(memories);
+    }
 }
 
 /// Adds a path that isn't there yet.

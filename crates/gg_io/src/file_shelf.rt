@@ -15,13 +15,23 @@ use std::rt::Files;
 const PART: usize = 4096;
 
 /// The files of the system, by path. Their contents are unknown to contracts.
-#[derive(Drop)]
 pub struct FileShelf<R: Files + Drop> {
     runtime: R,
     // how many loads returned `Failed`
     faults: u64,
     // how many loads returned `TooLong`
     cuts: u64,
+}
+
+impl<R: Files + Drop> Drop for FileShelf<R> {
+    fn drop(self) {
+        let Self {
+            runtime,
+            faults: _,
+            cuts: _,
+        } = self;
+        drop(runtime);
+    }
 }
 
 impl<R: Files + Drop> FileShelf<R> {

@@ -11,7 +11,6 @@ use crate::mem_files::MemFiles;
 use std::alloc::Global;
 
 /// A shelf in memory: its files by name, and the numbers of the loads that must fail, counted from 0.
-#[derive(Debug, Drop)]
 pub struct MemShelf {
     /// The files by name.
     pub files: MemFiles,
@@ -23,6 +22,20 @@ pub struct MemShelf {
     pub faults: u64,
     /// How many loads returned `TooLong`.
     pub cuts: u64,
+}
+
+impl Drop for MemShelf {
+    fn drop(self) {
+        let Self {
+            files,
+            failing,
+            loads: _,
+            faults: _,
+            cuts: _,
+        } = self;
+        drop(files);
+        drop(failing);
+    }
 }
 
 impl MemShelf {
@@ -95,12 +108,18 @@ impl Shelf for MemShelf {
 
 /// A shelf in memory that never returns `Failed`: every name is a file, and it is empty if the shelf has none of that
 /// name.
-#[derive(Debug, Drop)]
 pub struct SureShelf {
     /// The files by name.
     pub files: MemFiles,
     /// How many loads returned `TooLong`.
     pub cuts: u64,
+}
+
+impl Drop for SureShelf {
+    fn drop(self) {
+        let Self { files, cuts: _ } = self;
+        drop(files);
+    }
 }
 
 impl SureShelf {

@@ -10,7 +10,7 @@ use crate::output::{PutFail, Sink};
 use std::alloc::Global;
 
 /// A put that must fail: its number, counted from 0, and how many of its bytes are written before it fails.
-#[derive(Clone, Copy, Debug, PartialEq, Eq)]
+#[derive(Clone, Copy, PartialEq, Eq)]
 pub struct FailingPut {
     /// The put's number, counted from 0.
     pub number: u64,
@@ -20,7 +20,6 @@ pub struct FailingPut {
 
 /// An output in memory: what was written, and the puts that must fail. If two entries have the same number the first
 /// counts.
-#[derive(Debug, Drop)]
 pub struct MemSink {
     /// What was written.
     pub bytes: Vec<u8>,
@@ -32,6 +31,20 @@ pub struct MemSink {
     pub faults: u64,
     /// How many puts returned `NoMemory`.
     pub refused: u64,
+}
+
+impl Drop for MemSink {
+    fn drop(self) {
+        let Self {
+            bytes,
+            failing,
+            puts: _,
+            faults: _,
+            refused: _,
+        } = self;
+        drop(bytes);
+        drop(failing);
+    }
 }
 
 impl MemSink {
@@ -112,12 +125,18 @@ impl Sink for MemSink {
 }
 
 /// An output in memory that never returns `Failed`.
-#[derive(Debug, Drop)]
 pub struct SureSink {
     /// What was written.
     pub bytes: Vec<u8>,
     /// How many puts returned `NoMemory`.
     pub refused: u64,
+}
+
+impl Drop for SureSink {
+    fn drop(self) {
+        let Self { bytes, refused: _ } = self;
+        drop(bytes);
+    }
 }
 
 impl SureSink {

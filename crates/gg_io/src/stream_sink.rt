@@ -8,11 +8,17 @@ use crate::output::{PutFail, Sink};
 use std::io::Write;
 
 /// A stream of the system, such as standard output. What was written to it is unknown to contracts.
-#[derive(Drop)]
 pub struct StreamSink<W: Write + Drop> {
     stream: W,
     // how many puts returned `Failed`
     faults: u64,
+}
+
+impl<W: Write + Drop> Drop for StreamSink<W> {
+    fn drop(self) {
+        let Self { stream, faults: _ } = self;
+        drop(stream);
+    }
 }
 
 impl<W: Write + Drop> StreamSink<W> {

@@ -5,7 +5,7 @@ ghost use Rattle.gg_lex.specs.Bytes.{is_in_class, starts_word, begins_number};
 ghost use Rattle.gg_lex.specs.Fronts.{TellsDigits};
 
 /// A class of bytes. A run is made of bytes of one class.
-#[derive(Clone, Copy, Debug, PartialEq, Eq)]
+#[derive(Clone, Copy, PartialEq, Eq)]
 pub(crate) enum Class {
     /// A space or a tab.
     Blank,

@@ -5,7 +5,7 @@ use std::fmt;
 
 /// A token of a line (FIRRTL Specification, "Notes on Syntax" and the terminals of "Grammar"). Words, numbers and texts
 /// keep their spelling.
-#[derive(Clone, Debug, PartialEq, Eq, Drop)]
+#[derive(Clone, PartialEq, Eq, Drop)]
 pub enum Tok {
     /// A letter or `_`, then letters, digits, `_` and `$`, then dashes and letters.
     Word(Name),
@@ -19,7 +19,7 @@ pub enum Tok {
 }
 
 /// A symbol of the grammar.
-#[derive(Clone, Copy, Debug, PartialEq, Eq)]
+#[derive(Clone, Copy, PartialEq, Eq)]
 pub enum Symbol {
     /// `<=`
     Connect,
@@ -56,7 +56,7 @@ pub enum Symbol {
 }
 
 /// Which kind of token some bytes are.
-#[derive(Clone, Copy, Debug, PartialEq, Eq)]
+#[derive(Clone, Copy, PartialEq, Eq)]
 pub enum TokenKind {
     /// The bytes are a `Tok::Word`.
     Word,
@@ -69,7 +69,7 @@ pub enum TokenKind {
 }
 
 /// A token at the front of some bytes.
-#[derive(Clone, Copy, Debug)]
+#[derive(Clone, Copy)]
 pub(crate) struct Front {
     pub(crate) kind: TokenKind,
     /// How many bytes it has.
@@ -77,7 +77,7 @@ pub(crate) struct Front {
 }
 
 /// A token's bytes in a line, and what follows them.
-#[derive(Clone, Copy, Debug)]
+#[derive(Clone, Copy)]
 pub(crate) struct NextToken<'a> {
     pub(crate) kind: TokenKind,
     pub(crate) text: &'a str,
@@ -85,7 +85,7 @@ pub(crate) struct NextToken<'a> {
 }
 
 /// The tokens of a line up to the first byte that begins none, and that byte's place, if there is one.
-#[derive(Debug, Drop)]
+#[derive(Drop)]
 pub struct LexedLine {
     /// The tokens before that byte, or all of the line's, in its order.
     pub tokens: Vec<Tok>,

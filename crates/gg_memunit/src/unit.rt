@@ -16,7 +16,6 @@ use std::marker::Model;
 
 /// A memory as a machine of its own. Its ports are served one by one. It is a host of one thread. Its ins are the
 /// fields of the memory's ports, and its outs are the data of the readers. A contract sees it as this machine.
-#[derive(Drop)]
 pub struct MemUnit {
     piece: Piece,
     // what its memory holds, as the accesses so far have made it
@@ -28,6 +27,26 @@ pub struct MemUnit {
     // its tick is the cycle
     timing: Timing,
     served: u32,
+}
+
+impl Drop for MemUnit {
+    fn drop(self) {
+        let Self {
+            piece,
+            state,
+            inputs,
+            latches,
+            flags,
+            timing,
+            served: _,
+        } = self;
+        drop(piece);
+        drop(state);
+        drop(inputs);
+        drop(latches);
+        drop(flags);
+        drop(timing);
+    }
 }
 
 impl Model for MemUnit {

@@ -25,11 +25,17 @@ use std::marker::Model;
 /// what contracts say of a module's names, they say of that tree.
 ///
 /// Modules are identified by their places, counted from 0; there are fewer than 4,294,967,296.
-#[derive(Drop)]
 pub struct Namespace<'a> {
     circuit: &'a Circuit,
     // What each module declares.
     tables: Vec<Table<'a>>,
+}
+
+impl Drop for Namespace<'_> {
+    fn drop(self) {
+        let Self { circuit: _, tables } = self;
+        drop(tables);
+    }
 }
 
 impl<'a> Model for Namespace<'a> {

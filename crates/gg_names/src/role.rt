@@ -6,7 +6,7 @@ ghost use Rattle.gg_names.specs.Namespace.{role_of_port, role_of_instance_port, 
 use gg_ast::{Direction, GroundType};
 
 /// What a name that is written in a module stands for (FIRRTL Specification, "Namespaces", "Flows").
-#[derive(Clone, Copy, Debug, PartialEq, Eq)]
+#[derive(Clone, Copy, PartialEq, Eq)]
 pub enum Role {
     /// An input port: a source.
     InputPort,
@@ -31,7 +31,7 @@ pub enum Role {
 }
 
 /// Whether a port of a memory reads or writes.
-#[derive(Clone, Copy, Debug, PartialEq, Eq)]
+#[derive(Clone, Copy, PartialEq, Eq)]
 pub enum PortKind {
     /// `reader`: the fields addr, en, clk and data.
     Reader,
@@ -40,7 +40,7 @@ pub enum PortKind {
 }
 
 /// A field of a memory's port.
-#[derive(Clone, Copy, Debug, PartialEq, Eq)]
+#[derive(Clone, Copy, PartialEq, Eq)]
 pub enum PortField {
     /// `addr`: the address of a word.
     Addr,

@@ -23,9 +23,15 @@ pub enum Declared<'a> {
 }
 
 /// Distinct names. A contract sees them as their list.
-#[derive(Drop)]
 pub struct Words<'a> {
     items: IndexSet<&'a str>,
+}
+
+impl Drop for Words<'_> {
+    fn drop(self) {
+        let Self { items } = self;
+        drop(items);
+    }
 }
 
 impl<'a> Model for Words<'a> {
@@ -71,9 +77,15 @@ impl<'a> Words<'a> {
 /// The distinct names that a module declares, in the order of the file, each with its declaration.
 ///
 /// A contract sees the list of pairs of a name's bytes and its declaration.
-#[derive(Drop)]
 pub struct Table<'a> {
     items: IndexMap<&'a str, Declared<'a>>,
+}
+
+impl Drop for Table<'_> {
+    fn drop(self) {
+        let Self { items } = self;
+        drop(items);
+    }
 }
 
 impl<'a> Model for Table<'a> {

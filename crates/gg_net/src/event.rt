@@ -1,7 +1,7 @@
 //! `Event` and `Refusal`: what a step of a network does, and why it is refused.
 
 /// A step of a network. Channels, machines and ports are given by their numbers.
-#[derive(Clone, Copy, Debug, PartialEq, Eq, Drop)]
+#[derive(Clone, Copy, PartialEq, Eq, Drop)]
 pub enum Event {
     /// The front token of a channel goes into the latch of its consumer.
     Latch {

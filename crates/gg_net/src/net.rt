@@ -6,8 +6,9 @@ ghost use Rattle.gg_node.specs.Machine.{machine_at};
 ghost use Rattle.gg_net.specs.Network.{wire_at, queue_at, puts, takes, serves, frame_of};
 ghost use Rattle.gg_net.specs.Kept.{Kept};
 ghost use Rattle.gg_net.specs.Seats.{machines_by};
-ghost use Rattle.gg_net.specs.Net.{AreListed, AreOpen, IsWithinLimits, Opens, opening_net};
+ghost use Rattle.gg_net.specs.Net.{AreListed, AreOpen, AreParts, IsWithinLimits, Opens, joined, opening_net};
 
+use crate::parts::Parts;
 use crate::queue::Queue;
 use crate::seats;
 use crate::shape::{Shape, Wire};
@@ -17,12 +18,25 @@ use std::alloc::{AllocError, Global};
 use std::marker::{Model, PhantomData};
 
 /// A network of machines. A contract sees it as its machines, its channels with their queues, and its end.
-#[derive(Drop)]
 pub struct Net<H: Host, Z: Streams> {
     pub(crate) hosts: Vec<H>,
     pub(crate) shape: Shape,
     pub(crate) queues: Vec<Queue>,
     pub(crate) streams: PhantomData<Z>,
+}
+
+impl<H: Host + Drop, Z: Streams> Drop for Net<H, Z> {
+    fn drop(self) {
+        let Self {
+            hosts,
+            shape,
+            queues,
+            streams: _,
+        } = self;
+        drop(hosts);
+        drop(shape);
+        drop(queues);
+    }
 }
 
 impl<H: Host, Z: Streams> Model for Net<H, Z> {
@@ -50,6 +64,24 @@ fn open_queues(alloc: Global, wires: &[Wire]) -> Result<Vec<Queue>, AllocError>
 }
 
 impl<H: Host, Z: Streams> Net<H, Z> {
+    /// Takes a network apart. Each queue has room for its capacity.
+    pub fn parts(self) -> Parts<H>
+        ensures parts { AreParts Z.flow (map H.machines result.hosts.items) result.shape result.queues.items }
+        ensures same { joined (map H.machines result.hosts.items) result.shape result.queues.items ≡ self }
+    {
+        let Self {
+            hosts,
+            shape,
+            queues,
+            streams: _,
+        } = self;
+        Parts {
+            hosts,
+            shape,
+            queues,
+        }
+    }
+
     /// The network of these hosts' machines before the first cycle. Allocates its queues, each with room for its
     /// capacity and with the token that it opens with.
     ///

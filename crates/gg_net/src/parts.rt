@@ -21,18 +21,6 @@ pub struct Parts<H> {
 }
 
 impl<H: Host, Z: Streams> Net<H, Z> {
-    /// Takes a network apart. Each queue has room for its capacity.
-    pub fn parts(self) -> Parts<H>
-        ensures parts { AreParts Z.flow (map H.machines result.hosts.items) result.shape result.queues.items }
-        ensures same { joined (map H.machines result.hosts.items) result.shape result.queues.items ≡ self }
-    {
-        Parts {
-            hosts: self.hosts,
-            shape: self.shape,
-            queues: self.queues,
-        }
-    }
-
     /// Puts the parts of a network together.
     pub fn of(parts: Parts<H>) -> Net<H, Z>
         requires { AreParts Z.flow (map H.machines parts.hosts.items) parts.shape parts.queues.items }

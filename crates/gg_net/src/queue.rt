@@ -9,9 +9,15 @@ use std::collections::VecDeque;
 use std::marker::Model;
 
 /// The tokens of a channel, the front first. There is room for a number of tokens. Only `new` allocates.
-#[derive(Drop)]
 pub struct Queue {
     tokens: VecDeque<u128>,
+}
+
+impl Drop for Queue {
+    fn drop(self) {
+        let Self { tokens } = self;
+        drop(tokens);
+    }
 }
 
 impl Model for Queue {
@@ -50,7 +56,8 @@ impl Queue {
     pub fn into_tokens(self) -> VecDeque<u128>
         ensures { held_of result ≡ self }
     {
-        self.tokens
+        let Self { tokens } = self;
+        tokens
     }
 
     /// The number of tokens.

@@ -2,7 +2,7 @@
 use gg_bits::{Ids, Items};
 
 /// A channel. Machines are given by their numbers, ins and outs by their places.
-#[derive(Clone, Copy, Debug, PartialEq, Eq, Drop)]
+#[derive(Clone, Copy, PartialEq, Eq, Drop)]
 pub struct Wire {
     /// The machine that gives the channel's tokens.
     pub producer: u32,
@@ -19,7 +19,6 @@ pub struct Wire {
 }
 
 /// A port that is served.
-#[derive(Drop)]
 pub struct ServedPort {
     /// The port's number. Readers are numbered first, then writers.
     pub number: u32,
@@ -27,8 +26,14 @@ pub struct ServedPort {
     pub fields: Ids,
 }
 
+impl Drop for ServedPort {
+    fn drop(self) {
+        let Self { number: _, fields } = self;
+        drop(fields);
+    }
+}
+
 /// The host and the thread of a machine, and the channels at its ins and outs.
-#[derive(Drop)]
 pub struct Station {
     /// The number of the host.
     pub host: u32,
@@ -42,8 +47,22 @@ pub struct Station {
     pub ports: Items<ServedPort>,
 }
 
+impl Drop for Station {
+    fn drop(self) {
+        let Self {
+            host: _,
+            thread: _,
+            ins,
+            outs,
+            ports,
+        } = self;
+        drop(ins);
+        drop(outs);
+        drop(ports);
+    }
+}
+
 /// The machines and channels of a network, by number, and the number of cycles that it has to do.
-#[derive(Drop)]
 pub struct Shape {
     /// The machines.
     pub stations: Vec<Station>,
@@ -51,4 +70,16 @@ pub struct Shape {
     pub wires: Vec<Wire>,
     /// The number of cycles that the network has to do.
     pub end: u64,
+}
+
+impl Drop for Shape {
+    fn drop(self) {
+        let Self {
+            stations,
+            wires,
+            end: _,
+        } = self;
+        drop(stations);
+        drop(wires);
+    }
 }

@@ -11,13 +11,25 @@ use std::marker::Model;
 
 /// Gives the values of a column, one in each cycle, at each of its outs. It is a host of one thread, whose machine has
 /// at least one out and no ins. A contract sees it as this machine.
-#[derive(Debug, Drop)]
 pub struct Source {
     column: Vec<u128>,
     cycle: u64,
     // The flag of the first out is apart, so that a source of one out needs no memory of its own.
     fired: bool,
     others: Vec<bool>,
+}
+
+impl Drop for Source {
+    fn drop(self) {
+        let Self {
+            column,
+            cycle: _,
+            fired: _,
+            others,
+        } = self;
+        drop(column);
+        drop(others);
+    }
 }
 
 impl Model for Source {

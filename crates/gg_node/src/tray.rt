@@ -13,7 +13,6 @@ use std::marker::Model;
 
 /// Keeps the last values that it gets, one in each cycle. It is a host of one thread, whose machine has one in and no
 /// outs. A contract sees it as this machine.
-#[derive(Debug, Drop)]
 pub struct Tray {
     // The oldest first.
     kept: VecDeque<u128>,
@@ -21,6 +20,18 @@ pub struct Tray {
     rows: u64,
     cycle: u64,
     latch: Option<u128>,
+}
+
+impl Drop for Tray {
+    fn drop(self) {
+        let Self {
+            kept,
+            rows: _,
+            cycle: _,
+            latch: _,
+        } = self;
+        drop(kept);
+    }
 }
 
 impl Model for Tray {

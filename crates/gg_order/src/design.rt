@@ -9,11 +9,19 @@ use std::marker::Model;
 
 /// A flat circuit that is well formed, with a tree of instances and an order of evaluation. A contract sees these three.
 /// Whether the circuit keeps to the tree is for the maker to say.
-#[derive(Drop)]
 pub struct Design {
     piece: Piece,
     tree: Tree,
     order: Order,
+}
+
+impl Drop for Design {
+    fn drop(self) {
+        let Self { piece, tree, order } = self;
+        drop(piece);
+        drop(tree);
+        drop(order);
+    }
 }
 
 impl Model for Design {

@@ -12,12 +12,26 @@ use std::alloc::{AllocError, Global};
 
 /// The numbers of what a part has, all of them those of the whole circuit: its signals, those of them that come from
 /// outside, its registers, and its memories.
-#[derive(Drop)]
 pub(crate) struct Frame {
     pub(crate) globals: Numbers,
     pub(crate) ins: Numbers,
     pub(crate) held: Numbers,
     pub(crate) memories: Numbers,
+}
+
+impl Drop for Frame {
+    fn drop(self) {
+        let Self {
+            globals,
+            ins,
+            held,
+            memories,
+        } = self;
+        drop(globals);
+        drop(ins);
+        drop(held);
+        drop(memories);
+    }
 }
 
 impl Frame {

@@ -10,10 +10,17 @@ use std::marker::Model;
 /// Numbers of the whole circuit's signals, registers or memories. The number at a place is the number in the whole
 /// circuit of what the part has at that place. A contract sees the list. A table gives the place of each number. It
 /// has an entry for everything that the whole circuit has.
-#[derive(Drop)]
 pub(crate) struct Numbers {
     items: Vec<u32>,
     places: Vec<u32>,
+}
+
+impl Drop for Numbers {
+    fn drop(self) {
+        let Self { items, places } = self;
+        drop(items);
+        drop(places);
+    }
 }
 
 impl Model for Numbers {
@@ -106,7 +113,8 @@ impl Numbers {
     pub(crate) fn into_ids(self) -> Ids
         ensures { result ≡ self }
     {
-        let Numbers { items, .. } = self;
+        let Self { items, places } = self;
+        drop(places);
         Ids::from(items)
     }
 }

@@ -11,7 +11,6 @@ pub type Capacities = Items<(Name, u64)>;
 pub type Clocks = Items<(Name, (u64, u64))>;
 
 /// A bridge that is attached to the circuit's top.
-#[derive(Debug, Drop)]
 pub struct BridgeEntry {
     /// The bridge's name.
     pub name: Name,
@@ -21,13 +20,21 @@ pub struct BridgeEntry {
     pub drives: Names,
 }
 
+impl Drop for BridgeEntry {
+    fn drop(self) {
+        let Self { name, sees, drives } = self;
+        drop(name);
+        drop(sees);
+        drop(drives);
+    }
+}
+
 /// The bridges that are attached, in the order of the file.
 pub type Bridges = Items<BridgeEntry>;
 
 /// What a partition asks for.
 ///
 /// No file may have the keys `clocks` and `bridges` yet, so these lists are empty.
-#[derive(Debug, Drop)]
 pub struct Request {
     /// The paths of the instances that become units.
     pub units: Names,
@@ -45,4 +52,26 @@ pub struct Request {
     pub clocks: Clocks,
     /// The bridges.
     pub bridges: Bridges,
+}
+
+impl Drop for Request {
+    fn drop(self) {
+        let Self {
+            units,
+            share,
+            memories,
+            capacity,
+            direct: _,
+            pipe,
+            clocks,
+            bridges,
+        } = self;
+        drop(units);
+        drop(share);
+        drop(memories);
+        drop(capacity);
+        drop(pipe);
+        drop(clocks);
+        drop(bridges);
+    }
 }

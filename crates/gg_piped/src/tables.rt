@@ -8,7 +8,6 @@ use gg_bits::Ids;
 /// Who names what: for each signal the machine in which its driver stands, for each register the machine that holds it, and for
 /// each memory the machine that has it. For each signal whose channel is piped, the machine that takes the channel, and the
 /// number of the pipe; else 0.
-#[derive(Drop)]
 pub struct Tables {
     /// By the signals.
     pub makers: Ids,
@@ -20,6 +19,23 @@ pub struct Tables {
     pub takers: Ids,
     /// By the signals.
     pub pipes: Ids,
+}
+
+impl Drop for Tables {
+    fn drop(self) {
+        let Self {
+            makers,
+            holders,
+            keepers,
+            takers,
+            pipes,
+        } = self;
+        drop(makers);
+        drop(holders);
+        drop(keepers);
+        drop(takers);
+        drop(pipes);
+    }
 }
 
 impl Tables {

@@ -50,10 +50,16 @@ impl Error for NoMemory {}
 
 /// A piece in an order of evaluation, with the needs of each of its out-signals. A contract sees the circuit and the
 /// needs.
-#[derive(Drop)]
 pub struct Program<'a> {
     piece: &'a Piece,
     needs: Vec<Ids>,
+}
+
+impl Drop for Program<'_> {
+    fn drop(self) {
+        let Self { piece: _, needs } = self;
+        drop(needs);
+    }
 }
 
 impl<'a> Model for Program<'a> {

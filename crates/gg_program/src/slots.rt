@@ -19,11 +19,23 @@ use std::sync::ledger::Ledger;
 
 /// The values of a cycle. A contract sees the value of each signal, which of them are done, and the room for the
 /// nodes of a line.
-#[derive(Drop)]
 pub struct Slots {
     values: Vec<u128>,
     room: Vec<u128>,
     search: Search,
+}
+
+impl Drop for Slots {
+    fn drop(self) {
+        let Self {
+            values,
+            room,
+            search,
+        } = self;
+        drop(values);
+        drop(room);
+        drop(search);
+    }
 }
 
 impl Model for Slots {

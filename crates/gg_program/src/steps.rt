@@ -6,10 +6,17 @@ use std::sync::ledger::{Blank, Book, Ledger, Share};
 
 /// How many assignments were evaluated. It takes no bytes. A contract sees the number. Only an evaluation adds to it:
 /// one.
-#[derive(Drop)]
 pub struct Steps<L: Ledger> {
     book: Book<L>,
     share: Share<L>,
+}
+
+impl<L: Ledger> Drop for Steps<L> {
+    fn drop(self) {
+        let Self { book, share } = self;
+        drop(book);
+        drop(share);
+    }
 }
 
 impl<L: Ledger> Model for Steps<L> {

@@ -44,7 +44,6 @@ impl Error for NoMemory {}
 
 /// A simulator of a design's circuit. A contract sees the circuit, the ratios of its clocks, how many cycles were made, and
 /// the simulator's state.
-#[derive(Drop)]
 pub struct Mono<'a> {
     design: &'a Design,
     // The ratios of the clocks. Its tick is the number of cycles that were made.
@@ -52,6 +51,22 @@ pub struct Mono<'a> {
     state: State,
     signals: Vec<u128>,
     scratch: Vec<u128>,
+}
+
+impl Drop for Mono<'_> {
+    fn drop(self) {
+        let Self {
+            design: _,
+            timing,
+            state,
+            signals,
+            scratch,
+        } = self;
+        drop(timing);
+        drop(state);
+        drop(signals);
+        drop(scratch);
+    }
 }
 
 impl<'a> Model for Mono<'a> {

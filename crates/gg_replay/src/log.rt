@@ -8,9 +8,15 @@ use std::alloc::{AllocError, Global};
 use std::marker::Model;
 
 /// For each channel the tokens that have entered it, in their order. A contract sees it as these lists.
-#[derive(Drop)]
 pub struct Log {
     lists: Vec<Vec<u128>>,
+}
+
+impl Drop for Log {
+    fn drop(self) {
+        let Self { lists } = self;
+        drop(lists);
+    }
 }
 
 impl Model for Log {

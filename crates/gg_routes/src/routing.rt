@@ -25,12 +25,19 @@ use gg_split::Split;
 use std::alloc::{AllocError, Global};
 
 /// The channels of a cut, and what leaves the plan.
-#[derive(Drop)]
 pub struct Channels {
     /// The channels that are left, in their order. A direct channel has its origin's producer, and is given by the origin.
     pub wires: Items<Wire>,
     /// For each signal of the circuit whether it leaves: an in-channel of the hub that is only copied, or a copy of one.
     pub gone: Items<bool>,
+}
+
+impl Drop for Channels {
+    fn drop(self) {
+        let Self { wires, gone } = self;
+        drop(wires);
+        drop(gone);
+    }
 }
 
 /// The channels of a cut and what leaves. `split` has the channels before and what each machine has; `piped` marks the signals whose

@@ -9,7 +9,7 @@ use gg_cut::Wire;
 use std::alloc::{AllocError, Global};
 
 /// What a signal is to the hub.
-#[derive(Clone, Copy, Debug, PartialEq, Eq)]
+#[derive(Clone, Copy, PartialEq, Eq)]
 pub(crate) enum Side {
     /// The hub doesn't have it.
     Other,

@@ -6,7 +6,7 @@ use gg_ast::{Direction, Report};
 use gg_bits::{Op1, Op2, OpN};
 
 /// An operation of an expression, by how many operands and parameters it takes.
-#[derive(Clone, Copy, Debug)]
+#[derive(Clone, Copy)]
 pub(crate) enum Operation {
     /// On one value.
     Unary(Op1),
@@ -19,7 +19,7 @@ pub(crate) enum Operation {
 }
 
 /// The first word of a memory's field.
-#[derive(Clone, Copy, Debug)]
+#[derive(Clone, Copy)]
 pub(crate) enum FieldWord {
     DataType,
     Depth,
@@ -31,7 +31,7 @@ pub(crate) enum FieldWord {
 }
 
 /// The form of a line, by its first word.
-#[derive(Clone, Copy, Debug)]
+#[derive(Clone, Copy)]
 pub(crate) enum Keyword {
     Version,
     Circuit,

@@ -60,9 +60,15 @@ pub fn text_of(alloc: Global, key: Key) -> Result<Name, AllocError>
 }
 
 /// A set of references. A contract sees their list.
-#[derive(Drop)]
 pub struct Connected<'a> {
     keys: IndexSet<Key<'a>>,
+}
+
+impl Drop for Connected<'_> {
+    fn drop(self) {
+        let Self { keys } = self;
+        drop(keys);
+    }
 }
 
 impl<'a> Model for Connected<'a> {

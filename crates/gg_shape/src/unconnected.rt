@@ -17,9 +17,15 @@ use std::alloc::{AllocError, Global};
 use std::marker::Model;
 
 /// The input ports of a module, in order.
-#[derive(Drop)]
 pub struct Inputs<'a> {
     ports: Vec<&'a Port>,
+}
+
+impl Drop for Inputs<'_> {
+    fn drop(self) {
+        let Self { ports } = self;
+        drop(ports);
+    }
 }
 
 impl<'a> Model for Inputs<'a> {

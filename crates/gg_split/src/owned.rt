@@ -18,7 +18,6 @@ use gg_order::Design;
 use std::alloc::{AllocError, Global};
 
 /// The channels of a cut, and what belongs to which machine.
-#[derive(Drop)]
 pub struct Owned {
     /// The channels, before any is routed.
     pub wires: Items<Wire>,
@@ -26,6 +25,19 @@ pub struct Owned {
     pub signals: Ids,
     /// The machine of each memory, by its place in the tree.
     pub memories: Ids,
+}
+
+impl Drop for Owned {
+    fn drop(self) {
+        let Self {
+            wires,
+            signals,
+            memories,
+        } = self;
+        drop(wires);
+        drop(signals);
+        drop(memories);
+    }
 }
 
 /// The channels of a cut, and what belongs to which machine. What is listed is apart.

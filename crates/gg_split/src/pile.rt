@@ -7,9 +7,15 @@ use std::alloc::{AllocError, Global};
 use std::marker::Model;
 
 /// A growing list of numbers. A contract sees it as the list.
-#[derive(Drop)]
 pub struct Pile {
     items: Vec<u32>,
+}
+
+impl Drop for Pile {
+    fn drop(self) {
+        let Self { items } = self;
+        drop(items);
+    }
 }
 
 impl Model for Pile {

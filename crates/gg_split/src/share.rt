@@ -3,7 +3,6 @@ use gg_bits::{Ids, Items};
 use gg_cut::Wire;
 
 /// What a machine has. All numbers are those of the whole circuit.
-#[derive(Drop)]
 pub struct Share {
     /// The channels that it takes, ascending.
     pub ins: Ids,
@@ -15,11 +14,33 @@ pub struct Share {
     pub memories: Ids,
 }
 
+impl Drop for Share {
+    fn drop(self) {
+        let Self {
+            ins,
+            outs,
+            globals,
+            memories,
+        } = self;
+        drop(ins);
+        drop(outs);
+        drop(globals);
+        drop(memories);
+    }
+}
+
 /// The channels of a cut, and what each machine has.
-#[derive(Drop)]
 pub struct Split {
     /// The channels, by number.
     pub wires: Items<Wire>,
     /// What each machine has, by its number.
     pub shares: Items<Share>,
+}
+
+impl Drop for Split {
+    fn drop(self) {
+        let Self { wires, shares } = self;
+        drop(wires);
+        drop(shares);
+    }
 }

@@ -10,12 +10,19 @@ use gg_flat::Tree;
 use std::alloc::{AllocError, Global};
 
 /// The channels that each of `count` machines takes and those that it gives, by the machines' numbers. The lists ascend.
-#[derive(Drop)]
 pub struct Sides {
     /// The channels that each machine takes.
     pub ins: Vec<Pile>,
     /// The channels that each machine gives.
     pub outs: Vec<Pile>,
+}
+
+impl Drop for Sides {
+    fn drop(self) {
+        let Self { ins, outs } = self;
+        drop(ins);
+        drop(outs);
+    }
 }
 
 /// The channels that each machine takes and gives, among `count` machines.

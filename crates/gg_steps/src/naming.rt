@@ -12,13 +12,26 @@ use std::marker::Model;
 
 /// The names of a network's channels, of its machines, and of each machine's ports, by their numbers. A contract sees
 /// the lists of names.
-#[derive(Drop)]
 pub struct StepNames<'a> {
     alloc: Global,
     channels: NameTable<'a>,
     machines: NameTable<'a>,
     // for each machine the names of its ports
     ports: Vec<NameTable<'a>>,
+}
+
+impl Drop for StepNames<'_> {
+    fn drop(self) {
+        let Self {
+            alloc: _,
+            channels,
+            machines,
+            ports,
+        } = self;
+        drop(channels);
+        drop(machines);
+        drop(ports);
+    }
 }
 
 impl<'a> Model for StepNames<'a> {

@@ -10,10 +10,17 @@ use std::collections::HashMap;
 use std::marker::Model;
 
 /// Names by their numbers, with a table that finds the first place of each name. A contract sees the list of names.
-#[derive(Drop)]
 pub(crate) struct NameTable<'a> {
     names: Vec<&'a str>,
     places: HashMap<&'a [u8], u32>,
+}
+
+impl Drop for NameTable<'_> {
+    fn drop(self) {
+        let Self { names, places } = self;
+        drop(names);
+        drop(places);
+    }
 }
 
 impl<'a> Model for NameTable<'a> {

@@ -9,10 +9,17 @@ use std::alloc::{AllocError, Global};
 use std::marker::Model;
 
 /// What a refusal reports: its status, and its line on the error output.
-#[derive(Debug, Drop)]
+#[derive(Debug)]
 pub struct Refusal {
     status: u8,
     line: String,
+}
+
+impl Drop for Refusal {
+    fn drop(self) {
+        let Self { status: _, line } = self;
+        drop(line);
+    }
 }
 
 impl Model for Refusal {

@@ -10,10 +10,16 @@ use std::collections::HashMap;
 use std::marker::Model;
 
 /// The place of each port by its name. A contract sees the list of the ports.
-#[derive(Drop)]
 pub struct PortTable<'a> {
     ports: &'a [Port],
     places: HashMap<&'a [u8], usize>,
+}
+
+impl Drop for PortTable<'_> {
+    fn drop(self) {
+        let Self { ports: _, places } = self;
+        drop(places);
+    }
 }
 
 impl<'a> Model for PortTable<'a> {

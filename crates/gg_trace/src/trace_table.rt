@@ -10,12 +10,22 @@ use std::marker::Model;
 
 /// An input trace: for each port, in port order, a column with one value for each row. A contract sees the count of
 /// rows and the columns.
-#[derive(Debug, Drop)]
 pub struct Trace {
     rows: usize,
     inputs: usize,
     // row by row, each with a value for each port
     cells: Vec<u128>,
+}
+
+impl Drop for Trace {
+    fn drop(self) {
+        let Self {
+            rows: _,
+            inputs: _,
+            cells,
+        } = self;
+        drop(cells);
+    }
 }
 
 impl Model for Trace {

@@ -18,7 +18,6 @@ use std::marker::Model;
 /// A circuit with none of the faults F1 to F14: its names, their type data (`Own`), and an order of its modules.
 ///
 /// A contract sees the circuit, and the modules' places in that order.
-#[derive(Drop)]
 pub struct Typed<'a> {
     pub(crate) names: Namespace<'a>,
     // For each module, by its place, the type data of its names.
@@ -26,6 +25,21 @@ pub struct Typed<'a> {
     // For each module, by its place, the number of the Clock input that each of its names leads to.
     pub(crate) clocks: Vec<Items<Option<u32>>>,
     pub(crate) order: Vec<u32>,
+}
+
+impl Drop for Typed<'_> {
+    fn drop(self) {
+        let Self {
+            names,
+            own,
+            clocks,
+            order,
+        } = self;
+        drop(names);
+        drop(own);
+        drop(clocks);
+        drop(order);
+    }
 }
 
 impl<'a> Model for Typed<'a> {

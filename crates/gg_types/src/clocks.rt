@@ -17,7 +17,7 @@ use std::alloc::{AllocError, Global};
 use std::marker::Model;
 
 /// Where a declared name of a module gets a Clock from.
-#[derive(Clone, Copy, Debug, PartialEq, Eq)]
+#[derive(Clone, Copy, PartialEq, Eq)]
 pub enum Way {
     /// From outside the module: an input port.
     FromOutside,
@@ -28,11 +28,21 @@ pub enum Way {
 }
 
 /// The declared names of a module, each with where it gets a Clock from. A contract sees it as their list.
-#[derive(Drop)]
 pub struct Ways<'b, 'a> {
     names: &'b Namespace<'a>,
     number: u32,
     ways: Vec<Way>,
+}
+
+impl Drop for Ways<'_, '_> {
+    fn drop(self) {
+        let Self {
+            names: _,
+            number: _,
+            ways,
+        } = self;
+        drop(ways);
+    }
 }
 
 impl<'b, 'a> Model for Ways<'b, 'a> {

@@ -9,7 +9,7 @@ use gg_flat::address_width;
 use gg_names::PortField;
 
 /// A type as it is written, or that of an expression with such types.
-#[derive(Clone, Copy, Debug, PartialEq, Eq)]
+#[derive(Clone, Copy, PartialEq, Eq)]
 pub enum Sort {
     /// A UInt or an SInt of this many bits, which may be 0 or more than 128.
     Bits(Kind, u32),
@@ -18,7 +18,7 @@ pub enum Sort {
 }
 
 /// The type of a name of a circuit without faults.
-#[derive(Clone, Copy, Debug, PartialEq, Eq)]
+#[derive(Clone, Copy, PartialEq, Eq)]
 pub enum Typing {
     /// A UInt or an SInt of 1 to 128 bits.
     Ground(Ty),
@@ -27,7 +27,7 @@ pub enum Typing {
 }
 
 /// The type data of a declared name.
-#[derive(Clone, Copy, Debug, PartialEq, Eq)]
+#[derive(Clone, Copy, PartialEq, Eq)]
 pub enum Own {
     /// A port, a wire, a register or a node: its type.
     Single(Sort),

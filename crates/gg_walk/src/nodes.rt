@@ -3,7 +3,7 @@ ghost use Rattle.std.specs.Prelude.{◌≡◌, ℕ, ◌<◌, List, IfSome, IfNon
 ghost use Rattle.gg_walk.specs.Graph.{IsOrderOf, IsRing};
 
 /// A target of a node, and the place after it.
-#[derive(Clone, Copy, Debug, PartialEq, Eq)]
+#[derive(Clone, Copy, PartialEq, Eq)]
 pub struct Target {
     /// The target.
     pub node: u32,

@@ -7,7 +7,7 @@ use gg_bits::Name;
 use std::alloc::AllocError;
 
 /// A command, with the names of its files and its numbers.
-#[derive(Debug, Drop)]
+#[derive(Drop)]
 pub enum Cmd {
     /// `run`: runs a circuit on a trace.
     Run {

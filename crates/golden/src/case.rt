@@ -16,7 +16,6 @@ use gg_trace::Trace;
 use std::alloc::Global;
 
 /// A design and a cut of it.
-#[derive(Drop)]
 pub(crate) struct Case {
     /// The design.
     pub(crate) design: Design,
@@ -24,13 +23,28 @@ pub(crate) struct Case {
     pub(crate) cut: Cut,
 }
 
+impl Drop for Case {
+    fn drop(self) {
+        let Self { design, cut } = self;
+        drop(design);
+        drop(cut);
+    }
+}
+
 /// The same, and a trace of the circuit's inputs.
-#[derive(Drop)]
 pub(crate) struct Fed {
     /// The design and the cut.
     pub(crate) case: Case,
     /// The trace.
     pub(crate) trace: Trace,
+}
+
+impl Drop for Fed {
+    fn drop(self) {
+        let Self { case, trace } = self;
+        drop(case);
+        drop(trace);
+    }
 }
 
 /// Reads a circuit and a partition.

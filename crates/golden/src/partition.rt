@@ -27,12 +27,19 @@ use gg_told::{Ending, end_with, load, make_refusal};
 use std::alloc::{AllocError, Global};
 
 /// A request without a fault for a design, and the plan of its cut.
-#[derive(Drop)]
 pub(crate) struct Cut {
     /// The request.
     pub(crate) request: Request,
     /// The plan.
     pub(crate) plan: Plan,
+}
+
+impl Drop for Cut {
+    fn drop(self) {
+        let Self { request, plan } = self;
+        drop(request);
+        drop(plan);
+    }
 }
 
 // The ending for a partition with the fault that has this text.

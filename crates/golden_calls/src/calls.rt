@@ -32,7 +32,7 @@ pub fn counter_files(alloc: Global) -> Result<MemFiles, AllocError> {
 }
 
 /// What a call answered, how many loads and puts on `out` it made, and what stands on its sinks.
-#[derive(Debug, Drop)]
+#[derive(Debug)]
 pub struct Answer {
     /// The status.
     pub status: u8,
@@ -44,6 +44,20 @@ pub struct Answer {
     pub out: Vec<u8>,
     /// What stands on `err`.
     pub err: Vec<u8>,
+}
+
+impl Drop for Answer {
+    fn drop(self) {
+        let Self {
+            status: _,
+            loads: _,
+            puts: _,
+            out,
+            err,
+        } = self;
+        drop(out);
+        drop(err);
+    }
 }
 
 impl Answer {

@@ -4,10 +4,17 @@ use std::sync::atomic::{AtomicU64, Ordering};
 use std::thread;
 
 // The flags of one worker: whether it has begun, and whether it has seen that the other has.
-#[derive(Drop)]
 struct Flags {
     begun: AtomicU64,
     met: AtomicU64,
+}
+
+impl Drop for Flags {
+    fn drop(self) {
+        let Self { begun, met } = self;
+        drop(begun);
+        drop(met);
+    }
 }
 
 impl Flags {
@@ -33,10 +40,17 @@ impl Flags {
 }
 
 /// A gate at which each of two workers waits for the other before its first turn.
-#[derive(Drop)]
 pub struct Meeting {
     first: Flags,
     second: Flags,
+}
+
+impl Drop for Meeting {
+    fn drop(self) {
+        let Self { first, second } = self;
+        drop(first);
+        drop(second);
+    }
 }
 
 impl Meeting {
