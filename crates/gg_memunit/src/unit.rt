@@ -1,5 +1,5 @@
 //! `MemUnit`: a memory whose ports are served one by one.
-ghost use Rattle.std.specs.Prelude.{◌≡◌, ℕ, ◌<◌, ◌≤◌, List, [], ◌∷◌, length, is_some, slice_set, IfOk};
+ghost use Rattle.std.specs.Prelude.{◌≡◌, ℕ, ◌<◌, ◌≤◌, List, [], ◌∷◌, None, false, length, replicate, is_some, slice_set, IfOk};
 ghost use Rattle.gg_limits.specs.Limits.{cycle_limit};
 ghost use Rattle.gg_flat.specs.State.{IsState};
 ghost use Rattle.gg_node.specs.Machine.{RunsPiece, Machine, machine_at, latch_at, flag_at, missing, due};
@@ -77,6 +77,30 @@ fn bank_of(state: &State) -> &Bank
     &state.banks()[0]
 }
 
+// The tokens and the latches of a unit's ins, and the flags of its outs.
+#[derive(Drop)]
+struct Slots {
+    inputs: Vec<u128>,
+    latches: Vec<Option<u128>>,
+    flags: Vec<bool>,
+}
+
+// Those of a unit before its first access.
+fn empty_slots(alloc: Global, piece: &Piece) -> Result<Slots, AllocError>
+    ensures inputs { IfOk result (λ slots. slots.inputs.items ≡ replicate (length piece.now.ins) 0) }
+    ensures latches { IfOk result (λ slots. slots.latches.items ≡ replicate (length piece.now.ins) None) }
+    ensures flags { IfOk result (λ slots. slots.flags.items ≡ replicate (length piece.now.outs) false) }
+{
+    let inputs = vec![in alloc; 0; piece.ins().len()]?;
+    let latches = empty_latches(alloc, piece.ins().len())?;
+    let flags = clear_flags(alloc, piece.outs().len())?;
+    Ok(Slots {
+        inputs,
+        latches,
+        flags,
+    })
+}
+
 impl MemUnit {
     /// The unit of a piece that is only a memory, before the first cycle, with a ratio for each clock of the piece.
     ///
@@ -109,10 +133,12 @@ impl MemUnit {
         requires cycle { cycle ≤ cycle_limit }
         ensures { IfOk result (λ unit. unit ≡ started_unit piece ratios.now state cycle) }
     {
-        let inputs = vec![in alloc; 0; piece.ins().len()]?;
-        let latches = empty_latches(alloc, piece.ins().len())?;
-        let flags = clear_flags(alloc, piece.outs().len())?;
         let timing = Timing::new(alloc, ratios, cycle)?;
+        let Slots {
+            inputs,
+            latches,
+            flags,
+        } = empty_slots(alloc, &piece)?;
         Ok(MemUnit {
             piece,
             state,

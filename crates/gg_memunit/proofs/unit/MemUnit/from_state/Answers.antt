@@ -1,4 +1,4 @@
-use Rattle.std.proofs.Common.{rules, ◌≡◌, None, false, length, map, replicate, ap, sym, ◌∙◌}
+use Rattle.std.proofs.Common.{None, false, length, map, ap, sym, ◌∙◌}
 use Rattle.std.proofs.lemmas.List.{length-replicate}
 use Rattle.gg_node.specs.Machine.{latched_value}
 use Rattle.gg_memunit.proofs.UnitLemmas.{tokens-none, no-registers, held-first}
@@ -7,9 +7,9 @@ use Rattle.gg_memunit.proofs.unit.MemUnit.from_state.Goals as goal
 pub invariant_of-result : goal.invariant_of-result
 invariant_of-result c =
     let piece = c.args.piece in
-    let zeros : c.in_ok-inputs.inputs.items ≡ replicate (length piece.ins) 0 = search rules in
-    let empty : c.in_ok-latches.latches.items ≡ replicate (length piece.ins) None = search rules in
-    let clear : c.in_ok-flags.flags.items ≡ replicate (length piece.outs) false = search rules in
+    let zeros = c.in_ok-inputs.ensures.inputs in
+    let empty = c.in_ok-inputs.ensures.latches in
+    let clear = c.in_ok-inputs.ensures.flags in
     record {
       memory = c.requires.memory;
       none = no-registers piece c.args.state c.requires.memory c.requires.state;
