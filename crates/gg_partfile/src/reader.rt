@@ -4,6 +4,7 @@ ghost use Rattle.serde_json.specs.View.{view};
 ghost use Rattle.gg_partfile.specs.Fault.{IfKey, wrong_key, IsRefused};
 ghost use Rattle.gg_partfile.specs.Keys.{under};
 ghost use Rattle.gg_partfile.specs.Partition.{Asks, IsPartition};
+ghost use Rattle.gg_partfile.specs.Request.{no_request};
 ghost use Rattle.gg_partfile.specs.Size.{HasAtMost};
 
 use crate::fault::PartFault;
@@ -47,30 +48,23 @@ fn request_of(alloc: Global, value: &Value) -> Result<Request, PartFault>
     ensures asks { IfOk result (Asks (view value.now)) }
     ensures wrong { IfErr result (IfKey (λ key. wrong_key (view value.now) ≡ Some key)) }
 {
-    let Some(members) = value.as_object() else {
-        return Err(fault_of(alloc, "-"));
+    let mut request = Request {
+        units: none(alloc),
+        share: none(alloc),
+        memories: none(alloc),
+        capacity: none(alloc),
+        direct: false,
+        pipe: none(alloc),
+        clocks: none(alloc),
+        bridges: none(alloc),
     };
-    let units = under(alloc, value, "units", none(alloc))?;
-    let share = under(alloc, value, "share", none(alloc))?;
-    let memories = under(alloc, value, "memories", none(alloc))?;
-    let capacity = under(alloc, value, "capacity", none(alloc))?;
-    let direct = under(alloc, value, "direct", false)?;
-    let pipe = under(alloc, value, "pipe", none(alloc))?;
-    let clocks = under(alloc, value, "clocks", none(alloc))?;
-    let bridges = under(alloc, value, "bridges", none(alloc))?;
-    if let Some(key) = other_member(members, &KEYS) {
-        return Err(fault_of(alloc, key));
+    match fill(alloc, value, &mut request) {
+        Ok(()) => Ok(request),
+        Err(fault) => {
+            drop(request);
+            Err(fault)
+        }
     }
-    Ok(Request {
-        units,
-        share,
-        memories,
-        capacity,
-        direct,
-        pipe,
-        clocks,
-        bridges,
-    })
 }
 
 // An empty list.
@@ -80,16 +74,47 @@ fn none<T: Drop>(alloc: Global) -> Items<T>
     Items::from(Vec::new(alloc))
 }
 
-// What is read of the value under a key, or something else if the key is absent.
-fn under<T: FromValue>(alloc: Global, value: &Value, key: &str, default: T) -> Result<T, PartFault>
-    ensures is { IfOk result (λ found. under default T.reads key.now (view value.now) ≡ Some found) }
-    ensures wrong { IfErr result (IfKey (λ told. (told ≡ key.now) × (under default T.reads key.now (view value.now) ≡ None))) }
+// Fills an empty request with what a value asks for.
+fn fill(alloc: Global, value: &Value, request: &mut Request) -> Result<(), PartFault>
+    requires { request.old ≡ no_request }
+    ensures asks { IfOk result (λ _. Asks (view value.now) request.new) }
+    ensures wrong { IfErr result (IfKey (λ key. wrong_key (view value.now) ≡ Some key)) }
+{
+    let Some(members) = value.as_object() else {
+        return Err(fault_of(alloc, "-"));
+    };
+    put_under(alloc, value, "units", &mut request.units)?;
+    put_under(alloc, value, "share", &mut request.share)?;
+    put_under(alloc, value, "memories", &mut request.memories)?;
+    put_under(alloc, value, "capacity", &mut request.capacity)?;
+    put_under(alloc, value, "direct", &mut request.direct)?;
+    put_under(alloc, value, "pipe", &mut request.pipe)?;
+    put_under(alloc, value, "clocks", &mut request.clocks)?;
+    put_under(alloc, value, "bridges", &mut request.bridges)?;
+    match other_member(members, &KEYS) {
+        Some(key) => Err(fault_of(alloc, key)),
+        None => Ok(()),
+    }
+}
+
+// Puts what is read of the value under a key into a place, which stays as it is if the key is absent.
+fn put_under<T: FromValue>(
+    alloc: Global,
+    value: &Value,
+    key: &str,
+    place: &mut T,
+) -> Result<(), PartFault>
+    ensures is { IfOk result (λ _. under place.old T.reads key.now (view value.now) ≡ Some place.new) }
+    ensures wrong { IfErr result (IfKey (λ told. (told ≡ key.now) × (under place.old T.reads key.now (view value.now) ≡ None))) }
 {
     let Some(held) = held(value, key) else {
-        return Ok(default);
+        return Ok(());
     };
     match T::from_value(alloc, held)? {
-        Some(found) => Ok(found),
+        Some(found) => {
+            *place = found;
+            Ok(())
+        }
         None => Err(fault_of(alloc, key)),
     }
 }
