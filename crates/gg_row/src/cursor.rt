@@ -177,8 +177,11 @@ impl<'a> Cursor<'a> {
         ensures { result ≡ is_second symbol self.now }
     {
         match self.rest {
-            [_, Tok::Symbol(found), ..] => found.text() == symbol.text(),
-            _ => false,
+            [_, rest @ ..] => {
+                let mut second = Cursor::new(rest);
+                second.skip(symbol)
+            }
+            [] => false,
         }
     }
 

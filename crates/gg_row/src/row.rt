@@ -1,8 +1,9 @@
 //! The row of a line: one function for each form.
 ghost use Rattle.std.specs.Prelude.{◌≡◌, ℕ, List, [], ◌∷◌, ◌++◌, length, map, IfOk, MatchResult};
-ghost use Rattle.gg_ast.specs.Row.{RegisterResetRow};
+ghost use Rattle.gg_ast.specs.Row.{RegisterResetRow, StopRow};
 ghost use Rattle.gg_ast.specs.Term.{Term};
-ghost use Rattle.gg_row.specs.Reading.{Reads, Finds, expression_at, last_expression_at, version_at, header_at, declared_at, last_declared_at, node_at, reset_at, reset_row_at, inline_reset_at, with_at, clocked_at, register_at, instance_at, field_row_at, label_at, stop_at, argument_at, arguments_at, TakesArgument, report_at, body_at, invalid_at, driven_at, connection_at, public_at, connect_at, invalidate_at, last_pair_at, regreset_at, row_at};
+ghost use Rattle.gg_lex.specs.declared.token.Symbol.TheVariants.{Comma, CloseParen};
+ghost use Rattle.gg_row.specs.Reading.{◌>>=◌ as ◌and_then◌, Reads, Finds, symbol_at, one_parameter_at, expression_at, last_expression_at, version_at, header_at, declared_at, last_declared_at, node_at, reset_at, reset_row_at, inline_reset_at, with_at, clocked_at, register_at, instance_at, field_row_at, label_at, stop_at, argument_at, arguments_at, TakesArgument, report_at, body_at, invalid_at, driven_at, connection_at, public_at, connect_at, invalidate_at, last_pair_at, regreset_at, row_at};
 ghost use Rattle.gg_row.specs.LineRows.{AreNamesOfLine, FindsRow, TellsRow};
 
 use crate::cursor::{Cursor, Miss};
@@ -269,10 +270,31 @@ fn reset(alloc: Global, cursor: &mut Cursor) -> Result<(Expr, Expr), Miss>
     cursor.symbol(Symbol::Arrow)?;
     cursor.symbol(Symbol::OpenParen)?;
     let condition = expression(alloc, cursor)?;
-    cursor.symbol(Symbol::Comma)?;
-    let init = expression(alloc, cursor)?;
-    cursor.symbol(Symbol::CloseParen)?;
-    Ok((condition, init))
+    reset_init(alloc, cursor, condition)
+}
+
+/// `, INIT )`, after the condition of a reset.
+fn reset_init(alloc: Global, cursor: &mut Cursor, condition: Expr) -> Result<(Expr, Expr), Miss>
+    ensures { Reads {B = Term × Term} (λ r. r) result cursor.new (symbol_at Comma cursor.old and_then λ t. expression_at t and_then λ i. symbol_at CloseParen i.1 and_then λ u. Some ((condition, i.0), u)) }
+{
+    if !cursor.skip(Symbol::Comma) {
+        drop(condition);
+        return Err(Miss::NoForm);
+    }
+    match expression(alloc, cursor) {
+        Ok(init) => {
+            if cursor.skip(Symbol::CloseParen) {
+                return Ok((condition, init));
+            }
+            drop(condition);
+            drop(init);
+            Err(Miss::NoForm)
+        }
+        Err(miss) => {
+            drop(condition);
+            Err(miss)
+        }
+    }
 }
 
 /// A reset on a line of its own, after its keyword.
@@ -372,16 +394,48 @@ fn stop(alloc: Global, cursor: &mut Cursor) -> Result<LineRow, Miss>
 {
     cursor.symbol(Symbol::OpenParen)?;
     let clock = expression(alloc, cursor)?;
-    cursor.symbol(Symbol::Comma)?;
-    let condition = expression(alloc, cursor)?;
+    if !cursor.skip(Symbol::Comma) {
+        drop(clock);
+        return Err(Miss::NoForm);
+    }
+    match expression(alloc, cursor) {
+        Ok(condition) => stopped(cursor, clock, condition),
+        Err(miss) => {
+            drop(clock);
+            Err(miss)
+        }
+    }
+}
+
+/// A stop, after its condition.
+fn stopped(cursor: &mut Cursor, clock: Expr, condition: Expr) -> Result<LineRow, Miss>
+    ensures { FindsRow result (one_parameter_at cursor.old and_then λ n. label_at n.1 and_then λ l. Some (StopRow clock condition n.0 l)) }
+{
+    match stop_code(cursor) {
+        Ok(found) => {
+            let (code, label) = found;
+            Ok(LineRow::Statement(StmtKind::Stop {
+                clock,
+                condition,
+                code,
+                label,
+            }))
+        }
+        Err(miss) => {
+            drop(clock);
+            drop(condition);
+            Err(miss)
+        }
+    }
+}
+
+/// `, CODE )` and the label of a stop.
+fn stop_code(cursor: &mut Cursor) -> Result<(u32, Option<Name>), Miss>
+    ensures { (clock condition : Term) → Finds (λ s. StopRow clock condition s.0 s.1) result (one_parameter_at cursor.old and_then λ n. label_at n.1 and_then λ l. Some (StopRow clock condition n.0 l)) }
+{
     let code = one_parameter(cursor)?;
     let label = label(cursor)?;
-    Ok(LineRow::Statement(StmtKind::Stop {
-        clock,
-        condition,
-        code,
-        label,
-    }))
+    Ok((code, label))
 }
 
 /// An argument: a text or an expression.
@@ -474,10 +528,11 @@ fn driven(alloc: Global, cursor: &mut Cursor, sink: Reference) -> Result<LineRow
 fn invalid(cursor: &mut Cursor, sink: Reference) -> Result<LineRow, Miss>
     ensures { FindsRow result (invalid_at sink cursor.old) }
 {
-    cursor.word("is")?;
-    cursor.word("invalid")?;
-    cursor.end()?;
-    Ok(LineRow::Statement(StmtKind::Invalid { sink }))
+    if cursor.skip_word("is") && cursor.skip_word("invalid") && cursor.is_empty() {
+        return Ok(LineRow::Statement(StmtKind::Invalid { sink }));
+    }
+    drop(sink);
+    Err(Miss::NoForm)
 }
 
 /// A connection, after `connect`.
