@@ -9,7 +9,7 @@ use Rattle.gg_flat.specs.State.{State}
 use Rattle.gg_flat.specs.Streams.{Flow}
 use Rattle.gg_node.specs.Machine.{Machine, no_machine, machine_at}
 use Rattle.gg_node.specs.Token.{IsToken, IsNextState}
-use Rattle.gg_node.specs.Step.{MayLatch, MayFire, with_latch, with_flag, with_served, finished}
+use Rattle.gg_node.specs.Step.{MayLatch, MayFire, MayFinish, with_latch, with_flag, with_served, finished}
 use Rattle.gg_net.specs.declared.shape.Wire.{Wire}
 use Rattle.gg_net.specs.declared.shape.Station.{Station}
 use Rattle.gg_net.specs.declared.event.Event.TheVariants.{Latch, Fire, Serve, Finish}
@@ -22,6 +22,8 @@ use Rattle.gg_net.specs.Net.{net_of, held_at, AreListed, HasRoom, IsWithinLimits
 use Rattle.gg_net.proofs.SeatLemmas.{machines-set, are-seated}
 use Rattle.gg_net.proofs.StepLemmas.{kept-step}
 use Rattle.gg_net.proofs.MayLemmas.{consumer-there, producer-there, may-latch, may-fire}
+use Rattle.gg_net.proofs.FrameLemmas.{machine-known}
+use Rattle.gg_net.proofs.PartLemmas.{own-may-finish}
 
 -- ---- kinds
 
@@ -133,11 +135,17 @@ module _ {flow : Flow} {hosts : List (List Machine)} {stations : List Station} {
       pub queue-is : queue.tokens ≡ queue_at (map (λ (q : Held). q.tokens) queues) c
       queue-is = tokens-at queues c queue (queues-there c known) q-is
 
+      pub latch-held : CanLatch old c → 0 < length queue.tokens
+      latch-held can = subst (λ (tokens : List ℕ). 0 < length tokens) (sym queue-is) can.held
+
       -- ---- `Latch`
 
       module _ (station : Station) (s-is : station ≡ slice_index_or stations w.consumer station) (token : ℕ) (t-is : token ≡ value_at queue.tokens 0) where
         seat-is : seated hosts station ≡ machine_at (machines_by hosts stations) (wire_at wires c).consumer
         seat-is = sym (machine-is w.consumer station consumer-seat s-is) ∙ ap (λ (v : Wire). machine_at (machines_by hosts stations) v.consumer) wire-is
+
+        pub latch-seated : IsSeated hosts station
+        latch-seated = subst (IsSeated hosts) (sym s-is) (net.seated.each w.consumer station consumer-seat)
 
         token-is : token ≡ front_of old c
         token-is = t-is ∙ ap (λ q. value_at q 0) queue-is
@@ -205,6 +213,15 @@ module _ {flow : Flow} {hosts : List (List Machine)} {stations : List Station} {
       serve-closes =
           closes m station below is after (with_served (seated hosts station)) step queues refl net.room
           (kept-step flow old (Serve m p) (net_of after stations wires queues end) net.kept (record { ready = can; after = serve-is }))
+
+    module _ (can : CanFinish old m) where
+      pub finish-seated : IsSeated hosts station
+      finish-seated = subst (IsSeated hosts) (sym is) (net.seated.each m station below)
+
+      pub finish-may : MayFinish (seated hosts station)
+      finish-may =
+          subst MayFinish (machine-is m station below is)
+          (own-may-finish flow (frame_of old) net.kept.sound m (machine-known old m can.there) (machine_at (machines_by hosts stations) m) (net.kept.machines m can.there) can.below can.fired can.served can.latched)
 
     module _ (can : CanFinish old m) (after : List (List Machine)) (goes : HasGoneOn hosts after station) where
       pub finish-goes : GoesOn old m (net_of after stations wires queues end)

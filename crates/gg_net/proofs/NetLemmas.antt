@@ -5,12 +5,13 @@ use Rattle.std.proofs.lemmas.Option.{slice_get_within, get_or_from_slice_get}
 use Rattle.gg_flat.specs.Streams.{Flow}
 use Rattle.gg_node.specs.Machine.{Port, Machine, machine_at, first_empty, needs_at, missing, due}
 use Rattle.gg_node.specs.Step.{fields_of}
+use Rattle.gg_net.specs.declared.shape.Wire.{Wire}
 use Rattle.gg_net.specs.Network.{Network, queue_at, wire_at, Kind}
 use Rattle.gg_net.specs.Step.{fields_at, due_fields}
 use Rattle.gg_net.specs.Kept.{Kept}
 use Rattle.gg_net.proofs.LatchLemmas.{first-among}
 use Rattle.gg_net.proofs.MachineLemmas.{due-port}
-use Rattle.gg_net.proofs.FrameLemmas.{machine-known, kind-is}
+use Rattle.gg_net.proofs.FrameLemmas.{machine-known, machine-there, kind-is}
 
 module _ (flow : Flow) (net : Network) (kept : Kept flow net) where
   -- a queue is within its capacity
@@ -35,3 +36,21 @@ module _ (flow : Flow) (net : Network) (kept : Kept flow net) where
         let all : All (λ (r : Port). All (λ j. j < length x.latches) (fields_of r.access)) x.ports = subst (λ (k : Kind). All (λ (r : Port). All (λ j. j < k.ins) (fields_of r.access)) k.ports) (kind-is net m) (kept.sound.wired.fields m (machine-known net m there)) in
         let fields : All (λ j. j < length x.latches) (fields_of q.access) = subst (λ (r : Port). All (λ j. j < length x.latches) (fields_of r.access)) (get_or_from_slice_get x.ports x.served q q port) (all x.served q (slice_get_within x.ports x.served q port)) in
         subst (λ j. j < length x.latches) has.2 (fields has.0 i has.1)
+
+  -- the machines at both ends of a channel exist, and have its out and its in
+  module _ (c : ℕ) (known : c < length net.wires) (w : Wire) (is : w ≡ wire_at net.wires c) where
+    pub wire-producer : w.producer < length net.machines
+    wire-producer = subst (λ (v : Wire). v.producer < length net.machines) (sym is) (machine-there net (wire_at net.wires c).producer (kept.sound.wired.producer c known))
+
+    pub wire-out : w.out < length (machine_at net.machines w.producer).flags
+    wire-out =
+        subst (λ (v : Wire). v.out < length (machine_at net.machines v.producer).flags) (sym is)
+        (subst (λ (k : Kind). (wire_at net.wires c).out < k.outs) (kind-is net (wire_at net.wires c).producer) (kept.sound.wired.out c known))
+
+    pub wire-consumer : w.consumer < length net.machines
+    wire-consumer = subst (λ (v : Wire). v.consumer < length net.machines) (sym is) (machine-there net (wire_at net.wires c).consumer (kept.sound.wired.consumer c known))
+
+    pub wire-place : w.place < length (machine_at net.machines w.consumer).latches
+    wire-place =
+        subst (λ (v : Wire). v.place < length (machine_at net.machines v.consumer).latches) (sym is)
+        (subst (λ (k : Kind). (wire_at net.wires c).place < k.ins) (kind-is net (wire_at net.wires c).consumer) (kept.sound.wired.place c known))

@@ -3,8 +3,31 @@ use Rattle.std.proofs.lemmas.List.{length-map}
 use Rattle.gg_net.specs.Net.{net_of}
 use Rattle.gg_net.specs.Seats.{seated}
 use Rattle.gg_net.specs.Step.{CanFinish, GoesOn}
-use Rattle.gg_net.proofs.CloseLemmas.{finish-goes, finish-closes}
+use Rattle.gg_net.proofs.CloseLemmas.{finish-seated, finish-may, finish-goes, finish-closes}
 use Rattle.gg_net.proofs.net.Net.finish.Goals as goal
+
+pub index-requires : goal.index-requires
+index-requires g c =
+    let m = c.args.machine in
+    let stations = c.self.inside.shape.stations.items in
+    let can = subst (λ n. CanFinish n m) (sym c.self.view_is) c.requires in
+    omega (arith, can.there, length-map stations (seated (map g.H.Host.machines c.self.inside.hosts.items)))
+
+pub finish-requires-clause-seated : goal.finish-requires-clause-seated
+finish-requires-clause-seated g c =
+    let m = c.args.machine in
+    let stations = c.self.inside.shape.stations.items in
+    let can = subst (λ n. CanFinish n m) (sym c.self.view_is) c.requires in
+    let below : m < length stations = omega (arith, can.there, length-map stations (seated (map g.H.Host.machines c.self.inside.hosts.items))) in
+    λ κs outlive. finish-seated c.self.invariant m c.index.result.now below c.index.ensures can
+
+pub finish-requires-clause-may : goal.finish-requires-clause-may
+finish-requires-clause-may g c =
+    let m = c.args.machine in
+    let stations = c.self.inside.shape.stations.items in
+    let can = subst (λ n. CanFinish n m) (sym c.self.view_is) c.requires in
+    let below : m < length stations = omega (arith, can.there, length-map stations (seated (map g.H.Host.machines c.self.inside.hosts.items))) in
+    λ κs outlive. finish-may c.self.invariant m c.index.result.now below c.index.ensures can
 
 pub invariant_of-self : goal.invariant_of-self
 invariant_of-self g c =

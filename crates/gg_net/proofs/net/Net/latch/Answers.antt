@@ -1,7 +1,32 @@
-use Rattle.std.proofs.Common.{map, sym, ap, subst, ◌∙◌}
+use Rattle.std.proofs.Common.{map, sym, ap, subst, ◌∙◌, arith}
 use Rattle.gg_net.specs.Step.{CanLatch, after_latch}
-use Rattle.gg_net.proofs.CloseLemmas.{latch-may, latch-is, latch-closes}
+use Rattle.gg_net.proofs.CloseLemmas.{queues-there, consumer-seat, latch-held, latch-seated, latch-may, latch-is, latch-closes}
 use Rattle.gg_net.proofs.net.Net.latch.Goals as goal
+
+pub index-wire-requires : goal.index-wire-requires
+index-wire-requires g c =
+    let can = subst (λ n. CanLatch n c.args.channel) (sym c.self.view_is) c.requires in
+    omega (arith, can.can.0)
+
+pub index_mut-requires : goal.index_mut-requires
+index_mut-requires g c =
+    let can = subst (λ n. CanLatch n c.args.channel) (sym c.self.view_is) c.requires in
+    omega (arith, queues-there c.self.invariant c.args.channel can.can.0)
+
+pub take-token-requires : goal.take-token-requires
+take-token-requires g c =
+    let can = subst (λ n. CanLatch n c.args.channel) (sym c.self.view_is) c.requires in
+    latch-held c.self.invariant c.args.channel c.index-wire.result.now c.index-wire.ensures can.can.0 c.index_mut.result.now c.index_mut.ensures.value can
+
+pub index-requires : goal.index-requires
+index-requires g c =
+    let can = subst (λ n. CanLatch n c.args.channel) (sym c.self.view_is) c.requires in
+    omega (arith, consumer-seat c.self.invariant c.args.channel c.index-wire.result.now c.index-wire.ensures can.can.0)
+
+pub latch-requires-clause-seated : goal.latch-requires-clause-seated
+latch-requires-clause-seated g c =
+    let can = subst (λ n. CanLatch n c.args.channel) (sym c.self.view_is) c.requires in
+    λ κs outlive. latch-seated c.self.invariant c.args.channel c.index-wire.result.now c.index-wire.ensures can.can.0 c.index_mut.result.now c.index_mut.ensures.value c.index.result.now c.index.ensures c.take-token.result c.take-token.ensures.token
 
 pub latch-requires-clause-may : goal.latch-requires-clause-may
 latch-requires-clause-may g c =
