@@ -34,15 +34,40 @@ pub(crate) fn made(
     ensures { IfOk result (λ piece. piece ≡ reference_of one.now (views_by tables.now) pipes.now) }
 {
     let mut piece = Piece::new(alloc);
-    add_signals(alloc, one, tables, &mut piece)?;
-    add_pipes(alloc, one, pipes, &mut piece)?;
-    add_registers(alloc, one, tables, &mut piece)?;
-    add_pipe_registers(alloc, one, pipes, &mut piece)?;
-    add_memories(alloc, one, tables, &mut piece)?;
-    add_ins(one.ins(), &mut piece)?;
-    add_outs(tables, one.outs(), &mut piece)?;
+    match fill_piece(alloc, one, tables, pipes, &mut piece) {
+        Ok(()) => Ok(piece),
+        Err(error) => {
+            drop(piece);
+            Err(error)
+        }
+    }
+}
+
+// Fills the empty piece.
+fn fill_piece(
+    alloc: Global,
+    one: &Piece,
+    tables: &Tables,
+    pipes: &[u32],
+    piece: &mut Piece,
+) -> Result<(), AllocError>
+    requires known { All (λ c. c < length one.now.signals) pipes.now }
+    requires few { length one.now.signals + length pipes.now < 2 ^ 32 }
+    requires registers { length one.now.registers + length pipes.now < 2 ^ 32 }
+    requires memories { length one.now.memories < 2 ^ 32 }
+    requires distinct { AllPairs (λ a b. a ≢ b) (one.now.paths ++ map (λ c. codes "pipe:" ++ path_at one.now.paths c) pipes.now) }
+    requires empty { piece.old ≡ no_circuit }
+    ensures { OnOk result (piece.new ≡ reference_of one.now (views_by tables.now) pipes.now) }
+{
+    add_signals(alloc, one, tables, piece)?;
+    add_pipes(alloc, one, pipes, piece)?;
+    add_registers(alloc, one, tables, piece)?;
+    add_pipe_registers(alloc, one, pipes, piece)?;
+    add_memories(alloc, one, tables, piece)?;
+    add_ins(one.ins(), piece)?;
+    add_outs(tables, one.outs(), piece)?;
     piece.set_clocks(one.clocks());
-    Ok(piece)
+    Ok(())
 }
 
 // ---- signals

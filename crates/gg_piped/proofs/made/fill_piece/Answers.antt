@@ -7,7 +7,7 @@ use Rattle.gg_pipe.specs.Reference.{register_by, memory_by}
 use Rattle.gg_pipe.specs.Made.{by_number, seen_signal, pipe_signals, pipe_registers}
 use Rattle.gg_piped.specs.Tables.{seen_in, kept_in, views_by}
 use Rattle.gg_pipe.proofs.MadeLemmas.{length-by}
-use Rattle.gg_piped.proofs.made.made.Goals as goal
+use Rattle.gg_piped.proofs.made.fill_piece.Goals as goal
 
 pub add_pipes-requires-clause-count : goal.add_pipes-requires-clause-count
 add_pipes-requires-clause-count c = ap (λ (p : FlatCircuit). length p.signals) c.in_ok-add_signals.ensures ∙ length-by (seen_signal (views_by c.args.tables.now)) 0 c.args.one.now.signals
