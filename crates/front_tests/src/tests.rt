@@ -1,4 +1,4 @@
-//! The tests, by the call that they are about.
+//! The tables of texts, by the call that they are about, and their check.
 mod calls;
 mod circuits;
 mod fronts;
@@ -6,3 +6,4 @@ mod lines;
 mod reading;
 mod sources;
 mod stages;
+mod tables;

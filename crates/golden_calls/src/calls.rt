@@ -4,6 +4,7 @@ use gg_io::{FailingPut, MemFiles, MemShelf, MemSink, NoGate, hold};
 use golden::golden;
 use std::alloc::{AllocError, Global};
 use std::collections::BTreeMap;
+use std::mem;
 use std::thread::Threads;
 
 /// The words of `run`.
@@ -117,8 +118,8 @@ pub fn call<R: Threads + Sync>(
         status,
         loads: shelf.loads,
         puts: out.puts,
-        out: out.bytes,
-        err: err.bytes,
+        out: mem::replace(&mut out.bytes, Vec::new(alloc)),
+        err: mem::replace(&mut err.bytes, Vec::new(alloc)),
     })
 }
 

@@ -1,11 +1,15 @@
 //! Tests of the crates from the flat circuit to its network: what no contract says, namely that each public call succeeds with ample memory,
-//! and what circuits do that were worked out by hand. Circuits, partitions and traces are texts. golden_tests and replay_tests have the
-//! tests of the program.
+//! and what circuits do that were worked out by hand. Circuits, partitions and traces are texts. golden_tests has the tests of the program.
+//!
+//! A row of a table is a circuit and what is expected of it. One loop goes over all tables of a kind, since each further test function
+//! makes the proof longer.
 //!
 //! A value of a design, a piece, a plan or a network makes a proof long: it is dropped once for each way out of the function that owns it.
 //! So a function that owns one has a single way out, and all others take references.
 #![tactic(auto)]
 
+#[cfg(test)]
+mod circuits;
 #[cfg(test)]
 mod clocks;
 #[cfg(test)]
@@ -26,5 +30,7 @@ mod pipes;
 mod sharing;
 #[cfg(test)]
 mod simulators;
+#[cfg(test)]
+mod tables;
 #[cfg(test)]
 mod trays;

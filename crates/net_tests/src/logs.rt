@@ -2,7 +2,7 @@
 use gg_net::Wire;
 use gg_replay::{Log, channel_line};
 use std::alloc::{AllocError, Global};
-use std::test::Fail;
+use std::process::Abort;
 
 // Name, width, counts and tokens of a channel, and its line.
 static LINES: [(&str, u32, (u64, u64), &[u128], &str); 2] = [
@@ -23,15 +23,12 @@ fn is_line(
     Ok(line.as_str() == text)
 }
 
-#[test]
-fn lines_of_channels(rt: HostRuntime) -> Result<(), Fail> {
+/// Checks the line of each channel.
+pub(crate) fn check_lines(rt: &impl Abort, alloc: Global) {
     for (name, width, counts, tokens, text) in &LINES {
-        assert!(rt;
-            is_line(rt.alloc(), name, *width, *counts, tokens, text)?,
-            "{text}"
-        );
+        let is_right = is_line(alloc, name, *width, *counts, tokens, text) == Ok(true);
+        assert!(rt; is_right, "{text}");
     }
-    Ok(())
 }
 
 // Two channels, of which only the second opens with a token.
@@ -54,14 +51,8 @@ static WIRES: [Wire; 2] = [
     },
 ];
 
-// Whether a log of these channels has only the token with which the second opens.
-fn has_first_token(alloc: Global) -> Result<bool, AllocError> {
+/// Whether a log of these channels has only the token with which the second opens.
+pub(crate) fn has_first_token(alloc: Global) -> Result<bool, AllocError> {
     let log = Log::new(alloc, &WIRES)?;
     Ok(log.tokens(0).is_empty() && log.tokens(1) == [0].as_slice())
-}
-
-#[test]
-fn a_log_is_made(rt: HostRuntime) -> Result<(), Fail> {
-    assert!(rt; has_first_token(rt.alloc())?);
-    Ok(())
 }

@@ -1,10 +1,9 @@
 //! gg_measure: what is left to do in a network, and doing it in two orders.
-use crate::networks::{Case, is_network};
+use crate::networks::Case;
 use gg_build::Node;
 use gg_measure::{left, possible, run_to, run_to_end};
-use gg_net::{Event, Net, Refusal, Streams};
-use net_calls::{FOUR_PORTS, FOUR_PORTS_TRACE, PAIR, PAIR_TRACE, is_at_most, keeps};
-use std::test::Fail;
+use gg_net::{Net, Streams};
+use net_calls::{is_at_most, keeps};
 
 // Does the steps that `possible` answers, one after another. Returns how many were done, at most this many.
 fn follow<Z: Streams>(net: &mut Net<Node<'_>, Z>, most: u64) -> u64 {
@@ -91,60 +90,4 @@ pub(crate) fn end_alike<Z: Streams>(
         && are_alike(one, other, case)
         && keeps(one, case.kept)
         && keeps(other, case.kept)
-}
-
-// Two units that feed each other in one cycle.
-static FEEDING: Case = Case {
-    machines: 5,
-    channels: 8,
-    end: 2,
-    left: 42,
-    refused: Event::Fire { channel: 6 },
-    cause: Refusal::NeedsInput { channel: 5 },
-    steps: "0F 0L 1F 1L 3F 3L 5F 5L 6F 6L 2F 2L 4F 4L 7F 7L 0E 1E 2E 3E 4E",
-    served: (0, 0, 0),
-    kept: &[0x11, 0x83],
-    hosts: &[0, 1, 2, 3, 4],
-};
-
-// A memory whose two writers are served one after the other.
-static WRITING: Case = Case {
-    machines: 6,
-    channels: 18,
-    end: 4,
-    left: 176,
-    refused: Event::Fire { channel: 4 },
-    cause: Refusal::NeedsInput { channel: 2 },
-    steps: "0F 0L 1F 1L 2F 2L 3F 3L 4F 4L 5F 5L 6F 6L 7F 7L 8F 8L 9F 9L 10F 10L 11F 11L 12F 12L 13F 13L 14F 14L 15F 15L 16F 16L 17F 17L 2S 3S 0E 1E 2E 3E 4E 5E",
-    served: (4, 2, 8),
-    kept: &[0, 0xf0, 0, 0],
-    hosts: &[0, 1, 2, 3, 4, 5],
-};
-
-#[test]
-fn two_units_end_alike(rt: HostRuntime) -> Result<(), Fail> {
-    assert!(rt;
-        is_network(
-            rt.alloc(),
-            PAIR,
-            "{\"units\":[\"a\",\"b\"]}",
-            PAIR_TRACE,
-            &FEEDING
-        )
-    );
-    Ok(())
-}
-
-#[test]
-fn a_memory_of_four_ports_ends_alike(rt: HostRuntime) -> Result<(), Fail> {
-    assert!(rt;
-        is_network(
-            rt.alloc(),
-            FOUR_PORTS,
-            "{\"memories\":[\"m\"]}",
-            FOUR_PORTS_TRACE,
-            &WRITING
-        )
-    );
-    Ok(())
 }

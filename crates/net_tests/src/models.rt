@@ -4,7 +4,6 @@ ghost use Rattle.std.specs.Prelude.{◌<◌, ◌-◌, ◌^◌, length};
 use gg_bits::{Ids, Items, Kind, Name, Ty};
 use gg_flat::{AddError, ClockNumbers, Driver, Instance, Models, Piece, Register, Signal, Tree};
 use std::alloc::Global;
-use std::test::Fail;
 
 // The name with this text.
 fn name(alloc: Global, text: &str) -> Result<Name, AddError> {
@@ -53,18 +52,12 @@ fn is_found(alloc: Global, models: &mut Models, piece: &Piece) -> Result<bool, A
     )
 }
 
-// Whether a model of one register is found.
-fn keeps_a_model(alloc: Global) -> bool {
+/// Whether a model of one register is found.
+pub(crate) fn keeps_a_model(alloc: Global) -> bool {
     let mut piece = Piece::new(alloc);
     let mut models = Models::new(alloc);
     add_register(alloc, &mut piece).is_ok()
         && matches!(is_found(alloc, &mut models, &piece), Ok(true))
-}
-
-#[test]
-fn a_model_is_found(rt: HostRuntime) -> Result<(), Fail> {
-    assert!(rt; keeps_a_model(rt.alloc()));
-    Ok(())
 }
 
 // Adds a top with no port.
@@ -83,14 +76,8 @@ fn add_top(alloc: Global, tree: &mut Tree) -> Result<(), AddError>
     tree.add(name(alloc, "")?, top)
 }
 
-// Whether a tree with a top is copied.
-fn copies_a_tree(alloc: Global) -> bool {
+/// Whether a tree with a top is copied.
+pub(crate) fn copies_a_tree(alloc: Global) -> bool {
     let mut tree = Tree::new(alloc);
     add_top(alloc, &mut tree).is_ok() && tree.copy().is_ok()
-}
-
-#[test]
-fn a_tree_is_copied(rt: HostRuntime) -> Result<(), Fail> {
-    assert!(rt; copies_a_tree(rt.alloc()));
-    Ok(())
 }

@@ -6,6 +6,8 @@ ghost use Rattle.gg_moved.specs.KeepsToTree.{KeepsToTree};
 ghost use Rattle.gg_pipe.specs.Made.{AreHeldOnce, IsFresh};
 ghost use Rattle.gg_flat.specs.Run.{IsColumns};
 
+use crate::circuits::Circuit::{Memory, Whole};
+use crate::circuits::{Circuit, text_of};
 use crate::measures::end_alike;
 use gg_build::{Node, build};
 use gg_cut::Plan;
@@ -14,12 +16,15 @@ use gg_order::Design;
 use gg_partfile::Request;
 use gg_plan::cut;
 use gg_trace::Trace;
-use net_calls::{COUNTER, COUNTER_TRACE, THREE_CYCLES, design_of, inputs_of, memory, request_of};
-use std::alloc::{AllocError, Global};
+use net_calls::{
+    COUNTER, COUNTER_TRACE, FOUR_PORTS, FOUR_PORTS_TRACE, PAIR, PAIR_TRACE, THREE_CYCLES,
+    design_of, inputs_of, request_of,
+};
+use std::alloc::Global;
 use std::marker::Brand;
-use std::test::Fail;
+use std::process::Abort;
 
-// What is expected of a network.
+/// What is expected of a network.
 pub(crate) struct Case {
     // the numbers of machines, channels and cycles
     pub(crate) machines: u32,
@@ -41,36 +46,84 @@ pub(crate) struct Case {
     pub(crate) hosts: &'static [u32],
 }
 
-// A circuit, partitions of it, a trace, and what is expected for each of these partitions.
-pub(crate) type Row = (&'static str, &'static [&'static str], &'static str, Case);
+/// A circuit, partitions of it, a trace, and what is expected for each of these partitions.
+pub(crate) type Row = (Circuit, &'static [&'static str], &'static str, Case);
 
-// The counter: its output goes ahead of its input.
-static COUNTING: Case = Case {
-    machines: 3,
-    channels: 2,
-    end: 4,
-    left: 28,
-    refused: Event::Latch { channel: 0 },
-    cause: Refusal::NoToken { channel: 0 },
-    steps: "1F 1L 2E 0F 0L 0E 1E",
-    served: (0, 0, 0),
-    kept: &[0, 0, 1, 2],
-    hosts: &[0, 1, 2],
-};
-
-// A memory of latency 0 that is a machine of its own: its data waits for its address.
-static SERVING: Case = Case {
-    machines: 3,
-    channels: 8,
-    end: 3,
-    left: 60,
-    refused: Event::Fire { channel: 2 },
-    cause: Refusal::NeedsInput { channel: 0 },
-    steps: "0F 0L 1F 1L 2F 2L 3F 3L 4F 4L 5F 5L 6F 6L 7F 7L 1S 0E 1E 2E",
-    served: (2, 1, 3),
-    kept: &[0, 7, 7],
-    hosts: &[0, 1, 2],
-};
+/// Networks without direct channels, pipes or hosts that are shared.
+pub(crate) static NETWORKS: [Row; 4] = [
+    // the counter: its output goes ahead of its input
+    (
+        Whole(COUNTER),
+        &["{}"],
+        COUNTER_TRACE,
+        Case {
+            machines: 3,
+            channels: 2,
+            end: 4,
+            left: 28,
+            refused: Event::Latch { channel: 0 },
+            cause: Refusal::NoToken { channel: 0 },
+            steps: "1F 1L 2E 0F 0L 0E 1E",
+            served: (0, 0, 0),
+            kept: &[0, 0, 1, 2],
+            hosts: &[0, 1, 2],
+        },
+    ),
+    // a memory of latency 0 that is a machine of its own: its data waits for its address
+    (
+        Memory("read-latency => 0", "read-under-write => undefined"),
+        &["{\"memories\":[\"m\"]}"],
+        THREE_CYCLES,
+        Case {
+            machines: 3,
+            channels: 8,
+            end: 3,
+            left: 60,
+            refused: Event::Fire { channel: 2 },
+            cause: Refusal::NeedsInput { channel: 0 },
+            steps: "0F 0L 1F 1L 2F 2L 3F 3L 4F 4L 5F 5L 6F 6L 7F 7L 1S 0E 1E 2E",
+            served: (2, 1, 3),
+            kept: &[0, 7, 7],
+            hosts: &[0, 1, 2],
+        },
+    ),
+    // two units that feed each other in one cycle
+    (
+        Whole(PAIR),
+        &["{\"units\":[\"a\",\"b\"]}"],
+        PAIR_TRACE,
+        Case {
+            machines: 5,
+            channels: 8,
+            end: 2,
+            left: 42,
+            refused: Event::Fire { channel: 6 },
+            cause: Refusal::NeedsInput { channel: 5 },
+            steps: "0F 0L 1F 1L 3F 3L 5F 5L 6F 6L 2F 2L 4F 4L 7F 7L 0E 1E 2E 3E 4E",
+            served: (0, 0, 0),
+            kept: &[0x11, 0x83],
+            hosts: &[0, 1, 2, 3, 4],
+        },
+    ),
+    // a memory whose two writers are served one after the other
+    (
+        Whole(FOUR_PORTS),
+        &["{\"memories\":[\"m\"]}"],
+        FOUR_PORTS_TRACE,
+        Case {
+            machines: 6,
+            channels: 18,
+            end: 4,
+            left: 176,
+            refused: Event::Fire { channel: 4 },
+            cause: Refusal::NeedsInput { channel: 2 },
+            steps: "0F 0L 1F 1L 2F 2L 3F 3L 4F 4L 5F 5L 6F 6L 7F 7L 8F 8L 9F 9L 10F 10L 11F 11L 12F 12L 13F 13L 14F 14L 15F 15L 16F 16L 17F 17L 2S 3S 0E 1E 2E 3E 4E 5E",
+            served: (4, 2, 8),
+            kept: &[0, 0xf0, 0, 0],
+            hosts: &[0, 1, 2, 3, 4, 5],
+        },
+    ),
+];
 
 // The step of a letter and a number.
 fn step_of(letter: u8, number: u32) -> Event {
@@ -262,51 +315,27 @@ fn is_fed(alloc: Global, design: &Design, partition: &str, trace: &str, case: &C
 }
 
 // Whether the network of a circuit and a partition runs as expected on a trace.
-pub(crate) fn is_network(
-    alloc: Global,
-    circuit: &str,
-    partition: &str,
-    trace: &str,
-    case: &Case,
-) -> bool {
+fn is_network(alloc: Global, circuit: &str, partition: &str, trace: &str, case: &Case) -> bool {
     match design_of(alloc, circuit) {
         Some(design) => is_fed(alloc, &design, partition, trace, case),
         None => false,
     }
 }
 
-// The first partition of a table whose network doesn't run as expected.
-pub(crate) fn first_wrong(alloc: Global, rows: &[Row]) -> Option<&'static str> {
-    for (circuit, partitions, trace, case) in rows {
+// The same for a circuit of a table.
+fn is_right(alloc: Global, circuit: &Circuit, partition: &str, trace: &str, case: &Case) -> bool {
+    match text_of(alloc, circuit) {
+        Ok(text) => is_network(alloc, text.as_str(), partition, trace, case),
+        Err(_) => false,
+    }
+}
+
+/// Checks that each network runs as expected. A failure names the table, the row, counted from 0, and the partition.
+pub(crate) fn check_networks(rt: &impl Abort, alloc: Global, table: &str, rows: &[Row]) {
+    for (row, (circuit, partitions, trace, case)) in rows.iter().enumerate() {
         for partition in *partitions {
-            if !is_network(alloc, circuit, partition, trace, case) {
-                return Some(*partition);
-            }
+            let holds = is_right(alloc, circuit, partition, trace, case);
+            assert!(rt; holds, "{table}, row {row}: {partition}");
         }
     }
-    None
-}
-
-#[test]
-fn the_counter_runs(rt: HostRuntime) -> Result<(), Fail> {
-    assert!(rt; is_network(rt.alloc(), COUNTER, "{}", COUNTER_TRACE, &COUNTING));
-    Ok(())
-}
-
-// Whether the memory of latency 0 runs as a machine of its own.
-fn is_served(alloc: Global) -> Result<bool, AllocError> {
-    let circuit = memory(alloc, "read-latency => 0", "read-under-write => undefined")?;
-    Ok(is_network(
-        alloc,
-        circuit.as_str(),
-        "{\"memories\":[\"m\"]}",
-        THREE_CYCLES,
-        &SERVING,
-    ))
-}
-
-#[test]
-fn a_memory_is_served(rt: HostRuntime) -> Result<(), Fail> {
-    assert!(rt; is_served(rt.alloc())?);
-    Ok(())
 }

@@ -12,7 +12,6 @@ use gg_order::Design;
 use gg_program::Program;
 use net_calls::{PASS, TOGGLE, design_of};
 use std::alloc::{AllocError, Global};
-use std::test::Fail;
 
 // Whether a piece is well formed and has the register `r` as its second signal, no input, and its first signal as its output.
 fn tells(alloc: Global, piece: &Piece) -> Result<bool, AllocError> {
@@ -50,18 +49,12 @@ fn is_toggle(alloc: Global, design: &Design) -> Result<bool, AllocError> {
     Ok(tells(alloc, piece)? && has_values(alloc, design, 0, 1)?)
 }
 
-// Whether the toggle runs.
-fn toggles(alloc: Global) -> bool {
+/// Whether the toggle runs.
+pub(crate) fn toggles(alloc: Global) -> bool {
     match design_of(alloc, TOGGLE) {
         Some(design) => matches!(is_toggle(alloc, &design), Ok(true)),
         None => false,
     }
-}
-
-#[test]
-fn a_register_toggles(rt: HostRuntime) -> Result<(), Fail> {
-    assert!(rt; toggles(rt.alloc()));
-    Ok(())
 }
 
 // Whether the only output of a piece needs the first input, and no other.
@@ -104,16 +97,10 @@ fn waits(alloc: Global, design: &Design) -> bool {
     matches!(needs_it(alloc, piece), Ok(true)) && matches!(first_missing(alloc, piece), Ok(Some(0)))
 }
 
-// Whether an output that is the input waits for it.
-fn passes(alloc: Global) -> bool {
+/// Whether an output that is the input waits for it.
+pub(crate) fn passes(alloc: Global) -> bool {
     match design_of(alloc, PASS) {
         Some(design) => waits(alloc, &design),
         None => false,
     }
-}
-
-#[test]
-fn an_output_waits_for_its_input(rt: HostRuntime) -> Result<(), Fail> {
-    assert!(rt; passes(rt.alloc()));
-    Ok(())
 }

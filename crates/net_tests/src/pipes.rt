@@ -1,16 +1,16 @@
 //! gg_plan and gg_build: channels that open with a token.
-use crate::networks::{Case, Row, first_wrong, is_network};
+use crate::circuits::Circuit::{Memory, Whole};
+use crate::networks::{Case, Row};
 use gg_net::{Event, Refusal};
-use net_calls::{BACK, PAIR, PAIR_TRACE, SUMS, SUMS_TRACE, THREE_CYCLES, memory};
-use std::alloc::{AllocError, Global};
-use std::test::Fail;
+use net_calls::{BACK, PAIR, PAIR_TRACE, SUMS, SUMS_TRACE, THREE_CYCLES};
 
-// Of two units that feed each other in one cycle, the first takes what the second gave a cycle before; then the output has the
-// value of a cycle before, and then the input. The first without the hub; then what the second gives comes a cycle late to the hub, which so
-// passes it on. A unit that gives to itself takes its output a cycle late. Of two units on one host, one takes its input a cycle late.
-static PIPED: [Row; 7] = [
+/// Of two units that feed each other in one cycle, the first takes what the second gave a cycle before; then the output has the
+/// value of a cycle before, and then the input. The first without the hub; then what the second gives comes a cycle late to the hub, which so
+/// passes it on. A unit that gives to itself takes its output a cycle late. Of two units on one host, one takes its input a cycle late.
+/// A memory that is a machine of its own, whose data come a cycle late to the hub.
+pub(crate) static PIPED: [Row; 8] = [
     (
-        PAIR,
+        Whole(PAIR),
         &["{\"units\":[\"a\",\"b\"],\"pipe\":[\"a.k\"]}"],
         PAIR_TRACE,
         Case {
@@ -27,7 +27,7 @@ static PIPED: [Row; 7] = [
         },
     ),
     (
-        PAIR,
+        Whole(PAIR),
         &["{\"units\":[\"a\",\"b\"],\"pipe\":[\"q\"]}"],
         PAIR_TRACE,
         Case {
@@ -44,7 +44,7 @@ static PIPED: [Row; 7] = [
         },
     ),
     (
-        PAIR,
+        Whole(PAIR),
         &["{\"units\":[\"a\",\"b\"],\"pipe\":[\"x\"]}"],
         PAIR_TRACE,
         Case {
@@ -61,7 +61,7 @@ static PIPED: [Row; 7] = [
         },
     ),
     (
-        PAIR,
+        Whole(PAIR),
         &["{\"units\":[\"a\",\"b\"],\"direct\":true,\"pipe\":[\"a.k\"]}"],
         PAIR_TRACE,
         Case {
@@ -78,7 +78,7 @@ static PIPED: [Row; 7] = [
         },
     ),
     (
-        PAIR,
+        Whole(PAIR),
         &["{\"units\":[\"a\",\"b\"],\"direct\":true,\"pipe\":[\"b.n\"]}"],
         PAIR_TRACE,
         Case {
@@ -95,7 +95,7 @@ static PIPED: [Row; 7] = [
         },
     ),
     (
-        BACK,
+        Whole(BACK),
         &["{\"units\":[\"u\"],\"direct\":true,\"pipe\":[\"u.a\"]}"],
         SUMS_TRACE,
         Case {
@@ -112,7 +112,7 @@ static PIPED: [Row; 7] = [
         },
     ),
     (
-        SUMS,
+        Whole(SUMS),
         &["{\"units\":[\"u\",\"v\"],\"share\":[[\"u\",\"v\"]],\"direct\":true,\"pipe\":[\"v.a\"]}"],
         SUMS_TRACE,
         Case {
@@ -128,42 +128,21 @@ static PIPED: [Row; 7] = [
             hosts: &[0, 1, 1, 2, 3, 4],
         },
     ),
-];
-
-#[test]
-fn pipes_open_with_a_token(rt: HostRuntime) -> Result<(), Fail> {
-    assert!(rt; first_wrong(rt.alloc(), &PIPED) == None);
-    Ok(())
-}
-
-// A memory that is a machine of its own, whose data come a cycle late to the hub.
-static LATE: Case = Case {
-    machines: 3,
-    channels: 8,
-    end: 3,
-    left: 60,
-    refused: Event::Fire { channel: 2 },
-    cause: Refusal::NeedsInput { channel: 0 },
-    steps: "2L 7F 0F 0L 1F 1L 2F 3F 3L 4F 4L 5F 5L 6F 6L 7L 1S 0E 1E 2E",
-    served: (2, 1, 3),
-    kept: &[0, 0, 7],
-    hosts: &[0, 1, 2],
-};
-
-// Whether the memory runs so.
-fn is_late(alloc: Global) -> Result<bool, AllocError> {
-    let circuit = memory(alloc, "read-latency => 0", "read-under-write => undefined")?;
-    Ok(is_network(
-        alloc,
-        circuit.as_str(),
-        "{\"memories\":[\"m\"],\"pipe\":[\"m.r.data\"]}",
+    (
+        Memory("read-latency => 0", "read-under-write => undefined"),
+        &["{\"memories\":[\"m\"],\"pipe\":[\"m.r.data\"]}"],
         THREE_CYCLES,
-        &LATE,
-    ))
-}
-
-#[test]
-fn a_memory_has_a_pipe(rt: HostRuntime) -> Result<(), Fail> {
-    assert!(rt; is_late(rt.alloc())?);
-    Ok(())
-}
+        Case {
+            machines: 3,
+            channels: 8,
+            end: 3,
+            left: 60,
+            refused: Event::Fire { channel: 2 },
+            cause: Refusal::NeedsInput { channel: 0 },
+            steps: "2L 7F 0F 0L 1F 1L 2F 3F 3L 4F 4L 5F 5L 6F 6L 7L 1S 0E 1E 2E",
+            served: (2, 1, 3),
+            kept: &[0, 0, 7],
+            hosts: &[0, 1, 2],
+        },
+    ),
+];

@@ -1,8 +1,8 @@
 //! gg_build: units that share a host.
-use crate::networks::{Case, Row, first_wrong};
+use crate::circuits::Circuit::Whole;
+use crate::networks::{Case, Row};
 use gg_net::{Event, Refusal};
 use net_calls::{SUMS, SUMS_TRACE};
-use std::test::Fail;
 
 // Four instances of that module. Their outputs are one.
 const FOUR: &str =
@@ -13,12 +13,12 @@ const FOUR: &str =
 const DEEP: &str =
     "circuit Deep :\nmodule Leaf :\ninput c : Clock\ninput a : UInt<8>\noutput s : UInt<8>\nmem m :\ndata-type => UInt<8>\ndepth => 2\nread-latency => 0\nwrite-latency => 1\nreader => r\nwriter => w\nread-under-write => undefined\nm.r.addr <= bits(a, 0, 0)\nm.r.en <= UInt<1>(1)\nm.r.clk <= c\nm.w.addr <= bits(a, 0, 0)\nm.w.en <= UInt<1>(1)\nm.w.clk <= c\nm.w.mask <= UInt<1>(1)\nm.w.data <= bits(add(m.r.data, a), 7, 0)\ns <= m.r.data\nmodule Mid :\ninput c : Clock\ninput a : UInt<8>\noutput s : UInt<8>\noutput t : UInt<8>\ninst leaf of Leaf\nleaf.c <= c\nleaf.a <= a\ns <= leaf.s\nt <= xor(leaf.s, a)\nmodule Outer :\ninput c : Clock\ninput d : Clock\ninput a : UInt<8>\noutput s : UInt<8>\nreg r : UInt<8>, d\ninst mid of Mid\nmid.c <= c\nmid.a <= a\ns <= bits(add(mid.s, r), 7, 0)\nr <= mid.t\nmodule Deep :\ninput c1 : Clock\ninput c2 : Clock\ninput x : UInt<8>\noutput q : UInt<16>\ninst u of Outer\ninst v of Outer\nu.c <= c1\nu.d <= c2\nv.c <= c2\nv.d <= c1\nu.a <= x\nv.a <= not(x)\nq <= cat(u.s, v.s)\n";
 
-// The two units share a host, in lists among empty ones too:
-// in a cycle they take turns. They share none: no list, an empty one, lists of one unit; the first is through its cycle ahead of the second.
-// Four units share two hosts, by turns. Two units of many levels share one.
-static SHARES: [Row; 4] = [
+/// The two units share a host, in lists among empty ones too:
+/// in a cycle they take turns. They share none: no list, an empty one, lists of one unit; the first is through its cycle ahead of the second.
+/// Four units share two hosts, by turns. Two units of many levels share one.
+pub(crate) static SHARES: [Row; 4] = [
     (
-        SUMS,
+        Whole(SUMS),
         &[
             "{\"units\":[\"u\",\"v\"],\"share\":[[\"u\",\"v\"]]}",
             "{\"units\":[\"u\",\"v\"],\"share\":[[\"v\",\"u\"]]}",
@@ -39,7 +39,7 @@ static SHARES: [Row; 4] = [
         },
     ),
     (
-        SUMS,
+        Whole(SUMS),
         &[
             "{\"units\":[\"u\",\"v\"],\"share\":[]}",
             "{\"units\":[\"u\",\"v\"],\"share\":[[]]}",
@@ -61,7 +61,7 @@ static SHARES: [Row; 4] = [
         },
     ),
     (
-        FOUR,
+        Whole(FOUR),
         &[
             "{\"units\":[\"u\",\"v\",\"w\",\"z\"],\"share\":[[\"u\",\"w\"],[\"v\",\"z\"]]}",
             "{\"units\":[\"u\",\"v\",\"w\",\"z\"],\"share\":[[\"z\",\"v\"],[\"w\",\"u\"]]}",
@@ -81,7 +81,7 @@ static SHARES: [Row; 4] = [
         },
     ),
     (
-        DEEP,
+        Whole(DEEP),
         &["{\"units\":[\"u\",\"v\"],\"share\":[[\"u\",\"v\"]]}"],
         "cycle x\n0 01\n1 10\n2 83\n3 05\n4 62\n",
         Case {
@@ -98,9 +98,3 @@ static SHARES: [Row; 4] = [
         },
     ),
 ];
-
-#[test]
-fn units_share_hosts(rt: HostRuntime) -> Result<(), Fail> {
-    assert!(rt; first_wrong(rt.alloc(), &SHARES) == None);
-    Ok(())
-}

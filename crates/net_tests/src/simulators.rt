@@ -3,15 +3,17 @@ ghost use Rattle.std.specs.Prelude.{◌≡◌, ◌<◌, ◌+◌, length};
 ghost use Rattle.gg_flat.specs.Run.{IsColumns};
 ghost use Rattle.gg_flat.specs.Settled.{IsInputs};
 
+use crate::circuits::Circuit::{Memory, Whole};
+use crate::circuits::{Circuit, text_of};
 use gg_clocks::Ratio;
 use gg_order::Design;
 use gg_refsim::Mono;
 use gg_trace::Trace;
 use net_calls::{
-    COUNTER, COUNTER_TRACE, DUAL, HALT, SIX_CYCLES, THREE_CYCLES, design_of, inputs_of, memory,
+    COUNTER, COUNTER_TRACE, DUAL, HALT, SIX_CYCLES, THREE_CYCLES, design_of, inputs_of,
 };
-use std::alloc::{AllocError, Global};
-use std::test::Fail;
+use std::alloc::Global;
+use std::process::Abort;
 
 // The only output of a cycle.
 fn step(mono: &mut Mono<'_>, inputs: &[u128]) -> u128
@@ -75,82 +77,72 @@ fn is_run_of(
     }
 }
 
-// Whether a circuit gives these outputs on a trace.
-fn is_run(alloc: Global, circuit: &str, trace: &str, outputs: &[u128]) -> bool {
-    match design_of(alloc, circuit) {
-        Some(design) => is_run_of(alloc, &design, &[], trace, outputs),
-        None => false,
+// Whether a design gives these outputs on a trace. If it skips, it has two clocks, and the second has an edge in two of three ticks.
+fn is_clocked(alloc: Global, design: &Design, skips: bool, trace: &str, outputs: &[u128]) -> bool {
+    if !skips {
+        return is_run_of(alloc, design, &[], trace, outputs);
     }
-}
-
-#[test]
-fn the_counter_counts(rt: HostRuntime) -> Result<(), Fail> {
-    assert!(rt; is_run(rt.alloc(), COUNTER, COUNTER_TRACE, &[0, 0, 1, 2]));
-    Ok(())
-}
-
-// Whether a circuit with two clocks, the second of which has an edge in two of three ticks, gives these outputs.
-fn is_clocked_run(alloc: Global, circuit: &str, trace: &str, outputs: &[u128]) -> bool {
-    match (
-        design_of(alloc, circuit),
-        Ratio::new(1, 1),
-        Ratio::new(2, 3),
-    ) {
-        (Some(design), Some(each), Some(some)) => {
-            is_run_of(alloc, &design, &[each, some], trace, outputs)
-        }
+    match (Ratio::new(1, 1), Ratio::new(2, 3)) {
+        (Some(each), Some(some)) => is_run_of(alloc, design, &[each, some], trace, outputs),
         _ => false,
     }
 }
 
-#[test]
-fn a_clock_skips_ticks(rt: HostRuntime) -> Result<(), Fail> {
-    assert!(rt; is_clocked_run(rt.alloc(), DUAL, SIX_CYCLES, &[0, 0, 1, 3, 3, 7]));
-    assert!(rt; is_run(rt.alloc(), DUAL, SIX_CYCLES, &[0, 0, 1, 3, 6, 10]));
-    Ok(())
+// Whether the design of a circuit gives these outputs.
+fn is_run(alloc: Global, circuit: &str, skips: bool, trace: &str, outputs: &[u128]) -> bool {
+    match design_of(alloc, circuit) {
+        Some(design) => is_clocked(alloc, &design, skips, trace, outputs),
+        None => false,
+    }
 }
 
-#[test]
-fn a_stop_is_an_output(rt: HostRuntime) -> Result<(), Fail> {
-    assert!(rt; is_run(rt.alloc(), HALT, SIX_CYCLES, &[0, 0, 1, 0, 0, 0]));
-    Ok(())
+// The same of a circuit of the table.
+fn is_right(alloc: Global, circuit: &Circuit, skips: bool, trace: &str, outputs: &[u128]) -> bool {
+    match text_of(alloc, circuit) {
+        Ok(text) => is_run(alloc, text.as_str(), skips, trace, outputs),
+        Err(_) => false,
+    }
 }
 
-// Two lines of a memory, and its outputs. A word that is written is read at once, or a cycle late, or two cycles late where the old word
-// is read; an undefined word is read as the old one.
-static MEMORIES: [(&str, &str, [u128; 3]); 4] = [
+// A circuit, whether its second clock skips a tick in three, a trace, and the outputs.
+static RUNS: [(Circuit, bool, &str, &[u128]); 8] = [
+    (Whole(COUNTER), false, COUNTER_TRACE, &[0, 0, 1, 2]),
+    (Whole(DUAL), true, SIX_CYCLES, &[0, 0, 1, 3, 3, 7]),
+    (Whole(DUAL), false, SIX_CYCLES, &[0, 0, 1, 3, 6, 10]),
+    // a stop is an output
+    (Whole(HALT), false, SIX_CYCLES, &[0, 0, 1, 0, 0, 0]),
+    // a word that is written is read at once, or a cycle late, or two cycles late where the old word is read; an undefined word is
+    // read as the old one
     (
-        "read-latency => 0",
-        "read-under-write => undefined",
-        [0, 7, 7],
+        Memory("read-latency => 0", "read-under-write => undefined"),
+        false,
+        THREE_CYCLES,
+        &[0, 7, 7],
     ),
-    ("read-latency => 1", "read-under-write => new", [0, 7, 7]),
-    ("read-latency => 1", "read-under-write => old", [0, 0, 7]),
     (
-        "read-latency => 1",
-        "read-under-write => undefined",
-        [0, 0, 7],
+        Memory("read-latency => 1", "read-under-write => new"),
+        false,
+        THREE_CYCLES,
+        &[0, 7, 7],
+    ),
+    (
+        Memory("read-latency => 1", "read-under-write => old"),
+        false,
+        THREE_CYCLES,
+        &[0, 0, 7],
+    ),
+    (
+        Memory("read-latency => 1", "read-under-write => undefined"),
+        false,
+        THREE_CYCLES,
+        &[0, 0, 7],
     ),
 ];
 
-// Whether the memory with these two lines gives these outputs.
-fn is_read(
-    alloc: Global,
-    latency: &str,
-    under_write: &str,
-    outputs: &[u128],
-) -> Result<bool, AllocError> {
-    let circuit = memory(alloc, latency, under_write)?;
-    Ok(is_run(alloc, circuit.as_str(), THREE_CYCLES, outputs))
-}
-
-#[test]
-fn memories_are_read(rt: HostRuntime) -> Result<(), Fail> {
-    for (latency, under_write, outputs) in &MEMORIES {
-        assert!(rt;
-            is_read(rt.alloc(), latency, under_write, outputs)?,
-            "{latency} {under_write}"
-        );
+/// Checks the outputs of each circuit. A failure names the row, counted from 0.
+pub(crate) fn check_simulators(rt: &impl Abort, alloc: Global) {
+    for (row, (circuit, skips, trace, outputs)) in RUNS.iter().enumerate() {
+        let holds = is_right(alloc, circuit, *skips, trace, outputs);
+        assert!(rt; holds, "simulators, row {row}");
     }
-    Ok(())
 }

@@ -1,38 +1,32 @@
 //! Two workers run side by side, with queues.
-use crate::runs::{Run, Texts, is_expected};
+use crate::runs::{Row, Table, is_expected};
 use gg_ruled::Ruled;
 use net_calls::{Meeting, PAIR, PAIR_TRACE};
 use std::alloc::Global;
 use std::sync::Wait;
-use std::test::Fail;
 use std::thread::Threads;
 
-// A run of the two units that feed each other in one cycle. All of its 42 steps may be left but one, that of the source.
-static BOTH: Run = Run {
-    begin: 0,
-    workers: 2,
-    upto: 2,
-    lodge: false,
-    least: 0,
-    most: 41,
-    kept: &[0x11, 0x83],
-};
+// A run of the two units. All of its 42 steps may be left but one, that of the source.
+const RUN: Row = (0, 2, 2, 0, 41);
 
-static PAIR_OF_UNITS: Texts = Texts {
+// Two units that feed each other in one cycle.
+static BOTH: Table = Table {
     circuit: PAIR,
     partition: "{\"units\":[\"a\",\"b\"]}",
     trace: PAIR_TRACE,
+    lodge: false,
+    kept: &[0x11, 0x83],
+    rows: &[RUN],
 };
 
 // Whether that run with queues, at this gate, leaves what is expected.
 fn meets<R: Threads + Wait + Copy + Send + Sync>(rt: R, alloc: Global, gate: &Meeting) -> bool {
-    is_expected::<R, Ruled<R>, Meeting>(&rt, rt, alloc, &PAIR_OF_UNITS, &BOTH, gate)
+    is_expected::<R, Ruled<R>, Meeting>(&rt, rt, alloc, &BOTH, RUN, gate)
 }
 
 #[test]
-fn two_workers_meet(rt: HostRuntime) -> Result<(), Fail> {
+fn two_workers_meet(rt: HostRuntime) {
     let gate = Meeting::new();
-    assert!(rt; meets(rt, rt.alloc(), &gate));
-    assert!(rt; gate.has_met());
-    Ok(())
+    let is_right = meets(rt, rt.alloc(), &gate) && gate.has_met();
+    assert!(rt; is_right);
 }

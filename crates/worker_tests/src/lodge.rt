@@ -12,9 +12,15 @@ use gg_node::Host;
 use std::alloc::{AllocError, Global};
 
 /// Has the threads of a node, or none if no node is in.
-#[derive(Drop)]
 pub(crate) struct Lodge<'a> {
     node: Option<Node<'a>>,
+}
+
+impl Drop for Lodge<'_> {
+    fn drop(self) {
+        let Self { node } = self;
+        drop(node);
+    }
 }
 
 impl<'a> Lodge<'a> {

@@ -22,28 +22,20 @@ use std::alloc::Global;
 use std::marker::Brand;
 use std::thread::Threads;
 
-/// A circuit with its partition and its trace.
-#[derive(Drop)]
-pub(crate) struct Texts {
+/// A run by workers, and what is expected of it: the cycle to which the network is brought before the run, the workers, the cycle up to
+/// which they step its machines, and how many steps are left after it, at least and at most.
+pub(crate) type Row = (u64, u32, u64, u64, u64);
+
+/// Runs of one network, each from the opening.
+pub(crate) struct Table {
     pub(crate) circuit: &'static str,
     pub(crate) partition: &'static str,
     pub(crate) trace: &'static str,
-}
-
-/// A run by workers, and what is expected of it.
-#[derive(Drop)]
-pub(crate) struct Run {
-    // the cycle to which the network is brought before the run
-    pub(crate) begin: u64,
-    pub(crate) workers: u32,
-    pub(crate) upto: u64,
     // whether a host without threads is beside the others
     pub(crate) lodge: bool,
-    // how many steps are left after it, at least and at most
-    pub(crate) least: u64,
-    pub(crate) most: u64,
     // what the last machine, a tray, keeps at the end
     pub(crate) kept: &'static [u128],
+    pub(crate) rows: &'static [Row],
 }
 
 // Brings a network to a cycle, if that lies before it.
@@ -54,10 +46,11 @@ fn bring<Z: Streams>(net: &mut Net<Node<'_>, Z>, cycle: u64) {
 }
 
 // Whether a network is as expected after a run, and at its end.
-fn ends<Z: Streams>(net: &mut Net<Node<'_>, Z>, run: &Run) -> bool {
+fn ends<Z: Streams>(net: &mut Net<Node<'_>, Z>, table: &Table, row: Row) -> bool {
+    let (_, _, _, least, most) = row;
     let rest = left(net);
     run_to_end(net);
-    run.least <= rest && rest <= run.most && left(net) == 0 && keeps(net, run.kept)
+    least <= rest && rest <= most && left(net) == 0 && keeps(net, table.kept)
 }
 
 // Whether the last machine keeps these values, one for each cycle from 0 on.
@@ -77,10 +70,11 @@ fn keeps_beside<Z: Streams>(net: &Net<Lodge<'_>, Z>, values: &[u128]) -> bool {
 }
 
 // Whether such a network is as expected after a run, and at its end.
-fn ends_beside<Z: Streams>(net: &mut Net<Lodge<'_>, Z>, run: &Run) -> bool {
+fn ends_beside<Z: Streams>(net: &mut Net<Lodge<'_>, Z>, table: &Table, row: Row) -> bool {
+    let (_, _, _, least, most) = row;
     let rest = left(net);
     run_to_end(net);
-    run.least <= rest && rest <= run.most && left(net) == 0 && keeps_beside(net, run.kept)
+    least <= rest && rest <= most && left(net) == 0 && keeps_beside(net, table.kept)
 }
 
 // Whether a run of such a network leaves what is expected.
@@ -89,12 +83,14 @@ fn goes_beside<R: Threads + Sync, L: Link, Z: Streams, G: Gate + Sync>(
     home: L::Home,
     alloc: Global,
     net: Net<Lodge<'_>, Z>,
-    run: &Run,
+    table: &Table,
+    row: Row,
     gate: &G,
 ) -> bool {
-    let workers = run.workers.min(64);
-    match work::<R, Lodge<'_>, L, Z, G>(rt, home, alloc, net, workers, run.upto, gate) {
-        Ok(mut net) => ends_beside(&mut net, run),
+    let (_, workers, upto, _, _) = row;
+    let workers = workers.min(64);
+    match work::<R, Lodge<'_>, L, Z, G>(rt, home, alloc, net, workers, upto, gate) {
+        Ok(mut net) => ends_beside(&mut net, table, row),
         Err(_) => false,
     }
 }
@@ -105,19 +101,21 @@ fn goes<R: Threads + Sync, L: Link, Z: Streams, G: Gate + Sync>(
     home: L::Home,
     alloc: Global,
     mut net: Net<Node<'_>, Z>,
-    run: &Run,
+    table: &Table,
+    row: Row,
     gate: &G,
 ) -> bool {
-    bring(&mut net, run.begin);
-    if run.lodge {
+    let (begin, workers, upto, _, _) = row;
+    bring(&mut net, begin);
+    if table.lodge {
         return match beside_none::<Z>(alloc, net) {
-            Ok(net) => goes_beside::<R, L, Z, G>(rt, home, alloc, net, run, gate),
+            Ok(net) => goes_beside::<R, L, Z, G>(rt, home, alloc, net, table, row, gate),
             Err(_) => false,
         };
     }
-    let workers = run.workers.min(64);
-    match work::<R, Node<'_>, L, Z, G>(rt, home, alloc, net, workers, run.upto, gate) {
-        Ok(mut net) => ends(&mut net, run),
+    let workers = workers.min(64);
+    match work::<R, Node<'_>, L, Z, G>(rt, home, alloc, net, workers, upto, gate) {
+        Ok(mut net) => ends(&mut net, table, row),
         Err(_) => false,
     }
 }
@@ -132,13 +130,14 @@ fn is_run<R: Threads + Sync, L: Link, Z: Streams, G: Gate + Sync>(
     _request: &Request,
     plan: &Plan,
     inputs: &Trace,
-    run: &Run,
+    table: &Table,
+    row: Row,
     gate: &G,
 ) -> bool
     requires { IsToRun plan.now inputs.now.columns inputs.now.rows Z.flow }
 {
     match build::<Z>(alloc, plan, inputs) {
-        Ok(net) => goes::<R, L, Z, G>(rt, home, alloc, net, run, gate),
+        Ok(net) => goes::<R, L, Z, G>(rt, home, alloc, net, table, row, gate),
         Err(_) => false,
     }
 }
@@ -151,7 +150,8 @@ fn is_cut<R: Threads + Sync, L: Link, G: Gate + Sync>(
     design: &Design,
     request: &Request,
     inputs: &Trace,
-    run: &Run,
+    table: &Table,
+    row: Row,
     gate: &G,
 ) -> bool
     requires small { IsSmall request.now }
@@ -166,7 +166,9 @@ fn is_cut<R: Threads + Sync, L: Link, G: Gate + Sync>(
     let _ = inputs.rows();
     match cut(alloc, design, request, 1) {
         Ok(plan) => {
-            is_run::<R, L, Brand, G>(rt, home, alloc, design, request, &plan, inputs, run, gate)
+            is_run::<R, L, Brand, G>(
+                rt, home, alloc, design, request, &plan, inputs, table, row, gate,
+            )
         }
         Err(fault) => {
             drop(fault);
@@ -181,18 +183,18 @@ fn is_fed<R: Threads + Sync, L: Link, G: Gate + Sync>(
     home: L::Home,
     alloc: Global,
     design: &Design,
-    texts: &Texts,
-    run: &Run,
+    table: &Table,
+    row: Row,
     gate: &G,
 ) -> bool
     requires keeps { KeepsToTree design.now.circuit design.now.tree }
     requires held { AreHeldOnce design.now.circuit }
     requires fresh { IsFresh design.now.circuit }
 {
-    match request_of(alloc, texts.partition) {
-        Some(request) => match inputs_of(alloc, design, texts.trace) {
+    match request_of(alloc, table.partition) {
+        Some(request) => match inputs_of(alloc, design, table.trace) {
             Some(inputs) => {
-                is_cut::<R, L, G>(rt, home, alloc, design, &request, &inputs, run, gate)
+                is_cut::<R, L, G>(rt, home, alloc, design, &request, &inputs, table, row, gate)
             }
             None => false,
         },
@@ -200,17 +202,17 @@ fn is_fed<R: Threads + Sync, L: Link, G: Gate + Sync>(
     }
 }
 
-/// Whether a run of the network of a circuit and a partition leaves what is expected. False, too, if an allocation fails.
+/// Whether a run of the network of a table leaves what is expected. False, too, if an allocation fails.
 pub(crate) fn is_expected<R: Threads + Sync, L: Link, G: Gate + Sync>(
     rt: &R,
     home: L::Home,
     alloc: Global,
-    texts: &Texts,
-    run: &Run,
+    table: &Table,
+    row: Row,
     gate: &G,
 ) -> bool {
-    match design_of(alloc, texts.circuit) {
-        Some(design) => is_fed::<R, L, G>(rt, home, alloc, &design, texts, run, gate),
+    match design_of(alloc, table.circuit) {
+        Some(design) => is_fed::<R, L, G>(rt, home, alloc, &design, table, row, gate),
         None => false,
     }
 }

@@ -1,6 +1,6 @@
 //! Runs with rings, from tables: few and many workers, cycles up to which machines are stepped, channels of capacity 1, direct channels,
 //! pipes, and a host without threads.
-use crate::runs::{Run, Texts, is_expected};
+use crate::runs::{Table, is_expected};
 use gg_io::NoGate;
 use gg_ring::Ring;
 use net_calls::{
@@ -8,30 +8,15 @@ use net_calls::{
     THREE_CYCLES, TOGGLE,
 };
 use std::alloc::Global;
-use std::test::Fail;
+use std::process::Abort;
 use std::thread::Threads;
-
-// The cycle to which a network is brought before a run, the workers, the cycle up to which they step its machines, and how
-// many steps are left behind the run, at least and at most.
-type Row = (u64, u32, u64, u64, u64);
-
-// A circuit with its partition and trace, what the last output is, and runs, each from the opening.
-struct Table {
-    texts: Texts,
-    // whether a host without threads is beside the others
-    lodge: bool,
-    kept: &'static [u128],
-    rows: &'static [Row],
-}
 
 static TABLES: [Table; 14] = [
     // two units that feed each other in one cycle: five hosts
     Table {
-        texts: Texts {
-            circuit: PAIR,
-            partition: "{\"units\":[\"a\",\"b\"]}",
-            trace: PAIR_TRACE,
-        },
+        circuit: PAIR,
+        partition: "{\"units\":[\"a\",\"b\"]}",
+        trace: PAIR_TRACE,
         lodge: false,
         kept: &[0x11, 0x83],
         rows: &[
@@ -50,33 +35,27 @@ static TABLES: [Table; 14] = [
     },
     // a memory that is served, by one worker and by three
     Table {
-        texts: Texts {
-            circuit: FOUR_PORTS,
-            partition: "{\"memories\":[\"m\"]}",
-            trace: FOUR_PORTS_TRACE,
-        },
+        circuit: FOUR_PORTS,
+        partition: "{\"memories\":[\"m\"]}",
+        trace: FOUR_PORTS_TRACE,
         lodge: false,
         kept: &[0, 0xf0, 0, 0],
         rows: &[(0, 1, 4, 0, 0), (2, 3, 4, 0, 87)],
     },
     // one channel, by one worker and by 64
     Table {
-        texts: Texts {
-            circuit: TOGGLE,
-            partition: "{}",
-            trace: THREE_CYCLES,
-        },
+        circuit: TOGGLE,
+        partition: "{}",
+        trace: THREE_CYCLES,
         lodge: false,
         kept: &[0, 1, 0],
         rows: &[(0, 1, 3, 0, 0), (0, 64, 3, 0, 11)],
     },
     // the same with a third host, which has no thread: with two workers it is beside the first, and with 64 it is alone
     Table {
-        texts: Texts {
-            circuit: TOGGLE,
-            partition: "{}",
-            trace: THREE_CYCLES,
-        },
+        circuit: TOGGLE,
+        partition: "{}",
+        trace: THREE_CYCLES,
         lodge: true,
         kept: &[0, 1, 0],
         rows: &[
@@ -89,66 +68,54 @@ static TABLES: [Table; 14] = [
     },
     // the two units without the hub between them
     Table {
-        texts: Texts {
-            circuit: PAIR,
-            partition: "{\"units\":[\"a\",\"b\"],\"direct\":true}",
-            trace: PAIR_TRACE,
-        },
+        circuit: PAIR,
+        partition: "{\"units\":[\"a\",\"b\"],\"direct\":true}",
+        trace: PAIR_TRACE,
         lodge: false,
         kept: &[0x11, 0x83],
         rows: &[(0, 0, 2, 26, 26), (0, 2, 2, 0, 25)],
     },
     // an input that goes to the hub and to a unit, which shares its host with another
     Table {
-        texts: Texts {
-            circuit: SUMS,
-            partition: "{\"units\":[\"u\",\"v\"],\"share\":[[\"u\",\"v\"]],\"direct\":true}",
-            trace: SUMS_TRACE,
-        },
+        circuit: SUMS,
+        partition: "{\"units\":[\"u\",\"v\"],\"share\":[[\"u\",\"v\"]],\"direct\":true}",
+        trace: SUMS_TRACE,
         lodge: false,
         kept: &[0, 0xfe, 0xed],
         rows: &[(0, 0, 3, 48, 48), (0, 2, 3, 0, 47)],
     },
     // a unit that gives its sum to two others and to an output: the three on one host
     Table {
-        texts: Texts {
-            circuit: FORK,
-            partition: "{\"units\":[\"u\",\"v\",\"w\"],\"share\":[[\"u\",\"v\",\"w\"]],\"direct\":true}",
-            trace: FORK_TRACE,
-        },
+        circuit: FORK,
+        partition: "{\"units\":[\"u\",\"v\",\"w\"],\"share\":[[\"u\",\"v\",\"w\"]],\"direct\":true}",
+        trace: FORK_TRACE,
         lodge: false,
         kept: &[0, 0, 0x101, 0x1212],
         rows: &[(0, 0, 4, 96, 96), (0, 2, 4, 0, 95)],
     },
     // the same on three hosts
     Table {
-        texts: Texts {
-            circuit: FORK,
-            partition: "{\"units\":[\"u\",\"v\",\"w\"],\"direct\":true}",
-            trace: FORK_TRACE,
-        },
+        circuit: FORK,
+        partition: "{\"units\":[\"u\",\"v\",\"w\"],\"direct\":true}",
+        trace: FORK_TRACE,
         lodge: false,
         kept: &[0, 0, 0x101, 0x1212],
         rows: &[(0, 0, 4, 96, 96), (0, 2, 4, 0, 95)],
     },
     // a unit that gives to itself
     Table {
-        texts: Texts {
-            circuit: BACK,
-            partition: "{\"units\":[\"u\"],\"direct\":true}",
-            trace: SUMS_TRACE,
-        },
+        circuit: BACK,
+        partition: "{\"units\":[\"u\"],\"direct\":true}",
+        trace: SUMS_TRACE,
         lodge: false,
         kept: &[0, 1, 0x11],
         rows: &[(0, 0, 3, 30, 30), (0, 2, 3, 0, 29)],
     },
     // a unit that takes what the other gave a cycle before
     Table {
-        texts: Texts {
-            circuit: PAIR,
-            partition: "{\"units\":[\"a\",\"b\"],\"pipe\":[\"a.k\"]}",
-            trace: PAIR_TRACE,
-        },
+        circuit: PAIR,
+        partition: "{\"units\":[\"a\",\"b\"],\"pipe\":[\"a.k\"]}",
+        trace: PAIR_TRACE,
         lodge: false,
         kept: &[0x0f, 0x9f],
         rows: &[
@@ -161,74 +128,55 @@ static TABLES: [Table; 14] = [
     },
     // the same without the hub between them
     Table {
-        texts: Texts {
-            circuit: PAIR,
-            partition: "{\"units\":[\"a\",\"b\"],\"direct\":true,\"pipe\":[\"a.k\"]}",
-            trace: PAIR_TRACE,
-        },
+        circuit: PAIR,
+        partition: "{\"units\":[\"a\",\"b\"],\"direct\":true,\"pipe\":[\"a.k\"]}",
+        trace: PAIR_TRACE,
         lodge: false,
         kept: &[0x0f, 0x9f],
         rows: &[(0, 0, 2, 26, 26), (0, 2, 2, 0, 25)],
     },
     // an output that comes a cycle late
     Table {
-        texts: Texts {
-            circuit: PAIR,
-            partition: "{\"units\":[\"a\",\"b\"],\"pipe\":[\"q\"]}",
-            trace: PAIR_TRACE,
-        },
+        circuit: PAIR,
+        partition: "{\"units\":[\"a\",\"b\"],\"pipe\":[\"q\"]}",
+        trace: PAIR_TRACE,
         lodge: false,
         kept: &[0, 0x11],
         rows: &[(0, 0, 2, 42, 42), (0, 2, 2, 0, 41)],
     },
     // of two units on one host, one takes its input a cycle late
     Table {
-        texts: Texts {
-            circuit: SUMS,
-            partition: "{\"units\":[\"u\",\"v\"],\"share\":[[\"u\",\"v\"]],\"direct\":true,\"pipe\":[\"v.a\"]}",
-            trace: SUMS_TRACE,
-        },
+        circuit: SUMS,
+        partition: "{\"units\":[\"u\",\"v\"],\"share\":[[\"u\",\"v\"]],\"direct\":true,\"pipe\":[\"v.a\"]}",
+        trace: SUMS_TRACE,
         lodge: false,
         kept: &[0, 0, 0xfe],
         rows: &[(0, 0, 3, 48, 48), (0, 2, 3, 0, 47)],
     },
     // a unit that takes its own output a cycle late
     Table {
-        texts: Texts {
-            circuit: BACK,
-            partition: "{\"units\":[\"u\"],\"direct\":true,\"pipe\":[\"u.a\"]}",
-            trace: SUMS_TRACE,
-        },
+        circuit: BACK,
+        partition: "{\"units\":[\"u\"],\"direct\":true,\"pipe\":[\"u.a\"]}",
+        trace: SUMS_TRACE,
         lodge: false,
         kept: &[0, 1, 0x10],
         rows: &[(0, 0, 3, 30, 30), (0, 2, 3, 0, 29)],
     },
 ];
 
-// The place of the first row of a table whose run isn't as expected.
-fn first_wrong<R: Threads + Sync + Copy>(rt: R, alloc: Global, table: &Table) -> Option<usize> {
+// Checks what each run of a table leaves. A failure names the partition and the row, counted from 0.
+fn check_table<R: Threads + Sync + Abort>(rt: &R, alloc: Global, table: &Table) {
     for place in 0..table.rows.len() {
-        let (begin, workers, upto, least, most) = table.rows[place];
-        let run = Run {
-            begin,
-            workers,
-            upto,
-            lodge: table.lodge,
-            least,
-            most,
-            kept: table.kept,
-        };
-        if !is_expected::<R, Ring, NoGate>(&rt, (), alloc, &table.texts, &run, &NoGate) {
-            return Some(place);
-        }
+        let row = table.rows[place];
+        let is_right = is_expected::<R, Ring, NoGate>(rt, (), alloc, table, row, &NoGate);
+        let partition = table.partition;
+        assert!(rt; is_right, "{partition}, row {place}");
     }
-    None
 }
 
 #[test]
-fn workers_leave_what_is_expected(rt: HostRuntime) -> Result<(), Fail> {
+fn workers_leave_what_is_expected(rt: HostRuntime) {
     for table in &TABLES {
-        assert!(rt; first_wrong(rt, rt.alloc(), table) == None);
+        check_table(&rt, rt.alloc(), table);
     }
-    Ok(())
 }

@@ -28,14 +28,14 @@ pub(crate) enum Call {
     Stages,
 }
 
-/// Checks what a call tells of each text. A failure names the row, counted from 0.
-pub(crate) fn check_all(rt: &impl Abort, alloc: Global, call: Call, rows: &[Row]) {
+/// Checks what a call tells of each text. A failure names the table and the row, counted from 0.
+pub(crate) fn check_rows(rt: &impl Abort, alloc: Global, call: Call, table: &str, rows: &[Row]) {
     for (row, (source, wanted)) in rows.iter().enumerate() {
         let mut found = String::new(alloc);
         tell(&mut found, alloc, call, source).expect(rt, "there is memory");
         assert!(rt;
             found.as_str() == *wanted,
-            "row {row}: told {found}, wanted {wanted}"
+            "{table}, row {row}: told {found}, wanted {wanted}"
         );
     }
 }

@@ -2,7 +2,7 @@
 //! circuit doesn't give `NoMemory`.
 ghost use Rattle.std.specs.Prelude.{◌<◌, ◌^◌, length};
 
-use super::calls::{Call, Row, check_all};
+use super::calls::Row;
 use super::circuits::{CLOCKS, COUNTER, LATE, LOOP, MEM, PAIR, SECOND, TOP, WIDE};
 use super::sources::Source::{Bytes, Chain, Edited, Repeated};
 use gg_front::front;
@@ -33,7 +33,7 @@ fn put_design(out: &mut String, design: &Design) -> Result<(), AllocError> {
 }
 
 /// Circuits with a line changed, and bytes that are no text.
-static CIRCUITS: [Row; 62] = [
+pub(crate) static CIRCUITS: [Row; 62] = [
     (Bytes(b"\xff"), "not text"),
     (Edited(COUNTER, 0, ""), "4 signals 1 in 1 out 1 instances"),
     (Edited(SECOND, 0, ""), "4 signals 1 in 1 out 1 instances"),
@@ -218,7 +218,7 @@ const STOPPED: &str = "circuit Top :\nmodule Top :\ninput clock : Clock\ninput v
 const STOP: &str = "stop(clock, v, 1)\n";
 
 /// Circuits at the limits of depth, signals, words and instances, and beyond them.
-static CHAINS: [Row; 9] = [
+pub(crate) static CHAINS: [Row; 9] = [
     (
         Chain(17, 2, WIRE),
         "131072 signals 0 in 0 out 262143 instances",
@@ -238,14 +238,3 @@ static CHAINS: [Row; 9] = [
         "F15 signals 200001",
     ),
 ];
-
-#[test]
-fn circuits_are_told(rt: HostRuntime) {
-    check_all(&rt, rt.alloc(), Call::Front, &CIRCUITS);
-}
-
-// `rt try --test` takes more than a minute for this one.
-#[test]
-fn limits_are_told(rt: HostRuntime) {
-    check_all(&rt, rt.alloc(), Call::Front, &CHAINS);
-}

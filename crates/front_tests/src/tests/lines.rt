@@ -1,5 +1,5 @@
 //! Lines and their tokens, worked by hand from the table of tokens.
-use super::calls::{Call, Row, check_all};
+use super::calls::Row;
 use super::sources::Source::Whole;
 use gg_lex::{LexFault, Tok, lex, tokens};
 use std::alloc::{AllocError, Global};
@@ -40,7 +40,8 @@ fn put_token(out: &mut String, token: &Tok) -> Result<(), AllocError> {
     }
 }
 
-static LEXED: [Row; 40] = [
+/// Lines through `lex`.
+pub(crate) static LEXED: [Row; 40] = [
     (Whole(""), ""),
     (Whole(" \t "), ""),
     (Whole("a<-1"), "a <- #1 "),
@@ -89,13 +90,8 @@ static LEXED: [Row; 40] = [
     (Whole("UInt<8>(\"hf\")"), "UInt < #8 > ( \"hf\" ) "),
 ];
 
-static TOKENS: [Row; 2] = [
+/// Lines through `tokens`.
+pub(crate) static TOKENS: [Row; 2] = [
     (Whole("node a = b"), "node a = b "),
     (Whole("node #"), "!5"),
 ];
-
-#[test]
-fn lines_are_read(rt: HostRuntime) {
-    check_all(&rt, rt.alloc(), Call::Lex, &LEXED);
-    check_all(&rt, rt.alloc(), Call::Tokens, &TOKENS);
-}

@@ -1,5 +1,5 @@
 //! Texts and what `read_circuit` reads of them, worked by hand from the grammar.
-use super::calls::{Call, Row, check_all};
+use super::calls::Row;
 use super::circuits::{COUNTER, SECOND};
 use super::sources::Source::{Bytes, Edited, Repeated, Whole};
 use gg_ast::{Circuit, Module, Report, StmtKind};
@@ -86,7 +86,7 @@ const NODE: &str = "    node n = add(c, UInt<1>(\"h1\"))\n";
 const LAST: &str = "\n    c <= mux(reset, UInt<8>(\"h0\"), bits(n, 7, 0))\n";
 
 /// The counter with a line changed, its first lines, and brackets in it.
-static COUNTERS: [Row; 34] = [
+pub(crate) static COUNTERS: [Row; 34] = [
     (
         Edited(COUNTER, 0, ""),
         "Counter 1 / Counter 2 3 4 5 7 reg 9 node 10 <= 11 <=",
@@ -198,7 +198,7 @@ static COUNTERS: [Row; 34] = [
 ];
 
 /// The counter in the second spelling: mixed with the first, with names that are words of the second, and refused.
-static SECOND_COUNTERS: [Row; 37] = [
+pub(crate) static SECOND_COUNTERS: [Row; 37] = [
     (
         Edited(SECOND, 0, ""),
         "Counter 2 / Counter 3 4 5 6 7 reg 8 node 9 <= 10 <=",
@@ -318,7 +318,7 @@ static SECOND_COUNTERS: [Row; 37] = [
 ];
 
 /// Whole texts, and bytes that are none.
-static TEXTS: [Row; 11] = [
+pub(crate) static TEXTS: [Row; 11] = [
     (Bytes(b"\xff"), "not text"),
     (
         Whole(
@@ -357,10 +357,3 @@ static TEXTS: [Row; 11] = [
         "syntax line 5",
     ),
 ];
-
-#[test]
-fn texts_are_read(rt: HostRuntime) {
-    check_all(&rt, rt.alloc(), Call::Read, &COUNTERS);
-    check_all(&rt, rt.alloc(), Call::Read, &SECOND_COUNTERS);
-    check_all(&rt, rt.alloc(), Call::Read, &TEXTS);
-}

@@ -4,7 +4,7 @@
 ghost use Rattle.gg_flat.specs.WellFormed.{IsWellFormed};
 ghost use Rattle.gg_shape.specs.Judged.{IsShaped};
 
-use super::calls::{Call, Row, check_all};
+use super::calls::Row;
 use super::circuits::{COUNTER, LOOP, PAIR, STORE};
 use super::sources::Source::{Chain, Edited};
 use gg_ast::Circuit;
@@ -71,7 +71,7 @@ fn put_paths(out: &mut String, piece: &Piece, signals: &[u32]) -> Result<(), All
 
 /// Circuits with a line changed, and a chain that is too deep. Signals are counted by hand: of `STORE` three ports of
 /// the top without its clock's, three of `Store`, three fields of the reader and four of the writer without `clk`.
-static STAGES: [Row; 14] = [
+pub(crate) static STAGES: [Row; 14] = [
     (Edited(COUNTER, 0, ""), "4 signals 4 in order"),
     (Edited(STORE, 0, ""), "13 signals 13 in order"),
     (
@@ -102,8 +102,3 @@ static STAGES: [Row; 14] = [
     ),
     (Edited(PAIR, 23, "a.k <= a.q"), "loop: a.k a.q"),
 ];
-
-#[test]
-fn stages_are_told(rt: HostRuntime) {
-    check_all(&rt, rt.alloc(), Call::Stages, &STAGES);
-}

@@ -1,7 +1,8 @@
 //! What `check` prints.
-use super::check;
-use golden_calls::{BANKS, BOTH, CHECK, FORK, KEPT, LATE, PAIR, TILES, TWO, ask_of};
-use std::test::Fail;
+use super::calls::Call::Ask;
+use super::calls::End::{Prints, Refuses};
+use super::calls::Row;
+use golden_calls::{BANKS, BOTH, CHECK, FORK, KEPT, LATE, PAIR, TILES, TWO};
 
 // A memory, and beside it an instance that works its address out.
 const CELL: &str =
@@ -35,278 +36,426 @@ const LEVELS: &str =
 const STOPS: &str =
     "circuit Top :\nmodule Cell :\ninput clock : Clock\ninput i : UInt<2>\nstop(clock, eq(i, UInt<2>(1)), 1) : done\nmodule Top :\ninput clock : Clock\ninput x : UInt<2>\noutput y : UInt<2>\ninst c of Cell\nc.clock <= clock\nc.i <= x\ny <= x\nstop(clock, eq(x, UInt<2>(3)), 0) : last\n";
 
-// Words, a circuit, a partition, and the text.
-static CUTS: [(&str, &str, &str, &str); 21] = [
+/// Cuts that are printed.
+pub(crate) static CUTS: [Row; 21] = [
     (
-        "golden check k1.fir p.json --capacity 1",
-        PAIR,
-        "{\"units\":[\"a\",\"b\"]}",
-        "machine hub: host 0\nmachine a host 1\nmachine b host 2\nmachine in:x host 3\nmachine out:q host 4\nchannel x in:x hub: UInt<8> capacity 1 needs -\nchannel a.x hub: a UInt<8> capacity 1 needs x\nchannel a.k hub: a UInt<8> capacity 1 needs b.n\nchannel a.p a hub: UInt<8> capacity 1 needs a.x\nchannel a.q a hub: UInt<8> capacity 1 needs a.x a.k\nchannel b.m hub: b UInt<8> capacity 1 needs a.p\nchannel b.n b hub: UInt<8> capacity 1 needs b.m\nchannel q hub: out:q UInt<8> capacity 1 needs a.q\n",
+        Ask(
+            "golden check k1.fir p.json --capacity 1",
+            PAIR,
+            "{\"units\":[\"a\",\"b\"]}",
+            "",
+        ),
+        Prints(
+            2,
+            "machine hub: host 0\nmachine a host 1\nmachine b host 2\nmachine in:x host 3\nmachine out:q host 4\nchannel x in:x hub: UInt<8> capacity 1 needs -\nchannel a.x hub: a UInt<8> capacity 1 needs x\nchannel a.k hub: a UInt<8> capacity 1 needs b.n\nchannel a.p a hub: UInt<8> capacity 1 needs a.x\nchannel a.q a hub: UInt<8> capacity 1 needs a.x a.k\nchannel b.m hub: b UInt<8> capacity 1 needs a.p\nchannel b.n b hub: UInt<8> capacity 1 needs b.m\nchannel q hub: out:q UInt<8> capacity 1 needs a.q\n",
+        ),
     ),
     (
-        "golden check k1.fir p.json",
-        TILES,
-        "{\"units\":[\"tile.core\"]}",
-        "machine hub: host 0\nmachine tile.core host 1\nmachine out:o host 2\nchannel tile.core.o tile.core hub: UInt<4> capacity 2 needs -\nchannel o hub: out:o UInt<4> capacity 2 needs tile.core.o\n",
+        Ask(
+            "golden check k1.fir p.json",
+            TILES,
+            "{\"units\":[\"tile.core\"]}",
+            "",
+        ),
+        Prints(
+            2,
+            "machine hub: host 0\nmachine tile.core host 1\nmachine out:o host 2\nchannel tile.core.o tile.core hub: UInt<4> capacity 2 needs -\nchannel o hub: out:o UInt<4> capacity 2 needs tile.core.o\n",
+        ),
     ),
     (
-        "golden check k1.fir p.json --capacity=3",
-        TILES,
-        "{\"capacity\":{\"o\":4}}",
-        "machine hub: host 0\nmachine out:o host 1\nchannel o hub: out:o UInt<4> capacity 4 needs -\n",
+        Ask(
+            "golden check k1.fir p.json --capacity=3",
+            TILES,
+            "{\"capacity\":{\"o\":4}}",
+            "",
+        ),
+        Prints(
+            2,
+            "machine hub: host 0\nmachine out:o host 1\nchannel o hub: out:o UInt<4> capacity 4 needs -\n",
+        ),
     ),
     (
-        "golden check k1.fir p.json",
-        TWO,
-        "{\"units\":[\"u\",\"v\"],\"share\":[[\"u\",\"v\"]]}",
-        "machine hub: host 0\nmachine u host 1\nmachine v host 1\nmachine in:x host 2\nmachine out:p host 3\nmachine out:q host 4\nchannel x in:x hub: UInt<8> capacity 2 needs -\nchannel u.a hub: u UInt<8> capacity 2 needs x\nchannel u.s u hub: UInt<8> capacity 2 needs -\nchannel v.a hub: v UInt<8> capacity 2 needs x\nchannel v.s v hub: UInt<8> capacity 2 needs -\nchannel p hub: out:p UInt<8> capacity 2 needs u.s\nchannel q hub: out:q UInt<8> capacity 2 needs v.s\n",
+        Ask(
+            "golden check k1.fir p.json",
+            TWO,
+            "{\"units\":[\"u\",\"v\"],\"share\":[[\"u\",\"v\"]]}",
+            "",
+        ),
+        Prints(
+            2,
+            "machine hub: host 0\nmachine u host 1\nmachine v host 1\nmachine in:x host 2\nmachine out:p host 3\nmachine out:q host 4\nchannel x in:x hub: UInt<8> capacity 2 needs -\nchannel u.a hub: u UInt<8> capacity 2 needs x\nchannel u.s u hub: UInt<8> capacity 2 needs -\nchannel v.a hub: v UInt<8> capacity 2 needs x\nchannel v.s v hub: UInt<8> capacity 2 needs -\nchannel p hub: out:p UInt<8> capacity 2 needs u.s\nchannel q hub: out:q UInt<8> capacity 2 needs v.s\n",
+        ),
     ),
     (
-        "golden check k1.fir p.json",
-        "circuit Sum :\nmodule Sum :\ninput x : SInt<4>\noutput y : SInt<5>\ny <= add(x, x)\n",
-        "{}",
-        "machine hub: host 0\nmachine in:x host 1\nmachine out:y host 2\nchannel x in:x hub: SInt<4> capacity 2 needs -\nchannel y hub: out:y SInt<5> capacity 2 needs x\n",
+        Ask(
+            "golden check k1.fir p.json",
+            "circuit Sum :\nmodule Sum :\ninput x : SInt<4>\noutput y : SInt<5>\ny <= add(x, x)\n",
+            "{}",
+            "",
+        ),
+        Prints(
+            2,
+            "machine hub: host 0\nmachine in:x host 1\nmachine out:y host 2\nchannel x in:x hub: SInt<4> capacity 2 needs -\nchannel y hub: out:y SInt<5> capacity 2 needs x\n",
+        ),
     ),
     // a unit in the parent of a listed memory
     (
-        "golden check k1.fir p.json",
-        CELL,
-        "{\"units\":[\"c.leaf\"],\"memories\":[\"c.m\"]}",
-        "machine hub: host 0\nmachine c.leaf host 1\nmachine c.m host 2\nmachine in:x host 3\nmachine out:y host 4\nchannel x in:x hub: UInt<2> capacity 2 needs -\nchannel c.leaf.a hub: c.leaf UInt<2> capacity 2 needs x\nchannel c.leaf.b c.leaf hub: UInt<2> capacity 2 needs c.leaf.a\nchannel c.m.r.addr hub: c.m UInt<2> capacity 2 needs c.leaf.b\nchannel c.m.r.en hub: c.m UInt<1> capacity 2 needs -\nchannel c.m.r.data c.m hub: UInt<4> capacity 2 needs c.m.r.addr c.m.r.en\nchannel y hub: out:y UInt<4> capacity 2 needs c.m.r.data\n",
+        Ask(
+            "golden check k1.fir p.json",
+            CELL,
+            "{\"units\":[\"c.leaf\"],\"memories\":[\"c.m\"]}",
+            "",
+        ),
+        Prints(
+            2,
+            "machine hub: host 0\nmachine c.leaf host 1\nmachine c.m host 2\nmachine in:x host 3\nmachine out:y host 4\nchannel x in:x hub: UInt<2> capacity 2 needs -\nchannel c.leaf.a hub: c.leaf UInt<2> capacity 2 needs x\nchannel c.leaf.b c.leaf hub: UInt<2> capacity 2 needs c.leaf.a\nchannel c.m.r.addr hub: c.m UInt<2> capacity 2 needs c.leaf.b\nchannel c.m.r.en hub: c.m UInt<1> capacity 2 needs -\nchannel c.m.r.data c.m hub: UInt<4> capacity 2 needs c.m.r.addr c.m.r.en\nchannel y hub: out:y UInt<4> capacity 2 needs c.m.r.data\n",
+        ),
     ),
     // a listed memory in a unit
     (
-        "golden check k1.fir p.json",
-        CELL,
-        "{\"units\":[\"c\"],\"memories\":[\"c.m\"]}",
-        "machine hub: host 0\nmachine c host 1\nmachine c.m host 2\nmachine in:x host 3\nmachine out:y host 4\nchannel x in:x hub: UInt<2> capacity 2 needs -\nchannel c.i hub: c UInt<2> capacity 2 needs x\nchannel c.o c hub: UInt<4> capacity 2 needs c.m.r.data\nchannel c.m.r.addr c c.m UInt<2> capacity 2 needs c.i\nchannel c.m.r.en c c.m UInt<1> capacity 2 needs -\nchannel c.m.r.data c.m c UInt<4> capacity 2 needs c.m.r.addr c.m.r.en\nchannel y hub: out:y UInt<4> capacity 2 needs c.o\n",
+        Ask(
+            "golden check k1.fir p.json",
+            CELL,
+            "{\"units\":[\"c\"],\"memories\":[\"c.m\"]}",
+            "",
+        ),
+        Prints(
+            2,
+            "machine hub: host 0\nmachine c host 1\nmachine c.m host 2\nmachine in:x host 3\nmachine out:y host 4\nchannel x in:x hub: UInt<2> capacity 2 needs -\nchannel c.i hub: c UInt<2> capacity 2 needs x\nchannel c.o c hub: UInt<4> capacity 2 needs c.m.r.data\nchannel c.m.r.addr c c.m UInt<2> capacity 2 needs c.i\nchannel c.m.r.en c c.m UInt<1> capacity 2 needs -\nchannel c.m.r.data c.m c UInt<4> capacity 2 needs c.m.r.addr c.m.r.en\nchannel y hub: out:y UInt<4> capacity 2 needs c.o\n",
+        ),
     ),
     // a unit with ports that are not used
     (
-        "golden check k1.fir p.json",
-        SPARE,
-        "{\"units\":[\"u\"]}",
-        "machine hub: host 0\nmachine u host 1\nmachine in:x host 2\nmachine out:y host 3\nchannel x in:x hub: UInt<4> capacity 2 needs -\nchannel u.a hub: u UInt<4> capacity 2 needs x\nchannel u.b hub: u UInt<3> capacity 2 needs -\nchannel u.s u hub: UInt<4> capacity 2 needs u.a\nchannel u.t u hub: UInt<4> capacity 2 needs -\nchannel y hub: out:y UInt<4> capacity 2 needs u.s\n",
+        Ask(
+            "golden check k1.fir p.json",
+            SPARE,
+            "{\"units\":[\"u\"]}",
+            "",
+        ),
+        Prints(
+            2,
+            "machine hub: host 0\nmachine u host 1\nmachine in:x host 2\nmachine out:y host 3\nchannel x in:x hub: UInt<4> capacity 2 needs -\nchannel u.a hub: u UInt<4> capacity 2 needs x\nchannel u.b hub: u UInt<3> capacity 2 needs -\nchannel u.s u hub: UInt<4> capacity 2 needs u.a\nchannel u.t u hub: UInt<4> capacity 2 needs -\nchannel y hub: out:y UInt<4> capacity 2 needs u.s\n",
+        ),
     ),
     // three units that share a host
     (
-        "golden check k1.fir p.json",
-        CHAIN,
-        "{\"units\":[\"u\",\"v\",\"w\"],\"share\":[[\"w\",\"u\",\"v\"]]}",
-        "machine hub: host 0\nmachine u host 1\nmachine v host 1\nmachine w host 1\nmachine in:x host 2\nmachine out:y host 3\nchannel x in:x hub: UInt<4> capacity 2 needs -\nchannel u.a hub: u UInt<4> capacity 2 needs x\nchannel u.b u hub: UInt<4> capacity 2 needs u.a\nchannel v.a hub: v UInt<4> capacity 2 needs u.b\nchannel v.b v hub: UInt<4> capacity 2 needs v.a\nchannel w.a hub: w UInt<4> capacity 2 needs v.b\nchannel w.b w hub: UInt<4> capacity 2 needs w.a\nchannel y hub: out:y UInt<4> capacity 2 needs w.b\n",
+        Ask(
+            "golden check k1.fir p.json",
+            CHAIN,
+            "{\"units\":[\"u\",\"v\",\"w\"],\"share\":[[\"w\",\"u\",\"v\"]]}",
+            "",
+        ),
+        Prints(
+            2,
+            "machine hub: host 0\nmachine u host 1\nmachine v host 1\nmachine w host 1\nmachine in:x host 2\nmachine out:y host 3\nchannel x in:x hub: UInt<4> capacity 2 needs -\nchannel u.a hub: u UInt<4> capacity 2 needs x\nchannel u.b u hub: UInt<4> capacity 2 needs u.a\nchannel v.a hub: v UInt<4> capacity 2 needs u.b\nchannel v.b v hub: UInt<4> capacity 2 needs v.a\nchannel w.a hub: w UInt<4> capacity 2 needs v.b\nchannel w.b w hub: UInt<4> capacity 2 needs w.a\nchannel y hub: out:y UInt<4> capacity 2 needs w.b\n",
+        ),
     ),
     // three that share a host, two that share another, and a list of none
     (
-        "golden check k1.fir p.json",
-        CHAIN,
-        "{\"units\":[\"q\",\"w\",\"p\",\"v\",\"u\"],\"share\":[[\"u\",\"v\",\"w\"],[],[\"p\",\"q\"]]}",
-        "machine hub: host 0\nmachine q host 1\nmachine w host 2\nmachine p host 1\nmachine v host 2\nmachine u host 2\nmachine in:x host 3\nmachine out:y host 4\nchannel x in:x hub: UInt<4> capacity 2 needs -\nchannel q.a hub: q UInt<4> capacity 2 needs v.b\nchannel q.b q hub: UInt<4> capacity 2 needs q.a\nchannel w.a hub: w UInt<4> capacity 2 needs q.b\nchannel w.b w hub: UInt<4> capacity 2 needs w.a\nchannel p.a hub: p UInt<4> capacity 2 needs u.b\nchannel p.b p hub: UInt<4> capacity 2 needs p.a\nchannel v.a hub: v UInt<4> capacity 2 needs p.b\nchannel v.b v hub: UInt<4> capacity 2 needs v.a\nchannel u.a hub: u UInt<4> capacity 2 needs x\nchannel u.b u hub: UInt<4> capacity 2 needs u.a\nchannel y hub: out:y UInt<4> capacity 2 needs w.b\n",
+        Ask(
+            "golden check k1.fir p.json",
+            CHAIN,
+            "{\"units\":[\"q\",\"w\",\"p\",\"v\",\"u\"],\"share\":[[\"u\",\"v\",\"w\"],[],[\"p\",\"q\"]]}",
+            "",
+        ),
+        Prints(
+            2,
+            "machine hub: host 0\nmachine q host 1\nmachine w host 2\nmachine p host 1\nmachine v host 2\nmachine u host 2\nmachine in:x host 3\nmachine out:y host 4\nchannel x in:x hub: UInt<4> capacity 2 needs -\nchannel q.a hub: q UInt<4> capacity 2 needs v.b\nchannel q.b q hub: UInt<4> capacity 2 needs q.a\nchannel w.a hub: w UInt<4> capacity 2 needs q.b\nchannel w.b w hub: UInt<4> capacity 2 needs w.a\nchannel p.a hub: p UInt<4> capacity 2 needs u.b\nchannel p.b p hub: UInt<4> capacity 2 needs p.a\nchannel v.a hub: v UInt<4> capacity 2 needs p.b\nchannel v.b v hub: UInt<4> capacity 2 needs v.a\nchannel u.a hub: u UInt<4> capacity 2 needs x\nchannel u.b u hub: UInt<4> capacity 2 needs u.a\nchannel y hub: out:y UInt<4> capacity 2 needs w.b\n",
+        ),
     ),
     // two units at two depths that share a host
     (
-        "golden check k1.fir p.json",
-        DEPTHS,
-        "{\"units\":[\"d\",\"c.part\"],\"share\":[[\"c.part\",\"d\"]]}",
-        "machine hub: host 0\nmachine d host 1\nmachine c.part host 1\nmachine in:x host 2\nmachine out:y host 3\nchannel x in:x hub: UInt<4> capacity 2 needs -\nchannel d.a hub: d UInt<4> capacity 2 needs c.part.b\nchannel d.b d hub: UInt<4> capacity 2 needs d.a\nchannel c.part.a hub: c.part UInt<4> capacity 2 needs x\nchannel c.part.b c.part hub: UInt<4> capacity 2 needs c.part.a\nchannel y hub: out:y UInt<4> capacity 2 needs d.b\n",
+        Ask(
+            "golden check k1.fir p.json",
+            DEPTHS,
+            "{\"units\":[\"d\",\"c.part\"],\"share\":[[\"c.part\",\"d\"]]}",
+            "",
+        ),
+        Prints(
+            2,
+            "machine hub: host 0\nmachine d host 1\nmachine c.part host 1\nmachine in:x host 2\nmachine out:y host 3\nchannel x in:x hub: UInt<4> capacity 2 needs -\nchannel d.a hub: d UInt<4> capacity 2 needs c.part.b\nchannel d.b d hub: UInt<4> capacity 2 needs d.a\nchannel c.part.a hub: c.part UInt<4> capacity 2 needs x\nchannel c.part.b c.part hub: UInt<4> capacity 2 needs c.part.a\nchannel y hub: out:y UInt<4> capacity 2 needs d.b\n",
+        ),
     ),
     // a unit that is fed by itself through the hub
     (
-        "golden check k1.fir p.json",
-        BACK,
-        "{\"units\":[\"u\"]}",
-        "machine hub: host 0\nmachine u host 1\nmachine in:x host 2\nmachine out:y host 3\nchannel x in:x hub: SInt<4> capacity 2 needs -\nchannel u.a hub: u SInt<4> capacity 2 needs x\nchannel u.b hub: u SInt<4> capacity 2 needs u.p\nchannel u.p u hub: SInt<4> capacity 2 needs u.a\nchannel u.q u hub: SInt<5> capacity 2 needs u.a u.b\nchannel y hub: out:y SInt<5> capacity 2 needs u.q\n",
+        Ask(
+            "golden check k1.fir p.json",
+            BACK,
+            "{\"units\":[\"u\"]}",
+            "",
+        ),
+        Prints(
+            2,
+            "machine hub: host 0\nmachine u host 1\nmachine in:x host 2\nmachine out:y host 3\nchannel x in:x hub: SInt<4> capacity 2 needs -\nchannel u.a hub: u SInt<4> capacity 2 needs x\nchannel u.b hub: u SInt<4> capacity 2 needs u.p\nchannel u.p u hub: SInt<4> capacity 2 needs u.a\nchannel u.q u hub: SInt<5> capacity 2 needs u.a u.b\nchannel y hub: out:y SInt<5> capacity 2 needs u.q\n",
+        ),
     ),
     // a listed memory that is fed by itself
     (
-        "golden check k1.fir p.json",
-        TABLE,
-        "{\"memories\":[\"m\"]}",
-        "machine hub: host 0\nmachine m host 1\nmachine in:x host 2\nmachine out:y host 3\nchannel x in:x hub: UInt<2> capacity 2 needs -\nchannel m.r.addr hub: m UInt<2> capacity 2 needs x\nchannel m.r.en hub: m UInt<1> capacity 2 needs -\nchannel m.r.data m hub: UInt<2> capacity 2 needs m.r.addr m.r.en\nchannel m.s.addr hub: m UInt<2> capacity 2 needs m.r.data\nchannel m.s.en hub: m UInt<1> capacity 2 needs x\nchannel m.s.data m hub: UInt<2> capacity 2 needs m.s.addr m.s.en\nchannel y hub: out:y UInt<2> capacity 2 needs m.s.data\n",
+        Ask(
+            "golden check k1.fir p.json",
+            TABLE,
+            "{\"memories\":[\"m\"]}",
+            "",
+        ),
+        Prints(
+            2,
+            "machine hub: host 0\nmachine m host 1\nmachine in:x host 2\nmachine out:y host 3\nchannel x in:x hub: UInt<2> capacity 2 needs -\nchannel m.r.addr hub: m UInt<2> capacity 2 needs x\nchannel m.r.en hub: m UInt<1> capacity 2 needs -\nchannel m.r.data m hub: UInt<2> capacity 2 needs m.r.addr m.r.en\nchannel m.s.addr hub: m UInt<2> capacity 2 needs m.r.data\nchannel m.s.en hub: m UInt<1> capacity 2 needs x\nchannel m.s.data m hub: UInt<2> capacity 2 needs m.s.addr m.s.en\nchannel y hub: out:y UInt<2> capacity 2 needs m.s.data\n",
+        ),
     ),
     // two listed memories, against the order of the tree
     (
-        "golden check k1.fir p.json",
-        LEVELS,
-        "{\"units\":[\"c\"],\"memories\":[\"c.m\",\"t\"]}",
-        "machine hub: host 0\nmachine c host 1\nmachine t host 2\nmachine c.m host 3\nmachine out:y host 4\nchannel c.i hub: c UInt<1> capacity 2 needs t.r.data\nchannel c.o c hub: UInt<1> capacity 2 needs c.m.r.data\nchannel t.r.addr hub: t UInt<1> capacity 2 needs c.o\nchannel t.r.en hub: t UInt<1> capacity 2 needs -\nchannel t.r.data t hub: UInt<1> capacity 2 needs t.r.addr t.r.en\nchannel c.m.r.addr c c.m UInt<1> capacity 2 needs c.i\nchannel c.m.r.en c c.m UInt<1> capacity 2 needs -\nchannel c.m.r.data c.m c UInt<1> capacity 2 needs -\nchannel y hub: out:y UInt<1> capacity 2 needs t.r.data\n",
+        Ask(
+            "golden check k1.fir p.json",
+            LEVELS,
+            "{\"units\":[\"c\"],\"memories\":[\"c.m\",\"t\"]}",
+            "",
+        ),
+        Prints(
+            2,
+            "machine hub: host 0\nmachine c host 1\nmachine t host 2\nmachine c.m host 3\nmachine out:y host 4\nchannel c.i hub: c UInt<1> capacity 2 needs t.r.data\nchannel c.o c hub: UInt<1> capacity 2 needs c.m.r.data\nchannel t.r.addr hub: t UInt<1> capacity 2 needs c.o\nchannel t.r.en hub: t UInt<1> capacity 2 needs -\nchannel t.r.data t hub: UInt<1> capacity 2 needs t.r.addr t.r.en\nchannel c.m.r.addr c c.m UInt<1> capacity 2 needs c.i\nchannel c.m.r.en c c.m UInt<1> capacity 2 needs -\nchannel c.m.r.data c.m c UInt<1> capacity 2 needs -\nchannel y hub: out:y UInt<1> capacity 2 needs t.r.data\n",
+        ),
     ),
     // a listed memory of latency 1
     (
-        "golden check k1.fir p.json",
-        LATE,
-        "{\"memories\":[\"m\"],\"capacity\":{\"m.r.data\":3}}",
-        "machine hub: host 0\nmachine m host 1\nmachine in:a host 2\nmachine in:e host 3\nmachine in:v host 4\nmachine out:o host 5\nchannel a in:a hub: UInt<2> capacity 2 needs -\nchannel e in:e hub: UInt<1> capacity 2 needs -\nchannel v in:v hub: UInt<8> capacity 2 needs -\nchannel m.r.addr hub: m UInt<2> capacity 2 needs a\nchannel m.r.en hub: m UInt<1> capacity 2 needs e\nchannel m.r.data m hub: UInt<8> capacity 3 needs -\nchannel m.w.addr hub: m UInt<2> capacity 2 needs a\nchannel m.w.en hub: m UInt<1> capacity 2 needs -\nchannel m.w.data hub: m UInt<8> capacity 2 needs v\nchannel m.w.mask hub: m UInt<1> capacity 2 needs -\nchannel o hub: out:o UInt<8> capacity 2 needs m.r.data\n",
+        Ask(
+            "golden check k1.fir p.json",
+            LATE,
+            "{\"memories\":[\"m\"],\"capacity\":{\"m.r.data\":3}}",
+            "",
+        ),
+        Prints(
+            2,
+            "machine hub: host 0\nmachine m host 1\nmachine in:a host 2\nmachine in:e host 3\nmachine in:v host 4\nmachine out:o host 5\nchannel a in:a hub: UInt<2> capacity 2 needs -\nchannel e in:e hub: UInt<1> capacity 2 needs -\nchannel v in:v hub: UInt<8> capacity 2 needs -\nchannel m.r.addr hub: m UInt<2> capacity 2 needs a\nchannel m.r.en hub: m UInt<1> capacity 2 needs e\nchannel m.r.data m hub: UInt<8> capacity 3 needs -\nchannel m.w.addr hub: m UInt<2> capacity 2 needs a\nchannel m.w.en hub: m UInt<1> capacity 2 needs -\nchannel m.w.data hub: m UInt<8> capacity 2 needs v\nchannel m.w.mask hub: m UInt<1> capacity 2 needs -\nchannel o hub: out:o UInt<8> capacity 2 needs m.r.data\n",
+        ),
     ),
     // units against the order of the file
     (
-        "golden check k1.fir p.json",
-        PAIR,
-        "{\"units\":[\"b\",\"a\"]}",
-        "machine hub: host 0\nmachine b host 1\nmachine a host 2\nmachine in:x host 3\nmachine out:q host 4\nchannel x in:x hub: UInt<8> capacity 2 needs -\nchannel b.m hub: b UInt<8> capacity 2 needs a.p\nchannel b.n b hub: UInt<8> capacity 2 needs b.m\nchannel a.x hub: a UInt<8> capacity 2 needs x\nchannel a.k hub: a UInt<8> capacity 2 needs b.n\nchannel a.p a hub: UInt<8> capacity 2 needs a.x\nchannel a.q a hub: UInt<8> capacity 2 needs a.x a.k\nchannel q hub: out:q UInt<8> capacity 2 needs a.q\n",
+        Ask(
+            "golden check k1.fir p.json",
+            PAIR,
+            "{\"units\":[\"b\",\"a\"]}",
+            "",
+        ),
+        Prints(
+            2,
+            "machine hub: host 0\nmachine b host 1\nmachine a host 2\nmachine in:x host 3\nmachine out:q host 4\nchannel x in:x hub: UInt<8> capacity 2 needs -\nchannel b.m hub: b UInt<8> capacity 2 needs a.p\nchannel b.n b hub: UInt<8> capacity 2 needs b.m\nchannel a.x hub: a UInt<8> capacity 2 needs x\nchannel a.k hub: a UInt<8> capacity 2 needs b.n\nchannel a.p a hub: UInt<8> capacity 2 needs a.x\nchannel a.q a hub: UInt<8> capacity 2 needs a.x a.k\nchannel q hub: out:q UInt<8> capacity 2 needs a.q\n",
+        ),
     ),
     // one of the two, so that the hub has the other
     (
-        "golden check k1.fir p.json",
-        PAIR,
-        "{\"units\":[\"b\"]}",
-        "machine hub: host 0\nmachine b host 1\nmachine in:x host 2\nmachine out:q host 3\nchannel x in:x hub: UInt<8> capacity 2 needs -\nchannel b.m hub: b UInt<8> capacity 2 needs x\nchannel b.n b hub: UInt<8> capacity 2 needs b.m\nchannel q hub: out:q UInt<8> capacity 2 needs x b.n\n",
+        Ask(
+            "golden check k1.fir p.json",
+            PAIR,
+            "{\"units\":[\"b\"]}",
+            "",
+        ),
+        Prints(
+            2,
+            "machine hub: host 0\nmachine b host 1\nmachine in:x host 2\nmachine out:q host 3\nchannel x in:x hub: UInt<8> capacity 2 needs -\nchannel b.m hub: b UInt<8> capacity 2 needs x\nchannel b.n b hub: UInt<8> capacity 2 needs b.m\nchannel q hub: out:q UInt<8> capacity 2 needs x b.n\n",
+        ),
     ),
     // neither
     (
-        "golden check k1.fir p.json",
-        PAIR,
-        "{}",
-        "machine hub: host 0\nmachine in:x host 1\nmachine out:q host 2\nchannel x in:x hub: UInt<8> capacity 2 needs -\nchannel q hub: out:q UInt<8> capacity 2 needs x\n",
+        Ask("golden check k1.fir p.json", PAIR, "{}", ""),
+        Prints(
+            2,
+            "machine hub: host 0\nmachine in:x host 1\nmachine out:q host 2\nchannel x in:x hub: UInt<8> capacity 2 needs -\nchannel q hub: out:q UInt<8> capacity 2 needs x\n",
+        ),
     ),
     // stops: each has a channel and a tray, behind those of the outputs
     (
-        "golden check k1.fir p.json",
-        "circuit Counter :\nmodule Counter :\ninput clock : Clock\ninput reset : UInt<1>\noutput out : UInt<8>\nreg c : UInt<8>, clock with : (reset => (reset, UInt<8>(0)))\nout <= c\nc <= bits(add(c, UInt<8>(1)), 7, 0)\nstop(clock, eq(c, UInt<8>(1)), 1) : done\n",
-        "{}",
-        "machine hub: host 0\nmachine in:reset host 1\nmachine out:out host 2\nmachine halt:stop:0 host 3\nchannel reset in:reset hub: UInt<1> capacity 2 needs -\nchannel out hub: out:out UInt<8> capacity 2 needs -\nchannel stop:0 hub: halt:stop:0 UInt<1> capacity 2 needs -\n",
+        Ask(
+            "golden check k1.fir p.json",
+            "circuit Counter :\nmodule Counter :\ninput clock : Clock\ninput reset : UInt<1>\noutput out : UInt<8>\nreg c : UInt<8>, clock with : (reset => (reset, UInt<8>(0)))\nout <= c\nc <= bits(add(c, UInt<8>(1)), 7, 0)\nstop(clock, eq(c, UInt<8>(1)), 1) : done\n",
+            "{}",
+            "",
+        ),
+        Prints(
+            2,
+            "machine hub: host 0\nmachine in:reset host 1\nmachine out:out host 2\nmachine halt:stop:0 host 3\nchannel reset in:reset hub: UInt<1> capacity 2 needs -\nchannel out hub: out:out UInt<8> capacity 2 needs -\nchannel stop:0 hub: halt:stop:0 UInt<1> capacity 2 needs -\n",
+        ),
     ),
     (
-        "golden check k1.fir p.json",
-        STOPS,
-        "{\"units\":[\"c\"]}",
-        "machine hub: host 0\nmachine c host 1\nmachine in:x host 2\nmachine out:y host 3\nmachine halt:stop:0 host 4\nmachine halt:c.stop:0 host 5\nchannel x in:x hub: UInt<2> capacity 2 needs -\nchannel c.i hub: c UInt<2> capacity 2 needs x\nchannel y hub: out:y UInt<2> capacity 2 needs x\nchannel stop:0 hub: halt:stop:0 UInt<1> capacity 2 needs x\nchannel c.stop:0 c halt:c.stop:0 UInt<1> capacity 2 needs c.i\n",
+        Ask(
+            "golden check k1.fir p.json",
+            STOPS,
+            "{\"units\":[\"c\"]}",
+            "",
+        ),
+        Prints(
+            2,
+            "machine hub: host 0\nmachine c host 1\nmachine in:x host 2\nmachine out:y host 3\nmachine halt:stop:0 host 4\nmachine halt:c.stop:0 host 5\nchannel x in:x hub: UInt<2> capacity 2 needs -\nchannel c.i hub: c UInt<2> capacity 2 needs x\nchannel y hub: out:y UInt<2> capacity 2 needs x\nchannel stop:0 hub: halt:stop:0 UInt<1> capacity 2 needs x\nchannel c.stop:0 c halt:c.stop:0 UInt<1> capacity 2 needs c.i\n",
+        ),
     ),
     // two units and their memories, which have no ports
     (
-        "golden check k1.fir p.json",
-        BANKS,
-        "{\"units\":[\"u\",\"v\"],\"share\":[[\"v\",\"u\"]],\"memories\":[\"v.m\",\"u.m\"]}",
-        "machine hub: host 0\nmachine u host 1\nmachine v host 1\nmachine u.m host 2\nmachine v.m host 3\n",
+        Ask(
+            "golden check k1.fir p.json",
+            BANKS,
+            "{\"units\":[\"u\",\"v\"],\"share\":[[\"v\",\"u\"]],\"memories\":[\"v.m\",\"u.m\"]}",
+            "",
+        ),
+        Prints(
+            2,
+            "machine hub: host 0\nmachine u host 1\nmachine v host 1\nmachine u.m host 2\nmachine v.m host 3\n",
+        ),
     ),
 ];
 
-// The same with direct channels, and with pipes.
-static ROUTED: [(&str, &str, &str, &str); 8] = [
+/// The same with direct channels, and with pipes.
+pub(crate) static ROUTED: [Row; 8] = [
     // all channels are direct
     (
-        "golden check k1.fir p.json --capacity 1",
-        PAIR,
-        "{\"units\":[\"a\",\"b\"],\"direct\":true}",
-        "machine hub: host 0\nmachine a host 1\nmachine b host 2\nmachine in:x host 3\nmachine out:q host 4\nchannel a.x in:x a UInt<8> capacity 1 needs -\nchannel a.k b a UInt<8> capacity 1 needs b.m\nchannel b.m a b UInt<8> capacity 1 needs a.x\nchannel q a out:q UInt<8> capacity 1 needs a.x a.k\n",
+        Ask(
+            "golden check k1.fir p.json --capacity 1",
+            PAIR,
+            "{\"units\":[\"a\",\"b\"],\"direct\":true}",
+            "",
+        ),
+        Prints(
+            2,
+            "machine hub: host 0\nmachine a host 1\nmachine b host 2\nmachine in:x host 3\nmachine out:q host 4\nchannel a.x in:x a UInt<8> capacity 1 needs -\nchannel a.k b a UInt<8> capacity 1 needs b.m\nchannel b.m a b UInt<8> capacity 1 needs a.x\nchannel q a out:q UInt<8> capacity 1 needs a.x a.k\n",
+        ),
     ),
     // a source that gives its values to the hub too
     (
-        "golden check k1.fir p.json",
-        TWO,
-        "{\"units\":[\"u\",\"v\"],\"share\":[[\"u\",\"v\"]],\"direct\":true}",
-        "machine hub: host 0\nmachine u host 1\nmachine v host 1\nmachine in:x host 2\nmachine out:p host 3\nmachine out:q host 4\nchannel x in:x hub: UInt<8> capacity 2 needs -\nchannel u.a in:x u UInt<8> capacity 2 needs -\nchannel v.a hub: v UInt<8> capacity 2 needs x\nchannel p u out:p UInt<8> capacity 2 needs -\nchannel q v out:q UInt<8> capacity 2 needs -\n",
+        Ask(
+            "golden check k1.fir p.json",
+            TWO,
+            "{\"units\":[\"u\",\"v\"],\"share\":[[\"u\",\"v\"]],\"direct\":true}",
+            "",
+        ),
+        Prints(
+            2,
+            "machine hub: host 0\nmachine u host 1\nmachine v host 1\nmachine in:x host 2\nmachine out:p host 3\nmachine out:q host 4\nchannel x in:x hub: UInt<8> capacity 2 needs -\nchannel u.a in:x u UInt<8> capacity 2 needs -\nchannel v.a hub: v UInt<8> capacity 2 needs x\nchannel p u out:p UInt<8> capacity 2 needs -\nchannel q v out:q UInt<8> capacity 2 needs -\n",
+        ),
     ),
     // a fork of three
     (
-        "golden check k1.fir p.json",
-        FORK,
-        "{\"units\":[\"u\",\"v\",\"w\"],\"direct\":true}",
-        "machine hub: host 0\nmachine u host 1\nmachine v host 2\nmachine w host 3\nmachine in:x host 4\nmachine out:p host 5\nmachine out:q host 6\nchannel u.a in:x u UInt<4> capacity 2 needs -\nchannel v.a u v UInt<4> capacity 2 needs u.a\nchannel v.b v hub: UInt<4> capacity 2 needs v.a\nchannel w.a u w UInt<4> capacity 2 needs u.a\nchannel w.b w hub: UInt<4> capacity 2 needs w.a\nchannel p u out:p UInt<4> capacity 2 needs u.a\nchannel q hub: out:q UInt<5> capacity 2 needs v.b w.b\n",
+        Ask(
+            "golden check k1.fir p.json",
+            FORK,
+            "{\"units\":[\"u\",\"v\",\"w\"],\"direct\":true}",
+            "",
+        ),
+        Prints(
+            2,
+            "machine hub: host 0\nmachine u host 1\nmachine v host 2\nmachine w host 3\nmachine in:x host 4\nmachine out:p host 5\nmachine out:q host 6\nchannel u.a in:x u UInt<4> capacity 2 needs -\nchannel v.a u v UInt<4> capacity 2 needs u.a\nchannel v.b v hub: UInt<4> capacity 2 needs v.a\nchannel w.a u w UInt<4> capacity 2 needs u.a\nchannel w.b w hub: UInt<4> capacity 2 needs w.a\nchannel p u out:p UInt<4> capacity 2 needs u.a\nchannel q hub: out:q UInt<5> capacity 2 needs v.b w.b\n",
+        ),
     ),
     // what the hub needs stays: for a memory that isn't listed, and for an output that is read
     (
-        "golden check k1.fir p.json",
-        KEPT,
-        "{\"direct\":true,\"units\":[\"u\"]}",
-        "machine hub: host 0\nmachine u host 1\nmachine in:x host 2\nmachine out:y host 3\nmachine out:z host 4\nmachine out:r host 5\nmachine out:q host 6\nchannel x in:x hub: UInt<2> capacity 2 needs -\nchannel u.a in:x u UInt<2> capacity 2 needs -\nchannel u.b u hub: UInt<2> capacity 2 needs u.a\nchannel y hub: out:y UInt<2> capacity 2 needs u.b\nchannel z u out:z UInt<2> capacity 2 needs u.a\nchannel r hub: out:r UInt<2> capacity 2 needs u.b\nchannel q hub: out:q UInt<2> capacity 2 needs u.b\n",
+        Ask(
+            "golden check k1.fir p.json",
+            KEPT,
+            "{\"direct\":true,\"units\":[\"u\"]}",
+            "",
+        ),
+        Prints(
+            2,
+            "machine hub: host 0\nmachine u host 1\nmachine in:x host 2\nmachine out:y host 3\nmachine out:z host 4\nmachine out:r host 5\nmachine out:q host 6\nchannel x in:x hub: UInt<2> capacity 2 needs -\nchannel u.a in:x u UInt<2> capacity 2 needs -\nchannel u.b u hub: UInt<2> capacity 2 needs u.a\nchannel y hub: out:y UInt<2> capacity 2 needs u.b\nchannel z u out:z UInt<2> capacity 2 needs u.a\nchannel r hub: out:r UInt<2> capacity 2 needs u.b\nchannel q hub: out:q UInt<2> capacity 2 needs u.b\n",
+        ),
     ),
     // a listed memory gives no direct channel
     (
-        "golden check k1.fir p.json",
-        LATE,
-        "{\"memories\":[\"m\"],\"direct\":true}",
-        "machine hub: host 0\nmachine m host 1\nmachine in:a host 2\nmachine in:e host 3\nmachine in:v host 4\nmachine out:o host 5\nchannel m.r.addr in:a m UInt<2> capacity 2 needs -\nchannel m.r.en in:e m UInt<1> capacity 2 needs -\nchannel m.r.data m hub: UInt<8> capacity 2 needs -\nchannel m.w.addr in:a m UInt<2> capacity 2 needs -\nchannel m.w.en hub: m UInt<1> capacity 2 needs -\nchannel m.w.data in:v m UInt<8> capacity 2 needs -\nchannel m.w.mask hub: m UInt<1> capacity 2 needs -\nchannel o hub: out:o UInt<8> capacity 2 needs m.r.data\n",
+        Ask(
+            "golden check k1.fir p.json",
+            LATE,
+            "{\"memories\":[\"m\"],\"direct\":true}",
+            "",
+        ),
+        Prints(
+            2,
+            "machine hub: host 0\nmachine m host 1\nmachine in:a host 2\nmachine in:e host 3\nmachine in:v host 4\nmachine out:o host 5\nchannel m.r.addr in:a m UInt<2> capacity 2 needs -\nchannel m.r.en in:e m UInt<1> capacity 2 needs -\nchannel m.r.data m hub: UInt<8> capacity 2 needs -\nchannel m.w.addr in:a m UInt<2> capacity 2 needs -\nchannel m.w.en hub: m UInt<1> capacity 2 needs -\nchannel m.w.data in:v m UInt<8> capacity 2 needs -\nchannel m.w.mask hub: m UInt<1> capacity 2 needs -\nchannel o hub: out:o UInt<8> capacity 2 needs m.r.data\n",
+        ),
     ),
     // a unit that feeds itself
     (
-        "golden check k1.fir p.json",
-        BACK,
-        "{\"units\":[\"u\"],\"direct\":true}",
-        "machine hub: host 0\nmachine u host 1\nmachine in:x host 2\nmachine out:y host 3\nchannel u.a in:x u SInt<4> capacity 2 needs -\nchannel u.b u u SInt<4> capacity 2 needs u.a\nchannel y u out:y SInt<5> capacity 2 needs u.a u.b\n",
+        Ask(
+            "golden check k1.fir p.json",
+            BACK,
+            "{\"units\":[\"u\"],\"direct\":true}",
+            "",
+        ),
+        Prints(
+            2,
+            "machine hub: host 0\nmachine u host 1\nmachine in:x host 2\nmachine out:y host 3\nchannel u.a in:x u SInt<4> capacity 2 needs -\nchannel u.b u u SInt<4> capacity 2 needs u.a\nchannel y u out:y SInt<5> capacity 2 needs u.a u.b\n",
+        ),
     ),
     // a pipe, and one in a channel of the hub, which is then no direct channel
     (
-        "golden check k1.fir p.json --capacity 1",
-        PAIR,
-        "{\"units\":[\"a\",\"b\"],\"pipe\":[\"a.k\"]}",
-        "machine hub: host 0\nmachine a host 1\nmachine b host 2\nmachine in:x host 3\nmachine out:q host 4\nchannel x in:x hub: UInt<8> capacity 1 needs -\nchannel a.x hub: a UInt<8> capacity 1 needs x\nchannel a.k hub: a UInt<8> capacity 1 pipe needs b.n\nchannel a.p a hub: UInt<8> capacity 1 needs a.x\nchannel a.q a hub: UInt<8> capacity 1 needs a.x a.k\nchannel b.m hub: b UInt<8> capacity 1 needs a.p\nchannel b.n b hub: UInt<8> capacity 1 needs b.m\nchannel q hub: out:q UInt<8> capacity 1 needs a.q\n",
+        Ask(
+            "golden check k1.fir p.json --capacity 1",
+            PAIR,
+            "{\"units\":[\"a\",\"b\"],\"pipe\":[\"a.k\"]}",
+            "",
+        ),
+        Prints(
+            2,
+            "machine hub: host 0\nmachine a host 1\nmachine b host 2\nmachine in:x host 3\nmachine out:q host 4\nchannel x in:x hub: UInt<8> capacity 1 needs -\nchannel a.x hub: a UInt<8> capacity 1 needs x\nchannel a.k hub: a UInt<8> capacity 1 pipe needs b.n\nchannel a.p a hub: UInt<8> capacity 1 needs a.x\nchannel a.q a hub: UInt<8> capacity 1 needs a.x a.k\nchannel b.m hub: b UInt<8> capacity 1 needs a.p\nchannel b.n b hub: UInt<8> capacity 1 needs b.m\nchannel q hub: out:q UInt<8> capacity 1 needs a.q\n",
+        ),
     ),
     (
-        "golden check k1.fir p.json --capacity 1",
-        PAIR,
-        "{\"units\":[\"a\",\"b\"],\"direct\":true,\"pipe\":[\"b.n\"]}",
-        "machine hub: host 0\nmachine a host 1\nmachine b host 2\nmachine in:x host 3\nmachine out:q host 4\nchannel a.x in:x a UInt<8> capacity 1 needs -\nchannel a.k hub: a UInt<8> capacity 1 needs b.n\nchannel b.m a b UInt<8> capacity 1 needs a.x\nchannel b.n b hub: UInt<8> capacity 1 pipe needs b.m\nchannel q a out:q UInt<8> capacity 1 needs a.x a.k\n",
+        Ask(
+            "golden check k1.fir p.json --capacity 1",
+            PAIR,
+            "{\"units\":[\"a\",\"b\"],\"direct\":true,\"pipe\":[\"b.n\"]}",
+            "",
+        ),
+        Prints(
+            2,
+            "machine hub: host 0\nmachine a host 1\nmachine b host 2\nmachine in:x host 3\nmachine out:q host 4\nchannel a.x in:x a UInt<8> capacity 1 needs -\nchannel a.k hub: a UInt<8> capacity 1 needs b.n\nchannel b.m a b UInt<8> capacity 1 needs a.x\nchannel b.n b hub: UInt<8> capacity 1 pipe needs b.m\nchannel q a out:q UInt<8> capacity 1 needs a.x a.k\n",
+        ),
     ),
 ];
 
-#[test]
-fn cuts_are_printed(rt: HostRuntime) -> Result<(), Fail> {
-    let alloc = rt.alloc();
-    for (line, circuit, partition, out) in &CUTS {
-        let answer = ask_of(&rt, alloc, line, circuit, partition, "")?;
-        check(&rt, &answer, 0, 2, out, "");
-    }
-    Ok(())
-}
-
-#[test]
-fn routed_cuts_are_printed(rt: HostRuntime) -> Result<(), Fail> {
-    let alloc = rt.alloc();
-    for (line, circuit, partition, out) in &ROUTED {
-        let answer = ask_of(&rt, alloc, line, circuit, partition, "")?;
-        check(&rt, &answer, 0, 2, out, "");
-    }
-    Ok(())
-}
-
-// A circuit, a partition with a fault for it, and the line that tells the first.
-static REFUSED: [(&str, &str, &str); 9] = [
-    (TILES, "[]", "golden: partition: P1 -\n"),
-    (TILES, "{\"unit\":[]}", "golden: partition: P1 unit\n"),
+/// Partitions with a fault, of which the first is told.
+pub(crate) static CUT_FAULTS: [Row; 9] = [
     (
-        TILES,
-        "{\"units\":[\"tile.cor\"]}",
-        "golden: partition: P2 tile.cor\n",
+        Ask(CHECK, TILES, "[]", ""),
+        Refuses(6, 2, "golden: partition: P1 -\n"),
     ),
     (
-        TILES,
-        "{\"units\":[\"tile\",\"tile.core\"]}",
-        "golden: partition: P3 tile.core\n",
+        Ask(CHECK, TILES, "{\"unit\":[]}", ""),
+        Refuses(6, 2, "golden: partition: P1 unit\n"),
     ),
     (
-        PAIR,
-        "{\"units\":[\"a\",\"b\"],\"share\":[[\"a\",\"b\"]]}",
-        "golden: partition: P4 b\n",
+        Ask(CHECK, TILES, "{\"units\":[\"tile.cor\"]}", ""),
+        Refuses(6, 2, "golden: partition: P2 tile.cor\n"),
     ),
     (
-        TILES,
-        "{\"memories\":[\"tile.m\"]}",
-        "golden: partition: P5 tile.m\n",
+        Ask(CHECK, TILES, "{\"units\":[\"tile\",\"tile.core\"]}", ""),
+        Refuses(6, 2, "golden: partition: P3 tile.core\n"),
+    ),
+    (
+        Ask(
+            CHECK,
+            PAIR,
+            "{\"units\":[\"a\",\"b\"],\"share\":[[\"a\",\"b\"]]}",
+            "",
+        ),
+        Refuses(6, 2, "golden: partition: P4 b\n"),
+    ),
+    (
+        Ask(CHECK, TILES, "{\"memories\":[\"tile.m\"]}", ""),
+        Refuses(6, 2, "golden: partition: P5 tile.m\n"),
     ),
     // a unit that shares its host has a memory that the other one doesn't list
     (
-        BOTH,
-        "{\"units\":[\"c\",\"d\"],\"share\":[[\"c\",\"d\"]],\"memories\":[\"c.m\"]}",
-        "golden: partition: P6 c.m\n",
+        Ask(
+            CHECK,
+            BOTH,
+            "{\"units\":[\"c\",\"d\"],\"share\":[[\"c\",\"d\"]],\"memories\":[\"c.m\"]}",
+            "",
+        ),
+        Refuses(6, 2, "golden: partition: P6 c.m\n"),
     ),
     (
-        TILES,
-        "{\"capacity\":{\"oo\":1}}",
-        "golden: partition: P7 oo\n",
+        Ask(CHECK, TILES, "{\"capacity\":{\"oo\":1}}", ""),
+        Refuses(6, 2, "golden: partition: P7 oo\n"),
     ),
     (
-        TILES,
-        "{\"capacity\":{\"o\":0}}",
-        "golden: partition: P8 o 0\n",
+        Ask(CHECK, TILES, "{\"capacity\":{\"o\":0}}", ""),
+        Refuses(6, 2, "golden: partition: P8 o 0\n"),
     ),
 ];
-
-#[test]
-fn each_fault_of_a_cut(rt: HostRuntime) -> Result<(), Fail> {
-    let alloc = rt.alloc();
-    for (circuit, partition, err) in &REFUSED {
-        let answer = ask_of(&rt, alloc, CHECK, circuit, partition, "")?;
-        check(&rt, &answer, 6, 2, "", err);
-    }
-    Ok(())
-}

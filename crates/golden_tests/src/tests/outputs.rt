@@ -1,13 +1,49 @@
 //! Puts that fail or find no memory.
 ghost use Rattle.std.specs.Prelude.{None};
 
-use super::check;
-use gg_io::{FailingPut, NoGate, PutFail, Sink, SureShelf, SureSink};
+use super::calls::Call::AskFailing;
+use super::calls::End::{Refuses, Stops};
+use super::calls::{NONE, Row};
+use gg_io::{NoGate, PutFail, Sink, SureShelf, SureSink};
 use golden::golden;
-use golden_calls::{Answer, RUN, TEXT, call, counter_files, words_of};
+use golden_calls::{COUNTER, RUN, TEXT, TRACE, counter_files, words_of};
 use std::alloc::{AllocError, Global};
 use std::test::Fail;
 use std::thread::Threads;
+
+/// Each put on `out` takes three bytes and fails. A failing `err` changes no status: the second load fails, and the put on `err` takes eight
+/// bytes and fails.
+pub(crate) static PUTS: [Row; 6] = [
+    (
+        AskFailing(RUN, COUNTER, "{}", TRACE, NONE, 0, NONE),
+        Stops(4, 3, "cyc", "golden: cannot write\n"),
+    ),
+    (
+        AskFailing(RUN, COUNTER, "{}", TRACE, NONE, 1, NONE),
+        Stops(4, 3, "cycle out\n0 0", "golden: cannot write\n"),
+    ),
+    (
+        AskFailing(RUN, COUNTER, "{}", TRACE, NONE, 2, NONE),
+        Stops(4, 3, "cycle out\n0 00\n1 0", "golden: cannot write\n"),
+    ),
+    (
+        AskFailing(RUN, COUNTER, "{}", TRACE, NONE, 3, NONE),
+        Stops(4, 3, "cycle out\n0 00\n1 00\n2 0", "golden: cannot write\n"),
+    ),
+    (
+        AskFailing(RUN, COUNTER, "{}", TRACE, NONE, 4, NONE),
+        Stops(
+            4,
+            3,
+            "cycle out\n0 00\n1 00\n2 01\n3 0",
+            "golden: cannot write\n",
+        ),
+    ),
+    (
+        AskFailing(RUN, COUNTER, "{}", TRACE, 1, NONE, 0),
+        Refuses(3, 2, "golden: "),
+    ),
+];
 
 // A sink that has memory for so many puts. It tells nothing of what was written, and keeps it for the test to see.
 #[derive(Drop)]
@@ -78,66 +114,5 @@ fn puts_that_find_no_memory(rt: HostRuntime) -> Result<(), Fail> {
         let is_right = ends_so(&rt, rt.alloc(), room, status, text, line)?;
         assert!(rt; is_right, "with memory for {room} puts");
     }
-    Ok(())
-}
-
-// `run` on the counter, where the put on `out` of this number takes three bytes and fails.
-fn run_cut_off<R: Threads + Sync>(
-    rt: &R,
-    alloc: Global,
-    number: u64,
-) -> Result<Answer, AllocError> {
-    let puts = vec![in alloc; FailingPut { number, takes: 3 }]?;
-    call(
-        rt,
-        alloc,
-        RUN,
-        counter_files(alloc)?,
-        Vec::new(alloc),
-        puts,
-        Vec::new(alloc),
-    )
-}
-
-// Each put on `out` takes three bytes and fails.
-#[test]
-fn puts_that_fail(rt: HostRuntime) -> Result<(), Fail> {
-    for (number, out) in [
-        (0, "cyc"),
-        (1, "cycle out\n0 0"),
-        (2, "cycle out\n0 00\n1 0"),
-        (3, "cycle out\n0 00\n1 00\n2 0"),
-        (4, "cycle out\n0 00\n1 00\n2 01\n3 0"),
-    ] {
-        let answer = run_cut_off(&rt, rt.alloc(), number)?;
-        check(&rt, &answer, 4, 3, out, "golden: cannot write\n");
-    }
-    Ok(())
-}
-
-// `run` on the counter, where the second load fails, and the put on `err` takes eight bytes and fails.
-fn run_untold<R: Threads + Sync>(rt: &R, alloc: Global) -> Result<Answer, AllocError> {
-    let loads = vec![in alloc; 1]?;
-    let err_puts = vec![in alloc;
-        FailingPut {
-            number: 0,
-            takes: 8
-        },
-    ]?;
-    call(
-        rt,
-        alloc,
-        RUN,
-        counter_files(alloc)?,
-        loads,
-        Vec::new(alloc),
-        err_puts,
-    )
-}
-
-// A failing `err` changes no status.
-#[test]
-fn a_failing_err(rt: HostRuntime) -> Result<(), Fail> {
-    check(&rt, &run_untold(&rt, rt.alloc())?, 3, 2, "", "golden: ");
     Ok(())
 }

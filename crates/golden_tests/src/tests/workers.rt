@@ -1,10 +1,12 @@
 //! Runs by workers.
 ghost use Rattle.std.specs.Prelude.{None};
 
-use super::check;
-use gg_io::{FailingPut, PutFail, Sink, SureShelf, SureSink};
+use super::calls::Call::{Ask, AskFailing};
+use super::calls::End::{Prints, Stops};
+use super::calls::{NONE, Row};
+use gg_io::{PutFail, Sink, SureShelf, SureSink};
 use golden::golden;
-use golden_calls::{Answer, ask_of, call, files_of, words_of};
+use golden_calls::{files_of, words_of};
 use net_calls::{Meeting, PAIR, PAIR_TRACE};
 use std::alloc::{AllocError, Global};
 use std::test::Fail;
@@ -14,6 +16,31 @@ use std::thread::Threads;
 const UNITS: &str = "{\"units\":[\"a\",\"b\"]}";
 
 const ROWS: &str = "cycle q\n0 11\n1 83\n";
+
+/// As many workers as there may be, and channels as large as they may be. Two workers, where the second put on `out` takes three bytes and fails.
+pub(crate) static BY_WORKERS: [Row; 2] = [
+    (
+        Ask(
+            "golden run k1.fir p.json k1.trace --capacity 4096 --workers 64",
+            PAIR,
+            UNITS,
+            PAIR_TRACE,
+        ),
+        Prints(3, ROWS),
+    ),
+    (
+        AskFailing(
+            "golden run k1.fir p.json k1.trace --capacity 1 --workers 2",
+            PAIR,
+            UNITS,
+            PAIR_TRACE,
+            NONE,
+            1,
+            NONE,
+        ),
+        Stops(4, 3, "cycle q\n0 1", "golden: cannot write\n"),
+    ),
+];
 
 // A sink that looks at its second put, the first row, whether two workers have met. It tells nothing of what was written, and keeps
 // it for the test to see.
@@ -83,46 +110,5 @@ fn workers_beside_each_other(rt: HostRuntime) -> Result<(), Fail> {
     let gate = Meeting::new();
     let is_right = meets(&rt, rt.alloc(), &gate)?;
     assert!(rt; is_right);
-    Ok(())
-}
-
-// As many workers as there may be, and channels as large as they may be.
-#[test]
-fn most_workers(rt: HostRuntime) -> Result<(), Fail> {
-    let line = "golden run k1.fir p.json k1.trace --capacity 4096 --workers 64";
-    let answer = ask_of(&rt, rt.alloc(), line, PAIR, UNITS, PAIR_TRACE)?;
-    check(&rt, &answer, 0, 3, ROWS, "");
-    Ok(())
-}
-
-// A run by two workers, where the second put on `out` takes three bytes and fails.
-fn run_cut_off<R: Threads + Sync>(rt: &R, alloc: Global) -> Result<Answer, AllocError> {
-    let files = files_of(
-        alloc,
-        PAIR.as_bytes(),
-        UNITS.as_bytes(),
-        PAIR_TRACE.as_bytes(),
-    )?;
-    let puts = vec![in alloc;
-        FailingPut {
-            number: 1,
-            takes: 3
-        },
-    ]?;
-    call(
-        rt,
-        alloc,
-        "golden run k1.fir p.json k1.trace --capacity 1 --workers 2",
-        files,
-        Vec::new(alloc),
-        puts,
-        Vec::new(alloc),
-    )
-}
-
-#[test]
-fn a_row_that_fails(rt: HostRuntime) -> Result<(), Fail> {
-    let answer = run_cut_off(&rt, rt.alloc())?;
-    check(&rt, &answer, 4, 3, "cycle q\n0 1", "golden: cannot write\n");
     Ok(())
 }

@@ -1,0 +1,206 @@
+//! The calls that are tested, and the check of what they answer.
+use super::large::{Large, ask_large};
+use super::steps::{LISTED, MEMORY_TRACE, READ, REPLAY_1};
+use gg_io::{FailingPut, hold};
+use golden_calls::{
+    Answer, COUNTER, MEMORY, RUN, TRACE, ask, ask_of, call, counter, edited, files_of, run,
+};
+use std::alloc::{AllocError, Global};
+use std::collections::BTreeMap;
+use std::process::Abort;
+use std::thread::Threads;
+
+/// A call and how it ends.
+pub(crate) type Row = (Call, End);
+
+/// The number of a load or a put that isn't made.
+pub(crate) const NONE: u64 = u64::MAX;
+
+/// How a call ends, after so many loads.
+pub(crate) enum End {
+    /// The loads, and what is on `out`; the status is 0, and nothing is on `err`.
+    Prints(u64, &'static str),
+    /// The status, the loads, and what is on `err`; nothing is on `out`.
+    Refuses(u8, u64, &'static str),
+    /// The status, the loads, and what is on `out` and on `err`.
+    Stops(u8, u64, &'static str, &'static str),
+}
+
+/// A call.
+pub(crate) enum Call {
+    /// `run` in each way, on a circuit, a partition and a trace.
+    Run(&'static str, &'static str, &'static str),
+    /// The same on a circuit with a line changed, counted from 1 (0: none): the circuit, the line, its text, a partition and a trace.
+    RunEdited(&'static str, usize, &'static str, &'static str, &'static str),
+    /// The same on so many lines of the counter.
+    RunLines(usize),
+    /// `run` once, on the counter with this line left empty (0: none), where there is no other file.
+    RunAlone(usize),
+    /// The same on a circuit of these bytes.
+    RunBytes(&'static [u8]),
+    /// These words, on a circuit, a partition and a trace.
+    Ask(&'static str, &'static str, &'static str, &'static str),
+    /// These words, on the counter's files.
+    AskCounter(&'static str),
+    /// These words, on a circuit, a partition and a trace, where the load, the put on `out` and the put on `err` of these numbers fail. That on
+    /// `out` takes three bytes, and that on `err` takes eight.
+    AskFailing(&'static str, &'static str, &'static str, &'static str, u64, u64, u64),
+    /// These words, on a circuit, a partition, a trace and steps.
+    Replay(&'static str, &'static str, &'static str, &'static str, &'static str),
+    /// A replay on the memory that is listed, of its reads and these steps.
+    ReplayRead(&'static str),
+    /// A call on large files.
+    OnLarge(Large),
+}
+
+/// Checks how each call ends. A failure names the table and the row, counted from 0.
+pub(crate) fn check_rows<R: Threads + Sync + Abort>(
+    rt: &R,
+    alloc: Global,
+    table: &str,
+    rows: &[Row],
+) {
+    for (row, (call, end)) in rows.iter().enumerate() {
+        let answer = answer_of(rt, alloc, call).expect(rt, "there is memory");
+        assert!(rt; ends_so(&answer, end), "{table}, row {row}: {answer:?}");
+    }
+}
+
+/// Whether a call ended so.
+fn ends_so(answer: &Answer, end: &End) -> bool {
+    match end {
+        End::Prints(loads, out) => answer.is(0, *loads, out, ""),
+        End::Refuses(status, loads, err) => answer.is(*status, *loads, "", err),
+        End::Stops(status, loads, out, err) => answer.is(*status, *loads, out, err),
+    }
+}
+
+/// What a call answers.
+fn answer_of<R: Threads + Sync>(rt: &R, alloc: Global, call: &Call) -> Result<Answer, AllocError> {
+    match call {
+        Call::Run(circuit, partition, trace) => run(rt, alloc, circuit, partition, trace),
+        Call::RunEdited(circuit, line, text, partition, trace) => {
+            run_edited(rt, alloc, circuit, *line, text, partition, trace)
+        }
+        Call::RunLines(lines) => run_lines(rt, alloc, *lines),
+        Call::RunAlone(line) => run_alone(rt, alloc, *line),
+        Call::RunBytes(bytes) => run_bytes(rt, alloc, bytes),
+        Call::Ask(line, circuit, partition, trace) => {
+            ask_of(rt, alloc, line, circuit, partition, trace)
+        }
+        Call::AskCounter(line) => ask_of(rt, alloc, line, COUNTER, "{}", TRACE),
+        Call::AskFailing(line, circuit, partition, trace, load, put, err_put) => {
+            ask_failing(
+                rt, alloc, line, circuit, partition, trace, *load, *put, *err_put,
+            )
+        }
+        Call::Replay(line, circuit, partition, trace, steps) => {
+            replay(rt, alloc, line, circuit, partition, trace, steps)
+        }
+        Call::ReplayRead(steps) => replay_read(rt, alloc, steps),
+        Call::OnLarge(large) => ask_large(rt, alloc, large),
+    }
+}
+
+/// `run` in each way, on a circuit with a line changed.
+fn run_edited<R: Threads + Sync>(
+    rt: &R,
+    alloc: Global,
+    circuit: &str,
+    line: usize,
+    text: &str,
+    partition: &str,
+    trace: &str,
+) -> Result<Answer, AllocError> {
+    let circuit = edited(alloc, circuit, 64, line, text)?;
+    run(rt, alloc, circuit.as_str(), partition, trace)
+}
+
+/// `run` in each way, on so many lines of the counter.
+fn run_lines<R: Threads + Sync>(rt: &R, alloc: Global, lines: usize) -> Result<Answer, AllocError> {
+    let circuit = counter(alloc, lines, 0, "")?;
+    run(rt, alloc, circuit.as_str(), "{}", TRACE)
+}
+
+/// `run` on the counter with this line left empty, where there is no other file.
+fn run_alone<R: Threads + Sync>(rt: &R, alloc: Global, line: usize) -> Result<Answer, AllocError> {
+    let circuit = counter(alloc, 11, line, "")?;
+    let mut files = BTreeMap::new(alloc);
+    hold(&mut files, alloc, "k1.fir", circuit.as_bytes())?;
+    ask(rt, alloc, RUN, files)
+}
+
+/// `run` on a circuit of these bytes.
+fn run_bytes<R: Threads + Sync>(rt: &R, alloc: Global, bytes: &[u8]) -> Result<Answer, AllocError> {
+    let files = files_of(alloc, bytes, b"{}", TRACE.as_bytes())?;
+    ask(rt, alloc, RUN, files)
+}
+
+/// A call with these words, where the load and the puts of these numbers fail.
+fn ask_failing<R: Threads + Sync>(
+    rt: &R,
+    alloc: Global,
+    line: &str,
+    circuit: &str,
+    partition: &str,
+    trace: &str,
+    load: u64,
+    put: u64,
+    err_put: u64,
+) -> Result<Answer, AllocError> {
+    let loads = vec![in alloc; load]?;
+    let puts = vec![in alloc;
+        FailingPut {
+            number: put,
+            takes: 3
+        },
+    ]?;
+    let err_puts = vec![in alloc;
+        FailingPut {
+            number: err_put,
+            takes: 8
+        },
+    ]?;
+    let files = files_of(
+        alloc,
+        circuit.as_bytes(),
+        partition.as_bytes(),
+        trace.as_bytes(),
+    )?;
+    call(rt, alloc, line, files, loads, puts, err_puts)
+}
+
+/// A call with these words and steps.
+fn replay<R: Threads + Sync>(
+    rt: &R,
+    alloc: Global,
+    line: &str,
+    circuit: &str,
+    partition: &str,
+    trace: &str,
+    steps: &str,
+) -> Result<Answer, AllocError> {
+    let mut files = files_of(
+        alloc,
+        circuit.as_bytes(),
+        partition.as_bytes(),
+        trace.as_bytes(),
+    )?;
+    hold(&mut files, alloc, "s.steps", steps.as_bytes())?;
+    ask(rt, alloc, line, files)
+}
+
+/// A replay on the memory that is listed, of its reads and these steps.
+fn replay_read<R: Threads + Sync>(rt: &R, alloc: Global, last: &str) -> Result<Answer, AllocError> {
+    let mut steps = String::from_str(alloc, READ)?;
+    steps.push_str(last)?;
+    replay(
+        rt,
+        alloc,
+        REPLAY_1,
+        MEMORY,
+        LISTED,
+        MEMORY_TRACE,
+        steps.as_str(),
+    )
+}

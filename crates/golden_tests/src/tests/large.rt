@@ -1,0 +1,238 @@
+//! Calls on texts that are made: at the limits, and past them.
+use super::calls::Call::OnLarge;
+use super::calls::End::{Prints, Refuses};
+use super::calls::Row;
+use super::large::Large::{Blanks, Nested, Nodes, Outputs, Padded, Rows, Units};
+use super::steps::REPLAY;
+use gg_io::hold;
+use golden_calls::{
+    Answer, CHECK, COUNTER, RUN, TEXT, TRACE, ask, ask_of, counter, counter_files, files_of, run,
+};
+use itoa::Buffer;
+use std::alloc::{AllocError, Global};
+use std::thread::Threads;
+
+/// A call on large files.
+pub(crate) enum Large {
+    /// `run` in each way, on the counter with so many operations one inside the other.
+    Nested(usize),
+    /// These words, on so many instances that are all units.
+    Units(&'static str, u64),
+    /// `run` in each way, on so many outputs.
+    Outputs(u64),
+    /// These words, on an output that is an instance's behind a hundred nodes.
+    Nodes(&'static str),
+    /// `run` in each way, on the counter and so many rows.
+    Rows(u64),
+    /// `run` once, on the counter with blanks behind it, up to so many bytes.
+    Padded(usize),
+    /// These words, on the counter's files and a file of this name with so many blanks.
+    Blanks(&'static str, &'static str, usize),
+}
+
+/// Operations one inside the other, units, channels, and a chain of copies.
+pub(crate) static LIMITS: [Row; 9] = [
+    (OnLarge(Nested(256)), Prints(3, TEXT)),
+    (
+        OnLarge(Nested(257)),
+        Refuses(1, 1, "golden: circuit: too deep line 10\n"),
+    ),
+    (OnLarge(Units(RUN, 256)), Prints(3, "cycle\n0\n")),
+    (
+        OnLarge(Units(RUN, 257)),
+        Refuses(6, 2, "golden: partition: P9 units 257\n"),
+    ),
+    (
+        OnLarge(Units(CHECK, 257)),
+        Refuses(6, 2, "golden: partition: P9 units 257\n"),
+    ),
+    (
+        OnLarge(Outputs(16_384)),
+        Refuses(7, 3, "golden: trace: T1 field 0\n"),
+    ),
+    (
+        OnLarge(Outputs(16_385)),
+        Refuses(6, 2, "golden: partition: P9 channels 16385\n"),
+    ),
+    (
+        OnLarge(Nodes(CHECK)),
+        Prints(
+            2,
+            "machine hub: host 0\nmachine u host 1\nmachine in:x host 2\nmachine out:y host 3\nchannel u.a in:x u UInt<4> capacity 2 needs -\nchannel y u out:y UInt<4> capacity 2 needs u.a\n",
+        ),
+    ),
+    (OnLarge(Nodes(RUN)), Prints(3, "cycle y\n0 a\n")),
+];
+
+/// Files of blanks, each one byte past its limit; a circuit of its limit; and a trace with a row too many.
+pub(crate) static LARGE_FILES: [Row; 6] = [
+    (
+        OnLarge(Blanks(RUN, "k1.fir", 4_194_305)),
+        Refuses(8, 1, "golden: k1.fir is over 4194304 bytes\n"),
+    ),
+    (
+        OnLarge(Blanks(RUN, "p.json", 1_048_577)),
+        Refuses(8, 2, "golden: p.json is over 1048576 bytes\n"),
+    ),
+    (
+        OnLarge(Blanks(RUN, "k1.trace", 67_108_865)),
+        Refuses(8, 3, "golden: k1.trace is over 67108864 bytes\n"),
+    ),
+    (
+        OnLarge(Blanks(REPLAY, "s.steps", 67_108_865)),
+        Refuses(8, 4, "golden: s.steps is over 67108864 bytes\n"),
+    ),
+    (OnLarge(Padded(4_194_304)), Prints(3, TEXT)),
+    (
+        OnLarge(Rows(1_000_001)),
+        Refuses(7, 3, "golden: trace: T6 row 1000000\n"),
+    ),
+];
+
+/// What a call on large files answers.
+pub(crate) fn ask_large<R: Threads + Sync>(
+    rt: &R,
+    alloc: Global,
+    large: &Large,
+) -> Result<Answer, AllocError> {
+    match large {
+        Large::Nested(depth) => run_nested(rt, alloc, *depth),
+        Large::Units(line, count) => ask_units(rt, alloc, line, *count),
+        Large::Outputs(count) => run_outputs(rt, alloc, *count),
+        Large::Nodes(line) => ask_nodes(rt, alloc, line),
+        Large::Rows(count) => run_rows(rt, alloc, *count),
+        Large::Padded(size) => run_padded(rt, alloc, *size),
+        Large::Blanks(line, name, size) => ask_blanks(rt, alloc, line, name, *size),
+    }
+}
+
+/// The counter whose tenth line has so many operations one inside the other.
+fn nested(alloc: Global, depth: usize) -> Result<String, AllocError> {
+    let mut text = String::from_str(alloc, "out <= ")?;
+    for _ in 0..depth {
+        text.push_str("not(")?;
+    }
+    text.push_str("c")?;
+    for _ in 0..depth {
+        text.push_str(")")?;
+    }
+    counter(alloc, 11, 10, text.as_str())
+}
+
+/// `run` in each way, on it.
+fn run_nested<R: Threads + Sync>(
+    rt: &R,
+    alloc: Global,
+    depth: usize,
+) -> Result<Answer, AllocError> {
+    let circuit = nested(alloc, depth)?;
+    run(rt, alloc, circuit.as_str(), "{}", TRACE)
+}
+
+/// Writes, for each number from `first` on and below `count`, a piece that has the number in its middle.
+fn push_numbered(
+    text: &mut String,
+    first: u64,
+    count: u64,
+    before: &str,
+    behind: &str,
+) -> Result<(), AllocError> {
+    let mut buffer = Buffer::new();
+    for number in first..count {
+        text.push_str(before)?;
+        text.push_str(buffer.format(number))?;
+        text.push_str(behind)?;
+    }
+    Ok(())
+}
+
+/// A call with these words on so many instances, and a partition that lists them all.
+fn ask_units<R: Threads + Sync>(
+    rt: &R,
+    alloc: Global,
+    line: &str,
+    count: u64,
+) -> Result<Answer, AllocError> {
+    let mut circuit = String::from_str(alloc, "circuit Top :\nmodule A :\nmodule Top :\n")?;
+    push_numbered(&mut circuit, 0, count, "inst i", " of A\n")?;
+    let mut partition = String::from_str(alloc, "{\"units\":[\"i0\"")?;
+    push_numbered(&mut partition, 1, count, ",\"i", "\"")?;
+    partition.push_str("]}")?;
+    ask_of(
+        rt,
+        alloc,
+        line,
+        circuit.as_str(),
+        partition.as_str(),
+        "cycle\n0\n",
+    )
+}
+
+/// `run` in each way, on a circuit of so many outputs.
+fn run_outputs<R: Threads + Sync>(rt: &R, alloc: Global, count: u64) -> Result<Answer, AllocError> {
+    let mut circuit = String::from_str(alloc, "circuit Top :\nmodule Top :\n")?;
+    push_numbered(&mut circuit, 0, count, "output o", " : UInt<1>\n")?;
+    push_numbered(&mut circuit, 0, count, "o", " is invalid\n")?;
+    run(rt, alloc, circuit.as_str(), "{}", "")
+}
+
+/// A circuit whose output is an instance's behind a hundred nodes.
+fn chain_of_nodes(alloc: Global) -> Result<String, AllocError> {
+    let mut buffer = Buffer::new();
+    let mut circuit = String::from_str(
+        alloc,
+        "circuit Top :\nmodule Neg :\ninput a : UInt<4>\noutput b : UInt<4>\nb <= not(a)\nmodule Top :\ninput x : UInt<4>\noutput y : UInt<4>\ninst u of Neg\nu.a <= x\nnode n0 = u.b\n",
+    )?;
+    for number in 1u64..100 {
+        circuit.push_str("node n")?;
+        circuit.push_str(buffer.format(number))?;
+        circuit.push_str(" = n")?;
+        circuit.push_str(buffer.format(number - 1))?;
+        circuit.push_str("\n")?;
+    }
+    circuit.push_str("y <= n99\n")?;
+    Ok(circuit)
+}
+
+/// A call with these words on it, where the instance's channels are direct.
+fn ask_nodes<R: Threads + Sync>(rt: &R, alloc: Global, line: &str) -> Result<Answer, AllocError> {
+    let circuit = chain_of_nodes(alloc)?;
+    let partition = "{\"units\":[\"u\"],\"direct\":true}";
+    ask_of(
+        rt,
+        alloc,
+        line,
+        circuit.as_str(),
+        partition,
+        "cycle x\n0 5\n",
+    )
+}
+
+/// `run` in each way, on the counter and so many rows.
+fn run_rows<R: Threads + Sync>(rt: &R, alloc: Global, count: u64) -> Result<Answer, AllocError> {
+    let mut trace = String::from_str(alloc, "cycle reset\n")?;
+    push_numbered(&mut trace, 0, count, "", " 0001\n")?;
+    run(rt, alloc, COUNTER, "{}", trace.as_str())
+}
+
+/// `run` on the counter with blanks behind it, up to so many bytes.
+fn run_padded<R: Threads + Sync>(rt: &R, alloc: Global, size: usize) -> Result<Answer, AllocError> {
+    let mut bytes = Vec::from_slice(alloc, COUNTER.as_bytes())?;
+    bytes.resize(size, b' ')?;
+    let files = files_of(alloc, bytes.as_slice(), b"{}", TRACE.as_bytes())?;
+    ask(rt, alloc, RUN, files)
+}
+
+/// A call with these words on the counter's files and a file with so many blanks.
+fn ask_blanks<R: Threads + Sync>(
+    rt: &R,
+    alloc: Global,
+    line: &str,
+    name: &str,
+    size: usize,
+) -> Result<Answer, AllocError> {
+    let blanks = vec![in alloc; b' '; size]?;
+    let mut files = counter_files(alloc)?;
+    hold(&mut files, alloc, name, blanks.as_slice())?;
+    ask(rt, alloc, line, files)
+}

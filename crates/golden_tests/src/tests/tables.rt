@@ -1,0 +1,62 @@
+//! The tests of all tables.
+use super::calls::check_rows;
+use super::circuits::{CIRCUIT_FAULTS, CUT, RUNS, WHOLE};
+use super::commands::{ASKED, UNASKED};
+use super::cuts::{CUT_FAULTS, CUTS, ROUTED};
+use super::demos::SUMMARIES;
+use super::files::{FAILING, MISSING};
+use super::large::{LARGE_FILES, LIMITS};
+use super::outputs::PUTS;
+use super::partitions::{ACCEPTED, PARTITION_FAULTS, PIPED};
+use super::refusals::REFUSALS;
+use super::steps::{
+    COUNTER_STEPS, FORK_REFUSED, NEVER_DUE, PIPE_REFUSED, SERVES_REFUSED, SHARED_REFUSED,
+    STEPS_DONE, STEPS_REFUSED, STEPS_UNREAD,
+};
+use super::traces::TRACES;
+use super::workers::BY_WORKERS;
+
+#[test]
+fn runs_cuts_and_demos(rt: HostRuntime) {
+    let alloc = rt.alloc();
+    check_rows(&rt, alloc, "RUNS", &RUNS);
+    check_rows(&rt, alloc, "WHOLE", &WHOLE);
+    check_rows(&rt, alloc, "CUT", &CUT);
+    check_rows(&rt, alloc, "CIRCUIT_FAULTS", &CIRCUIT_FAULTS);
+    check_rows(&rt, alloc, "ASKED", &ASKED);
+    check_rows(&rt, alloc, "UNASKED", &UNASKED);
+    check_rows(&rt, alloc, "CUTS", &CUTS);
+    check_rows(&rt, alloc, "ROUTED", &ROUTED);
+    check_rows(&rt, alloc, "CUT_FAULTS", &CUT_FAULTS);
+    check_rows(&rt, alloc, "SUMMARIES", &SUMMARIES);
+    check_rows(&rt, alloc, "MISSING", &MISSING);
+    check_rows(&rt, alloc, "FAILING", &FAILING);
+    check_rows(&rt, alloc, "PUTS", &PUTS);
+    check_rows(&rt, alloc, "ACCEPTED", &ACCEPTED);
+    check_rows(&rt, alloc, "PIPED", &PIPED);
+    check_rows(&rt, alloc, "PARTITION_FAULTS", &PARTITION_FAULTS);
+    check_rows(&rt, alloc, "REFUSALS", &REFUSALS);
+    check_rows(&rt, alloc, "TRACES", &TRACES);
+    check_rows(&rt, alloc, "BY_WORKERS", &BY_WORKERS);
+    check_rows(&rt, alloc, "LIMITS", &LIMITS);
+}
+
+#[test]
+fn steps_are_replayed(rt: HostRuntime) {
+    let alloc = rt.alloc();
+    check_rows(&rt, alloc, "COUNTER_STEPS", &COUNTER_STEPS);
+    check_rows(&rt, alloc, "STEPS_DONE", &STEPS_DONE);
+    check_rows(&rt, alloc, "STEPS_REFUSED", &STEPS_REFUSED);
+    check_rows(&rt, alloc, "SERVES_REFUSED", &SERVES_REFUSED);
+    check_rows(&rt, alloc, "NEVER_DUE", &NEVER_DUE);
+    check_rows(&rt, alloc, "SHARED_REFUSED", &SHARED_REFUSED);
+    check_rows(&rt, alloc, "FORK_REFUSED", &FORK_REFUSED);
+    check_rows(&rt, alloc, "PIPE_REFUSED", &PIPE_REFUSED);
+    check_rows(&rt, alloc, "STEPS_UNREAD", &STEPS_UNREAD);
+}
+
+// `rt try --test` doesn't end on this one.
+#[test]
+fn large_files_are_read(rt: HostRuntime) {
+    check_rows(&rt, rt.alloc(), "LARGE_FILES", &LARGE_FILES);
+}
