@@ -15,13 +15,52 @@ use gg_row::{LineRow, Miss};
 use std::alloc::Global;
 
 /// A register whose reset is on the next line.
-#[derive(Drop)]
 pub(crate) struct OpenRegister {
     /// The line of the register.
     pub(crate) line: u64,
     pub(crate) name: Name,
     pub(crate) ty: GroundType,
     pub(crate) clock: Expr,
+}
+
+impl Drop for OpenRegister {
+    fn drop(self) {
+        let Self {
+            line: _,
+            name,
+            ty: _,
+            clock,
+        } = self;
+        drop(name);
+        drop(clock);
+    }
+}
+
+impl OpenRegister {
+    /// Adds the register with this reset to the last module, as its last statement.
+    #[tactic(auto, using(crate::proofs::Builds::rows_closed))]
+    fn close(self, circuit: Circuit, reset: Reset) -> Result<Stage, Miss>
+        requires some { 0 < length circuit.modules }
+        requires after { self.line < reset.line }
+        requires named { AreNamesOfRegister self × AreNamesOfReset reset }
+        ensures { Advances (Stage.Open circuit self) (Some InStatements) reset.line (reset_row reset ∷ []) result }
+    {
+        let mut circuit = circuit;
+        let Self {
+            line,
+            name,
+            ty,
+            clock,
+        } = self;
+        let kind = StmtKind::Register {
+            name,
+            ty,
+            clock,
+            reset: Some(reset),
+        };
+        circuit.push_statement(Stmt { line, kind })?;
+        Ok(Stage::Statements(circuit))
+    }
 }
 
 /// The position of the next line, and the circuit of the lines before it.
@@ -364,7 +403,7 @@ fn reset(stage: Stage, reset: Reset) -> Result<Stage, Miss>
     ensures { Advances stage (after_reset (stage_place stage)) reset.line (reset_row reset ∷ []) result }
 {
     match opened(stage) {
-        Ok((circuit, register)) => close(circuit, register, reset),
+        Ok((circuit, register)) => register.close(circuit, reset),
         Err(miss) => {
             drop(reset);
             Err(miss)
@@ -385,31 +424,6 @@ fn opened(stage: Stage) -> Result<(Circuit, OpenRegister), Miss>
         | Stage::Statements(_)
         | Stage::Fields(_) => Err(Miss::NoForm),
     }
-}
-
-/// Adds the register with this reset to the last module, as its last statement.
-#[tactic(auto, using(crate::proofs::Builds::rows_closed))]
-fn close(circuit: Circuit, register: OpenRegister, reset: Reset) -> Result<Stage, Miss>
-    requires some { 0 < length circuit.modules }
-    requires after { register.line < reset.line }
-    requires named { AreNamesOfRegister register × AreNamesOfReset reset }
-    ensures { Advances (Stage.Open circuit register) (Some InStatements) reset.line (reset_row reset ∷ []) result }
-{
-    let mut circuit = circuit;
-    let OpenRegister {
-        line,
-        name,
-        ty,
-        clock,
-    } = register;
-    let kind = StmtKind::Register {
-        name,
-        ty,
-        clock,
-        reset: Some(reset),
-    };
-    circuit.push_statement(Stmt { line, kind })?;
-    Ok(Stage::Statements(circuit))
 }
 
 /// The circuit, if the text may end here. `line` is the number of the line after the last.

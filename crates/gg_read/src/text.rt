@@ -83,7 +83,10 @@ fn next_stage(alloc: Global, stage: Stage, number: u64, line: &str) -> Result<St
 {
     let lexed = match lex(alloc, line) {
         Ok(lexed) => lexed,
-        Err(_) => return Err(ReadFault::NoMemory),
+        Err(_) => {
+            drop(stage);
+            return Err(ReadFault::NoMemory);
+        }
     };
     if is_blank(&lexed) {
         return Ok(stage);
@@ -116,8 +119,13 @@ fn placed(alloc: Global, stage: Stage, number: u64, lexed: &LexedLine) -> Result
     requires stage { IsStage stage number }
     ensures { IsPlaced stage number (line_of lexed.now) result }
 {
-    let row = whole_row(alloc, lexed)?;
-    advance(alloc, stage, number, row)
+    match whole_row(alloc, lexed) {
+        Ok(row) => advance(alloc, stage, number, row),
+        Err(miss) => {
+            drop(stage);
+            Err(miss)
+        }
+    }
 }
 
 /// The row of a line, whatever its position. The whole line spells it, and at no token are too many brackets open.

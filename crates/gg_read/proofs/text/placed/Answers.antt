@@ -3,7 +3,6 @@ use Rattle.gg_read.specs.Stages.{line_of}
 use Rattle.gg_read.proofs.TextSteps.{placed_held}
 use Rattle.gg_read.proofs.text.placed.Goals as goal
 
-pub returns : goal.returns
-returns c =
-    let row = c.in_ok-row.ensures.row in
-    placed_held c.args.stage c.args.number (line_of c.args.lexed.now) (row_of c.in_ok-row.row) c.advance.result row c.advance.ensures
+pub returns-in-Ok : goal.returns-in-Ok
+returns-in-Ok c =
+    placed_held c.args.stage c.args.number (line_of c.args.lexed.now) (row_of c.in-Ok.row) c.advance.result c.in-Ok.ensures.row c.advance.ensures
