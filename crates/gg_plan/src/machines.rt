@@ -8,7 +8,8 @@ ghost use Rattle.gg_cut.specs.Fault.{first_fault};
 ghost use Rattle.gg_cut.specs.Hosts.{leader, host_of};
 ghost use Rattle.gg_cut.specs.Listed.{listed_of};
 ghost use Rattle.gg_cut.specs.Machines.{machine_count, numbering_of};
-ghost use Rattle.gg_cut.specs.Plan.{IsMachine, IsBody};
+ghost use Rattle.gg_cut.specs.Plan.{IsMachine, IsBody, machine_names};
+ghost use Rattle.gg_flat.specs.Tree.{path_at};
 ghost use Rattle.gg_cut.specs.declared.plan.Machine.{Machine};
 ghost use Rattle.gg_duplicates.specs.Again.{IsUnitAgain};
 ghost use Rattle.gg_routes.specs.Routes.{AreRoutes};
@@ -22,6 +23,7 @@ use crate::moved::moved_part;
 use crate::names::machine_name;
 use crate::parts::{copied, cut_part};
 use crate::shares::plan_shares;
+use gg_bits::{Ids, Name};
 use gg_cut::{Body, Listed, Machine, Numbering, Role, Wire};
 use gg_duplicates::units_stand_again;
 use gg_order::Design;
@@ -111,16 +113,53 @@ fn machine_at(
     ensures machine { IfOk result (λ machine. IsMachine design.now request.now listed.now (plan_hub design.now.circuit design.now.tree request.now) number machine) }
     ensures body { IfOk result (λ machine. machine.body ≡ body) }
 {
+    match heading_of(alloc, design, request, listed, numbering, share, number) {
+        Ok(heading) => {
+            let Heading { name, ins, outs } = heading;
+            Ok(Machine {
+                name,
+                host,
+                body,
+                ins,
+                outs,
+            })
+        }
+        Err(error) => {
+            drop(body);
+            Err(error)
+        }
+    }
+}
+
+// A machine's name, and the channels that it takes and gives.
+#[derive(Drop)]
+struct Heading {
+    name: Name,
+    ins: Ids,
+    outs: Ids,
+}
+
+// The name and the channels of a machine, by its number.
+fn heading_of(
+    alloc: Global,
+    design: &Design,
+    request: &Request,
+    listed: &Listed,
+    numbering: &Numbering,
+    share: &Share,
+    number: usize,
+) -> Result<Heading, AllocError>
+    requires numbering { numbering.now ≡ numbering_of design.now.circuit listed.now }
+    requires units { length listed.now.units ≡ length request.now.units }
+    requires known { number < machine_count design.now.circuit listed.now }
+    ensures name { IfOk result (λ h. h.name ≡ path_at (machine_names design.now request.now listed.now) number) }
+    ensures ins { IfOk result (λ h. h.ins ≡ share.now.ins) }
+    ensures outs { IfOk result (λ h. h.outs ≡ share.now.outs) }
+{
     let name = machine_name(alloc, design, request, listed, numbering, number)?;
     let ins = copied(alloc, share.ins.as_slice())?;
     let outs = copied(alloc, share.outs.as_slice())?;
-    Ok(Machine {
-        name,
-        host,
-        body,
-        ins,
-        outs,
-    })
+    Ok(Heading { name, ins, outs })
 }
 
 // What a machine does, by its number, after the machines before it. If an earlier machine has its host, its part is that

@@ -4,7 +4,9 @@ ghost use Rattle.gg_cut.specs.Plan.{IsPlan};
 ghost use Rattle.gg_demo.specs.CircuitText.{demo_circuit};
 ghost use Rattle.gg_demo.specs.PartitionText.{demo_partition};
 ghost use Rattle.gg_demo.specs.TraceText.{demo_cycles, demo_trace};
+ghost use Rattle.gg_flat.specs.Run.{IsColumns};
 ghost use Rattle.gg_front.specs.Meaning.{MeansDesign};
+ghost use Rattle.gg_limits.specs.Limits.{cycle_limit};
 ghost use Rattle.gg_moved.specs.KeepsToTree.{KeepsToTree};
 ghost use Rattle.gg_pipe.specs.Made.{AreHeldOnce};
 ghost use Rattle.gg_summed.specs.Sums.{AreSums};
@@ -12,10 +14,11 @@ ghost use Rattle.gg_told.specs.Ends.{puts_of};
 ghost use Rattle.gg_told.specs.Endings.{PrintsOrStops};
 ghost use Rattle.gg_told.specs.Order.{IsOnly};
 ghost use Rattle.gg_told.specs.WentOn.{SinkWentOn};
-ghost use Rattle.golden.specs.Case.{IsFed};
+ghost use Rattle.golden.specs.Case.{IsCase, IsFed};
 ghost use Rattle.golden.specs.Demo.{IsDemoText, demo_capacity};
 ghost use Rattle.golden.specs.Partition.{Cuts};
 ghost use Rattle.golden.specs.Replayed.{IsToReplay};
+ghost use Rattle.golden.specs.RunText.{FeedsOnly};
 
 use crate::case::{Case, Fed};
 use crate::limits::{CIRCUIT_LIMIT, PARTITION_LIMIT};
@@ -29,6 +32,7 @@ use gg_net::Streams;
 use gg_order::Design;
 use gg_summed::{Sums, put_summary, sum_net};
 use gg_told::Ending;
+use gg_trace::Trace;
 use std::alloc::{AllocError, Global};
 use std::marker::Brand;
 use std::thread::Threads;
@@ -71,24 +75,56 @@ fn demo_cut(alloc: Global, size: u32, design: &Design) -> Result<Cut, Ending>
     Ok(cut)
 }
 
+// The design and the cut of a demo.
+fn demo_case(alloc: Global, size: u32) -> Result<Case, Ending>
+    requires some { 0 < size }
+    requires most { size ≤ 64 }
+    ensures { IfOk result (IsCase (demo_circuit size) (demo_partition size) demo_capacity) }
+{
+    let design = demo_design(alloc, size)?;
+    match demo_cut(alloc, size, &design) {
+        Ok(cut) => {
+            // for the design's invariant
+            let _ = design.order();
+            let _ = design.piece();
+            Ok(Case { design, cut })
+        }
+        Err(ending) => {
+            drop(design);
+            Err(ending)
+        }
+    }
+}
+
+// The trace of a demo.
+fn demo_inputs(alloc: Global, seed: u32, size: u32, design: &Design) -> Result<Trace, Ending>
+    requires some { 0 < size }
+    requires most { size ≤ 64 }
+    ensures feeds { IfOk result (λ trace. FeedsOnly design.now.circuit (demo_trace seed size) trace.rows trace.columns) }
+    ensures most { IfOk result (λ trace. trace.rows ≤ cycle_limit) }
+    ensures columns { IfOk result (λ trace. IsColumns design.now.circuit trace.rows trace.columns) }
+{
+    let text = trace_text(alloc, seed, size)?;
+    let trace = inputs_of(alloc, text.as_bytes(), design)?;
+    // for the limit on the rows
+    let _ = trace.rows();
+    Ok(trace)
+}
+
 // What the three texts of a demo mean. An error says nothing, as above.
 fn demo_fed(alloc: Global, seed: u32, size: u32) -> Result<Fed, Ending>
     requires some { 0 < size }
     requires most { size ≤ 64 }
     ensures { IfOk result (IsFed (demo_circuit size) (demo_partition size) (demo_trace seed size) demo_capacity) }
 {
-    let design = demo_design(alloc, size)?;
-    let cut = demo_cut(alloc, size, &design)?;
-    let text = trace_text(alloc, seed, size)?;
-    let trace = inputs_of(alloc, text.as_bytes(), &design)?;
-    // for the design's invariant, and the limit on the rows
-    let _ = design.order();
-    let _ = design.piece();
-    let _ = trace.rows();
-    Ok(Fed {
-        case: Case { design, cut },
-        trace,
-    })
+    let case = demo_case(alloc, size)?;
+    match demo_inputs(alloc, seed, size, &case.design) {
+        Ok(trace) => Ok(Fed { case, trace }),
+        Err(ending) => {
+            drop(case);
+            Err(ending)
+        }
+    }
 }
 
 // Whether the circuit has two out-signals, and the trace the rows of a demo.
