@@ -40,51 +40,17 @@ pub(crate) fn moved_piece(
     requires outs { All (λ s. Contains globals.now s) outs.now }
     ensures { IfOk result (λ piece. IsMovedPiece whole.now other.now globals.now held.now memories.now outs.now piece) }
 {
-    let mut piece = Piece::new(alloc);
-    match fill_piece(
-        alloc, whole, other, globals, held, memories, outs, &mut piece,
-    ) {
-        Ok(()) => Ok(piece),
-        Err(error) => {
-            drop(piece);
-            Err(error)
-        }
-    }
-}
-
-// Fills the empty piece.
-fn fill_piece(
-    alloc: Global,
-    whole: &Piece,
-    other: &Piece,
-    globals: &[u32],
-    held: &[u32],
-    memories: &[u32],
-    outs: &[u32],
-    piece: &mut Piece,
-) -> Result<(), AllocError>
-    requires formed { IsWellFormed whole.now }
-    requires signals { length other.now.signals ≡ length globals.now }
-    requires within { All (λ s. s < length whole.now.signals) globals.now }
-    requires once { AllPairs (λ a b. a ≢ b) globals.now }
-    requires registers { length other.now.registers ≡ length held.now }
-    requires held { All (λ r. r < length whole.now.registers) held.now }
-    requires memories { length other.now.memories ≡ length memories.now }
-    requires banks { All (λ m. m < length whole.now.memories) memories.now }
-    requires outs { All (λ s. Contains globals.now s) outs.now }
-    requires empty { piece.old ≡ no_circuit }
-    ensures { OnOk result (IsMovedPiece whole.now other.now globals.now held.now memories.now outs.now piece.new) }
-{
     // its contract says that the whole has few enough signals
     let _ = whole.signal_count();
-    add_signals(alloc, whole, other, globals, piece)?;
-    add_registers(whole, other, held, piece)?;
-    add_memories(alloc, whole, other, memories, piece)?;
-    add_ins(other.ins(), piece)?;
+    let mut piece = Piece::new(alloc);
+    add_signals(alloc, whole, other, globals, &mut piece)?;
+    add_registers(whole, other, held, &mut piece)?;
+    add_memories(alloc, whole, other, memories, &mut piece)?;
+    add_ins(other.ins(), &mut piece)?;
     let locals = found_at(alloc, whole.signals().len(), globals, outs)?;
-    add_outs(&locals, piece)?;
+    add_outs(&locals, &mut piece)?;
     piece.set_clocks(whole.clocks());
-    Ok(())
+    Ok(piece)
 }
 
 // ---- signals
