@@ -3,8 +3,8 @@ use crate::fakes::Few;
 use gg_io::{FileShelf, LoadFail, MemShelf, Shelf, SureShelf, hold};
 use std::alloc::Global;
 use std::collections::BTreeMap;
-use std::fs;
 use std::process::Abort;
+use std::{fs, mem};
 
 /// A name and a limit, and what a load answers.
 type Load<'a> = (&'a str, u64, Result<&'a [u8], LoadFail>);
@@ -49,7 +49,8 @@ fn shelves_in_memory(rt: HostRuntime) {
     assert!(rt; shelf.failing.push(1).is_ok());
     check_loads(&rt, rt.alloc(), &mut shelf, &LOADS);
     assert!(rt; (shelf.loads, shelf.faults, shelf.cuts) == (5, 2, 1));
-    let mut sure = SureShelf::new(shelf.files);
+    let files = mem::replace(&mut shelf.files, BTreeMap::new(rt.alloc()));
+    let mut sure = SureShelf::new(files);
     check_loads(&rt, rt.alloc(), &mut sure, &SURE_LOADS);
     assert!(rt; sure.cuts == 1);
 }
