@@ -140,8 +140,10 @@ class Module:
         rows = self.order()
         for ring, is_loop in rows:
             if is_loop:
-                spots = sorted({f"{place(self.cells[key[0]])} ({self.cells[key[0]]['type']})" for key in ring})
-                raise Refused(f"{spots[0].split(' ')[0]}: a combinational loop by whole signals: {', '.join(spots)}")
+                inside = [self.cells[key[0]] for key in ring]
+                spots = sorted({f"{place(row)} ({row['type']})" for row in inside})
+                more = "; --flatten makes one module of all, and may end it" if any(row["type"] in self.deep for row in inside) else ""
+                raise Refused(f"{spots[0].split(' ')[0]}: a combinational loop by whole signals: {', '.join(spots)}{more}")
         self.keys = [ring[0] for ring, _ in rows]
         self.note_reach()
 
