@@ -1,0 +1,9 @@
+circuit Top :
+  module Top :
+    input clock : Clock
+    input a : UInt<8>
+    output y : UInt<8>
+
+    wire w : UInt<160>
+    w <= a
+    y <= bits(w, 7, 0)

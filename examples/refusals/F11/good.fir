@@ -1,0 +1,7 @@
+circuit Top :
+  module Top :
+    input clock : Clock
+    input a : UInt<8>
+    output y : UInt<8>
+
+    y <= bits(a, 7, 1)

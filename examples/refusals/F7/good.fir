@@ -1,0 +1,6 @@
+circuit Top :
+  module Part :
+    skip
+
+  module Top :
+    inst p of Part

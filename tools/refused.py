@@ -1,0 +1,20 @@
+"""What the tools beside golden share: a refusal, and a place in a Verilog file."""
+
+
+class Refused(Exception):
+    """What can't be done. The text names the place."""
+
+
+def place(thing):
+    """FILE:LINE of a cell, a name or a module of yosys, as far as yosys knows it."""
+    src = thing.get("attributes", {}).get("src", "").split("|")[0]
+    return src.split("-")[0].rsplit(".", 1)[0] if ":" in src else src
+
+
+def info(thing):
+    """The same as file information of FIRRTL, with a blank before it."""
+    src = thing.get("attributes", {}).get("src", "").split("|")[0].rsplit("-", 1)[0]
+    if ":" not in src or src.endswith(":0.0"):
+        return ""
+    name, spot = src.rsplit(":", 1)
+    return f" @[{name.replace(']', ')')} {spot.replace('.', ':')}]"
