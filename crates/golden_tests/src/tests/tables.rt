@@ -16,29 +16,40 @@ use super::steps::{
 use super::traces::TRACES;
 use super::workers::BY_WORKERS;
 
+// A test of many tables takes more steps than the check of one function may take.
 #[test]
-fn runs_cuts_and_demos(rt: HostRuntime) {
+fn circuits_run(rt: HostRuntime) {
     let alloc = rt.alloc();
     check_rows(&rt, alloc, "RUNS", &RUNS);
     check_rows(&rt, alloc, "WHOLE", &WHOLE);
     check_rows(&rt, alloc, "CUT", &CUT);
     check_rows(&rt, alloc, "CIRCUIT_FAULTS", &CIRCUIT_FAULTS);
-    check_rows(&rt, alloc, "ASKED", &ASKED);
-    check_rows(&rt, alloc, "UNASKED", &UNASKED);
+    check_rows(&rt, alloc, "TRACES", &TRACES);
+    check_rows(&rt, alloc, "LIMITS", &LIMITS);
+    check_rows(&rt, alloc, "BY_WORKERS", &BY_WORKERS);
+}
+
+#[test]
+fn partitions_are_cut(rt: HostRuntime) {
+    let alloc = rt.alloc();
     check_rows(&rt, alloc, "CUTS", &CUTS);
     check_rows(&rt, alloc, "ROUTED", &ROUTED);
     check_rows(&rt, alloc, "CUT_FAULTS", &CUT_FAULTS);
+    check_rows(&rt, alloc, "ACCEPTED", &ACCEPTED);
+    check_rows(&rt, alloc, "PIPED", &PIPED);
+    check_rows(&rt, alloc, "PARTITION_FAULTS", &PARTITION_FAULTS);
+}
+
+#[test]
+fn commands_end(rt: HostRuntime) {
+    let alloc = rt.alloc();
+    check_rows(&rt, alloc, "ASKED", &ASKED);
+    check_rows(&rt, alloc, "UNASKED", &UNASKED);
     check_rows(&rt, alloc, "SUMMARIES", &SUMMARIES);
     check_rows(&rt, alloc, "MISSING", &MISSING);
     check_rows(&rt, alloc, "FAILING", &FAILING);
     check_rows(&rt, alloc, "PUTS", &PUTS);
-    check_rows(&rt, alloc, "ACCEPTED", &ACCEPTED);
-    check_rows(&rt, alloc, "PIPED", &PIPED);
-    check_rows(&rt, alloc, "PARTITION_FAULTS", &PARTITION_FAULTS);
     check_rows(&rt, alloc, "REFUSALS", &REFUSALS);
-    check_rows(&rt, alloc, "TRACES", &TRACES);
-    check_rows(&rt, alloc, "BY_WORKERS", &BY_WORKERS);
-    check_rows(&rt, alloc, "LIMITS", &LIMITS);
 }
 
 #[test]
