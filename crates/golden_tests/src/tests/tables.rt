@@ -2,7 +2,7 @@
 use super::calls::check_rows;
 use super::circuits::{CIRCUIT_FAULTS, CUT, RUNS, WHOLE};
 use super::commands::{ASKED, UNASKED};
-use super::cuts::{CUT_FAULTS, CUTS, ROUTED};
+use super::cuts::{CUT_FAULTS, HOST_CUTS, ORDER_CUTS, ROUTED, UNIT_CUTS};
 use super::demos::SUMMARIES;
 use super::files::{FAILING, MISSING};
 use super::large::{LARGE_FILES, LIMITS};
@@ -16,7 +16,7 @@ use super::steps::{
 use super::traces::TRACES;
 use super::workers::BY_WORKERS;
 
-// A test of more tables takes more steps than the check of one function may take, since each call carries the tables before it.
+// Few tables a test, and no long ones: a test takes more steps the more its tables hold, and has a limit.
 #[test]
 fn circuits_run(rt: HostRuntime) {
     let alloc = rt.alloc();
@@ -52,8 +52,17 @@ fn words_are_read(rt: HostRuntime) {
 
 #[test]
 fn cuts_are_printed(rt: HostRuntime) {
-    let alloc = rt.alloc();
-    check_rows(&rt, alloc, "CUTS", &CUTS);
+    check_rows(&rt, rt.alloc(), "UNIT_CUTS", &UNIT_CUTS);
+}
+
+#[test]
+fn cuts_with_hosts_are_printed(rt: HostRuntime) {
+    check_rows(&rt, rt.alloc(), "HOST_CUTS", &HOST_CUTS);
+}
+
+#[test]
+fn cuts_in_any_order_are_printed(rt: HostRuntime) {
+    check_rows(&rt, rt.alloc(), "ORDER_CUTS", &ORDER_CUTS);
 }
 
 #[test]
