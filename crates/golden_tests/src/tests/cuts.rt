@@ -36,8 +36,8 @@ const LEVELS: &str =
 const STOPS: &str =
     "circuit Top :\nmodule Cell :\ninput clock : Clock\ninput i : UInt<2>\nstop(clock, eq(i, UInt<2>(1)), 1) : done\nmodule Top :\ninput clock : Clock\ninput x : UInt<2>\noutput y : UInt<2>\ninst c of Cell\nc.clock <= clock\nc.i <= x\ny <= x\nstop(clock, eq(x, UInt<2>(3)), 0) : last\n";
 
-/// Cuts that are printed.
-pub(crate) static CUTS: [Row; 21] = [
+/// Cuts that are printed: units, and memories beside them and in them.
+pub(crate) static UNIT_CUTS: [Row; 7] = [
     (
         Ask(
             "golden check k1.fir p.json --capacity 1",
@@ -124,6 +124,10 @@ pub(crate) static CUTS: [Row; 21] = [
             "machine hub: host 0\nmachine c host 1\nmachine c.m host 2\nmachine in:x host 3\nmachine out:y host 4\nchannel x in:x hub: UInt<2> capacity 2 needs -\nchannel c.i hub: c UInt<2> capacity 2 needs x\nchannel c.o c hub: UInt<4> capacity 2 needs c.m.r.data\nchannel c.m.r.addr c c.m UInt<2> capacity 2 needs c.i\nchannel c.m.r.en c c.m UInt<1> capacity 2 needs -\nchannel c.m.r.data c.m c UInt<4> capacity 2 needs c.m.r.addr c.m.r.en\nchannel y hub: out:y UInt<4> capacity 2 needs c.o\n",
         ),
     ),
+];
+
+/// Units on one host, at several depths, and machines that feed themselves.
+pub(crate) static HOST_CUTS: [Row; 7] = [
     // a unit with ports that are not used
     (
         Ask(
@@ -215,6 +219,10 @@ pub(crate) static CUTS: [Row; 21] = [
             "machine hub: host 0\nmachine c host 1\nmachine t host 2\nmachine c.m host 3\nmachine out:y host 4\nchannel c.i hub: c UInt<1> capacity 2 needs t.r.data\nchannel c.o c hub: UInt<1> capacity 2 needs c.m.r.data\nchannel t.r.addr hub: t UInt<1> capacity 2 needs c.o\nchannel t.r.en hub: t UInt<1> capacity 2 needs -\nchannel t.r.data t hub: UInt<1> capacity 2 needs t.r.addr t.r.en\nchannel c.m.r.addr c c.m UInt<1> capacity 2 needs c.i\nchannel c.m.r.en c c.m UInt<1> capacity 2 needs -\nchannel c.m.r.data c.m c UInt<1> capacity 2 needs -\nchannel y hub: out:y UInt<1> capacity 2 needs t.r.data\n",
         ),
     ),
+];
+
+/// Units against the order of the file, stops, and memories without ports.
+pub(crate) static ORDER_CUTS: [Row; 7] = [
     // a listed memory of latency 1
     (
         Ask(

@@ -2,7 +2,7 @@
 use super::calls::check_rows;
 use super::circuits::{CIRCUIT_FAULTS, CUT, RUNS, WHOLE};
 use super::commands::{ASKED, UNASKED};
-use super::cuts::{CUT_FAULTS, CUTS, ROUTED};
+use super::cuts::{CUT_FAULTS, HOST_CUTS, ORDER_CUTS, ROUTED, UNIT_CUTS};
 use super::demos::SUMMARIES;
 use super::files::{FAILING, MISSING};
 use super::large::{LARGE_FILES, LIMITS};
@@ -16,36 +16,78 @@ use super::steps::{
 use super::traces::TRACES;
 use super::workers::BY_WORKERS;
 
-// A test of many tables takes more steps than the check of one function may take.
+// Few tables a test, and no long ones: a test takes more steps the more its tables hold, and has a limit.
 #[test]
 fn circuits_run(rt: HostRuntime) {
     let alloc = rt.alloc();
     check_rows(&rt, alloc, "RUNS", &RUNS);
-    check_rows(&rt, alloc, "WHOLE", &WHOLE);
-    check_rows(&rt, alloc, "CUT", &CUT);
-    check_rows(&rt, alloc, "CIRCUIT_FAULTS", &CIRCUIT_FAULTS);
-    check_rows(&rt, alloc, "TRACES", &TRACES);
-    check_rows(&rt, alloc, "LIMITS", &LIMITS);
-    check_rows(&rt, alloc, "BY_WORKERS", &BY_WORKERS);
 }
 
 #[test]
-fn partitions_are_cut(rt: HostRuntime) {
+fn instances_run(rt: HostRuntime) {
     let alloc = rt.alloc();
-    check_rows(&rt, alloc, "CUTS", &CUTS);
+    check_rows(&rt, alloc, "WHOLE", &WHOLE);
+    check_rows(&rt, alloc, "CUT", &CUT);
+}
+
+#[test]
+fn circuits_are_refused(rt: HostRuntime) {
+    let alloc = rt.alloc();
+    check_rows(&rt, alloc, "CIRCUIT_FAULTS", &CIRCUIT_FAULTS);
+}
+
+#[test]
+fn traces_are_read(rt: HostRuntime) {
+    let alloc = rt.alloc();
+    check_rows(&rt, alloc, "TRACES", &TRACES);
+    check_rows(&rt, alloc, "LIMITS", &LIMITS);
+}
+
+#[test]
+fn words_are_read(rt: HostRuntime) {
+    let alloc = rt.alloc();
+    check_rows(&rt, alloc, "ASKED", &ASKED);
+    check_rows(&rt, alloc, "UNASKED", &UNASKED);
+}
+
+#[test]
+fn cuts_are_printed(rt: HostRuntime) {
+    check_rows(&rt, rt.alloc(), "UNIT_CUTS", &UNIT_CUTS);
+}
+
+#[test]
+fn cuts_with_hosts_are_printed(rt: HostRuntime) {
+    check_rows(&rt, rt.alloc(), "HOST_CUTS", &HOST_CUTS);
+}
+
+#[test]
+fn cuts_in_any_order_are_printed(rt: HostRuntime) {
+    check_rows(&rt, rt.alloc(), "ORDER_CUTS", &ORDER_CUTS);
+}
+
+#[test]
+fn routed_cuts_are_printed(rt: HostRuntime) {
+    let alloc = rt.alloc();
     check_rows(&rt, alloc, "ROUTED", &ROUTED);
     check_rows(&rt, alloc, "CUT_FAULTS", &CUT_FAULTS);
+}
+
+#[test]
+fn partitions_run(rt: HostRuntime) {
+    let alloc = rt.alloc();
     check_rows(&rt, alloc, "ACCEPTED", &ACCEPTED);
     check_rows(&rt, alloc, "PIPED", &PIPED);
+}
+
+#[test]
+fn partitions_are_refused(rt: HostRuntime) {
+    let alloc = rt.alloc();
     check_rows(&rt, alloc, "PARTITION_FAULTS", &PARTITION_FAULTS);
 }
 
 #[test]
-fn commands_end(rt: HostRuntime) {
+fn files_and_outputs_fail(rt: HostRuntime) {
     let alloc = rt.alloc();
-    check_rows(&rt, alloc, "ASKED", &ASKED);
-    check_rows(&rt, alloc, "UNASKED", &UNASKED);
-    check_rows(&rt, alloc, "SUMMARIES", &SUMMARIES);
     check_rows(&rt, alloc, "MISSING", &MISSING);
     check_rows(&rt, alloc, "FAILING", &FAILING);
     check_rows(&rt, alloc, "PUTS", &PUTS);
@@ -53,13 +95,30 @@ fn commands_end(rt: HostRuntime) {
 }
 
 #[test]
-fn steps_are_replayed(rt: HostRuntime) {
+fn demos_and_workers_run(rt: HostRuntime) {
+    let alloc = rt.alloc();
+    check_rows(&rt, alloc, "SUMMARIES", &SUMMARIES);
+    check_rows(&rt, alloc, "BY_WORKERS", &BY_WORKERS);
+}
+
+#[test]
+fn steps_are_done(rt: HostRuntime) {
     let alloc = rt.alloc();
     check_rows(&rt, alloc, "COUNTER_STEPS", &COUNTER_STEPS);
     check_rows(&rt, alloc, "STEPS_DONE", &STEPS_DONE);
+}
+
+#[test]
+fn steps_are_refused(rt: HostRuntime) {
+    let alloc = rt.alloc();
     check_rows(&rt, alloc, "STEPS_REFUSED", &STEPS_REFUSED);
     check_rows(&rt, alloc, "SERVES_REFUSED", &SERVES_REFUSED);
     check_rows(&rt, alloc, "NEVER_DUE", &NEVER_DUE);
+}
+
+#[test]
+fn channels_refuse_steps(rt: HostRuntime) {
+    let alloc = rt.alloc();
     check_rows(&rt, alloc, "SHARED_REFUSED", &SHARED_REFUSED);
     check_rows(&rt, alloc, "FORK_REFUSED", &FORK_REFUSED);
     check_rows(&rt, alloc, "PIPE_REFUSED", &PIPE_REFUSED);
