@@ -13,3 +13,4 @@ pub mod PrintLaws
 pub mod PartedLaws
 pub mod LinedLaws
 pub mod WorkedRows
+pub mod LastLaws

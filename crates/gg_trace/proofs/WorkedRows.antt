@@ -1,6 +1,6 @@
 -- The definitions of a trace at small texts, and at their near misses. Bytes that aren't printable characters are given by their
 -- numbers: 9 is a tab, 10 a line feed, 13 a carriage return, 32 a space.
-use Rattle.std.proofs.Common.{◌≡◌, ◌≢◌, ℕ, zero, suc, ◌+◌, ◌<◌, ◌^◌, ◌*◌, List, [], ◌∷◌, ◌++◌, length, get_or, codes, decimal, inr, refl, sym, ap, ◌∙◌, subst, arith, lit≤}
+use Rattle.std.proofs.Common.{◌≡◌, ◌≢◌, ℕ, zero, suc, ◌+◌, ◌<◌, ◌^◌, ◌*◌, List, [], ◌∷◌, ◌++◌, false, length, get_or, codes, decimal, inr, refl, sym, ap, ◌∙◌, subst, arith, lit≤}
 use Rattle.std.specs.Char.{digit_value}
 use Rattle.std.proofs.lemmas.Fmt.{decimal_digit}
 use Rattle.gg_bits.specs.declared.types.Kind.TheVariants.{UInt, SInt}
@@ -12,6 +12,7 @@ use Rattle.gg_trace.specs.Ports.{IsNamed, width_at}
 use Rattle.gg_trace.specs.Header.{field, IsHeader, IsListed, MayStand}
 use Rattle.gg_trace.specs.Trace.{row_at, IsRow, IsValueField, Columns, IsFirstFault}
 use Rattle.gg_trace.specs.Printing.{trace_text}
+use Rattle.gg_trace.specs.Last.{halts, has_halted, row_count}
 
 -- A line ends with LF or CR LF, the last with the text too; a CR that no LF follows is part of its line.
 lines_of_both_ends : text_lines (97 ∷ 13 ∷ 10 ∷ 98 ∷ 10 ∷ 99 ∷ []) ≡ codes "a" ∷ codes "b" ∷ codes "c" ∷ []
@@ -264,3 +265,44 @@ too_many_fields = (
   record { row = record { header = header_x; before = λ q h. absurd (omega arith) }; limit = lit≤ tt },
   (lit≤ tt, refl, λ e. omega (arith, e)),
 )
+
+-- ---- stops
+
+-- a stop whose condition is 1 in cycle 2 ends a run of five cycles with three rows, also if it is 1 again later
+stop_ends_with_its_row : row_count (halts ((0 ∷ 0 ∷ 1 ∷ 0 ∷ 1 ∷ []) ∷ [])) 5 ≡ 3
+stop_ends_with_its_row = refl
+
+-- the text has no row behind it, and isn't without its row
+stop_is_no_row_later : row_count (halts ((0 ∷ 0 ∷ 1 ∷ 0 ∷ 1 ∷ []) ∷ [])) 5 ≢ 4
+stop_is_no_row_later e = let said : 3 ≡ 4 = sym stop_ends_with_its_row ∙ e in omega (arith, said)
+
+stop_is_no_row_earlier : row_count (halts ((0 ∷ 0 ∷ 1 ∷ 0 ∷ 1 ∷ []) ∷ [])) 5 ≢ 2
+stop_is_no_row_earlier e = let said : 3 ≡ 2 = sym stop_ends_with_its_row ∙ e in omega (arith, said)
+
+-- in the first cycle, in the last one, and in the one after the last
+stop_at_once : row_count (halts ((1 ∷ 1 ∷ []) ∷ [])) 2 ≡ 1
+stop_at_once = refl
+
+stop_in_the_last_cycle : row_count (halts ((0 ∷ 1 ∷ []) ∷ [])) 2 ≡ 2
+stop_in_the_last_cycle = refl
+
+stop_behind_the_last_cycle : row_count (halts ((0 ∷ 0 ∷ 1 ∷ []) ∷ [])) 2 ≡ 2
+stop_behind_the_last_cycle = refl
+
+-- the earlier of two stops ends it, and two may act in one cycle
+earlier_of_two_stops : row_count (halts ((0 ∷ 0 ∷ 1 ∷ []) ∷ (0 ∷ 1 ∷ 0 ∷ []) ∷ [])) 3 ≡ 2
+earlier_of_two_stops = refl
+
+two_stops_at_once : row_count (halts ((0 ∷ 1 ∷ 0 ∷ []) ∷ (0 ∷ 1 ∷ 0 ∷ []) ∷ [])) 3 ≡ 2
+two_stops_at_once = refl
+
+-- without stops, and without cycles
+no_stops : row_count (halts []) 3 ≡ 3
+no_stops = refl
+
+no_cycles : row_count (halts ((1 ∷ []) ∷ [])) 0 ≡ 0
+no_cycles = refl
+
+-- whether it was halted is asked of the cycles before
+not_halted_by_its_own_cycle : has_halted (halts ((0 ∷ 1 ∷ []) ∷ [])) 1 ≡ false
+not_halted_by_its_own_cycle = refl

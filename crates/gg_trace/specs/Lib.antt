@@ -9,3 +9,4 @@ pub mod Printing
 pub mod Parted
 pub mod Lined
 pub mod FaultText
+pub mod Last

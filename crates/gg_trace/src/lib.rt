@@ -5,6 +5,7 @@
 //! that has a fault is refused with its first fault. `header_text` and `row_text` return the exact bytes of the lines
 //! of an output trace. A value that is printed is read again as the same value. `Lines` gives the lines of any text,
 //! one after another. `run_len` gives the length of the run of blanks, or of other bytes, with which a text begins.
+//! `acts` tells whether a stop acts, and `row_count` (specs/Last) how many rows a run has that a stop may end.
 #![tactic(auto)]
 
 mod cells;
@@ -17,6 +18,7 @@ mod port_table;
 mod printing;
 mod reading;
 mod row_values;
+mod stops;
 mod texts;
 mod trace_table;
 
@@ -26,4 +28,5 @@ pub use laws::one_first_fault;
 pub use line_cuts::{Lines, lines_part_their_text};
 pub use printing::{header_text, printed_values_are_read, row_text};
 pub use reading::read_trace;
+pub use stops::{acts, rows_end_at_halts};
 pub use trace_table::Trace;
