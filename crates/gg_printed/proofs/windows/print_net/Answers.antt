@@ -7,7 +7,7 @@ use Rattle.gg_pipe.specs.Made.{plan_reference}
 use Rattle.gg_told.proofs.EndingLemmas.{exit-is}
 use Rattle.gg_told.proofs.WritingLemmas.{none-front, prints-more, rose-earlier}
 use Rattle.gg_windows.proofs.OutputLemmas.{opening-is-net, outs-few}
-use Rattle.gg_printed.specs.Printed.{shown_columns}
+use Rattle.gg_printed.specs.Printed.{rows_to, shown_columns}
 use Rattle.gg_printed.proofs.RowLemmas.{header-stop}
 use Rattle.gg_printed.proofs.WindowLemmas.{opening-stands}
 use Rattle.gg_printed.proofs.windows.print_net.Goals as goal
@@ -25,8 +25,9 @@ pub returns-in_err-put-clause-prints : goal.returns-in_err-put-clause-prints
 returns-in_err-put-clause-prints g c =
     λ run same.
     let columns = shown_columns (plan_reference run.design run.request) c.args.ports.now run.rows in
+    let told = rows_to (plan_reference run.design run.request) c.args.ports.now run.rows c.args.inputs.now.rows in
     rw (exit-is c.from_residual-in_err-put.ensures.1)
-    (header-stop (Unit {0}) _ _ _ c.args.ports.now columns c.args.inputs.now.rows c.as_bytes.result.now c.in_err-put.field-0.0 (c.as_bytes.ensures ∙ c.in_ok-header.ensures) c.in_err-put.ensures.prints)
+    (header-stop (Unit {0}) _ _ _ c.args.ports.now columns told c.as_bytes.result.now c.in_err-put.field-0.0 (c.as_bytes.ensures ∙ c.in_ok-header.ensures) c.in_err-put.ensures.prints)
 
 pub print_windows-requires-clause-opening : goal.print_windows-requires-clause-opening
 print_windows-requires-clause-opening g c κs within =
@@ -81,5 +82,15 @@ pub returns-clause-kept : goal.returns-clause-kept
 returns-clause-kept g c =
     let trace = c.args.inputs.now in
     IfOk-weaker c.print_windows.result _ _
-    (λ done kept run same. record { opening = c.in_ok-net.net; opens = c.in_ok-net.ensures; kept = kept c.args.plan.now trace.columns trace.rows run c.in_ok-net.ensures })
+    (λ done kept run same.
+    let counted : length c.as_mut_slice.result.now ≡ length run.design.circuit.outs =
+    omega (
+      arith,
+      c.in_ok-outs.ensures.len,
+      ap length c.outs.ensures,
+      ap (λ (f : FlatCircuit). length f.outs) c.piece.ensures.circuit,
+      ap (λ (d : Ordered). length d.circuit.outs) same,
+      ap length c.as_mut_slice.ensures.value,
+    ) in
+    record { opening = c.in_ok-net.net; opens = c.in_ok-net.ensures; rows = kept c.args.plan.now trace.columns trace.rows run c.in_ok-net.ensures counted })
     c.print_windows.ensures.kept
