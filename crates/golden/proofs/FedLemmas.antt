@@ -1,7 +1,7 @@
 -- How the steps of a file end for what was read: the text that is printed is the only one, and what is reported is right.
-use Rattle.std.proofs.Common.{◌≡◌, ◌↔◌, ℕ, ◌+◌, ◌*◌, ◌<◌, ◌≤◌, List, length, refl, sym, ap, ◌∙◌, subst}
-use Rattle.std.specs.Prelude.{Option, Result, Ok}
-use Rattle.std.proofs.lemmas.List.{length-map}
+use Rattle.std.proofs.Common.{◌≡◌, ◌↔◌, ℕ, ◌+◌, ◌*◌, ◌<◌, ◌≤◌, List, length, take, refl, sym, ap, ◌∙◌, subst}
+use Rattle.std.specs.Prelude.{Option, Result, Ok, drop}
+use Rattle.std.proofs.lemmas.List.{drop-map, length-map, take-map}
 use Rattle.gg_flat.specs.Ports.{output_ports}
 use Rattle.gg_flat.specs.Run.{IsRun, column}
 use Rattle.gg_flat.specs.Scoped.{stop_signals}
@@ -29,17 +29,19 @@ use Rattle.gg_told.specs.Endings.{Prints, PrintsOrStops}
 use Rattle.gg_told.specs.declared.endings.Ending.{Ending}
 use Rattle.gg_told.proofs.EndingLemmas.{judged-map}
 use Rattle.gg_trace.specs.Fields.{text_lines}
+use Rattle.gg_trace.specs.Last.{halts, row_count}
+use Rattle.gg_trace.specs.Printing.{trace_text}
 use Rattle.golden.specs.Case.{AreFedToTrays, IsFed}
 use Rattle.golden.specs.Network.{IsNetworkText}
 use Rattle.golden.specs.Replay.{CanGoOn, GoesOnUntilAll, IsReplayText, IsReplayed, IsSetting, Setting, TellsSteps, all_steps, naming_of, replay_text, replayed}
 use Rattle.golden.specs.Replayed.{AreFewNames, IsNetText, IsToReplay, TellsStop, case_naming, fed_flow}
-use Rattle.gg_printed.specs.Printed.{shown_columns, text_to}
+use Rattle.gg_printed.specs.Printed.{out_columns, rows_to, text_of}
 use Rattle.golden.specs.Run.{IsTextOf}
-use Rattle.golden.specs.RunText.{columns_of, outputs_kept, outputs_of, run_text}
+use Rattle.golden.specs.RunText.{columns_of, outputs_kept, outputs_of, run_rows, run_text, stops_kept}
 use Rattle.golden.specs.declared.case.Fed.{Fed}
 use Rattle.golden.proofs.CaseLemmas.{case-fresh, case-ordered}
 use Rattle.golden.proofs.OutputLemmas.{output-ports-count, output-ports-few}
-use Rattle.golden.proofs.PrintingLemmas.{outputs-print, shown-kept}
+use Rattle.golden.proofs.PrintingLemmas.{rows-kept, shown-kept, stops-seen, text-kept}
 use Rattle.golden.proofs.FewLemmas.{few-names}
 use Rattle.golden.proofs.GoOnLemmas.{follows-few, line-follows}
 use Rattle.golden.proofs.PartitionLemmas.{DesignsAgree}
@@ -79,26 +81,44 @@ module _ (circuit partition trace : List ℕ) (capacity : ℕ) (fed : Fed) (is :
   pub own-run : IsRun (plan_reference fed.case.design fed.case.cut.request) fed.trace.columns fed.trace.rows (reference_rows fed.case.design fed.case.cut.request fed.trace.columns fed.trace.rows)
   own-run = given.run
 
+  -- there are as many ports of the top's outputs as outputs
+  fed-count : (ports : List Port) → ports ≡ output_ports fed.case.design.circuit fed.case.design.tree → length ports ≡ length (outputs_of fed.case.design.tree)
+  fed-count ports e =
+      ap (λ (l : List Port). length l) e ∙ output-ports-count design.circuit design.tree (stop_signals design.tree) is.case.keeps.scoped.outs is.case.designed.formed
+
+  -- the text of a run for these ports is that of the outputs
+  pub fed-text : (ports : List Port) (ran : List (List ℕ)) → ports ≡ output_ports fed.case.design.circuit fed.case.design.tree
+      → text_of (plan_reference fed.case.design fed.case.cut.request) ports ran fed.trace.rows ≡ run_text fed.case.design fed.case.cut.request ran fed.trace.rows
+  fed-text ports ran e = text-kept design request (stop_signals design.tree) ports is.case.keeps.scoped.outs refl (fed-count ports e) ran n e
+
   -- what is printed of that run for the ports of the top's outputs is printed of the outputs
   pub fed-prints : {T : Type 0} (before now : Option (List ℕ)) (failed : Type 0) (r : Result T Ending) (ports : List Port) (ran : List (List ℕ)) → ports ≡ output_ports fed.case.design.circuit fed.case.design.tree
-      → Prints before now failed (text_to (plan_reference fed.case.design fed.case.cut.request) ports ran fed.trace.rows) r → Prints before now failed (run_text fed.case.design fed.case.cut.request ran fed.trace.rows) r
-  fed-prints {T = T} before now failed r ports ran e prints =
-      let stops = stop_signals design.tree in
-      outputs-print T before now failed r design request stops ports n is.case.keeps.scoped.outs e
-      (ap (λ (l : List Port). length l) e ∙ output-ports-count design.circuit design.tree stops is.case.keeps.scoped.outs is.case.designed.formed) ran prints
+      → Prints before now failed (text_of (plan_reference fed.case.design fed.case.cut.request) ports ran fed.trace.rows) r → Prints before now failed (run_text fed.case.design fed.case.cut.request ran fed.trace.rows) r
+  fed-prints {T = T} before now failed r ports ran e prints = subst (λ (text : List ℕ). Prints before now failed text r) (fed-text ports ran e) prints
 
-  -- their columns are those of the outputs, one for each port
-  pub fed-shown : (ports : List Port) (ran : List (List ℕ)) → ports ≡ output_ports fed.case.design.circuit fed.case.design.tree
-      → shown_columns (plan_reference fed.case.design fed.case.cut.request) ports ran ≡ columns_of (outputs_kept fed.case.design fed.case.cut.request) ran
-  fed-shown ports ran e =
-      let stops = stop_signals design.tree in
-      shown-kept design request stops ports is.case.keeps.scoped.outs
-      (ap (λ (l : List Port). length l) e ∙ output-ports-count design.circuit design.tree stops is.case.keeps.scoped.outs is.case.designed.formed) ran
+  -- and there are as many rows
+  pub fed-rows : (ports : List Port) (ran : List (List ℕ)) → ports ≡ output_ports fed.case.design.circuit fed.case.design.tree
+      → rows_to (plan_reference fed.case.design fed.case.cut.request) ports ran fed.trace.rows ≡ run_rows fed.case.design fed.case.cut.request ran fed.trace.rows
+  fed-rows ports ran e = rows-kept design request (stop_signals design.tree) ports is.case.keeps.scoped.outs refl (fed-count ports e) ran n
 
-  pub fed-each : (ran : List (List ℕ)) → length (columns_of (outputs_kept fed.case.design fed.case.cut.request) ran) ≡ length (output_ports fed.case.design.circuit fed.case.design.tree)
+  -- the columns of the trays are those of the outputs and of the stops
+  pub fed-shown : (ran : List (List ℕ))
+      → take (length (output_ports fed.case.design.circuit fed.case.design.tree)) (out_columns (plan_reference fed.case.design fed.case.cut.request) ran) ≡ columns_of (outputs_kept fed.case.design fed.case.cut.request) ran
+  fed-shown ran =
+      let ports = output_ports design.circuit design.tree in
+      take-map (column ran) (length ports) (plan_reference design request).outs
+      ∙ shown-kept design request (stop_signals design.tree) ports is.case.keeps.scoped.outs refl (fed-count ports refl) ran
+
+  pub fed-stops-seen : (ran : List (List ℕ))
+      → drop (length (output_ports fed.case.design.circuit fed.case.design.tree)) (out_columns (plan_reference fed.case.design fed.case.cut.request) ran) ≡ columns_of (stops_kept fed.case.design fed.case.cut.request) ran
+  fed-stops-seen ran =
+      let ports = output_ports design.circuit design.tree in
+      drop-map (column ran) (length ports) (plan_reference design request).outs
+      ∙ stops-seen design request (stop_signals design.tree) ports is.case.keeps.scoped.outs refl (fed-count ports refl) ran
+
+  pub fed-each : (ran : List (List ℕ)) → length (out_columns (plan_reference fed.case.design fed.case.cut.request) ran) ≡ length fed.case.design.circuit.outs
   fed-each ran =
-      length-map (outputs_kept design request) (column ran) ∙ length-map (outputs_of design.tree) (taken_as (plan_hub design.circuit design.tree request))
-      ∙ sym (output-ports-count design.circuit design.tree (stop_signals design.tree) is.case.keeps.scoped.outs is.case.designed.formed)
+      length-map (plan_reference design request).outs (column ran) ∙ length-map design.circuit.outs (taken_as (plan_hub design.circuit design.tree request))
 
   -- there are no more such ports than out-signals
   pub fed-ports : (ports : List Port) → ports ≡ output_ports fed.case.design.circuit fed.case.design.tree → length ports ≤ length fed.case.design.circuit.outs
@@ -215,8 +235,9 @@ run-text-of {fed = fed} is ran run = (
   (fed.case.cut.request, is.case.cuts.asks, record { cycles = fed.trace.rows; columns = fed.trace.columns; rows = ran; feeds = is.feeds.feeds; run = run; is = refl }),
 )
 
--- if its columns come to the trays, it is the text of the network
-pub network-text-of : {circuit partition trace : List ℕ} {capacity : ℕ} {fed : Fed} → IsFed circuit partition trace capacity fed → (ran : List (List ℕ)) → AreFedToTrays fed (columns_of (outputs_kept fed.case.design fed.case.cut.request) ran)
+-- if its rows come to the trays, it is the text of the network
+pub network-text-of : {circuit partition trace : List ℕ} {capacity : ℕ} {fed : Fed} → IsFed circuit partition trace capacity fed → (ran : List (List ℕ))
+    → AreFedToTrays fed (run_rows fed.case.design fed.case.cut.request ran fed.trace.rows) (out_columns (plan_reference fed.case.design fed.case.cut.request) ran)
     → IsNetworkText circuit partition trace capacity (run_text fed.case.design fed.case.cut.request ran fed.trace.rows)
 network-text-of {circuit = circuit} {partition = partition} {trace = trace} {capacity = capacity} {fed = fed} is ran kept =
     record {
@@ -230,8 +251,12 @@ network-text-of {circuit = circuit} {partition = partition} {trace = trace} {cap
       cycles = fed.trace.rows;
       columns = fed.trace.columns;
       feeds = is.feeds.feeds;
-      shown = columns_of (outputs_kept fed.case.design fed.case.cut.request) ran;
+      kept = out_columns (plan_reference fed.case.design fed.case.cut.request) ran;
       each = fed-each circuit partition trace capacity fed is ran;
-      kept = kept;
-      is = refl;
+      told = run_rows fed.case.design fed.case.cut.request ran fed.trace.rows;
+      ends = ap (λ (columns : List (List ℕ)). row_count (halts columns) fed.trace.rows) (sym (fed-stops-seen circuit partition trace capacity fed is ran));
+      trays = kept;
+      is =
+          ap (λ (columns : List (List ℕ)). trace_text (output_ports fed.case.design.circuit fed.case.design.tree) columns (run_rows fed.case.design fed.case.cut.request ran fed.trace.rows))
+          (sym (fed-shown circuit partition trace capacity fed is ran));
     }

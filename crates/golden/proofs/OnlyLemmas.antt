@@ -3,7 +3,6 @@ use Rattle.std.proofs.Common.{◌≡◌, ℕ, List, refl, sym, ap, ◌∙◌, su
 use Rattle.gg_flat.specs.Circuit.{FlatCircuit}
 use Rattle.gg_flat.specs.Ports.{output_ports}
 use Rattle.gg_flat.specs.Run.{IsColumns, IsRun}
-use Rattle.gg_flat.specs.Scoped.{stop_signals}
 use Rattle.gg_flat.specs.Tree.{InstanceTree}
 use Rattle.gg_flat.specs.declared.ports.Port.{Port}
 use Rattle.gg_moved.specs.KeepsToTree.{KeepsToTree}
@@ -14,15 +13,13 @@ use Rattle.gg_check.specs.Alike.{AreAlike}
 use Rattle.gg_pipe.specs.Made.{AreHeldOnce, plan_reference}
 use Rattle.gg_sound.specs.Built.{flow_of}
 use Rattle.gg_build.specs.Build.{IsToRun}
-use Rattle.gg_printed.specs.Printed.{text_to}
+use Rattle.gg_printed.specs.Printed.{text_of}
 use Rattle.gg_printed.proofs.KeepLemmas.{shown-text}
-use Rattle.gg_trace.specs.Printing.{trace_text}
 use Rattle.golden.specs.Case.{IsFed}
 use Rattle.golden.specs.Network.{IsNetworkText}
 use Rattle.golden.specs.RunText.{Feeds, run_text}
 use Rattle.golden.specs.declared.case.Fed.{Fed}
-use Rattle.golden.proofs.FedLemmas.{fed-shown}
-use Rattle.golden.proofs.OutputLemmas.{output-ports-few}
+use Rattle.golden.proofs.FedLemmas.{fed-text}
 use Rattle.golden.proofs.PartitionLemmas.{DesignsAgree}
 use Rattle.golden.proofs.TextLemmas.{reference-same}
 
@@ -93,11 +90,9 @@ module _ (agree : DesignsAgree) (circuit partition trace : List ℕ) (capacity :
   pub network-only : other ≡ run_text fed.case.design fed.case.cut.request rows fed.trace.rows
   network-only =
       told.is
-      ∙ shown-text told.plan told.columns told.cycles (flow_of told.design told.request told.plan rows) to-run ports told.shown told.kept told.each
-      (output-ports-few told.design.circuit told.design.tree (stop_signals told.design.tree) own-keeps.scoped.outs told.designed.formed ports refl)
-      ∙ ap (λ (f : FlatCircuit). text_to f ports rows told.cycles) references
-      ∙ ap (λ (f : FlatCircuit). text_to (plan_reference design request) (output_ports f told.design.tree) rows told.cycles) alike.circuit
-      ∙ ap (λ (t : InstanceTree). text_to (plan_reference design request) (output_ports design.circuit t) rows told.cycles) alike.tree
-      ∙ ap (text_to (plan_reference design request) (output_ports design.circuit design.tree) rows) (sym given.0)
-      ∙ ap (λ (columns : List (List ℕ)). trace_text (output_ports design.circuit design.tree) columns fed.trace.rows)
-      (fed-shown circuit partition trace capacity fed is (output_ports design.circuit design.tree) rows refl)
+      ∙ shown-text told.plan told.columns told.cycles (flow_of told.design told.request told.plan rows) to-run ports told.told told.kept told.trays told.each told.ends
+      ∙ ap (λ (f : FlatCircuit). text_of f ports rows told.cycles) references
+      ∙ ap (λ (f : FlatCircuit). text_of (plan_reference design request) (output_ports f told.design.tree) rows told.cycles) alike.circuit
+      ∙ ap (λ (t : InstanceTree). text_of (plan_reference design request) (output_ports design.circuit t) rows told.cycles) alike.tree
+      ∙ ap (text_of (plan_reference design request) (output_ports design.circuit design.tree) rows) (sym given.0)
+      ∙ fed-text circuit partition trace capacity fed is (output_ports design.circuit design.tree) rows refl

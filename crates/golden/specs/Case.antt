@@ -11,7 +11,7 @@ use Rattle.gg_moved.specs.KeepsToTree.{KeepsToTree}
 use Rattle.gg_order.specs.Design.{IsDesign}
 use Rattle.gg_io.specs.declared.output.Sink
 use Rattle.gg_pipe.specs.Made.{AreHeldOnce, plan_reference}
-use Rattle.gg_printed.specs.Printed.{AreShown}
+use Rattle.gg_printed.specs.Printed.{AreKept, out_columns}
 use Rattle.gg_told.specs.Endings.{PrintsOn}
 use Rattle.gg_told.specs.declared.endings.Ending.{Ending}
 use Rattle.gg_told.specs.Order.{CanBe, Order, Write}
@@ -19,7 +19,7 @@ use Rattle.gg_words.specs.Range.{IsCapacity}
 use Rattle.golden.specs.Commands.{Asked, read_order, fed_order}
 use Rattle.golden.specs.Partition.{Cuts, partition_file_for}
 use Rattle.golden.specs.Run.{circuit_file, trace_file_for}
-use Rattle.golden.specs.RunText.{FeedsOnly, columns_of, outputs_kept, run_text}
+use Rattle.golden.specs.RunText.{FeedsOnly, run_rows, run_text}
 use Rattle.golden.specs.declared.case.Case.{Case}
 use Rattle.golden.specs.declared.case.Fed.{Fed}
 
@@ -55,17 +55,18 @@ PrintsFed sink out out' fed result =
     (rows : List (List ℕ)) × IsRun (plan_reference fed.case.design fed.case.cut.request) fed.trace.columns fed.trace.rows rows
     × PrintsOn sink out out' (run_text fed.case.design fed.case.cut.request rows fed.trace.rows) result
 
--- host steps bring these columns to the trays of the plan's network
-abbrev pub AreFedToTrays : Fed → (shown : List (List ℕ)) → Type 0
-AreFedToTrays fed shown =
-    AreShown fed.case.cut.plan fed.trace.columns fed.trace.rows (first_tray fed.case.design.circuit (listed_of fed.case.design.tree fed.case.cut.request)) shown
+-- host steps bring so many rows of these columns to the trays of the plan's network
+abbrev pub AreFedToTrays : Fed → (told : ℕ) → (kept : List (List ℕ)) → Type 0
+AreFedToTrays fed told kept =
+    AreKept fed.case.cut.plan fed.trace.columns fed.trace.rows (first_tray fed.case.design.circuit (listed_of fed.case.design.tree fed.case.cut.request)) told kept
 
--- The same from the network of the plan. If the whole text was printed, host steps bring its columns to the trays.
+-- The same from the network of the plan. If the whole text was printed, host steps bring its rows, and the conditions of the stops, to
+-- the trays.
 abbrev pub PrintsFedByNetwork : {T K : Type 0} → Sink.Ghosts K → (out out' : K) → Fed → Result T Ending → Type 0
 PrintsFedByNetwork sink out out' fed result =
     (rows : List (List ℕ)) × IsRun (plan_reference fed.case.design fed.case.cut.request) fed.trace.columns fed.trace.rows rows
     × PrintsOn sink out out' (run_text fed.case.design fed.case.cut.request rows fed.trace.rows) result
-    × IfOk result (λ done. AreFedToTrays fed (columns_of (outputs_kept fed.case.design fed.case.cut.request) rows))
+    × IfOk result (λ done. AreFedToTrays fed (run_rows fed.case.design fed.case.cut.request rows fed.trace.rows) (out_columns (plan_reference fed.case.design fed.case.cut.request) rows))
 
 -- the trace is that of bytes that the third file can have
 pub record FedRead (files : List ℕ → Told) (asked : Asked) (trace : List ℕ) (fed : Fed) : Type 0 where

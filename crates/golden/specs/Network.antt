@@ -1,7 +1,7 @@
 -- What the network of a cut prints: the text of what its trays get.
 -- Sources: MEMOCODE 2009 (the k-th token of each queue is the value of its signal in cycle k, in whatever order the nodes go on);
 -- ICCAD 2019 (sinks at the outputs of a target). The text is this program's own.
-use Rattle.std.specs.Prelude.{◌≡◌, ℕ, List, length}
+use Rattle.std.specs.Prelude.{◌≡◌, ℕ, List, length, take, drop}
 use Rattle.std.specs.Io.KnownBytes.{append_known}
 use Rattle.gg_flat.specs.Ports.{output_ports}
 use Rattle.gg_front.specs.Meaning.{MeansDesign}
@@ -11,7 +11,8 @@ use Rattle.gg_cut.specs.Listed.{listed_of}
 use Rattle.gg_cut.specs.Machines.{first_tray}
 use Rattle.gg_cut.specs.Plan.{IsPlan}
 use Rattle.gg_cut.specs.declared.plan.Plan.{Plan}
-use Rattle.gg_printed.specs.Printed.{AreShown}
+use Rattle.gg_printed.specs.Printed.{AreKept}
+use Rattle.gg_trace.specs.Last.{halts, row_count}
 use Rattle.gg_trace.specs.Printing.{trace_text}
 use Rattle.gg_told.specs.Ends.{Loads, Puts}
 use Rattle.gg_told.specs.Order.{CanBe, IsOnly}
@@ -21,8 +22,9 @@ use Rattle.golden.specs.RunText.{Feeds}
 
 -- The text of the network of a cut. The bytes of a circuit, a partition and a trace mean a design, a request and columns for some
 -- cycles, and the network is that of the request's plan, with this capacity of the channels that the request doesn't name. The text
--- is a header, and a row for each cycle: the values of that cycle that host steps bring to the trays of the top's outputs. No
--- other values come there, whatever steps are done. The circuit's run isn't spoken of.
+-- is a header, and a row for each cycle: the values of that cycle that host steps bring to the trays of the top's outputs. The last
+-- row is that of the first cycle for which a 1 comes to the tray of a stop, if there is one. No other values come to the trays in
+-- these cycles, whatever steps are done. The circuit's run isn't spoken of.
 pub record IsNetworkText (circuit partition trace : List ℕ) (capacity : ℕ) (text : List ℕ) : Type 0 where
   pub design : Ordered
   pub means : MeansDesign circuit design
@@ -34,10 +36,12 @@ pub record IsNetworkText (circuit partition trace : List ℕ) (capacity : ℕ) (
   pub cycles : ℕ
   pub columns : List (List ℕ)
   pub feeds : Feeds design.circuit trace cycles columns
-  pub shown : List (List ℕ)
-  pub each : length shown ≡ length (output_ports design.circuit design.tree)
-  pub kept : AreShown plan columns cycles (first_tray design.circuit (listed_of design.tree request)) shown
-  pub is : text ≡ trace_text (output_ports design.circuit design.tree) shown cycles
+  pub kept : List (List ℕ)
+  pub each : length kept ≡ length design.circuit.outs
+  pub told : ℕ
+  pub ends : told ≡ row_count (halts (drop (length (output_ports design.circuit design.tree)) kept)) cycles
+  pub trays : AreKept plan columns cycles (first_tray design.circuit (listed_of design.tree request)) told kept
+  pub is : text ≡ trace_text (output_ports design.circuit design.tree) (take (length (output_ports design.circuit design.tree)) kept) told
 
 -- The files of a circuit, a partition and a trace can have some bytes whose run has a text that was written. It is also the text
 -- of the network of their cut, and the only one.

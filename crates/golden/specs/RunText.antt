@@ -5,9 +5,10 @@ use Rattle.std.specs.Prelude.{◌≡◌, ℕ, List, map}
 use Rattle.gg_flat.specs.Circuit.{FlatCircuit}
 use Rattle.gg_flat.specs.Run.{IsRun, column}
 use Rattle.gg_trace.specs.Trace.{Columns}
+use Rattle.gg_trace.specs.Last.{halts, row_count}
 use Rattle.gg_trace.specs.Printing.{trace_text}
 use Rattle.gg_flat.specs.Ports.{in_ports, output_ports}
-use Rattle.gg_flat.specs.Scoped.{output_signals}
+use Rattle.gg_flat.specs.Scoped.{output_signals, stop_signals}
 use Rattle.gg_flat.specs.Tree.{InstanceTree, instance_at}
 use Rattle.gg_order.specs.Design.{Ordered}
 use Rattle.gg_partfile.specs.declared.request.Request.{Request}
@@ -40,13 +41,23 @@ IsTraceOf circuit trace = (n : ℕ) × (columns : List (List ℕ)) × Feeds circ
 abbrev pub outputs_kept : Ordered → Request → List ℕ
 outputs_kept design request = map (taken_as (plan_hub design.circuit design.tree request)) (outputs_of design.tree)
 
--- a header, and a row for each cycle, with the columns of the top's outputs in a run of the reference circuit
+-- the signals that have the conditions of the stops
+abbrev pub stops_kept : Ordered → Request → List ℕ
+stops_kept design request = map (taken_as (plan_hub design.circuit design.tree request)) (stop_signals design.tree)
+
+-- How many of the n cycles of a run of the reference circuit have a row: those up to the first cycle in which a stop acts, or all if
+-- none does.
+abbrev pub run_rows : Ordered → Request → (rows : List (List ℕ)) → (n : ℕ) → ℕ
+run_rows design request rows n = row_count (halts (columns_of (stops_kept design request) rows)) n
+
+-- a header, and these rows, with the columns of the top's outputs
 abbrev pub run_text : Ordered → Request → (rows : List (List ℕ)) → (n : ℕ) → List ℕ
-run_text design request rows n = trace_text (output_ports design.circuit design.tree) (columns_of (outputs_kept design request) rows) n
+run_text design request rows n = trace_text (output_ports design.circuit design.tree) (columns_of (outputs_kept design request) rows) (run_rows design request rows n)
 
 -- The text of the run of a design with the pipes that a request asks for. The trace gives the columns of the circuit's inputs for some
 -- cycles, and `rows` is the run of the reference circuit on them. The reference circuit has the same inputs, and it is the
--- circuit itself if the request asks for no pipe (gg_pipe's law `nothing_piped`). Stops are printed nowhere.
+-- circuit itself if the request asks for no pipe (gg_pipe's law `nothing_piped`). A stop ends the text, but not the run that is spoken
+-- of: its condition is printed nowhere.
 pub record IsRunText (design : Ordered) (request : Request) (trace text : List ℕ) : Type 0 where
   pub cycles : ℕ
   pub columns : List (List ℕ)

@@ -1,5 +1,5 @@
 //! Printing of the run of a circuit.
-ghost use Rattle.std.specs.Prelude.{◌≡◌, ◌+◌, ◌++◌, ◌∷◌, ◌^◌, ◌<◌, ◌≤◌, true, ℕ, List, [], length, take, Option, IfOk, OnOk};
+ghost use Rattle.std.specs.Prelude.{◌≡◌, ◌+◌, ◌++◌, ◌∷◌, ◌^◌, ◌<◌, ◌≤◌, true, ℕ, List, [], length, take, drop, Option, IfOk, OnOk};
 ghost use Rattle.std.specs.Io.KnownBytes.{append_known};
 ghost use Rattle.gg_limits.specs.Limits.{cycle_limit};
 ghost use Rattle.gg_flat.specs.Clock.{edges_at};
@@ -11,12 +11,13 @@ ghost use Rattle.gg_flat.specs.State.{opening};
 ghost use Rattle.gg_io.specs.Count.{Rose};
 ghost use Rattle.gg_moved.specs.KeepsToTree.{KeepsToTree};
 ghost use Rattle.gg_refsim.specs.Cycle.{Cycle};
-ghost use Rattle.gg_trace.specs.Printing.{row_line, trace_text};
+ghost use Rattle.gg_trace.specs.Last.{acts};
+ghost use Rattle.gg_trace.specs.Printing.{row_line};
 ghost use Rattle.gg_flat.specs.Ports.{output_ports};
 ghost use Rattle.gg_pipe.specs.Made.{plan_reference};
-ghost use Rattle.gg_printed.specs.Printed.{text_to};
+ghost use Rattle.gg_printed.specs.Printed.{text_of, text_to};
 ghost use Rattle.golden.specs.Case.{IsCase, IsFed, PrintsFed};
-ghost use Rattle.golden.specs.RunText.{columns_of, outputs_of};
+ghost use Rattle.golden.specs.RunText.{outputs_of};
 ghost use Rattle.gg_told.specs.Endings.{Prints, PrintsOn};
 ghost use Rattle.gg_told.specs.WentOn.{SinkWentOn};
 
@@ -27,10 +28,11 @@ use gg_order::Design;
 use gg_piped::pipe;
 use gg_refsim::Mono;
 use gg_told::{Ending, put};
-use gg_trace::{Trace, header_text, row_text};
+use gg_trace::{Trace, acts, header_text, row_text};
 use std::alloc::{AllocError, Global};
 
-// Advances by one cycle, and writes its row: a value for each port, of the first out-signals.
+// Advances by one cycle, and writes its row: a value for each port, of the first out-signals. Returns whether a stop acts in the
+// cycle; the other out-signals are the stops' conditions.
 fn print_row<K: Sink>(
     alloc: Global,
     mono: &mut Mono<'_>,
@@ -39,7 +41,7 @@ fn print_row<K: Sink>(
     inputs: &[u128],
     outs: &mut [u128],
     out: &mut K,
-) -> Result<(), Ending>
+) -> Result<bool, Ending>
     requires few { mono.old.cycle < cycle_limit }
     requires inputs { IsInputs mono.old.circuit inputs.now }
     requires outs { length outs.old ≡ length mono.old.circuit.outs }
@@ -49,15 +51,17 @@ fn print_row<K: Sink>(
     ensures count { mono.new.cycle ≡ mono.old.cycle + 1 }
     ensures cycle { Cycle (edges_at mono.old.ratios mono.old.cycle) mono.old.circuit mono.old.state inputs.now outs.new mono.new.state }
     ensures prints { PrintsOn K.Sink out.old out.new (row_line ports.now cycle (take (length ports.now) outs.new)) result }
+    ensures halts { IfOk result (λ halted. halted ≡ acts (drop (length ports.now) outs.new)) }
     ensures out { SinkWentOn K.Sink out.old out.new }
 {
     mono.cycle(inputs, outs);
     let shown = ports.as_slice().len();
     let text = row_text(alloc, ports, cycle, &outs[..shown])?;
-    put(out, text.as_bytes())
+    put(out, text.as_bytes())?;
+    Ok(acts(&outs[shown..]))
 }
 
-// Writes the rows of a run, after its header.
+// Writes the rows of a run, after its header, to the first one in which a stop acts.
 fn print_rows<K: Sink>(
     alloc: Global,
     mono: &mut Mono<'_>,
@@ -75,13 +79,16 @@ fn print_rows<K: Sink>(
     requires outs { length outs.old ≡ length mono.old.circuit.outs }
     requires ports { length ports.now ≤ length mono.old.circuit.outs }
     ensures prints { (rows : List (List ℕ)) (base : Option (List ℕ)) → IsRun mono.old.circuit inputs.now.columns inputs.now.rows rows
-        → K.written out.old ≡ append_known base (trace_text ports.now (columns_of (take (length ports.now) mono.old.circuit.outs) rows) 0)
-        → Prints base (K.written out.new) (Rose (K.faults out.old) (K.faults out.new)) (trace_text ports.now (columns_of (take (length ports.now) mono.old.circuit.outs) rows) inputs.now.rows) result }
+        → K.written out.old ≡ append_known base (text_to mono.old.circuit ports.now rows 0)
+        → Prints base (K.written out.new) (Rose (K.faults out.old) (K.faults out.new)) (text_of mono.old.circuit ports.now rows inputs.now.rows) result }
     ensures out { SinkWentOn K.Sink out.old out.new }
 {
     settled_once();
     for cycle in 0..inputs.rows() {
-        print_row(alloc, mono, ports, cycle, inputs.row(cycle), outs, out)?;
+        let halted = print_row(alloc, mono, ports, cycle, inputs.row(cycle), outs, out)?;
+        if halted {
+            return Ok(());
+        }
     }
     Ok(())
 }
@@ -101,7 +108,7 @@ fn print_all<K: Sink>(
     requires fed { IsColumns mono.old.circuit inputs.now.rows inputs.now.columns }
     requires ports { length ports.now ≤ length mono.old.circuit.outs }
     ensures prints { (rows : List (List ℕ)) → IsRun mono.old.circuit inputs.now.columns inputs.now.rows rows
-        → PrintsOn K.Sink out.old out.new (trace_text ports.now (columns_of (take (length ports.now) mono.old.circuit.outs) rows) inputs.now.rows) result }
+        → PrintsOn K.Sink out.old out.new (text_of mono.old.circuit ports.now rows inputs.now.rows) result }
     ensures out { SinkWentOn K.Sink out.old out.new }
 {
     let mut outs = vec![in alloc; 0u128; mono.piece().outs().len()]?;
@@ -162,7 +169,7 @@ fn print_simulated<K: Sink>(
     requires fed { IsColumns design.now.circuit inputs.now.rows inputs.now.columns }
     requires ports { length ports.now ≤ length design.now.circuit.outs }
     ensures prints { (rows : List (List ℕ)) × IsRun design.now.circuit inputs.now.columns inputs.now.rows rows
-        × PrintsOn K.Sink out.old out.new (text_to design.now.circuit ports.now rows inputs.now.rows) result }
+        × PrintsOn K.Sink out.old out.new (text_of design.now.circuit ports.now rows inputs.now.rows) result }
     ensures out { SinkWentOn K.Sink out.old out.new }
 {
     runs_along();
@@ -208,15 +215,15 @@ fn print_reference<K: Sink>(
     requires fed { (circuit : List ℕ) × (partition : List ℕ) × (trace : List ℕ) × (capacity : ℕ) × IsFed circuit partition trace capacity fed.now }
     requires ports { length ports.now ≤ length fed.now.case.design.circuit.outs }
     ensures prints { (rows : List (List ℕ)) × IsRun (plan_reference fed.now.case.design fed.now.case.cut.request) fed.now.trace.columns fed.now.trace.rows rows
-        × PrintsOn K.Sink out.old out.new (text_to (plan_reference fed.now.case.design fed.now.case.cut.request) ports.now rows fed.now.trace.rows) result }
+        × PrintsOn K.Sink out.old out.new (text_of (plan_reference fed.now.case.design fed.now.case.cut.request) ports.now rows fed.now.trace.rows) result }
     ensures out { SinkWentOn K.Sink out.old out.new }
 {
     let reference = reference_of(alloc, &fed.case)?;
     print_simulated(alloc, &reference, ports, &fed.trace, out)
 }
 
-/// Prints the run of a design on a trace, by the simulator: the top's outputs, cycle by cycle. If the request asks for pipes, the
-/// reference circuit is simulated.
+/// Prints the run of a design on a trace, by the simulator: the top's outputs, cycle by cycle, to the first cycle in which a stop
+/// acts. If the request asks for pipes, the reference circuit is simulated.
 pub(crate) fn print_run<K: Sink>(alloc: Global, fed: &Fed, out: &mut K) -> Result<(), Ending>
     requires fed { (circuit : List ℕ) × (partition : List ℕ) × (trace : List ℕ) × (capacity : ℕ) × IsFed circuit partition trace capacity fed.now }
     ensures prints { PrintsFed K.Sink out.old out.new fed.now result }

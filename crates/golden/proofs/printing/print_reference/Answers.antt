@@ -5,7 +5,7 @@ use Rattle.gg_flat.specs.Circuit.{FlatCircuit}
 use Rattle.gg_flat.specs.Run.{IsColumns, IsRun}
 use Rattle.gg_pipe.specs.Links.{taken_as}
 use Rattle.gg_pipe.proofs.PlanLemmas.{plan-columns}
-use Rattle.gg_printed.specs.Printed.{text_to}
+use Rattle.gg_printed.specs.Printed.{text_of}
 use Rattle.gg_told.specs.Endings.{PrintsOn}
 use Rattle.gg_told.proofs.EndingLemmas.{exit-is}
 use Rattle.gg_told.proofs.WritingLemmas.{none-front}
@@ -43,5 +43,5 @@ returns-clause-prints g c =
     let fed = c.args.fed.now in
     subst
     (λ (f : FlatCircuit). (rows : List (List ℕ)) × IsRun f fed.trace.columns fed.trace.rows rows
-    × PrintsOn g.K.Sink c.args.out.now c.print_simulated.new.out (text_to f c.args.ports.now rows fed.trace.rows) c.print_simulated.result)
+    × PrintsOn g.K.Sink c.args.out.now c.print_simulated.new.out (text_of f c.args.ports.now rows fed.trace.rows) c.print_simulated.result)
     c.in_ok-reference.ensures c.print_simulated.ensures.prints

@@ -1,8 +1,8 @@
-use Rattle.std.proofs.Common.{◌≡◌, ◌<◌, ℕ, List, sym, subst, arith}
+use Rattle.std.proofs.Common.{◌≡◌, ◌<◌, ℕ, List, Bool, sym, subst, arith}
 use Rattle.gg_flat.specs.Circuit.{FlatCircuit}
 use Rattle.gg_flat.specs.Settled.{IsInputs}
 use Rattle.gg_told.proofs.EndingLemmas.{exit-is}
-use Rattle.golden.proofs.PrintingLemmas.{printed-next, printed-stop}
+use Rattle.golden.proofs.PrintingLemmas.{printed-all, printed-halt, printed-next, printed-stop}
 use Rattle.golden.proofs.printing.print_rows.Goals as goal
 
 pub print_row-requires-clause-inputs : goal.print_row-requires-clause-inputs
@@ -18,13 +18,21 @@ print_row-requires-clause-few g c =
     let below = c.loop-cycle-test.true in
     omega (arith, below, c.rows-cycle-end.ensures.count, c.loop-cycle.invariant.made, c.requires.few)
 
-pub returns-in_err-print_row-clause-prints : goal.returns-in_err-print_row-clause-prints
-returns-in_err-print_row-clause-prints g c =
+pub returns-in_err-halted-clause-prints : goal.returns-in_err-halted-clause-prints
+returns-in_err-halted-clause-prints g c =
     let below = c.loop-cycle-test.true in
     let count = c.rows-cycle-end.ensures.count in
     let lt : c.loop-cycle.cycle < c.args.inputs.now.rows = omega arith in
     printed-stop c.settled_once.ensures c.requires.ordered.0 c.requires.ordered.1 lt c.row.result.now c.row.ensures.values c.loop-cycle.invariant c.print_row.new.mono c.print_row.ensures.cycle
-    _ (exit-is c.from_residual.ensures.1) c.in_err-print_row.ensures.prints
+    _ Bool (exit-is c.from_residual.ensures.1) c.in_err-halted.ensures.prints
+
+pub returns-then-halted-clause-prints : goal.returns-then-halted-clause-prints
+returns-then-halted-clause-prints g c =
+    let below = c.loop-cycle-test.true in
+    let count = c.rows-cycle-end.ensures.count in
+    let lt : c.loop-cycle.cycle < c.args.inputs.now.rows = omega arith in
+    printed-halt c.settled_once.ensures c.requires.ordered.0 c.requires.ordered.1 lt c.row.result.now c.row.ensures.values c.loop-cycle.invariant c.print_row.new.mono c.print_row.ensures.cycle
+    c.print_row.new.out c.in_ok-halted.halted c.if-halted.true c.in_ok-halted.ensures.halts c.in_ok-halted.ensures.prints {T = Unit {0}} tt
 
 pub loop-cycle-preserved : goal.loop-cycle-preserved
 loop-cycle-preserved g c =
@@ -32,7 +40,8 @@ loop-cycle-preserved g c =
     let count = c.rows-cycle-end.ensures.count in
     let lt : c.loop-cycle.cycle < c.args.inputs.now.rows = omega arith in
     printed-next c.settled_once.ensures c.requires.ordered.0 c.requires.ordered.1 lt c.row.result.now c.row.ensures.values c.loop-cycle.invariant c.print_row.new.mono c.print_row.ensures.cycle
-    c.print_row.ensures.circuit c.print_row.ensures.ratios c.print_row.ensures.count c.in_ok-print_row.ensures.prints c.print_row.ensures.out c.print_row.auto.outs
+    c.in_ok-halted.halted c.if-halted.false c.in_ok-halted.ensures.halts
+    c.print_row.ensures.circuit c.print_row.ensures.ratios c.print_row.ensures.count c.in_ok-halted.ensures.prints c.print_row.ensures.out c.print_row.auto.outs
 
 pub returns-clause-prints : goal.returns-clause-prints
 returns-clause-prints g c =
@@ -40,4 +49,4 @@ returns-clause-prints g c =
     let within = c.loop-cycle.auto.cycle-end in
     let count = c.rows-cycle-end.ensures.count in
     let all : c.loop-cycle.cycle ≡ c.args.inputs.now.rows = omega arith in
-    λ rows base run begins. rw (← all) (c.loop-cycle.invariant.written rows base run begins)
+    printed-all c.loop-cycle.invariant all {T = Unit {0}} tt

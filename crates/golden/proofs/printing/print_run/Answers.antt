@@ -4,7 +4,7 @@ use Rattle.std.proofs.lemmas.List.{nil_from_length}
 use Rattle.gg_flat.specs.Circuit.{FlatCircuit}
 use Rattle.gg_flat.specs.Run.{IsRun}
 use Rattle.gg_pipe.proofs.NothingLemmas.{plan-plain}
-use Rattle.gg_printed.specs.Printed.{text_to}
+use Rattle.gg_printed.specs.Printed.{text_of}
 use Rattle.gg_told.specs.Endings.{PrintsOn}
 use Rattle.gg_told.proofs.EndingLemmas.{exit-is}
 use Rattle.gg_told.proofs.WritingLemmas.{none-front}
@@ -44,7 +44,7 @@ returns-then-is_empty-clause-prints g c =
     let prints =
     subst
     (λ (f : FlatCircuit). (rows : List (List ℕ)) × IsRun f fed.trace.columns fed.trace.rows rows
-    × PrintsOn g.K.Sink c.args.out.now c.print_simulated.new.out (text_to f c.in_ok-ports.ports rows fed.trace.rows) c.print_simulated.result)
+    × PrintsOn g.K.Sink c.args.out.now c.print_simulated.new.out (text_of f c.in_ok-ports.ports rows fed.trace.rows) c.print_simulated.result)
     (sym (plan-plain fed.case.design fed.case.cut.request none)) c.print_simulated.ensures.prints in
     (prints.0, prints.1, fed-prints r.0 r.1 r.2 r.3 fed r.4 _ _ _ c.print_simulated.result c.in_ok-ports.ports prints.0 c.in_ok-ports.ensures prints.2)
 

@@ -1,7 +1,7 @@
 use Rattle.std.proofs.Common.{List, ℕ, ◌≤◌, length, refl, sym, ap, subst}
 use Rattle.gg_flat.specs.Circuit.{FlatCircuit}
 use Rattle.gg_flat.specs.Run.{IsRun}
-use Rattle.gg_printed.specs.Printed.{text_to}
+use Rattle.gg_printed.specs.Printed.{text_of}
 use Rattle.gg_refsim.specs.Cycle.{Simulation}
 use Rattle.gg_told.specs.Endings.{PrintsOn}
 use Rattle.gg_told.proofs.WritingLemmas.{none-front}
@@ -25,6 +25,6 @@ returns-clause-prints g c =
     let run = c.runs_along.ensures.opening circuit c.args.design.now.order inputs.columns inputs.rows c.piece.ensures.formed c.order.ensures.ordered c.requires.fed in (
       _,
       run,
-      subst (λ (f : FlatCircuit). (rows : List (List ℕ)) → IsRun f inputs.columns inputs.rows rows → PrintsOn g.K.Sink c.args.out.now c.print_all.new.out (text_to f c.args.ports.now rows inputs.rows) c.print_all.result)
+      subst (λ (f : FlatCircuit). (rows : List (List ℕ)) → IsRun f inputs.columns inputs.rows rows → PrintsOn g.K.Sink c.args.out.now c.print_all.new.out (text_of f c.args.ports.now rows inputs.rows) c.print_all.result)
           (ap (λ (mono : Simulation). mono.circuit) c.in-Ok.ensures) c.print_all.ensures.prints _ run,
     )

@@ -1,9 +1,11 @@
 use Rattle.std.proofs.Common.{refl, subst}
+use Rattle.gg_pipe.specs.Made.{plan_reference}
+use Rattle.gg_printed.specs.Printed.{out_columns}
 use Rattle.std.proofs.lemmas.Result.{IfOk-weaker}
 use Rattle.gg_told.proofs.EndingLemmas.{exit-is}
 use Rattle.gg_told.proofs.WritingLemmas.{none-front}
 use Rattle.golden.specs.Case.{AreFedToTrays}
-use Rattle.golden.proofs.FedLemmas.{fed-ports, fed-prints, fed-shown, own-run, to-replay}
+use Rattle.golden.proofs.FedLemmas.{fed-ports, fed-prints, fed-rows, own-run, to-replay}
 use Rattle.golden.proofs.windows.print_fed.Goals as goal
 
 pub top_ports-requires : goal.top_ports-requires
@@ -27,9 +29,10 @@ returns-clause-prints g c =
     let r = c.requires.fed in
     let fed = c.args.fed.now in
     let run = to-replay r.0 r.1 r.2 r.3 fed r.4 in
-    let shown = fed-shown r.0 r.1 r.2 r.3 fed r.4 c.in_ok-ports.ports run.rows c.in_ok-ports.ensures in (
+    let columns = out_columns (plan_reference fed.case.design fed.case.cut.request) run.rows in
+    let told = fed-rows r.0 r.1 r.2 r.3 fed r.4 c.in_ok-ports.ports run.rows c.in_ok-ports.ensures in (
       run.rows,
       run.given.run,
       fed-prints r.0 r.1 r.2 r.3 fed r.4 _ _ _ c.print_flow.result c.in_ok-ports.ports run.rows c.in_ok-ports.ensures (c.print_flow.ensures.prints run refl),
-      IfOk-weaker c.print_flow.result _ _ (λ done kept. subst (AreFedToTrays fed) shown (kept run refl)) c.print_flow.ensures.kept,
+      IfOk-weaker c.print_flow.result _ _ (λ done kept. subst (λ k. AreFedToTrays fed k columns) told (kept run refl)) c.print_flow.ensures.kept,
     )
