@@ -10,6 +10,7 @@ mod outputs;
 mod partitions;
 mod refusals;
 mod steps;
+mod stops;
 mod tables;
 mod traces;
 mod windows;

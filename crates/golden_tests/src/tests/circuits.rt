@@ -5,7 +5,7 @@ use super::calls::Row;
 use golden_calls::{COUNTER, LATE, LOOP, MEMORY, PAIR, TEXT, TRACE, WIDE};
 
 /// Circuits of one module.
-pub(crate) static RUNS: [Row; 19] = [
+pub(crate) static RUNS: [Row; 18] = [
     // the counter with lines that end with CR LF, comments, tabs and file information
     (
         Run(
@@ -57,15 +57,6 @@ pub(crate) static RUNS: [Row; 19] = [
             TRACE,
         ),
         Prints(3, TEXT),
-    ),
-    // a circuit that asks for a stop in the second cycle: stops are printed nowhere, and end no run
-    (
-        Run(
-            "circuit Halt :\nmodule Halt :\ninput clock : Clock\ninput x : UInt<2>\noutput y : UInt<2>\ny <= x\nstop(clock, eq(x, UInt<2>(3)), 1) : done\n",
-            "{}\n",
-            "cycle x\n0 1\n1 3\n2 0\n",
-        ),
-        Prints(3, "cycle y\n0 1\n1 3\n2 0\n"),
     ),
     // two clocks, each of which has an edge in every cycle
     (

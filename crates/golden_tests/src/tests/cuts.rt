@@ -32,10 +32,6 @@ const TABLE: &str =
 const LEVELS: &str =
     "circuit Top :\nmodule Cell :\ninput clock : Clock\ninput i : UInt<1>\noutput o : UInt<1>\nmem m :\ndata-type => UInt<1>\ndepth => 2\nread-latency => 1\nwrite-latency => 1\nreader => r\nm.r.clk <= clock\nm.r.addr <= i\nm.r.en <= UInt<1>(1)\no <= m.r.data\nmodule Top :\ninput clock : Clock\noutput y : UInt<1>\nmem t :\ndata-type => UInt<1>\ndepth => 2\nread-latency => 0\nwrite-latency => 1\nreader => r\ninst c of Cell\nc.clock <= clock\nt.r.clk <= clock\nt.r.addr <= c.o\nt.r.en <= UInt<1>(1)\nc.i <= t.r.data\ny <= t.r.data\n";
 
-// A stop in an instance, and one in the top.
-const STOPS: &str =
-    "circuit Top :\nmodule Cell :\ninput clock : Clock\ninput i : UInt<2>\nstop(clock, eq(i, UInt<2>(1)), 1) : done\nmodule Top :\ninput clock : Clock\ninput x : UInt<2>\noutput y : UInt<2>\ninst c of Cell\nc.clock <= clock\nc.i <= x\ny <= x\nstop(clock, eq(x, UInt<2>(3)), 0) : last\n";
-
 /// Cuts that are printed: units, and memories beside them and in them.
 pub(crate) static UNIT_CUTS: [Row; 7] = [
     (
@@ -221,8 +217,8 @@ pub(crate) static HOST_CUTS: [Row; 7] = [
     ),
 ];
 
-/// Units against the order of the file, stops, and memories without ports.
-pub(crate) static ORDER_CUTS: [Row; 7] = [
+/// Units against the order of the file, and memories without ports.
+pub(crate) static ORDER_CUTS: [Row; 5] = [
     // a listed memory of latency 1
     (
         Ask(
@@ -268,31 +264,6 @@ pub(crate) static ORDER_CUTS: [Row; 7] = [
         Prints(
             2,
             "machine hub: host 0\nmachine in:x host 1\nmachine out:q host 2\nchannel x in:x hub: UInt<8> capacity 2 needs -\nchannel q hub: out:q UInt<8> capacity 2 needs x\n",
-        ),
-    ),
-    // stops: each has a channel and a tray, behind those of the outputs
-    (
-        Ask(
-            "golden check k1.fir p.json",
-            "circuit Counter :\nmodule Counter :\ninput clock : Clock\ninput reset : UInt<1>\noutput out : UInt<8>\nreg c : UInt<8>, clock with : (reset => (reset, UInt<8>(0)))\nout <= c\nc <= bits(add(c, UInt<8>(1)), 7, 0)\nstop(clock, eq(c, UInt<8>(1)), 1) : done\n",
-            "{}",
-            "",
-        ),
-        Prints(
-            2,
-            "machine hub: host 0\nmachine in:reset host 1\nmachine out:out host 2\nmachine halt:stop:0 host 3\nchannel reset in:reset hub: UInt<1> capacity 2 needs -\nchannel out hub: out:out UInt<8> capacity 2 needs -\nchannel stop:0 hub: halt:stop:0 UInt<1> capacity 2 needs -\n",
-        ),
-    ),
-    (
-        Ask(
-            "golden check k1.fir p.json",
-            STOPS,
-            "{\"units\":[\"c\"]}",
-            "",
-        ),
-        Prints(
-            2,
-            "machine hub: host 0\nmachine c host 1\nmachine in:x host 2\nmachine out:y host 3\nmachine halt:stop:0 host 4\nmachine halt:c.stop:0 host 5\nchannel x in:x hub: UInt<2> capacity 2 needs -\nchannel c.i hub: c UInt<2> capacity 2 needs x\nchannel y hub: out:y UInt<2> capacity 2 needs x\nchannel stop:0 hub: halt:stop:0 UInt<1> capacity 2 needs x\nchannel c.stop:0 c halt:c.stop:0 UInt<1> capacity 2 needs c.i\n",
         ),
     ),
     // two units and their memories, which have no ports

@@ -13,6 +13,9 @@ use super::steps::{
     COUNTER_STEPS, FORK_REFUSED, NEVER_DUE, PIPE_REFUSED, SERVES_REFUSED, SHARED_REFUSED,
     STEPS_DONE, STEPS_REFUSED, STEPS_UNREAD,
 };
+use super::stops::{
+    FAULTS_BEHIND_A_STOP, PUTS_AT_A_STOP, STEPS_BEHIND_A_STOP, STOP_CHANNELS, STOPPED_CUTS, STOPS,
+};
 use super::traces::TRACES;
 use super::workers::BY_WORKERS;
 
@@ -123,6 +126,30 @@ fn channels_refuse_steps(rt: HostRuntime) {
     check_rows(&rt, alloc, "FORK_REFUSED", &FORK_REFUSED);
     check_rows(&rt, alloc, "PIPE_REFUSED", &PIPE_REFUSED);
     check_rows(&rt, alloc, "STEPS_UNREAD", &STEPS_UNREAD);
+}
+
+#[test]
+fn stops_end_the_rows(rt: HostRuntime) {
+    check_rows(&rt, rt.alloc(), "STOPS", &STOPS);
+}
+
+#[test]
+fn stops_end_the_rows_of_cuts(rt: HostRuntime) {
+    check_rows(&rt, rt.alloc(), "STOPPED_CUTS", &STOPPED_CUTS);
+}
+
+#[test]
+fn rows_up_to_a_stop_fail(rt: HostRuntime) {
+    let alloc = rt.alloc();
+    check_rows(&rt, alloc, "FAULTS_BEHIND_A_STOP", &FAULTS_BEHIND_A_STOP);
+    check_rows(&rt, alloc, "PUTS_AT_A_STOP", &PUTS_AT_A_STOP);
+}
+
+#[test]
+fn stops_have_channels(rt: HostRuntime) {
+    let alloc = rt.alloc();
+    check_rows(&rt, alloc, "STOP_CHANNELS", &STOP_CHANNELS);
+    check_rows(&rt, alloc, "STEPS_BEHIND_A_STOP", &STEPS_BEHIND_A_STOP);
 }
 
 // `rt try --test` doesn't end on this one.

@@ -1,14 +1,23 @@
-//! Runs of more cycles than a tray keeps values.
+//! Runs of more cycles than a tray keeps values, and stops about the end of the first window.
+use super::calls::NONE;
 use gg_io::FailingPut;
 use golden_calls::{Answer, call, files_of};
 use itoa::Buffer;
 use std::alloc::{AllocError, Global};
-use std::test::Fail;
+use std::process::Abort;
 use std::thread::Threads;
 
-// A register that turns with each cycle.
-const TOGGLE: &str =
-    "circuit Free :\nmodule Free :\ninput clock : Clock\noutput q : UInt<1>\nreg r : UInt<1>, clock\nq <= r\nr <= not(r)\n";
+// The lowest bit of a register that counts.
+const COUNTS: &str =
+    "circuit Free :\nmodule Free :\ninput clock : Clock\noutput q : UInt<1>\nreg r : UInt<11>, clock\nq <= bits(r, 0, 0)\nr <= bits(add(r, UInt<11>(1)), 10, 0)\n";
+
+// The circuit with a stop in this cycle, if it isn't NONE.
+fn circuit_of(alloc: Global, stop: u64) -> Result<String, AllocError> {
+    if stop == NONE {
+        return String::from_str(alloc, COUNTS);
+    }
+    format!(in alloc; "{COUNTS}stop(clock, eq(r, UInt<11>({stop})), 1)\n")
+}
 
 // A header and so many rows, which end in turn with one text and with the other.
 fn rows_of(
@@ -27,15 +36,17 @@ fn rows_of(
     Ok(text)
 }
 
-// A run of 1,026 cycles, where the put on `out` of this number takes nothing and fails.
+// A run of 1,028 cycles with this stop, where the put on `out` of this number takes nothing and fails.
 fn run_long<R: Threads + Sync>(
     rt: &R,
     alloc: Global,
     line: &str,
+    stop: u64,
     number: u64,
 ) -> Result<Answer, AllocError> {
-    let trace = rows_of(alloc, "cycle\n", 1_026, "\n", "\n")?;
-    let files = files_of(alloc, TOGGLE.as_bytes(), b"{}", trace.as_bytes())?;
+    let circuit = circuit_of(alloc, stop)?;
+    let trace = rows_of(alloc, "cycle\n", 1_028, "\n", "\n")?;
+    let files = files_of(alloc, circuit.as_bytes(), b"{}", trace.as_bytes())?;
     let puts = vec![in alloc; FailingPut { number, takes: 0 }]?;
     call(
         rt,
@@ -64,31 +75,38 @@ fn ends_after(
     )
 }
 
-// The words, the put that fails, if there are so many, the status, the rows that are written, and the line.
-static LONG: [(&str, u64, u8, u64, &str); 5] = [
+// The words, the cycle of the stop, the put that fails, the status, the rows that are written, and the line.
+type Long = (&'static str, u64, u64, u8, u64, &'static str);
+
+// Runs without a stop.
+static LONG: [Long; 5] = [
     (
         "golden run k1.fir p.json k1.trace --workers 0",
-        2_000,
+        NONE,
+        NONE,
         0,
-        1_026,
+        1_028,
         "",
     ),
     (
         "golden run k1.fir p.json k1.trace --workers 2",
-        2_000,
+        NONE,
+        NONE,
         0,
-        1_026,
+        1_028,
         "",
     ),
     (
         "golden run k1.fir p.json k1.trace --mono",
-        2_000,
+        NONE,
+        NONE,
         0,
-        1_026,
+        1_028,
         "",
     ),
     (
         "golden run k1.fir p.json k1.trace --workers 0",
+        NONE,
         1_025,
         4,
         1_024,
@@ -96,6 +114,7 @@ static LONG: [(&str, u64, u8, u64, &str); 5] = [
     ),
     (
         "golden run k1.fir p.json k1.trace --workers 2",
+        NONE,
         1_025,
         4,
         1_024,
@@ -103,13 +122,100 @@ static LONG: [(&str, u64, u8, u64, &str); 5] = [
     ),
 ];
 
-#[test]
-fn runs_of_two_windows(rt: HostRuntime) -> Result<(), Fail> {
-    let alloc = rt.alloc();
-    for (words, number, status, rows, line) in &LONG {
-        let answer = run_long(&rt, alloc, words, *number)?;
-        let is_right = ends_after(alloc, &answer, *status, *rows, line)?;
+// A stop in the last cycle of the first window, in the first one of the second, and behind that; and one whose row can't be written.
+static STOPPED: [Long; 9] = [
+    (
+        "golden run k1.fir p.json k1.trace --workers 0",
+        1_023,
+        NONE,
+        0,
+        1_024,
+        "",
+    ),
+    (
+        "golden run k1.fir p.json k1.trace --workers 3",
+        1_023,
+        NONE,
+        0,
+        1_024,
+        "",
+    ),
+    (
+        "golden run k1.fir p.json k1.trace --mono",
+        1_023,
+        NONE,
+        0,
+        1_024,
+        "",
+    ),
+    (
+        "golden run k1.fir p.json k1.trace --workers 0",
+        1_024,
+        NONE,
+        0,
+        1_025,
+        "",
+    ),
+    (
+        "golden run k1.fir p.json k1.trace --workers 3",
+        1_024,
+        NONE,
+        0,
+        1_025,
+        "",
+    ),
+    (
+        "golden run k1.fir p.json k1.trace --mono",
+        1_024,
+        NONE,
+        0,
+        1_025,
+        "",
+    ),
+    (
+        "golden run k1.fir p.json k1.trace --workers 2",
+        1_026,
+        NONE,
+        0,
+        1_027,
+        "",
+    ),
+    (
+        "golden run k1.fir p.json k1.trace --workers 0",
+        1_024,
+        1_025,
+        4,
+        1_024,
+        "golden: cannot write\n",
+    ),
+    (
+        "golden run k1.fir p.json k1.trace --mono",
+        1_024,
+        1_025,
+        4,
+        1_024,
+        "golden: cannot write\n",
+    ),
+];
+
+// Checks how each run ends.
+fn check_long<R: Threads + Sync + Abort>(rt: &R, alloc: Global, runs: &[Long]) {
+    for (words, stop, number, status, rows, line) in runs {
+        let answer = run_long(rt, alloc, words, *stop, *number).expect(rt, "there is memory");
+        let is_right = ends_after(alloc, &answer, *status, *rows, line).expect(
+            rt,
+            "there is memory",
+        );
         assert!(rt; is_right, "{words}: {rows} rows");
     }
-    Ok(())
+}
+
+#[test]
+fn runs_of_two_windows(rt: HostRuntime) {
+    check_long(&rt, rt.alloc(), &LONG);
+}
+
+#[test]
+fn stops_about_a_window(rt: HostRuntime) {
+    check_long(&rt, rt.alloc(), &STOPPED);
 }
