@@ -1,8 +1,12 @@
 pub mod TextLaws
 pub mod NumberLaws
 pub mod FileLaws
+pub mod KindLaws
+pub mod UnexpectedLaws
+pub mod ApartLaws
 pub mod TakenLaws
 pub mod RangeLaws
 pub mod WorkedRows
 pub mod ReplayRows
 pub mod DemoRows
+pub mod UnexpectedRows

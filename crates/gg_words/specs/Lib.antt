@@ -1,5 +1,6 @@
 -- What the contracts of the command line speak of.
 pub mod Line
 pub mod Number
+pub mod Unexpected
 pub mod Meaning
 pub mod Range

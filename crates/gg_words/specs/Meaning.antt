@@ -10,11 +10,12 @@ use Rattle.clap.specs.Faults.{fault_of}
 use Rattle.clap.specs.Kinds.{IsAmong}
 use Rattle.gg_words.specs.Line.{golden_app}
 use Rattle.gg_words.specs.Number.{judged, number_of}
+use Rattle.gg_words.specs.Unexpected.{IsUnexpected, has_unexpected}
 use Rattle.gg_words.specs.Range.{greatest_seed, most_stages, most_workers}
 use Rattle.gg_words.specs.declared.command.Cmd.{Cmd}
 use Rattle.gg_words.specs.declared.command.Cmd.TheVariants.{Run, Replay, Check, Demo}
 use Rattle.gg_words.specs.declared.command.WordFault.{WordFault}
-use Rattle.gg_words.specs.declared.command.WordFault.TheVariants.{Refused, WrongNumber, NoMemory}
+use Rattle.gg_words.specs.declared.command.WordFault.TheVariants.{Unexpected, Refused, WrongNumber, NoMemory}
 
 -- The text that was given to this argument. If `clap` takes the words, there is one for each file, and for each number
 -- that has no default.
@@ -90,18 +91,21 @@ IsCommand words cmd = Says words (Ok cmd)
 
 -- the words aren't a command, because of this
 abbrev pub IsWordFault : List Text → WordFault → Type 0
-IsWordFault words (Refused kind) = IsAmong kind (fault_of golden_app words)
+IsWordFault words (Unexpected word) = IsUnexpected words word
+IsWordFault words (Refused kind) = IsAmong kind (fault_of golden_app words) × (has_unexpected words ≡ false)
 IsWordFault words (WrongNumber value) = Says words (Err value)
 IsWordFault words NoMemory = ⊥
 
 -- the same, or `NoMemory`
 abbrev pub IfWordFault : List Text → WordFault → Type 0
+IfWordFault words (Unexpected word) = IsWordFault words (Unexpected word)
 IfWordFault words (Refused kind) = IsWordFault words (Refused kind)
 IfWordFault words (WrongNumber value) = IsWordFault words (WrongNumber value)
 IfWordFault words NoMemory = ⊤
 
 -- a fault agrees with what was found; `clap` refused nothing there
 abbrev pub SaysFault : {T : Type 0} → WordFault → Result T Text → Type 0
+SaysFault (Unexpected word) said = ⊥
 SaysFault (Refused kind) said = ⊥
 SaysFault (WrongNumber value) said = said ≡ Err value
 SaysFault NoMemory said = ⊤

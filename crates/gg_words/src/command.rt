@@ -60,7 +60,11 @@ pub enum Cmd {
 /// Why words aren't a command.
 #[derive(Debug, Drop)]
 pub enum WordFault {
-    /// `clap` refuses them, with this kind. It is never `clap`'s kind for a failed allocation.
+    /// `clap` refuses them at this word: as an unknown argument, as no command, or for a value that isn't taken. It refuses
+    /// the words up to this one so too, and no fewer.
+    Unexpected(Name),
+    /// `clap` refuses them with this kind, which is none of those of `Unexpected`. It is never `clap`'s kind for a failed
+    /// allocation.
     Refused(ErrorKind),
     /// `clap` takes them, and this value isn't a number in its range. It is the first such value: a demo's seed before its
     /// size, then the capacity, then the workers.

@@ -4,6 +4,7 @@ ghost use Rattle.clap.specs.Simple.{subcommand_of};
 ghost use Rattle.clap.specs.Faults.{fault_of};
 ghost use Rattle.gg_words.specs.Line.{golden_app};
 ghost use Rattle.gg_words.specs.Meaning.{IsWordFault, HasWords, Says, IsCommand};
+ghost use Rattle.gg_words.specs.Unexpected.{IsUnexpected};
 ghost use Rattle.gg_words.specs.Range.{AreInRange};
 ghost use Rattle.gg_words.specs.declared.command.Cmd.{Cmd};
 ghost use Rattle.gg_words.specs.declared.command.WordFault.{WordFault};
@@ -20,8 +21,9 @@ pub fn numbers_are_in_range()
     ensures { (words : List (List ℕ)) (cmd : Cmd) → IsCommand words cmd → AreInRange cmd }
 {}
 
-/// Words mean at most one thing. Words that mean a command have no fault.
+/// Words mean at most one thing. Words that mean a command have no fault. At most one word is unexpected.
 pub fn one_meaning()
     ensures once { (words : List (List ℕ)) (one other : Result Cmd (List ℕ)) → Says words one → Says words other → one ≡ other }
     ensures apart { (words : List (List ℕ)) (cmd : Cmd) (fault : WordFault) → IsCommand words cmd → IsWordFault words fault → ⊥ }
+    ensures word { (words : List (List ℕ)) (one other : List ℕ) → IsUnexpected words one → IsUnexpected words other → one ≡ other }
 {}

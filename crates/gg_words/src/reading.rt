@@ -4,9 +4,9 @@ ghost use Rattle.clap.specs.Walk.{first_of, rows_of};
 ghost use Rattle.clap.specs.Matches.{found_of, has_subcommand};
 ghost use Rattle.clap.specs.Simple.{subcommand_rows_of, subcommand_of};
 ghost use Rattle.clap.specs.Faults.{fault_of};
-ghost use Rattle.clap.specs.Kinds.{HasKind};
-ghost use Rattle.clap.specs.Values.{kind_of};
+ghost use Rattle.clap.specs.Kinds.{IsAmong};
 ghost use Rattle.gg_words.specs.Line.{golden_app};
+ghost use Rattle.gg_words.specs.Unexpected.{IsUnexpected, has_unexpected, is_for_word};
 ghost use Rattle.gg_words.specs.Number.{judged, number_of};
 ghost use Rattle.gg_words.specs.Meaning.{Answers, FoundSays, IfWordFault, IsCommand, IsWordFault, HasWords, SaysFault, capacity_of, check_of, demo_of, is_set, replay_of, run_of, text_of, texts, workers_of};
 ghost use Rattle.gg_words.specs.declared.command.Cmd.{Cmd};
@@ -16,8 +16,8 @@ use crate::command::{Cmd, WordFault};
 use crate::laws::{one_meaning, words_are_given};
 use crate::line::golden_line;
 use crate::numbers::{GREATEST_SEED, MOST_STAGES, MOST_WORKERS, number_in};
+use clap::ArgMatches;
 use clap::error::ErrorKind;
-use clap::{ArgMatches, Error};
 use gg_bits::Name;
 use gg_limits::CAPACITY_LIMIT;
 use std::alloc::{AllocError, Global};
@@ -170,14 +170,59 @@ fn command_of(alloc: Global, matches: &ArgMatches<'_>) -> Result<Cmd, WordFault>
     }
 }
 
-// The fault of words that `clap` refuses.
-fn refusal_of(error: &Error) -> WordFault
-    ensures memory { kind_of error.now ≡ ErrorKind.OutOfMemory → result ≡ WordFault.NoMemory }
-    ensures other { kind_of error.now ≢ ErrorKind.OutOfMemory → result ≡ WordFault.Refused (kind_of error.now) }
+// Whether the words of this refusal are refused because of one of them.
+fn is_for_word(kind: ErrorKind) -> bool
+    ensures { result ≡ is_for_word kind }
 {
-    match error.kind() {
+    matches!(
+        kind,
+        ErrorKind::UnknownArgument | ErrorKind::InvalidSubcommand | ErrorKind::TooManyValues
+    )
+}
+
+// Whether `clap` refuses words because of one of them.
+fn has_unexpected(alloc: Global, words: &[String]) -> Result<bool, AllocError>
+    ensures { IfOk result (λ has. has ≡ has_unexpected (texts words.now)) }
+{
+    match golden_line(alloc)?.try_get_matches_from(words) {
+        Ok(_) => Ok(false),
+        Err(error) => match error.kind() {
+            ErrorKind::OutOfMemory => Err(AllocError),
+            kind => Ok(is_for_word(kind)),
+        },
+    }
+}
+
+// The word because of which `clap` refuses words.
+fn unexpected_word<'a>(alloc: Global, words: &'a [String]) -> Result<&'a str, AllocError>
+    requires { has_unexpected (texts words.now) ≡ true }
+    ensures { IfOk result (λ word. IsUnexpected (texts words.now) word.now) }
+{
+    let mut place = 0;
+    while !has_unexpected(alloc, &words[..place + 1])? {
+        place += 1;
+    }
+    Ok(words[place].as_str())
+}
+
+// The fault of words that `clap` refuses because of one of them.
+fn unexpected(alloc: Global, words: &[String]) -> Result<WordFault, AllocError>
+    requires { has_unexpected (texts words.now) ≡ true }
+    ensures { IfOk result (IfWordFault (texts words.now)) }
+{
+    let word = unexpected_word(alloc, words)?;
+    Ok(WordFault::Unexpected(Name::from(String::from_str(alloc, word)?)))
+}
+
+// The fault of words that `clap` refuses with this kind.
+fn refusal_of(alloc: Global, words: &[String], kind: ErrorKind) -> WordFault
+    requires { (kind ≡ ErrorKind.OutOfMemory) ⊎ IsAmong kind (fault_of golden_app (texts words.now)) }
+    ensures { IfWordFault (texts words.now) result }
+{
+    match kind {
         ErrorKind::OutOfMemory => WordFault::NoMemory,
-        kind => WordFault::Refused(kind),
+        _ if is_for_word(kind) => unexpected(alloc, words).unwrap_or(WordFault::NoMemory),
+        _ => WordFault::Refused(kind),
     }
 }
 
@@ -189,7 +234,7 @@ fn read_words(alloc: Global, words: &[String]) -> Result<Cmd, WordFault>
     let line = golden_line(alloc)?;
     match line.try_get_matches_from(words) {
         Ok(matches) => command_of(alloc, &matches),
-        Err(error) => Err(refusal_of(&error)),
+        Err(error) => Err(refusal_of(alloc, words, error.kind())),
     }
 }
 
@@ -209,8 +254,9 @@ fn read_words(alloc: Global, words: &[String]) -> Result<Cmd, WordFault>
 ///
 /// # Errors
 ///
-/// Returns `Refused` if `clap` refuses the words, also if they ask for help. Else returns `WrongNumber` with the first
-/// value, in the order SEED, SIZE, K, W, that isn't a number in its range. Returns `NoMemory` if an allocation fails.
+/// Returns `Unexpected` with the word because of which `clap` refuses the words, also if it asks for help. Returns
+/// `Refused` if `clap` refuses them for another reason. Else returns `WrongNumber` with the first value, in the order SEED,
+/// SIZE, K, W, that isn't a number in its range. Returns `NoMemory` if an allocation fails.
 pub fn words(alloc: Global, words: &[String]) -> Result<Cmd, WordFault>
     // The result is the command that the words are.
     ensures command { IfOk result (IsCommand (texts words.now)) }

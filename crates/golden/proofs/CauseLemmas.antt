@@ -28,6 +28,7 @@ asks-once once words one other asks others = let e = once words (Ok one) (Ok oth
 
 -- a fault that isn't `NoMemory` is a fault of the words
 pub word-fault : (words : List (List ℕ)) (fault : WordFault) → fault ≢ word.NoMemory → command_line.IfWordFault words fault → command_line.IsWordFault words fault
+word-fault words (word.Unexpected text) some h = h
 word-fault words (word.Refused kind) some h = h
 word-fault words (word.WrongNumber value) some h = h
 word-fault words word.NoMemory some h = absurd (some refl)
@@ -39,6 +40,7 @@ refused-unasked words fault ending none has = IfRefused-map (λ said h. ((λ ask
 
 -- what is reported for words that are no command has the status 2
 fault-status : (fault : WordFault) (said : Said) → TellsWords fault said → said.status ≡ 2
+fault-status (word.Unexpected text) said tells = ap (λ (s : Said). s.status) tells
 fault-status (word.Refused kind) said tells = ap (λ (s : Said). s.status) tells
 fault-status (word.WrongNumber value) said tells = ap (λ (s : Said). s.status) tells
 fault-status word.NoMemory said tells = absurd tells

@@ -1,6 +1,8 @@
 -- What is reported for words, and for the files of a command. Source: this program's own. The lines are those of
--- docs/FORMATS.md.
+-- docs/FORMATS.md. The `line` of a report is one line, and for words that `clap` refuses, some more behind it.
 use Rattle.std.specs.Prelude.{◌≡◌, ◌≢◌, ℕ, List, ◌++◌, codes, decimal}
+use Rattle.clap.specs.declared.error.kind.ErrorKind.{ErrorKind}
+use Rattle.clap.specs.declared.error.kind.ErrorKind.TheVariants as kind
 use Rattle.gg_read.specs.FaultText.{fault_text}
 use Rattle.gg_read.specs.declared.text.ReadFault.{ReadFault}
 use Rattle.gg_read.specs.declared.text.ReadFault.TheVariants.{NoMemory}
@@ -10,9 +12,26 @@ use Rattle.gg_told.specs.Said.{Said, line_of}
 abbrev pub words_said : List ℕ → Said
 words_said text = record { status = 2; line = line_of (codes "golden: words" ++ text) }
 
--- the words aren't any of the commands
-abbrev pub no_command : Said
-no_command = words_said (codes ": the commands are run CIRCUIT PARTITION TRACE [--capacity K] [--workers W] [--mono], replay CIRCUIT PARTITION TRACE STEPS [--capacity K], check CIRCUIT PARTITION [--capacity K] and demo SEED SIZE [--workers W]")
+-- the usage of each command, each on a line of its own, behind the line that says what is wrong
+abbrev pub usage : List ℕ
+usage = codes "\nusage: golden run CIRCUIT PARTITION TRACE [--capacity K] [--workers W] [--mono]\nusage: golden replay CIRCUIT PARTITION TRACE STEPS [--capacity K]\nusage: golden check CIRCUIT PARTITION [--capacity K]\nusage: golden demo SEED SIZE [--workers W]"
+
+-- this word is one that no command and no argument takes
+abbrev pub unexpected_word : List ℕ → Said
+unexpected_word word = words_said (codes ": '" ++ word ++ codes "' is unexpected" ++ usage)
+
+-- why `clap` refuses words with this kind, if it isn't a kind for a word; the last row is for kinds that no test and no
+-- worked row has met
+abbrev pub cause_text : ErrorKind → List ℕ
+cause_text kind.MissingSubcommand = codes "no command is given"
+cause_text kind.MissingRequiredArgument = codes "a file or a number is missing"
+cause_text kind.InvalidValue = codes "an option has no value"
+cause_text kind.ArgumentConflict = codes "an option is given twice"
+cause_text _ = codes "not a command"
+
+-- `clap` refuses the words with this kind
+abbrev pub refused_words : ErrorKind → Said
+refused_words k = words_said (codes ": " ++ cause_text k ++ usage)
 
 -- this value isn't a number in its range
 abbrev pub bad_number : List ℕ → Said

@@ -4,9 +4,9 @@ use Rattle.std.specs.Prelude.{◌≡◌, ℕ, List}
 use Rattle.gg_words.specs.Meaning.{IsCommand, IsWordFault}
 use Rattle.gg_words.specs.declared.command.Cmd.{Cmd}
 use Rattle.gg_words.specs.declared.command.WordFault.{WordFault}
-use Rattle.gg_words.specs.declared.command.WordFault.TheVariants.{Refused, WrongNumber, NoMemory}
+use Rattle.gg_words.specs.declared.command.WordFault.TheVariants.{Unexpected, Refused, WrongNumber, NoMemory}
 use Rattle.gg_told.specs.Said.{Said}
-use Rattle.golden.specs.Lines.{bad_number, no_command}
+use Rattle.golden.specs.Lines.{bad_number, refused_words, unexpected_word}
 
 -- the words are a command
 abbrev pub AskForCommand : List (List ℕ) → Type 0
@@ -14,7 +14,8 @@ AskForCommand words = (cmd : Cmd) × IsCommand words cmd
 
 -- this is reported for words with this fault; `NoMemory` isn't a fault of words
 abbrev pub TellsWords : WordFault → Said → Type 0
-TellsWords (Refused kind) said = said ≡ no_command
+TellsWords (Unexpected word) said = said ≡ unexpected_word word
+TellsWords (Refused kind) said = said ≡ refused_words kind
 TellsWords (WrongNumber value) said = said ≡ bad_number value
 TellsWords NoMemory said = ⊥
 

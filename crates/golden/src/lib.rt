@@ -1,8 +1,8 @@
 //! The program golden as one call. [`golden`] does what the words of a call ask for, with files from a shelf. It writes
-//! the text to one output and at most one line to another, and returns the status. gg_words defines which words are
-//! which command. `run` prints the run on the trace of the circuit with the pipes that the partition asks for, from the network
-//! of the cut, window by window, or by the simulator. The text is the same, whatever the rest of the partition and the number
-//! of workers.
+//! the text to one output, and at most one line to another, which the usage of each command may follow. It returns the
+//! status. gg_words defines which words are which command. `run` prints the run on the trace of the circuit with the
+//! pipes that the partition asks for, from the network of the cut, window by window, or by the simulator. The text is the
+//! same, whatever the rest of the partition and the number of workers.
 //! `replay` does a list of steps on the network of the cut, and prints the tokens of each channel. `check` prints the
 //! machines, the channels and the needs of the cut that the partition asks for. A partition with a fault is refused.
 //! `demo` makes a circuit, a partition and a trace, runs their network, and prints a summary.

@@ -22,6 +22,9 @@ pub(crate) enum End {
     Prints(u64, &'static str),
     /// The status, the loads, and what is on `err`; nothing is on `out`.
     Refuses(u8, u64, &'static str),
+    /// The first line on `err`, without its end; the usage of each command follows it. The status is 2, nothing is loaded, and nothing is on
+    /// `out`.
+    Unasked(&'static str),
     /// The status, the loads, and what is on `out` and on `err`.
     Stops(u8, u64, &'static str, &'static str),
 }
@@ -71,7 +74,26 @@ fn ends_so(answer: &Answer, end: &End) -> bool {
     match end {
         End::Prints(loads, out) => answer.is(0, *loads, out, ""),
         End::Refuses(status, loads, err) => answer.is(*status, *loads, "", err),
+        End::Unasked(line) => is_unasked(answer, line),
         End::Stops(status, loads, out, err) => answer.is(*status, *loads, out, err),
+    }
+}
+
+/// What follows the first line of a call whose words aren't a command.
+const USAGE: &str =
+    "\nusage: golden run CIRCUIT PARTITION TRACE [--capacity K] [--workers W] [--mono]\nusage: golden replay CIRCUIT PARTITION TRACE STEPS [--capacity K]\nusage: golden check CIRCUIT PARTITION [--capacity K]\nusage: golden demo SEED SIZE [--workers W]\n";
+
+/// Whether the words of a call weren't a command, with this first line.
+fn is_unasked(answer: &Answer, line: &str) -> bool {
+    match answer.err.as_slice().strip_suffix(USAGE.as_bytes()) {
+        Some(first) => {
+            first == line.as_bytes()
+                && answer.status == 2
+                && answer.loads == 0
+                && answer.puts == 0
+                && answer.out.is_empty()
+        }
+        None => false,
     }
 }
 

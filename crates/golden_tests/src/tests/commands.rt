@@ -1,6 +1,6 @@
 //! The words of a call.
 use super::calls::Call::AskCounter;
-use super::calls::End::{Prints, Refuses};
+use super::calls::End::{Prints, Refuses, Unasked};
 use super::calls::Row;
 use golden_calls::TEXT;
 
@@ -56,39 +56,64 @@ pub(crate) static ASKED: [Row; 12] = [
     ),
 ];
 
-const COMMANDS: &str =
-    "golden: words: the commands are run CIRCUIT PARTITION TRACE [--capacity K] [--workers W] [--mono], replay CIRCUIT PARTITION TRACE STEPS [--capacity K], check CIRCUIT PARTITION [--capacity K] and demo SEED SIZE [--workers W]\n";
-
-/// Words that are no command.
-pub(crate) static UNASKED: [Row; 18] = [
-    (AskCounter("golden"), Refuses(2, 0, COMMANDS)),
-    (AskCounter("golden run k1.fir"), Refuses(2, 0, COMMANDS)),
+/// Words that `clap` refuses.
+pub(crate) static UNASKED: [Row; 13] = [
     (
-        AskCounter("golden run k1.fir p.json k1.trace k1.trace"),
-        Refuses(2, 0, COMMANDS),
+        AskCounter("golden"),
+        Unasked("golden: words: no command is given"),
+    ),
+    (
+        AskCounter("golden run k1.fir"),
+        Unasked("golden: words: a file or a number is missing"),
+    ),
+    (
+        AskCounter("golden run k1.fir p.json k1.trace k2.trace k3.trace"),
+        Unasked("golden: words: 'k2.trace' is unexpected"),
     ),
     (
         AskCounter("golden run -k1.fir p.json k1.trace"),
-        Refuses(2, 0, COMMANDS),
+        Unasked("golden: words: '-k1.fir' is unexpected"),
+    ),
+    (
+        AskCounter("golden run --mono=true k1.fir p.json k1.trace"),
+        Unasked("golden: words: '--mono=true' is unexpected"),
     ),
     (
         AskCounter("golden run k1.fir p.json k1.trace --mono --mono"),
-        Refuses(2, 0, COMMANDS),
+        Unasked("golden: words: an option is given twice"),
     ),
     (
         AskCounter("golden run k1.fir p.json k1.trace --capacity"),
-        Refuses(2, 0, COMMANDS),
+        Unasked("golden: words: an option has no value"),
     ),
     (
         AskCounter("golden walk k1.fir p.json k1.trace"),
-        Refuses(2, 0, COMMANDS),
+        Unasked("golden: words: 'walk' is unexpected"),
+    ),
+    (
+        AskCounter("golden rnu k1.fir p.json k1.trace"),
+        Unasked("golden: words: 'rnu' is unexpected"),
+    ),
+    (
+        AskCounter("golden check k1.fir --workers 2 p.json"),
+        Unasked("golden: words: '--workers' is unexpected"),
     ),
     (
         AskCounter("golden replay k1.fir p.json k1.trace"),
-        Refuses(2, 0, COMMANDS),
+        Unasked("golden: words: a file or a number is missing"),
     ),
-    (AskCounter("golden demo 0"), Refuses(2, 0, COMMANDS)),
-    (AskCounter("golden --help"), Refuses(2, 0, COMMANDS)),
+    (
+        AskCounter("golden demo 0"),
+        Unasked("golden: words: a file or a number is missing"),
+    ),
+    (
+        AskCounter("golden --help"),
+        Unasked("golden: words: '--help' is unexpected"),
+    ),
+];
+
+/// Words with a value that isn't a number in its range.
+pub(crate) static NO_NUMBERS: [Row; 8] = [
     (
         AskCounter("golden run k1.fir p.json k1.trace --capacity 0"),
         Refuses(

@@ -1,7 +1,7 @@
 //! The tests of all tables.
 use super::calls::check_rows;
 use super::circuits::{CIRCUIT_FAULTS, CUT, RUNS, WHOLE};
-use super::commands::{ASKED, UNASKED};
+use super::commands::{ASKED, NO_NUMBERS, UNASKED};
 use super::cuts::{CUT_FAULTS, HOST_CUTS, ORDER_CUTS, ROUTED, UNIT_CUTS};
 use super::demos::SUMMARIES;
 use super::files::{FAILING, MISSING};
@@ -51,6 +51,7 @@ fn words_are_read(rt: HostRuntime) {
     let alloc = rt.alloc();
     check_rows(&rt, alloc, "ASKED", &ASKED);
     check_rows(&rt, alloc, "UNASKED", &UNASKED);
+    check_rows(&rt, alloc, "NO_NUMBERS", &NO_NUMBERS);
 }
 
 #[test]
