@@ -21,8 +21,8 @@ use Rattle.gg_progress.specs.Measure.{all_dues, left}
 use Rattle.gg_progress.proofs.EndLemmas.{opening-left}
 use Rattle.gg_pipe.specs.Made.{plan_reference}
 use Rattle.gg_sound.specs.Built.{IsGiven, wires_of_plan}
-use Rattle.gg_summed.specs.Sums.{AreSums, FoldsRows, output_column, sums_text}
-use Rattle.gg_summed.specs.declared.sums.Sums.{Sums}
+use Rattle.gg_run.specs.Sums.{AreSums, FoldsRows, output_column, sums_text}
+use Rattle.gg_run.specs.declared.sums.Sums.{Sums}
 use Rattle.gg_told.specs.Ends.{Loads, Puts}
 use Rattle.gg_told.specs.Endings.{EndedOn, PrintsOrStops, PrintsText, Stops, Wants}
 use Rattle.gg_told.specs.Order.{IsOnly, Write}

@@ -35,7 +35,7 @@ use Rattle.golden.specs.Case.{AreFedToTrays, IsFed}
 use Rattle.golden.specs.Network.{IsNetworkText}
 use Rattle.golden.specs.Replay.{CanGoOn, GoesOnUntilAll, IsReplayText, IsReplayed, IsSetting, Setting, TellsSteps, all_steps, naming_of, replay_text, replayed}
 use Rattle.golden.specs.Replayed.{AreFewNames, IsNetText, IsToReplay, TellsStop, case_naming, fed_flow}
-use Rattle.gg_printed.specs.Printed.{out_columns, rows_to, text_of}
+use Rattle.gg_run.specs.Printed.{out_columns, rows_to, text_of}
 use Rattle.golden.specs.Run.{IsTextOf}
 use Rattle.golden.specs.RunText.{columns_of, outputs_kept, outputs_of, run_rows, run_text, stops_kept}
 use Rattle.golden.specs.declared.case.Fed.{Fed}

@@ -13,8 +13,8 @@ use Rattle.gg_check.specs.Alike.{AreAlike}
 use Rattle.gg_pipe.specs.Made.{AreHeldOnce, plan_reference}
 use Rattle.gg_sound.specs.Built.{flow_of}
 use Rattle.gg_build.specs.Build.{IsToRun}
-use Rattle.gg_printed.specs.Printed.{text_of}
-use Rattle.gg_printed.proofs.KeepLemmas.{shown-text}
+use Rattle.gg_run.specs.Printed.{text_of}
+use Rattle.gg_run.proofs.TextLemmas.{shown-text}
 use Rattle.golden.specs.Case.{IsFed}
 use Rattle.golden.specs.Network.{IsNetworkText}
 use Rattle.golden.specs.RunText.{Feeds, run_text}

@@ -1,24 +1,20 @@
 -- The rows of a run, one by one.
 use Rattle.std.proofs.Common.{◌≡◌, ℕ, suc, ◌+◌, ◌<◌, List, [], ◌++◌, Bool, true, false, length, map, take, sym, ap, ◌∙◌, subst, arith}
-use Rattle.std.specs.Prelude.{Option, Result, Ok, Err, ◌||◌, drop}
-use Rattle.std.specs.Io.KnownBytes.{append_known}
+use Rattle.std.specs.Prelude.{Result, Ok, Err, drop}
 use Rattle.std.proofs.lemmas.List.{drop-map, take-map}
 use Rattle.std.proofs.Math.Seq.{drop-append_seam, take-append_seam}
 use Rattle.gg_flat.specs.Circuit.{FlatCircuit}
-use Rattle.gg_flat.specs.Line.{value_at}
 use Rattle.gg_flat.specs.Order.{IsOrder}
 use Rattle.gg_flat.specs.Run.{IsRun, row_at, opening_start, state_at, inputs_at}
 use Rattle.gg_flat.specs.Settled.{Settled}
 use Rattle.gg_flat.specs.State.{State, next_state}
-use Rattle.gg_io.specs.Count.{Rose}
 use Rattle.gg_io.specs.declared.output.Sink
 use Rattle.gg_refsim.specs.Cycle.{Simulation, Cycle, outputs}
 use Rattle.gg_flat.specs.declared.ports.Port.{Port}
-use Rattle.gg_trace.specs.Last.{acts, halts, has_halted, row_count}
-use Rattle.gg_trace.specs.Printing.{row_line, trace_text}
+use Rattle.gg_trace.specs.Last.{halts, row_count}
+use Rattle.gg_trace.specs.Printing.{trace_text}
 use Rattle.gg_trace.specs.Table.{Table, row_of}
 use Rattle.gg_told.specs.declared.endings.Ending.{Ending}
-use Rattle.gg_told.specs.Ends.{IsFront}
 use Rattle.gg_flat.specs.Ports.{output_ports}
 use Rattle.gg_flat.specs.Scoped.{stop_signals}
 use Rattle.gg_flat.specs.Clock.{Ratio, edges_at}
@@ -28,26 +24,27 @@ use Rattle.gg_cut.specs.Direct.{plan_hub}
 use Rattle.gg_pipe.specs.Links.{taken_as}
 use Rattle.gg_pipe.specs.Made.{plan_reference}
 use Rattle.golden.specs.RunText.{columns_of, outputs_kept, outputs_of, run_rows, run_text, stops_kept}
-use Rattle.gg_told.specs.Endings.{Prints, PrintsOn}
 use Rattle.gg_told.specs.WentOn.{SinkWentOn}
-use Rattle.gg_told.proofs.WritingLemmas.{append_known-append, on-then, rose-earlier, stop-within}
-use Rattle.gg_printed.specs.Printed.{is_halt, rows_to, shown_columns, stop_columns, text_of, text_to}
-use Rattle.gg_printed.proofs.RowLemmas.{outputs-row, stop-as, trace_text-front, trace_text-more}
-use Rattle.gg_trace.proofs.LastLaws.{rows-all, rows-next, rows-reach, rows-stay}
+use Rattle.gg_told.proofs.WritingLemmas.{on-then}
+use Rattle.gg_run.specs.Printed.{PrintsRow, rows_to, shown_columns, stop_columns, text_of}
+use Rattle.gg_run.specs.Rows.{outputs_in}
+use Rattle.gg_run.specs.Taken.{Took, TookTo}
+use Rattle.gg_run.proofs.TakenLemmas.{took-all, took-fails, took-last, took-next}
 
--- The first `cycle` rows are on the output sink after the header, no stop acts in them, and the simulator is in the state before the
--- next, in any run.
-pub record PrintedTo {K : Type 0} (circuit : FlatCircuit) (inputs : Table) (ports : List Port) (sink : Sink.Ghosts K) (out out' : K) (cycle : ℕ) (mono : Simulation) (outs : List ℕ) : Type 0 where
+-- The first `cycle` rows were printed, each time to go on, and the simulator is in the state before the next, in any run.
+pub record SimulatedTo {K : Type 0} (circuit : FlatCircuit) (inputs : Table) (ports : List Port) (sink : Sink.Ghosts K) (out out' : K) (cycle : ℕ) (mono : Simulation) (outs : List ℕ) : Type 0 where
   pub same : mono.circuit ≡ circuit
   pub every : mono.ratios ≡ []
   pub made : mono.cycle ≡ cycle
   pub count : length outs ≡ length circuit.outs
   pub state : (rows : List (List ℕ)) → IsRun circuit inputs.columns inputs.rows rows → mono.state ≡ state_at circuit (opening_start circuit) rows cycle
-  pub quiet : (rows : List (List ℕ)) → IsRun circuit inputs.columns inputs.rows rows → has_halted (is_halt circuit ports rows) cycle ≡ false
-  pub written : (rows : List (List ℕ)) (base : Option (List ℕ)) → IsRun circuit inputs.columns inputs.rows rows
-      → sink.written out ≡ append_known base (text_to circuit ports rows 0)
-      → sink.written out' ≡ append_known base (text_to circuit ports rows cycle)
+  pub took : (rows : List (List ℕ)) → IsRun circuit inputs.columns inputs.rows rows → TookTo (PrintsRow sink ports) (outputs_in circuit rows) out cycle out'
   pub on : SinkWentOn sink out out'
+
+-- what the rows of a run owe
+abbrev pub TookAll : {K : Type 0} (circuit : FlatCircuit) (inputs : Table) (ports : List Port) (sink : Sink.Ghosts K) (out out' : K) (result : Result Bool Ending) → Type 0
+TookAll circuit inputs ports sink out out' result =
+    (rows : List (List ℕ)) → IsRun circuit inputs.columns inputs.rows rows → (count : ℕ) × Took (PrintsRow sink ports) (outputs_in circuit rows) inputs.rows count out out' result
 
 -- a state and inputs have only one settled row
 abbrev pub SettledOnce : Type 0
@@ -61,11 +58,10 @@ cycle-row once circuit order columns n rows t before after inputs printed ordere
     once circuit order before inputs cycle.row (row_at rows t) ordered cycle.settled
     (subst (λ (s : State). Settled circuit s inputs (row_at rows t)) (sym is) (subst (λ (i : List ℕ). Settled circuit (state_at circuit (opening_start circuit) rows t) i (row_at rows t)) (sym given) (run.settled t lt)))
 
--- what a cycle of a run leaves: the next state, and the row of the first outputs and of the others
+-- what a cycle of a run leaves: the next state, and the row
 pub record Follows (circuit : FlatCircuit) (rows : List (List ℕ)) (t : ℕ) (after : State) (printed : List ℕ) : Type 0 where
   pub state : after ≡ state_at circuit (opening_start circuit) rows (t + 1)
-  pub row : (count : ℕ) → take count printed ≡ row_of (columns_of (take count circuit.outs) rows) t
-  pub rest : (count : ℕ) → drop count printed ≡ row_of (columns_of (drop count circuit.outs) rows) t
+  pub row : printed ≡ outputs_in circuit rows t
 
 pub cycle-follows : SettledOnce → (circuit : FlatCircuit) (order : List ℕ) (columns : List (List ℕ)) (n : ℕ) (rows : List (List ℕ)) (t : ℕ)
     (before after : State) (inputs printed : List ℕ) → IsOrder circuit order → IsRun circuit columns n rows → t < n
@@ -73,99 +69,51 @@ pub cycle-follows : SettledOnce → (circuit : FlatCircuit) (order : List ℕ) (
 cycle-follows once circuit order columns n rows t before after inputs printed ordered run lt is given cycle =
     let row = cycle-row once circuit order columns n rows t before after inputs printed ordered run lt is given cycle in
     let turned : suc t ≡ t + 1 = omega arith in
-    let counted = run.count in
-    let within : t < length rows = omega arith in
     record {
       state = cycle.next ∙ ap (λ (s : State). next_state [] circuit s cycle.row) is ∙ ap (next_state [] circuit (state_at circuit (opening_start circuit) rows t)) row ∙ ap (state_at circuit (opening_start circuit) rows) turned;
-      row = λ count.
-          ap (take count) (cycle.outputs_are ∙ ap (outputs circuit) row)
-          ∙ take-map (λ s. value_at (row_at rows t) s) count circuit.outs
-          ∙ outputs-row circuit rows t within (take count circuit.outs);
-      rest = λ count.
-          ap (drop count) (cycle.outputs_are ∙ ap (outputs circuit) row)
-          ∙ drop-map (λ s. value_at (row_at rows t) s) count circuit.outs
-          ∙ outputs-row circuit rows t within (drop count circuit.outs);
+      row = cycle.outputs_are ∙ ap (outputs circuit) row;
     }
 
 module _ {K : Type 0} {circuit : FlatCircuit} {inputs : Table} {ports : List Port} {sink : Sink.Ghosts K} {out out' : K} {t : ℕ} {mono : Simulation} {outs outs' : List ℕ}
     (once : SettledOnce) (order : List ℕ) (ordered : IsOrder circuit order) (lt : t < inputs.rows) (row : List ℕ) (given : row ≡ row_of inputs.columns t)
-    (printed : PrintedTo circuit inputs ports sink out out' t mono outs) (mono' : Simulation) (cycle : Cycle (edges_at mono.ratios mono.cycle) mono.circuit mono.state row outs' mono'.state) where
+    (simulated : SimulatedTo circuit inputs ports sink out out' t mono outs) (mono' : Simulation) (cycle : Cycle (edges_at mono.ratios mono.cycle) mono.circuit mono.state row outs' mono'.state)
+    (out'' : K) where
   follows-so : (rows : List (List ℕ)) → IsRun circuit inputs.columns inputs.rows rows → Follows circuit rows t mono'.state outs'
   follows-so rows run =
-      cycle-follows once circuit order inputs.columns inputs.rows rows t mono.state mono'.state row outs' ordered run lt (printed.state rows run) given
-      (subst (λ (c : FlatCircuit). Cycle [] c mono.state row outs' mono'.state) printed.same
-      (subst (λ (ratios : List Ratio). Cycle (edges_at ratios mono.cycle) mono.circuit mono.state row outs' mono'.state) printed.every cycle))
+      cycle-follows once circuit order inputs.columns inputs.rows rows t mono.state mono'.state row outs' ordered run lt (simulated.state rows run) given
+      (subst (λ (c : FlatCircuit). Cycle [] c mono.state row outs' mono'.state) simulated.same
+      (subst (λ (ratios : List Ratio). Cycle (edges_at ratios mono.cycle) mono.circuit mono.state row outs' mono'.state) simulated.every cycle))
 
-  -- the row that is written, and whether a stop acts in it
-  abbrev shown : List ℕ
-  shown = take (length ports) outs'
+  -- the row that is printed is that of the run
+  row-so : {answer : Result Bool Ending} → PrintsRow sink ports out' t outs' out'' answer → (rows : List (List ℕ)) → IsRun circuit inputs.columns inputs.rows rows → PrintsRow sink ports out' t (outputs_in circuit rows t) out'' answer
+  row-so {answer = answer} prints rows run = subst (λ (l : List ℕ). PrintsRow sink ports out' t l out'' answer) (follows-so rows run).row prints
 
-  halts-so : (halted : Bool) → halted ≡ acts (drop (length ports) outs') → (rows : List (List ℕ)) → IsRun circuit inputs.columns inputs.rows rows → halted ≡ is_halt circuit ports rows t
-  halts-so halted told rows run = told ∙ ap acts ((follows-so rows run).rest (length ports))
-
-  -- the text with the row
-  row-written : {out'' : K} → sink.written out'' ≡ append_known (sink.written out') (row_line ports t shown)
-      → (rows : List (List ℕ)) (base : Option (List ℕ)) → IsRun circuit inputs.columns inputs.rows rows
-      → sink.written out ≡ append_known base (text_to circuit ports rows 0)
-      → sink.written out'' ≡ append_known base (text_to circuit ports rows (t + 1))
-  row-written puts rows base run begins =
-      puts ∙ ap (λ (w : Option (List ℕ)). append_known w (row_line ports t shown)) (printed.written rows base run begins)
-      ∙ append_known-append base (text_to circuit ports rows t) (row_line ports t shown)
-      ∙ ap (append_known base) (trace_text-more ports (shown_columns circuit ports rows) t shown ((follows-so rows run).row (length ports)))
-
-  -- one more cycle, in which no stop acts
-  pub printed-next : {out'' : K} (halted : Bool) → halted ≡ false → halted ≡ acts (drop (length ports) outs') → mono'.circuit ≡ mono.circuit → mono'.ratios ≡ mono.ratios → mono'.cycle ≡ mono.cycle + 1
-      → sink.written out'' ≡ append_known (sink.written out') (row_line ports t shown) → SinkWentOn sink out' out'' → length outs' ≡ length outs → PrintedTo circuit inputs ports sink out out'' (t + 1) mono' outs'
-  printed-next {out'' = out''} halted off told same every made puts on counted = record {
-    same = same ∙ printed.same;
-    every = every ∙ printed.every;
-    made = made ∙ ap (λ k. k + 1) printed.made;
-    count = counted ∙ printed.count;
+  -- one more cycle, and then on
+  pub simulated-next : (goes_on : Bool) → goes_on ≡ true → PrintsRow sink ports out' t outs' out'' (Ok goes_on) → mono'.circuit ≡ mono.circuit → mono'.ratios ≡ mono.ratios → mono'.cycle ≡ mono.cycle + 1
+      → length outs' ≡ length outs → SimulatedTo circuit inputs ports sink out out'' (t + 1) mono' outs'
+  simulated-next goes_on on prints same every made counted = record {
+    same = same ∙ simulated.same;
+    every = every ∙ simulated.every;
+    made = made ∙ ap (λ k. k + 1) simulated.made;
+    count = counted ∙ simulated.count;
     state = λ rows run. (follows-so rows run).state;
-    quiet = λ rows run.
-        let h = is_halt circuit ports rows in
-        let turned : suc t ≡ t + 1 = omega arith in
-        subst (λ k. has_halted h k ≡ false) turned (ap (λ b. b || h t) (printed.quiet rows run) ∙ sym (halts-so halted told rows run) ∙ off);
-    written = row-written {out'' = out''} puts;
-    on = on-then printed.on on;
+    took = λ rows run. took-next (PrintsRow sink ports) (outputs_in circuit rows) out t out' out'' goes_on on (simulated.took rows run) (row-so prints rows run);
+    on = on-then simulated.on prints.on;
   }
 
-  -- a stop acts in this cycle: the whole text is there
-  pub printed-halt : (out'' : K) (halted : Bool) → halted ≡ true → halted ≡ acts (drop (length ports) outs') → sink.written out'' ≡ append_known (sink.written out') (row_line ports t shown)
-      → {T : Type 0} (done : T) (rows : List (List ℕ)) (base : Option (List ℕ)) → IsRun circuit inputs.columns inputs.rows rows
-      → sink.written out ≡ append_known base (text_to circuit ports rows 0)
-      → Prints base (sink.written out'') (Rose (sink.faults out) (sink.faults out'')) (text_of circuit ports rows inputs.rows) (Ok done)
-  printed-halt out'' halted on told puts done rows base run begins =
-      let h = is_halt circuit ports rows in
-      let turned : t + 1 ≡ suc t = omega arith in
-      let here : has_halted h (suc t) ≡ true = ap (λ b. b || h t) (printed.quiet rows run) ∙ sym (halts-so halted told rows run) ∙ on in
-      let last = rows-stay h (suc t) inputs.rows (omega (arith, lt)) here ∙ rows-next h t (printed.quiet rows run) in
-      row-written {out'' = out''} puts rows base run begins ∙ ap (λ k. append_known base (text_to circuit ports rows k)) (turned ∙ sym last)
+  -- the last row
+  pub simulated-last : (goes_on : Bool) → goes_on ≡ false → PrintsRow sink ports out' t outs' out'' (Ok goes_on) → TookAll circuit inputs ports sink out out'' (Ok false)
+  simulated-last goes_on off prints rows run = (suc t, took-last (PrintsRow sink ports) (outputs_in circuit rows) out t inputs.rows out' out'' goes_on off lt (simulated.took rows run) (row-so prints rows run))
 
-  -- if the row of a cycle stops, a front part of the whole text is there
-  pub printed-stop : (out'' : K) {T : Type 0} (U : Type 0) {r : Result T Ending} {ending : Ending} → r ≡ Err ending → PrintsOn {T = U} sink out' out'' (row_line ports t shown) (Err ending)
-      → (rows : List (List ℕ)) (base : Option (List ℕ)) → IsRun circuit inputs.columns inputs.rows rows
-      → sink.written out ≡ append_known base (text_to circuit ports rows 0)
-      → Prints base (sink.written out'') (Rose (sink.faults out) (sink.faults out'')) (text_of circuit ports rows inputs.rows) r
-  printed-stop out'' {T = T} U {ending = ending} e prints rows base run begins =
-      let h = is_halt circuit ports rows in
-      let whole = text_of circuit ports rows inputs.rows in
-      let reached = rows-reach h t inputs.rows lt (printed.quiet rows run) in
-      let front = trace_text-front ports (shown_columns circuit ports rows) (rows_to circuit ports rows inputs.rows) (t + 1) (omega (arith, reached)) in
-      rw e (stop-within T base _ _ _ _ (text_to circuit ports rows t) (row_line ports t shown) whole ending (printed.written rows base run begins)
-      (rose-earlier _ _ _ printed.on.faults_stay_or_rise)
-      (subst (λ (x : List ℕ). IsFront x whole) (sym (trace_text-more ports (shown_columns circuit ports rows) t shown ((follows-so rows run).row (length ports)))) front)
-      (stop-as T U _ _ _ (row_line ports t shown) ending prints))
+  -- a row that couldn't be printed
+  pub simulated-fails : {r : Result Bool Ending} {ending : Ending} → r ≡ Err ending → PrintsRow sink ports out' t outs' out'' (Err ending) → TookAll circuit inputs ports sink out out'' r
+  simulated-fails {r = r} {ending = ending} ends prints rows run = (t, took-fails (PrintsRow sink ports) (outputs_in circuit rows) out t inputs.rows out' out'' ending lt (simulated.took rows run) (row-so prints rows run) r ends)
 
--- after the last cycle, if no stop has acted, the whole text is there
-pub printed-all : {K : Type 0} {circuit : FlatCircuit} {inputs : Table} {ports : List Port} {sink : Sink.Ghosts K} {out out' : K} {cycle : ℕ} {mono : Simulation} {outs : List ℕ}
-    → PrintedTo circuit inputs ports sink out out' cycle mono outs → cycle ≡ inputs.rows → {T : Type 0} (done : T) (rows : List (List ℕ)) (base : Option (List ℕ)) → IsRun circuit inputs.columns inputs.rows rows
-    → sink.written out ≡ append_known base (text_to circuit ports rows 0)
-    → Prints base (sink.written out') (Rose (sink.faults out) (sink.faults out')) (text_of circuit ports rows inputs.rows) (Ok done)
-printed-all {circuit = circuit} {inputs = inputs} {ports = ports} printed all done rows base run begins =
-    let h = is_halt circuit ports rows in
-    let quiet = subst (λ k. has_halted h k ≡ false) all (printed.quiet rows run) in
-    printed.written rows base run begins ∙ ap (λ k. append_known base (text_to circuit ports rows k)) (all ∙ sym (rows-all h inputs.rows quiet))
+-- all rows
+pub simulated-all : {K : Type 0} {circuit : FlatCircuit} {inputs : Table} {ports : List Port} {sink : Sink.Ghosts K} {out out' : K} {cycle : ℕ} {mono : Simulation} {outs : List ℕ}
+    → SimulatedTo circuit inputs ports sink out out' cycle mono outs → cycle ≡ inputs.rows → TookAll circuit inputs ports sink out out' (Ok true)
+simulated-all {circuit = circuit} {inputs = inputs} {ports = ports} {sink = sink} {out = out} {out' = out'} {cycle = cycle} simulated all rows run =
+    (inputs.rows, took-all (PrintsRow sink ports) (outputs_in circuit rows) out cycle inputs.rows out' (simulated.took rows run) all)
 
 -- the first out-signals of the reference circuit have the values of the top's outputs, and those behind them the stops' conditions
 module _ (design : Ordered) (request : Request) (stops : List ℕ) (ports : List Port) (outs : outputs_of design.tree ++ stops ≡ design.circuit.outs) (are : stops ≡ stop_signals design.tree) (count : length ports ≡ length (outputs_of design.tree))

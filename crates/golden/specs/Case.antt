@@ -11,7 +11,7 @@ use Rattle.gg_moved.specs.KeepsToTree.{KeepsToTree}
 use Rattle.gg_order.specs.Design.{IsDesign}
 use Rattle.gg_io.specs.declared.output.Sink
 use Rattle.gg_pipe.specs.Made.{AreHeldOnce, plan_reference}
-use Rattle.gg_printed.specs.Printed.{AreKept, out_columns}
+use Rattle.gg_run.specs.Printed.{AreKept, out_columns}
 use Rattle.gg_told.specs.Endings.{PrintsOn}
 use Rattle.gg_told.specs.declared.endings.Ending.{Ending}
 use Rattle.gg_told.specs.Order.{CanBe, Order, Write}

@@ -6,7 +6,7 @@ use Rattle.gg_demo.specs.PartitionText.{demo_partition}
 use Rattle.gg_demo.specs.SummaryText.{demo_summary}
 use Rattle.gg_demo.specs.TraceText.{demo_trace}
 use Rattle.gg_pipe.specs.Made.{plan_reference}
-use Rattle.gg_summed.specs.Sums.{output_column}
+use Rattle.gg_run.specs.Sums.{output_column}
 use Rattle.golden.specs.Replay.{IsSetting, Setting, all_steps}
 
 -- The capacity of the channels that the partition doesn't name: that of the other commands by default. A demo's partition

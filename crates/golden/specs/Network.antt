@@ -11,7 +11,7 @@ use Rattle.gg_cut.specs.Listed.{listed_of}
 use Rattle.gg_cut.specs.Machines.{first_tray}
 use Rattle.gg_cut.specs.Plan.{IsPlan}
 use Rattle.gg_cut.specs.declared.plan.Plan.{Plan}
-use Rattle.gg_printed.specs.Printed.{AreKept}
+use Rattle.gg_run.specs.Printed.{AreKept}
 use Rattle.gg_trace.specs.Last.{halts, row_count}
 use Rattle.gg_trace.specs.Printing.{trace_text}
 use Rattle.gg_told.specs.Ends.{Loads, Puts}

@@ -1,6 +1,5 @@
 //! Printing of the run of a circuit.
-ghost use Rattle.std.specs.Prelude.{◌≡◌, ◌+◌, ◌++◌, ◌∷◌, ◌^◌, ◌<◌, ◌≤◌, true, ℕ, List, [], length, take, drop, Option, IfOk, OnOk};
-ghost use Rattle.std.specs.Io.KnownBytes.{append_known};
+ghost use Rattle.std.specs.Prelude.{◌≡◌, ◌+◌, ◌++◌, ◌∷◌, ◌^◌, ◌<◌, ◌≤◌, true, ℕ, List, [], length, IfOk, OnOk};
 ghost use Rattle.gg_limits.specs.Limits.{cycle_limit};
 ghost use Rattle.gg_flat.specs.Clock.{edges_at};
 ghost use Rattle.gg_flat.specs.Order.{IsOrder};
@@ -8,17 +7,16 @@ ghost use Rattle.gg_flat.specs.Run.{IsRun, IsColumns};
 ghost use Rattle.gg_flat.specs.Scoped.{output_signals};
 ghost use Rattle.gg_flat.specs.Settled.{IsInputs};
 ghost use Rattle.gg_flat.specs.State.{opening};
-ghost use Rattle.gg_io.specs.Count.{Rose};
 ghost use Rattle.gg_moved.specs.KeepsToTree.{KeepsToTree};
 ghost use Rattle.gg_refsim.specs.Cycle.{Cycle};
-ghost use Rattle.gg_trace.specs.Last.{acts};
-ghost use Rattle.gg_trace.specs.Printing.{row_line};
 ghost use Rattle.gg_flat.specs.Ports.{output_ports};
 ghost use Rattle.gg_pipe.specs.Made.{plan_reference};
-ghost use Rattle.gg_printed.specs.Printed.{text_of, text_to};
+ghost use Rattle.gg_run.specs.Printed.{PrintsRow, text_of};
+ghost use Rattle.gg_run.specs.Rows.{outputs_in};
+ghost use Rattle.gg_run.specs.Taken.{Took};
 ghost use Rattle.golden.specs.Case.{IsCase, IsFed, PrintsFed};
 ghost use Rattle.golden.specs.RunText.{outputs_of};
-ghost use Rattle.gg_told.specs.Endings.{Prints, PrintsOn};
+ghost use Rattle.gg_told.specs.Endings.{PrintsOn};
 ghost use Rattle.gg_told.specs.WentOn.{SinkWentOn};
 
 use crate::case::{Case, Fed};
@@ -27,16 +25,15 @@ use gg_io::Sink;
 use gg_order::Design;
 use gg_piped::pipe;
 use gg_refsim::Mono;
+use gg_run::{RowPrinter, Rows};
 use gg_told::{Ending, put};
-use gg_trace::{Trace, acts, header_text, row_text};
+use gg_trace::{Trace, header_text};
 use std::alloc::{AllocError, Global};
 
-// Advances by one cycle, and writes its row: a value for each port, of the first out-signals. Returns whether a stop acts in the
-// cycle; the other out-signals are the stops' conditions.
+// Advances by one cycle, and writes its row. Returns whether to go on: no stop acts in the cycle.
 fn print_row<K: Sink>(
-    alloc: Global,
     mono: &mut Mono<'_>,
-    ports: &Ports,
+    printer: &RowPrinter<'_>,
     cycle: u64,
     inputs: &[u128],
     outs: &mut [u128],
@@ -45,31 +42,25 @@ fn print_row<K: Sink>(
     requires few { mono.old.cycle < cycle_limit }
     requires inputs { IsInputs mono.old.circuit inputs.now }
     requires outs { length outs.old ≡ length mono.old.circuit.outs }
-    requires ports { length ports.now ≤ length mono.old.circuit.outs }
+    requires ports { length printer.now ≤ length mono.old.circuit.outs }
     ensures circuit { mono.new.circuit ≡ mono.old.circuit }
     ensures ratios { mono.new.ratios ≡ mono.old.ratios }
     ensures count { mono.new.cycle ≡ mono.old.cycle + 1 }
     ensures cycle { Cycle (edges_at mono.old.ratios mono.old.cycle) mono.old.circuit mono.old.state inputs.now outs.new mono.new.state }
-    ensures prints { PrintsOn K.Sink out.old out.new (row_line ports.now cycle (take (length ports.now) outs.new)) result }
-    ensures halts { IfOk result (λ halted. halted ≡ acts (drop (length ports.now) outs.new)) }
-    ensures out { SinkWentOn K.Sink out.old out.new }
+    ensures prints { PrintsRow K.Sink printer.now out.old cycle outs.new out.new result }
 {
     mono.cycle(inputs, outs);
-    let shown = ports.as_slice().len();
-    let text = row_text(alloc, ports, cycle, &outs[..shown])?;
-    put(out, text.as_bytes())?;
-    Ok(acts(&outs[shown..]))
+    printer.take(out, cycle, outs)
 }
 
-// Writes the rows of a run, after its header, to the first one in which a stop acts.
+// Writes the rows of a run, after its header, to the first one in which a stop acts. Returns whether none does.
 fn print_rows<K: Sink>(
-    alloc: Global,
     mono: &mut Mono<'_>,
-    ports: &Ports,
+    printer: &RowPrinter<'_>,
     inputs: &Trace,
     outs: &mut [u128],
     out: &mut K,
-) -> Result<(), Ending>
+) -> Result<bool, Ending>
     requires opening { mono.old.state ≡ opening mono.old.circuit }
     requires every { mono.old.ratios ≡ [] }
     requires begun { mono.old.cycle ≡ 0 }
@@ -77,20 +68,19 @@ fn print_rows<K: Sink>(
     requires ordered { (order : List ℕ) × IsOrder mono.old.circuit order }
     requires fed { IsColumns mono.old.circuit inputs.now.rows inputs.now.columns }
     requires outs { length outs.old ≡ length mono.old.circuit.outs }
-    requires ports { length ports.now ≤ length mono.old.circuit.outs }
-    ensures prints { (rows : List (List ℕ)) (base : Option (List ℕ)) → IsRun mono.old.circuit inputs.now.columns inputs.now.rows rows
-        → K.written out.old ≡ append_known base (text_to mono.old.circuit ports.now rows 0)
-        → Prints base (K.written out.new) (Rose (K.faults out.old) (K.faults out.new)) (text_of mono.old.circuit ports.now rows inputs.now.rows) result }
+    requires ports { length printer.now ≤ length mono.old.circuit.outs }
+    ensures took { (rows : List (List ℕ)) → IsRun mono.old.circuit inputs.now.columns inputs.now.rows rows
+        → (count : ℕ) × Took (PrintsRow K.Sink printer.now) (outputs_in mono.old.circuit rows) inputs.now.rows count out.old out.new result }
     ensures out { SinkWentOn K.Sink out.old out.new }
 {
     settled_once();
     for cycle in 0..inputs.rows() {
-        let halted = print_row(alloc, mono, ports, cycle, inputs.row(cycle), outs, out)?;
-        if halted {
-            return Ok(());
+        let goes_on = print_row(mono, printer, cycle, inputs.row(cycle), outs, out)?;
+        if !goes_on {
+            return Ok(false);
         }
     }
-    Ok(())
+    Ok(true)
 }
 
 // Writes the header and the rows of a run.
@@ -114,7 +104,9 @@ fn print_all<K: Sink>(
     let mut outs = vec![in alloc; 0u128; mono.piece().outs().len()]?;
     let header = header_text(alloc, ports)?;
     put(out, header.as_bytes())?;
-    print_rows(alloc, mono, ports, inputs, outs.as_mut_slice(), out)
+    let printer = RowPrinter::new(alloc, ports);
+    print_rows(mono, &printer, inputs, outs.as_mut_slice(), out)?;
+    Ok(())
 }
 
 // Adds the signal of a port, if it is an output.

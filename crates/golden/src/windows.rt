@@ -3,7 +3,7 @@ ghost use Rattle.std.specs.Prelude.{◌≡◌, ◌≤◌, ℕ, List, IfOk, lengt
 ghost use Rattle.gg_cut.specs.Listed.{listed_of};
 ghost use Rattle.gg_cut.specs.Machines.{first_tray};
 ghost use Rattle.gg_pipe.specs.Made.{plan_reference};
-ghost use Rattle.gg_printed.specs.Printed.{AreKept, out_columns, rows_to, text_of};
+ghost use Rattle.gg_run.specs.Printed.{AreKept, out_columns, rows_to, text_of};
 ghost use Rattle.gg_told.specs.Endings.{PrintsOn};
 ghost use Rattle.gg_told.specs.WentOn.{SinkWentOn};
 ghost use Rattle.golden.specs.Case.{IsFed, PrintsFedByNetwork};
@@ -14,7 +14,7 @@ use crate::printing::top_ports;
 use gg_flat::Ports;
 use gg_io::{Gate, Sink};
 use gg_net::Streams;
-use gg_printed::print_net;
+use gg_run::print_net;
 use gg_told::Ending;
 use std::alloc::Global;
 use std::marker::Brand;

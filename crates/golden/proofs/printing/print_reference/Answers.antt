@@ -5,7 +5,7 @@ use Rattle.gg_flat.specs.Circuit.{FlatCircuit}
 use Rattle.gg_flat.specs.Run.{IsColumns, IsRun}
 use Rattle.gg_pipe.specs.Links.{taken_as}
 use Rattle.gg_pipe.proofs.PlanLemmas.{plan-columns}
-use Rattle.gg_printed.specs.Printed.{text_of}
+use Rattle.gg_run.specs.Printed.{text_of}
 use Rattle.gg_told.specs.Endings.{PrintsOn}
 use Rattle.gg_told.proofs.EndingLemmas.{exit-is}
 use Rattle.gg_told.proofs.WritingLemmas.{none-front}

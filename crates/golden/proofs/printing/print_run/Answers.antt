@@ -4,7 +4,7 @@ use Rattle.std.proofs.lemmas.List.{nil_from_length}
 use Rattle.gg_flat.specs.Circuit.{FlatCircuit}
 use Rattle.gg_flat.specs.Run.{IsRun}
 use Rattle.gg_pipe.proofs.NothingLemmas.{plan-plain}
-use Rattle.gg_printed.specs.Printed.{text_of}
+use Rattle.gg_run.specs.Printed.{text_of}
 use Rattle.gg_told.specs.Endings.{PrintsOn}
 use Rattle.gg_told.proofs.EndingLemmas.{exit-is}
 use Rattle.gg_told.proofs.WritingLemmas.{none-front}

@@ -1,7 +1,7 @@
 use Rattle.std.proofs.Common.{List, ℕ, ◌≤◌, length, refl, sym, ap, subst}
 use Rattle.gg_flat.specs.Circuit.{FlatCircuit}
 use Rattle.gg_flat.specs.Run.{IsRun}
-use Rattle.gg_printed.specs.Printed.{text_of}
+use Rattle.gg_run.specs.Printed.{text_of}
 use Rattle.gg_refsim.specs.Cycle.{Simulation}
 use Rattle.gg_told.specs.Endings.{PrintsOn}
 use Rattle.gg_told.proofs.WritingLemmas.{none-front}

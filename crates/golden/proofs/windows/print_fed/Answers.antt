@@ -1,6 +1,6 @@
 use Rattle.std.proofs.Common.{refl, subst}
 use Rattle.gg_pipe.specs.Made.{plan_reference}
-use Rattle.gg_printed.specs.Printed.{out_columns}
+use Rattle.gg_run.specs.Printed.{out_columns}
 use Rattle.std.proofs.lemmas.Result.{IfOk-weaker}
 use Rattle.gg_told.proofs.EndingLemmas.{exit-is}
 use Rattle.gg_told.proofs.WritingLemmas.{none-front}

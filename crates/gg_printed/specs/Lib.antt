@@ -1,2 +1,0 @@
--- What the contracts of the crate speak of.
-pub mod Printed

@@ -1,0 +1,36 @@
+-- Rows that were folded one after another.
+use Rattle.std.proofs.Common.{◌≡◌, ℕ, zero, suc, ◌<◌, ◌≤◌, List, [], length, get_or, refl, sym, ap, ◌∙◌, subst, arith}
+use Rattle.std.specs.Prelude.{Bool, true, false, Ok, Err, slice_index}
+use Rattle.std.proofs.lemmas.List.{get_or-map}
+use Rattle.gg_demo.specs.Folded.{IsFolded}
+use Rattle.gg_demo.specs.declared.fold.Fold.{Fold}
+use Rattle.gg_flat.specs.Circuit.{FlatCircuit}
+use Rattle.gg_flat.specs.Line.{value_at}
+use Rattle.gg_flat.specs.Run.{row_at}
+use Rattle.gg_told.specs.declared.endings.Ending.TheVariants.{NoMemory}
+use Rattle.gg_run.specs.Rows.{outputs_in}
+use Rattle.gg_run.specs.Sums.{FoldsRow, FoldsRows, output_column}
+use Rattle.gg_run.specs.Taken.{Took, TookTo}
+use Rattle.gg_run.specs.Taken.Took.{All, Last, Fails, Wants}
+
+-- a value of a row is one of its column
+row-value : (circuit : FlatCircuit) (rows : List (List ℕ)) (t k : ℕ) (outs : List ℕ) → t < length rows → k < length circuit.outs → outs ≡ outputs_in circuit rows t
+    → get_or outs k 0 ≡ slice_index (output_column circuit rows k) t
+row-value circuit rows t k outs lt known is =
+    ap (λ (l : List ℕ). get_or l k 0) is ∙ get_or-map (value_at (row_at rows t)) circuit.outs k 0 0 known
+    ∙ sym (get_or-map (λ (row : List ℕ). value_at row (value_at circuit.outs k)) rows t [] 0 lt)
+
+module _ (circuit : FlatCircuit) (rows : List (List ℕ)) (n : ℕ) (counted : length rows ≡ n) (two : 2 ≤ length circuit.outs) (before : Fold)
+    (empty : (ys zs : List ℕ) → IsFolded ys zs 0 before) where
+  folded-to : (k : ℕ) → k ≤ n → (after : Fold) → TookTo FoldsRow (outputs_in circuit rows) before k after → FoldsRows circuit rows k after
+  folded-to zero le after same = subst (FoldsRows circuit rows 0) (sym same) (empty (output_column circuit rows 0) (output_column circuit rows 1))
+  folded-to (suc k) le after (middle, took, last) =
+      let lt : k < length rows = omega (arith, le, counted) in
+      last.adds (output_column circuit rows 0) (output_column circuit rows 1) k (folded-to k (omega (arith, le)) middle took)
+      (row-value circuit rows k 0 (outputs_in circuit rows k) lt (omega (arith, two)) refl) (row-value circuit rows k 1 (outputs_in circuit rows k) lt (omega (arith, two)) refl)
+
+  pub took-folds : {count : ℕ} {after : Fold} {all : Bool} → Took FoldsRow (outputs_in circuit rows) n count before after (Ok all) → FoldsRows circuit rows n after
+  took-folds {after = after} (All took counts ends) = folded-to n (omega arith) after took
+  took-folds (Last t lt middle took last counts ends) = let e : Ok false ≡ Ok true = last.goes in absurd (cc)
+  took-folds {all = all} (Fails t lt middle took ending fails counts ends) = let e : Ok all ≡ Err ending = ends in absurd (cc)
+  took-folds {all = all} (Wants within took ends) = let e : Ok all ≡ Err NoMemory = ends in absurd (cc)

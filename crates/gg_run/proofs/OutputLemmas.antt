@@ -1,0 +1,196 @@
+-- The trays of a plan's network have the outputs of the reference circuit.
+use Rattle.std.proofs.Common.{◌≡◌, ℕ, ◌+◌, ◌-◌, ◌<◌, ◌≤◌, List, Some, length, sym, ap, ◌∙◌, arith}
+use Rattle.std.specs.Prelude.{Contains}
+use Rattle.std.proofs.lemmas.List.{get_or-map, length-map, ext_get_or}
+use Rattle.gg_flat.specs.Line.{value_at}
+use Rattle.gg_flat.proofs.ListLemmas.{some-item}
+use Rattle.gg_flat.specs.Circuit.{FlatCircuit}
+use Rattle.gg_flat.specs.Run.{row_at}
+use Rattle.gg_flat.specs.Streams.{Flow}
+use Rattle.gg_order.specs.Design.{Ordered}
+use Rattle.gg_cut.specs.Direct.{Hub, routes, plan_hub}
+use Rattle.gg_cut.specs.Machines.{first_tray}
+use Rattle.gg_cut.specs.Listed.{listed_of}
+use Rattle.gg_cut.specs.Plan as planned
+use Rattle.gg_cut.specs.Plan.{IsBody}
+use Rattle.gg_cut.specs.declared.listed.Listed.{Listed}
+use Rattle.gg_cut.specs.declared.plan.Body.{Body}
+use Rattle.gg_cut.specs.declared.plan.Body.TheVariants.{Cut, Memory, Source, Tray}
+use Rattle.gg_cut.specs.declared.plan.Channel.{Channel}
+use Rattle.gg_cut.specs.declared.plan.Plan.{Plan}
+use Rattle.gg_cut.specs.Solves.{columns_of, streams}
+use Rattle.gg_routes.proofs.RoutedLemmas.{plan-routed}
+use Rattle.gg_pipe.specs.Links.{taken_as}
+use Rattle.gg_pipe.specs.Made.{plan_reference}
+use Rattle.gg_pipe.proofs.SolveLemmas.{plan-output-value}
+use Rattle.gg_node.specs.Machine.{KeepsLast, Machine, kept_value, machine_at}
+use Rattle.gg_net.specs.Network.{Network, Frame, Kind, frame_of, kind_of, kind_at, wire_at}
+use Rattle.gg_net.specs.Kept.{Kept, list_at}
+use Rattle.gg_measure.specs.Nets.{AllStandAt}
+use Rattle.gg_sound.specs.Built.{IsBuilt, machine_in, nameless, tray_rows, wires_of_plan}
+use Rattle.gg_sound.proofs.FitLemmas.{kind-is}
+use Rattle.gg_sound.proofs.LinkLemmas.{length-from, wire-from}
+use Rattle.gg_sound.proofs.ListedLemmas.{taken-at}
+use Rattle.gg_build.specs.Build.{IsToRun, IsOpeningOf}
+use Rattle.gg_run.specs.Rows.{IsNetOfPlan, StillHas, outputs_in, told_value}
+use Rattle.gg_run.proofs.TrayLemmas.{tray-keeps, tray-only, tray-tells}
+
+pub opening-is-net : (plan : Plan) (columns : List (List ℕ)) (n : ℕ) (net : Network) → IsOpeningOf plan columns n net → IsNetOfPlan plan columns n net
+opening-is-net plan columns n net is = record { machines = is.machines; built = is.built; frame = ap frame_of is.is }
+
+pub net-stays : (plan : Plan) (columns : List (List ℕ)) (n : ℕ) (old new : Network) → IsNetOfPlan plan columns n old → frame_of new ≡ frame_of old → IsNetOfPlan plan columns n new
+net-stays plan columns n old new is same = record { machines = is.machines; built = is.built; frame = same ∙ is.frame }
+
+-- a machine of a plan from the first tray on is a tray
+tray-behaves : (design : Ordered) (listed : Listed) (hub : Hub) (columns : List (List ℕ)) (outs m : ℕ) (body : Body) (machine : Machine) → first_tray design.circuit listed ≤ m → IsBody design listed hub m body → IsBuilt columns outs body machine
+    → machine.behaviour ≡ KeepsLast tray_rows
+tray-behaves design listed hub columns outs m (Cut part) machine low is built = absurd (omega (arith, low, is.0))
+tray-behaves design listed hub columns outs m (Memory part) machine low is built = absurd (omega (arith, low, is.1))
+tray-behaves design listed hub columns outs m (Source place) machine low is built = absurd (omega (arith, low, is.0, is.1))
+tray-behaves design listed hub columns outs m Tray machine low is built = ap (λ (x : Machine). x.behaviour) built
+
+-- ---- the tray of an output
+
+module _ (plan : Plan) (columns : List (List ℕ)) (n : ℕ) (flow : Flow) (run : IsToRun plan columns n flow) (net : Network) (is : IsNetOfPlan plan columns n net) (kept : Kept flow net) where
+  abbrev listed : Listed
+  listed = listed_of run.design.tree run.request
+
+  abbrev hub : Hub
+  hub = plan_hub run.design.circuit run.design.tree run.request
+
+  abbrev outs : List ℕ
+  outs = run.design.circuit.outs
+
+  abbrev tray : ℕ → ℕ
+  tray k = first_tray run.design.circuit listed + k
+
+  count : length net.machines ≡ first_tray run.design.circuit listed + length outs
+  count =
+      omega (
+        arith,
+        length-map net.machines kind_of,
+        length-map is.machines kind_of,
+        ap (λ (f : Frame). length f.kinds) is.frame,
+        is.built.count,
+        run.given.planned.machine_total,
+      )
+
+  -- there is a tray for each out-signal
+  pub outs-few : length outs ≤ length net.machines
+  outs-few = omega (arith, count)
+
+  planned-tray : (k : ℕ) → k < length outs → tray k < length plan.machines
+  planned-tray k lt = omega (arith, lt, run.given.planned.machine_total)
+
+  behaves : (k : ℕ) → k < length outs → (machine_at net.machines (tray k)).behaviour ≡ KeepsLast tray_rows
+  behaves k lt =
+      let m = tray k in
+      let there : m < length plan.machines = planned-tray k lt in
+      let kinds : kind_of (machine_at net.machines m) ≡ kind_of (machine_at is.machines m) =
+      sym (kind-is net.machines m (omega (arith, lt, count))) ∙ ap (λ (f : Frame). kind_at f.kinds m) is.frame ∙ kind-is is.machines m (omega (arith, there, is.built.count)) in
+      ap (λ (kind : Kind). kind.behaviour) kinds
+      ∙ tray-behaves run.design listed hub columns (length (machine_in plan m).outs) m (machine_in plan m).body (machine_at is.machines m) (omega arith)
+      (run.given.planned.machine m nameless there).body (is.built.each m there)
+
+  -- the plan's channel of a tray
+  record IsTrayWire (k c : ℕ) : Type 0 where
+    known : c < length (routes hub)
+    consumer : (planned.wire_at (routes hub) c).consumer ≡ tray k
+    signal : (planned.wire_at (routes hub) c).signal ≡ value_at outs k
+
+  tray-wire : (k : ℕ) → k < length outs → (c : ℕ) × IsTrayWire k c
+  tray-wire k lt = by ((plan-routed run.design run.request run.given.design_is run.given.keeps run.given.faultless).trays k lt).one
+    where
+      by : Contains (planned.signals_of (routes hub) (planned.channels_to (routes hub) (tray k))) (value_at outs k) → (c : ℕ) × IsTrayWire k c
+      by has =
+          let takes = planned.channels_to (routes hub) (tray k) in
+          let low : has.0 < length takes = omega (arith, has.1, length-map takes (λ d. (planned.wire_at (routes hub) d).signal)) in
+          let at = taken-at (routes hub) (tray k) has.0 low in (
+            value_at takes has.0,
+            record { known = at.known; consumer = at.consumer; signal = sym (get_or-map (λ d. (planned.wire_at (routes hub) d).signal) takes has.0 0 (value_at outs k) low) ∙ has.2 },
+          )
+
+  -- the channel of a tray
+  record IsTrayChannel (k c : ℕ) : Type 0 where
+    known : c < length net.wires
+    taken : (wire_at net.wires c).consumer ≡ tray k
+    list : list_at flow.lists c ≡ list_at (streams plan.channels (columns_of plan run.rows)) c
+    routed : c < length (routes hub)
+    signal : (planned.wire_at (routes hub) c).signal ≡ value_at outs k
+
+  tray-carries : (k c : ℕ) → IsTrayWire k c → IsTrayChannel k c
+  tray-carries k c wire =
+      let among : c < length plan.channels = omega (arith, wire.known, run.given.planned.channel_total) in
+      let any : Channel = some-item plan.channels c among in
+      let channel = run.given.planned.channel c any among in
+      let same : net.wires ≡ wires_of_plan plan = ap (λ (f : Frame). f.wires) is.frame in
+      record {
+        known = omega (arith, among, ap length same, length-from plan 0 plan.channels);
+        taken = ap (λ l. (wire_at l c).consumer) same ∙ ap (λ v. v.consumer) (wire-from plan 0 plan.channels c any among) ∙ channel.consumer ∙ wire.consumer;
+        list = ap (λ (f : Flow). list_at f.lists c) run.flow_is;
+        routed = wire.known;
+        signal = wire.signal;
+      }
+
+  tray-channel : (k : ℕ) → k < length outs → (c : ℕ) × IsTrayChannel k c
+  tray-channel k lt = let found = tray-wire k lt in (found.0, tray-carries k found.0 found.1)
+
+  abbrev all : FlatCircuit
+  all = plan_reference run.design run.request
+
+  -- the values of its channel are those of the reference circuit's out-signal
+  carried : (k c t : ℕ) → k < length outs → IsTrayChannel k c → t < n → value_at (list_at flow.lists c) t ≡ value_at (row_at run.rows t) (value_at all.outs k)
+  carried k c t lt channel within =
+      ap (λ l. value_at l t) channel.list
+      ∙ plan-output-value run.design run.request run.default plan run.given.design_is run.given.keeps run.given.held run.given.faultless run.given.planned columns n run.rows run.given.given run.given.run k c t lt channel.routed channel.signal within
+
+  -- no machine is past the end
+  within-end : (m t : ℕ) → m < length net.machines → t < (machine_at net.machines m).cycle → t < n
+  within-end m t there done = omega (arith, done, (kept.machines m there).within, ap (λ (f : Frame). f.end) is.frame)
+
+  -- the tray of an output still has the values of a window at the end of which all machines stand
+  still-has : (k upto t : ℕ) (lt : k < length outs) → AllStandAt upto net → t < upto → upto ≤ t + tray_rows → StillHas net (tray k) (tray-channel k lt).0 flow.begin t
+  still-has k upto t lt stand done near =
+      let there : tray k < length net.machines = omega (arith, lt, count) in
+      let channel = (tray-channel k lt).1 in
+      let at = stand (tray k) there in
+      let begin : flow.begin ≡ 0 = ap (λ (f : Flow). f.begin) run.flow_is in
+      record { there = there; known = channel.known; taken = channel.taken; rows = tray_rows; tray = behaves k lt; begun = omega (arith, begin); done = omega (arith, done, at); last = omega (arith, near, at) }
+
+  -- the reference circuit has as many out-signals
+  outs-count : length all.outs ≡ length outs
+  outs-count = length-map outs (taken_as hub)
+
+  -- the value of an output in a row
+  output-is : (k t : ℕ) → k < length outs → value_at (outputs_in all run.rows t) k ≡ value_at (row_at run.rows t) (value_at all.outs k)
+  output-is k t lt = get_or-map (value_at (row_at run.rows t)) all.outs k 0 0 (omega (arith, lt, outs-count))
+
+  -- what the tray of an output keeps and tells of a cycle of such a window
+  pub keeps : (k upto t : ℕ) → k < length outs → AllStandAt upto net → t < upto → upto ≤ t + tray_rows → kept_value (machine_at net.machines (tray k)) t ≡ Some (value_at (outputs_in all run.rows t) k)
+  keeps k upto t lt stand done near =
+      let has = still-has k upto t lt stand done near in
+      let found = tray-channel k lt in
+      tray-keeps flow net (tray k) found.0 t kept has ∙ ap Some (carried k found.0 t lt found.1 (within-end (tray k) t has.there has.done) ∙ sym (output-is k t lt))
+
+  tells : (k upto t : ℕ) → k < length outs → AllStandAt upto net → t < upto → upto ≤ t + tray_rows → told_value (machine_at net.machines (tray k)) t ≡ value_at (outputs_in all run.rows t) k
+  tells k upto t lt stand done near =
+      let has = still-has k upto t lt stand done near in
+      let found = tray-channel k lt in
+      tray-tells flow net (tray k) found.0 t kept has ∙ carried k found.0 t lt found.1 (within-end (tray k) t has.there has.done) ∙ sym (output-is k t lt)
+
+  -- the tray of an output never keeps another value of a cycle
+  pub keeps-only : (k t value : ℕ) → k < length outs → kept_value (machine_at net.machines (tray k)) t ≡ Some value → value ≡ value_at (outputs_in all run.rows t) k
+  keeps-only k t value lt has =
+      let there : tray k < length net.machines = omega (arith, lt, count) in
+      let found = tray-channel k lt in
+      let told = tray-only flow net (tray k) found.0 tray_rows t value kept there found.1.known found.1.taken (behaves k lt) has in
+      told.1 ∙ carried k found.0 t lt found.1 (within-end (tray k) t there told.0) ∙ sym (output-is k t lt)
+
+  pub outputs-are : (upto t : ℕ) (values : List ℕ) → length values ≡ length outs → AllStandAt upto net → t < upto → upto ≤ t + tray_rows
+      → ((k : ℕ) → k < length values → value_at values k ≡ told_value (machine_at net.machines (length net.machines - length values + k)) t) → values ≡ outputs_in (plan_reference run.design run.request) run.rows t
+  outputs-are upto t values same all_done done near told =
+      ext_get_or 0 values (outputs_in all run.rows t) (same ∙ sym (length-map all.outs (value_at (row_at run.rows t)) ∙ outs-count))
+      (λ k lt.
+      let low : k < length outs = omega (arith, lt, same) in
+      let place : length net.machines - length values + k ≡ tray k = omega (arith, count, same) in
+      told k lt ∙ ap (λ m. told_value (machine_at net.machines m) t) place ∙ tells k upto t low all_done done near)

@@ -1,0 +1,182 @@
+-- Rows that were printed one after another are the text of the run.
+use Rattle.std.proofs.Common.{◌≡◌, ℕ, zero, suc, ◌<◌, ◌≤◌, List, [], ◌∷◌, ◌++◌, length, map, take, refl, sym, ap, ◌∙◌, subst, inl, inr, arith, append_assoc, append-nil}
+use Rattle.std.specs.Prelude.{Bool, true, false, not, ◌||◌, Option, Result, Ok, Err, drop, slice_index}
+use Rattle.std.specs.Io.KnownBytes.{append_known}
+use Rattle.std.proofs.lemmas.List.{drop-map, get_or-map, take-map}
+use Rattle.std.proofs.Math.Nat.{eq-or-lt_of_le}
+use Rattle.gg_flat.specs.Circuit.{FlatCircuit}
+use Rattle.gg_flat.specs.Line.{value_at}
+use Rattle.gg_flat.specs.Run.{row_at, column}
+use Rattle.gg_flat.specs.declared.ports.Port.{Port}
+use Rattle.gg_trace.specs.Last.{acts, has_halted}
+use Rattle.gg_trace.proofs.LastLaws.{rows-all, rows-next, rows-open, rows-reach, rows-stay}
+use Rattle.gg_trace.specs.Printing.{header_line, row_line, trace_text}
+use Rattle.gg_trace.specs.Table.{row_of}
+use Rattle.gg_io.specs.Count.{Rose}
+use Rattle.gg_io.specs.declared.output.Sink
+use Rattle.gg_told.specs.Ends.{IsFront}
+use Rattle.gg_told.specs.Endings.{Prints, PrintsOn}
+use Rattle.gg_told.specs.WentOn.{SinkWentOn}
+use Rattle.gg_told.specs.declared.endings.Ending.{Ending}
+use Rattle.gg_told.specs.declared.endings.Ending.TheVariants.{NoMemory, Refused, Unwritten}
+use Rattle.gg_told.proofs.WritingLemmas.{append_known-append, append_known-nil, on-then, prints-more, rose-earlier, stop-within}
+use Rattle.gg_run.specs.Rows.{outputs_in}
+use Rattle.gg_run.specs.Printed.{PrintsRow, is_halt, rows_to, shown_columns, text_of, text_to}
+use Rattle.gg_run.specs.Taken.{Took, TookTo}
+use Rattle.gg_run.specs.Taken.Took.{All, Last, Fails, Wants}
+
+-- the outputs of a row of a run are a row of their columns
+pub outputs-row : (circuit : FlatCircuit) (rows : List (List ℕ)) (t : ℕ) → t < length rows → (signals : List ℕ)
+    → map (λ s. value_at (row_at rows t) s) signals ≡ row_of (map (column rows) signals) t
+outputs-row circuit rows t lt [] = refl
+outputs-row circuit rows t lt (s ∷ signals) =
+    let head : value_at (row_at rows t) s ≡ slice_index (column rows s) t = sym (get_or-map (λ (row : List ℕ). value_at row s) rows t [] 0 lt) in
+    let rest = outputs-row circuit rows t lt signals in cc
+
+-- the first values of the outputs are a row of the columns that are shown
+pub shown-row : (circuit : FlatCircuit) (ports : List Port) (rows : List (List ℕ)) (t : ℕ) (outs : List ℕ) → t < length rows → outs ≡ outputs_in circuit rows t
+    → take (length ports) outs ≡ row_of (shown_columns circuit ports rows) t
+shown-row circuit ports rows t outs lt is =
+    ap (take (length ports)) is ∙ take-map (value_at (row_at rows t)) (length ports) circuit.outs ∙ outputs-row circuit rows t lt (take (length ports) circuit.outs)
+
+-- the other values of the outputs are the conditions of the stops
+pub halts-row : (circuit : FlatCircuit) (ports : List Port) (rows : List (List ℕ)) (t : ℕ) (outs : List ℕ) (halted : Bool) → t < length rows → outs ≡ outputs_in circuit rows t
+    → halted ≡ acts (drop (length ports) outs) → halted ≡ is_halt circuit ports rows t
+halts-row circuit ports rows t outs halted lt is told =
+    told ∙ ap (λ (l : List ℕ). acts (drop (length ports) l)) is
+    ∙ ap acts (drop-map (value_at (row_at rows t)) (length ports) circuit.outs ∙ outputs-row circuit rows t lt (drop (length ports) circuit.outs))
+
+-- the text of the first rows is a front part of the text of all rows
+pub trace_text-front : (ports : List Port) (columns : List (List ℕ)) (n t : ℕ) → t ≤ n → IsFront (trace_text ports columns t) (trace_text ports columns n)
+trace_text-front ports columns zero t le = let e : t ≡ zero = omega arith in ([], append-nil (trace_text ports columns t) ∙ ap (trace_text ports columns) e)
+trace_text-front ports columns (suc n) t le =
+    elim (eq-or-lt_of_le {n = t} {m = suc n} le) [
+      | inl is ↦ ([], append-nil (trace_text ports columns t) ∙ ap (trace_text ports columns) is)
+      | inr lt ↦
+          let front = trace_text-front ports columns n t (omega arith) in (
+            front.0 ++ row_line ports n (row_of columns n),
+            sym (append_assoc (trace_text ports columns t) front.0 (row_line ports n (row_of columns n)))
+                ∙ ap (λ (x : List ℕ). x ++ row_line ports n (row_of columns n)) front.1,
+          )
+    ]
+
+-- one row after a text of rows
+trace_text-more : (ports : List Port) (columns : List (List ℕ)) (t : ℕ) (values : List ℕ) → values ≡ row_of columns t
+    → trace_text ports columns t ++ row_line ports t values ≡ trace_text ports columns (suc t)
+trace_text-more ports columns t values e = ap (λ (v : List ℕ). trace_text ports columns t ++ row_line ports t v) e
+
+not-not : (b : Bool) → not (not b) ≡ b
+not-not true = refl
+not-not false = refl
+
+-- if the header stops, a front part of the whole text is there
+pub header-stop : (T : Type 0) (before now : Option (List ℕ)) (failed : Type 0) (ports : List Port) (columns : List (List ℕ)) (n : ℕ) (piece : List ℕ) (ending : Ending)
+    → piece ≡ header_line ports → Prints {T = T} before now failed piece (Err ending) → Prints {T = T} before now failed (trace_text ports columns n) (Err ending)
+header-stop T before now failed ports columns n piece ending e prints =
+    stop-within T before before now failed failed [] (header_line ports) (trace_text ports columns n) ending (sym (append_known-nil before)) (λ x. x)
+    (trace_text-front ports columns n 0 (omega arith)) (subst (λ (p : List ℕ). Prints {T = T} before now failed p (Err ending)) e prints)
+
+-- what stops is the same, whatever would have been returned
+pub stop-as : (T U : Type 0) (before now : Option (List ℕ)) (failed : Type 0) (text : List ℕ) (ending : Ending) → Prints {T = U} before now failed text (Err ending) → Prints {T = T} before now failed text (Err ending)
+stop-as T U before now failed text (Refused said) prints = prints
+stop-as T U before now failed text Unwritten prints = prints
+stop-as T U before now failed text NoMemory prints = prints
+
+-- ---- one row after another
+
+module _ {K : Type 0} (sink : Sink.Ghosts K) (circuit : FlatCircuit) (ports : List Port) (rows : List (List ℕ)) (n : ℕ) (counted : length rows ≡ n) (before : K) where
+  abbrev row : ℕ → List ℕ
+  row t = outputs_in circuit rows t
+
+  abbrev h : ℕ → Bool
+  h = is_halt circuit ports rows
+
+  abbrev text : ℕ → List ℕ
+  text k = text_to circuit ports rows k
+
+  -- The first k rows are on the output, and no stop acts in them.
+  record PrintedSo (after : K) (k : ℕ) : Type 0 where
+    quiet : has_halted h k ≡ false
+    written : (base : Option (List ℕ)) → sink.written before ≡ append_known base (text 0) → sink.written after ≡ append_known base (text k)
+    on : SinkWentOn sink before after
+
+  -- the values of the ports, and whether a stop acts
+  shown : (t : ℕ) → t < n → take (length ports) (row t) ≡ row_of (shown_columns circuit ports rows) t
+  shown t lt = shown-row circuit ports rows t (row t) (omega (arith, lt, counted)) refl
+
+  halts-so : (t : ℕ) → t < n → (goes_on : Bool) → goes_on ≡ not (acts (drop (length ports) (row t))) → h t ≡ not goes_on
+  halts-so t lt goes_on is =
+      sym (halts-row circuit ports rows t (row t) (acts (drop (length ports) (row t))) (omega (arith, lt, counted)) refl refl) ∙ sym (not-not (acts (drop (length ports) (row t)))) ∙ ap not (sym is)
+
+  -- one more line
+  line-more : (t : ℕ) → t < n → (middle after : K) → PrintedSo middle t → sink.written after ≡ append_known (sink.written middle) (row_line ports t (take (length ports) (row t)))
+      → (base : Option (List ℕ)) → sink.written before ≡ append_known base (text 0) → sink.written after ≡ append_known base (text (suc t))
+  line-more t lt middle after so puts base begins =
+      puts
+      ∙ ap (λ (w : Option (List ℕ)). append_known w (row_line ports t (take (length ports) (row t)))) (so.written base begins)
+      ∙ append_known-append base (text t) (row_line ports t (take (length ports) (row t)))
+      ∙ ap (append_known base) (trace_text-more ports (shown_columns circuit ports rows) t (take (length ports) (row t)) (shown t lt))
+
+  took-so : (k : ℕ) → k ≤ n → (after : K) → TookTo (PrintsRow sink ports) row before k after → PrintedSo after k
+  took-so zero le after same =
+      record {
+        quiet = refl;
+        written = λ base begins. ap sink.written same ∙ begins;
+        on = subst (SinkWentOn sink before) (sym same) (record { faults_stay_or_rise = omega arith; refused_stay_or_rise = omega arith });
+      }
+  took-so (suc k) le after (middle, took, last) =
+      let so = took-so k (omega (arith, le)) middle took in
+      let lt : k < n = omega (arith, le) in
+      record {
+        quiet = ap (λ b. b || h k) so.quiet ∙ halts-so k lt true last.goes;
+        written = line-more k lt middle after so last.prints;
+        on = on-then so.on last.on;
+      }
+
+  -- how the printing has ended
+  pub took-prints : {count : ℕ} {after : K} {result : Result Bool Ending} → Took (PrintsRow sink ports) row n count before after result
+      → (base : Option (List ℕ)) → sink.written before ≡ append_known base (text 0) → Prints base (sink.written after) (Rose (sink.faults before) (sink.faults after)) (text_of circuit ports rows n) result
+  took-prints {after = after} (All took counts ends) base begins =
+      let so = took-so n (omega arith) after took in
+      rw ends (so.written base begins ∙ ap (λ k. append_known base (text k)) (sym (rows-all h n so.quiet)))
+  took-prints {after = after} (Last t lt middle took last counts ends) base begins =
+      let so = took-so t (omega (arith, lt)) middle took in
+      let acts_ : has_halted h (suc t) ≡ true = ap (λ b. b || h t) so.quiet ∙ halts-so t lt false last.goes in
+      let last_ = rows-stay h (suc t) n (omega (arith, lt)) acts_ ∙ rows-next h t so.quiet in
+      rw ends (line-more t lt middle after so last.prints base begins ∙ ap (λ k. append_known base (text k)) (sym last_))
+  took-prints {after = after} (Fails t lt middle took ending fails counts ends) base begins =
+      let so = took-so t (omega (arith, lt)) middle took in
+      let line = row_line ports t (take (length ports) (row t)) in
+      let whole = text_of circuit ports rows n in
+      let reached = rows-reach h t n lt so.quiet in
+      let front = trace_text-front ports (shown_columns circuit ports rows) (rows_to circuit ports rows n) (suc t) (omega (arith, reached)) in
+      rw ends
+      (stop-within Bool base _ _ _ _ (text t) line whole ending (so.written base begins) (rose-earlier _ _ _ so.on.faults_stay_or_rise)
+      (subst (λ (x : List ℕ). IsFront x whole) (sym (trace_text-more ports (shown_columns circuit ports rows) t (take (length ports) (row t)) (shown t lt))) front)
+      fails.prints)
+  took-prints {count = count} {after = after} (Wants within took ends) base begins =
+      let so = took-so count within after took in
+      rw ends
+      (text count, trace_text-front ports (shown_columns circuit ports rows) (rows_to circuit ports rows n) count (rows-open h count n within so.quiet), so.written base begins)
+
+  -- the header, and then the rows
+  pub took-text : (start : K) → sink.written before ≡ append_known (sink.written start) (header_line ports) → SinkWentOn sink start before
+      → {count : ℕ} {after : K} {result : Result Bool Ending} → Took (PrintsRow sink ports) row n count before after result → PrintsOn sink start after (text_of circuit ports rows n) result
+  took-text start header on {result = result} took =
+      prints-more Bool _ _ _ _ _ result (rose-earlier _ _ _ on.faults_stay_or_rise) (took-prints took (sink.written start) header)
+
+  pub took-on : {count : ℕ} {after : K} {result : Result Bool Ending} → Took (PrintsRow sink ports) row n count before after result → SinkWentOn sink before after
+  took-on {after = after} (All took counts ends) = (took-so n (omega arith) after took).on
+  took-on (Last t lt middle took last counts ends) = on-then (took-so t (omega (arith, lt)) middle took).on last.on
+  took-on (Fails t lt middle took ending fails counts ends) = on-then (took-so t (omega (arith, lt)) middle took).on fails.on
+  took-on {count = count} {after = after} (Wants within took ends) = (took-so count within after took).on
+
+  -- as many rows were printed as the run has
+  pub took-count : {count : ℕ} {after : K} {all : Bool} → Took (PrintsRow sink ports) row n count before after (Ok all) → count ≡ rows_to circuit ports rows n
+  took-count {after = after} (All took counts ends) = counts ∙ sym (rows-all h n (took-so n (omega arith) after took).quiet)
+  took-count (Last t lt middle took last counts ends) =
+      let so = took-so t (omega (arith, lt)) middle took in
+      let acts_ : has_halted h (suc t) ≡ true = ap (λ b. b || h t) so.quiet ∙ halts-so t lt false last.goes in
+      counts ∙ sym (rows-stay h (suc t) n (omega (arith, lt)) acts_ ∙ rows-next h t so.quiet)
+  took-count {all = all} (Fails t lt middle took ending fails counts ends) = let e : Ok all ≡ Err ending = ends in absurd (cc)
+  took-count {all = all} (Wants within took ends) = let e : Ok all ≡ Err NoMemory = ends in absurd (cc)

@@ -1,0 +1,104 @@
+-- Host steps bring the rows of the reference circuit's run to the trays of a plan's network.
+use Rattle.std.proofs.Common.{◌≡◌, ℕ, ◌+◌, ◌<◌, ◌≤◌, List, Some, length, map, take, sym, ap, ◌∙◌, subst, arith}
+use Rattle.std.specs.Prelude.{Option}
+use Rattle.std.proofs.lemmas.List.{ext_get_or, get_or-take, length-map, length-take-le}
+use Rattle.gg_flat.specs.Line.{value_at}
+use Rattle.gg_flat.specs.Run.{row_at}
+use Rattle.gg_flat.specs.Streams.{Flow}
+use Rattle.gg_cut.specs.Direct.{plan_hub}
+use Rattle.gg_cut.specs.Listed.{listed_of}
+use Rattle.gg_cut.specs.Machines.{first_tray}
+use Rattle.gg_cut.specs.declared.plan.Plan.{Plan}
+use Rattle.gg_pipe.specs.Links.{taken_as}
+use Rattle.gg_pipe.specs.Made.{plan_reference}
+use Rattle.gg_net.specs.declared.event.Event.{Event}
+use Rattle.gg_net.specs.declared.shape.Wire.{Wire}
+use Rattle.gg_net.specs.Kept.{Kept}
+use Rattle.gg_net.specs.Net.{IsOpening, opening_net}
+use Rattle.gg_net.specs.Network.{Network, frame_of}
+use Rattle.gg_node.specs.Machine.{Machine, kept_value, machine_at}
+use Rattle.gg_marking.specs.Fits.{HasLayout, marking_of}
+use Rattle.gg_marking.specs.LayoutOf.{layout_of}
+use Rattle.gg_marking.specs.Marking.{Layout, Marking}
+use Rattle.gg_marking.specs.Steps.{Steps}
+use Rattle.gg_marking.proofs.LayoutLemmas.{has-layout}
+use Rattle.gg_marking.proofs.OpeningLemmas.{opens-so}
+use Rattle.gg_marking.proofs.StepsLemmas.{steps-frame, steps-kept}
+use Rattle.gg_progress.specs.Counts.{AreAtMost, counts_of}
+use Rattle.gg_progress.proofs.EndLemmas.{opening-lowest}
+use Rattle.gg_measure.specs.Nets.{AllStandAt}
+use Rattle.gg_measure.proofs.NetLemmas.{allowed-of, begun-of, can-run}
+use Rattle.gg_measure.proofs.WayLemmas.{steps-up}
+use Rattle.gg_sound.specs.Built.{tray_rows, wires_of_plan}
+use Rattle.gg_sound.proofs.OpeningLemmas.{built-opening}
+use Rattle.gg_build.specs.Build.{IsOpeningOf, IsToRun}
+use Rattle.gg_run.specs.Rows.{IsNetOfPlan, TraysKeep, outputs_in}
+use Rattle.gg_run.proofs.OpeningLemmas.{opening-kept}
+use Rattle.gg_run.proofs.OutputLemmas.{keeps, keeps-only, net-stays, opening-is-net}
+
+-- from a network before its first cycle steps lead to each other of the same flow and frame
+module _ (flow : Flow) (machines : List Machine) (wires : List Wire) (end : ℕ) (opening : (m : ℕ) → m < length machines → IsOpening flow m (machine_at machines m)) where
+  abbrev start : Network
+  start = opening_net machines wires end
+
+  pub reached : (net : Network) → Kept flow start → Kept flow net → frame_of net ≡ frame_of start → (events : List Event) × Steps start (map (λ e. Some e) events) net
+  reached net start_kept kept same =
+      let layout : Layout = layout_of (frame_of start) in
+      let has = has-layout (frame_of start) start_kept.sound.wired in
+      let other = subst (λ frame. HasLayout frame layout) (sym same) has in
+      let begins : flow.begin ≤ layout.end = omega (arith, start_kept.sound.solves.begins, has.end) in
+      let least : AreAtMost layout (counts_of layout (marking_of start)) (counts_of layout (marking_of net)) =
+      subst (λ (m : Marking). AreAtMost layout (counts_of layout m) (counts_of layout (marking_of net))) (sym (opens-so flow machines wires end opening layout has))
+      (opening-lowest layout (can-run flow start start_kept layout has) flow.begin begins (counts_of layout (marking_of net)) (allowed-of flow net kept layout other) (begun-of flow net kept layout other)) in
+      steps-up flow start net layout start_kept kept same has least
+
+-- ---- in the network of a plan
+
+module _ (plan : Plan) (columns : List (List ℕ)) (n : ℕ) (flow : Flow) (run : IsToRun plan columns n flow) (opening : Network) (opens : IsOpeningOf plan columns n opening) where
+  abbrev row : ℕ → List ℕ
+  row t = outputs_in (plan_reference run.design run.request) run.rows t
+
+  row-count : (t : ℕ) → length (row t) ≡ length run.design.circuit.outs
+  row-count t =
+      let all = plan_reference run.design run.request in
+      length-map all.outs (value_at (row_at run.rows t)) ∙ length-map run.design.circuit.outs (taken_as (plan_hub run.design.circuit run.design.tree run.request))
+
+  kept : Kept flow opening
+  kept = opening-kept plan columns n flow run opening opens
+
+  leads-to : (net : Network) → Kept flow net → frame_of net ≡ frame_of opening → (events : List Event) × Steps opening (map (λ e. Some e) events) net
+  leads-to net later same =
+      let begins : (m : ℕ) → m < length opens.machines → IsOpening flow m (machine_at opens.machines m) =
+      (λ m lt. subst (λ (f : Flow). IsOpening f m (machine_at opens.machines m)) (sym run.flow_is) (built-opening run.design run.request run.default plan columns n run.rows opens.machines run.given opens.built m lt)) in
+      subst (λ (o : Network). (events : List Event) × Steps o (map (λ e. Some e) events) net) (sym opens.is)
+      (reached flow opens.machines (wires_of_plan plan) n begins net (subst (Kept flow) opens.is kept) later (same ∙ ap frame_of opens.is))
+
+  -- whatever steps are done, the tray of an output keeps no other value of a cycle
+  no-other : (events : List (Option Event)) (net : Network) (k t value : ℕ) → Steps opening events net → k < length run.design.circuit.outs
+      → kept_value (machine_at net.machines (first_tray run.design.circuit (listed_of run.design.tree run.request) + k)) t ≡ Some value → value ≡ value_at (row t) k
+  no-other events net k t value steps lt has =
+      let is = net-stays plan columns n opening net (opening-is-net plan columns n opening opens) (steps-frame opening events net steps) in
+      keeps-only plan columns n flow run net is (steps-kept flow opening events net kept steps) k t value lt has
+
+  -- what a network that stands at the end of a window keeps of its cycles
+  pub trays-keep : (net : Network) → Kept flow net → frame_of net ≡ frame_of opening → (upto t : ℕ) → AllStandAt upto net → t < upto → upto ≤ t + tray_rows
+      → TraysKeep opening (first_tray run.design.circuit (listed_of run.design.tree run.request)) t (outputs_in (plan_reference run.design run.request) run.rows t)
+  trays-keep net later same upto t stand done near =
+      let is : IsNetOfPlan plan columns n net = net-stays plan columns n opening net (opening-is-net plan columns n opening opens) same in
+      let way = leads-to net later same in
+      record {
+        events = map (λ e. Some e) way.0;
+        net = net;
+        leads = way.1;
+        done = λ m lt. omega (arith, done, stand m lt);
+        keep = λ k lt. keeps plan columns n flow run net is later k upto t (omega (arith, lt, row-count t)) stand done near;
+        only = λ others other k value steps lt has. no-other others other k t value steps (omega (arith, lt, row-count t)) has;
+      }
+
+  -- nothing else comes to them
+  pub trays-only : (t : ℕ) (values : List ℕ) → length values ≤ length run.design.circuit.outs → TraysKeep opening (first_tray run.design.circuit (listed_of run.design.tree run.request)) t values
+      → values ≡ take (length values) (outputs_in (plan_reference run.design run.request) run.rows t)
+  trays-only t values few keep =
+      let count : length (take (length values) (row t)) ≡ length values = length-take-le (length values) (row t) (omega (arith, few, row-count t)) in
+      ext_get_or 0 values (take (length values) (row t)) (sym count) (λ k lt.
+      no-other keep.events keep.net k t (value_at values k) keep.leads (omega (arith, lt, few)) (keep.keep k lt) ∙ sym (get_or-take (length values) (row t) k 0 lt))

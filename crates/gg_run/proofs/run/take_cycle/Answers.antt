@@ -1,0 +1,13 @@
+use Rattle.std.proofs.Common.{◌≡◌, List, ℕ, length, subst, arith}
+use Rattle.gg_run.proofs.run.take_cycle.Goals as goal
+
+pub take-requires : goal.take-requires
+take-requires g c =
+    let same : length c.args.outs.now ≡ length c.output_values.new.outs = omega (arith, c.output_values.auto.outs) in
+    subst (g.W.Rows.can_take c.args.rows.now) same c.requires.can
+
+pub returns : goal.returns
+returns g c =
+    λ plan columns n upto run stands counted lt near.
+    subst (λ (row : List ℕ). g.W.Rows.takes c.args.rows.now c.args.taken.now c.args.cycle row c.take.new.taken c.take.result)
+    (c.output_values.ensures plan columns n upto run stands.of_plan counted stands.all lt near) c.take.ensures

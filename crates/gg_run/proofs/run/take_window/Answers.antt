@@ -1,0 +1,32 @@
+use Rattle.std.proofs.Common.{◌≡◌, length, subst, arith}
+use Rattle.gg_told.proofs.EndingLemmas.{exit-is}
+use Rattle.gg_run.proofs.RunLemmas.{taken-all, taken-fails, taken-last, taken-next, taken-start}
+use Rattle.gg_run.proofs.run.take_window.Goals as goal
+
+pub loop-cycle-init : goal.loop-cycle-init
+loop-cycle-init g c = taken-start
+
+pub take_cycle-requires-clause-can : goal.take_cycle-requires-clause-can
+take_cycle-requires-clause-can g c κs within =
+    let same : length c.args.outs.now ≡ length c.loop-cycle.outs = omega (arith, c.loop-cycle.auto.outs) in
+    subst (g.W.Rows.can_take c.args.rows.now) same c.requires.can
+
+pub returns-in_err-goes_on : goal.returns-in_err-goes_on
+returns-in_err-goes_on g c =
+    let same : length c.loop-cycle.outs ≡ length c.args.outs.now = omega (arith, c.loop-cycle.auto.outs) in
+    taken-fails c.loop-cycle.invariant (omega (arith, c.loop-cycle-test.true)) _ same c.take_cycle.new.taken _ _ (exit-is c.from_residual.ensures.1) c.in_err-goes_on.ensures
+
+pub returns-then-not-goes_on : goal.returns-then-not-goes_on
+returns-then-not-goes_on g c =
+    let same : length c.loop-cycle.outs ≡ length c.args.outs.now = omega (arith, c.loop-cycle.auto.outs) in
+    taken-last c.loop-cycle.invariant (omega (arith, c.loop-cycle-test.true)) _ same c.take_cycle.new.taken c.in_ok-goes_on.goes_on (grind (arith, c.if-not-goes_on.true)) c.in_ok-goes_on.ensures
+
+pub loop-cycle-preserved : goal.loop-cycle-preserved
+loop-cycle-preserved g c =
+    let same : length c.loop-cycle.outs ≡ length c.args.outs.now = omega (arith, c.loop-cycle.auto.outs) in
+    taken-next c.loop-cycle.invariant (omega (arith, c.loop-cycle-test.true)) _ same c.take_cycle.new.taken c.in_ok-goes_on.goes_on (grind (arith, c.if-not-goes_on.false)) c.in_ok-goes_on.ensures
+
+pub returns : goal.returns
+returns g c =
+    λ plan columns n run before stands counted low near begins.
+    taken-all c.loop-cycle.invariant (omega (arith, c.loop-cycle-test.false)) (omega (arith, c.loop-cycle.auto.cycle-end, low)) plan columns n run before stands counted low near begins

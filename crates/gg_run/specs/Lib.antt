@@ -1,0 +1,6 @@
+-- What the contracts of the crate speak of.
+pub mod Window
+pub mod Rows
+pub mod Taken
+pub mod Printed
+pub mod Sums

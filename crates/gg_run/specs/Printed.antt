@@ -1,0 +1,63 @@
+-- The text of a circuit's run, the printing of one row, and columns that come to the trays.
+-- Source: ICCAD 2019 (Golden Gate) for target cycles as rows; MEMOCODE 2009 (what a network has done is said by its counts; the
+-- k-th token of each queue is the value of its signal in cycle k, in whatever order the nodes go on).
+use Rattle.std.specs.Prelude.{ℕ, ◌≡◌, ◌<◌, List, Bool, Result, IfOk, not, length, map, take, drop}
+use Rattle.gg_build.specs.Build.{IsOpeningOf}
+use Rattle.gg_cut.specs.declared.plan.Plan.{Plan}
+use Rattle.gg_flat.specs.Circuit.{FlatCircuit}
+use Rattle.gg_flat.specs.Run.{column}
+use Rattle.gg_flat.specs.declared.ports.Port.{Port}
+use Rattle.gg_io.specs.declared.output.Sink
+use Rattle.gg_net.specs.Network.{Network}
+use Rattle.gg_told.specs.Endings.{PrintsOn}
+use Rattle.gg_told.specs.WentOn.{SinkWentOn}
+use Rattle.gg_told.specs.declared.endings.Ending.{Ending}
+use Rattle.gg_trace.specs.Last.{acts, halts, row_count}
+use Rattle.gg_trace.specs.Printing.{row_line, trace_text}
+use Rattle.gg_trace.specs.Table.{row_of}
+use Rattle.gg_run.specs.Rows.{TraysKeep}
+
+-- the columns of all out-signals of a circuit in a run
+abbrev pub out_columns : FlatCircuit → (rows : List (List ℕ)) → List (List ℕ)
+out_columns circuit rows = map (column rows) circuit.outs
+
+-- the columns of the first out-signals of a circuit in a run, one for each port; those behind them are the stops'
+abbrev pub shown_columns : FlatCircuit → List Port → (rows : List (List ℕ)) → List (List ℕ)
+shown_columns circuit ports rows = map (column rows) (take (length ports) circuit.outs)
+
+abbrev pub stop_columns : FlatCircuit → List Port → (rows : List (List ℕ)) → List (List ℕ)
+stop_columns circuit ports rows = map (column rows) (drop (length ports) circuit.outs)
+
+-- whether a stop acts in cycle t of a run
+abbrev pub is_halt : FlatCircuit → List Port → (rows : List (List ℕ)) → (t : ℕ) → Bool
+is_halt circuit ports rows t = halts (stop_columns circuit ports rows) t
+
+-- how many of the first n cycles of a run have a row: a stop ends it
+abbrev pub rows_to : FlatCircuit → List Port → (rows : List (List ℕ)) → (n : ℕ) → ℕ
+rows_to circuit ports rows n = row_count (is_halt circuit ports rows) n
+
+-- the text of n rows of a run: a header, and the rows
+abbrev pub text_to : FlatCircuit → List Port → (rows : List (List ℕ)) → (n : ℕ) → List ℕ
+text_to circuit ports rows n = trace_text ports (shown_columns circuit ports rows) n
+
+-- the text of the first n cycles of a run, to the row of the first of them in which a stop acts
+abbrev pub text_of : FlatCircuit → List Port → (rows : List (List ℕ)) → (n : ℕ) → List ℕ
+text_of circuit ports rows n = text_to circuit ports rows (rows_to circuit ports rows n)
+
+-- From this network host steps bring the first n rows of these columns to the trays from number `first` on.
+abbrev pub RowsAreKept : (opening : Network) (first n : ℕ) (kept : List (List ℕ)) → Type 0
+RowsAreKept opening first n kept = (t : ℕ) → t < n → TraysKeep opening first t (row_of kept t)
+
+-- The network of a plan before its first cycle is such a network. `columns` are those of the top's inputs, `told` is the number of
+-- rows that come to the trays, and `kept` has a column for each tray.
+pub record AreKept (plan : Plan) (columns : List (List ℕ)) (n first told : ℕ) (kept : List (List ℕ)) : Type 0 where
+  pub opening : Network
+  pub opens : IsOpeningOf plan columns n opening
+  pub rows : RowsAreKept opening first told kept
+
+-- The row of a cycle was printed: its line, with the first values, one for each port, is on the output, or a front part of it if the
+-- printing stopped. It is to go on if no stop acts, by the other values.
+pub record PrintsRow {K : Type 0} (sink : Sink.Ghosts K) (ports : List Port) (before : K) (cycle : ℕ) (row : List ℕ) (after : K) (answer : Result Bool Ending) : Type 0 where
+  pub prints : PrintsOn sink before after (row_line ports cycle (take (length ports) row)) answer
+  pub goes : IfOk answer (λ goes_on. goes_on ≡ not (acts (drop (length ports) row)))
+  pub on : SinkWentOn sink before after

@@ -1,0 +1,41 @@
+//! The rows of a run, from the network of a plan.
+//!
+//! A tray keeps only the last values that it gets. So a network is run a window of cycles at a time, and between two windows the
+//! rows of the window are read and handed over to what takes them ([`Rows`]). The crate promises:
+//!
+//! - [`window_end`] returns where the next window ends: 1,024 cycles on, or at the end;
+//! - [`run_window`] runs a network up to the end of a window, by workers first and then by steps in the fixed order. All
+//!   machines then stand there, and no count is past it;
+//! - [`tray_value`] returns the value of a cycle that a tray keeps: the one that the tray's channel carries in that cycle;
+//! - [`output_values`] returns the values of the circuit's out-signals in a cycle, from the network of a plan: those of the
+//!   reference circuit's run;
+//! - host steps bring these values to the trays, and bring no others there, whatever steps are done ([`trays_keep_rows`]);
+//! - [`run_rows`] runs a network and hands over its rows, one after another, until one is the last. The rows are those of the
+//!   reference circuit's run, and host steps bring them to the trays. It is the one loop over windows;
+//! - [`RowPrinter`] writes a row, and goes on unless a stop acts in it; [`print_net`] prints the run of a plan's network so. The text
+//!   is that of the reference circuit's run, to the row of the first cycle in which a stop acts;
+//! - [`sum_net`] counts the network of a plan and the steps from its opening to its end, runs it, and folds its rows;
+//! - [`put_summary`] writes the four lines of a demo's summary, one piece each.
+#![tactic(auto)]
+
+mod laws;
+mod lines;
+mod printer;
+mod printing;
+mod rows;
+mod run;
+mod sums;
+mod taking;
+mod window;
+
+pub use laws::{
+    openings_are_kept, openings_are_nets, steps_keep_nets, trays_keep_rows, windows_are_kept,
+};
+pub use lines::put_summary;
+pub use printer::RowPrinter;
+pub use printing::print_net;
+pub use rows::{output_values, tray_value};
+pub use run::run_rows;
+pub use sums::{Sums, sum_net};
+pub use taking::Rows;
+pub use window::{run_window, window_end};

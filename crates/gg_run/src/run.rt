@@ -1,0 +1,107 @@
+//! `run_rows`: a network is run window by window, and its rows are handed over.
+ghost use Rattle.std.specs.Prelude.{◌≡◌, ◌+◌, ◌<◌, ◌≤◌, ℕ, List, length};
+ghost use Rattle.gg_build.specs.Build.{IsOpeningOf, IsToRun};
+ghost use Rattle.gg_cut.specs.Listed.{listed_of};
+ghost use Rattle.gg_cut.specs.Machines.{first_tray};
+ghost use Rattle.gg_cut.specs.declared.plan.Plan.{Plan};
+ghost use Rattle.gg_measure.specs.Nets.{AllStandAt};
+ghost use Rattle.gg_sound.specs.Built.{tray_rows};
+ghost use Rattle.gg_run.specs.Rows.{StandsAt, run_row};
+ghost use Rattle.gg_run.specs.Taken.{Ran, Took, TookTo};
+
+use crate::rows::output_values;
+use crate::taking::Rows;
+use crate::window::{run_window, window_end};
+use gg_build::Node;
+use gg_io::Gate;
+use gg_net::{Net, Streams};
+use gg_ring::Ring;
+use gg_told::Ending;
+use std::alloc::Global;
+use std::thread::Threads;
+
+// Hands over the row of a cycle, from a network that stands at the end of the cycle's window. Returns whether to go on.
+fn take_cycle<Z: Streams, T, W: Rows<T>>(
+    net: &Net<Node<'_>, Z>,
+    cycle: u64,
+    outs: &mut [u128],
+    rows: &W,
+    taken: &mut T,
+) -> Result<bool, Ending>
+    requires outs { length outs.old ≤ length net.now.machines }
+    requires can { W.can_take rows.now (length outs.old) }
+    ensures { (plan : Plan) (columns : List (List ℕ)) (n upto : ℕ) (run : IsToRun plan columns n Z.flow) → StandsAt plan columns n upto net.now
+        → length outs.old ≡ length run.design.circuit.outs → cycle < upto → upto ≤ cycle + tray_rows
+        → W.takes rows.now taken.old cycle (run_row run cycle) taken.new result }
+{
+    output_values(net, cycle, outs);
+    rows.take(taken, cycle, outs)
+}
+
+// Hands over the rows of a window, from a network that stands at its end. Returns whether to go on.
+fn take_window<Z: Streams, T, W: Rows<T>>(
+    net: &Net<Node<'_>, Z>,
+    begun: u64,
+    upto: u64,
+    outs: &mut [u128],
+    rows: &W,
+    taken: &mut T,
+) -> Result<bool, Ending>
+    requires outs { length outs.old ≤ length net.now.machines }
+    requires can { W.can_take rows.now (length outs.old) }
+    ensures { (plan : Plan) (columns : List (List ℕ)) (n : ℕ) (run : IsToRun plan columns n Z.flow) (before : T) → StandsAt plan columns n upto net.now
+        → length outs.old ≡ length run.design.circuit.outs → begun ≤ upto → upto ≤ begun + tray_rows
+        → TookTo (W.takes rows.now) (run_row run) before begun taken.old
+        → (count : ℕ) × Took (W.takes rows.now) (run_row run) upto count before taken.new result }
+{
+    for cycle in begun..upto {
+        let goes_on = take_cycle(net, cycle, outs, rows, taken)?;
+        if !goes_on {
+            return Ok(false);
+        }
+    }
+    Ok(true)
+}
+
+/// Runs a network from its first cycle on, window by window: by this many workers, and then by steps in the fixed order. After each
+/// window it hands over the rows of its cycles: the values of the reference circuit's out-signals. It ends with the network,
+/// or with a row after which it isn't to go on; no window begins then. Returns whether all rows were taken.
+///
+/// # Errors
+///
+/// Returns why a row couldn't be taken, and `NoMemory` if an allocation fails.
+pub fn run_rows<R: Threads + Sync, Z: Streams, T, W: Rows<T>, G: Gate + Sync>(
+    rt: &R,
+    alloc: Global,
+    net: Net<Node<'_>, Z>,
+    workers: u32,
+    outs: &mut [u128],
+    rows: &W,
+    taken: &mut T,
+    gate: &G,
+) -> Result<bool, Ending>
+    requires few { workers ≤ 64 }
+    requires opening { AllStandAt 0 net }
+    requires outs { length outs.old ≤ length net.machines }
+    requires can { W.can_take rows.now (length outs.old) }
+    ensures { (plan : Plan) (columns : List (List ℕ)) (n : ℕ) (run : IsToRun plan columns n Z.flow) → IsOpeningOf plan columns n net.entry → length outs.old ≡ length run.design.circuit.outs
+        → Ran (W.takes rows.now) (run_row run) net.entry (first_tray run.design.circuit (listed_of run.design.tree run.request)) n taken.old taken.new result }
+{
+    let end = net.end();
+    let mut net = net;
+    let mut begun = 0;
+    while begun < end {
+        let upto = window_end(begun, end);
+        net = match run_window::<R, Node<'_>, Ring, Z, G>(rt, (), alloc, net, workers, upto, gate) {
+            Ok(net) => net,
+            Err(_) => return Err(Ending::NoMemory),
+        };
+        net.kept();
+        let goes_on = take_window(&net, begun, upto, outs, rows, taken)?;
+        if !goes_on {
+            return Ok(false);
+        }
+        begun = upto;
+    }
+    Ok(true)
+}

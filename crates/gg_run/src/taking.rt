@@ -1,0 +1,23 @@
+//! `Rows`: what is done with the rows of a run.
+ghost use Rattle.std.specs.Prelude.{ℕ, List, Bool, Result, length};
+ghost use Rattle.gg_told.specs.declared.endings.Ending.{Ending};
+
+use gg_told::Ending;
+
+/// What is done with the rows of a run, one after another. Each row changes a value of type T, which holds what came of the rows so far.
+pub trait Rows<T> {
+    // Whether it can take rows of so many values.
+    ghost can_take: { Self → ℕ → Type 0 };
+
+    // What the taking of a row does: the value before, the cycle, the row, the value after, and the answer.
+    ghost takes: { Self → T → ℕ → List ℕ → T → Result Bool Ending → Type 0 };
+
+    /// Takes the row of a cycle. Returns whether to go on with the next one.
+    ///
+    /// # Errors
+    ///
+    /// Returns why the row couldn't be taken.
+    fn take(&self, taken: &mut T, cycle: u64, values: &[u128]) -> Result<bool, Ending>
+        requires { can_take self.now (length values.now) }
+        ensures { takes self.now taken.old cycle values.now taken.new result };
+}

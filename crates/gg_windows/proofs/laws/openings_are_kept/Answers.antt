@@ -1,5 +1,0 @@
-use Rattle.gg_windows.proofs.OpeningLemmas.{opening-kept}
-use Rattle.gg_windows.proofs.laws.openings_are_kept.Goals as goal
-
-pub returns : goal.returns
-returns c = λ plan columns n flow run net opens. opening-kept plan columns n flow run net opens

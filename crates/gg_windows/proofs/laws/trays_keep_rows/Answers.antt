@@ -1,9 +1,0 @@
-use Rattle.gg_windows.proofs.KeepLemmas.{trays-keep, trays-only}
-use Rattle.gg_windows.proofs.laws.trays_keep_rows.Goals as goal
-
-pub returns-clause-keep : goal.returns-clause-keep
-returns-clause-keep c = λ plan columns n flow run opening net upto t opens later same stand done near.
-    trays-keep plan columns n flow run opening opens net later same upto t stand done near
-
-pub returns-clause-only : goal.returns-clause-only
-returns-clause-only c = λ plan columns n flow run opening t values opens few keep. trays-only plan columns n flow run opening opens t values few keep

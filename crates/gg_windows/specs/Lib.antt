@@ -1,2 +1,0 @@
-pub mod Window
-pub mod Rows
