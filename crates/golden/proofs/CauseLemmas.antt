@@ -23,7 +23,7 @@ abbrev pub OneMeaning : Type 0
 OneMeaning = (words : List (List ℕ)) (one other : Result Cmd (List ℕ)) → Says words one → Says words other → one ≡ other
 
 -- so words ask for at most one command
-asks-once : OneMeaning → (words : List (List ℕ)) (one other : Cmd) → IsCommand words one → IsCommand words other → one ≡ other
+pub asks-once : OneMeaning → (words : List (List ℕ)) (one other : Cmd) → IsCommand words one → IsCommand words other → one ≡ other
 asks-once once words one other asks others = let e = once words (Ok one) (Ok other) asks others in cc
 
 -- a fault that isn't `NoMemory` is a fault of the words
@@ -56,7 +56,7 @@ module _ (loads : Loads) (unwritten : Type 0) where
   -- The cause of each status.
   pub data Cause (words : List (List ℕ)) (status : ℕ) (text line : List ℕ) : Type 0 where
     IsLost : (is : status ≡ 3) (rose : loads.lost) (none : text ≡ []) → Cause words status text line
-    IsCut : (is : status ≡ 8) (rose : loads.cut) (command : Cmd) (said : Said) (asks : IsCommand words command) (stops : StopsAt loads.files ⊥ loads.cut (order_of command) said) (at : said.status ≡ 8) (none : text ≡ []) → Cause words status text line
+    IsCut : (is : status ≡ 8) (rose : loads.cut) (command : Cmd) (said : Said) (asks : IsCommand words command) (stops : StopsAt loads.files ⊥ loads.cut (order_of command) said) (at : said.status ≡ 8) (tells : line ≡ said.line) (none : text ≡ []) → Cause words status text line
     IsJudged : (judged : IsJudgement status) (command : Cmd) (said : Said) (asks : IsCommand words command) (stops : StopsAt loads.files ⊥ ⊥ (order_of command) said) (is : status ≡ said.status) (tells : line ≡ said.line) (none : text ≡ []) → Cause words status text line
     IsNoCommand : (is : status ≡ 2) (unasked : ¬ AskForCommand words) (said : Said) (told : TellsUnasked words said) (tells : line ≡ said.line) (none : text ≡ []) → Cause words status text line
     IsDone : (is : status ≡ 0) → Cause words status text line
@@ -66,7 +66,7 @@ module _ (loads : Loads) (unwritten : Type 0) where
   cause-stopped : (words : List (List ℕ)) (status : ℕ) (text line : List ℕ) (command : Cmd) (said : Said) → IsCommand words command
       → status ≡ said.status → line ≡ said.line → text ≡ [] → Why loads.files loads.lost loads.cut (order_of command) said → Cause words status text line
   cause-stopped words status text line command said asks is tells none (Lost e rose) = IsLost (is ∙ e) rose none
-  cause-stopped words status text line command said asks is tells none (Cut e rose stops) = IsCut (is ∙ e) rose command said asks stops e none
+  cause-stopped words status text line command said asks is tells none (Cut e rose stops) = IsCut (is ∙ e) rose command said asks stops e tells none
   cause-stopped words status text line command said asks is tells none (Judged e stops) = IsJudged (subst IsJudgement (sym is) e) command said asks stops is tells none
 
   cause-ends : ExactOrders → (words : List (List ℕ)) (status : ℕ) (text line : List ℕ) (command : Cmd) → IsCommand words command
@@ -85,7 +85,7 @@ module _ (loads : Loads) (unwritten : Type 0) where
   module _ (words : List (List ℕ)) (status : ℕ) (text line : List ℕ) where
     pub lost-3 : Cause words status text line → status ≡ 3 → loads.lost
     lost-3 (IsLost is rose none) e = rose
-    lost-3 (IsCut is rose command said asks stops at none) e = absurd (omega arith)
+    lost-3 (IsCut is rose command said asks stops at tells none) e = absurd (omega arith)
     lost-3 (IsJudged judged command said asks stops is tells none) e = absurd (unjudged-3 (subst IsJudgement e judged))
     lost-3 (IsNoCommand is unasked said told tells none) e = absurd (omega arith)
     lost-3 (IsDone is) e = absurd (omega arith)
@@ -93,9 +93,9 @@ module _ (loads : Loads) (unwritten : Type 0) where
     lost-3 (IsWanting is) e = absurd (omega arith)
 
     pub cut-8 : Cause words status text line → status ≡ 8 → loads.cut
-        × ((command : Cmd) × IsCommand words command × ((said : Said) × StopsAt loads.files ⊥ loads.cut (order_of command) said × (said.status ≡ 8)))
+        × ((command : Cmd) × IsCommand words command × ((said : Said) × StopsAt loads.files ⊥ loads.cut (order_of command) said × (status ≡ said.status) × (line ≡ said.line)))
     cut-8 (IsLost is rose none) e = absurd (omega arith)
-    cut-8 (IsCut is rose command said asks stops at none) e = (rose, (command, asks, (said, stops, at)))
+    cut-8 (IsCut is rose command said asks stops at tells none) e = (rose, (command, asks, (said, stops, e ∙ sym at, tells)))
     cut-8 (IsJudged judged command said asks stops is tells none) e = absurd (unjudged-8 (subst IsJudgement e judged))
     cut-8 (IsNoCommand is unasked said told tells none) e = absurd (omega arith)
     cut-8 (IsDone is) e = absurd (omega arith)
@@ -104,7 +104,7 @@ module _ (loads : Loads) (unwritten : Type 0) where
 
     pub unwritten-4 : Cause words status text line → status ≡ 4 → unwritten
     unwritten-4 (IsLost is rose none) e = absurd (omega arith)
-    unwritten-4 (IsCut is rose command said asks stops at none) e = absurd (omega arith)
+    unwritten-4 (IsCut is rose command said asks stops at tells none) e = absurd (omega arith)
     unwritten-4 (IsJudged judged command said asks stops is tells none) e = absurd (unjudged-4 (subst IsJudgement e judged))
     unwritten-4 (IsNoCommand is unasked said told tells none) e = absurd (omega arith)
     unwritten-4 (IsDone is) e = absurd (omega arith)
@@ -114,7 +114,7 @@ module _ (loads : Loads) (unwritten : Type 0) where
     pub judged-file : Cause words status text line → IsJudgement status
         → (command : Cmd) × IsCommand words command × ((said : Said) × StopsAt loads.files ⊥ ⊥ (order_of command) said × (status ≡ said.status) × (line ≡ said.line))
     judged-file (IsLost is rose none) j = absurd (unjudged-3 (subst IsJudgement is j))
-    judged-file (IsCut is rose command said asks stops at none) j = absurd (unjudged-8 (subst IsJudgement is j))
+    judged-file (IsCut is rose command said asks stops at tells none) j = absurd (unjudged-8 (subst IsJudgement is j))
     judged-file (IsJudged judged command said asks stops is tells none) j = (command, asks, (said, stops, is, tells))
     judged-file (IsNoCommand is unasked said told tells none) j = absurd (unjudged-2 (subst IsJudgement is j))
     judged-file (IsDone is) j = absurd (unjudged-0 (subst IsJudgement is j))
@@ -123,7 +123,7 @@ module _ (loads : Loads) (unwritten : Type 0) where
 
     pub no_command-2 : Cause words status text line → status ≡ 2 → (¬ AskForCommand words) × ((said : Said) × TellsUnasked words said × (line ≡ said.line))
     no_command-2 (IsLost is rose none) e = absurd (omega arith)
-    no_command-2 (IsCut is rose command said asks stops at none) e = absurd (omega arith)
+    no_command-2 (IsCut is rose command said asks stops at tells none) e = absurd (omega arith)
     no_command-2 (IsJudged judged command said asks stops is tells none) e = absurd (unjudged-2 (subst IsJudgement e judged))
     no_command-2 (IsNoCommand is unasked said told tells none) e = (unasked, (said, told, tells))
     no_command-2 (IsDone is) e = absurd (omega arith)
@@ -132,7 +132,7 @@ module _ (loads : Loads) (unwritten : Type 0) where
 
     pub none-written : Cause words status text line → status ≢ 0 → status ≢ 4 → status ≢ 5 → text ≡ []
     none-written (IsLost is rose none) a b c = none
-    none-written (IsCut is rose command said asks stops at none) a b c = none
+    none-written (IsCut is rose command said asks stops at tells none) a b c = none
     none-written (IsJudged judged command said asks stops is tells none) a b c = none
     none-written (IsNoCommand is unasked said told tells none) a b c = none
     none-written (IsDone is) a b c = absurd (a is)

@@ -8,6 +8,7 @@ pub mod FedLemmas
 pub mod FewLemmas
 pub mod FrontLemmas
 pub mod GoOnLemmas
+pub mod KnownLemmas
 pub mod LineLemmas
 pub mod NamingLemmas
 pub mod NetLemmas

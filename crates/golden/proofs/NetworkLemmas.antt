@@ -20,7 +20,7 @@ use Rattle.golden.specs.Words.{AskForCommand, TellsUnasked}
 -- ---- a status of 0
 
 -- no file is refused with status 0
-refused-some : {files : List ℕ → Told} {lost cut : Type 0} {order : Order} {said : Said} → Why files lost cut order said → said.status ≡ 0 → ⊥
+pub refused-some : {files : List ℕ → Told} {lost cut : Type 0} {order : Order} {said : Said} → Why files lost cut order said → said.status ≡ 0 → ⊥
 refused-some (Lost status rose) e = omega (arith, status, e)
 refused-some (Cut status rose stops) e = omega (arith, status, e)
 refused-some (Judged status stops) e = unjudged-0 (subst IsJudgement e status)

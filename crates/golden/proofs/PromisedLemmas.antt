@@ -1,6 +1,6 @@
 -- What is promised of a call, clause by clause.
-use Rattle.std.proofs.Common.{◌≡◌, ◌≢◌, ℕ, List, ◌≤◌, false, length, refl, ap, sym, ◌∙◌, subst, inl, inr, ◌⊎◌}
-use Rattle.std.specs.Prelude.{Option, Some, Err}
+use Rattle.std.proofs.Common.{◌≡◌, ◌≢◌, ℕ, List, [], ◌≤◌, false, length, refl, ap, sym, ◌∙◌, subst, inl, inr, ◌⊎◌}
+use Rattle.std.specs.Prelude.{Bool, Option, Some, Err}
 use Rattle.std.specs.Io.KnownBytes.{append_known}
 use Rattle.std.proofs.lemmas.Option.{same_Some}
 use Rattle.gg_io.specs.Told.{Holds}
@@ -13,8 +13,10 @@ use Rattle.gg_front.specs.Meaning.{Means, MeansDesign}
 use Rattle.gg_front.specs.declared.fault.FrontFault.TheVariants as front
 use Rattle.gg_marking.specs.Goes as goes
 use Rattle.gg_order.specs.Design.{Ordered}
+use Rattle.gg_partfile.specs.Partition.{IsPartition}
+use Rattle.gg_partfile.specs.declared.request.Request.{Request}
 use Rattle.gg_told.specs.Said.{Said}
-use Rattle.gg_told.specs.Order.{Order, Load, Write, StopsAt, DueAt, IsExact, IsExactFile, IsUnique, IsUniqueFile, IsJudgement}
+use Rattle.gg_told.specs.Order.{Order, Load, Write, StopsAt, DueAt, IsOnly, IsExact, IsExactFile, IsUnique, IsUniqueFile, IsJudgement}
 use Rattle.gg_told.specs.Ends.{Loads, Puts, Reports, Tells}
 use Rattle.gg_told.proofs.EndsLemmas.{SaysDue}
 use Rattle.gg_told.proofs.OrderLemmas.{IsOnlyDue, first-only, later-only}
@@ -31,11 +33,12 @@ use Rattle.golden.specs.Lines.{TellsUnread, partition_fault, trace_fault}
 use Rattle.golden.specs.Network.{RanNetwork}
 use Rattle.golden.specs.Outcome.{Answered}
 use Rattle.golden.specs.Partition.{HasFault, IsPartitionFor, TellsPartitionFor, partition_file_for}
-use Rattle.golden.specs.Promised.{Promised}
+use Rattle.golden.specs.Promised.{JudgedAt, Promised}
 use Rattle.golden.specs.Replay.{IsReplayOf, IsSetting, Setting, TellsSteps, replayed, steps_file_for, stopped_said}
-use Rattle.golden.specs.Run.{TellsCircuit, TellsTraceFor, circuit_file, trace_file_for}
+use Rattle.golden.specs.Run.{IsPlainText, IsTextOf, TellsCircuit, TellsTraceFor, circuit_file, trace_file_for}
 use Rattle.golden.specs.Words.{AskForCommand, TellsUnasked}
 use Rattle.golden.proofs.CauseLemmas.{Cause, ExactOrders, OneMeaning, cause, complete-status, cut-8, due-said, judged-file, lost-3, no_command-2, none-written, unasked-2, unasked-status, unwritten-4}
+use Rattle.golden.proofs.KnownLemmas.{OneRequest, run-known, run-plain, written-0}
 
 -- if a text has a fault of reading, only this fault is reported
 abbrev pub OneReading : Type 0
@@ -60,7 +63,7 @@ module _ {words : List (List ℕ)} {loads : Loads} {out err : Puts} {status : �
     caused = cause loads out.failed exact words status a.text a.line a.outcome
 
     judged : IsJudgement status
-        → (command : Cmd) × IsCommand words command × ((said : Said) × StopsAt loads.files ⊥ ⊥ (order_of command) said × Tells err status said)
+        → (command : Cmd) × IsCommand words command × ((said : Said) × JudgedAt loads.files (order_of command) said × Tells err status said)
     judged is =
         let why = judged-file loads out.failed words status a.text a.line caused is in
         (why.0, why.1, (why.2.0, why.2.1, reported-as why.2.0 why.2.2 why.2.3))
@@ -69,6 +72,33 @@ module _ {words : List (List ℕ)} {loads : Loads} {out err : Puts} {status : �
     no_command is =
         let why = no_command-2 loads out.failed words status a.text a.line caused is in
         (why.0, (why.1.0, why.1.1, reported-as why.1.0 (is ∙ sym (unasked-status words why.1.0 why.1.1)) why.1.2))
+
+    over : status ≡ 8 → loads.cut × ((command : Cmd) × IsCommand words command × ((said : Said) × StopsAt loads.files ⊥ loads.cut (order_of command) said × Tells err status said))
+    over is =
+        let why = cut-8 loads out.failed words status a.text a.line caused is in
+        let file = why.1 in
+        (why.0, (file.0, file.1, (file.2.0, file.2.1, reported-as file.2.0 file.2.2 file.2.3)))
+
+    -- a run of known files wrote their text
+    known : OneMeaning → (circuit partition trace : List ℕ) (capacity workers : ℕ) (mono : Bool) (c p t : List ℕ)
+        → IsCommand words (Run circuit partition trace capacity workers mono) → status ≡ 0
+        → loads.files circuit ≡ Holds c → loads.files partition ≡ Holds p → loads.files trace ≡ Holds t
+        → (text : List ℕ) × (out.after ≡ append_known out.before text) × IsOnly (IsTextOf c p t) text
+    known once circuit partition trace capacity workers mono c p t asks zero hc hp ht = (
+      a.text,
+      a.written,
+      run-known loads.files circuit partition trace capacity workers mono c p t a.text hc hp ht
+          (written-0 loads out.failed exact once words status a.text a.line a.outcome (Run circuit partition trace capacity workers mono) asks zero),
+    )
+
+    plain : OneMeaning → OneRequest → (circuit partition trace : List ℕ) (capacity workers : ℕ) (mono : Bool) (c p t : List ℕ) (request : Request)
+        → IsCommand words (Run circuit partition trace capacity workers mono) → status ≡ 0
+        → loads.files circuit ≡ Holds c → loads.files partition ≡ Holds p → loads.files trace ≡ Holds t
+        → IsPartition p request → request.pipe ≡ []
+        → (text : List ℕ) × (out.after ≡ append_known out.before text) × IsPlainText c t text
+    plain once one circuit partition trace capacity workers mono c p t request asks zero hc hp ht is none =
+        let wrote = known once circuit partition trace capacity workers mono c p t asks zero hc hp ht in
+        (wrote.0, wrote.1, run-plain one c p t wrote.0 request is none wrote.2.is)
 
     nothing_written : status ≢ 0 → status ≢ 4 → status ≢ 5 → out.after ≡ out.before
     nothing_written x y z =
@@ -177,17 +207,19 @@ module _ {words : List (List ℕ)} {loads : Loads} {out err : Puts} {status : �
           (setting.design.circuit, is.means.means, (setting.cycles, setting.columns, is.feeds))
           (first-only loads.files (steps_file_for c p t capacity steps) _ s said ((((exact command).1 c).1 p).1 t).0 hs ls refuses (λ other h. (((unique command asked c).1 p).1 t).0 s other said h refuses)))
 
-    pub promised : OneMeaning → UniqueOrders → OneReading
+    pub promised : OneMeaning → OneRequest → UniqueOrders → OneReading
         → ((circuit partition trace : List ℕ) (capacity workers : ℕ) → IsCommand words (Run circuit partition trace capacity workers false) → status ≡ 0 → RanNetwork loads out circuit partition trace capacity)
         → Promised words loads out err status
-    promised once unique one network = record {
+    promised once request unique one network = record {
       outcome = a;
+      run_known = known once;
+      run_plain = plain once request;
       by_network = network;
       judged = judged;
       no_command = no_command;
       not_loaded = lost-3 loads out.failed words status a.text a.line caused;
       not_written = unwritten-4 loads out.failed words status a.text a.line caused;
-      over = cut-8 loads out.failed words status a.text a.line caused;
+      over = over;
       nothing_written = nothing_written;
       unasked = unasked-2 loads out.failed words status a.text a.line a.outcome;
       due = tells-due once;

@@ -1,6 +1,7 @@
 -- What the program promises for each call: how it ends, why, and what has to be reported.
-use Rattle.std.specs.Prelude.{◌≡◌, ◌≢◌, ℕ, ◌≤◌, ◌⊎◌, Err, List, Some, false, length}
-use Rattle.gg_io.specs.Told.{Holds}
+use Rattle.std.specs.Prelude.{◌≡◌, ◌≢◌, ℕ, ◌≤◌, ◌⊎◌, Bool, Err, List, [], Some, false, length}
+use Rattle.std.specs.Io.KnownBytes.{append_known}
+use Rattle.gg_io.specs.Told.{Holds, Told}
 use Rattle.gg_read.specs.Text.{HasReadFault}
 use Rattle.gg_read.specs.declared.text.ReadFault.{ReadFault}
 use Rattle.gg_flat.specs.Circuit.{FlatCircuit}
@@ -8,8 +9,10 @@ use Rattle.gg_flat.specs.Ports.{in_ports}
 use Rattle.gg_front.specs.Meaning.{Means, MeansDesign}
 use Rattle.gg_marking.specs.Goes.{Stopped}
 use Rattle.gg_order.specs.Design.{Ordered}
+use Rattle.gg_partfile.specs.Partition.{IsPartition}
+use Rattle.gg_partfile.specs.declared.request.Request.{Request}
 use Rattle.gg_told.specs.Said.{Said}
-use Rattle.gg_told.specs.Order.{StopsAt, DueAt, IsDueAccepted, IsJudgement}
+use Rattle.gg_told.specs.Order.{StopsAt, DueAt, IsDueAccepted, IsJudgement, IsOnly, Order}
 use Rattle.gg_told.specs.Ends.{Loads, Puts, Tells}
 use Rattle.gg_trace.specs.FaultText.{fault_words}
 use Rattle.gg_trace.specs.Trace.{IsFirstFault}
@@ -24,7 +27,13 @@ use Rattle.golden.specs.Network.{RanNetwork}
 use Rattle.golden.specs.Outcome.{Answered}
 use Rattle.golden.specs.Partition.{HasFault, IsPartitionFor}
 use Rattle.golden.specs.Replay.{IsSetting, Setting, replayed, stopped_said}
+use Rattle.golden.specs.Run.{IsPlainText, IsTextOf}
 use Rattle.golden.specs.Words.{AskForCommand, TellsUnasked}
+
+-- The bytes of a file, which it can have, are refused with this report, and each file before it is accepted. No load failed, and none was
+-- cut.
+abbrev pub JudgedAt : (files : List ℕ → Told) → Order → Said → Type 0
+JudgedAt files order said = StopsAt files ⊥ ⊥ order said
 
 -- A call with these words returned this status. `loads` are its files, and what happened when they were loaded; `out`
 -- and `err` are the two outputs, before and after it.
@@ -32,18 +41,29 @@ pub record Promised (words : List (List ℕ)) (loads : Loads) (out err : Puts) (
   -- The headline: status, text and line are an outcome of the words and the files. At status 0 the text is that of the
   -- reference circuit's run, of the marking that the steps lead to, of the cut, or of the demo, and there is no other.
   pub outcome : Answered words loads out err status
+  -- So a `run` of known files with status 0 wrote the text of their run, and there is no other such text.
+  pub run_known : (circuit partition trace : List ℕ) (capacity workers : ℕ) (mono : Bool) (c p t : List ℕ)
+      → IsCommand words (Run circuit partition trace capacity workers mono) → status ≡ 0
+      → loads.files circuit ≡ Holds c → loads.files partition ≡ Holds p → loads.files trace ≡ Holds t
+      → (text : List ℕ) × (out.after ≡ append_known out.before text) × IsOnly (IsTextOf c p t) text
+  -- If the partition asks for no pipe, it is the run of the circuit's own flat circuit.
+  pub run_plain : (circuit partition trace : List ℕ) (capacity workers : ℕ) (mono : Bool) (c p t : List ℕ) (request : Request)
+      → IsCommand words (Run circuit partition trace capacity workers mono) → status ≡ 0
+      → loads.files circuit ≡ Holds c → loads.files partition ≡ Holds p → loads.files trace ≡ Holds t
+      → IsPartition p request → request.pipe ≡ []
+      → (text : List ℕ) × (out.after ≡ append_known out.before text) × IsPlainText c t text
   -- `run` without `--mono`: at status 0 the text is also that of the network of the cut, for the same bytes of the files, and the
   -- network has no other. It isn't claimed of a call with `--mono`.
   pub by_network : (circuit partition trace : List ℕ) (capacity workers : ℕ) → IsCommand words (Run circuit partition trace capacity workers false) → status ≡ 0
       → RanNetwork loads out circuit partition trace capacity
   -- The cause of each status. For a fault of a file, and for words that aren't a command, it also gives the line.
   pub judged : IsJudgement status
-      → (command : Cmd) × IsCommand words command × ((said : Said) × StopsAt loads.files ⊥ ⊥ (order_of command) said × Tells err status said)
+      → (command : Cmd) × IsCommand words command × ((said : Said) × JudgedAt loads.files (order_of command) said × Tells err status said)
   pub no_command : status ≡ 2 → (¬ AskForCommand words) × ((said : Said) × TellsUnasked words said × Tells err status said)
   pub not_loaded : status ≡ 3 → loads.lost
   pub not_written : status ≡ 4 → out.failed
   pub over : status ≡ 8
-      → loads.cut × ((command : Cmd) × IsCommand words command × ((said : Said) × StopsAt loads.files ⊥ loads.cut (order_of command) said × (said.status ≡ 8)))
+      → loads.cut × ((command : Cmd) × IsCommand words command × ((said : Said) × StopsAt loads.files ⊥ loads.cut (order_of command) said × Tells err status said))
   pub nothing_written : status ≢ 0 → status ≢ 4 → status ≢ 5 → out.after ≡ out.before
   -- Words that aren't a command are refused as such.
   pub unasked : ¬ AskForCommand words → (status ≡ 2) ⊎ (status ≡ 5)

@@ -1,6 +1,8 @@
 -- The files of a circuit and of a trace, and the text that `run` writes.
 use Rattle.std.specs.Prelude.{◌≡◌, ◌≢◌, ℕ, List}
 use Rattle.gg_flat.specs.Circuit.{FlatCircuit}
+use Rattle.gg_flat.specs.Run.{IsRun}
+use Rattle.gg_flat.specs.Scoped.{stop_signals}
 use Rattle.gg_front.specs.Meaning.{Means, MeansDesign}
 use Rattle.gg_order.specs.Design.{Ordered}
 use Rattle.gg_partfile.specs.Partition.{IsPartition}
@@ -9,7 +11,9 @@ use Rattle.gg_front.specs.Accepted.{IsAcceptedText}
 use Rattle.gg_front.specs.Fault.{HasFrontFault, front_text}
 use Rattle.gg_front.specs.declared.fault.FrontFault.{FrontFault}
 use Rattle.gg_front.specs.declared.fault.FrontFault.TheVariants as front
-use Rattle.gg_flat.specs.Ports.{in_ports}
+use Rattle.gg_flat.specs.Ports.{in_ports, output_ports}
+use Rattle.gg_trace.specs.Last.{halts, row_count}
+use Rattle.gg_trace.specs.Printing.{trace_text}
 use Rattle.gg_trace.specs.FaultText.{fault_words}
 use Rattle.gg_trace.specs.Trace.{IsFirstFault}
 use Rattle.gg_trace.specs.declared.faults.TraceFault.{TraceFault}
@@ -17,7 +21,7 @@ use Rattle.gg_told.specs.Said.{Said}
 use Rattle.golden.specs.Limits.{circuit_limit, trace_limit}
 use Rattle.golden.specs.Lines.{circuit_fault, trace_fault}
 use Rattle.gg_told.specs.Order.{File}
-use Rattle.golden.specs.RunText.{IsTraceOf, IsRunText}
+use Rattle.golden.specs.RunText.{Feeds, IsTraceOf, IsRunText, columns_of, outputs_of}
 
 -- This is reported for the bytes of a circuit's file: their fault of reading, or the first fault of the circuit that
 -- they spell.
@@ -57,3 +61,16 @@ trace_file_for circuit name = trace_file name (IsTraceFor circuit) (TellsTraceFo
 abbrev pub IsTextOf : (circuit partition trace text : List ℕ) → Type 0
 IsTextOf circuit partition trace text =
     (design : Ordered) × MeansDesign circuit design × ((request : Request) × IsPartition partition request × IsRunText design request trace text)
+
+-- The text of the run of the flat circuit that these bytes mean, as it stands, on this trace. The trace gives the columns of the
+-- circuit's inputs for some cycles, and `rows` is its run on them. The text is a header, and a row for each cycle up to the first in
+-- which a stop acts: the values of the top's outputs. A partition that asks for no pipe leaves the run so.
+pub record IsPlainText (circuit trace text : List ℕ) : Type 0 where
+  pub design : Ordered
+  pub means : MeansDesign circuit design
+  pub cycles : ℕ
+  pub columns : List (List ℕ)
+  pub rows : List (List ℕ)
+  pub feeds : Feeds design.circuit trace cycles columns
+  pub run : IsRun design.circuit columns cycles rows
+  pub is : text ≡ trace_text (output_ports design.circuit design.tree) (columns_of (outputs_of design.tree) rows) (row_count (halts (columns_of (stop_signals design.tree) rows)) cycles)

@@ -17,6 +17,7 @@ use crate::replay::replay;
 use crate::run::run;
 use crate::words::end_at_words;
 use gg_io::{Gate, Shelf, Sink};
+use gg_partfile::one_answer;
 use gg_told::{Ending, report};
 use gg_words::{Cmd, numbers_are_in_range, one_meaning, words};
 use std::alloc::Global;
@@ -193,5 +194,6 @@ pub fn golden<R: Threads + Sync, S: Shelf, K: Sink, E: Sink, G: Gate + Sync>(
 {
     refusals_are_exact();
     one_meaning();
+    one_answer();
     answer(rt, alloc, words, shelf, out, err, gate)
 }

@@ -1,0 +1,110 @@
+-- What a run of known files wrote.
+use Rattle.std.proofs.Common.{◌≡◌, ℕ, List, [], ◌∷◌, Bool, false, length, map, refl, sym, ap, ap₂, ◌∙◌, subst, arith}
+use Rattle.std.specs.Prelude.{◌==◌, cond, filter}
+use Rattle.std.proofs.lemmas.List.{map-id}
+use Rattle.gg_io.specs.Told.{Holds, Told}
+use Rattle.gg_flat.proofs.ListLemmas.{map-same}
+use Rattle.gg_flat.specs.Circuit.{FlatCircuit}
+use Rattle.gg_flat.specs.Ports.{output_ports}
+use Rattle.gg_flat.specs.Run.{IsRun}
+use Rattle.gg_flat.specs.Scoped.{stop_signals}
+use Rattle.gg_flat.specs.Tree.{path_at}
+use Rattle.gg_front.specs.Meaning.{MeansDesign}
+use Rattle.gg_order.specs.Design.{Ordered}
+use Rattle.gg_partfile.specs.Partition.{IsPartition}
+use Rattle.gg_partfile.specs.declared.request.Request.{Request}
+use Rattle.gg_cut.specs.Direct.{is_piped, plan_hub, routes}
+use Rattle.gg_cut.specs.Listed.{first_place, is_among}
+use Rattle.gg_cut.specs.declared.wires.Wire.{Wire}
+use Rattle.gg_pipe.specs.Links.{pipe_or, pipes_of, taken_as}
+use Rattle.gg_pipe.proofs.NothingLemmas.{plan-plain}
+use Rattle.gg_told.specs.Ends.{Loads}
+use Rattle.gg_told.specs.Order.{IsOnly, IsWritten}
+use Rattle.gg_told.proofs.EndsLemmas.{Failed, Stopped, Wanted, WhyEnds, Wrote, ends-why}
+use Rattle.gg_told.proofs.OrderLemmas.{told-bytes, why-stops}
+use Rattle.gg_trace.specs.Last.{halts, row_count}
+use Rattle.gg_trace.specs.Printing.{trace_text}
+use Rattle.gg_words.specs.Meaning.{IsCommand}
+use Rattle.gg_words.specs.declared.command.Cmd.{Cmd}
+use Rattle.gg_words.specs.declared.command.Cmd.TheVariants.{Run}
+use Rattle.golden.specs.Commands.{order_of}
+use Rattle.golden.specs.Outcome.{Asked, Outcome, Unasked, WantsMemoryFirst}
+use Rattle.golden.specs.Partition.{partition_file_for}
+use Rattle.golden.specs.Run.{IsPlainText, IsTextOf, circuit_file, trace_file_for}
+use Rattle.golden.specs.RunText.{IsRunText, columns_of, outputs_of}
+use Rattle.golden.proofs.CauseLemmas.{ExactOrders, OneMeaning, asks-once}
+use Rattle.golden.proofs.NetworkLemmas.{refused-some}
+
+-- bytes hold at most one request
+abbrev pub OneRequest : Type 0
+OneRequest = (bytes : List ℕ) (one other : Request) → IsPartition bytes one → IsPartition bytes other → one ≡ other
+
+-- ---- the whole text
+
+module _ (loads : Loads) (unwritten : Type 0) (exact : ExactOrders) where
+  why-0 : (command : Cmd) (status : ℕ) (text line : List ℕ) → WhyEnds loads unwritten (order_of command) status text line → status ≡ 0 → IsWritten loads.files (order_of command) text
+  why-0 command status text line (Stopped said stops is tells none) zero =
+      absurd (refused-some (why-stops loads.files loads.lost loads.cut (order_of command) said (exact command) stops) (sym is ∙ zero))
+  why-0 command status text line (Wrote written is) zero = written
+  why-0 command status text line (Failed failed whole written is) zero = absurd (omega (arith, is, zero))
+  why-0 command status text line (Wanted is) zero = absurd (omega (arith, is, zero))
+
+  -- at status 0 the text of the command that was asked for is written whole
+  pub written-0 : OneMeaning → (words : List (List ℕ)) (status : ℕ) (text line : List ℕ) → Outcome words loads unwritten status text line
+      → (command : Cmd) → IsCommand words command → status ≡ 0 → IsWritten loads.files (order_of command) text
+  written-0 once words status text line (Asked other others ends) command asks zero =
+      subst (λ (c : Cmd). IsWritten loads.files (order_of c) text) (asks-once once words other command others asks)
+      (why-0 other status text line (ends-why loads unwritten (order_of other) status text line ends) zero)
+  written-0 once words status text line (Unasked none said tells says nothing) command asks zero = absurd (none (command, asks))
+  written-0 once words status text line (WantsMemoryFirst says nothing) command asks zero = absurd (omega (arith, says.0, zero))
+
+-- the text of a run whose files are known is that of their bytes
+pub run-known : (files : List ℕ → Told) (circuit partition trace : List ℕ) (capacity workers : ℕ) (mono : Bool) (c p t text : List ℕ)
+    → files circuit ≡ Holds c → files partition ≡ Holds p → files trace ≡ Holds t
+    → IsWritten files (order_of (Run circuit partition trace capacity workers mono)) text → IsOnly (IsTextOf c p t) text
+run-known files circuit partition trace capacity workers mono c p t text hc hp ht (c', can, fits, (p', can', fits', (t', can'', fits'', only))) =
+    let one : c' ≡ c = told-bytes files (circuit_file circuit) c c' hc can in
+    let two : p' ≡ p = told-bytes files (partition_file_for c' partition) p p' hp can' in
+    let three : t' ≡ t = told-bytes files (trace_file_for c' trace) t t' ht can'' in
+    subst (λ (b : List ℕ). IsOnly (IsTextOf b p t) text) one
+    (subst (λ (b : List ℕ). IsOnly (IsTextOf c' b t) text) two
+    (subst (λ (b : List ℕ). IsOnly (IsTextOf c' p' b) text) three only))
+
+-- ---- a request that asks for no pipe
+
+filter-none : {A : Type 0} (test : A → Bool) → ((x : A) → test x ≡ false) → (xs : List A) → filter test xs ≡ []
+filter-none test none [] = refl
+filter-none test none (x ∷ xs) = ap (λ b. cond b (x ∷ filter test xs) (filter test xs)) (none x) ∙ filter-none test none xs
+
+module _ (design : Ordered) (request : Request) (none : request.pipe ≡ []) where
+  -- each signal is taken as itself
+  taken-plain : (s : ℕ) → taken_as (plan_hub design.circuit design.tree request) s ≡ s
+  taken-plain s =
+      let hub = plan_hub design.circuit design.tree request in
+      let empty : pipes_of hub ≡ [] =
+      ap (map (λ (r : Wire). r.signal)) (filter-none (λ (r : Wire). is_piped design.circuit request r.signal) (λ r. ap (λ names. is_among names (path_at design.circuit.paths r.signal)) none) (routes hub)) in
+      ap (λ pipes. pipe_or (length design.circuit.signals) s (first_place (λ p. p == s) pipes)) empty
+
+  all-plain : (signals : List ℕ) → map (taken_as (plan_hub design.circuit design.tree request)) signals ≡ signals
+  all-plain signals = map-same (taken_as (plan_hub design.circuit design.tree request)) (λ s. s) signals taken-plain ∙ map-id signals
+
+  -- so the text of the run is that of the flat circuit's own
+  pub text-plain : (circuit trace text : List ℕ) → MeansDesign circuit design → IsRunText design request trace text → IsPlainText circuit trace text
+  text-plain circuit trace text means ran =
+      record {
+        design = design;
+        means = means;
+        cycles = ran.cycles;
+        columns = ran.columns;
+        rows = ran.rows;
+        feeds = ran.feeds;
+        run = subst (λ (f : FlatCircuit). IsRun f ran.columns ran.cycles ran.rows) (plan-plain design request none) ran.run;
+        is = ran.is
+            ∙ ap₂ (λ (outs stops : List ℕ). trace_text (output_ports design.circuit design.tree) (columns_of outs ran.rows) (row_count (halts (columns_of stops ran.rows)) ran.cycles))
+            (all-plain (outputs_of design.tree)) (all-plain (stop_signals design.tree));
+      }
+
+-- the text of a run whose partition asks for no pipe
+pub run-plain : OneRequest → (c p t text : List ℕ) (request : Request) → IsPartition p request → request.pipe ≡ [] → IsTextOf c p t text → IsPlainText c t text
+run-plain one c p t text request asks none (design, means, (other, others, ran)) =
+    text-plain design other (ap (λ (r : Request). r.pipe) (one p other request others asks) ∙ none) c t text means ran
