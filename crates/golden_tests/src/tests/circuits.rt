@@ -17,12 +17,8 @@ pub(crate) static RUNS: [Row; 18] = [
     ),
     // and with a trace whose value has zeros before it
     (
-        Run(
-            "circuit Free :\nmodule Free :\ninput r : UInt<1>\noutput q : UInt<1>\nq <= r\n",
-            "{}\n",
-            "cycle r\n0 0001\n",
-        ),
-        Prints(3, "cycle q\n0 1\n"),
+        Run(COUNTER, "{}\n", "cycle reset\n0 0001\n"),
+        Prints(3, "cycle out\n0 00\n"),
     ),
     // the counter with a line of the version, and a report
     (

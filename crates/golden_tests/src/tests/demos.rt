@@ -9,9 +9,16 @@ use std::test::Fail;
 use std::thread::Threads;
 
 /// Demos, and their summaries. In the last the second put on `out` takes three bytes and fails.
-pub(crate) static SUMMARIES: [Row; 8] = [
+pub(crate) static SUMMARIES: [Row; 9] = [
     (
         Ask("golden demo 0 1", "", "", ""),
+        Prints(
+            0,
+            "demo seed 0 size 1 cycles 4\nmachines 5 channels 6 steps 68\nlast 5273ea78 83bf1c91\nfold 1523c34a bfd1efce\n",
+        ),
+    ),
+    (
+        Ask("golden demo 0 1 --workers 4", "", "", ""),
         Prints(
             0,
             "demo seed 0 size 1 cycles 4\nmachines 5 channels 6 steps 68\nlast 5273ea78 83bf1c91\nfold 1523c34a bfd1efce\n",

@@ -17,8 +17,45 @@ const UNITS: &str = "{\"units\":[\"a\",\"b\"]}";
 
 const ROWS: &str = "cycle q\n0 11\n1 83\n";
 
-/// As many workers as there may be, and channels as large as they may be. Two workers, where the second put on `out` takes three bytes and fails.
-pub(crate) static BY_WORKERS: [Row; 2] = [
+/// Channels of one token, by no worker, one and three, and by the simulator. As many workers as there may be, and channels as large as they may be. Two
+/// workers, where the second put on `out` takes three bytes and fails.
+pub(crate) static BY_WORKERS: [Row; 6] = [
+    (
+        Ask(
+            "golden run k1.fir p.json k1.trace --capacity 1 --workers 0",
+            PAIR,
+            UNITS,
+            PAIR_TRACE,
+        ),
+        Prints(3, ROWS),
+    ),
+    (
+        Ask(
+            "golden run k1.fir p.json k1.trace --capacity 1 --workers 1",
+            PAIR,
+            UNITS,
+            PAIR_TRACE,
+        ),
+        Prints(3, ROWS),
+    ),
+    (
+        Ask(
+            "golden run k1.fir p.json k1.trace --capacity 1 --workers 3",
+            PAIR,
+            UNITS,
+            PAIR_TRACE,
+        ),
+        Prints(3, ROWS),
+    ),
+    (
+        Ask(
+            "golden run k1.fir p.json k1.trace --capacity 1 --mono",
+            PAIR,
+            UNITS,
+            PAIR_TRACE,
+        ),
+        Prints(3, ROWS),
+    ),
     (
         Ask(
             "golden run k1.fir p.json k1.trace --capacity 4096 --workers 64",
