@@ -5,14 +5,25 @@ from refused import Refused
 PORT = re.compile(r"\s*(input|output)\s+(\w[\w$]*)\s*:\s*(Clock|[US]Int<\s*(\d+)\s*>)")
 
 
+def lines_of(name):
+    """The lines of a circuit without remarks."""
+    with open(name) as file:
+        return [line.split(";")[0] for line in file]
+
+
+def top_of(name):
+    """The name of a circuit's top, which is the circuit's."""
+    heads = [re.match(r"\s*circuit\s+(\w[\w$]*)", line) for line in lines_of(name)]
+    top = next((head.group(1) for head in heads if head), None)
+    if top is None:
+        raise Refused(f"{name}: there is no line with circuit")
+    return top
+
+
 def ports_of(name):
     """The ports of the top: for each its name, "input", "output" or "clock", and its width."""
-    with open(name) as file:
-        lines = [line.split(";")[0] for line in file]
-    heads = [re.match(r"\s*circuit\s+(\w[\w$]*)", line) for line in lines]
-    top = next((head.group(1) for head in heads if head), None)
-    out, inside = [], False
-    for line in lines:
+    top, out, inside = top_of(name), [], False
+    for line in lines_of(name):
         head = re.match(r"\s*(?:public\s+)?module\s+(\w[\w$]*)\s*:", line)
         inside = head.group(1) == top if head else inside
         port = PORT.match(line) if inside else None

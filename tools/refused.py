@@ -5,6 +5,11 @@ class Refused(Exception):
     """What can't be done. The text names the place."""
 
 
+def reason(why):
+    """A refusal, or what the system refuses, as a text."""
+    return f"{why.filename}: {why.strerror}" if isinstance(why, OSError) and why.filename else str(why)
+
+
 def place(thing):
     """FILE:LINE of a cell, a name or a module of yosys, as far as yosys knows it."""
     src = thing.get("attributes", {}).get("src", "").split("|")[0]
