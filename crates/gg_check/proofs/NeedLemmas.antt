@@ -1,5 +1,5 @@
 -- What a channel of a plan needs is what it needs in the circuit.
-use Rattle.std.proofs.Common.{◌≡◌, ℕ, zero, suc, ◌<◌, List, [], ◌∷◌, length, map, refl, sym, ◌∙◌, ap, subst, inl, inr, ◌⊎◌, arith}
+use Rattle.std.proofs.Common.{◌≡◌, ℕ, zero, suc, ◌<◌, List, [], ◌∷◌, length, map, refl, sym, ◌∙◌, ap, subst, inl, inr, ◌⊎◌, arith, Option}
 use Rattle.std.specs.Prelude.{Contains}
 use Rattle.gg_flat.specs.declared.line.Node.{Node}
 use Rattle.gg_flat.specs.declared.line.Op.{Op}
@@ -64,7 +64,7 @@ pub record Gets (part : FlatCircuit) (globals taken : List ℕ) : Type 0 where
   pub not_taken : (a place : ℕ) → a < length globals → (Contains taken (value_at globals a) → ⊥) → driver_at part a ≡ Input place → ⊥
   pub input : (a : ℕ) → a < length globals → Contains taken (value_at globals a) → (place : ℕ) × (driver_at part a ≡ Input place)
 
-module _ (whole part : FlatCircuit) (globals held memories taken : List ℕ) (is : IsPart whole part globals held memories) (gets : Gets part globals taken) where
+module _ (whole part : FlatCircuit) (globals held memories taken : List ℕ) (clocks : List (Option ℕ)) (is : IsPart whole part globals held memories clocks) (gets : Gets part globals taken) where
   input-reads : (a b place : ℕ) → driver_at part a ≡ Input place → Reads part a b → ⊥
   input-reads a b place e reads = subst (λ d. NamesSignal d b) e reads.names
 

@@ -1,5 +1,5 @@
 -- The needs of a plan's channels are their needs in the circuit.
-use Rattle.std.proofs.Common.{◌≡◌, ℕ, ◌<◌, ◌≤◌, List, [], length, map, get_or, ◌==◌, eq-eqb, true-eqb, refl, sym, ◌∙◌, ap, subst, inl, inr, ◌⊎◌, arith}
+use Rattle.std.proofs.Common.{◌≡◌, ℕ, ◌<◌, ◌≤◌, List, [], length, map, get_or, ◌==◌, eq-eqb, true-eqb, refl, sym, ◌∙◌, ap, subst, inl, inr, ◌⊎◌, arith, Option}
 use Rattle.std.specs.Prelude.{◌↔◌, Contains, slice_index_or}
 use Rattle.std.specs.List.{range_with_len}
 use Rattle.std.proofs.lemmas.Bool.{cases_lt}
@@ -62,8 +62,8 @@ made-of f xs y (k, lt, is) =
 -- ---- a machine's piece
 
 -- the in-signals of a piece are what it gets from outside
-piece-gets : (whole piece : FlatCircuit) (globals held memories taken : List ℕ) → IsPart whole piece globals held memories → map (value_at globals) piece.ins ≡ taken → Gets piece globals taken
-piece-gets whole piece globals held memories taken is ins = record {
+piece-gets : (whole piece : FlatCircuit) (globals held memories taken : List ℕ) (clocks : List (Option ℕ)) → IsPart whole piece globals held memories clocks → map (value_at globals) piece.ins ≡ taken → Gets piece globals taken
+piece-gets whole piece globals held memories taken clocks is ins = record {
   not_taken = λ a place lt free e.
       let from = subst (λ (d : Driver). IsFrom piece.ins globals held memories a (driver_at whole (value_at globals a)) d) e (is.drivers a lt) in
       free (subst (λ l. Contains l (value_at globals a)) ins (Contains-map (value_at globals) piece.ins a (place, from.0, get_or_default piece.ins place a 0 from.0 ∙ from.1)));
@@ -102,7 +102,7 @@ module _ (design : Ordered) (listed : Listed) (hub : Hub) (m : ℕ) (part : Part
       record { out = value_at part.piece.outs found.place; within = cut.is.outs found.place found.within; same = found.is }
 
   gets : Gets part.piece part.globals (signals_of wires (channels_to wires m))
-  gets = piece-gets design.circuit part.piece part.globals part.held part.memories (signals_of wires (channels_to wires m)) cut.is cut.ins
+  gets = piece-gets design.circuit part.piece part.globals part.held part.memories (signals_of wires (channels_to wires m)) part.clocks cut.is cut.ins
 
   -- a need of the part is one in the circuit
   need-out : (channels : List ℕ) (c d out : ℕ) → channels ≡ channels_to wires m → m < first_source listed → (wire_at wires c).producer ≡ m → value_at part.globals out ≡ (wire_at wires c).given
@@ -112,7 +112,7 @@ module _ (design : Ordered) (listed : Listed) (hub : Hub) (m : ℕ) (part : Part
       let within : need.place < length (channels_to wires m) = omega (arith, need.known, in-count) in
       let has : Contains (channels_to wires m) d = (need.place, within, get_or_default (channels_to wires m) need.place d 0 within ∙ at) in
       let t = taken wires m d has in
-      let inside = path-out design.circuit part.piece part.globals part.held part.memories (signals_of wires (channels_to wires m)) cut.is gets out (value_at part.piece.ins need.place) need.reached.path need.reached.reads in
+      let inside = path-out design.circuit part.piece part.globals part.held part.memories (signals_of wires (channels_to wires m)) part.clocks cut.is gets out (value_at part.piece.ins need.place) need.reached.path need.reached.reads in
       record {
         made = subst (λ x. x < first_source listed) (sym e) made;
         known = t.known;
@@ -132,7 +132,7 @@ module _ (design : Ordered) (listed : Listed) (hub : Hub) (m : ℕ) (part : Part
       let within : has.0 < length part.piece.ins = omega (arith, has.1, in-count) in
       let at : value_at (channels_to wires m) has.0 ≡ d = get_or_default (channels_to wires m) has.0 0 d has.1 ∙ has.2 in
       let reads = subst (λ k. IsPathInside design.circuit (signals_of wires (channels_to wires k)) (wire_at wires c).given needs.path (wire_at wires d).signal) e needs.reads in
-      let back = path-back design.circuit part.piece part.globals part.held part.memories (signals_of wires (channels_to wires m)) cut.is gets out (wire_at wires c).given (wire_at wires d).signal needs.path lt is reads in
+      let back = path-back design.circuit part.piece part.globals part.held part.memories (signals_of wires (channels_to wires m)) part.clocks cut.is gets out (wire_at wires c).given (wire_at wires d).signal needs.path lt is reads in
       let ends : value_at part.globals back.place ≡ value_at part.globals (value_at part.piece.ins has.0) =
       back.same ∙ ap (λ x. (wire_at wires x).signal) (sym at) ∙ sym (in-signal has.0 within) in
       let place : back.place ≡ value_at part.piece.ins has.0 = once-apart part.globals 0 cut.is.once back.place (value_at part.piece.ins has.0) back.within (cut.is.ins has.0 within).0 ends in

@@ -1,23 +1,25 @@
 -- The instances below two instances of one module: the same modules, at the same distance, with the same clocks and stops.
-use Rattle.std.proofs.Common.{◌≡◌, ◌≢◌, ℕ, zero, suc, ◌+◌, ◌-◌, ◌<◌, ◌≤◌, min, List, [], ◌∷◌, ◌++◌, length, length-append, take, get_or, Option, Some, sym, ap, ap₂, ◌∙◌, subst, subst₂, arith, inl, inr, ◌⊎◌}
+use Rattle.std.proofs.Common.{◌≡◌, ◌≢◌, ℕ, zero, suc, ◌+◌, ◌-◌, ◌<◌, ◌≤◌, min, List, [], ◌∷◌, ◌++◌, length, length-append, take, get_or, append_assoc, Option, Some, None, refl, sym, ap, ap₂, ◌∙◌, subst, subst₂, arith, inl, inr, ◌⊎◌}
 use Rattle.std.proofs.lemmas.Bool.{cases_lt}
-use Rattle.std.specs.Prelude.{Contains, flat_map}
-use Rattle.std.proofs.lemmas.List.{length-take, take-append-drop, take-append-le}
+use Rattle.std.specs.Prelude.{Contains, flat_map, option_and_then, option_map}
+use Rattle.std.proofs.lemmas.List.{append_cancel_left, length-take, take-append-drop, take-append-le}
+use Rattle.std.proofs.lemmas.Option.{same_Some}
 use Rattle.std.proofs.lemmas.Grind.{flat_map-append}
 use Rattle.std.proofs.Math.Seq.{take-append-add}
 use Rattle.gg_ast.specs.Places.{place_of}
 use Rattle.gg_ast.specs.Tree.{CircuitTree, module_names}
 use Rattle.gg_flat.specs.declared.tree.StopInstance.{StopInstance}
 use Rattle.gg_flat.specs.Circuit.{FlatCircuit}
-use Rattle.gg_flat.specs.Tree.{InstanceTree, instance_at, stop_at}
-use Rattle.gg_count.specs.Sites.{Site, module_at, sites, sites_of, top_site}
+use Rattle.gg_flat.specs.Tree.{InstanceTree, instance_at, joined, stop_at}
+use Rattle.gg_count.specs.Sites.{Held, Outer, Site, site_below, module_at, sites, sites_of, top_site}
 use Rattle.gg_flattened.specs.IsFlat.{IsFlat}
 use Rattle.gg_flattened.specs.Known.{types_of}
 use Rattle.gg_flattened.specs.Clocks.{own_clocks}
 use Rattle.gg_flattened.proofs.FollowLemmas.{around-length, input_count}
-use Rattle.gg_tree.specs.IsTreeOf.{IsTreeOf, Pairwise}
+use Rattle.gg_tree.specs.IsTreeOf.{IsParent, IsTreeOf, Pairwise, site_paths}
+use Rattle.gg_tree.proofs.JoinLemmas.{joined-once}
 use Rattle.gg_tree.proofs.StopLemmas.{AskedPlace, asked-place, before_stops, holder-of, signal-of, stop-again}
-use Rattle.gg_tree.proofs.InstanceLemmas.{signals_in, sites-are, stands, ranges, instance-for}
+use Rattle.gg_tree.proofs.InstanceLemmas.{signals_in, sites-are, stands, ranges, instance-for, path-place}
 use Rattle.gg_tree.proofs.OwnLemmas.{placed-known, Pairwise-at}
 use Rattle.gg_tree.proofs.PairwiseLemmas.{Pairwise-length}
 use Rattle.gg_tree.proofs.PlaceLemmas.{Placed, within, within-some}
@@ -25,13 +27,30 @@ use Rattle.gg_tree.proofs.RangeLemmas.{Ranges, count_to, count-le, placed-at, pl
 use Rattle.gg_tree.proofs.ScopeOfTreeLemmas.{HasApartNames}
 use Rattle.gg_tree.proofs.TreeLemmas.{HasDistinctPaths, HasPlainNames}
 use Rattle.gg_moved.specs.Moved.{moved_stop, shifted}
-use Rattle.gg_moved.specs.Copies.{LiesIn}
+use Rattle.gg_moved.specs.Copies.{LiesIn, above}
 use Rattle.gg_copies.proofs.LikeSites.{AreLikeSites, AreLikeSignals}
 use Rattle.gg_copies.proofs.CopyLemmas.{HasSomeNames, whole-like, signals-like}
 use Rattle.gg_copies.proofs.CopyDriverLemmas.{Stretch, stretch-at}
 use Rattle.gg_copies.proofs.CopyPlaceLemmas.{AreRanked, levels-same, rank-left}
 use Rattle.gg_copies.proofs.CopyClockLemmas.{own-same}
 use Rattle.gg_copies.proofs.CopyInsideLemmas.{instance-inside}
+
+-- what stands behind a path is told by both together
+joined-left : (path a b : List ℕ) → joined path a ≡ joined path b → a ≡ b
+joined-left [] a b e = e
+joined-left (x ∷ path) a b e = append_cancel_left ((x ∷ path) ++ 46 ∷ []) a b (append_assoc (x ∷ path) (46 ∷ []) a ∙ e ∙ sym (append_assoc (x ∷ path) (46 ∷ []) b))
+
+none : ¬ Contains {X = ℕ} [] 46
+none c = omega (arith, c.1)
+
+-- what holds the site that is held under this name
+abbrev outer_of : Site → Held → Outer
+outer_of here h = record { path = here.path; number = here.number; name = h.name }
+
+-- the parent of an instance is where the path of what holds it stands
+parent-there : (circuit : CircuitTree) (outer : Outer) (p : ℕ) (parent : Option ℕ) → place_of outer.path (site_paths circuit) ≡ Some p → IsParent circuit (Some outer) parent → parent ≡ Some p
+parent-there circuit outer p None place is = absurd is
+parent-there circuit outer p (Some q) place is = sym is.is ∙ place
 
 module _ (circuit : CircuitTree) (flat : FlatCircuit) (tree : InstanceTree) (top : ℕ) (known_top : place_of circuit.name (module_names circuit) ≡ Some top) (is_flat : IsFlat circuit flat) (is_tree : IsTreeOf circuit tree) (distinct : HasDistinctPaths circuit) (plain : HasPlainNames circuit) (names : HasApartNames circuit)
     (rank : ℕ → ℕ) (ranked : AreRanked circuit.modules rank) (rank_top : rank top ≤ length circuit.modules) (some : HasSomeNames circuit.modules) where
@@ -229,6 +248,41 @@ module _ (circuit : CircuitTree) (flat : FlatCircuit) (tree : InstanceTree) (top
             go : (a < b) ⊎ (b ≤ a) → 0 < b - a
             go (inl lt) = omega (arith, lt)
             go (inr ge) = let is : b ≡ a = omega (arith, le, ge) in absurd (differ is)
+
+    -- below the two, an instance lies in the same one
+    pub parent-moved : (k : ℕ) → k < length tree.instances → LiesIn tree i k → k ≢ i → (instance_at tree (shifted i j k)).parent ≡ option_map (shifted i j) (instance_at tree k).parent
+    parent-moved k lt lies other = go lies.levels lies.is (instance_at tree k).parent refl
+      where
+        b : Below k
+        b = below-at k (omega (arith, lt, tells.same)) lies
+
+        step : (p : ℕ) → (instance_at tree k).parent ≡ Some p → LiesIn tree i p → (instance_at tree (shifted i j k)).parent ≡ Some (shifted i j p)
+        step p parent up =
+            let under = tells.under k p (omega (arith, lt, tells.same)) parent in
+            let bp = below-at p (omega (arith, lt, tells.same, under.before)) up in
+            let outer : bp.here ≡ under.outer = placed-same (length circuit.modules) circuit.modules (sites_of circuit) p bp.here under.outer bp.at_here under.at_outer in
+            let here : b.here ≡ site_below under.outer under.held = placed-same (length circuit.modules) circuit.modules (sites_of circuit) k b.here (site_below under.outer under.held) b.at_here under.at_place in
+            let like_p = subst₂ (AreLikeSites u v) bp.is_here bp.is_there (Pairwise-at (AreLikeSites u v) (below u) (below v) (p - i) u v sites_like bp.inside) in
+            let like_k = subst₂ (AreLikeSites u v) b.is_here b.is_there (Pairwise-at (AreLikeSites u v) (below u) (below v) (k - i) u v sites_like b.inside) in
+            elim like_k.outer [
+              | inl e ↦
+                  absurd (other (same_Some k i (sym (path-place circuit tree top known_top is_tree distinct.of_sites k b.here b.at_here) ∙ ap (λ (x : Site). place_of x.path (site_paths circuit)) e.0
+                  ∙ path-place circuit tree top known_top is_tree distinct.of_sites i u at_i)))
+              | inr (a, c, one, two, named, s) ↦
+                  let same_path : a.path ≡ bp.here.path = ap (λ (o : Outer). o.path) (same_Some a (outer_of under.outer under.held) (sym one ∙ ap (λ (x : Site). x.outer) here)) ∙ ap (λ (x : Site). x.path) (sym outer) in
+                  let m = s.moved [] in
+                  let n = like_p.moved [] in
+                  let rests : m.rest ≡ n.rest = joined-left u.path m.rest n.rest (sym m.one ∙ ap (λ (l : List ℕ). joined l []) same_path ∙ n.one) in
+                  let paths : c.path ≡ bp.there.path = (joined-once c.path bp.there.path [] [] none none (m.other ∙ ap (joined v.path) rests ∙ sym n.other)).0 in
+                  parent-there circuit c (shifted i j p) (instance_at tree (shifted i j k)).parent
+                  (ap (λ (l : List ℕ). place_of l (site_paths circuit)) paths ∙ path-place circuit tree top known_top is_tree distinct.of_sites (shifted i j p) bp.there bp.at_there)
+                  (subst (λ (o : Option Outer). IsParent circuit o (instance_at tree (shifted i j k)).parent) two (instance-for circuit tree top known_top is_tree distinct.of_sites (shifted i j k) b.there b.at_there).parent)
+            ]
+
+        go : (levels : ℕ) → above tree levels k ≡ Some i → (o : Option ℕ) → (instance_at tree k).parent ≡ o → (instance_at tree (shifted i j k)).parent ≡ option_map (shifted i j) o
+        go zero is o e = absurd (other (same_Some k i is))
+        go (suc n) is None e = let never : None ≡ Some i = sym (ap (option_and_then (above tree n)) e) ∙ is in absurd (cc)
+        go (suc n) is (Some p) e = step p e (record { levels = n; is = sym (ap (option_and_then (above tree n)) e) ∙ is })
 
     -- a stop of what lies in the one is a stop of the same in the other
     pub stop-moved : (n : ℕ) → n < length tree.stops → LiesIn tree i (stop_at tree n).instance → Contains tree.stops (moved_stop (shifted i j) to_there (stop_at tree n))

@@ -46,7 +46,7 @@ use Rattle.gg_tree.proofs.VisibleLemmas.{HasKnownNames}
 use Rattle.gg_moved.specs.Moved.{IsMoved, moved_driver, moved_register, moved_memory, moved_port, shifted, unclocked_memory, unclocked_register}
 use Rattle.gg_moved.specs.Copies.{Start, IsCopy, HasCopies}
 use Rattle.gg_copies.proofs.LikeSites.{AreLikeSignals, AreLikeMemories}
-use Rattle.gg_copies.proofs.CopyBelowLemmas.{sites_like, instance-moved, own-clocks, clocks-moved, stop-moved}
+use Rattle.gg_copies.proofs.CopyBelowLemmas.{sites_like, instance-moved, own-clocks, clocks-moved, parent-moved, stop-moved}
 use Rattle.gg_copies.proofs.CopyLemmas.{HasSomeNames, signals-like, memories-like}
 use Rattle.gg_copies.proofs.CopyLineLemmas.{SamePaths}
 use Rattle.gg_copies.proofs.CopyDriverLemmas.{Stretch, AtInput, driver-moved, held-copied, memory-copied, none, path-there, paths-same, shapes-same, stretch-at, stretch-inside, stretch-map, stretch-paths}
@@ -532,6 +532,7 @@ module _ (circuit : CircuitTree) (flat : FlatCircuit) (tree : InstanceTree) (top
       register_clock = register-clock;
       ports = ports-copied;
       instance = instance-moved circuit flat tree top known_top is_flat is_tree distinct plain names rank ranked rank_top some i j u v at_i at_j same;
+      parent = parent-moved circuit flat tree top known_top is_flat is_tree distinct plain names rank ranked rank_top some i j u v at_i at_j same;
       memory_path = λ m lt lies. let h = memory-inside circuit tree top known_top is_tree distinct i u at_i m lt lies in memory-path-copied m h.0 h.1;
       memory = λ m any lt lies. let h = memory-inside circuit tree top known_top is_tree distinct i u at_i m lt lies in memory-at m any h.0 h.1;
       memory_clocks = λ m lt lies. let h = memory-inside circuit tree top known_top is_tree distinct i u at_i m lt lies in memory-clocks m lt h.0 h.1;

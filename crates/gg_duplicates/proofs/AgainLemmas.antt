@@ -11,6 +11,7 @@ use Rattle.gg_duplicates.specs.Again.{IsUnitAgain, HasSignal, again_at, cut_wire
 use Rattle.gg_duplicates.proofs.AtAgainLemmas.{held-behind, shifted-back}
 use Rattle.gg_duplicates.proofs.BankLemmas.{banks-too, memory-too}
 use Rattle.gg_duplicates.proofs.ChannelAgainLemmas.{channels-over}
+use Rattle.gg_duplicates.proofs.ClockAgainLemmas.{register-clock-too, memory-clocks-too, own-clocks-too}
 use Rattle.gg_duplicates.proofs.Pair.{ArePair, AreChannelsOver, turned}
 use Rattle.gg_duplicates.proofs.PairLemmas.{start_of}
 use Rattle.gg_duplicates.proofs.SignalLemmas.{has-held, has-too, driver-too, register-too}
@@ -61,4 +62,7 @@ module _ (design : Ordered) (listed : Listed) (u v : ℕ) (one other : Start) (p
         register = register-too design listed u v from to pair channels;
         banks = banks-too design listed u v from to pair;
         memory = memory-too design listed u v from to pair;
+        register_clock = register-clock-too design listed u v from to pair channels;
+        memory_clocks = memory-clocks-too design listed u v from to pair;
+        own_clocks = own-clocks-too design listed u v from to pair;
       }

@@ -13,5 +13,7 @@ pub mod CounterpartLemmas
 pub mod PairLemmas
 pub mod SignalLemmas
 pub mod BankLemmas
+pub mod HomeLemmas
+pub mod ClockAgainLemmas
 pub mod AgainLemmas
 pub mod WorkedUnits

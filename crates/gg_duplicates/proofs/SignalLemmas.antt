@@ -85,7 +85,7 @@ module _ (design : Ordered) (listed : Listed) (u v : ℕ) (one other : Start) (p
   -- ---- drivers
 
   -- a unit doesn't make its own inputs
-  no-input : (s : ℕ) → Makes design.circuit design.tree listed (cut_wires design listed) (unit_number u) s → ¬ IsInputOf design.tree (value_at listed.units u) s
+  pub no-input : (s : ℕ) → Makes design.circuit design.tree listed (cut_wires design listed) (unit_number u) s → ¬ IsInputOf design.tree (value_at listed.units u) s
   no-input s makes input = by makes
     where
       port : wire s (outside_unit design.tree listed u) (suc u) ≡ port_wire (outside_unit design.tree listed u) (suc u) input.port

@@ -1,20 +1,22 @@
 -- A unit has what another unit has, with other numbers.
 -- Source: FIRRTL Specification, "Instances": each instance of a module has all that the module declares; ICCAD 2019 (duplicate
 -- instances that share one host unit).
-use Rattle.std.specs.Prelude.{◌≡◌, ◌↔◌, ◌⊎◌, ℕ, ◌<◌, ◌≤◌, ◌-◌, List, length, map, slice_index_or, AllPairs, Contains}
+use Rattle.std.specs.Prelude.{◌≡◌, ◌↔◌, ◌⊎◌, ℕ, ◌<◌, ◌≤◌, ◌-◌, ◌==◌, List, Bool, Option, length, map, slice_index_or, AllPairs, Contains}
+use Rattle.std.specs.List.{list_any}
 use Rattle.gg_flat.specs.declared.memory.Memory.{Memory}
 use Rattle.gg_flat.specs.declared.piece.Driver.TheVariants.{Held}
 use Rattle.gg_flat.specs.declared.piece.Register.{Register}
 use Rattle.gg_flat.specs.Circuit.{signal_shapes, driver_at}
 use Rattle.gg_flat.specs.Line.{shape_at, value_at}
 use Rattle.gg_flat.specs.Tree.{InstanceTree, instance_at}
+use Rattle.gg_moved.specs.Domains.{FollowsInside, ports_inside}
 use Rattle.gg_moved.specs.Moved.{moved_driver, moved_register, moved_memory, shifted, unclocked_register, unclocked_memory}
 use Rattle.gg_order.specs.Design.{Ordered}
 use Rattle.gg_cut.specs.declared.listed.Listed.{Listed}
 use Rattle.gg_cut.specs.declared.wires.Wire.{Wire}
 use Rattle.gg_cut.specs.Channels.{wires_of}
 use Rattle.gg_cut.specs.Machines.{first_unit, first_memory}
-use Rattle.gg_cut.specs.Plan.{channels_to, channels_from, givens_of, signals_of, Makes, Takes, HasMemory}
+use Rattle.gg_cut.specs.Plan.{channels_to, channels_from, givens_of, signals_of, Makes, Takes, HasMemory, machine_clocks}
 
 -- the first signal of the instance that is machine m
 abbrev pub unit_first : InstanceTree → Listed → ℕ → ℕ
@@ -32,9 +34,14 @@ HasSignal design listed m s = Makes design.circuit design.tree listed (cut_wires
 abbrev pub again_at : Ordered → Listed → ℕ → ℕ → ℕ → ℕ
 again_at design listed m n s = shifted (unit_first design.tree listed m) (unit_first design.tree listed n) s
 
+-- exactly the units are homes
+abbrev pub AreHomes : Listed → (ℕ → Bool) → Type 0
+AreHomes listed is_home = (k : ℕ) → is_home k ≡ list_any (λ unit. k == unit) listed.units
+
 -- Unit n has what unit m has, with numbers as far behind the first of its own signals: the same signals, taken by channels in the same
 -- order, with the same types and, but for those that it takes, the same drivers; the same registers and memories, but for the clocks that
--- they follow. Two lists of the memories of the two, both ascending, have them in the same order.
+-- they follow in the circuit: inside of the two units they follow the same Clock inputs, of which both have as many. Two lists of the memories of the two, both
+-- ascending, have them in the same order.
 pub record IsUnitAgain (design : Ordered) (listed : Listed) (m n : ℕ) : Type 0 where
   pub registers : ℕ → ℕ
   pub memories : ℕ → ℕ
@@ -56,3 +63,7 @@ pub record IsUnitAgain (design : Ordered) (listed : Listed) (m n : ℕ) : Type 0
   pub memory : (k : ℕ) (any : Memory) → HasMemory design.tree listed m k
       → (memories k < length design.circuit.memories)
       × (unclocked_memory (slice_index_or design.circuit.memories (memories k) any) ≡ unclocked_memory (moved_memory (again_at design listed m n) (slice_index_or design.circuit.memories k any)))
+  pub register_clock : (is_home : ℕ → Bool) (s r : ℕ) (clock : Option ℕ) → AreHomes listed is_home → Makes design.circuit design.tree listed (cut_wires design listed) m s → driver_at design.circuit s ≡ Held r
+      → FollowsInside is_home design.tree s r clock → FollowsInside is_home design.tree (again_at design listed m n s) (registers r) clock
+  pub memory_clocks : (is_home : ℕ → Bool) (k : ℕ) → AreHomes listed is_home → HasMemory design.tree listed m k → ports_inside is_home design.tree (memories k) ≡ ports_inside is_home design.tree k
+  pub own_clocks : length (machine_clocks design.tree listed n) ≡ length (machine_clocks design.tree listed m)

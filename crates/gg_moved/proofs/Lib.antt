@@ -1,3 +1,4 @@
 pub mod MovedLemmas
 mod WorkedCopies
 mod WorkedMoved
+pub mod DomainLemmas

@@ -14,6 +14,7 @@ use Rattle.gg_flat.specs.declared.piece.Driver.TheVariants.{Input, Held, MemoryW
 use Rattle.gg_flat.specs.declared.piece.Register.{Register}
 use Rattle.gg_flat.specs.declared.piece.Reset.{Reset}
 use Rattle.gg_flat.specs.Circuit.{FlatCircuit, signal_shapes, driver_at}
+use Rattle.gg_flat.specs.Clocked.{clock_at}
 use Rattle.gg_flat.specs.Line.{shape_at, value_at}
 use Rattle.gg_flat.specs.Memory.{WritesAmong}
 use Rattle.gg_flat.specs.Reads.{ResetNames, NextNames}
@@ -25,7 +26,7 @@ use Rattle.gg_part.specs.Part.{IsPart, IsFrom, NamesBelow, RegisterBelow, ReadsA
 value-map : (f : ℕ → ℕ) (xs : List ℕ) (k : ℕ) → k < length xs → value_at (map f xs) k ≡ f (value_at xs k)
 value-map f xs k lt = get_or-map f xs k 0 0 lt
 
-module _ (f : ℕ → ℕ) (globals : List ℕ) where
+module _ (f : ℕ → ℕ) (globals : List ℕ) (clocks : List (Option ℕ)) where
   op-moved : (op : Op) → ((s : ℕ) → op ≡ Ref s → s < length globals) → renamed_op (map f globals) op ≡ moved_op f (renamed_op globals op)
   op-moved (Ref s) below = ap Ref (value-map f globals s (below s refl))
   op-moved (Literal v) below = refl
@@ -45,7 +46,7 @@ module _ (f : ℕ → ℕ) (globals : List ℕ) where
       node_made n op = record { ty = n.ty; op = op }
 
   abbrev register_made : Register → Option Reset → Option (List Node) → Register
-  register_made r reset next = record { ty = r.ty; reset = reset; next = next; clock = r.clock }
+  register_made r reset next = record { ty = r.ty; reset = reset; next = next; clock = clock_at clocks r.clock }
 
   abbrev reset_made : List Node → List Node → Reset
   reset_made condition init = record { condition = condition; init = init }
@@ -58,7 +59,7 @@ module _ (f : ℕ → ℕ) (globals : List ℕ) where
   next-moved None below = refl
   next-moved (Some line) below = ap Some (line-moved line below)
 
-  pub register-moved : (r : Register) → RegisterBelow (length globals) r → renamed_register (map f globals) r ≡ moved_register f (renamed_register globals r)
+  pub register-moved : (r : Register) → RegisterBelow (length globals) r → renamed_register (map f globals) clocks r ≡ moved_register f (renamed_register globals clocks r)
   register-moved r below = ap₂ (λ a b. register_made r a b) (reset-moved r.reset (λ s n. below s (inl n))) (next-moved r.next (λ s n. below s (inr n)))
 
   abbrev reader_made : Option ℕ → ℕ → ℕ → ℕ → Reader
@@ -67,27 +68,27 @@ module _ (f : ℕ → ℕ) (globals : List ℕ) where
   abbrev writer_made : Option ℕ → ℕ → ℕ → ℕ → ℕ → Writer
   writer_made clock a e w m = record { addr = a; en = e; word = w; mask = m; clock = clock }
 
-  readers-moved : (readers : List Reader) → All (λ reader. ReadsAmong (length globals) reader) readers → map (λ reader. renamed_reader (map f globals) reader) readers ≡ map (λ reader. moved_reader f reader) (map (λ reader. renamed_reader globals reader) readers)
+  readers-moved : (readers : List Reader) → All (λ reader. ReadsAmong (length globals) reader) readers → map (λ reader. renamed_reader (map f globals) clocks reader) readers ≡ map (λ reader. moved_reader f reader) (map (λ reader. renamed_reader globals clocks reader) readers)
   readers-moved [] below = refl
   readers-moved (r ∷ readers) below =
       let b = below 0 r (omega arith) in
       ap₂ (λ x rest. x ∷ rest)
-      (ap₂ (λ a e. reader_made r.clock a e (value_at (map f globals) r.word)) (value-map f globals r.addr b.0) (value-map f globals r.en b.1) ∙ ap (λ w. reader_made r.clock (f (value_at globals r.addr)) (f (value_at globals r.en)) w) (value-map f globals r.word b.2))
+      (ap₂ (λ a e. reader_made (clock_at clocks r.clock) a e (value_at (map f globals) r.word)) (value-map f globals r.addr b.0) (value-map f globals r.en b.1) ∙ ap (λ w. reader_made (clock_at clocks r.clock) (f (value_at globals r.addr)) (f (value_at globals r.en)) w) (value-map f globals r.word b.2))
       (readers-moved readers (λ i d lt. below (suc i) d (omega (arith, lt))))
 
-  writers-moved : (writers : List Writer) → All (λ writer. WritesAmong (length globals) writer) writers → map (λ writer. renamed_writer (map f globals) writer) writers ≡ map (λ writer. moved_writer f writer) (map (λ writer. renamed_writer globals writer) writers)
+  writers-moved : (writers : List Writer) → All (λ writer. WritesAmong (length globals) writer) writers → map (λ writer. renamed_writer (map f globals) clocks writer) writers ≡ map (λ writer. moved_writer f writer) (map (λ writer. renamed_writer globals clocks writer) writers)
   writers-moved [] below = refl
   writers-moved (r ∷ writers) below =
       let b = below 0 r (omega arith) in
       ap₂ (λ x rest. x ∷ rest)
-      (ap₂ (λ a e. writer_made r.clock a e (value_at (map f globals) r.word) (value_at (map f globals) r.mask)) (value-map f globals r.addr b.0) (value-map f globals r.en b.1)
-      ∙ ap₂ (λ w m. writer_made r.clock (f (value_at globals r.addr)) (f (value_at globals r.en)) w m) (value-map f globals r.word b.2) (value-map f globals r.mask b.3))
+      (ap₂ (λ a e. writer_made (clock_at clocks r.clock) a e (value_at (map f globals) r.word) (value_at (map f globals) r.mask)) (value-map f globals r.addr b.0) (value-map f globals r.en b.1)
+      ∙ ap₂ (λ w m. writer_made (clock_at clocks r.clock) (f (value_at globals r.addr)) (f (value_at globals r.en)) w m) (value-map f globals r.word b.2) (value-map f globals r.mask b.3))
       (writers-moved writers (λ i d lt. below (suc i) d (omega (arith, lt))))
 
   abbrev memory_made : Memory → List Reader → List Writer → Memory
   memory_made m readers writers = record { word = m.word; depth = m.depth; latency = m.latency; readers = readers; writers = writers }
 
-  pub memory-moved : (m : Memory) → MemoryBelow (length globals) m → renamed_memory (map f globals) m ≡ moved_memory f (renamed_memory globals m)
+  pub memory-moved : (m : Memory) → MemoryBelow (length globals) m → renamed_memory (map f globals) clocks m ≡ moved_memory f (renamed_memory globals clocks m)
   memory-moved m below = ap₂ (λ a b. memory_made m a b) (readers-moved m.readers below.readers) (writers-moved m.writers below.writers)
 
 -- ---- the part
@@ -116,12 +117,12 @@ module _ (whole part : FlatCircuit) (globals held memories : List ℕ) (f rf mf 
   from-moved s lt again (Computed line) e h =
       let there = again (λ place i. let c : Computed line ≡ Input place = sym e ∙ i in cc) in (
         λ t n. omega (arith, h.0 t n, length-map globals f),
-        ap (driver_at whole) (value-map f globals s lt) ∙ there ∙ ap (moved_driver f rf mf) h.1 ∙ ap Computed (sym (line-moved f globals line h.0)),
+        ap (driver_at whole) (value-map f globals s lt) ∙ there ∙ ap (moved_driver f rf mf) h.1 ∙ ap Computed (sym (line-moved f globals [] line h.0)),
       )
 
-module _ (whole part : FlatCircuit) (globals held memories : List ℕ) (f rf mf : ℕ → ℕ) (is : IsPart whole part globals held memories) (again : StandsAgain whole part globals held memories f rf mf) where
+module _ (whole part : FlatCircuit) (globals held memories : List ℕ) (clocks : List (Option ℕ)) (f rf mf : ℕ → ℕ) (is : IsPart whole part globals held memories clocks) (again : StandsAgain whole part globals held memories f rf mf) where
   -- the same part stands where the numbers lead
-  pub part-moved : IsPart whole (placed_at whole part (map f globals)) (map f globals) (map rf held) (map mf memories)
+  pub part-moved : IsPart whole (placed_at whole part (map f globals)) (map f globals) (map rf held) (map mf memories) clocks
   part-moved = record {
     count = is.count ∙ sym (length-map globals f);
     within = λ s lt. let lt' : s < length globals = omega (arith, lt, length-map globals f) in subst (λ (k : ℕ). k < length whole.signals) (sym (value-map f globals s lt')) (again.within s lt');
@@ -134,7 +135,7 @@ module _ (whole part : FlatCircuit) (globals held memories : List ℕ) (f rf mf 
     drivers = λ s lt. let lt' : s < length globals = omega (arith, lt, length-map globals f) in from-moved whole part globals held memories f rf mf s lt' (again.drivers s lt') (driver_at part s) refl (is.drivers s lt');
     ins = λ place lt. let h = is.ins place lt in (omega (arith, h.0, length-map globals f), h.1);
     outs = λ place lt. omega (arith, is.outs place lt, length-map globals f);
-    clocks = is.clocks;
+    clock_count = is.clock_count;
     register_count = is.register_count ∙ sym (length-map held rf);
     register_from = λ r lt.
         let lt' : r < length held = omega (arith, lt, length-map held rf) in
@@ -144,8 +145,9 @@ module _ (whole part : FlatCircuit) (globals held memories : List ℕ) (f rf mf 
           within = subst (λ (n : ℕ). n < length whole.registers) (sym (value-map rf held r lt')) k.within;
           is = λ any other.
               ap (λ (n : ℕ). slice_index_or whole.registers n other) (value-map rf held r lt')
-              ∙ k.is other ∙ ap (moved_register f) (h.is any other) ∙ sym (register-moved f globals (slice_index_or part.registers r any) (h.below any));
+              ∙ k.is other ∙ ap (moved_register f) (h.is any other) ∙ sym (register-moved f globals clocks (slice_index_or part.registers r any) (h.below any));
           below = λ any t n. omega (arith, h.below any t n, length-map globals f);
+          clocked = h.clocked;
         };
     memory_count = is.memory_count ∙ sym (length-map memories mf);
     memories_once = again.memories_once;
@@ -157,8 +159,9 @@ module _ (whole part : FlatCircuit) (globals held memories : List ℕ) (f rf mf 
           within = subst (λ (n : ℕ). n < length whole.memories) (sym (value-map mf memories m lt')) k.within;
           is = λ any other.
               ap (λ (n : ℕ). slice_index_or whole.memories n other) (value-map mf memories m lt')
-              ∙ k.is other ∙ ap (moved_memory f) (h.is any other) ∙ sym (memory-moved f globals (slice_index_or part.memories m any) (h.below any));
+              ∙ k.is other ∙ ap (moved_memory f) (h.is any other) ∙ sym (memory-moved f globals clocks (slice_index_or part.memories m any) (h.below any));
           below = λ any. subst (λ (n : ℕ). MemoryBelow n (slice_index_or part.memories m any)) (sym (length-map globals f)) (h.below any);
+          clocked = h.clocked;
           given = h.given;
         };
   }

@@ -141,6 +141,7 @@ copies = record {
   register_clock = λ s r h none is. subst SameClock (first-register s r h.1 none is) refl;
   ports = refl;
   instance = λ k lt lies. instances k lt lies.levels lies.is;
+  parent = λ k lt lies other. absurd (other (alone k lt lies.levels lies.is));
   memory_path = λ m lt lies. absurd (omega (arith, lt));
   memory = λ m any lt lies. absurd (omega (arith, lt));
   memory_clocks = λ m lt lies. absurd (omega (arith, lt));

@@ -1,7 +1,7 @@
 -- Two instances of one module, signal by signal. What they hold is the same, but for the front of its paths.
 -- Source: FIRRTL Specification, "Instances": each instance has all that its module declares; "Clock" types: which clock a Clock
 -- input follows is said where the instance stands.
-use Rattle.std.specs.Prelude.{◌≡◌, ◌≢◌, ℕ, zero, suc, ◌<◌, Option, Some, None, length, map, slice_index_or, option_and_then, Contains}
+use Rattle.std.specs.Prelude.{◌≡◌, ◌≢◌, ℕ, zero, suc, ◌<◌, Option, Some, None, length, map, slice_index_or, option_and_then, option_map, Contains}
 use Rattle.gg_flat.specs.declared.memory.Memory.{Memory}
 use Rattle.gg_flat.specs.declared.piece.Driver.TheVariants.{Held}
 use Rattle.gg_flat.specs.declared.piece.Register.{Register}
@@ -29,7 +29,7 @@ pub record Start : Type 0 where
 
 -- The instance at place j has what the instance at place i has, with numbers as far behind its own start: as many signals,
 -- memories and Clock inputs, the same paths behind its own, the same types, the same drivers but for those of its inputs, the same
--- registers and memories but for their clocks, and the same stops. What follows a Clock input of an instance follows the same one
+-- registers and memories but for their clocks, the same instances in each other, and the same stops. What follows a Clock input of an instance follows the same one
 -- there. So the clocks differ only as those differ that the two instances are given.
 pub record IsCopy (circuit : FlatCircuit) (tree : InstanceTree) (i j : ℕ) (one other : Start) : Type 0 where
   pub size : (instance_at tree j).end ≡ shifted one.signals other.signals (instance_at tree i).end
@@ -44,6 +44,7 @@ pub record IsCopy (circuit : FlatCircuit) (tree : InstanceTree) (i j : ℕ) (one
   pub ports : (instance_at tree j).ports ≡ map (λ port. moved_port (shifted one.signals other.signals) port) (instance_at tree i).ports
   pub instance : (k : ℕ) → k < length tree.instances → LiesIn tree i k
       → ((instance_at tree (shifted i j k)).«module» ≡ (instance_at tree k).«module») × ((instance_at tree (shifted i j k)).first ≡ shifted one.signals other.signals (instance_at tree k).first)
+  pub parent : (k : ℕ) → k < length tree.instances → LiesIn tree i k → k ≢ i → (instance_at tree (shifted i j k)).parent ≡ option_map (shifted i j) (instance_at tree k).parent
   pub memory_path : (m : ℕ) → m < length tree.memories → LiesIn tree i (memory_at tree m).instance → IsMoved (path_at tree.paths i) (path_at tree.paths j) (path_at tree.memory_paths m) (path_at tree.memory_paths (shifted one.memories other.memories m))
   pub memory : (m : ℕ) (any : Memory) → m < length tree.memories → LiesIn tree i (memory_at tree m).instance
       → unclocked_memory (slice_index_or circuit.memories (shifted one.memories other.memories m) any) ≡ unclocked_memory (moved_memory (shifted one.signals other.signals) (slice_index_or circuit.memories m any))

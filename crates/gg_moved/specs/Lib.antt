@@ -1,4 +1,5 @@
 pub mod Copies
+pub mod Domains
 pub mod KeepsToTree
 pub mod Moved
 pub mod StandsAgain

@@ -1,6 +1,6 @@
 -- If the signals of a part are listed along an order of the whole, each stands after those that it reads; and then their numbers,
 -- ascending, are an order of the part.
-use Rattle.std.proofs.Common.{◌≡◌, ℕ, zero, suc, ◌+◌, ◌<◌, ◌≤◌, List, [], ◌∷◌, length, refl, sym, ◌∙◌, ap, subst, inl, inr, ◌⊎◌, arith}
+use Rattle.std.proofs.Common.{◌≡◌, ℕ, zero, suc, ◌+◌, ◌<◌, ◌≤◌, List, [], ◌∷◌, length, refl, sym, ◌∙◌, ap, subst, inl, inr, ◌⊎◌, Option, arith}
 use Rattle.std.specs.List.{range_with_len}
 use Rattle.std.proofs.lemmas.List.{get_or-take, get_or_default, length-take}
 use Rattle.std.proofs.lemmas.List.FromFn.{get_or-range_with_len, length-range_with_len}
@@ -41,7 +41,7 @@ named-in ins globals held memories a b whole (ReadRegister m r) from named = abs
 named-in ins globals held memories a b whole (Computed line) from named =
     record { within = from.0 b named; named = subst (λ d. NamesSignal d (value_at globals b)) (sym from.1) (Names-renamed globals line b named) }
 
-module _ (whole part : FlatCircuit) (globals held memories order : List ℕ) (is : IsPart whole part globals held memories) (ordered : IsOrder whole order) where
+module _ (whole part : FlatCircuit) (globals held memories order : List ℕ) (clocks : List (Option ℕ)) (is : IsPart whole part globals held memories clocks) (ordered : IsOrder whole order) where
   -- if a signal of the part reads another, so do the signals of the whole for which they stand
   reads-in : (a b : ℕ) → Reads part a b → (b < length globals) × Reads whole (value_at globals a) (value_at globals b)
   reads-in a b reads =

@@ -1,6 +1,6 @@
 -- A part while it is made: one signal, register or memory more.
 use Rattle.std.proofs.Common.{◌≡◌, ◌≢◌, ℕ, ◌+◌, ◌<◌, List, [], ◌∷◌, ◌++◌, length, map, take, get_or, sym, ◌∙◌, ap, ap₂, subst, arith, below_more}
-use Rattle.std.specs.Prelude.{All, AllPairs, Contains}
+use Rattle.std.specs.Prelude.{All, AllPairs, Contains, Option}
 use Rattle.std.proofs.lemmas.List.{map_push, map_more, length_push, length-map, length-take-le, get_or_append_left, get_or_push, get_or-map, get_or-take, get_or_default}
 use Rattle.gg_bits.specs.Shape.{shape, uint}
 use Rattle.gg_flat.specs.declared.piece.Signal.{Signal}
@@ -9,6 +9,7 @@ use Rattle.gg_flat.specs.declared.piece.Driver.TheVariants.{Input}
 use Rattle.gg_flat.specs.Line.{shape_at, value_at}
 use Rattle.gg_flat.specs.Circuit.{FlatCircuit, signal_shapes, driver_at}
 use Rattle.gg_flat.specs.Tree.{path_at}
+use Rattle.gg_flat.specs.WellFormed.{IsClock, IsClockedMemory}
 use Rattle.gg_flat.specs.declared.piece.Register.{Register}
 use Rattle.gg_flat.specs.declared.memory.Memory.{Memory}
 use Rattle.gg_flat.proofs.ListLemmas.{once-apart}
@@ -31,6 +32,22 @@ all-more {X} P old new k own counted is here before r any lt =
     below_more (λ r. (any : X) → P (get_or new r any)) k
     (λ r lt any. subst P (sym (ap (λ (l : List X). get_or l r any) is ∙ get_or_append_left old (own ∷ []) any r (omega (arith, lt, counted)))) (before r any lt))
     (λ any. subst P (sym (ap (λ (l : List X). get_or l k any) is ∙ get_or_push old own any k counted)) here)
+    r lt any
+
+-- each item so far follows what stands for its place, and so does one more
+pub follows-more : {X : Type 0} (f : X → Option ℕ) (at : ℕ → Option ℕ) (old new : List X) (k : ℕ) (own : X) → length old ≡ k → new ≡ old ++ own ∷ [] → f own ≡ at k → ((r : ℕ) (any : X) → r < k → f (get_or old r any) ≡ at r) → (r : ℕ) (any : X) → r < k + 1 → f (get_or new r any) ≡ at r
+follows-more {X} f at old new k own counted is here before r any lt =
+    below_more (λ r. (any : X) → f (get_or new r any) ≡ at r) k
+    (λ r lt any. ap f (ap (λ (l : List X). get_or l r any) is ∙ get_or_append_left old (own ∷ []) any r (omega (arith, lt, counted))) ∙ before r any lt)
+    (λ any. ap f (ap (λ (l : List X). get_or l k any) is ∙ get_or_push old own any k counted) ∙ here)
+    r lt any
+
+-- each item so far has what is wanted of its place, and so has one more
+pub wants-more : {X : Type 0} (P : ℕ → X → Type 0) (old new : List X) (k : ℕ) (own : X) → length old ≡ k → new ≡ old ++ own ∷ [] → P k own → ((r : ℕ) (any : X) → r < k → P r (get_or old r any)) → (r : ℕ) (any : X) → r < k + 1 → P r (get_or new r any)
+wants-more {X} P old new k own counted is here before r any lt =
+    below_more (λ r. (any : X) → P r (get_or new r any)) k
+    (λ r lt any. subst (P r) (sym (ap (λ (l : List X). get_or l r any) is ∙ get_or_append_left old (own ∷ []) any r (omega (arith, lt, counted)))) (before r any lt))
+    (λ any. subst (P k) (sym (ap (λ (l : List X). get_or l k any) is ∙ get_or_push old own any k counted)) here)
     r lt any
 
 -- what was read at a place stands there, whatever the default is
@@ -122,20 +139,22 @@ module _ (first old new : FlatCircuit) where
 
 -- ---- one more register or memory
 
-pub AreRegisters-more : (whole : FlatCircuit) (globals held : List ℕ) (k : ℕ) (old new : List Register) (own item : Register) → AreRegisters whole globals held k old → new ≡ old ++ own ∷ [] → renamed_register globals own ≡ item → RegisterBelow (length globals) own → ((other : Register) → get_or whole.registers (value_at held k) other ≡ item) → AreRegisters whole globals held (k + 1) new
-AreRegisters-more whole globals held k old new own item before is here below read =
+pub AreRegisters-more : (whole : FlatCircuit) (globals held : List ℕ) (clocks : List (Option ℕ)) (k : ℕ) (old new : List Register) (own item : Register) → AreRegisters whole globals held clocks k old → new ≡ old ++ own ∷ [] → renamed_register globals clocks own ≡ item → RegisterBelow (length globals) own → IsClock (length clocks) own.clock → ((other : Register) → get_or whole.registers (value_at held k) other ≡ item) → AreRegisters whole globals held clocks (k + 1) new
+AreRegisters-more whole globals held clocks k old new own item before is here below clocked read =
     record {
       counted = ap length is ∙ length_push old own ∙ ap (λ n. n + 1) before.counted;
-      each = each-more (renamed_register globals) whole.registers old new held k own item before.counted is here read before.each;
+      each = each-more (renamed_register globals clocks) whole.registers old new held k own item before.counted is here read before.each;
       below = all-more (λ register. RegisterBelow (length globals) register) old new k own before.counted is below before.below;
+      clocked = all-more (λ register. IsClock (length clocks) register.clock) old new k own before.counted is clocked before.clocked;
     }
 
-pub AreMemories-more : (whole : FlatCircuit) (globals numbers : List ℕ) (k : ℕ) (old new : List Memory) (own item : Memory) → AreMemories whole globals numbers k old → new ≡ old ++ own ∷ [] → renamed_memory globals own ≡ item → MemoryBelow (length globals) own → ((other : Memory) → get_or whole.memories (value_at numbers k) other ≡ item) → AreMemories whole globals numbers (k + 1) new
-AreMemories-more whole globals numbers k old new own item before is here below read =
+pub AreMemories-more : (whole : FlatCircuit) (globals numbers : List ℕ) (clocks : List (Option ℕ)) (k : ℕ) (old new : List Memory) (own item : Memory) → AreMemories whole globals numbers clocks k old → new ≡ old ++ own ∷ [] → renamed_memory globals clocks own ≡ item → MemoryBelow (length globals) own → IsClockedMemory (length clocks) own → ((other : Memory) → get_or whole.memories (value_at numbers k) other ≡ item) → AreMemories whole globals numbers clocks (k + 1) new
+AreMemories-more whole globals numbers clocks k old new own item before is here below clocked read =
     record {
       counted = ap length is ∙ length_push old own ∙ ap (λ n. n + 1) before.counted;
-      each = each-more (renamed_memory globals) whole.memories old new numbers k own item before.counted is here read before.each;
+      each = each-more (renamed_memory globals clocks) whole.memories old new numbers k own item before.counted is here read before.each;
       below = all-more (λ memory. MemoryBelow (length globals) memory) old new k own before.counted is below before.below;
+      clocked = all-more (λ memory. IsClockedMemory (length clocks) memory) old new k own before.counted is clocked before.clocked;
     }
 
 -- the shape of a signal that was read

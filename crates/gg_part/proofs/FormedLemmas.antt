@@ -25,9 +25,9 @@ use Rattle.gg_part.specs.Part.{IsPart, IsFrom, renamed_op, renamed_line, renamed
 use Rattle.gg_part.proofs.RenameLemmas.{shapes_of-renamed, length-renamed, line_shape-renamed}
 use Rattle.gg_part.proofs.RunLemmas.{shape-part, length-shapes}
 
-module _ (whole part : FlatCircuit) (globals held memories : List ℕ) (is : IsPart whole part globals held memories) where
+module _ (whole part : FlatCircuit) (globals held memories : List ℕ) (clocks : List (Option ℕ)) (is : IsPart whole part globals held memories clocks) where
   type-part : (s : ℕ) (to : Shape) → s < length globals → HasType (signal_shapes whole) (value_at globals s) to → HasType (signal_shapes part) s to
-  type-part s to lt typed = (omega (arith, lt, length-shapes whole part globals held memories is), shape-part whole part globals held memories is s lt ∙ typed.1)
+  type-part s to lt typed = (omega (arith, lt, length-shapes whole part globals held memories clocks is), shape-part whole part globals held memories clocks is s lt ∙ typed.1)
 
   -- ---- lines
 
@@ -84,15 +84,15 @@ module _ (whole part : FlatCircuit) (globals held memories : List ℕ) (is : IsP
 
   -- ---- memories
 
-  memory-part : (memory : Memory) → ((r : ℕ) (d : Reader) → r < length memory.readers → ReadsAmong (length globals) (get_or memory.readers r d)) → ((w : ℕ) (d : Writer) → w < length memory.writers → (λ (writer : Writer). (writer.addr < length globals) × (writer.en < length globals) × (writer.word < length globals) × (writer.mask < length globals)) (get_or memory.writers w d)) → IsMemory (HasType (signal_shapes whole)) (renamed_memory globals memory) → IsMemory (HasType (signal_shapes part)) memory
+  memory-part : (memory : Memory) → ((r : ℕ) (d : Reader) → r < length memory.readers → ReadsAmong (length globals) (get_or memory.readers r d)) → ((w : ℕ) (d : Writer) → w < length memory.writers → (λ (writer : Writer). (writer.addr < length globals) × (writer.en < length globals) × (writer.word < length globals) × (writer.mask < length globals)) (get_or memory.writers w d)) → IsMemory (HasType (signal_shapes whole)) (renamed_memory globals clocks memory) → IsMemory (HasType (signal_shapes part)) memory
   memory-part memory reads writes typed =
       record {
         some = typed.some;
         readers = λ r d lt.
             let among = reads r d lt in
-            let long : r < length (map (λ reader. renamed_reader globals reader) memory.readers) = omega (arith, lt, length-map memory.readers (λ reader. renamed_reader globals reader)) in
-            let at = get_or-map (λ reader. renamed_reader globals reader) memory.readers r d (renamed_reader globals d) lt in
-            let old = subst (IsReader (HasType (signal_shapes whole)) (shape memory.word) memory.depth) at (typed.readers r (renamed_reader globals d) long) in
+            let long : r < length (map (λ reader. renamed_reader globals clocks reader) memory.readers) = omega (arith, lt, length-map memory.readers (λ reader. renamed_reader globals clocks reader)) in
+            let at = get_or-map (λ reader. renamed_reader globals clocks reader) memory.readers r d (renamed_reader globals clocks d) lt in
+            let old = subst (IsReader (HasType (signal_shapes whole)) (shape memory.word) memory.depth) at (typed.readers r (renamed_reader globals clocks d) long) in
             record {
               address = type-part (get_or memory.readers r d).addr _ among.0 old.address;
               enable = type-part (get_or memory.readers r d).en _ among.1 old.enable;
@@ -100,9 +100,9 @@ module _ (whole part : FlatCircuit) (globals held memories : List ℕ) (is : IsP
             };
         writers = λ w d lt.
             let among = writes w d lt in
-            let long : w < length (map (λ writer. renamed_writer globals writer) memory.writers) = omega (arith, lt, length-map memory.writers (λ writer. renamed_writer globals writer)) in
-            let at = get_or-map (λ writer. renamed_writer globals writer) memory.writers w d (renamed_writer globals d) lt in
-            let old = subst (IsWriter (HasType (signal_shapes whole)) (shape memory.word) memory.depth) at (typed.writers w (renamed_writer globals d) long) in
+            let long : w < length (map (λ writer. renamed_writer globals clocks writer) memory.writers) = omega (arith, lt, length-map memory.writers (λ writer. renamed_writer globals clocks writer)) in
+            let at = get_or-map (λ writer. renamed_writer globals clocks writer) memory.writers w d (renamed_writer globals clocks d) lt in
+            let old = subst (IsWriter (HasType (signal_shapes whole)) (shape memory.word) memory.depth) at (typed.writers w (renamed_writer globals clocks d) long) in
             record {
               address = type-part (get_or memory.writers w d).addr _ among.0 old.address;
               enable = type-part (get_or memory.writers w d).en _ among.1 old.enable;
@@ -111,27 +111,15 @@ module _ (whole part : FlatCircuit) (globals held memories : List ℕ) (is : IsP
             };
       }
 
-  -- the clocks of a memory's ports are those of the whole
-  clocked-part : (memory : Memory) → IsClockedMemory whole.clocks (renamed_memory globals memory) → IsClockedMemory whole.clocks memory
-  clocked-part memory clocked =
-      record {
-        readers = λ r d lt.
-            let long : r < length (map (λ reader. renamed_reader globals reader) memory.readers) = omega (arith, lt, length-map memory.readers (λ reader. renamed_reader globals reader)) in
-            subst (λ (x : Reader). IsClock whole.clocks x.clock) (get_or-map (λ reader. renamed_reader globals reader) memory.readers r d (renamed_reader globals d) lt) (clocked.readers r (renamed_reader globals d) long);
-        writers = λ w d lt.
-            let long : w < length (map (λ writer. renamed_writer globals writer) memory.writers) = omega (arith, lt, length-map memory.writers (λ writer. renamed_writer globals writer)) in
-            subst (λ (x : Writer). IsClock whole.clocks x.clock) (get_or-map (λ writer. renamed_writer globals writer) memory.writers w d (renamed_writer globals d) lt) (clocked.writers w (renamed_writer globals d) long);
-      }
-
-  readers-part : (m : ℕ) → m < length memories → readers_at whole (value_at memories m) ≡ map (λ reader. renamed_reader globals reader) (readers_at part m)
+  readers-part : (m : ℕ) → m < length memories → readers_at whole (value_at memories m) ≡ map (λ reader. renamed_reader globals clocks reader) (readers_at part m)
   readers-part m lt =
       let within : m < length part.memories = omega (arith, lt, is.memory_count) in
       let some = some-item part.memories m within in
       let local = get_or part.memories m some in
       let at = is.memory_from m lt in
-      get_or-map (λ (k : Memory). k.readers) whole.memories (value_at memories m) (renamed_memory globals local) [] at.within
-      ∙ ap (λ (k : Memory). k.readers) (at.is some (renamed_memory globals local))
-      ∙ ap (map (λ reader. renamed_reader globals reader)) (sym (get_or-map (λ (k : Memory). k.readers) part.memories m some [] within))
+      get_or-map (λ (k : Memory). k.readers) whole.memories (value_at memories m) (renamed_memory globals clocks local) [] at.within
+      ∙ ap (λ (k : Memory). k.readers) (at.is some (renamed_memory globals clocks local))
+      ∙ ap (map (λ reader. renamed_reader globals clocks reader)) (sym (get_or-map (λ (k : Memory). k.readers) part.memories m some [] within))
 
   latency-part : (m : ℕ) → m < length memories → latency_at whole (value_at memories m) ≡ latency_at part m
   latency-part m lt =
@@ -139,8 +127,8 @@ module _ (whole part : FlatCircuit) (globals held memories : List ℕ) (is : IsP
       let some = some-item part.memories m within in
       let local = get_or part.memories m some in
       let at = is.memory_from m lt in
-      get_or-map (λ (k : Memory). k.latency) whole.memories (value_at memories m) (renamed_memory globals local) Zero at.within
-      ∙ ap (λ (k : Memory). k.latency) (at.is some (renamed_memory globals local))
+      get_or-map (λ (k : Memory). k.latency) whole.memories (value_at memories m) (renamed_memory globals clocks local) Zero at.within
+      ∙ ap (λ (k : Memory). k.latency) (at.is some (renamed_memory globals clocks local))
       ∙ sym (get_or-map (λ (k : Memory). k.latency) part.memories m some Zero within)
 
   reader-among : (m r : ℕ) → m < length memories → r < length (readers_at part m) → ReadsAmong (length globals) (reader_at (readers_at part m) r)
@@ -151,13 +139,13 @@ module _ (whole part : FlatCircuit) (globals held memories : List ℕ) (is : IsP
       subst (λ (l : List Reader). ReadsAmong (length globals) (reader_at l r)) (sym same) (((is.memory_from m lt).below some).readers r (record { addr = 0; en = 0; word = 0; clock = None }) (subst (λ (l : List Reader). r < length l) same inside))
 
   -- reader r of memory m, in the whole's numbers
-  reader-renamed : (m r : ℕ) → m < length memories → r < length (readers_at part m) → reader_at (readers_at whole (value_at memories m)) r ≡ renamed_reader globals (reader_at (readers_at part m) r)
+  reader-renamed : (m r : ℕ) → m < length memories → r < length (readers_at part m) → reader_at (readers_at whole (value_at memories m)) r ≡ renamed_reader globals clocks (reader_at (readers_at part m) r)
   reader-renamed m r lt inside =
-      ap (λ l. reader_at l r) (readers-part m lt) ∙ get_or-map (λ reader. renamed_reader globals reader) (readers_at part m) r (record { addr = 0; en = 0; word = 0; clock = None }) (record { addr = 0; en = 0; word = 0; clock = None }) inside
+      ap (λ l. reader_at l r) (readers-part m lt) ∙ get_or-map (λ reader. renamed_reader globals clocks reader) (readers_at part m) r (record { addr = 0; en = 0; word = 0; clock = None }) (record { addr = 0; en = 0; word = 0; clock = None }) inside
 
   of-part : (m r s : ℕ) → m < length memories → s < length globals → IsDataOf whole (value_at memories m) r (value_at globals s) → IsDataOf part m r s
   of-part m r s lt known of =
-      let inside : r < length (readers_at part m) = omega (arith, of.0, ap length (readers-part m lt), length-map (readers_at part m) (λ reader. renamed_reader globals reader)) in
+      let inside : r < length (readers_at part m) = omega (arith, of.0, ap length (readers-part m lt), length-map (readers_at part m) (λ reader. renamed_reader globals clocks reader)) in
       let same : value_at globals (reader_at (readers_at part m) r).word ≡ value_at globals s = ap (λ (k : Reader). k.word) (sym (reader-renamed m r lt inside)) ∙ of.1 in
       (inside, once-apart globals 0 is.once (reader_at (readers_at part m) r).word s (reader-among m r lt inside).2 known same)
 
@@ -173,19 +161,19 @@ module _ (whole part : FlatCircuit) (globals held memories : List ℕ) (is : IsP
       let at = is.register_from r from.0 in (
         within,
         get_or-map (λ (x : Register). shape x.ty) part.registers r some (uint 0) within
-            ∙ ap (λ (x : Register). shape x.ty) (sym (at.is some (renamed_register globals local)))
-            ∙ sym (get_or-map (λ (x : Register). shape x.ty) whole.registers (value_at held r) (renamed_register globals local) (uint 0) at.within)
+            ∙ ap (λ (x : Register). shape x.ty) (sym (at.is some (renamed_register globals clocks local)))
+            ∙ sym (get_or-map (λ (x : Register). shape x.ty) whole.registers (value_at held r) (renamed_register globals clocks local) (uint 0) at.within)
             ∙ old.1
-            ∙ sym (shape-part whole part globals held memories is s known),
+            ∙ sym (shape-part whole part globals held memories clocks is s known),
       )
   drive-part s outer (MemoryWord m r addr en) known from may = of-part m r s from.0 known (subst (MayDrive whole (value_at globals s)) from.3 may)
   drive-part s outer (ReadRegister m r) known from may = of-part m r s from.0 known (subst (MayDrive whole (value_at globals s)) from.1 may)
   drive-part s outer (Computed line) known from may =
       let old = subst (MayDrive whole (value_at globals s)) from.1 may in
-      subst (λ sink. IsSource (HasType (signal_shapes part)) sink line) (sym (shape-part whole part globals held memories is s known)) (source-part (shape_at (signal_shapes whole) (value_at globals s)) line from.0 old)
+      subst (λ sink. IsSource (HasType (signal_shapes part)) sink line) (sym (shape-part whole part globals held memories clocks is s known)) (source-part (shape_at (signal_shapes whole) (value_at globals s)) line from.0 old)
 
   -- the driver of a reader's data, in the part
-  driven-part : (m r s : ℕ) (latency : Latency) (reader : Reader) (inner : Driver) → m < length memories → ReadsAmong (length globals) reader → ((place : ℕ) → inner ≢ Input place) → IsFrom part.ins globals held memories s (reader_driver latency (value_at memories m) r (renamed_reader globals reader)) inner → inner ≡ reader_driver latency m r reader
+  driven-part : (m r s : ℕ) (latency : Latency) (reader : Reader) (inner : Driver) → m < length memories → ReadsAmong (length globals) reader → ((place : ℕ) → inner ≢ Input place) → IsFrom part.ins globals held memories s (reader_driver latency (value_at memories m) r (renamed_reader globals clocks reader)) inner → inner ≡ reader_driver latency m r reader
   driven-part m r s latency reader (Input place) lt among given from = absurd (given place refl)
   driven-part m r s Zero reader (Held k) lt among given from = absurd (held≢word from.1)
     where
@@ -228,54 +216,49 @@ module _ (whole part : FlatCircuit) (globals held memories : List ℕ) (is : IsP
       let place : i ≡ j = once-apart globals 0 is.once i j li lj one in
       omega (arith, place, lt)
 
-pub IsWellFormed-part : (whole part : FlatCircuit) (globals held memories : List ℕ) → IsWellFormed whole → IsPart whole part globals held memories → IsWellFormed part
-IsWellFormed-part whole part globals held memories formed is =
+pub IsWellFormed-part : (whole part : FlatCircuit) (globals held memories : List ℕ) (clocks : List (Option ℕ)) → IsWellFormed whole → IsPart whole part globals held memories clocks → IsWellFormed part
+IsWellFormed-part whole part globals held memories clocks formed is =
     record {
       named = ap length is.paths ∙ length-map globals (path_at whole.paths) ∙ sym is.count;
-      distinct = subst (λ (l : List (List ℕ)). AllPairs (λ a b. a ≢ b) l) (sym is.paths) (distinct-part whole part globals held memories is formed.distinct formed.named);
+      distinct = subst (λ (l : List (List ℕ)). AllPairs (λ a b. a ≢ b) l) (sym is.paths) (distinct-part whole part globals held memories clocks is formed.distinct formed.named);
       drivers = λ s lt.
           let known : s < length globals = omega (arith, lt, is.count) in
-          drive-part whole part globals held memories is s (driver_at whole (value_at globals s)) (driver_at part s) known (is.drivers s known) (formed.drivers (value_at globals s) (is.within s known));
+          drive-part whole part globals held memories clocks is s (driver_at whole (value_at globals s)) (driver_at part s) known (is.drivers s known) (formed.drivers (value_at globals s) (is.within s known));
       ins = λ place lt. let at = is.ins place lt in (omega (arith, at.0, is.count), at.1);
       outs = λ place lt. omega (arith, is.outs place lt, is.count);
       registers = λ r d lt.
           let known : r < length held = omega (arith, lt, is.register_count) in
           let at = is.register_from r known in
           let local = get_or part.registers r d in
-          let old = subst (IsRegister (HasType (signal_shapes whole))) (at.is d (renamed_register globals local)) (formed.registers (value_at held r) (renamed_register globals local) at.within) in
+          let old = subst (IsRegister (HasType (signal_shapes whole))) (at.is d (renamed_register globals clocks local)) (formed.registers (value_at held r) (renamed_register globals clocks local) at.within) in
           record {
-            reset = reset-part whole part globals held memories is (shape local.ty) local.reset (λ s named. at.below d s (inl named)) old.reset;
-            next = next-part whole part globals held memories is (shape local.ty) local.next (λ s named. at.below d s (inr named)) old.next;
+            reset = reset-part whole part globals held memories clocks is (shape local.ty) local.reset (λ s named. at.below d s (inl named)) old.reset;
+            next = next-part whole part globals held memories clocks is (shape local.ty) local.next (λ s named. at.below d s (inr named)) old.next;
           };
       register_clocks = λ r d lt.
           let known : r < length held = omega (arith, lt, is.register_count) in
-          let at = is.register_from r known in
-          let local = get_or part.registers r d in
-          subst (λ n. IsClock n local.clock) (sym is.clocks) (subst (λ (x : Register). IsClock whole.clocks x.clock) (at.is d (renamed_register globals local)) (formed.register_clocks (value_at held r) (renamed_register globals local) at.within));
+          subst (λ n. IsClock n (get_or part.registers r d).clock) (sym is.clock_count) ((is.register_from r known).clocked d);
       memory_clocks = λ m d lt.
           let known : m < length memories = omega (arith, lt, is.memory_count) in
-          let at = is.memory_from m known in
-          let local = get_or part.memories m d in
-          let old = subst (IsClockedMemory whole.clocks) (at.is d (renamed_memory globals local)) (formed.memory_clocks (value_at memories m) (renamed_memory globals local) at.within) in
-          subst (λ n. IsClockedMemory n local) (sym is.clocks) (clocked-part whole part globals held memories is local old);
+          subst (λ n. IsClockedMemory n (get_or part.memories m d)) (sym is.clock_count) ((is.memory_from m known).clocked d);
       memories = λ m d lt.
           let known : m < length memories = omega (arith, lt, is.memory_count) in
           let at = is.memory_from m known in
           let local = get_or part.memories m d in
-          let old = subst (IsMemory (HasType (signal_shapes whole))) (at.is d (renamed_memory globals local)) (formed.memories (value_at memories m) (renamed_memory globals local) at.within) in
-          memory-part whole part globals held memories is local (at.below d).readers (at.below d).writers old;
+          let old = subst (IsMemory (HasType (signal_shapes whole))) (at.is d (renamed_memory globals clocks local)) (formed.memories (value_at memories m) (renamed_memory globals clocks local) at.within) in
+          memory-part whole part globals held memories clocks is local (at.below d).readers (at.below d).writers old;
       reads = λ m lt r inside.
           let known : m < length memories = omega (arith, lt, is.memory_count) in
           let at = is.memory_from m known in
           let reader = reader_at (readers_at part m) r in
-          let among = reader-among whole part globals held memories is m r known inside in
-          let renamed = reader-renamed whole part globals held memories is m r known inside in
+          let among = reader-among whole part globals held memories clocks is m r known inside in
+          let renamed = reader-renamed whole part globals held memories clocks is m r known inside in
           let count : length (readers_at whole (value_at memories m)) ≡ length (readers_at part m) =
-          ap length (readers-part whole part globals held memories is m known) ∙ length-map (readers_at part m) (λ reader. renamed_reader globals reader) in
-          let old : driver_at whole (value_at globals reader.word) ≡ reader_driver (latency_at part m) (value_at memories m) r (renamed_reader globals reader) =
+          ap length (readers-part whole part globals held memories clocks is m known) ∙ length-map (readers_at part m) (λ reader. renamed_reader globals clocks reader) in
+          let old : driver_at whole (value_at globals reader.word) ≡ reader_driver (latency_at part m) (value_at memories m) r (renamed_reader globals clocks reader) =
           ap (λ (k : Reader). driver_at whole k.word) (sym renamed)
           ∙ formed.reads (value_at memories m) at.within r (omega (arith, inside, count))
-          ∙ ap₂ (λ latency reader. reader_driver latency (value_at memories m) r reader) (latency-part whole part globals held memories is m known) renamed in
-          driven-part whole part globals held memories is m r reader.word (latency_at part m) reader (driver_at part reader.word) known among (λ place. at.given r place inside)
+          ∙ ap₂ (λ latency reader. reader_driver latency (value_at memories m) r reader) (latency-part whole part globals held memories clocks is m known) renamed in
+          driven-part whole part globals held memories clocks is m r reader.word (latency_at part m) reader (driver_at part reader.word) known among (λ place. at.given r place inside)
           (subst (λ outer. IsFrom part.ins globals held memories reader.word outer (driver_at part reader.word)) old (is.drivers reader.word among.2));
     }

@@ -8,3 +8,4 @@ pub mod FrameLemmas
 pub mod BuildLemmas
 pub mod PartLemmas
 pub mod WorkedParts
+pub mod ClockLemmas

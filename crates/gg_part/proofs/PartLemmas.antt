@@ -1,6 +1,6 @@
 -- The piece that is built is a part of the whole.
 use Rattle.std.proofs.Common.{◌≡◌, ℕ, ◌<◌, List, [], length, map, get_or, sym, ◌∙◌, ap, subst, arith}
-use Rattle.std.specs.Prelude.{All, Contains, None}
+use Rattle.std.specs.Prelude.{All, Contains, Option, None}
 use Rattle.std.proofs.lemmas.List.{get_or-map, length-map, take_all}
 use Rattle.std.proofs.lemmas.List.Elements.{Contains-get_or}
 use Rattle.gg_flat.specs.declared.memory.Reader.{Reader}
@@ -15,6 +15,7 @@ use Rattle.gg_flat.proofs.ListLemmas.{some-item, once-apart}
 use Rattle.gg_part.specs.Part.{IsPart, IsFrom, renamed_reader, renamed_memory}
 use Rattle.gg_part.specs.Choice.{IsChoice}
 use Rattle.gg_part.specs.Building.{AreHeld, AreSignals, AreRegisters, AreMemories}
+use Rattle.gg_part.specs.Clocking.{AreTimed}
 use Rattle.gg_part.proofs.FrameLemmas.{held-within}
 
 -- a choice is one without its out-signals too, and with equal lists in place of its own
@@ -39,7 +40,7 @@ IsChoice-frame whole globals ins outs memories own_globals own_ins own_memories 
       answers = chosen.answers;
     })))
 
-module _ (whole piece : FlatCircuit) (globals ins held memories : List ℕ) (formed : IsWellFormed whole) (chosen : IsChoice whole globals ins [] memories) (are_held : AreHeld whole globals ins held) (signals : AreSignals whole globals ins held memories (length globals) piece) (registers : AreRegisters whole globals held (length held) piece.registers) (banks : AreMemories whole globals memories (length memories) piece.memories) (own_ins : map (value_at globals) piece.ins ≡ ins) (ins_below : All (λ s. s < length globals) piece.ins) (outs_below : All (λ s. s < length globals) piece.outs) (clocks : piece.clocks ≡ whole.clocks) where
+module _ (whole piece : FlatCircuit) (globals ins held memories : List ℕ) (follows : List (Option ℕ)) (formed : IsWellFormed whole) (chosen : IsChoice whole globals ins [] memories) (are_held : AreHeld whole globals ins held) (signals : AreSignals whole globals ins held memories (length globals) piece) (registers : AreRegisters whole globals held follows (length held) piece.registers) (banks : AreMemories whole globals memories follows (length memories) piece.memories) (own_ins : map (value_at globals) piece.ins ≡ ins) (ins_below : All (λ s. s < length globals) piece.ins) (outs_below : All (λ s. s < length globals) piece.outs) (clocks : piece.clocks ≡ length follows) where
   ins-count : length piece.ins ≡ length ins
   ins-count = sym (length-map piece.ins (value_at globals)) ∙ ap length own_ins
 
@@ -70,14 +71,14 @@ module _ (whole piece : FlatCircuit) (globals ins held memories : List ℕ) (for
       let says = input-says s input.0 known input.1 in
       input.1 ∙ ap Input (once-apart ins 0 chosen.ins_once input.0 place says.0 inside (says.1 ∙ ins-at place lt))
 
-  readers-made : (m : ℕ) → m < length memories → readers_at whole (value_at memories m) ≡ map (λ reader. renamed_reader globals reader) (readers_at piece m)
+  readers-made : (m : ℕ) → m < length memories → readers_at whole (value_at memories m) ≡ map (λ reader. renamed_reader globals follows reader) (readers_at piece m)
   readers-made m lt =
       let within : m < length piece.memories = omega (arith, lt, banks.counted) in
       let some = some-item piece.memories m within in
       let local = get_or piece.memories m some in
-      get_or-map (λ (k : Memory). k.readers) whole.memories (value_at memories m) (renamed_memory globals local) [] (chosen.memory_within m 0 lt)
-      ∙ ap (λ (k : Memory). k.readers) (banks.each m some (renamed_memory globals local) lt)
-      ∙ ap (map (λ reader. renamed_reader globals reader)) (sym (get_or-map (λ (k : Memory). k.readers) piece.memories m some [] within))
+      get_or-map (λ (k : Memory). k.readers) whole.memories (value_at memories m) (renamed_memory globals follows local) [] (chosen.memory_within m 0 lt)
+      ∙ ap (λ (k : Memory). k.readers) (banks.each m some (renamed_memory globals follows local) lt)
+      ∙ ap (map (λ reader. renamed_reader globals follows reader)) (sym (get_or-map (λ (k : Memory). k.readers) piece.memories m some [] within))
 
   word-known : (m r : ℕ) → m < length memories → r < length (readers_at piece m) → (reader_at (readers_at piece m) r).word < length globals
   word-known m r lt inside =
@@ -91,13 +92,13 @@ module _ (whole piece : FlatCircuit) (globals ins held memories : List ℕ) (for
   not-given m r place lt inside input =
       let word = (reader_at (readers_at piece m) r).word in
       let says = input-says word place (word-known m r lt inside) input in
-      let renamed : reader_at (readers_at whole (value_at memories m)) r ≡ renamed_reader globals (reader_at (readers_at piece m) r) =
-      ap (λ l. reader_at l r) (readers-made m lt) ∙ get_or-map (λ reader. renamed_reader globals reader) (readers_at piece m) r (record { addr = 0; en = 0; word = 0; clock = None }) (record { addr = 0; en = 0; word = 0; clock = None }) inside in
+      let renamed : reader_at (readers_at whole (value_at memories m)) r ≡ renamed_reader globals follows (reader_at (readers_at piece m) r) =
+      ap (λ l. reader_at l r) (readers-made m lt) ∙ get_or-map (λ reader. renamed_reader globals follows reader) (readers_at piece m) r (record { addr = 0; en = 0; word = 0; clock = None }) (record { addr = 0; en = 0; word = 0; clock = None }) inside in
       let listed = subst (Contains ins) (says.1 ∙ ap (λ (k : Reader). k.word) (sym renamed)) (Contains-get_or ins place 0 says.0) in
-      let known : r < length (readers_at whole (value_at memories m)) = omega (arith, inside, ap length (readers-made m lt), length-map (readers_at piece m) (λ reader. renamed_reader globals reader)) in
+      let known : r < length (readers_at whole (value_at memories m)) = omega (arith, inside, ap length (readers-made m lt), length-map (readers_at piece m) (λ reader. renamed_reader globals follows reader)) in
       chosen.answers (value_at memories m) r (Contains-get_or memories m 0 lt) known listed
 
-  pub IsPart-made : IsPart whole piece globals held memories
+  pub IsPart-made : IsPart whole piece globals held memories follows
   IsPart-made =
       record {
         count = signals.counted;
@@ -108,12 +109,13 @@ module _ (whole piece : FlatCircuit) (globals ins held memories : List ℕ) (for
         drivers = λ s lt. from-local s (driver_at whole (value_at globals s)) (driver_at piece s) lt (signals.drivers s lt).from;
         ins = λ place lt. (ins_below place 0 lt, ins-driven place lt);
         outs = λ place lt. outs_below place 0 lt;
-        clocks = clocks;
+        clock_count = clocks;
         register_count = registers.counted;
         register_from = λ r lt. record {
           within = held-within whole globals ins held formed chosen.within are_held r 0 lt;
           is = λ any other. registers.each r any other lt;
           below = λ any. registers.below r any lt;
+          clocked = λ any. registers.clocked r any lt;
         };
         memory_count = banks.counted;
         memories_once = chosen.memories_once;
@@ -121,6 +123,16 @@ module _ (whole piece : FlatCircuit) (globals ins held memories : List ℕ) (for
           within = chosen.memory_within m 0 lt;
           is = λ any other. banks.each m any other lt;
           below = λ any. banks.below m any lt;
+          clocked = λ any. banks.clocked m any lt;
           given = λ r place inside. not-given m r place lt inside;
         };
       }
+
+-- what is timed is so by equal lists in place of its own
+pub AreTimed-frame : (whole : FlatCircuit) (globals ins memories own_globals own_ins own_memories : List ℕ) (clocks own_clocks registers : List (Option ℕ)) (ports : List (List (Option ℕ))) → own_globals ≡ globals → own_ins ≡ ins → own_memories ≡ memories → own_clocks ≡ clocks
+    → AreTimed whole globals ins memories clocks registers ports → AreTimed whole own_globals own_ins own_memories own_clocks registers ports
+AreTimed-frame whole globals ins memories own_globals own_ins own_memories clocks own_clocks registers ports g i m c timed =
+    subst (λ l. AreTimed whole l own_ins own_memories own_clocks registers ports) (sym g)
+    (subst (λ l. AreTimed whole globals l own_memories own_clocks registers ports) (sym i)
+    (subst (λ l. AreTimed whole globals ins l own_clocks registers ports) (sym m)
+    (subst (λ l. AreTimed whole globals ins memories l registers ports) (sym c) timed)))

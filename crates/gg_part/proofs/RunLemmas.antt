@@ -1,4 +1,5 @@
 -- A part of a run is a run of the part.
+use Rattle.std.specs.Prelude.{Option}
 use Rattle.std.proofs.Common.{◌≡◌, ℕ, zero, suc, ◌<◌, ◌≤◌, List, [], Bool, length, map, get_or, replicate, refl, sym, ◌∙◌, ap, ap₂, subst, arith}
 use Rattle.std.proofs.lemmas.List.{get_or-map, ext_get_or, length-map, length-replicate, get_or-replicate}
 use Rattle.std.proofs.lemmas.Grind.{same_number_lists}
@@ -7,21 +8,22 @@ use Rattle.gg_flat.specs.declared.memory.Memory.{Memory}
 use Rattle.gg_flat.specs.declared.piece.Register.{Register}
 use Rattle.gg_flat.specs.declared.piece.Driver.{Driver}
 use Rattle.gg_flat.specs.declared.piece.Driver.TheVariants.{Input, Held, MemoryWord, ReadRegister, Computed}
-use Rattle.gg_flat.specs.Clock.{edges_at}
+use Rattle.gg_flat.specs.Clock.{Ratio, edges_at, ticks}
+use Rattle.gg_flat.specs.Clocked.{clock_at}
 use Rattle.gg_flat.specs.Line.{value_at, shape_at, AreTyped}
 use Rattle.gg_flat.specs.Circuit.{FlatCircuit, signal_shapes, driver_at}
 use Rattle.gg_flat.specs.Memory.{Bank, read_word, bank_at, next_banks, next_bank, opening_bank}
 use Rattle.gg_flat.specs.State.{State, opening, next_state, next_register, next_registers, IsState}
 use Rattle.gg_flat.specs.Settled.{Settled, driver_value}
-use Rattle.gg_flat.specs.Run.{Start, later, opening_start, IsRunFrom, IsRun, IsColumns, state_at, row_at, inputs_at, column}
+use Rattle.gg_flat.specs.Run.{Start, later, clocked_start, IsRunFrom, IsColumns, state_at, row_at, inputs_at, column}
 use Rattle.gg_flat.proofs.AdvanceLemmas.{length-next_registers, next_registers-at}
 use Rattle.gg_flat.proofs.BankLemmas.{length-next_banks, next_banks-at}
 use Rattle.gg_flat.proofs.TypedLemmas.{shape_at-in_shapes}
 use Rattle.gg_flat.proofs.AlongLemmas.{IsState-opening}
 use Rattle.gg_flat.proofs.ListLemmas.{some-item}
 use Rattle.gg_part.specs.Part.{IsPart, IsFrom, renamed_register, renamed_memory}
-use Rattle.gg_part.specs.PartRun.{part_row, part_rows, part_state, part_start, part_columns}
-use Rattle.gg_part.proofs.RenameLemmas.{part_row-at, connected-renamed, register-renamed, bank-renamed, opening-renamed}
+use Rattle.gg_part.specs.PartRun.{part_row, part_rows, part_state, part_ratios, part_start, part_columns}
+use Rattle.gg_part.proofs.RenameLemmas.{part_row-at, connected-renamed, register-renamed, bank-renamed, opening-renamed, ticks-part}
 
 -- a state has as many registers and banks as the circuit
 pub record HasCounts (circuit : FlatCircuit) (state : State) : Type 0 where
@@ -49,7 +51,7 @@ bank-at memories banks m lt = get_or-map (bank_at banks) memories m 0 nothing lt
 pub record AreInputs (part : FlatCircuit) (globals inputs row : List ℕ) : Type 0 where
   pub each : (place : ℕ) → place < length part.ins → value_at inputs place ≡ value_at row (value_at globals (value_at part.ins place))
 
-module _ (whole part : FlatCircuit) (globals held memories : List ℕ) (is : IsPart whole part globals held memories) where
+module _ (whole part : FlatCircuit) (globals held memories : List ℕ) (clocks : List (Option ℕ)) (is : IsPart whole part globals held memories clocks) where
   -- a driver of the part gives what the whole's driver gives
   driver-part : (state : State) (inputs own row : List ℕ) (sink : Shape) (s : ℕ) (outer inner : Driver) → IsFrom part.ins globals held memories s outer inner → AreInputs part globals own row → value_at row (value_at globals s) ≡ driver_value state inputs row sink outer → value_at row (value_at globals s) ≡ driver_value (part_state held memories state) own (part_row globals row) sink inner
   driver-part state inputs own row sink s outer (Input place) from given driven =
@@ -96,48 +98,49 @@ module _ (whole part : FlatCircuit) (globals held memories : List ℕ) (is : IsP
 
   -- ---- states
 
-  registers-part : (edges : List Bool) (state : State) (row : List ℕ) → HasCounts whole state → next_registers edges (part_row globals row) part.registers (map (value_at state.registers) held) ≡ map (value_at (next_registers edges row whole.registers state.registers)) held
-  registers-part edges state row has =
-      let own = map (value_at state.registers) held in
-      let count : length own ≡ length part.registers = length-map held (value_at state.registers) ∙ sym is.register_count in
-      let long : length (next_registers edges (part_row globals row) part.registers own) ≡ length part.registers = length-next_registers edges (part_row globals row) part.registers own count in
-      same_number_lists (next_registers edges (part_row globals row) part.registers own) (map (value_at (next_registers edges row whole.registers state.registers)) held)
-      (long ∙ is.register_count ∙ sym (length-map held (value_at (next_registers edges row whole.registers state.registers)))) (λ r lt.
-      let within : r < length part.registers = omega (arith, lt, long) in
-      let known : r < length held = omega (arith, within, is.register_count) in
-      let some = some-item part.registers r within in
-      let local = get_or part.registers r some in
-      let at = is.register_from r known in
-      next_registers-at edges (part_row globals row) part.registers own r some count within
-      ∙ ap (next_register edges (part_row globals row) local) (get_or-map (value_at state.registers) held r 0 0 known)
-      ∙ sym (register-renamed globals row edges local (value_at state.registers (value_at held r)) (at.below some))
-      ∙ ap (λ (register : Register). next_register edges row register (value_at state.registers (value_at held r))) (sym (at.is some (renamed_register globals local)))
-      ∙ sym (next_registers-at edges row whole.registers state.registers (value_at held r) (renamed_register globals local) has.registers at.within)
-      ∙ sym (get_or-map (value_at (next_registers edges row whole.registers state.registers)) held r 0 0 known))
+  module _ (edges mine : List Bool) (same : (clock : Option ℕ) → ticks edges (clock_at clocks clock) ≡ ticks mine clock) where
+    registers-part : (state : State) (row : List ℕ) → HasCounts whole state → next_registers mine (part_row globals row) part.registers (map (value_at state.registers) held) ≡ map (value_at (next_registers edges row whole.registers state.registers)) held
+    registers-part state row has =
+        let own = map (value_at state.registers) held in
+        let count : length own ≡ length part.registers = length-map held (value_at state.registers) ∙ sym is.register_count in
+        let long : length (next_registers mine (part_row globals row) part.registers own) ≡ length part.registers = length-next_registers mine (part_row globals row) part.registers own count in
+        same_number_lists (next_registers mine (part_row globals row) part.registers own) (map (value_at (next_registers edges row whole.registers state.registers)) held)
+        (long ∙ is.register_count ∙ sym (length-map held (value_at (next_registers edges row whole.registers state.registers)))) (λ r lt.
+        let within : r < length part.registers = omega (arith, lt, long) in
+        let known : r < length held = omega (arith, within, is.register_count) in
+        let some = some-item part.registers r within in
+        let local = get_or part.registers r some in
+        let at = is.register_from r known in
+        next_registers-at mine (part_row globals row) part.registers own r some count within
+        ∙ ap (next_register mine (part_row globals row) local) (get_or-map (value_at state.registers) held r 0 0 known)
+        ∙ sym (register-renamed globals row clocks edges mine same local (value_at state.registers (value_at held r)) (at.below some))
+        ∙ ap (λ (register : Register). next_register edges row register (value_at state.registers (value_at held r))) (sym (at.is some (renamed_register globals clocks local)))
+        ∙ sym (next_registers-at edges row whole.registers state.registers (value_at held r) (renamed_register globals clocks local) has.registers at.within)
+        ∙ sym (get_or-map (value_at (next_registers edges row whole.registers state.registers)) held r 0 0 known))
 
-  banks-part : (edges : List Bool) (state : State) (row : List ℕ) → HasCounts whole state → next_banks edges (part_row globals row) part.memories (map (bank_at state.banks) memories) ≡ map (bank_at (next_banks edges row whole.memories state.banks)) memories
-  banks-part edges state row has =
-      let own = map (bank_at state.banks) memories in
-      let count : length own ≡ length part.memories = length-map memories (bank_at state.banks) ∙ sym is.memory_count in
-      let long : length (next_banks edges (part_row globals row) part.memories own) ≡ length part.memories = length-next_banks edges (part_row globals row) part.memories own count in
-      ext_get_or nothing (next_banks edges (part_row globals row) part.memories own) (map (bank_at (next_banks edges row whole.memories state.banks)) memories)
-      (long ∙ is.memory_count ∙ sym (length-map memories (bank_at (next_banks edges row whole.memories state.banks)))) (λ m lt.
-      let within : m < length part.memories = omega (arith, lt, long) in
-      let known : m < length memories = omega (arith, within, is.memory_count) in
-      let some = some-item part.memories m within in
-      let local = get_or part.memories m some in
-      let at = is.memory_from m known in
-      next_banks-at edges (part_row globals row) part.memories own m some count within
-      ∙ ap (next_bank edges (part_row globals row) local) (bank-at memories state.banks m known)
-      ∙ sym (bank-renamed globals row edges local (bank_at state.banks (value_at memories m)) (at.below some))
-      ∙ ap (λ (memory : Memory). next_bank edges row memory (bank_at state.banks (value_at memories m))) (sym (at.is some (renamed_memory globals local)))
-      ∙ sym (next_banks-at edges row whole.memories state.banks (value_at memories m) (renamed_memory globals local) has.banks at.within)
-      ∙ sym (bank-at memories (next_banks edges row whole.memories state.banks) m known))
+    banks-part : (state : State) (row : List ℕ) → HasCounts whole state → next_banks mine (part_row globals row) part.memories (map (bank_at state.banks) memories) ≡ map (bank_at (next_banks edges row whole.memories state.banks)) memories
+    banks-part state row has =
+        let own = map (bank_at state.banks) memories in
+        let count : length own ≡ length part.memories = length-map memories (bank_at state.banks) ∙ sym is.memory_count in
+        let long : length (next_banks mine (part_row globals row) part.memories own) ≡ length part.memories = length-next_banks mine (part_row globals row) part.memories own count in
+        ext_get_or nothing (next_banks mine (part_row globals row) part.memories own) (map (bank_at (next_banks edges row whole.memories state.banks)) memories)
+        (long ∙ is.memory_count ∙ sym (length-map memories (bank_at (next_banks edges row whole.memories state.banks)))) (λ m lt.
+        let within : m < length part.memories = omega (arith, lt, long) in
+        let known : m < length memories = omega (arith, within, is.memory_count) in
+        let some = some-item part.memories m within in
+        let local = get_or part.memories m some in
+        let at = is.memory_from m known in
+        next_banks-at mine (part_row globals row) part.memories own m some count within
+        ∙ ap (next_bank mine (part_row globals row) local) (bank-at memories state.banks m known)
+        ∙ sym (bank-renamed globals row clocks edges mine same local (bank_at state.banks (value_at memories m)) (at.below some))
+        ∙ ap (λ (memory : Memory). next_bank edges row memory (bank_at state.banks (value_at memories m))) (sym (at.is some (renamed_memory globals clocks local)))
+        ∙ sym (next_banks-at edges row whole.memories state.banks (value_at memories m) (renamed_memory globals clocks local) has.banks at.within)
+        ∙ sym (bank-at memories (next_banks edges row whole.memories state.banks) m known))
 
-  next-part : (edges : List Bool) (state : State) (row : List ℕ) → HasCounts whole state → next_state edges part (part_state held memories state) (part_row globals row) ≡ part_state held memories (next_state edges whole state row)
-  next-part edges state row has =
-      let make : List ℕ → List Bank → State = λ registers banks. record { registers = registers; banks = banks } in
-      ap₂ make (registers-part edges state row has) (banks-part edges state row has)
+    next-part : (state : State) (row : List ℕ) → HasCounts whole state → next_state mine part (part_state held memories state) (part_row globals row) ≡ part_state held memories (next_state edges whole state row)
+    next-part state row has =
+        let make : List ℕ → List Bank → State = λ registers banks. record { registers = registers; banks = banks } in
+        ap₂ make (registers-part state row has) (banks-part state row has)
 
   row-part : (rows : List (List ℕ)) (t : ℕ) → t < length rows → row_at (part_rows globals rows) t ≡ part_row globals (row_at rows t)
   row-part rows t lt = get_or-map (part_row globals) rows t [] [] lt
@@ -146,13 +149,14 @@ module _ (whole part : FlatCircuit) (globals held memories : List ℕ) (is : IsP
   HasCounts-at start rows has zero = has
   HasCounts-at start rows has (suc t) = HasCounts-next (edges_at start.ratios (later start.cycle t)) whole (state_at whole start rows t) (row_at rows t) (HasCounts-at start rows has t)
 
-  state-part : (start : Start) (rows : List (List ℕ)) → HasCounts whole start.state → (t : ℕ) → t ≤ length rows → state_at part (part_start held memories start) (part_rows globals rows) t ≡ part_state held memories (state_at whole start rows t)
+  pub state-part : (start : Start) (rows : List (List ℕ)) → HasCounts whole start.state → (t : ℕ) → t ≤ length rows → state_at part (part_start held memories clocks start) (part_rows globals rows) t ≡ part_state held memories (state_at whole start rows t)
   state-part start rows has zero le = refl
   state-part start rows has (suc t) le =
-      ap₂ (next_state (edges_at start.ratios (later start.cycle t)) part) (state-part start rows has t (omega arith)) (row-part rows t (omega arith))
-      ∙ next-part (edges_at start.ratios (later start.cycle t)) (state_at whole start rows t) (row_at rows t) (HasCounts-at start rows has t)
+      let mine = edges_at (part_ratios clocks start.ratios) (later start.cycle t) in
+      ap₂ (next_state mine part) (state-part start rows has t (omega arith)) (row-part rows t (omega arith))
+      ∙ next-part (edges_at start.ratios (later start.cycle t)) mine (ticks-part clocks start.ratios (later start.cycle t)) (state_at whole start rows t) (row_at rows t) (HasCounts-at start rows has t)
 
-  IsRunFrom-counts : (start : Start) (columns inputs : List (List ℕ)) (n : ℕ) (rows : List (List ℕ)) → HasCounts whole start.state → IsRunFrom whole start columns n rows → ((t : ℕ) → t < n → AreInputs part globals (inputs_at inputs (later start.cycle t)) (row_at rows t)) → IsRunFrom part (part_start held memories start) inputs n (part_rows globals rows)
+  IsRunFrom-counts : (start : Start) (columns inputs : List (List ℕ)) (n : ℕ) (rows : List (List ℕ)) → HasCounts whole start.state → IsRunFrom whole start columns n rows → ((t : ℕ) → t < n → AreInputs part globals (inputs_at inputs (later start.cycle t)) (row_at rows t)) → IsRunFrom part (part_start held memories clocks start) inputs n (part_rows globals rows)
   IsRunFrom-counts start columns inputs n rows has run given =
       record {
         count = length-map rows (part_row globals) ∙ run.count;
@@ -184,9 +188,9 @@ module _ (whole part : FlatCircuit) (globals held memories : List ℕ) (is : IsP
       let local = get_or part.memories m some in
       let at = is.memory_from m known in
       bank-at memories banks m known
-      ∙ get_or-map (λ memory. opening_bank memory) whole.memories (value_at memories m) (renamed_memory globals local) nothing at.within
-      ∙ ap (λ memory. opening_bank memory) (at.is some (renamed_memory globals local))
-      ∙ opening-renamed globals local
+      ∙ get_or-map (λ memory. opening_bank memory) whole.memories (value_at memories m) (renamed_memory globals clocks local) nothing at.within
+      ∙ ap (λ memory. opening_bank memory) (at.is some (renamed_memory globals clocks local))
+      ∙ opening-renamed globals clocks local
       ∙ sym (get_or-map (λ memory. opening_bank memory) part.memories m some nothing within))
 
   pub opening-part : part_state held memories (opening whole) ≡ opening part
@@ -203,19 +207,20 @@ module _ (whole part : FlatCircuit) (globals held memories : List ℕ) (is : IsP
       ∙ ap (λ (c : List ℕ). value_at c t) (get_or-map (λ s. column rows (value_at globals s)) part.ins place 0 [] known)
       ∙ get_or-map (λ (row : List ℕ). value_at row (value_at globals (value_at part.ins place))) rows t [] 0 lt
 
-  pub IsRun-part : (columns : List (List ℕ)) (n : ℕ) (rows : List (List ℕ)) → IsRun whole columns n rows → IsRun part (part_columns globals part rows) n (part_rows globals rows)
-  IsRun-part columns n rows run =
-      let from : State → Start = λ state. record { cycle = 0; state = state; ratios = [] } in
+  pub IsRun-part : (ratios : List Ratio) (columns : List (List ℕ)) (n : ℕ) (rows : List (List ℕ)) → IsRunFrom whole (clocked_start whole ratios) columns n rows
+      → IsRunFrom part (clocked_start part (part_ratios clocks ratios)) (part_columns globals part rows) n (part_rows globals rows)
+  IsRun-part ratios columns n rows run =
+      let from : State → Start = λ state. record { cycle = 0; state = state; ratios = part_ratios clocks ratios } in
       subst (λ state. IsRunFrom part (from state) (part_columns globals part rows) n (part_rows globals rows)) opening-part
-      (IsRunFrom-counts (opening_start whole) columns (part_columns globals part rows) n rows (HasCounts-state whole (opening whole) (IsState-opening whole)) run
+      (IsRunFrom-counts (clocked_start whole ratios) columns (part_columns globals part rows) n rows (HasCounts-state whole (opening whole) (IsState-opening whole)) run
       (λ t lt. record { each = λ place known. column-at rows t place (omega (arith, lt, run.count)) known }))
 
-  pub IsRunFrom-part : (start : Start) (columns inputs : List (List ℕ)) (n : ℕ) (rows : List (List ℕ)) → IsState whole start.state → IsRunFrom whole start columns n rows → ((t place : ℕ) → t < n → place < length part.ins → value_at (inputs_at inputs (later start.cycle t)) place ≡ value_at (row_at rows t) (value_at globals (value_at part.ins place))) → IsRunFrom part (part_start held memories start) inputs n (part_rows globals rows)
+  pub IsRunFrom-part : (start : Start) (columns inputs : List (List ℕ)) (n : ℕ) (rows : List (List ℕ)) → IsState whole start.state → IsRunFrom whole start columns n rows → ((t place : ℕ) → t < n → place < length part.ins → value_at (inputs_at inputs (later start.cycle t)) place ≡ value_at (row_at rows t) (value_at globals (value_at part.ins place))) → IsRunFrom part (part_start held memories clocks start) inputs n (part_rows globals rows)
   IsRunFrom-part start columns inputs n rows state run given =
       IsRunFrom-counts start columns inputs n rows (HasCounts-state whole start.state state) run (λ t lt. record { each = λ place known. given t place lt known })
 
-  pub IsColumns-part : (columns : List (List ℕ)) (n : ℕ) (rows : List (List ℕ)) → IsRun whole columns n rows → IsColumns part n (part_columns globals part rows)
-  IsColumns-part columns n rows run =
+  pub IsColumns-part : (ratios : List Ratio) (columns : List (List ℕ)) (n : ℕ) (rows : List (List ℕ)) → IsRunFrom whole (clocked_start whole ratios) columns n rows → IsColumns part n (part_columns globals part rows)
+  IsColumns-part ratios columns n rows run =
       let own = part_columns globals part rows in
       let count : length own ≡ length part.ins = length-map part.ins (λ s. column rows (value_at globals s)) in
       record {

@@ -126,15 +126,16 @@ part =
       clocks = 0;
     }
 
-part-register : IsRegisterFrom counter part globals (0 ∷ []) 0
+part-register : IsRegisterFrom counter part globals (0 ∷ []) [] 0
 part-register =
     record {
       within = lit< tt;
       is = λ any other. refl;
       below = λ any s named. counted-names (λ s. s < 3) 2 0 1 s (lit< tt) (lit< tt) (lit< tt) named;
+      clocked = λ any. tt;
     }
 
-is-part : IsPart counter part globals (0 ∷ []) []
+is-part : IsPart counter part globals (0 ∷ []) [] []
 is-part =
     record {
       count = refl;
@@ -145,9 +146,9 @@ is-part =
       drivers = three (λ s. IsFrom part.ins globals (0 ∷ []) [] s (driver_at counter (value_at globals s)) (driver_at part s)) (lit< tt, refl) (lit< tt, refl) (lit< tt, refl);
       ins = both (λ place. (value_at part.ins place < 3) × (driver_at part (value_at part.ins place) ≡ Input place)) (lit< tt, refl) (lit< tt, refl);
       outs = only (λ place. value_at part.outs place < 3) (lit< tt);
-      clocks = refl;
+      clock_count = refl;
       register_count = refl;
-      register_from = only (λ r. IsRegisterFrom counter part globals (0 ∷ []) r) part-register;
+      register_from = only (λ r. IsRegisterFrom counter part globals (0 ∷ []) [] r) part-register;
       memory_count = refl;
       memories_once = λ i j d lt within. absurd (omega arith);
       memory_from = λ m lt. absurd (omega arith);
@@ -181,11 +182,11 @@ given-data signals choice = choice.answers 0 0 (0, lit< tt, refl) (lit< tt) (0, 
 -- ---- what is no part
 
 -- it lists a clock that the counter hasn't
-not-clocked : ¬ IsPart counter (record part { clocks = 1 }) globals (0 ∷ []) []
-not-clocked is = let clocks : 1 ≡ 0 = is.clocks in omega (arith, clocks)
+not-clocked : ¬ IsPart counter (record part { clocks = 1 }) globals (0 ∷ []) [] []
+not-clocked is = let clocks : 1 ≡ 0 = is.clock_count in omega (arith, clocks)
 
 -- the register has the whole's numbers
-not-renamed : ¬ IsPart counter (record part { registers = counted 0 2 3 ∷ [] }) globals (0 ∷ []) []
+not-renamed : ¬ IsPart counter (record part { registers = counted 0 2 3 ∷ [] }) globals (0 ∷ []) [] []
 not-renamed is = let past : 3 < 3 = (is.register_from 0 (lit< tt)).below (counted 0 2 3) 3 (inr (2, lit< tt, refl)) in absurd (omega (arith, past))
 
 -- what the first node of a register's connection does
@@ -195,14 +196,14 @@ first_op (Some []) = Ref 0
 first_op (Some (node ∷ nodes)) = node.op
 
 -- the register's numbers are mixed up
-not-mixed : ¬ IsPart counter (record part { registers = counted 1 0 2 ∷ [] }) globals (0 ∷ []) []
+not-mixed : ¬ IsPart counter (record part { registers = counted 1 0 2 ∷ [] }) globals (0 ∷ []) [] []
 not-mixed is = apart 0 3 refl (same 0 3 (reset-is ((is.register_from 0 (lit< tt)).is (counted 1 0 2) (counted 0 2 3))))
   where
     reset-is : counted 0 2 3 ≡ counted 3 2 0 → Ref 0 ≡ Ref 3
     reset-is is = ap (λ (register : Register). first_op register.next) is
 
 -- the in-signals stand in the other order than their drivers say
-not-in-turn : ¬ IsPart counter (record part { ins = 2 ∷ 1 ∷ [] }) globals (0 ∷ []) []
+not-in-turn : ¬ IsPart counter (record part { ins = 2 ∷ 1 ∷ [] }) globals (0 ∷ []) [] []
 not-in-turn is = turned (is.ins 0 (lit< tt)).1
   where
     turned : Input 1 ≡ Input 0 → ⊥

@@ -1,7 +1,7 @@
 -- A part while it is built: its frame, and the signals, registers and memories that it has so far.
 -- Source: this program's own. A part has its signals, registers and memories in the order of the lists that it is
 -- built from.
-use Rattle.std.specs.Prelude.{◌≡◌, ℕ, ◌<◌, List, [], ◌∷◌, ◌++◌, length, map, take, slice_index_or, Contains}
+use Rattle.std.specs.Prelude.{◌≡◌, ℕ, ◌<◌, List, [], ◌∷◌, ◌++◌, Option, length, map, take, slice_index_or, Contains}
 use Rattle.gg_bits.specs.Shape.{shape}
 use Rattle.gg_flat.specs.declared.piece.Signal.{Signal}
 use Rattle.gg_flat.specs.declared.piece.Register.{Register}
@@ -11,6 +11,7 @@ use Rattle.gg_flat.specs.declared.memory.Memory.{Memory}
 use Rattle.gg_flat.specs.Line.{shape_at, value_at}
 use Rattle.gg_flat.specs.Circuit.{FlatCircuit, signal_shapes, driver_at}
 use Rattle.gg_flat.specs.Tree.{path_at}
+use Rattle.gg_flat.specs.WellFormed.{IsClock, IsClockedMemory}
 use Rattle.gg_part.specs.Part.{IsFrom, renamed_register, renamed_memory, RegisterBelow, MemoryBelow}
 
 -- Signal s holds register r, and doesn't come from outside.
@@ -54,13 +55,15 @@ pub record AreSignals (whole : FlatCircuit) (globals ins held memories : List �
   pub drivers : (s : ℕ) → s < count → IsDriven whole globals ins held memories (value_at globals s) (driver_at piece s)
 
 -- These registers are the first `count` of the part.
-pub record AreRegisters (whole : FlatCircuit) (globals held : List ℕ) (count : ℕ) (registers : List Register) : Type 0 where
+pub record AreRegisters (whole : FlatCircuit) (globals held : List ℕ) (clocks : List (Option ℕ)) (count : ℕ) (registers : List Register) : Type 0 where
   pub counted : length registers ≡ count
-  pub each : (r : ℕ) (any other : Register) → r < count → slice_index_or whole.registers (value_at held r) other ≡ renamed_register globals (slice_index_or registers r any)
+  pub each : (r : ℕ) (any other : Register) → r < count → slice_index_or whole.registers (value_at held r) other ≡ renamed_register globals clocks (slice_index_or registers r any)
   pub below : (r : ℕ) (any : Register) → r < count → RegisterBelow (length globals) (slice_index_or registers r any)
+  pub clocked : (r : ℕ) (any : Register) → r < count → IsClock (length clocks) (slice_index_or registers r any).clock
 
 -- These memories are the first `count` of the part.
-pub record AreMemories (whole : FlatCircuit) (globals numbers : List ℕ) (count : ℕ) (memories : List Memory) : Type 0 where
+pub record AreMemories (whole : FlatCircuit) (globals numbers : List ℕ) (clocks : List (Option ℕ)) (count : ℕ) (memories : List Memory) : Type 0 where
   pub counted : length memories ≡ count
-  pub each : (m : ℕ) (any other : Memory) → m < count → slice_index_or whole.memories (value_at numbers m) other ≡ renamed_memory globals (slice_index_or memories m any)
+  pub each : (m : ℕ) (any other : Memory) → m < count → slice_index_or whole.memories (value_at numbers m) other ≡ renamed_memory globals clocks (slice_index_or memories m any)
   pub below : (m : ℕ) (any : Memory) → m < count → MemoryBelow (length globals) (slice_index_or memories m any)
+  pub clocked : (m : ℕ) (any : Memory) → m < count → IsClockedMemory (length clocks) (slice_index_or memories m any)

@@ -4,3 +4,4 @@ pub mod InOrder
 pub mod Choice
 pub mod Numbers
 pub mod Building
+pub mod Clocking

@@ -16,11 +16,13 @@ use Rattle.gg_flat.specs.declared.piece.Driver.TheVariants.{Input, Held, MemoryW
 use Rattle.gg_flat.specs.Line.{shape_at, value_at}
 use Rattle.gg_flat.specs.Circuit.{FlatCircuit, signal_shapes, driver_at, readers_at, reader_at}
 use Rattle.gg_flat.specs.Reads.{Names, RegisterNames}
+use Rattle.gg_flat.specs.Clocked.{clock_at}
 use Rattle.gg_flat.specs.Memory.{WritesAmong}
 use Rattle.gg_flat.specs.Tree.{path_at}
+use Rattle.gg_flat.specs.WellFormed.{IsClock, IsClockedMemory}
 
 -- ---- the part's things in the numbers of the whole; `globals` has the number in the whole of each signal of the
--- part
+-- part, and `clocks` the clock of the whole that each clock of the part follows, if any
 
 abbrev pub renamed_op : List ℕ → Op → Op
 renamed_op globals (Ref s) = Ref (value_at globals s)
@@ -44,25 +46,26 @@ abbrev pub renamed_reset : List ℕ → Option Reset → Option Reset
 renamed_reset globals None = None
 renamed_reset globals (Some reset) = Some (record { condition = renamed_line globals reset.condition; init = renamed_line globals reset.init })
 
-abbrev pub renamed_register : List ℕ → Register → Register
-renamed_register globals register =
-    record { ty = register.ty; reset = renamed_reset globals register.reset; next = renamed_next globals register.next; clock = register.clock }
+abbrev pub renamed_register : List ℕ → List (Option ℕ) → Register → Register
+renamed_register globals clocks register =
+    record { ty = register.ty; reset = renamed_reset globals register.reset; next = renamed_next globals register.next; clock = clock_at clocks register.clock }
 
-abbrev pub renamed_reader : List ℕ → Reader → Reader
-renamed_reader globals reader = record { addr = value_at globals reader.addr; en = value_at globals reader.en; word = value_at globals reader.word; clock = reader.clock }
+abbrev pub renamed_reader : List ℕ → List (Option ℕ) → Reader → Reader
+renamed_reader globals clocks reader =
+    record { addr = value_at globals reader.addr; en = value_at globals reader.en; word = value_at globals reader.word; clock = clock_at clocks reader.clock }
 
-abbrev pub renamed_writer : List ℕ → Writer → Writer
-renamed_writer globals writer =
-    record { addr = value_at globals writer.addr; en = value_at globals writer.en; word = value_at globals writer.word; mask = value_at globals writer.mask; clock = writer.clock }
+abbrev pub renamed_writer : List ℕ → List (Option ℕ) → Writer → Writer
+renamed_writer globals clocks writer =
+    record { addr = value_at globals writer.addr; en = value_at globals writer.en; word = value_at globals writer.word; mask = value_at globals writer.mask; clock = clock_at clocks writer.clock }
 
-abbrev pub renamed_memory : List ℕ → Memory → Memory
-renamed_memory globals memory =
+abbrev pub renamed_memory : List ℕ → List (Option ℕ) → Memory → Memory
+renamed_memory globals clocks memory =
     record {
       word = memory.word;
       depth = memory.depth;
       latency = memory.latency;
-      readers = map (λ reader. renamed_reader globals reader) memory.readers;
-      writers = map (λ writer. renamed_writer globals writer) memory.writers;
+      readers = map (λ reader. renamed_reader globals clocks reader) memory.readers;
+      writers = map (λ writer. renamed_writer globals clocks writer) memory.writers;
     }
 
 -- ---- what the part names exists
@@ -97,24 +100,26 @@ IsFrom ins globals held memories s driver (MemoryWord m r addr en) =
 IsFrom ins globals held memories s driver (ReadRegister m r) = (m < length memories) × (driver ≡ ReadRegister (value_at memories m) r)
 IsFrom ins globals held memories s driver (Computed line) = NamesBelow (length globals) line × (driver ≡ Computed (renamed_line globals line))
 
--- Register r of the part is the register of the whole circuit with that number in `held`.
-pub record IsRegisterFrom (whole part : FlatCircuit) (globals held : List ℕ) (r : ℕ) : Type 0 where
+-- Register r of the part is the register of the whole circuit with that number in `held`. It follows a clock of the part, if any.
+pub record IsRegisterFrom (whole part : FlatCircuit) (globals held : List ℕ) (clocks : List (Option ℕ)) (r : ℕ) : Type 0 where
   pub within : value_at held r < length whole.registers
-  pub is : (any other : Register) → slice_index_or whole.registers (value_at held r) other ≡ renamed_register globals (slice_index_or part.registers r any)
+  pub is : (any other : Register) → slice_index_or whole.registers (value_at held r) other ≡ renamed_register globals clocks (slice_index_or part.registers r any)
   pub below : (any : Register) → RegisterBelow (length globals) (slice_index_or part.registers r any)
+  pub clocked : (any : Register) → IsClock (length clocks) (slice_index_or part.registers r any).clock
 
--- Memory m of the part is the memory of the whole circuit with that number in `memories`. It has all its ports, and
--- the data of its readers isn't an in-signal.
-pub record IsMemoryFrom (whole part : FlatCircuit) (globals memories : List ℕ) (m : ℕ) : Type 0 where
+-- Memory m of the part is the memory of the whole circuit with that number in `memories`. It has all its ports, each of which follows a
+-- clock of the part, if any, and the data of its readers isn't an in-signal.
+pub record IsMemoryFrom (whole part : FlatCircuit) (globals memories : List ℕ) (clocks : List (Option ℕ)) (m : ℕ) : Type 0 where
   pub within : value_at memories m < length whole.memories
-  pub is : (any other : Memory) → slice_index_or whole.memories (value_at memories m) other ≡ renamed_memory globals (slice_index_or part.memories m any)
+  pub is : (any other : Memory) → slice_index_or whole.memories (value_at memories m) other ≡ renamed_memory globals clocks (slice_index_or part.memories m any)
   pub below : (any : Memory) → MemoryBelow (length globals) (slice_index_or part.memories m any)
+  pub clocked : (any : Memory) → IsClockedMemory (length clocks) (slice_index_or part.memories m any)
   pub given : (r place : ℕ) → r < length (readers_at part m) → driver_at part (reader_at (readers_at part m) r).word ≢ Input place
 
 -- A part: some signals of the whole circuit, each once, with their paths and types. Each is an in-signal, or has its
 -- driver from the whole circuit. The registers and the memories that these drivers name are those of the whole
--- circuit, and so are the clocks.
-pub record IsPart (whole part : FlatCircuit) (globals held memories : List ℕ) : Type 0 where
+-- circuit. The part has a clock for each item of `clocks`, by which its registers and ports follow those of the whole circuit.
+pub record IsPart (whole part : FlatCircuit) (globals held memories : List ℕ) (clocks : List (Option ℕ)) : Type 0 where
   pub count : length part.signals ≡ length globals
   pub within : (s : ℕ) → s < length globals → value_at globals s < length whole.signals
   pub once : AllPairs (λ a b. a ≢ b) globals
@@ -123,9 +128,9 @@ pub record IsPart (whole part : FlatCircuit) (globals held memories : List ℕ) 
   pub drivers : (s : ℕ) → s < length globals → IsFrom part.ins globals held memories s (driver_at whole (value_at globals s)) (driver_at part s)
   pub ins : (place : ℕ) → place < length part.ins → (value_at part.ins place < length globals) × (driver_at part (value_at part.ins place) ≡ Input place)
   pub outs : (place : ℕ) → place < length part.outs → value_at part.outs place < length globals
-  pub clocks : part.clocks ≡ whole.clocks
+  pub clock_count : part.clocks ≡ length clocks
   pub register_count : length part.registers ≡ length held
-  pub register_from : (r : ℕ) → r < length held → IsRegisterFrom whole part globals held r
+  pub register_from : (r : ℕ) → r < length held → IsRegisterFrom whole part globals held clocks r
   pub memory_count : length part.memories ≡ length memories
   pub memories_once : AllPairs (λ a b. a ≢ b) memories
-  pub memory_from : (m : ℕ) → m < length memories → IsMemoryFrom whole part globals memories m
+  pub memory_from : (m : ℕ) → m < length memories → IsMemoryFrom whole part globals memories clocks m

@@ -1,6 +1,7 @@
 -- What a part has of the rows, states and runs of the whole circuit.
 -- Source: MEMOCODE 2009: the values of a part are those of the same signals in the whole.
-use Rattle.std.specs.Prelude.{ℕ, List, map}
+use Rattle.std.specs.Prelude.{ℕ, List, [], ◌∷◌, Option, Some, None, map, slice_index_or}
+use Rattle.gg_flat.specs.Clock.{Ratio}
 use Rattle.gg_flat.specs.Line.{value_at}
 use Rattle.gg_flat.specs.Circuit.{FlatCircuit}
 use Rattle.gg_flat.specs.Memory.{bank_at}
@@ -19,9 +20,19 @@ part_rows globals rows = map (λ row. part_row globals row) rows
 abbrev pub part_state : List ℕ → List ℕ → State → State
 part_state held memories state = record { registers = map (value_at state.registers) held; banks = map (bank_at state.banks) memories }
 
+-- the ratio of a clock of the whole, if there is a clock: the clock of every tick, and one past the end, has an edge in each tick
+abbrev pub ratio_at : List Ratio → Option ℕ → Ratio
+ratio_at ratios None = record { m = 1; d = 1 }
+ratio_at ratios (Some clock) = slice_index_or ratios clock (record { m = 1; d = 1 })
+
+-- The ratios of the part's clocks, which follow these clocks of the whole. Without ratios each clock has an edge in each tick.
+abbrev pub part_ratios : List (Option ℕ) → List Ratio → List Ratio
+part_ratios clocks [] = []
+part_ratios clocks (ratio ∷ ratios) = map (ratio_at (ratio ∷ ratios)) clocks
+
 -- where the part's run starts, if the run of the whole starts here
-abbrev pub part_start : List ℕ → List ℕ → Start → Start
-part_start held memories start = record { cycle = start.cycle; state = part_state held memories start.state; ratios = start.ratios }
+abbrev pub part_start : List ℕ → List ℕ → List (Option ℕ) → Start → Start
+part_start held memories clocks start = record { cycle = start.cycle; state = part_state held memories start.state; ratios = part_ratios clocks start.ratios }
 
 -- the columns of the part's in-signals in the rows of the whole
 abbrev pub part_columns : List ℕ → FlatCircuit → List (List ℕ) → List (List ℕ)

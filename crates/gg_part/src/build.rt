@@ -1,5 +1,5 @@
 //! `part_of`: builds a part from a choice of a circuit's signals and memories.
-ghost use Rattle.std.specs.Prelude.{◌≡◌, ◌≢◌, ℕ, ◌<◌, ◌-◌, ◌^◌, List, [], length, map, IfOk, OnOk, All, Contains};
+ghost use Rattle.std.specs.Prelude.{◌≡◌, ◌≢◌, ℕ, ◌<◌, ◌-◌, ◌^◌, List, [], length, map, slice_index_or, IfOk, OnOk, All, Contains};
 ghost use Rattle.gg_flat.specs.declared.paths.AddError.TheVariants.{Doubled};
 ghost use Rattle.gg_flat.specs.declared.piece.Driver.TheVariants.{Input, Held};
 ghost use Rattle.gg_flat.specs.Circuit.{no_circuit, driver_at};
@@ -10,11 +10,12 @@ ghost use Rattle.gg_flat.specs.WellFormed.{IsWellFormed};
 ghost use Rattle.gg_part.specs.Part.{IsFrom, IsPart};
 ghost use Rattle.gg_part.specs.Choice.{NamesMemory, IsChoice};
 ghost use Rattle.gg_part.specs.Building.{AreHeld, IsDriven, IsAdded, AreSignals, AreRegisters, AreMemories};
+ghost use Rattle.gg_part.specs.Clocking.{AreTimed, IsTimed, MemoriesFollow, RegistersFollow};
 
 use crate::frame::{Frame, driver_of, frame_of};
 use crate::numbers::Numbers;
-use crate::part::Part;
-use crate::rename::{local_line, local_memory, local_register};
+use crate::part::{Clocking, Part};
+use crate::rename::{clock_in, local_line, local_memory, local_register};
 use gg_bits::Name;
 use gg_flat::{AddError, Driver, Piece, Signal};
 use std::alloc::{AllocError, Global};
@@ -130,39 +131,59 @@ fn add_signals(
 fn add_registers(
     alloc: Global,
     whole: &Piece,
+    clocking: &Clocking,
     frame: &Frame,
     piece: &mut Piece,
 ) -> Result<(), AllocError>
     requires formed { IsWellFormed whole.now }
     requires chosen { IsChoice whole.now frame.now.globals frame.now.ins [] frame.now.memories }
     requires held { AreHeld whole.now frame.now.globals frame.now.ins frame.now.held }
+    requires timed { AreTimed whole.now frame.now.globals frame.now.ins frame.now.memories frame.now.clocks clocking.now.registers clocking.now.ports }
     requires empty { piece.old.registers ≡ [] }
     ensures only { OnOk result (piece.new ≡ record piece.old { registers = piece.new.registers }) }
-    ensures registers { OnOk result (AreRegisters whole.now frame.now.globals frame.now.held (length frame.now.held) piece.new.registers) }
+    ensures registers { OnOk result (AreRegisters whole.now frame.now.globals frame.now.held frame.now.clocks (length frame.now.held) piece.new.registers) }
+    ensures own { OnOk result (RegistersFollow frame.now.held clocking.now.registers (length frame.now.held) piece.new.registers) }
 {
+    let clocks = frame.clocks.as_slice();
     for number in frame.held.as_slice() {
         let register = &whole.registers()[*number as usize];
-        let own = local_register(alloc, &frame.globals, register)?;
+        let clock = clock_in(clocking.registers.as_slice(), *number as usize);
+        let own = local_register(alloc, &frame.globals, clocks, clock, register)?;
         piece.add_register(own)?;
     }
     Ok(())
+}
+
+// The clocks that the ports of the memory with this number follow.
+fn ports_of(clocking: &Clocking, number: u32) -> &[Option<u32>]
+    ensures { result.now ≡ slice_index_or clocking.now.ports number [] }
+{
+    match clocking.ports.as_slice().get(number as usize) {
+        Some(ports) => ports.as_slice(),
+        None => &[],
+    }
 }
 
 // Adds the memories of the part.
 fn add_memories(
     alloc: Global,
     whole: &Piece,
+    clocking: &Clocking,
     frame: &Frame,
     piece: &mut Piece,
 ) -> Result<(), AllocError>
     requires chosen { IsChoice whole.now frame.now.globals frame.now.ins [] frame.now.memories }
+    requires timed { AreTimed whole.now frame.now.globals frame.now.ins frame.now.memories frame.now.clocks clocking.now.registers clocking.now.ports }
     requires empty { piece.old.memories ≡ [] }
     ensures only { OnOk result (piece.new ≡ record piece.old { memories = piece.new.memories }) }
-    ensures memories { OnOk result (AreMemories whole.now frame.now.globals frame.now.memories (length frame.now.memories) piece.new.memories) }
+    ensures memories { OnOk result (AreMemories whole.now frame.now.globals frame.now.memories frame.now.clocks (length frame.now.memories) piece.new.memories) }
+    ensures own { OnOk result (MemoriesFollow frame.now.memories clocking.now.ports (length frame.now.memories) piece.new.memories) }
 {
+    let clocks = frame.clocks.as_slice();
     for number in frame.memories.as_slice() {
         let memory = &whole.memories()[*number as usize];
-        let own = local_memory(alloc, &frame.globals, memory)?;
+        let ports = ports_of(clocking, *number);
+        let own = local_memory(alloc, &frame.globals, clocks, ports, memory)?;
         piece.add_memory(own)?;
     }
     Ok(())
@@ -204,6 +225,7 @@ fn add_outs(globals: &Numbers, outs: &[u32], piece: &mut Piece) -> Result<(), Al
 fn add_all(
     alloc: Global,
     whole: &Piece,
+    clocking: &Clocking,
     frame: &Frame,
     outs: &[u32],
     piece: &mut Piece,
@@ -211,23 +233,27 @@ fn add_all(
     requires formed { IsWellFormed whole.now }
     requires chosen { IsChoice whole.now frame.now.globals frame.now.ins [] frame.now.memories }
     requires held { AreHeld whole.now frame.now.globals frame.now.ins frame.now.held }
+    requires timed { AreTimed whole.now frame.now.globals frame.now.ins frame.now.memories frame.now.clocks clocking.now.registers clocking.now.ports }
+    requires few { length frame.now.clocks < 2 ^ 32 }
     requires outs { All (λ s. Contains frame.now.globals s) outs.now }
     requires empty { piece.old ≡ no_circuit }
-    ensures part { OnOk result (IsPart whole.now piece.new frame.now.globals frame.now.held frame.now.memories) }
+    ensures part { OnOk result (IsPart whole.now piece.new frame.now.globals frame.now.held frame.now.memories frame.now.clocks) }
     ensures ins { OnOk result (map (value_at frame.now.globals) piece.new.ins ≡ frame.now.ins) }
     ensures outs { OnOk result (map (value_at frame.now.globals) piece.new.outs ≡ outs.now) }
+    ensures own { OnOk result (IsTimed piece.new frame.now.held frame.now.memories clocking.now.registers clocking.now.ports) }
 {
     add_signals(alloc, whole, frame, piece)?;
-    add_registers(alloc, whole, frame, piece)?;
-    add_memories(alloc, whole, frame, piece)?;
+    add_registers(alloc, whole, clocking, frame, piece)?;
+    add_memories(alloc, whole, clocking, frame, piece)?;
     add_ins(&frame.globals, frame.ins.as_slice(), piece)?;
     add_outs(&frame.globals, outs, piece)?;
-    piece.set_clocks(whole.clocks());
+    piece.set_clocks(frame.clocks.as_slice().len() as u32);
     Ok(())
 }
 
 /// The part of a circuit with these signals and memories. It gets the values of `ins` from outside, and gives those
-/// of `outs`. All numbers are those of the whole circuit. The part's signals are in the order of `globals`, its
+/// of `outs`. It has a clock for each item of `clocks`, which is the clock of the circuit that it follows, if any; `clocking` says which
+/// of them its registers and ports follow. All numbers are those of the whole circuit. The part's signals are in the order of `globals`, its
 /// in-signals in that of `ins`, its out-signals in that of `outs`, and its memories in that of `memories`. Its
 /// registers are exactly those that its signals hold.
 ///
@@ -237,6 +263,8 @@ fn add_all(
 pub fn part_of(
     alloc: Global,
     whole: &Piece,
+    clocks: &[Option<u32>],
+    clocking: &Clocking,
     globals: &[u32],
     ins: &[u32],
     outs: &[u32],
@@ -244,15 +272,19 @@ pub fn part_of(
 ) -> Result<Part, AllocError>
     requires formed { IsWellFormed whole.now }
     requires chosen { IsChoice whole.now globals.now ins.now outs.now memories.now }
-    ensures part { IfOk result (λ part. IsPart whole.now part.piece part.globals part.held part.memories) }
+    requires timed { AreTimed whole.now globals.now ins.now memories.now clocks.now clocking.now.registers clocking.now.ports }
+    requires few { length clocks.now < 2 ^ 32 }
+    ensures part { IfOk result (λ part. IsPart whole.now part.piece part.globals part.held part.memories part.clocks) }
+    ensures clocks { IfOk result (λ part. part.clocks ≡ clocks.now) }
     ensures globals { IfOk result (λ part. part.globals ≡ globals.now) }
     ensures ins { IfOk result (λ part. map (value_at part.globals) part.piece.ins ≡ ins.now) }
     ensures outs { IfOk result (λ part. map (value_at part.globals) part.piece.outs ≡ outs.now) }
     ensures memories { IfOk result (λ part. part.memories ≡ memories.now) }
     ensures held { IfOk result (λ part. AreHeld whole.now globals.now ins.now part.held) }
+    ensures own { IfOk result (λ part. IsTimed part.piece part.held part.memories clocking.now.registers clocking.now.ports) }
 {
-    let frame = frame_of(alloc, whole, globals, ins, memories)?;
+    let frame = frame_of(alloc, whole, clocks, globals, ins, memories)?;
     let mut piece = Piece::new(alloc);
-    add_all(alloc, whole, &frame, outs, &mut piece)?;
+    add_all(alloc, whole, clocking, &frame, outs, &mut piece)?;
     Ok(frame.part(piece))
 }

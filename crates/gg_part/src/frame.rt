@@ -7,16 +7,17 @@ ghost use Rattle.gg_part.specs.Building.{Holds, AreHeld};
 
 use crate::numbers::Numbers;
 use crate::part::Part;
-use gg_flat::{Driver, Piece};
+use gg_flat::{ClockNumbers, Driver, Piece};
 use std::alloc::{AllocError, Global};
 
 /// The numbers of what a part has, all of them those of the whole circuit: its signals, those of them that come from
-/// outside, its registers, and its memories.
+/// outside, its registers, its memories, and the clocks that its own follow.
 pub(crate) struct Frame {
     pub(crate) globals: Numbers,
     pub(crate) ins: Numbers,
     pub(crate) held: Numbers,
     pub(crate) memories: Numbers,
+    pub(crate) clocks: ClockNumbers,
 }
 
 impl Drop for Frame {
@@ -26,11 +27,13 @@ impl Drop for Frame {
             ins,
             held,
             memories,
+            clocks,
         } = self;
         drop(globals);
         drop(ins);
         drop(held);
         drop(memories);
+        drop(clocks);
     }
 }
 
@@ -41,12 +44,14 @@ impl Frame {
         ensures globals { result.globals ≡ self.globals }
         ensures held { result.held ≡ self.held }
         ensures memories { result.memories ≡ self.memories }
+        ensures clocks { result.clocks ≡ self.clocks }
     {
         let Frame {
             globals,
             ins,
             held,
             memories,
+            clocks,
         } = self;
         drop(ins);
         Part {
@@ -54,6 +59,7 @@ impl Frame {
             globals: globals.into_ids(),
             held: held.into_ids(),
             memories: memories.into_ids(),
+            clocks,
         }
     }
 }
@@ -101,7 +107,7 @@ fn held_by(
     Ok(held)
 }
 
-/// The frame of the part with these signals and memories.
+/// The frame of the part with these signals and memories, whose clocks follow these.
 ///
 /// # Errors
 ///
@@ -109,6 +115,7 @@ fn held_by(
 pub(crate) fn frame_of(
     alloc: Global,
     whole: &Piece,
+    clocks: &[Option<u32>],
     globals: &[u32],
     ins: &[u32],
     memories: &[u32],
@@ -119,6 +126,7 @@ pub(crate) fn frame_of(
     ensures ins { IfOk result (λ frame. frame.ins ≡ ins.now) }
     ensures held { IfOk result (λ frame. AreHeld whole.now globals.now ins.now frame.held) }
     ensures memories { IfOk result (λ frame. frame.memories ≡ memories.now) }
+    ensures clocks { IfOk result (λ frame. frame.clocks ≡ clocks.now) }
 {
     let signals = whole.signal_count();
     let ins = Numbers::of(alloc, signals, ins)?;
@@ -129,5 +137,6 @@ pub(crate) fn frame_of(
         ins,
         held,
         memories: Numbers::of(alloc, whole.memories().len(), memories)?,
+        clocks: ClockNumbers::from(Vec::from_slice(alloc, clocks)?),
     })
 }

@@ -1,8 +1,8 @@
 //! `Part`: a part of a flat circuit, with its numbers in the whole circuit.
 ghost use Rattle.std.specs.Prelude.{◌≡◌};
 
-use gg_bits::Ids;
-use gg_flat::Piece;
+use gg_bits::{Ids, Items};
+use gg_flat::{ClockNumbers, Piece};
 
 /// A part of a flat circuit. Code that makes one has to ensure that it is one (`IsPart` in `specs/Part`), as
 /// `part_of` does.
@@ -15,6 +15,8 @@ pub struct Part {
     pub held: Ids,
     /// The number of each memory in the whole circuit.
     pub memories: Ids,
+    /// For each clock of the part the clock of the whole circuit that it follows, if any.
+    pub clocks: ClockNumbers,
 }
 
 impl Drop for Part {
@@ -24,11 +26,13 @@ impl Drop for Part {
             globals,
             held,
             memories,
+            clocks,
         } = self;
         drop(piece);
         drop(globals);
         drop(held);
         drop(memories);
+        drop(clocks);
     }
 }
 
@@ -42,10 +46,28 @@ impl Part {
             globals,
             held,
             memories,
+            clocks,
         } = self;
         drop(globals);
         drop(held);
         drop(memories);
+        drop(clocks);
         piece
+    }
+}
+
+/// Which clocks of a part the registers and the memories of the whole circuit follow. What isn't in the part doesn't matter.
+pub struct Clocking {
+    /// For each register of the whole circuit the part's clock that it follows, if any.
+    pub registers: ClockNumbers,
+    /// For each memory of the whole circuit those that its ports follow: its readers, then its writers.
+    pub ports: Items<ClockNumbers>,
+}
+
+impl Drop for Clocking {
+    fn drop(self) {
+        let Self { registers, ports } = self;
+        drop(registers);
+        drop(ports);
     }
 }

@@ -26,11 +26,11 @@ returns-clause-part c =
     let banks : piece.memories ≡ c.add_memories.new.piece.memories = ap (λ (p : FlatCircuit). p.memories) clocks_only ∙ ap (λ (p : FlatCircuit). p.memories) outs_only ∙ ap (λ (p : FlatCircuit). p.memories) ins_only in
     let own_ins : piece.ins ≡ c.add_ins.new.piece.ins = ap (λ (p : FlatCircuit). p.ins) clocks_only ∙ ap (λ (p : FlatCircuit). p.ins) outs_only in
     let outs : piece.outs ≡ c.add_outs.new.piece.outs = ap (λ (p : FlatCircuit). p.outs) clocks_only in
-    IsPart-made whole piece globals ins held memories c.requires.formed c.requires.chosen c.requires.held
+    IsPart-made whole piece globals ins held memories c.args.frame.now.clocks c.requires.formed c.requires.chosen c.requires.held
     (AreSignals-same whole globals ins held memories (length globals) c.add_signals.new.piece piece paths signals c.in_ok-add_signals.ensures.signals)
-    (subst (AreRegisters whole globals held (length held)) (sym registers) c.in_ok-add_registers.ensures.registers)
-    (subst (AreMemories whole globals memories (length memories)) (sym banks) c.in_ok-add_memories.ensures.memories)
+    (subst (AreRegisters whole globals held c.args.frame.now.clocks (length held)) (sym registers) c.in_ok-add_registers.ensures.registers)
+    (subst (AreMemories whole globals memories c.args.frame.now.clocks (length memories)) (sym banks) c.in_ok-add_memories.ensures.memories)
     (ap (map (value_at globals)) own_ins ∙ c.in_ok-add_ins.ensures.ins ∙ c.as_slice.ensures)
     (subst (λ l. All (λ s. s < length globals) l) (sym own_ins) c.in_ok-add_ins.ensures.below)
     (subst (λ l. All (λ s. s < length globals) l) (sym outs) c.in_ok-add_outs.ensures.below)
-    (ap (λ (p : FlatCircuit). p.clocks) clocks_only ∙ c.clocks.ensures)
+    (ap (λ (p : FlatCircuit). p.clocks) clocks_only ∙ ap length c.as_slice-2.ensures)

@@ -1,16 +1,33 @@
-use Rattle.std.proofs.Common.{length, sym, subst}
-use Rattle.std.specs.Prelude.{All, None}
+use Rattle.std.proofs.Common.{◌+◌, None, length, get_or, refl, sym, ◌∙◌, ap, subst}
+use Rattle.std.specs.Prelude.{All}
+use Rattle.std.proofs.lemmas.List.{length_push}
 use Rattle.std.proofs.lemmas.List.Elements.{All-push}
 use Rattle.gg_flat.specs.declared.memory.Writer.{Writer}
 use Rattle.gg_flat.specs.Memory.{WritesAmong}
+use Rattle.gg_flat.specs.WellFormed.{IsClock}
 use Rattle.gg_part.specs.Part.{renamed_writer}
+use Rattle.gg_part.proofs.BuildLemmas.{follows-more}
+use Rattle.gg_part.proofs.ClockLemmas.{leads-same}
 use Rattle.gg_part.proofs.StepLemmas.{map-grows}
 use Rattle.gg_part.proofs.rename.local_writers.Goals as goal
 
-pub loop-writer-preserved : goal.loop-writer-preserved
-loop-writer-preserved c =
-    let Below = λ (writer : Writer). WritesAmong (length c.args.globals.now) writer in
+pub local_writer-requires-clause-names : goal.local_writer-requires-clause-names
+local_writer-requires-clause-names c = c.requires.names c.loop-place.place _ c.loop-place-test.true
+
+pub local_writer-requires-clause-clock : goal.local_writer-requires-clause-clock
+local_writer-requires-clause-clock c = leads-same refl refl (sym c.clock_in-clock.ensures) (c.requires.ports c.loop-place.place _ c.loop-place-test.true)
+
+pub loop-place-preserved : goal.loop-place-preserved
+loop-place-preserved c =
+    let globals = c.args.globals.now in
+    let clocks = c.args.clocks.now in
+    let own = c.local_writer.result in
+    let Below = λ (writer : Writer). WritesAmong (length globals) writer in
+    let Clocked = λ (writer : Writer). IsClock (length clocks) writer.clock in
     record {
-      is = map-grows (λ writer. renamed_writer c.args.globals.now writer) c.loop-writer.own.items c.push.new.self.items c.local_writer.result c.args.writers.now (record { addr = 0; en = 0; word = 0; mask = 0; clock = None }) c.loop-writer.writer-index c.loop-writer-test.true c.in_ok-push.ensures.items c.local_writer.ensures.is c.loop-writer.invariant.is;
-      below = subst (All Below) (sym c.in_ok-push.ensures.items) (All-push Below c.loop-writer.own.items c.local_writer.result c.loop-writer.invariant.below c.local_writer.ensures.below);
+      is = map-grows (λ writer. renamed_writer globals clocks writer) c.loop-place.own.items c.push.new.self.items own c.args.writers.now (record { addr = 0; en = 0; word = 0; mask = 0; clock = None }) c.loop-place.place c.loop-place-test.true c.in_ok-push.ensures.items c.local_writer.ensures.is c.loop-place.invariant.is;
+      below = subst (All Below) (sym c.in_ok-push.ensures.items) (All-push Below c.loop-place.own.items own c.loop-place.invariant.below c.local_writer.ensures.below);
+      clocked = subst (All Clocked) (sym c.in_ok-push.ensures.items) (All-push Clocked c.loop-place.own.items own c.loop-place.invariant.clocked c.local_writer.ensures.clocked);
+      count = ap length c.in_ok-push.ensures.items ∙ length_push c.loop-place.own.items own ∙ ap (λ n. n + 1) c.loop-place.invariant.count;
+      own = follows-more (λ (x : Writer). x.clock) (λ p. get_or c.args.ports.now (c.args.first + p) None) c.loop-place.own.items c.push.new.self.items c.loop-place.place own c.loop-place.invariant.count c.in_ok-push.ensures.items (c.local_writer.ensures.own ∙ c.clock_in-clock.ensures) c.loop-place.invariant.own;
     }

@@ -1,0 +1,4 @@
+pub mod TableLemmas
+pub mod FollowLemmas
+pub mod TimedLemmas
+mod WorkedDomains
