@@ -11,13 +11,14 @@ use Rattle.std.proofs.lemmas.List.FromFn.{get_or-range_with_len, length-range_wi
 use Rattle.gg_flat.specs.Tree.{InstanceTree, IsTree, path_at}
 use Rattle.gg_partfile.specs.declared.request.Request.{Request}
 use Rattle.gg_order.specs.Design.{Ordered}
+use Rattle.gg_cut.specs.declared.fault.CutFault.{CutFault}
 use Rattle.gg_cut.specs.declared.fault.CutFault.TheVariants.{UnknownUnit, Doubled, OutOfRange, TooManyUnits, TooManyChannels, UnknownPipe, DoubledPipe}
 use Rattle.gg_cut.specs.declared.listed.Listed.{Listed}
 use Rattle.gg_cut.specs.Listed.{is_among, is_lower, is_instance_path, instance_of, place_of, lies, listed_of}
 use Rattle.gg_cut.specs.Channels.{channel_names, capacity_of}
 use Rattle.gg_cut.specs.Direct.{plan_wires, plan_signals}
 use Rattle.gg_cut.specs.declared.wires.Wire.{Wire}
-use Rattle.gg_cut.specs.Fault.{unknown_unit, overlap, overlapping, first_clash, out_of_range, range_fault, too_many_units, too_many_channels, most_units, most_channels, first_of, same_path, repeated, entry_faults, channel_faults, pipe_faults, first_fault}
+use Rattle.gg_cut.specs.Fault.{unknown_unit, overlap, overlapping, first_clash, out_of_range, range_fault, too_many_units, too_many_channels, most_units, most_channels, first_of, same_path, repeated, ratio_fault, entry_faults, channel_faults, pipe_faults, clock_faults, later_faults, first_fault}
 use Rattle.gg_cut.proofs.PathLemmas.{first_place-Some}
 use Rattle.gg_cut.proofs.RangeLemmas.{filter-below}
 use Rattle.gg_cut.proofs.FindLemmas.{none-at, none-front, none-back, none-map}
@@ -162,18 +163,34 @@ module _ (design : Ordered) (request : Request) (none : first_fault design reque
   abbrev signals : List ℕ
   signals = plan_signals design.circuit design.tree request
 
-  pub no-entry-fault : first_of (entry_faults design.tree request) ≡ None
-  no-entry-fault = none-front (entry_faults design.tree request) (channel_faults design.circuit request listed signals ++ pipe_faults design.circuit request signals) none
+  abbrev of_channels : List (Option CutFault)
+  of_channels = channel_faults design.circuit request listed signals
 
-  -- nor do the channels and the pipes have one
-  later-none : first_of (channel_faults design.circuit request (listed_of design.tree request) (plan_signals design.circuit design.tree request) ++ pipe_faults design.circuit request (plan_signals design.circuit design.tree request)) ≡ None
-  later-none = none-back (entry_faults design.tree request) (channel_faults design.circuit request listed signals ++ pipe_faults design.circuit request signals) none
+  abbrev of_pipes : List (Option CutFault)
+  of_pipes = pipe_faults design.circuit request signals
+
+  abbrev of_clocks : List (Option CutFault)
+  of_clocks = clock_faults design.tree request
+
+  pub no-entry-fault : first_of (entry_faults design.tree request) ≡ None
+  no-entry-fault = none-front (entry_faults design.tree request) (of_channels ++ (of_pipes ++ of_clocks)) none
+
+  -- nor do the channels, the pipes and the clocks have one
+  later-none : first_of (later_faults design.circuit design.tree request) ≡ None
+  later-none = none-back (entry_faults design.tree request) (of_channels ++ (of_pipes ++ of_clocks)) none
+
+  last-none : first_of (of_pipes ++ of_clocks) ≡ None
+  last-none = none-back of_channels (of_pipes ++ of_clocks) later-none
 
   pub channels-none : (i : ℕ) → get_or (channel_faults design.circuit request (listed_of design.tree request) (plan_signals design.circuit design.tree request)) i None ≡ None
-  channels-none i = none-at (channel_faults design.circuit request listed signals) i (none-front (channel_faults design.circuit request listed signals) (pipe_faults design.circuit request signals) later-none)
+  channels-none i = none-at of_channels i (none-front of_channels (of_pipes ++ of_clocks) later-none)
 
   pub pipes-none : (i : ℕ) → get_or (pipe_faults design.circuit request (plan_signals design.circuit design.tree request)) i None ≡ None
-  pipes-none i = none-at (pipe_faults design.circuit request signals) i (none-back (channel_faults design.circuit request listed signals) (pipe_faults design.circuit request signals) later-none)
+  pipes-none i = none-at of_pipes i (none-front of_pipes of_clocks last-none)
+
+  -- the ratios of clocks are in range
+  pub faultless-ratios : ratio_fault request.clocks ≡ None
+  faultless-ratios = none-at of_clocks 1 (none-back of_pipes of_clocks last-none)
 
   -- each piped name is that of a channel, and none stands twice
   pub faultless-pipes : All (λ name. is_among (channel_names design.circuit (plan_signals design.circuit design.tree request)) name ≡ true) request.pipe

@@ -70,7 +70,7 @@ none-back one other e = none-second (first_of one) (first_of other) (sym (first-
 
 -- ---- lists of lists
 
-find-same : {A : Type 0} (test other : A → Bool) (xs : List A) → ((x : A) → test x ≡ other x) → find test xs ≡ find other xs
+pub find-same : {A : Type 0} (test other : A → Bool) (xs : List A) → ((x : A) → test x ≡ other x) → find test xs ≡ find other xs
 find-same test other [] same = refl
 find-same test other (x ∷ xs) same = ap₂ (λ b rest. cond b (Some x) rest) (same x) (find-same test other xs same)
 

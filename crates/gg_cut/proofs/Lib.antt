@@ -3,6 +3,8 @@ pub mod WorkedCells
 pub mod WorkedDirect
 pub mod PathLemmas
 pub mod FindLemmas
+pub mod NamedLemmas
+pub mod RatioLemmas
 pub mod ChainLemmas
 pub mod CounterpartLemmas
 pub mod KnownLemmas

@@ -16,11 +16,12 @@ use Rattle.gg_flat.proofs.WorkedCircuits.{eight, nine, node}
 use Rattle.gg_flat.proofs.WorkedMemories.{signal, copy}
 use Rattle.gg_partfile.specs.declared.request.Request.{Request}
 use Rattle.gg_partfile.specs.Request.{no_request}
-use Rattle.gg_cut.specs.declared.fault.CutFault.TheVariants.{UnknownUnit, Doubled, OtherModule, UnknownMemory, UnknownChannel, OutOfRange, UnknownPipe, DoubledPipe}
+use Rattle.gg_cut.specs.declared.fault.CutFault.TheVariants.{UnknownUnit, Doubled, OtherModule, UnknownMemory, UnknownChannel, OutOfRange, UnknownPipe, DoubledPipe, UnknownClock, WrongRatio}
 use Rattle.gg_cut.specs.declared.listed.Listed.{Listed}
 use Rattle.gg_cut.specs.Listed.{listed_of, owner_of}
 use Rattle.gg_cut.specs.declared.numbering.Role.TheVariants.{Source, Tray}
 use Rattle.gg_cut.specs.Machines.{IsRole, first_unit, first_memory, first_source, first_tray, machine_count, numbering_of}
+use Rattle.gg_cut.specs.Clocks.{ratios_of}
 use Rattle.gg_cut.specs.Channels.{wire, wires_of, channel_signals, channel_names, capacity_of}
 use Rattle.gg_cut.specs.Direct.{plan_wires, plan_signals}
 use Rattle.gg_cut.specs.Fault.{fault_in, too_many_units}
@@ -214,6 +215,46 @@ piped-wires = refl
 -- a channel that is direct may be piped; the channel that left for it isn't one any more
 pipe-direct : fault_in circuit tree (record direct_units { pipe = codes "a.k" ∷ [] }) ≡ None
 pipe-direct = refl
+
+-- ---- clocks
+
+-- the same with two Clock inputs of the top
+abbrev pub timed : InstanceTree
+timed = record tree { clocks = codes "c1" ∷ codes "c2" ∷ [] }
+
+abbrev pub timed_units : List (List ℕ × (ℕ × ℕ)) → Request
+timed_units clocks = record both_units { clocks = clocks }
+
+clock-known : fault_in circuit timed (timed_units ((codes "c1", (1, 1)) ∷ (codes "c2", (2, 3)) ∷ [])) ≡ None
+clock-known = refl
+
+clock-unknown : fault_in circuit timed (timed_units ((codes "x", (1, 1)) ∷ [])) ≡ Some (UnknownClock (codes "x"))
+clock-unknown = refl
+
+-- all names come before the first ratio
+clock-first : fault_in circuit timed (timed_units ((codes "c2", (4, 3)) ∷ (codes "c3", (1, 1)) ∷ [])) ≡ Some (UnknownClock (codes "c3"))
+clock-first = refl
+
+-- more edges than ticks, no edge, the most ticks, and one more
+ratio-above : fault_in circuit timed (timed_units ((codes "c1", (1, 2)) ∷ (codes "c2", (4, 3)) ∷ [])) ≡ Some (WrongRatio (codes "c2") 4 3)
+ratio-above = refl
+
+ratio-none : fault_in circuit timed (timed_units ((codes "c1", (0, 1)) ∷ [])) ≡ Some (WrongRatio (codes "c1") 0 1)
+ratio-none = refl
+
+ratio-most : fault_in circuit timed (timed_units ((codes "c1", (1, 65535)) ∷ [])) ≡ None
+ratio-most = refl
+
+ratio-past : fault_in circuit timed (timed_units ((codes "c1", (1, 65536)) ∷ [])) ≡ Some (WrongRatio (codes "c1") 1 65536)
+ratio-past = refl
+
+-- behind the pipes
+clock-last : fault_in circuit timed (record (timed_units ((codes "x", (0, 0)) ∷ [])) { pipe = codes "q" ∷ codes "q" ∷ [] }) ≡ Some (DoubledPipe (codes "q"))
+clock-last = refl
+
+-- a clock that isn't named has an edge in each tick
+ratios : ratios_of timed (timed_units ((codes "c2", (2, 3)) ∷ [])) ≡ record { m = 1; d = 1 } ∷ record { m = 2; d = 3 } ∷ []
+ratios = refl
 
 -- ---- limits
 

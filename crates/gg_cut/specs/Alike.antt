@@ -1,18 +1,18 @@
 -- Units that one host can run, a thread each.
 -- Source: FAME-5 (one model of several equal units, with the state of each); ICCAD 2019 (duplicate instances that share one
 -- host unit).
-use Rattle.std.specs.Prelude.{◌≡◌, ◌↔◌, ℕ, map, Contains}
+use Rattle.std.specs.Prelude.{◌≡◌, ◌↔◌, ℕ, Contains}
 use Rattle.gg_flat.specs.Circuit.{FlatCircuit}
-use Rattle.gg_moved.specs.Moved.{unclocked_register, unclocked_memory}
 use Rattle.gg_cut.specs.declared.plan.Body.{Body}
 use Rattle.gg_cut.specs.declared.plan.Body.TheVariants.{Cut, Memory, Source, Tray}
 
--- Two pieces are one, but for their paths, for the clocks that their registers and ports follow, and for how their out-signals
--- are listed: both list the same signals, but maybe in another order, or a signal more often.
+-- Two pieces are one, but for their paths and for how their out-signals are listed: both list the same signals, but maybe in another
+-- order, or a signal more often.
 pub record IsAlike (one other : FlatCircuit) : Type 0 where
   pub signals : one.signals ≡ other.signals
-  pub registers : map (λ register. unclocked_register register) one.registers ≡ map (λ register. unclocked_register register) other.registers
-  pub memories : map (λ memory. unclocked_memory memory) one.memories ≡ map (λ memory. unclocked_memory memory) other.memories
+  pub clocks : one.clocks ≡ other.clocks
+  pub registers : one.registers ≡ other.registers
+  pub memories : one.memories ≡ other.memories
   pub ins : one.ins ≡ other.ins
   pub outs : (s : ℕ) → Contains one.outs s ↔ Contains other.outs s
 

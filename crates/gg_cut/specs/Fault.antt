@@ -13,6 +13,7 @@ use Rattle.gg_cut.specs.declared.fault.CutFault.TheVariants.{UnknownUnit, Double
 use Rattle.gg_cut.specs.Listed.{is_among, is_instance_path, is_memory_path, instance_of, lies, listed_of}
 use Rattle.gg_cut.specs.declared.listed.Listed.{Listed}
 use Rattle.gg_cut.specs.Channels.{channel_names}
+use Rattle.gg_cut.specs.Clocks.{is_ratio}
 use Rattle.gg_cut.specs.Direct.{plan_signals}
 
 -- the most units and listed memories, and the most channels
@@ -121,6 +122,15 @@ out_of_range capacities = find (λ pair. (pair.1 == 0) || nat_lt capacity_limit 
 abbrev pub range_fault : List (List ℕ × ℕ) → Option CutFault
 range_fault capacities = option_map (λ pair. OutOfRange pair.0 pair.1) (out_of_range capacities)
 
+-- ---- clocks
+
+-- the first name that isn't one of these, and the first ratio that is none
+abbrev pub unknown_clock : List (List ℕ) → List (List ℕ × (ℕ × ℕ)) → Option (List ℕ)
+unknown_clock names clocks = option_map (λ pair. pair.0) (find (λ pair. not (is_among names pair.0)) clocks)
+
+abbrev pub ratio_fault : List (List ℕ × (ℕ × ℕ)) → Option CutFault
+ratio_fault clocks = option_map (λ pair. WrongRatio pair.0 pair.1.0 pair.1.1) (find (λ pair. not (is_ratio pair.1.0 pair.1.1)) clocks)
+
 -- ---- limits
 
 abbrev pub too_many_units : Listed → Option ℕ
@@ -160,18 +170,30 @@ pipe_faults circuit request signals =
     ∷ option_map DoubledPipe (repeated request.pipe)
     ∷ []
 
--- all of them, in the order in which they are told
+-- those of the clocks: names that aren't those of Clock inputs of the top, and ratios that are none
+abbrev pub clock_faults : InstanceTree → Request → List (Option CutFault)
+clock_faults tree request =
+    option_map UnknownClock (unknown_clock tree.clocks request.clocks)
+    ∷ ratio_fault request.clocks
+    ∷ []
+
+-- those behind the entries, in the order in which they are told
+abbrev pub later_faults : FlatCircuit → InstanceTree → Request → List (Option CutFault)
+later_faults circuit tree request =
+    channel_faults circuit request (listed_of tree request) (plan_signals circuit tree request)
+    ++ (pipe_faults circuit request (plan_signals circuit tree request)
+    ++ clock_faults tree request)
+
+-- all of them
 abbrev pub faults_in : FlatCircuit → InstanceTree → Request → List (Option CutFault)
-faults_in circuit tree request =
-    entry_faults tree request
-    ++ (channel_faults circuit request (listed_of tree request) (plan_signals circuit tree request)
-    ++ pipe_faults circuit request (plan_signals circuit tree request))
+faults_in circuit tree request = entry_faults tree request ++ later_faults circuit tree request
 
 abbrev pub fault_in : FlatCircuit → InstanceTree → Request → Option CutFault
 fault_in circuit tree request = first_of (faults_in circuit tree request)
 
 -- The fault of a request for a design: the one with the least number. Among faults with the same number it is the
--- first in `units`, then in `share`, then in `memories`. For capacities it is the one with the least name, for pipes the first.
+-- first in `units`, then in `share`, then in `memories`. For capacities and clocks it is the one with the least name, for pipes the
+-- first.
 abbrev pub first_fault : Ordered → Request → Option CutFault
 first_fault design request = fault_in design.circuit design.tree request
 

@@ -1,5 +1,7 @@
 pub mod Machines
 pub mod Listed
+pub mod Clocks
+pub mod Named
 pub mod Fault
 pub mod Channels
 pub mod Hosts
@@ -8,3 +10,4 @@ pub mod Owners
 pub mod Direct
 pub mod Plan
 pub mod Solves
+pub mod Held

@@ -1,11 +1,12 @@
 -- The plan of a cut: its machines with their pieces, its channels, and what each channel needs.
 -- Source: MEMOCODE 2009 (a network of machines that are latency-insensitive: an output depends only on the inputs
 -- that it is computed from); ICCAD 2019 (instances and memories of a target as models of their own).
-use Rattle.std.specs.Prelude.{◌≡◌, ◌≢◌, ◌↔◌, ◌⊎◌, ℕ, ◌<◌, ◌≤◌, ◌+◌, ◌-◌, List, [], ◌∷◌, Bool, false, ◌++◌, ◌==◌, length, map, take, drop, filter, codes, slice_index_or, Contains, AllPairs}
+use Rattle.std.specs.Prelude.{◌≡◌, ◌≢◌, ◌↔◌, ◌⊎◌, ℕ, ◌<◌, ◌≤◌, ◌+◌, ◌-◌, List, [], ◌∷◌, Bool, Option, false, ◌++◌, ◌==◌, length, map, take, drop, filter, codes, slice_index_or, Contains, AllPairs}
 use Rattle.std.specs.List.{range_with_len}
 use Rattle.gg_bits.specs.Shape.{shape}
 use Rattle.gg_flat.specs.Line.{value_at, shape_at}
 use Rattle.gg_flat.specs.Circuit.{FlatCircuit, signal_shapes}
+use Rattle.gg_flat.specs.Clocked.{top_clocks}
 use Rattle.gg_flat.specs.Tree.{InstanceTree, path_at, memory_at}
 use Rattle.gg_order.specs.Design.{Ordered}
 use Rattle.gg_flat.specs.Reads.{Reaches}
@@ -24,6 +25,7 @@ use Rattle.gg_cut.specs.Listed.{listed_of, owner_of, memory_owner}
 use Rattle.gg_cut.specs.declared.wires.Wire.{Wire}
 use Rattle.gg_cut.specs.Machines.{first_memory, first_source, first_tray, machine_count}
 use Rattle.gg_cut.specs.Channels.{wire, capacity_of}
+use Rattle.gg_cut.specs.Clocks.{ratios_of}
 use Rattle.gg_cut.specs.Direct.{Hub, routes, is_gone, is_piped, plan_hub, plan_wires}
 use Rattle.gg_cut.specs.Hosts.{host_of}
 use Rattle.gg_cut.specs.Alike.{AreAlike}
@@ -76,11 +78,20 @@ pub record HasMemory (tree : InstanceTree) (listed : Listed) (m k : ℕ) : Type 
 abbrev pub MakesBy : Hub → ℕ → ℕ → Type 0
 MakesBy hub m s = ((s < length hub.circuit.signals) × (hub.owner s ≡ m) × IsInner hub.base s × (is_gone hub s ≡ false)) ⊎ Contains (givens_of (routes hub) (channels_from (routes hub) m)) s
 
+-- the instance whose Clock inputs a machine has: a unit's own one, and the top for the hub and for the listed memories
+abbrev pub clock_home : Listed → ℕ → ℕ
+clock_home listed m = slice_index_or (0 ∷ listed.units) m 0
+
+-- for each clock of a machine the clock of the circuit that it follows
+abbrev pub machine_clocks : InstanceTree → Listed → ℕ → List (Option ℕ)
+machine_clocks tree listed m = top_clocks tree (clock_home listed m)
+
 -- A machine's piece: exactly the signals that it makes or takes, in an order of evaluation, exactly the registers that those hold
 -- which it doesn't take, and the memories that belong to it. The signals that it takes and those by which it gives, in the order
--- of its channels, are its in-signals and its out-signals.
+-- of its channels, are its in-signals and its out-signals. Its clocks are the Clock inputs of a unit, or those of the top.
 pub record IsCutPart (design : Ordered) (listed : Listed) (hub : Hub) (m : ℕ) (part : Part) : Type 0 where
-  pub is : IsPart design.circuit part.piece part.globals part.held part.memories
+  pub is : IsPart design.circuit part.piece part.globals part.held part.memories part.clocks
+  pub clocks : part.clocks ≡ machine_clocks design.tree listed m
   pub signals : (s : ℕ) → Contains part.globals s ↔ (MakesBy hub m s ⊎ Takes (routes hub) m s)
   pub ins : map (value_at part.globals) part.piece.ins ≡ signals_of (routes hub) (channels_to (routes hub) m)
   pub outs : map (value_at part.globals) part.piece.outs ≡ givens_of (routes hub) (channels_from (routes hub) m)
@@ -157,10 +168,11 @@ pub record IsChannel (design : Ordered) (capacity : List ℕ → ℕ) (piped : �
 
 -- ---- the plan
 
--- The plan of a design, a request and the capacity of the channels that the request doesn't name. Two machines have one host only if
--- they are units with one piece.
+-- The plan of a design, a request and the capacity of the channels that the request doesn't name. Its ratios are those of the circuit's
+-- clocks. Two machines have one host only if they are units with one piece, whose clocks may follow different clocks of the circuit.
 pub record IsPlan (design : Ordered) (request : Request) (default : ℕ) (plan : Plan) : Type 0 where
   pub listed : plan.listed ≡ listed_of design.tree request
+  pub ratios : plan.ratios ≡ ratios_of design.tree request
   pub machine_total : length plan.machines ≡ machine_count design.circuit (listed_of design.tree request)
   pub channel_total : length plan.channels ≡ length (plan_wires design.circuit design.tree request)
   pub machine : (m : ℕ) (any : Machine) → m < length plan.machines → IsMachine design request (listed_of design.tree request) (plan_hub design.circuit design.tree request) m (slice_index_or plan.machines m any)

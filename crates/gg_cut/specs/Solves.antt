@@ -1,7 +1,11 @@
--- When lists of values, one for each channel, solve a plan.
--- Source: MEMOCODE 2009 (a network of machines has the streams of the synchronous circuit that it was cut from).
-use Rattle.std.specs.Prelude.{◌≡◌, ℕ, ◌<◌, List, [], ◌∷◌, Bool, if◌then◌else◌, length, map, take, slice_index_or, All}
-use Rattle.gg_flat.specs.Run.{IsRun, column}
+-- When lists of values, one for each channel, solve a plan, from any start.
+-- Source: MEMOCODE 2009 (a network of machines has the streams of the synchronous circuit that it was cut from; a token at the start
+-- comes before what a producer gives).
+use Rattle.std.specs.Prelude.{◌≡◌, ℕ, ◌<◌, ◌≤◌, ◌++◌, List, [], ◌∷◌, Bool, if◌then◌else◌, drop, length, map, replicate, take, slice_index_or, All}
+use Rattle.gg_flat.specs.Circuit.{FlatCircuit}
+use Rattle.gg_flat.specs.Line.{value_at}
+use Rattle.gg_flat.specs.Run.{IsRunFrom, Start, column, row_at, since}
+use Rattle.gg_part.specs.PartRun.{part_start}
 use Rattle.gg_part.specs.declared.part.Part.{Part}
 use Rattle.gg_cut.specs.declared.plan.Body.{Body}
 use Rattle.gg_cut.specs.declared.plan.Body.TheVariants.{Cut, Memory, Source, Tray}
@@ -9,39 +13,52 @@ use Rattle.gg_cut.specs.declared.plan.Channel.{Channel}
 use Rattle.gg_cut.specs.declared.plan.Machine.{Machine}
 use Rattle.gg_cut.specs.declared.plan.Plan.{Plan}
 
--- The part has a run of n cycles on these columns of its inputs, and in each such run its outputs have these columns.
-pub record GivesColumns (part : Part) (n : ℕ) (ins outs : List (List ℕ)) : Type 0 where
-  pub rows : List (List ℕ)
-  pub run : IsRun part.piece ins n rows
-  pub gives : (others : List (List ℕ)) → IsRun part.piece ins n others → map (column others) part.piece.outs ≡ outs
+-- The rows, by cycle, of a run from a start, up to cycle `end`. Before the start's cycle all values are 0.
+pub record AreRows (circuit : FlatCircuit) (start : Start) (columns : List (List ℕ)) (end : ℕ) (rows : List (List ℕ)) : Type 0 where
+  pub begun : start.cycle ≤ end
+  pub count : length rows ≡ end
+  pub before : (t s : ℕ) → t < start.cycle → value_at (row_at rows t) s ≡ 0
+  pub run : IsRunFrom circuit start columns (since start.cycle end) (drop start.cycle rows)
 
--- How a machine answers: its outputs are those of the run of its piece on its inputs. Each output of a source is its column of
--- those that are given for the top inputs. A tray has no output.
-abbrev pub Answers : Body → ℕ → List (List ℕ) → List (List ℕ) → List (List ℕ) → Type 0
-Answers (Cut part) n given ins outs = GivesColumns part n ins outs
-Answers (Memory part) n given ins outs = GivesColumns part n ins outs
-Answers (Source place) n given ins outs = All (λ out. out ≡ slice_index_or given place []) outs
-Answers Tray n given ins outs = outs ≡ []
+-- The part has a run on these columns of its inputs, from its part of a start up to cycle `end`, and in each such run its outputs have
+-- these columns.
+pub record GivesColumns (part : Part) (start : Start) (end : ℕ) (ins outs : List (List ℕ)) : Type 0 where
+  pub rows : List (List ℕ)
+  pub run : AreRows part.piece (part_start part.held part.memories part.clocks start) ins end rows
+  pub gives : (others : List (List ℕ)) → AreRows part.piece (part_start part.held part.memories part.clocks start) ins end others → map (column others) part.piece.outs ≡ outs
+
+-- A column has the values of another in the cycles from the start's on, below `end`.
+abbrev pub AgreesFrom : Start → ℕ → List ℕ → List ℕ → Type 0
+AgreesFrom start end values out = (t : ℕ) → start.cycle ≤ t → t < end → value_at out t ≡ value_at values t
+
+-- How a machine answers: its outputs are those of the run of its piece on its inputs. Each output of a source has, from the start on,
+-- the values of the column that is given for the top input. A tray has no output.
+abbrev pub Answers : Body → Start → ℕ → List (List ℕ) → List (List ℕ) → List (List ℕ) → Type 0
+Answers (Cut part) start end given ins outs = GivesColumns part start end ins outs
+Answers (Memory part) start end given ins outs = GivesColumns part start end ins outs
+Answers (Source place) start end given ins outs = All (AgreesFrom start end (slice_index_or given place [])) outs
+Answers Tray start end given ins outs = outs ≡ []
 
 -- the lists of these channels
 abbrev pub lists_of : List (List ℕ) → List ℕ → List (List ℕ)
 lists_of lists channels = map (λ c. slice_index_or lists c []) channels
 
--- The values that the consumer of a channel takes, if its producer gives these: in a piped channel the token 0 comes before them.
-abbrev pub stream : Bool → List ℕ → List ℕ
-stream piped values = if piped then 0 ∷ values else values
+-- The values that the consumer of a channel takes, by cycle, if its producer gives these: in a piped channel they come a cycle later,
+-- and the token comes in the cycle with which all begins.
+abbrev pub stream : (begin token : ℕ) → Bool → List ℕ → List ℕ
+stream begin token piped values = if piped then replicate begin 0 ++ token ∷ drop begin values else values
 
--- the values that the consumers of the channels take, from those that the producers give
-abbrev pub streams : List Channel → List (List ℕ) → List (List ℕ)
-streams [] lists = []
-streams (channel ∷ channels) [] = []
-streams (channel ∷ channels) (list ∷ lists) = stream channel.pipe list ∷ streams channels lists
+-- the values that the consumers of the channels take, from those that the producers give; `token` has the token of each signal's pipe
+abbrev pub streams : (begin : ℕ) → (token : ℕ → ℕ) → List Channel → List (List ℕ) → List (List ℕ)
+streams begin token [] lists = []
+streams begin token (channel ∷ channels) [] = []
+streams begin token (channel ∷ channels) (list ∷ lists) = stream begin (token channel.signal) channel.pipe list ∷ streams begin token channels lists
 
--- The lists, which the channels' producers give, solve the plan: there is one for each channel, and what each machine gives is its answer
--- to the first n values of what it takes. `given` has a column for each top input.
-pub record Solves (plan : Plan) (given : List (List ℕ)) (n : ℕ) (lists : List (List ℕ)) : Type 0 where
+-- The lists, which the channels' producers give from a start up to cycle `end`, solve the plan: there is one for each channel, and what
+-- each machine gives is its answer to what it takes. `given` has a column for each top input, and `token` the token of each pipe.
+pub record Solves (plan : Plan) (start : Start) (token : ℕ → ℕ) (given : List (List ℕ)) (end : ℕ) (lists : List (List ℕ)) : Type 0 where
   pub count : length lists ≡ length plan.channels
-  pub each : (m : ℕ) (any : Machine) → m < length plan.machines → Answers (slice_index_or plan.machines m any).body n given (map (take n) (lists_of (streams plan.channels lists) (slice_index_or plan.machines m any).ins)) (lists_of lists (slice_index_or plan.machines m any).outs)
+  pub each : (m : ℕ) (any : Machine) → m < length plan.machines → Answers (slice_index_or plan.machines m any).body start end given (map (take end) (lists_of (streams start.cycle token plan.channels lists) (slice_index_or plan.machines m any).ins)) (lists_of lists (slice_index_or plan.machines m any).outs)
 
 -- the columns of the channels' signals in the rows of the whole circuit: what the producers give
 abbrev pub columns_of : Plan → List (List ℕ) → List (List ℕ)

@@ -1,6 +1,7 @@
 //! `Plan`: what a cut makes of a design.
 use crate::listed::Listed;
 use gg_bits::{Ids, Items, Name, Ty};
+use gg_clocks::Ratios;
 use gg_part::Part;
 
 /// What a machine does.
@@ -83,8 +84,8 @@ impl Drop for Channel {
     }
 }
 
-/// The plan of a cut: the hub, the units, the listed memories, the sources and the trays; the channels between them; and what the
-/// request lists.
+/// The plan of a cut: the hub, the units, the listed memories, the sources and the trays; the channels between them; what the
+/// request lists; and how often the circuit's clocks have an edge.
 pub struct Plan {
     /// The machines, by number.
     pub machines: Items<Machine>,
@@ -92,6 +93,8 @@ pub struct Plan {
     pub channels: Items<Channel>,
     /// What the request lists.
     pub listed: Listed,
+    /// The ratios of the circuit's clocks, in order.
+    pub ratios: Ratios,
 }
 
 impl Drop for Plan {
@@ -100,9 +103,11 @@ impl Drop for Plan {
             machines,
             channels,
             listed,
+            ratios,
         } = self;
         drop(machines);
         drop(channels);
         drop(listed);
+        drop(ratios);
     }
 }

@@ -3,10 +3,11 @@ ghost use Rattle.std.specs.Prelude.{◌≡◌, ◌+◌, ◌<◌, ◌^◌, length
 ghost use Rattle.gg_flat.specs.Tree.{IsTree};
 ghost use Rattle.gg_moved.specs.KeepsToTree.{KeepsToTree};
 ghost use Rattle.gg_cut.specs.Listed.{listed_of};
-ghost use Rattle.gg_cut.specs.Fault.{IsSmall, Tells, first_of, entry_faults, channel_faults, pipe_faults, too_many_channels, most_units};
+ghost use Rattle.gg_cut.specs.Fault.{IsSmall, Tells, first_of, entry_faults, channel_faults, pipe_faults, clock_faults, too_many_channels, most_units};
 ghost use Rattle.gg_cut.specs.declared.fault.CutFault.TheVariants.{TooManyUnits, TooManyChannels, NoMemory};
 
 use crate::capacities::{capacities_in_range, channels_exist};
+use crate::clocks::{clocks_exist, ratios_in_range};
 use crate::counterparts::memories_matched;
 use crate::entries::{
     memories_exist, none_repeated, one_module_each, shared_are_units, shared_once, units_exist,
@@ -155,6 +156,19 @@ pub fn judge_pipes(
     let marks = marks_of(alloc, piece.signals().len(), signals)?;
     pipes_exist(piece, signals, &marks, request.pipe.as_slice())?;
     pipes_once(alloc, request.pipe.as_slice())?;
+    Ok(())
+}
+
+/// Judges the ratios of clocks that a request gives.
+///
+/// # Errors
+///
+/// Returns the first fault (`clock_faults` in `specs/Fault`), exactly if there is one, or `NoMemory` if an allocation fails.
+pub fn judge_clocks(alloc: Global, tree: &Tree, request: &Request) -> Result<(), CutFault>
+    ensures { Tells (first_of (clock_faults tree.now request.now)) result }
+{
+    clocks_exist(alloc, tree, request.clocks.as_slice())?;
+    ratios_in_range(request.clocks.as_slice())?;
     Ok(())
 }
 

@@ -7,7 +7,7 @@ use Rattle.serde_json.specs.Find.{get, as_bool, as_object}
 use Rattle.gg_partfile.specs.Fault.{or_else, first_wrong, wrong_key, IsRefused}
 use Rattle.gg_partfile.specs.Keys.{Key, keys, is_known, has_shape, misshapen, or_default, under, unknown}
 use Rattle.gg_partfile.specs.Partition.{Asks, IsPartition}
-use Rattle.gg_partfile.specs.Shapes.{texts, groups, numbers}
+use Rattle.gg_partfile.specs.Shapes.{texts, groups, numbers, ratios}
 use Rattle.gg_partfile.specs.declared.request.Request.{Request}
 
 -- ---- keys
@@ -46,7 +46,7 @@ told-last d object fit = ap (λ b. cond b (first_wrong d) (Some (codes "-"))) ob
 asked : (d : Data) (request : Request) → Asks d request → wrong_key d ≡ None
 asked d request a =
     told-last d a.object
-    (fits [] texts (codes "units") d request.units refl a.units, (fits [] groups (codes "share") d request.share refl a.share, (fits [] texts (codes "memories") d request.memories refl a.memories, (fits [] numbers (codes "capacity") d request.capacity refl a.capacity, (fits false as_bool (codes "direct") d request.direct refl a.direct, (fits [] texts (codes "pipe") d request.pipe refl a.pipe, tt))))))
+    (fits [] texts (codes "units") d request.units refl a.units, (fits [] groups (codes "share") d request.share refl a.share, (fits [] texts (codes "memories") d request.memories refl a.memories, (fits [] numbers (codes "capacity") d request.capacity refl a.capacity, (fits false as_bool (codes "direct") d request.direct refl a.direct, (fits [] texts (codes "pipe") d request.pipe refl a.pipe, (fits [] ratios (codes "clocks") d request.clocks refl a.clocks, tt)))))))
     ∙ a.known
 
 pub refused-apart : (bytes key : List ℕ) (request : Request) → IsPartition bytes request → ¬ IsRefused bytes key

@@ -10,7 +10,7 @@ use Rattle.gg_partfile.specs.Fault.{wrong_key}
 use Rattle.gg_partfile.specs.Keys.{under}
 use Rattle.gg_partfile.specs.Partition.{Asks}
 use Rattle.gg_partfile.specs.Request.{no_request}
-use Rattle.gg_partfile.specs.Shapes.{texts, groups, numbers}
+use Rattle.gg_partfile.specs.Shapes.{texts, groups, numbers, ratios}
 
 -- the key with which a text is refused, if it is
 abbrev told_of : Option Data → Option (List ℕ)
@@ -53,7 +53,7 @@ not-direct : Asks (object no_members) (record no_request { direct = true }) → 
 not-direct h = true≢false (sym (same_Some false true h.direct))
 
 -- a key whose feature isn't there is unknown, whatever its value
-later_key : told (codes "{\"clocks\": {\"c\": [1, 2]}, \"pipe\": [\"a.k\"]}") ≡ Some (codes "clocks")
+later_key : told (codes "{\"bridges\": [], \"clocks\": {\"c\": [1, 2]}}") ≡ Some (codes "bridges")
 unfolding serde_json_on_literals
 later_key = refl
 
@@ -89,6 +89,27 @@ pipe_number = refl
 pipe_after_direct : told (codes "{\"pipe\": 1, \"direct\": 1}") ≡ Some (codes "direct")
 unfolding serde_json_on_literals
 pipe_after_direct = refl
+
+-- ratios by names in the order of their bytes, whatever the numbers
+clocks : option_and_then (under [] ratios (codes "clocks")) (read (codes "{\"clocks\": {\"c2\": [4, 3], \"c1\": [0, 65536]}}")) ≡ Some ((codes "c1", (0, 65536)) ∷ (codes "c2", (4, 3)) ∷ [])
+unfolding serde_json_on_literals
+clocks = refl
+
+no_clocks : option_and_then (under [] ratios (codes "clocks")) (read (codes "{\"pipe\": []}")) ≡ Some []
+unfolding serde_json_on_literals
+no_clocks = refl
+
+clock_of_one_number : told (codes "{\"clocks\": {\"c\": [1]}}") ≡ Some (codes "clocks")
+unfolding serde_json_on_literals
+clock_of_one_number = refl
+
+clock_as_a_text : told (codes "{\"clocks\": {\"c\": \"1/2\"}}") ≡ Some (codes "clocks")
+unfolding serde_json_on_literals
+clock_as_a_text = refl
+
+clocks_after_pipe : told (codes "{\"clocks\": 1, \"pipe\": 1}") ≡ Some (codes "pipe")
+unfolding serde_json_on_literals
+clocks_after_pipe = refl
 
 nothing : told [] ≡ Some (codes "-")
 unfolding serde_json_on_literals

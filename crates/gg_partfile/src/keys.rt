@@ -7,7 +7,9 @@ ghost use Rattle.gg_partfile.specs.Shapes.{is_one_of, other_member};
 use serde_json::{Map, Value};
 
 // The keys that a partition file may have, in the order in which their values are judged.
-pub(crate) static KEYS: [&str; 6] = ["units", "share", "memories", "capacity", "direct", "pipe"];
+pub(crate) static KEYS: [&str; 7] = [
+    "units", "share", "memories", "capacity", "direct", "pipe", "clocks",
+];
 
 // Whether a key is one of these.
 fn is_one_of(keys: &[&str], key: &str) -> bool

@@ -34,7 +34,7 @@ pub type Bridges = Items<BridgeEntry>;
 
 /// What a partition asks for.
 ///
-/// No file may have the keys `clocks` and `bridges` yet, so these lists are empty.
+/// No file may have the key `bridges` yet, so that list is empty.
 pub struct Request {
     /// The paths of the instances that become units.
     pub units: Names,

@@ -5,6 +5,7 @@ use Rattle.std.proofs.lemmas.Bool.{cases_eq}
 use Rattle.std.proofs.lemmas.List.{get_or_push, get_or_append_left, length_push}
 use Rattle.gg_flat.specs.Circuit.{FlatCircuit}
 use Rattle.gg_order.specs.Design.{Ordered}
+use Rattle.gg_part.specs.declared.part.Clocking.{Clocking}
 use Rattle.gg_partfile.specs.declared.request.Request.{Request}
 use Rattle.gg_cut.specs.declared.listed.Listed.{Listed}
 use Rattle.gg_cut.specs.declared.plan.Body.{Body}
@@ -16,19 +17,20 @@ use Rattle.gg_cut.specs.Fault.{first_fault}
 use Rattle.gg_cut.specs.Hosts.{leader}
 use Rattle.gg_cut.specs.Machines.{machine_count}
 use Rattle.gg_cut.specs.Plan.{IsBody, IsMachine}
-use Rattle.gg_plan.specs.Made.{HasAscending, IsMadeBody, AreMachinesTo, AreMachines}
+use Rattle.gg_plan.specs.Made.{HasAscending, IsTimedUnit, IsMadeBody, AreMachinesTo, AreMachines}
 use Rattle.gg_plan.proofs.HostLemmas.{leader-below}
 use Rattle.gg_plan.proofs.LeaderLemmas.{leaders-first, one-host}
 
 -- ---- pieces that are alike
 
 alike-back : (one other : FlatCircuit) → IsAlike one other → IsAlike other one
-alike-back one other is = record { signals = sym is.signals; registers = sym is.registers; memories = sym is.memories; ins = sym is.ins; outs = λ s. ((is.outs s).1, (is.outs s).0) }
+alike-back one other is = record { signals = sym is.signals; clocks = sym is.clocks; registers = sym is.registers; memories = sym is.memories; ins = sym is.ins; outs = λ s. ((is.outs s).1, (is.outs s).0) }
 
 alike-on : (one two three : FlatCircuit) → IsAlike one two → IsAlike two three → IsAlike one three
 alike-on one two three a b =
     record {
       signals = a.signals ∙ b.signals;
+      clocks = a.clocks ∙ b.clocks;
       registers = a.registers ∙ b.registers;
       memories = a.memories ∙ b.memories;
       ins = a.ins ∙ b.ins;
@@ -58,16 +60,17 @@ bodies-on Tray two three x y = absurd x
 
 -- ---- one machine more
 
-module _ (design : Ordered) (request : Request) (listed : Listed) (hub : Hub) where
-  pub machines-none : (machines : List Machine) → machines ≡ [] → AreMachinesTo design request listed hub 0 machines
-  machines-none machines is = record { counted = ap length is; each = λ m any lt. absurd (omega (arith, lt)); ascend = λ m any lt. absurd (omega (arith, lt)); alike = λ m any other lt. absurd (omega (arith, lt)) }
+module _ (design : Ordered) (request : Request) (listed : Listed) (hub : Hub) (clocking : Clocking) where
+  pub machines-none : (machines : List Machine) → machines ≡ [] → AreMachinesTo design request listed hub clocking 0 machines
+  machines-none machines is = record { counted = ap length is; each = λ m any lt. absurd (omega (arith, lt)); ascend = λ m any lt. absurd (omega (arith, lt)); timed = λ m any lt. absurd (omega (arith, lt)); alike = λ m any other lt. absurd (omega (arith, lt)) }
 
-  pub machines-more : (old new : List Machine) (n : ℕ) (machine : Machine) (body : Body) → AreMachinesTo design request listed hub n old → IsMachine design request listed hub n machine → machine.body ≡ body → IsMadeBody design request listed hub old n body → new ≡ old ++ machine ∷ [] → AreMachinesTo design request listed hub (n + 1) new
+  pub machines-more : (old new : List Machine) (n : ℕ) (machine : Machine) (body : Body) → AreMachinesTo design request listed hub clocking n old → IsMachine design request listed hub n machine → machine.body ≡ body → IsMadeBody design request listed hub clocking old n body → new ≡ old ++ machine ∷ [] → AreMachinesTo design request listed hub clocking (n + 1) new
   machines-more old new n machine body are here same made is =
       record {
         counted = ap length is ∙ length_push old machine ∙ ap (λ k. k + 1) are.counted;
         each = λ m any lt. below_more (λ k. IsMachine design request listed hub k (get_or new k any)) n (λ k low. subst (IsMachine design request listed hub k) (sym (kept k any low)) (are.each k any low)) (subst (IsMachine design request listed hub n) (sym (last any)) here) m lt;
         ascend = λ m any lt. below_more (λ k. HasAscending (get_or new k any).body) n (λ k low. subst (λ (x : Machine). HasAscending x.body) (sym (kept k any low)) (are.ascend k any low)) (subst (λ (x : Machine). HasAscending x.body) (sym (last any)) (subst HasAscending (sym same) made.ascend)) m lt;
+        timed = λ m any lt. below_more (λ k. IsTimedUnit listed clocking k (get_or new k any).body) n (λ k low. subst (λ (x : Machine). IsTimedUnit listed clocking k x.body) (sym (kept k any low)) (are.timed k any low)) (subst (λ (x : Machine). IsTimedUnit listed clocking n x.body) (sym (last any)) (subst (IsTimedUnit listed clocking n) (sym same) made.timed)) m lt;
         alike = λ m any other lt. below_more (λ k. leader request.units request.share k ≢ k → AreAlike (get_or new (leader request.units request.share k) any).body (get_or new k other).body) n (before any other) (at-last any other) m lt;
       }
     where
@@ -92,13 +95,13 @@ module _ (design : Ordered) (request : Request) (listed : Listed) (hub : Hub) wh
           (subst (AreAlike (get_or old (leader request.units request.share n) any).body) (sym same) (made.alike any differ)))
 
   -- what a machine does that is the first of its host
-  pub own-made : {E : Type 0} (machines : List Machine) (m : ℕ) (result : Result Body E) → leader request.units request.share m ≡ m → IfOk result (λ body. IsBody design listed hub m body) → IfOk result (λ body. HasAscending body) → IfOk result (λ body. IsMadeBody design request listed hub machines m body)
-  own-made machines m (Ok body) first is ascend = record { is = is; ascend = ascend; alike = λ any differ. absurd (differ first) }
-  own-made machines m (Err cause) first is ascend = tt
+  pub own-made : {E : Type 0} (machines : List Machine) (m : ℕ) (result : Result Body E) → leader request.units request.share m ≡ m → IfOk result (λ body. IsBody design listed hub m body) → IfOk result (λ body. HasAscending body) → IfOk result (λ body. IsTimedUnit listed clocking m body) → IfOk result (λ body. IsMadeBody design request listed hub clocking machines m body)
+  own-made machines m (Ok body) first is ascend timed = record { is = is; ascend = ascend; timed = timed; alike = λ any differ. absurd (differ first) }
+  own-made machines m (Err cause) first is ascend timed = tt
 
   -- ---- machines of one host
 
-  module _ (none : first_fault design request ≡ None) (machines : List Machine) (are : AreMachinesTo design request listed hub (machine_count design.circuit listed) machines) where
+  module _ (none : first_fault design request ≡ None) (machines : List Machine) (are : AreMachinesTo design request listed hub clocking (machine_count design.circuit listed) machines) where
     -- a machine's part is like that of the first machine of its host, or it is this machine
     alike-first : (m l : ℕ) (any other : Machine) → m < machine_count design.circuit listed → leader request.units request.share m ≡ l → l ≢ m → AreAlike (get_or machines l any).body (get_or machines m other).body
     alike-first m l any other lt same differ =

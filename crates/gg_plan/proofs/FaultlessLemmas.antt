@@ -10,7 +10,7 @@ use Rattle.gg_cut.specs.declared.fault.CutFault.TheVariants.{OutOfRange}
 use Rattle.gg_cut.specs.Listed.{listed_of}
 use Rattle.gg_cut.specs.Channels.{capacity_of}
 use Rattle.gg_cut.specs.Direct.{plan_signals}
-use Rattle.gg_cut.specs.Fault.{or_else, IsTold, first_of, entry_faults, channel_faults, pipe_faults, out_of_range, range_fault, first_fault}
+use Rattle.gg_cut.specs.Fault.{or_else, IsTold, first_of, entry_faults, channel_faults, pipe_faults, clock_faults, out_of_range, range_fault, first_fault}
 use Rattle.gg_cut.proofs.FindLemmas.{none-map, first-append}
 use Rattle.gg_closed.proofs.FaultlessLemmas as closed
 use Rattle.gg_plan.specs.Made.{IsCapacity}
@@ -50,24 +50,35 @@ module _ (design : Ordered) (request : Request) where
   abbrev of_pipes : List (Option CutFault)
   of_pipes = pipe_faults design.circuit request (plan_signals design.circuit design.tree request)
 
+  abbrev of_clocks : List (Option CutFault)
+  of_clocks = clock_faults design.tree request
+
   -- a fault of the entries is the first of all
   pub entries-told : (cause : CutFault) → IsTold (first_of (entry_faults design.tree request)) cause → IsTold (first_fault design request) cause
   entries-told cause (inl memory) = inl memory
   entries-told cause (inr told) =
-      inr (first-append of_entries (of_channels ++ of_pipes) ∙ ap (λ f. or_else f (first_of (of_channels ++ of_pipes))) told)
+      inr (first-append of_entries (of_channels ++ (of_pipes ++ of_clocks)) ∙ ap (λ f. or_else f (first_of (of_channels ++ (of_pipes ++ of_clocks)))) told)
 
   module _ (none : first_of (entry_faults design.tree request) ≡ None) where
-    -- if the entries have no fault, the first fault is that of the channels, and else that of the pipes
-    later-first : or_else (first_of of_channels) (first_of of_pipes) ≡ first_fault design request
+    -- if the entries have no fault, the first fault is that of the channels, else that of the pipes, and else that of the clocks
+    later-first : or_else (first_of of_channels) (or_else (first_of of_pipes) (first_of of_clocks)) ≡ first_fault design request
     later-first =
-        sym (first-append of_channels of_pipes)
-        ∙ ap (λ f. or_else f (first_of (of_channels ++ of_pipes))) (sym none)
-        ∙ sym (first-append of_entries (of_channels ++ of_pipes))
+        ap (or_else (first_of of_channels)) (sym (first-append of_pipes of_clocks))
+        ∙ sym (first-append of_channels (of_pipes ++ of_clocks))
+        ∙ ap (λ f. or_else f (first_of (of_channels ++ (of_pipes ++ of_clocks)))) (sym none)
+        ∙ sym (first-append of_entries (of_channels ++ (of_pipes ++ of_clocks)))
 
     pub channels-told : (cause : CutFault) → IsTold (first_of (channel_faults design.circuit request (listed_of design.tree request) (plan_signals design.circuit design.tree request))) cause → IsTold (first_fault design request) cause
     channels-told cause (inl memory) = inl memory
-    channels-told cause (inr told) = inr (sym later-first ∙ ap (λ f. or_else f (first_of of_pipes)) told)
+    channels-told cause (inr told) = inr (sym later-first ∙ ap (λ f. or_else f (or_else (first_of of_pipes) (first_of of_clocks))) told)
 
-    pub pipes-first : first_of (channel_faults design.circuit request (listed_of design.tree request) (plan_signals design.circuit design.tree request)) ≡ None
-        → first_of (pipe_faults design.circuit request (plan_signals design.circuit design.tree request)) ≡ first_fault design request
-    pipes-first some = ap (λ f. or_else f (first_of of_pipes)) (sym some) ∙ later-first
+    module _ (some : first_of (channel_faults design.circuit request (listed_of design.tree request) (plan_signals design.circuit design.tree request)) ≡ None) where
+      last-first : or_else (first_of of_pipes) (first_of of_clocks) ≡ first_fault design request
+      last-first = ap (λ f. or_else f (or_else (first_of of_pipes) (first_of of_clocks))) (sym some) ∙ later-first
+
+      pub pipes-told : (cause : CutFault) → IsTold (first_of (pipe_faults design.circuit request (plan_signals design.circuit design.tree request))) cause → IsTold (first_fault design request) cause
+      pipes-told cause (inl memory) = inl memory
+      pipes-told cause (inr told) = inr (sym last-first ∙ ap (λ f. or_else f (first_of of_clocks)) told)
+
+      pub clocks-first : first_of (pipe_faults design.circuit request (plan_signals design.circuit design.tree request)) ≡ None → first_of (clock_faults design.tree request) ≡ first_fault design request
+      clocks-first good = ap (λ f. or_else f (first_of of_clocks)) (sym good) ∙ last-first

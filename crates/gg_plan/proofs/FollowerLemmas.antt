@@ -1,35 +1,40 @@
 -- The steps by which the part of a unit is made from that of the first unit of its host.
-use Rattle.std.proofs.Common.{◌≡◌, ◌≢◌, ℕ, ◌<◌, ◌≤◌, ◌^◌, List, length, map, get_or, sym, ◌∙◌, ap, subst, arith}
+use Rattle.std.proofs.Common.{◌≡◌, ◌≢◌, ℕ, ◌<◌, ◌≤◌, ◌^◌, List, length, map, get_or, sym, ◌∙◌, ap, subst, inl, inr, arith}
 use Rattle.std.specs.Prelude.{All, AllPairs, Contains}
 use Rattle.std.proofs.lemmas.List.{length-map, get_or-map}
+use Rattle.std.proofs.lemmas.List.Elements.{Contains-get_or}
 use Rattle.gg_flat.specs.Circuit.{FlatCircuit}
 use Rattle.gg_flat.specs.Line.{value_at}
+use Rattle.gg_flat.specs.WellFormed.{IsWellFormed}
+use Rattle.gg_moved.specs.KeepsToTree.{KeepsToTree}
 use Rattle.gg_moved.specs.Moved.{shifted}
 use Rattle.gg_order.specs.Design.{Ordered}
+use Rattle.gg_part.specs.declared.part.Clocking.{Clocking}
 use Rattle.gg_part.specs.declared.part.Part.{Part}
 use Rattle.gg_part.specs.Building.{AreHeld}
+use Rattle.gg_part.specs.Clocking.{AreTimed, IsTimed}
 use Rattle.gg_part.specs.Part.{IsPart}
 use Rattle.gg_cut.specs.declared.listed.Listed.{Listed}
 use Rattle.gg_cut.specs.Direct.{Hub, routes}
-use Rattle.gg_cut.specs.Plan.{channels_to, channels_from, signals_of, givens_of, IsCutPart}
-use Rattle.gg_duplicates.specs.Again.{IsUnitAgain, again_at, cut_wires, unit_first}
+use Rattle.gg_cut.specs.Plan.{channels_to, channels_from, signals_of, givens_of, IsCutPart, Makes, machine_clocks}
+use Rattle.gg_closed.specs.Apart.{AreApart}
+use Rattle.gg_closed.proofs.ListLemmas.{Somewhere, map-cases}
+use Rattle.gg_duplicates.specs.Again.{HasSignal, IsUnitAgain, again_at, cut_wires, unit_first}
+use Rattle.gg_cut_clocks.specs.Domains.{AreUnitClocks}
+use Rattle.gg_cut_clocks.proofs.TimedLemmas.{machine-timed}
 use Rattle.gg_plan.specs.MovedPart.{IsUnitPart, IsUnitRouted, IsUnitShare, IsMovedPiece, IsFollower, HoldAgain}
 use Rattle.gg_plan.proofs.RoutedLemmas.{to-unit, from-unit}
-use Rattle.gg_plan.proofs.MovedUnitLemmas.{behind-first, counterparts-once, hold-again, registers-within, memories-within, counterparts-within, givens-known, banks-again}
+use Rattle.gg_plan.proofs.MovedUnitLemmas.{behind-first, counterparts-once, hold-again, counterparts-within, givens-known, banks-again}
 use Rattle.gg_plan.proofs.MovedPartLemmas.{moved-part, moved-alike}
 
 -- a moved piece can be made of these
-pub record IsReady (whole : FlatCircuit) (leader : Part) (globals held banks givens : List ℕ) : Type 0 where
+pub record IsReady (whole : FlatCircuit) (leader : Part) (globals givens : List ℕ) : Type 0 where
   pub signals : length leader.piece.signals ≡ length globals
   pub within : All (λ s. s < length whole.signals) globals
   pub once : AllPairs (λ a b. a ≢ b) globals
-  pub registers : length leader.piece.registers ≡ length held
-  pub held_within : All (λ r. r < length whole.registers) held
-  pub memories : length leader.piece.memories ≡ length banks
-  pub banks_within : All (λ m. m < length whole.memories) banks
   pub givens_known : All (λ s. Contains globals s) givens
 
-module _ (design : Ordered) (listed : Listed) (hub : Hub) (m n : ℕ) (leader : Part) (again : IsUnitAgain design listed m n) (routed : IsUnitRouted design listed hub m) (there : IsUnitRouted design listed hub n) (cut : IsCutPart design listed hub m leader) (signals banks : List ℕ) (share : IsUnitShare design listed n signals banks) (ascend : AllPairs (λ a b. a < b) leader.memories) where
+module _ (design : Ordered) (listed : Listed) (hub : Hub) (clocking : Clocking) (m n : ℕ) (leader : Part) (again : IsUnitAgain design listed m n) (routed : IsUnitRouted design listed hub m) (there : IsUnitRouted design listed hub n) (cut : IsCutPart design listed hub m leader) (timed : IsTimed leader.piece leader.held leader.memories clocking.registers clocking.ports) (signals banks : List ℕ) (share : IsUnitShare design listed n signals banks) (ascend : AllPairs (λ a b. a < b) leader.memories) where
   abbrev to : ℕ → ℕ
   to = again_at design listed m n
 
@@ -39,19 +44,19 @@ module _ (design : Ordered) (listed : Listed) (hub : Hub) (m n : ℕ) (leader : 
   abbrev givens_there : List ℕ
   givens_there = givens_of (routes hub) (channels_from (routes hub) n)
 
-  abbrev cut-own : IsUnitPart design listed m own_givens leader
-  cut-own = to-unit design listed hub m leader routed cut
+  abbrev cut-own : IsUnitPart design listed clocking m own_givens leader
+  cut-own = to-unit design listed hub clocking m leader routed cut timed
 
   banks-are : banks ≡ map again.memories leader.memories
-  banks-are = banks-again design listed m n leader again own_givens cut-own signals banks share ascend
+  banks-are = banks-again design listed clocking m n leader again own_givens cut-own signals banks share ascend
 
   pub all-behind : (from : ℕ) → from ≡ unit_first design.tree listed m → All (λ s. from ≤ s) leader.globals
-  all-behind from is = subst (λ f. All (λ s. f ≤ s) leader.globals) (sym is) (behind-first design listed m n leader again own_givens cut-own)
+  all-behind from is = subst (λ f. All (λ s. f ≤ s) leader.globals) (sym is) (behind-first design listed clocking m n leader again own_givens cut-own)
 
   -- the counterparts have numbers below 2^32
   pub all-few : (whole : FlatCircuit) (from first : ℕ) → whole ≡ design.circuit → length whole.signals < 2 ^ 32 → from ≡ unit_first design.tree listed m → first ≡ unit_first design.tree listed n → All (λ s. shifted from first s < 2 ^ 32) leader.globals
   all-few whole from first is few a b k d lt =
-      let within = counterparts-within design listed m n leader again own_givens cut-own signals banks share k (to d) (omega (arith, lt, length-map leader.globals to)) in
+      let within = counterparts-within design listed clocking m n leader again own_givens cut-own signals banks share k (to d) (omega (arith, lt, length-map leader.globals to)) in
       let at : get_or (map to leader.globals) k (to d) ≡ to (get_or leader.globals k d) = get_or-map to leader.globals k d (to d) lt in
       let count : length whole.signals ≡ length design.circuit.signals = ap (λ (c : FlatCircuit). length c.signals) is in
       omega (arith, within, at, count, few, a, b)
@@ -63,53 +68,66 @@ module _ (design : Ordered) (listed : Listed) (hub : Hub) (m n : ℕ) (leader : 
       (subst (λ (c : FlatCircuit). AreHeld c leader.globals (signals_of (cut_wires design listed) (channels_to (cut_wires design listed) m)) leader.held) (sym is) cut-own.held)
       (sym cut-own.ins)
       (subst (λ (c : FlatCircuit). HoldAgain c leader globals again.registers) (sym is)
-      (subst (λ (l : List ℕ). HoldAgain design.circuit leader l again.registers) (sym these) (hold-again design listed m n leader again own_givens cut-own)))
+      (subst (λ (l : List ℕ). HoldAgain design.circuit leader l again.registers) (sym these) (hold-again design listed clocking m n leader again own_givens cut-own)))
 
-  pub part-in : (whole : FlatCircuit) → whole ≡ design.circuit → IsPart whole leader.piece leader.globals leader.held leader.memories
-  part-in whole is = subst (λ (c : FlatCircuit). IsPart c leader.piece leader.globals leader.held leader.memories) (sym is) cut.is
+  pub part-in : (whole : FlatCircuit) → whole ≡ design.circuit → IsPart whole leader.piece leader.globals leader.held leader.memories leader.clocks
+  part-in whole is = subst (λ (c : FlatCircuit). IsPart c leader.piece leader.globals leader.held leader.memories leader.clocks) (sym is) cut.is
 
   pub globals-within : (whole : FlatCircuit) (globals : List ℕ) → whole ≡ design.circuit → globals ≡ map to leader.globals → All (λ s. s < length whole.signals) globals
   globals-within whole globals is these =
       subst (λ (c : FlatCircuit). All (λ s. s < length c.signals) globals) (sym is)
-      (subst (λ (l : List ℕ). All (λ s. s < length design.circuit.signals) l) (sym these) (counterparts-within design listed m n leader again own_givens cut-own signals banks share))
+      (subst (λ (l : List ℕ). All (λ s. s < length design.circuit.signals) l) (sym these) (counterparts-within design listed clocking m n leader again own_givens cut-own signals banks share))
+
+  -- ---- what the other unit follows
+
+  -- what it has from outside it doesn't make
+  makes-there : (s : ℕ) → Contains (map (again_at design listed m n) leader.globals) s → ¬ Contains (signals_of (cut_wires design listed) (channels_to (cut_wires design listed) n)) s → Makes design.circuit design.tree listed (cut_wires design listed) n s
+  makes-there s chosen outside = by (subst (HasSignal design listed n) (at.holds 0) (again.has (value_at leader.globals at.place) ((cut-own.signals (value_at leader.globals at.place)).0 (Contains-get_or leader.globals at.place 0 at.within))))
+    where
+      at : Somewhere (λ s'. to s' ≡ s) leader.globals
+      at = map-cases to leader.globals s chosen
+
+      by : HasSignal design listed n s → Makes design.circuit design.tree listed (cut_wires design listed) n s
+      by (inl made) = made
+      by (inr taken) = absurd (outside taken)
 
   -- ---- with what was made so far
 
-  module _ (whole : FlatCircuit) (globals held own_banks givens : List ℕ) (is : whole ≡ design.circuit) (these : globals ≡ map (again_at design listed m n) leader.globals) (holds : held ≡ map again.registers leader.held) (own : own_banks ≡ banks) (gives : givens ≡ givens_there) where
-    pub ready : IsReady whole leader globals held own_banks givens
+  module _ (whole : FlatCircuit) (globals givens : List ℕ) (is : whole ≡ design.circuit) (these : globals ≡ map (again_at design listed m n) leader.globals) (gives : givens ≡ givens_there) where
+    pub ready : IsReady whole leader globals givens
     ready = record {
       signals = cut.is.count ∙ sym (ap length these ∙ length-map leader.globals to);
       within = globals-within whole globals is these;
-      once = subst (λ (l : List ℕ). AllPairs (λ a b. a ≢ b) l) (sym these) (counterparts-once design listed m n leader again own_givens cut-own);
-      registers = cut.is.register_count ∙ sym (ap length holds ∙ length-map leader.held again.registers);
-      held_within =
-          subst (λ (c : FlatCircuit). All (λ r. r < length c.registers) held) (sym is)
-          (subst (λ (l : List ℕ). All (λ r. r < length design.circuit.registers) l) (sym holds) (registers-within design listed m n leader again own_givens cut-own));
-      memories = cut.is.memory_count ∙ sym (ap length own ∙ ap length banks-are ∙ length-map leader.memories again.memories);
-      banks_within =
-          subst (λ (c : FlatCircuit). All (λ k. k < length c.memories) own_banks) (sym is)
-          (subst (λ (l : List ℕ). All (λ k. k < length design.circuit.memories) l) (sym (own ∙ banks-are)) (memories-within design listed m n leader again own_givens cut-own));
+      once = subst (λ (l : List ℕ). AllPairs (λ a b. a ≢ b) l) (sym these) (counterparts-once design listed clocking m n leader again own_givens cut-own);
       givens_known =
           subst (λ (l : List ℕ). All (λ s. Contains l s) givens) (sym these)
-          (subst (λ (l : List ℕ). All (λ s. Contains (map to leader.globals) s) l) (sym gives) (givens-known design listed m n leader again own_givens cut-own signals banks share givens_there there.givens));
+          (subst (λ (l : List ℕ). All (λ s. Contains (map to leader.globals) s) l) (sym gives) (givens-known design listed clocking m n leader again own_givens cut-own signals banks share givens_there there.givens));
     }
 
-    pub follows : (part : Part) → IsMovedPiece whole leader.piece globals held own_banks givens part.piece → part.globals ≡ globals → part.held ≡ held → part.memories ≡ banks → IsFollower design listed hub n leader part
-    follows part moved a b c =
-        record {
-          cut = from-unit design listed hub n part there
-              (moved-part design listed m n leader again own_givens givens_there cut-own routed.givens there.givens signals banks share up part banks-are (record { piece = piece; signals = a ∙ these; registers = b ∙ holds; memories = c ∙ banks-are }));
-          ascend = subst (λ (l : List ℕ). AllPairs (λ a b. a < b) l) (sym c) share.ascend;
-          alike = moved-alike design listed m n leader again own_givens givens_there cut-own routed.givens there.givens signals banks share up part.piece piece;
-        }
-      where
-        up : AllPairs (λ a b. a < b) (map again.memories leader.memories)
-        up = subst (λ (l : List ℕ). AllPairs (λ a b. a < b) l) banks-are share.ascend
+    module _ (keeps : KeepsToTree design.circuit design.tree) (apart : AreApart design.tree listed) (formed : IsWellFormed design.circuit) (units : AreUnitClocks design listed clocking) where
+      pub follows : (part : Part) → IsMovedPiece whole leader.piece globals givens part.piece → part.globals ≡ globals → part.held ≡ map again.registers leader.held → part.memories ≡ banks → part.clocks ≡ machine_clocks design.tree listed n → IsFollower design listed hub clocking n leader part
+      follows part moved a b c d =
+          let made =
+          moved-part design listed clocking m n leader again own_givens givens_there cut-own routed.givens there.givens signals banks share up keeps units follow part banks-are
+          (record { piece = piece; signals = a ∙ these; registers = b; memories = c ∙ banks-are; follows = d }) in
+          record {
+            cut = from-unit design listed hub clocking n part there made;
+            timed = made.timed;
+            ascend = subst (λ (l : List ℕ). AllPairs (λ a b. a < b) l) (sym c) share.ascend;
+            alike = moved-alike design listed clocking m n leader again own_givens givens_there cut-own routed.givens there.givens signals banks share up keeps units follow part.piece piece;
+          }
+        where
+          up : AllPairs (λ a b. a < b) (map again.memories leader.memories)
+          up = subst (λ (l : List ℕ). AllPairs (λ a b. a < b) l) banks-are share.ascend
 
-        piece : IsMovedPiece design.circuit leader.piece (map to leader.globals) (map again.registers leader.held) (map again.memories leader.memories) givens_there part.piece
-        piece =
-            subst (λ (w : FlatCircuit). IsMovedPiece w leader.piece (map to leader.globals) (map again.registers leader.held) (map again.memories leader.memories) givens_there part.piece) is
-            (subst (λ (l : List ℕ). IsMovedPiece whole leader.piece l (map again.registers leader.held) (map again.memories leader.memories) givens_there part.piece) these
-            (subst (λ (l : List ℕ). IsMovedPiece whole leader.piece globals l (map again.memories leader.memories) givens_there part.piece) holds
-            (subst (λ (l : List ℕ). IsMovedPiece whole leader.piece globals held l givens_there part.piece) (own ∙ banks-are)
-            (subst (λ (l : List ℕ). IsMovedPiece whole leader.piece globals held own_banks l part.piece) gives moved))))
+          follow : AreTimed design.circuit (map to leader.globals) (signals_of (cut_wires design listed) (channels_to (cut_wires design listed) n)) (map again.memories leader.memories) (machine_clocks design.tree listed n) clocking.registers clocking.ports
+          follow =
+              machine-timed design listed keeps apart formed clocking units n again.units.2 again.units.3 (map to leader.globals) (signals_of (cut_wires design listed) (channels_to (cut_wires design listed) n)) (map again.memories leader.memories)
+              (counterparts-within design listed clocking m n leader again own_givens cut-own signals banks share) makes-there
+              (λ k h. (share.banks k).0 (subst (λ (l : List ℕ). Contains l k) (sym banks-are) h))
+
+          piece : IsMovedPiece design.circuit leader.piece (map to leader.globals) givens_there part.piece
+          piece =
+              subst (λ (w : FlatCircuit). IsMovedPiece w leader.piece (map to leader.globals) givens_there part.piece) is
+              (subst (λ (l : List ℕ). IsMovedPiece whole leader.piece l givens_there part.piece) these
+              (subst (λ (l : List ℕ). IsMovedPiece whole leader.piece globals l part.piece) gives moved))

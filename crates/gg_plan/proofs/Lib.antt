@@ -3,15 +3,15 @@ pub mod LeaderLemmas
 pub mod AlikeLemmas
 pub mod NameLemmas
 pub mod CapacityLemmas
-pub mod ClockLemmas
 pub mod MovedUnitLemmas
 pub mod MovedPartLemmas
 pub mod RegisterLemmas
 pub mod RoutedLemmas
 pub mod FollowerLemmas
-pub mod MadeLemmas
+pub mod PlaceLemmas
 pub mod MachineLemmas
 pub mod ShareLemmas
+pub mod TimedLemmas
 pub mod NeedLemmas
 pub mod FaultlessLemmas
 pub mod PlanLemmas

@@ -1,5 +1,5 @@
 -- The machines of a plan: their channels and their parts.
-use Rattle.std.proofs.Common.{◌≡◌, ℕ, ◌+◌, ◌<◌, List, [], ◌∷◌, ◌++◌, length, map, get_or, sym, ◌∙◌, ap, subst, below_more, arith}
+use Rattle.std.proofs.Common.{◌≡◌, ℕ, ◌+◌, ◌<◌, List, [], ◌∷◌, ◌++◌, Option, length, map, get_or, sym, ◌∙◌, ap, subst, below_more, arith}
 use Rattle.std.specs.Prelude.{Contains, ◌==◌, ◌⊎◌, ◌↔◌}
 use Rattle.std.proofs.lemmas.List.{get_or_push, get_or_append_left}
 use Rattle.gg_flat.specs.Line.{value_at}
@@ -12,7 +12,7 @@ use Rattle.gg_part.specs.Building.{AreHeld}
 use Rattle.gg_part.specs.InOrder.{IsAlong, IsInOrder}
 use Rattle.gg_cut.specs.declared.listed.Listed.{Listed}
 use Rattle.gg_cut.specs.declared.wires.Wire.{Wire}
-use Rattle.gg_cut.specs.Plan.{wire_at, channels_to, channels_from, signals_of, givens_of, MakesBy, Takes, HasMemory, IsCutPart}
+use Rattle.gg_cut.specs.Plan.{wire_at, channels_to, channels_from, signals_of, givens_of, MakesBy, Takes, HasMemory, IsCutPart, machine_clocks}
 use Rattle.gg_cut.proofs.RangeLemmas.{filter-below}
 use Rattle.gg_split.specs.declared.share.Share.{Share}
 use Rattle.gg_cut.specs.Direct.{Hub, routes}
@@ -29,14 +29,15 @@ from-below wires m channels is k d lt = let below = filter-below (λ c. (wire_at
 -- ---- parts
 
 -- the part that a machine's share makes is the part that its plan asks for
-pub cut-part : (design : Ordered) (listed : Listed) (hub : Hub) (wires : List Wire) → wires ≡ routes hub → (m : ℕ) (share : Share) (whole : FlatCircuit) (part : Part) → IsPlanShare design listed hub m share.ins share.outs share.globals share.memories → whole ≡ design.circuit → IsPart whole part.piece part.globals part.held part.memories → part.globals ≡ share.globals → part.memories ≡ share.memories
+pub cut-part : (design : Ordered) (listed : Listed) (hub : Hub) (wires : List Wire) → wires ≡ routes hub → (m : ℕ) (share : Share) (whole : FlatCircuit) (part : Part) → IsPlanShare design listed hub m share.ins share.outs share.globals share.memories → whole ≡ design.circuit → IsPart whole part.piece part.globals part.held part.memories part.clocks → part.clocks ≡ machine_clocks design.tree listed m → part.globals ≡ share.globals → part.memories ≡ share.memories
     → map (value_at part.globals) part.piece.ins ≡ signals_of wires share.ins → map (value_at part.globals) part.piece.outs ≡ givens_of wires share.outs → AreHeld whole part.globals (signals_of wires share.ins) part.held → IsOrder design.circuit design.order
-    → ((whole part : FlatCircuit) (globals held memories order : List ℕ) → IsPart whole part globals held memories → IsOrder whole order → IsAlong order globals → IsInOrder part)
+    → ((whole part : FlatCircuit) (globals held memories order : List ℕ) (clocks : List (Option ℕ)) → IsPart whole part globals held memories clocks → IsOrder whole order → IsAlong order globals → IsInOrder part)
     → IsCutPart design listed hub m part
-cut-part design listed hub wires all m share whole part own w is g ms i o held ordered law =
-    let here = subst (λ (k : FlatCircuit). IsPart k part.piece part.globals part.held part.memories) w is in
+cut-part design listed hub wires all m share whole part own w is follows g ms i o held ordered law =
+    let here = subst (λ (k : FlatCircuit). IsPart k part.piece part.globals part.held part.memories part.clocks) w is in
     record {
       is = here;
+      clocks = follows;
       signals = λ s. subst (λ (l : List ℕ). Contains l s ↔ (MakesBy hub m s ⊎ Takes (routes hub) m s)) (sym g) (own.signals s);
       ins = i ∙ ap (λ (l : List Wire). signals_of l share.ins) all ∙ ap (signals_of (routes hub)) own.takes;
       outs = o ∙ ap (λ (l : List Wire). givens_of l share.outs) all ∙ ap (givens_of (routes hub)) own.gives;
@@ -44,7 +45,7 @@ cut-part design listed hub wires all m share whole part own w is g ms i o held o
           subst (λ (k : FlatCircuit). AreHeld k part.globals (signals_of (routes hub) (channels_to (routes hub) m)) part.held) w
           (subst (λ (l : List ℕ). AreHeld whole part.globals (signals_of (routes hub) l) part.held) own.takes (subst (λ (l : List Wire). AreHeld whole part.globals (signals_of l share.ins) part.held) all held));
       memories = λ k. subst (λ (l : List ℕ). Contains l k ↔ HasMemory design.tree listed m k) (sym ms) (own.banks k);
-      ordered = law design.circuit part.piece part.globals part.held part.memories design.order here ordered (subst (λ (l : List ℕ). IsAlong design.order l) (sym g) own.along);
+      ordered = law design.circuit part.piece part.globals part.held part.memories design.order part.clocks here ordered (subst (λ (l : List ℕ). IsAlong design.order l) (sym g) own.along);
     }
 
 -- ---- one more at the end

@@ -12,6 +12,7 @@ use Rattle.gg_flat.proofs.ListLemmas.{some-item, once-apart, Contains-map}
 use Rattle.gg_moved.specs.Moved.{moved_driver, moved_register, moved_memory, unclocked_register, unclocked_memory}
 use Rattle.gg_moved.proofs.MovedLemmas.{register-moved, memory-moved}
 use Rattle.gg_order.specs.Design.{Ordered}
+use Rattle.gg_part.specs.declared.part.Clocking.{Clocking}
 use Rattle.gg_part.specs.declared.part.Part.{Part}
 use Rattle.gg_part.specs.Building.{Holds}
 use Rattle.gg_part.specs.Part.{IsFrom, renamed_register, renamed_memory}
@@ -21,7 +22,7 @@ use Rattle.gg_closed.proofs.ListLemmas.{map-cases, AllPairs-map}
 use Rattle.gg_duplicates.specs.Again.{IsUnitAgain, HasSignal, again_at, cut_wires, unit_first}
 use Rattle.gg_plan.specs.MovedPart.{HoldAgain, IsUnitPart, IsUnitShare, AreGivens}
 
-module _ (design : Ordered) (listed : Listed) (m n : ℕ) (leader : Part) (again : IsUnitAgain design listed m n) (own_givens : List ℕ) (cut : IsUnitPart design listed m own_givens leader) where
+module _ (design : Ordered) (listed : Listed) (clocking : Clocking) (m n : ℕ) (leader : Part) (again : IsUnitAgain design listed m n) (own_givens : List ℕ) (cut : IsUnitPart design listed clocking m own_givens leader) where
   -- ---- signals
 
   pub among-has : (s : ℕ) → Contains leader.globals s → HasSignal design listed m s
@@ -73,7 +74,7 @@ module _ (design : Ordered) (listed : Listed) (m n : ℕ) (leader : Part) (again
   -- ---- registers
 
   -- a signal that the unit makes holds this register
-  record IsHeldBy (r : ℕ) : Type 0 where
+  pub record IsHeldBy (r : ℕ) : Type 0 where
     pub signal : ℕ
     pub made : Makes design.circuit design.tree listed (cut_wires design listed) m signal
     pub is : driver_at design.circuit signal ≡ Held r
@@ -82,7 +83,7 @@ module _ (design : Ordered) (listed : Listed) (m n : ℕ) (leader : Part) (again
   made-held r s (inl made) holds = record { signal = s; made = made; is = holds.holds }
   made-held r s (inr taken) holds = absurd (holds.inside taken)
 
-  held-by : (r : ℕ) → Contains leader.held r → IsHeldBy r
+  pub held-by : (r : ℕ) → Contains leader.held r → IsHeldBy r
   held-by r c = let at = cut.held.sound r c in made-held r at.signal (among-has at.signal at.chosen) at.holds
 
   register-again : (r : ℕ) (any : Register) → r < length leader.held
@@ -99,16 +100,16 @@ module _ (design : Ordered) (listed : Listed) (m n : ℕ) (leader : Part) (again
       (register-again r (some-item design.circuit.registers (value_at leader.held r) (cut.is.register_from r lt).within) lt).0
 
   -- the counterpart of a register is the part's with other numbers, but for its clock
-  pub register-there : (r : ℕ) (any other : Register) → r < length leader.held → unclocked_register (get_or design.circuit.registers (again.registers (value_at leader.held r)) other) ≡ unclocked_register (renamed_register (map (again_at design listed m n) leader.globals) (get_or leader.piece.registers r any))
+  pub register-there : (r : ℕ) (any other : Register) → r < length leader.held → unclocked_register (get_or design.circuit.registers (again.registers (value_at leader.held r)) other) ≡ unclocked_register (renamed_register (map (again_at design listed m n) leader.globals) leader.clocks (get_or leader.piece.registers r any))
   register-there r any other lt =
       let from = cut.is.register_from r lt in
       (register-again r other lt).1
       ∙ ap (λ (x : Register). unclocked_register (moved_register (again_at design listed m n) x)) (from.is any other)
-      ∙ ap (λ (x : Register). unclocked_register x) (sym (register-moved (again_at design listed m n) leader.globals (get_or leader.piece.registers r any) (from.below any)))
+      ∙ ap (λ (x : Register). unclocked_register x) (sym (register-moved (again_at design listed m n) leader.globals leader.clocks (get_or leader.piece.registers r any) (from.below any)))
 
   -- ---- memories
 
-  has-memory : (k : ℕ) → k < length leader.memories → HasMemory design.tree listed m (value_at leader.memories k)
+  pub has-memory : (k : ℕ) → k < length leader.memories → HasMemory design.tree listed m (value_at leader.memories k)
   has-memory k lt = (cut.memories (value_at leader.memories k)).0 (Contains-get_or leader.memories k 0 lt)
 
   pub memories-within : All (λ k. k < length design.circuit.memories) (map again.memories leader.memories)
@@ -118,12 +119,12 @@ module _ (design : Ordered) (listed : Listed) (m n : ℕ) (leader : Part) (again
       (again.memory (value_at leader.memories k) (some-item design.circuit.memories (value_at leader.memories k) (cut.is.memory_from k lt).within) (has-memory k lt)).0
 
   -- the counterpart of a memory is the part's with other numbers, but for its clocks
-  pub memory-there : (k : ℕ) (any other : Memory) → k < length leader.memories → unclocked_memory (get_or design.circuit.memories (again.memories (value_at leader.memories k)) other) ≡ unclocked_memory (renamed_memory (map (again_at design listed m n) leader.globals) (get_or leader.piece.memories k any))
+  pub memory-there : (k : ℕ) (any other : Memory) → k < length leader.memories → unclocked_memory (get_or design.circuit.memories (again.memories (value_at leader.memories k)) other) ≡ unclocked_memory (renamed_memory (map (again_at design listed m n) leader.globals) leader.clocks (get_or leader.piece.memories k any))
   memory-there k any other lt =
       let from = cut.is.memory_from k lt in
       (again.memory (value_at leader.memories k) other (has-memory k lt)).1
       ∙ ap (λ (x : Memory). unclocked_memory (moved_memory (again_at design listed m n) x)) (from.is any other)
-      ∙ ap (λ (x : Memory). unclocked_memory x) (sym (memory-moved (again_at design listed m n) leader.globals (get_or leader.piece.memories k any) (from.below any)))
+      ∙ ap (λ (x : Memory). unclocked_memory x) (sym (memory-moved (again_at design listed m n) leader.globals leader.clocks (get_or leader.piece.memories k any) (from.below any)))
 
   -- ---- with the share of the other unit
 

@@ -1,5 +1,5 @@
 -- A plan from its machines and channels.
-use Rattle.std.proofs.Common.{◌≡◌, ℕ, ◌<◌, None, List, [], ◌∷◌, length, get_or, sym, ◌∙◌, ap, subst, arith}
+use Rattle.std.proofs.Common.{◌≡◌, ℕ, ◌<◌, None, List, [], ◌∷◌, Option, length, get_or, sym, ◌∙◌, ap, subst, arith}
 use Rattle.std.specs.Prelude.{All, AllPairs}
 use Rattle.std.proofs.lemmas.List.{length-map}
 use Rattle.gg_flat.specs.Circuit.{FlatCircuit}
@@ -28,13 +28,13 @@ use Rattle.gg_plan.specs.Made.{IsCapacity, AreMachines, IsServed, IsServedBody, 
 -- ---- machines
 
 abbrev FormsParts : Type 0
-FormsParts = (whole part : FlatCircuit) (globals held memories : List ℕ) → IsWellFormed whole → IsPart whole part globals held memories → IsWellFormed part
+FormsParts = (whole part : FlatCircuit) (globals held memories : List ℕ) (clocks : List (Option ℕ)) → IsWellFormed whole → IsPart whole part globals held memories clocks → IsWellFormed part
 
 module _ (design : Ordered) (listed : Listed) (hub : Hub) (formed : IsWellFormed design.circuit) (law : FormsParts) (m : ℕ) (taken given : List ℕ) (to : taken ≡ channels_to (routes hub) m) (from : given ≡ channels_from (routes hub) m) where
   served : (part : Part) → IsCutPart design listed hub m part → IsServed (routes hub) part taken given
   served part cut =
       record {
-        formed = law design.circuit part.piece part.globals part.held part.memories formed cut.is;
+        formed = law design.circuit part.piece part.globals part.held part.memories part.clocks formed cut.is;
         ordered = cut.ordered;
         once = cut.is.once;
         known = cut.is.outs;

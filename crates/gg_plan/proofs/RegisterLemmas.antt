@@ -49,7 +49,7 @@ module _ (whole : FlatCircuit) (part : Part) (globals : List ℕ) where
       (λ k f. absurd (none k f))
       s low k e
 
-  module _ (is : IsPart whole part.piece part.globals part.held part.memories) where
+  module _ (is : IsPart whole part.piece part.globals part.held part.memories part.clocks) where
     -- a register that a signal of the part holds is one of the part
     pub register-listed : (s k : ℕ) → s < length part.globals → driver_at part.piece s ≡ Held k → k < length part.held
     register-listed s k lt e = (subst (IsFrom part.piece.ins part.globals part.held part.memories s (driver_at whole (value_at part.globals s))) e (is.drivers s lt)).0

@@ -3,8 +3,10 @@ use Rattle.std.proofs.Common.{◌≡◌, ◌≢◌, ℕ, ◌<◌, List, sym, ◌
 use Rattle.std.specs.Prelude.{Bool}
 use Rattle.gg_moved.specs.KeepsToTree.{KeepsToTree}
 use Rattle.gg_order.specs.Design.{Ordered, IsDesign}
+use Rattle.gg_part.specs.declared.part.Clocking.{Clocking}
 use Rattle.gg_part.specs.declared.part.Part.{Part}
 use Rattle.gg_part.specs.Building.{AreHeld}
+use Rattle.gg_part.specs.Clocking.{IsTimed}
 use Rattle.gg_partfile.specs.declared.request.Request.{Request}
 use Rattle.gg_cut.specs.declared.listed.Listed.{Listed}
 use Rattle.gg_cut.specs.Listed.{listed_of}
@@ -34,11 +36,13 @@ plan-unit-routed design request listed same is keeps apart m other =
     subst (λ (l : Listed). IsUnitRouted design l (plan_hub design.circuit design.tree request) m) (sym same)
     (unit-routed design (listed_of design.tree request) (is_piped design.circuit request) request.direct m is keeps (subst (AreApart design.tree) same apart) other)
 
-module _ (design : Ordered) (listed : Listed) (hub : Hub) (m : ℕ) (part : Part) (routed : IsUnitRouted design listed hub m) where
-  pub to-unit : IsCutPart design listed hub m part → IsUnitPart design listed m (givens_of (routes hub) (channels_from (routes hub) m)) part
-  to-unit cut =
+module _ (design : Ordered) (listed : Listed) (hub : Hub) (clocking : Clocking) (m : ℕ) (part : Part) (routed : IsUnitRouted design listed hub m) where
+  pub to-unit : IsCutPart design listed hub m part → IsTimed part.piece part.held part.memories clocking.registers clocking.ports → IsUnitPart design listed clocking m (givens_of (routes hub) (channels_from (routes hub) m)) part
+  to-unit cut timed =
       record {
         is = cut.is;
+        clocks = cut.clocks;
+        timed = timed;
         signals = λ s. (λ h. (routed.signals s).0 ((cut.signals s).0 h), λ has. (cut.signals s).1 ((routed.signals s).1 has));
         ins = cut.ins ∙ routed.ins;
         outs = cut.outs;
@@ -47,10 +51,11 @@ module _ (design : Ordered) (listed : Listed) (hub : Hub) (m : ℕ) (part : Part
         ordered = cut.ordered;
       }
 
-  pub from-unit : IsUnitPart design listed m (givens_of (routes hub) (channels_from (routes hub) m)) part → IsCutPart design listed hub m part
+  pub from-unit : IsUnitPart design listed clocking m (givens_of (routes hub) (channels_from (routes hub) m)) part → IsCutPart design listed hub m part
   from-unit cut =
       record {
         is = cut.is;
+        clocks = cut.clocks;
         signals = λ s. (λ h. (routed.signals s).1 ((cut.signals s).0 h), λ has. (cut.signals s).1 ((routed.signals s).0 has));
         ins = cut.ins ∙ sym routed.ins;
         outs = cut.outs;

@@ -2,7 +2,7 @@
 --
 -- The top has the output `o` and an instance `tile` with the output `o`, which holds an instance `core` with the output `o`, a
 -- literal.
-use Rattle.std.proofs.Common.{◌≡◌, false, ℕ, ◌<◌, List, [], ◌∷◌, Some, None, refl, arith, lit<, lit≤}
+use Rattle.std.proofs.Common.{◌≡◌, false, ℕ, ◌<◌, List, [], ◌∷◌, Some, None, length, refl, ap, arith, lit<, lit≤}
 use Rattle.std.specs.Prelude.{codes, slice_index_or}
 use Rattle.std.specs.Fmt.{digits}
 use Rattle.gg_bits.specs.declared.types.Ty.{Ty}
@@ -27,6 +27,7 @@ use Rattle.gg_cut.specs.declared.wires.Wire.{Wire}
 use Rattle.gg_cut.specs.Direct.{Hub, hub_of}
 use Rattle.gg_cut.specs.Listed.{listed_of}
 use Rattle.gg_cut.specs.Channels.{wires_of, capacity_of}
+use Rattle.gg_cut.specs.Clocks.{every_tick}
 use Rattle.gg_cut.specs.Fault.{first_fault, fault_text}
 use Rattle.gg_cut.specs.Plan.{IsPlan, IsMachine, IsChannel, IsCutPart, wire_at}
 use Rattle.gg_cut.proofs.WorkedPair.{output, asks}
@@ -99,6 +100,7 @@ hub =
       globals = 2 ∷ 1 ∷ 0 ∷ [];
       held = [];
       memories = [];
+      clocks = [];
     }
 
 abbrev pub core : Part
@@ -118,25 +120,26 @@ core =
       globals = 2 ∷ [];
       held = [];
       memories = [];
+      clocks = [];
     }
 
-pub hub-part : IsPart circuit hub.piece hub.globals [] []
+pub hub-part : IsPart circuit hub.piece hub.globals [] [] []
 hub-part =
     is-part circuit hub.piece hub.globals refl refl refl refl refl refl
     ((lit< tt, refl), ((names-below 3 (node nibble (Ref 0) ∷ []) refl, refl), ((names-below 3 (node nibble (Ref 1) ∷ []) refl, refl), tt)))
     ((lit< tt, refl), tt) refl refl refl
 
-pub core-part : IsPart circuit core.piece core.globals [] []
+pub core-part : IsPart circuit core.piece core.globals [] [] []
 core-part =
     is-part circuit core.piece core.globals refl refl refl refl refl refl
     ((names-below 1 (node nibble (Literal (value 10)) ∷ []) refl, refl), tt)
     tt refl refl refl
 
 hub-cut : IsCutPart design listed routed 0 hub
-hub-cut = is-cut-part design listed routed 0 hub hub-part refl refl refl refl refl refl refl (no-memories tree listed 0 refl) refl
+hub-cut = is-cut-part design listed routed 0 hub hub-part refl refl refl refl refl refl refl refl (no-memories tree listed 0 refl) refl
 
 core-cut : IsCutPart design listed routed 1 core
-core-cut = is-cut-part design listed routed 1 core core-part refl refl refl refl refl refl refl (no-memories tree listed 1 refl) refl
+core-cut = is-cut-part design listed routed 1 core core-part refl refl refl refl refl refl refl refl (no-memories tree listed 1 refl) refl
 
 abbrev pub machines : List Machine
 machines =
@@ -164,12 +167,16 @@ is-channel c any =
     (record { signal = refl; name = refl; type = refl; producer = refl; consumer = refl; bound = refl; pipe = refl; ascending = ascending (0 ∷ []) refl; needs = λ other. has-needs hub (0 ∷ []) 0 (0 ∷ []) refl })
     c
 
-pub is-plan : IsPlan design request 2 (record { machines = machines; channels = channels; listed = listed })
-is-plan = record { listed = refl; machine_total = refl; channel_total = refl; machine = is-machine; channel = is-channel; shared = unshared machines refl }
+pub is-plan : IsPlan design request 2 (record { machines = machines; channels = channels; listed = listed; ratios = [] })
+is-plan = record { listed = refl; ratios = refl; machine_total = refl; channel_total = refl; machine = is-machine; channel = is-channel; shared = unshared machines refl }
 
 -- the plan for another default is another
-other-default : ¬ IsPlan design request 3 (record { machines = machines; channels = channels; listed = listed })
+other-default : ¬ IsPlan design request 3 (record { machines = machines; channels = channels; listed = listed; ratios = [] })
 other-default is = let bound : 2 ≡ 3 = (is.channel 0 (record { signal = 0; name = []; ty = nibble; producer = 0; consumer = 0; capacity = 0; pipe = false; needs = [] }) (lit< tt)).bound in absurd (omega (arith, bound))
+
+-- a circuit without clocks has no ratios
+with-ratio : ¬ IsPlan design request 2 (record { machines = machines; channels = channels; listed = listed; ratios = every_tick ∷ [] })
+with-ratio is = let one : 1 ≡ 0 = ap length is.ratios in absurd (omega (arith, one))
 
 -- ---- requests that are refused
 

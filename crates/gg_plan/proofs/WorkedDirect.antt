@@ -54,22 +54,23 @@ hub =
       globals = 0 ∷ 6 ∷ [];
       held = [];
       memories = [];
+      clocks = [];
     }
 
-hub-part : IsPart circuit hub.piece hub.globals [] []
+hub-part : IsPart circuit hub.piece hub.globals [] [] []
 hub-part =
     is-part circuit hub.piece hub.globals refl refl refl refl refl refl
     ((lit< tt, refl), ((names-below 2 (node eight (Ref 0) ∷ node eight (One Not 0) ∷ []) refl, refl), tt))
     ((lit< tt, refl), tt) refl refl refl
 
 hub-cut : IsCutPart design listed routed 0 hub
-hub-cut = is-cut-part design listed routed 0 hub hub-part refl refl refl refl refl refl refl (no-memories tree listed 0 refl) refl
+hub-cut = is-cut-part design listed routed 0 hub hub-part refl refl refl refl refl refl refl refl (no-memories tree listed 0 refl) refl
 
 u-cut : IsCutPart design listed routed 1 part_u
-u-cut = is-cut-part design listed routed 1 part_u u-part refl refl refl refl refl refl refl (no-memories tree listed 1 refl) refl
+u-cut = is-cut-part design listed routed 1 part_u u-part refl refl refl refl refl refl refl refl (no-memories tree listed 1 refl) refl
 
 v-cut : IsCutPart design listed routed 2 part_v
-v-cut = is-cut-part design listed routed 2 part_v v-part refl refl refl refl refl refl refl (no-memories tree listed 2 refl) refl
+v-cut = is-cut-part design listed routed 2 part_v v-part refl refl refl refl refl refl refl refl (no-memories tree listed 2 refl) refl
 
 -- ---- the plan
 
@@ -129,18 +130,19 @@ is-channel c any =
       ),
     ) c
 
-pub is-plan : IsPlan design request 2 (record { machines = machines; channels = channels; listed = listed })
+pub is-plan : IsPlan design request 2 (record { machines = machines; channels = channels; listed = listed; ratios = [] })
 is-plan =
     record {
       listed = refl;
+      ratios = refl;
       machine_total = refl;
       channel_total = refl;
       machine = is-machine;
       channel = is-channel;
       shared =
           shared-two machines 1 2 9 (lit< tt) (λ e. absurd (omega (arith, e))) refl refl
-          (λ any other. record { signals = refl; registers = refl; memories = refl; ins = refl; outs = λ s. (λ c. c, λ c. c) })
-          (λ any other. record { signals = refl; registers = refl; memories = refl; ins = refl; outs = λ s. (λ c. c, λ c. c) });
+          (λ any other. record { signals = refl; clocks = refl; registers = refl; memories = refl; ins = refl; outs = λ s. (λ c. c, λ c. c) })
+          (λ any other. record { signals = refl; clocks = refl; registers = refl; memories = refl; ins = refl; outs = λ s. (λ c. c, λ c. c) });
     }
 
 -- ---- what is no plan of the cut
@@ -152,13 +154,13 @@ abbrev any_channel : Channel
 any_channel = channel 0 [] 0 0 []
 
 -- the plan that was right without direct channels
-passed-on : ¬ IsPlan design request 2 (record { machines = share.machines; channels = share.channels; listed = listed })
+passed-on : ¬ IsPlan design request 2 (record { machines = share.machines; channels = share.channels; listed = listed; ratios = [] })
 passed-on is = let count : 7 ≡ 5 = is.channel_total in absurd (omega (arith, count))
 
 -- a direct channel that still comes from the hub
-from-hub : ¬ IsPlan design request 2 (record { machines = machines; channels = set channels 1 (channel 3 (codes "u.a") 0 1 []); listed = listed })
+from-hub : ¬ IsPlan design request 2 (record { machines = machines; channels = set channels 1 (channel 3 (codes "u.a") 0 1 []); listed = listed; ratios = [] })
 from-hub is = let giver : 0 ≡ 3 = (is.channel 1 any_channel (lit< tt)).producer in absurd (omega (arith, giver))
 
 -- a direct channel under the name of its origin
-renamed : ¬ IsPlan design request 2 (record { machines = machines; channels = set channels 1 (channel 0 (codes "x") 3 1 []); listed = listed })
+renamed : ¬ IsPlan design request 2 (record { machines = machines; channels = set channels 1 (channel 0 (codes "x") 3 1 []); listed = listed; ratios = [] })
 renamed is = let signal : 0 ≡ 3 = (is.channel 1 any_channel (lit< tt)).signal in absurd (omega (arith, signal))

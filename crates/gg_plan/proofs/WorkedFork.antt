@@ -97,37 +97,37 @@ piece_with paths outs =
     }
 
 abbrev hub : Part
-hub = record { piece = record { paths = []; signals = []; registers = []; memories = []; ins = []; outs = []; clocks = 0 }; globals = []; held = []; memories = [] }
+hub = record { piece = record { paths = []; signals = []; registers = []; memories = []; ins = []; outs = []; clocks = 0 }; globals = []; held = []; memories = []; clocks = [] }
 
 abbrev part_u : Part
-part_u = record { piece = piece_with (codes "u.a" ∷ codes "u.s" ∷ []) (1 ∷ 1 ∷ []); globals = 4 ∷ 5 ∷ []; held = []; memories = [] }
+part_u = record { piece = piece_with (codes "u.a" ∷ codes "u.s" ∷ []) (1 ∷ 1 ∷ []); globals = 4 ∷ 5 ∷ []; held = []; memories = []; clocks = [] }
 
 abbrev part_v : Part
-part_v = record { piece = piece_with (codes "v.a" ∷ codes "v.s" ∷ []) (1 ∷ []); globals = 6 ∷ 7 ∷ []; held = []; memories = [] }
+part_v = record { piece = piece_with (codes "v.a" ∷ codes "v.s" ∷ []) (1 ∷ []); globals = 6 ∷ 7 ∷ []; held = []; memories = []; clocks = [] }
 
-hub-part : IsPart circuit hub.piece hub.globals [] []
+hub-part : IsPart circuit hub.piece hub.globals [] [] []
 hub-part = is-part circuit hub.piece hub.globals refl refl refl refl refl refl tt tt refl refl refl
 
-u-part : IsPart circuit part_u.piece part_u.globals [] []
+u-part : IsPart circuit part_u.piece part_u.globals [] [] []
 u-part =
     is-part circuit part_u.piece part_u.globals refl refl refl refl refl refl
     ((lit< tt, refl), ((names-below 2 (node eight (Ref 0) ∷ node eight (One Not 0) ∷ []) refl, refl), tt))
     ((lit< tt, refl), tt) refl refl refl
 
-v-part : IsPart circuit part_v.piece part_v.globals [] []
+v-part : IsPart circuit part_v.piece part_v.globals [] [] []
 v-part =
     is-part circuit part_v.piece part_v.globals refl refl refl refl refl refl
     ((lit< tt, refl), ((names-below 2 (node eight (Ref 0) ∷ node eight (One Not 0) ∷ []) refl, refl), tt))
     ((lit< tt, refl), tt) refl refl refl
 
 hub-cut : IsCutPart design listed routed 0 hub
-hub-cut = is-cut-part design listed routed 0 hub hub-part refl refl refl refl refl refl refl (no-memories tree listed 0 refl) refl
+hub-cut = is-cut-part design listed routed 0 hub hub-part refl refl refl refl refl refl refl refl (no-memories tree listed 0 refl) refl
 
 u-cut : IsCutPart design listed routed 1 part_u
-u-cut = is-cut-part design listed routed 1 part_u u-part refl refl refl refl refl refl refl (no-memories tree listed 1 refl) refl
+u-cut = is-cut-part design listed routed 1 part_u u-part refl refl refl refl refl refl refl refl (no-memories tree listed 1 refl) refl
 
 v-cut : IsCutPart design listed routed 2 part_v
-v-cut = is-cut-part design listed routed 2 part_v v-part refl refl refl refl refl refl refl (no-memories tree listed 2 refl) refl
+v-cut = is-cut-part design listed routed 2 part_v v-part refl refl refl refl refl refl refl refl (no-memories tree listed 2 refl) refl
 
 -- ---- the plan
 
@@ -155,7 +155,7 @@ channels =
     ∷ channel 3 (codes "w") 2 6 (1 ∷ []) ∷ []
 
 abbrev plan : Plan
-plan = record { machines = machines; channels = channels; listed = listed }
+plan = record { machines = machines; channels = channels; listed = listed; ratios = [] }
 
 is-machine : (m : ℕ) (any : Machine) → m < 7 → IsMachine design request listed routed m (slice_index_or machines m any)
 is-machine m any =
@@ -209,14 +209,15 @@ pub is-plan : IsPlan design request 2 plan
 is-plan =
     record {
       listed = refl;
+      ratios = refl;
       machine_total = refl;
       channel_total = refl;
       machine = is-machine;
       channel = is-channel;
       shared =
           shared-two machines 1 2 9 (lit< tt) (λ e. absurd (omega (arith, e))) refl refl
-          (λ any other. record { signals = refl; registers = refl; memories = refl; ins = refl; outs = λ s. (fewer s, more s) })
-          (λ any other. record { signals = refl; registers = refl; memories = refl; ins = refl; outs = λ s. (more s, fewer s) });
+          (λ any other. record { signals = refl; clocks = refl; registers = refl; memories = refl; ins = refl; outs = λ s. (fewer s, more s) })
+          (λ any other. record { signals = refl; clocks = refl; registers = refl; memories = refl; ins = refl; outs = λ s. (more s, fewer s) });
     }
 
 -- ---- what is no plan of the cut
@@ -230,11 +231,11 @@ unasked is = let count : 5 ≡ 8 = is.channel_total in absurd (omega (arith, cou
 
 -- `u` with its out-signal listed once, though two channels carry it
 abbrev once : Part
-once = record { piece = piece_with (codes "u.a" ∷ codes "u.s" ∷ []) (1 ∷ []); globals = 4 ∷ 5 ∷ []; held = []; memories = [] }
+once = record { piece = piece_with (codes "u.a" ∷ codes "u.s" ∷ []) (1 ∷ []); globals = 4 ∷ 5 ∷ []; held = []; memories = []; clocks = [] }
 
-listed-once : ¬ IsPlan design request 2 (record { machines = set machines 1 (record { name = codes "u"; host = 1; body = Cut once; ins = 0 ∷ []; outs = 2 ∷ 3 ∷ [] }); channels = channels; listed = listed })
+listed-once : ¬ IsPlan design request 2 (record { machines = set machines 1 (record { name = codes "u"; host = 1; body = Cut once; ins = 0 ∷ []; outs = 2 ∷ 3 ∷ [] }); channels = channels; listed = listed; ratios = [] })
 listed-once is = let body = (is.machine 1 any_machine (lit< tt)).body in let count : 1 ≡ 2 = ap (λ (l : List ℕ). length l) body.1.outs in absurd (omega (arith, count))
 
 -- the source without the second of its channels
-no-fork : ¬ IsPlan design request 2 (record { machines = set machines 3 (record { name = codes "in:x"; host = 2; body = Source 0; ins = []; outs = 0 ∷ [] }); channels = channels; listed = listed })
+no-fork : ¬ IsPlan design request 2 (record { machines = set machines 3 (record { name = codes "in:x"; host = 2; body = Source 0; ins = []; outs = 0 ∷ [] }); channels = channels; listed = listed; ratios = [] })
 no-fork is = let count : 1 ≡ 2 = ap (λ (l : List ℕ). length l) (is.machine 3 any_machine (lit< tt)).outs in absurd (omega (arith, count))

@@ -12,6 +12,7 @@ use Rattle.gg_flat.specs.declared.piece.Driver.TheVariants.{Input, MemoryWord, C
 use Rattle.gg_flat.specs.Circuit.{FlatCircuit, driver_at, reader_at, readers_at}
 use Rattle.gg_flat.specs.Memory.{WritesAmong}
 use Rattle.gg_flat.specs.Scoped.{writers_at}
+use Rattle.gg_flat.specs.WellFormed.{IsClock}
 use Rattle.gg_flat.specs.Tree.{InstanceTree, memory_at}
 use Rattle.gg_flat.proofs.WorkedCircuits.{one, eight, node, value}
 use Rattle.gg_flat.proofs.WorkedMemories.{two, high, signal, copy, ports, ports_order}
@@ -100,6 +101,7 @@ hub =
       globals = 0 ∷ 1 ∷ 4 ∷ 5 ∷ 6 ∷ 7 ∷ 8 ∷ 9 ∷ 10 ∷ 11 ∷ 12 ∷ 13 ∷ 14 ∷ 15 ∷ 16 ∷ 17 ∷ 2 ∷ 3 ∷ [];
       held = [];
       memories = [];
+      clocks = [];
     }
 
 -- the fields of `m`, and no other signal
@@ -133,27 +135,32 @@ memory =
       globals = 4 ∷ 5 ∷ 6 ∷ 7 ∷ 8 ∷ 9 ∷ 10 ∷ 11 ∷ 12 ∷ 13 ∷ 14 ∷ 15 ∷ 16 ∷ 17 ∷ [];
       held = [];
       memories = 0 ∷ [];
+      clocks = [];
     }
 
-hub-part : IsPart circuit hub.piece hub.globals [] []
+hub-part : IsPart circuit hub.piece hub.globals [] [] []
 hub-part =
     is-part circuit hub.piece hub.globals refl refl refl refl refl refl
     ((lit< tt, refl), ((lit< tt, refl), ((names-below 18 (node two (Ref 0) ∷ []) refl, refl), ((names-below 18 (node one (Literal (value 1)) ∷ []) refl, refl), ((lit< tt, refl), ((names-below 18 (node two (Ref 0) ∷ []) refl, refl), ((names-below 18 (node eight (Ref 1) ∷ node one (Fix Bits 0 0 0) ∷ []) refl, refl), ((lit< tt, refl), ((names-below 18 (node two (Ref 0) ∷ []) refl, refl), ((names-below 18 (node one (Literal (value 1)) ∷ []) refl, refl), ((names-below 18 (node eight (Ref 1) ∷ []) refl, refl), ((names-below 18 (node one (Literal (value 1)) ∷ []) refl, refl), ((names-below 18 (node two (Ref 0) ∷ []) refl, refl), ((names-below 18 (node one (Literal (value 1)) ∷ []) refl, refl), ((names-below 18 (node eight (Ref 1) ∷ node eight (One Not 0) ∷ []) refl, refl), ((names-below 18 (node one (Literal (value 1)) ∷ []) refl, refl), ((names-below 18 (node eight (Ref 4) ∷ []) refl, refl), ((names-below 18 (node eight (Ref 7) ∷ []) refl, refl), tt))))))))))))))))))
     ((lit< tt, refl), ((lit< tt, refl), ((lit< tt, refl), ((lit< tt, refl), tt)))) refl refl refl
 
-memory-from : (m : ℕ) → m < 1 → IsMemoryFrom circuit memory.piece memory.globals memory.memories m
+memory-from : (m : ℕ) → m < 1 → IsMemoryFrom circuit memory.piece memory.globals memory.memories [] m
 memory-from =
-    only (IsMemoryFrom circuit memory.piece memory.globals memory.memories) (record {
+    only (IsMemoryFrom circuit memory.piece memory.globals memory.memories []) (record {
       within = lit< tt;
       is = λ any other. refl;
       below = λ any. record {
         readers = λ i d lt. both (λ k. ReadsAmong 14 (slice_index_or (readers_at memory.piece 0) k d)) (lit< tt, lit< tt, lit< tt) (lit< tt, lit< tt, lit< tt) i lt;
         writers = λ i d lt. both (λ k. WritesAmong 14 (slice_index_or (writers_at memory.piece 0) k d)) (lit< tt, lit< tt, lit< tt, lit< tt) (lit< tt, lit< tt, lit< tt, lit< tt) i lt;
       };
+      clocked = λ any. record {
+        readers = λ i d lt. both (λ k. IsClock 0 (slice_index_or (readers_at memory.piece 0) k d).clock) tt tt i lt;
+        writers = λ i d lt. both (λ k. IsClock 0 (slice_index_or (writers_at memory.piece 0) k d).clock) tt tt i lt;
+      };
       given = λ r place lt. both (λ k. driver_at memory.piece (reader_at (readers_at memory.piece 0) k).word ≢ Input place) (λ same. cc) (λ same. cc) r lt;
     })
 
-memory-part : IsPart circuit memory.piece memory.globals [] (0 ∷ [])
+memory-part : IsPart circuit memory.piece memory.globals [] (0 ∷ []) []
 memory-part =
     is-part-with circuit memory.piece memory.globals [] (0 ∷ []) refl refl refl refl refl refl
     ((lit< tt, refl), ((lit< tt, refl), ((lit< tt, lit< tt, lit< tt, refl), ((lit< tt, refl), ((lit< tt, refl), ((lit< tt, lit< tt, lit< tt, refl), ((lit< tt, refl), ((lit< tt, refl), ((lit< tt, refl), ((lit< tt, refl), ((lit< tt, refl), ((lit< tt, refl), ((lit< tt, refl), ((lit< tt, refl), tt))))))))))))))
@@ -173,10 +180,10 @@ own-memories k = (
 )
 
 hub-cut : IsCutPart design listed routed 0 hub
-hub-cut = is-cut-part design listed routed 0 hub hub-part refl refl refl refl refl refl refl hub-memories refl
+hub-cut = is-cut-part design listed routed 0 hub hub-part refl refl refl refl refl refl refl refl hub-memories refl
 
 memory-cut : IsCutPart design listed routed 1 memory
-memory-cut = is-cut-part design listed routed 1 memory memory-part refl refl refl refl refl refl refl own-memories refl
+memory-cut = is-cut-part design listed routed 1 memory memory-part refl refl refl refl refl refl refl refl own-memories refl
 
 -- ---- the plan
 
@@ -222,7 +229,7 @@ channels =
     ∷ channel 3 (codes "o1") eight 0 5 (7 ∷ []) ∷ []
 
 abbrev pub plan : Plan
-plan = record { machines = machines; channels = channels; listed = listed }
+plan = record { machines = machines; channels = channels; listed = listed; ratios = [] }
 
 is-machine : (m : ℕ) (any : Machine) → m < 6 → IsMachine design request listed routed m (slice_index_or machines m any)
 is-machine m any =
@@ -299,7 +306,7 @@ is-channel c any =
     ) c
 
 pub is-plan : IsPlan design request 2 plan
-is-plan = record { listed = refl; machine_total = refl; channel_total = refl; machine = is-machine; channel = is-channel; shared = unshared machines refl }
+is-plan = record { listed = refl; ratios = refl; machine_total = refl; channel_total = refl; machine = is-machine; channel = is-channel; shared = unshared machines refl }
 
 -- ---- what is no plan of the cut
 
@@ -310,19 +317,19 @@ abbrev any_channel : Channel
 any_channel = channel 0 [] eight 0 0 []
 
 -- a reader's data needs its enable too, and nothing of the other reader or of a writer
-without-enable : ¬ IsPlan design request 2 (record { machines = machines; channels = set channels 4 (channel 6 (codes "m.r.data") eight 1 0 (2 ∷ [])); listed = listed })
+without-enable : ¬ IsPlan design request 2 (record { machines = machines; channels = set channels 4 (channel 6 (codes "m.r.data") eight 1 0 (2 ∷ [])); listed = listed; ratios = [] })
 without-enable is = lacks-need memory memory_ins 2 (2 ∷ []) 3 refl refl refl ((is.channel 4 any_channel (lit< tt)).needs any_machine 2 (lit< tt) refl)
 
-with-writer : ¬ IsPlan design request 2 (record { machines = machines; channels = set channels 4 (channel 6 (codes "m.r.data") eight 1 0 (2 ∷ 3 ∷ 8 ∷ [])); listed = listed })
+with-writer : ¬ IsPlan design request 2 (record { machines = machines; channels = set channels 4 (channel 6 (codes "m.r.data") eight 1 0 (2 ∷ 3 ∷ 8 ∷ [])); listed = listed; ratios = [] })
 with-writer is = extra-need memory memory_ins 2 (2 ∷ 3 ∷ 8 ∷ []) 8 refl refl refl ((is.channel 4 any_channel (lit< tt)).needs any_machine 2 (lit< tt) refl)
 
 -- a listed memory's machine isn't a `Cut`, as the hub's is
-as-cut : ¬ IsPlan design request 2 (record { machines = set machines 1 (record { name = codes "m"; host = 1; body = Cut memory; ins = memory_ins; outs = 4 ∷ 7 ∷ [] }); channels = channels; listed = listed })
+as-cut : ¬ IsPlan design request 2 (record { machines = set machines 1 (record { name = codes "m"; host = 1; body = Cut memory; ins = memory_ins; outs = 4 ∷ 7 ∷ [] }); channels = channels; listed = listed; ratios = [] })
 as-cut is = let body = (is.machine 1 any_machine (lit< tt)).body in absurd (omega (arith, body.0))
 
 -- the hub doesn't have the memory
 abbrev keeping : Part
-keeping = record { piece = record hub.piece { memories = memory.piece.memories }; globals = hub.globals; held = []; memories = 0 ∷ [] }
+keeping = record { piece = record hub.piece { memories = memory.piece.memories }; globals = hub.globals; held = []; memories = 0 ∷ []; clocks = [] }
 
-hub-keeps : ¬ IsPlan design request 2 (record { machines = set machines 0 (record { name = codes "hub:"; host = 0; body = Cut keeping; ins = hub_ins; outs = 2 ∷ 3 ∷ 5 ∷ 6 ∷ 8 ∷ 9 ∷ 10 ∷ 11 ∷ 12 ∷ 13 ∷ 14 ∷ 15 ∷ 16 ∷ 17 ∷ [] }); channels = channels; listed = listed })
+hub-keeps : ¬ IsPlan design request 2 (record { machines = set machines 0 (record { name = codes "hub:"; host = 0; body = Cut keeping; ins = hub_ins; outs = 2 ∷ 3 ∷ 5 ∷ 6 ∷ 8 ∷ 9 ∷ 10 ∷ 11 ∷ 12 ∷ 13 ∷ 14 ∷ 15 ∷ 16 ∷ 17 ∷ [] }); channels = channels; listed = listed; ratios = [] })
 hub-keeps is = let body = (is.machine 0 any_machine (lit< tt)).body in let at = (hub-memories 0).1 ((body.1.memories 0).0 (0, lit< tt, refl)) in absurd (omega (arith, at.1))

@@ -96,6 +96,7 @@ hub =
       globals = 0 ∷ 2 ∷ 3 ∷ 1 ∷ [];
       held = [];
       memories = [];
+      clocks = [];
     }
 
 -- the part of the unit: it has the two signals of the instance in it
@@ -116,25 +117,26 @@ unit =
       globals = 2 ∷ 4 ∷ 5 ∷ 3 ∷ [];
       held = [];
       memories = [];
+      clocks = [];
     }
 
-hub-part : IsPart circuit hub.piece hub.globals [] []
+hub-part : IsPart circuit hub.piece hub.globals [] [] []
 hub-part =
     is-part circuit hub.piece hub.globals refl refl refl refl refl refl
     ((lit< tt, refl), ((names-below 4 (node eight (Ref 0) ∷ []) refl, refl), ((lit< tt, refl), ((names-below 4 (node eight (Ref 2) ∷ []) refl, refl), tt))))
     ((lit< tt, refl), ((lit< tt, refl), tt)) refl refl refl
 
-unit-part : IsPart circuit unit.piece unit.globals [] []
+unit-part : IsPart circuit unit.piece unit.globals [] [] []
 unit-part =
     is-part circuit unit.piece unit.globals refl refl refl refl refl refl
     ((lit< tt, refl), ((names-below 4 (node eight (Ref 0) ∷ []) refl, refl), ((names-below 4 (node eight (Ref 1) ∷ []) refl, refl), ((names-below 4 (node eight (Ref 2) ∷ []) refl, refl), tt))))
     ((lit< tt, refl), tt) refl refl refl
 
 hub-cut : IsCutPart design listed routed 0 hub
-hub-cut = is-cut-part design listed routed 0 hub hub-part refl refl refl refl refl refl refl (no-memories tree listed 0 refl) refl
+hub-cut = is-cut-part design listed routed 0 hub hub-part refl refl refl refl refl refl refl refl (no-memories tree listed 0 refl) refl
 
 unit-cut : IsCutPart design listed routed 1 unit
-unit-cut = is-cut-part design listed routed 1 unit unit-part refl refl refl refl refl refl refl (no-memories tree listed 1 refl) refl
+unit-cut = is-cut-part design listed routed 1 unit unit-part refl refl refl refl refl refl refl refl (no-memories tree listed 1 refl) refl
 
 abbrev machines : List Machine
 machines =
@@ -168,8 +170,8 @@ is-channel c any =
     (record { signal = refl; name = refl; type = refl; producer = refl; consumer = refl; bound = refl; pipe = refl; ascending = ascending (2 ∷ []) refl; needs = λ other. has-needs hub (0 ∷ 2 ∷ []) 1 (2 ∷ []) refl })
     c
 
-pub is-plan : IsPlan design outer 2 (record { machines = machines; channels = channels; listed = listed })
-is-plan = record { listed = refl; machine_total = refl; channel_total = refl; machine = is-machine; channel = is-channel; shared = unshared machines refl }
+pub is-plan : IsPlan design outer 2 (record { machines = machines; channels = channels; listed = listed; ratios = [] })
+is-plan = record { listed = refl; ratios = refl; machine_total = refl; channel_total = refl; machine = is-machine; channel = is-channel; shared = unshared machines refl }
 
 -- ---- what is no plan of the cut
 
@@ -180,7 +182,7 @@ abbrev any_channel : Channel
 any_channel = channel 0 [] 0 0 []
 
 -- the path from `u.q` to `u.x` goes through `in`
-missed-path : ¬ IsPlan design outer 2 (record { machines = machines; channels = set channels 2 (channel 3 (codes "u.q") 1 0 []); listed = listed })
+missed-path : ¬ IsPlan design outer 2 (record { machines = machines; channels = set channels 2 (channel 3 (codes "u.q") 1 0 []); listed = listed; ratios = [] })
 missed-path is = lacks-need unit (1 ∷ []) 3 [] 1 refl refl refl ((is.channel 2 any_channel (lit< tt)).needs any_machine 3 (lit< tt) refl)
 
 -- A hub that has `in.a` besides, with its driver.
@@ -203,16 +205,17 @@ greedy =
       globals = 0 ∷ 2 ∷ 4 ∷ 3 ∷ 1 ∷ [];
       held = [];
       memories = [];
+      clocks = [];
     }
 
-greedy-part : IsPart circuit greedy.piece greedy.globals [] []
+greedy-part : IsPart circuit greedy.piece greedy.globals [] [] []
 greedy-part =
     is-part circuit greedy.piece greedy.globals refl refl refl refl refl refl
     ((lit< tt, refl), ((names-below 5 (node eight (Ref 0) ∷ []) refl, refl), ((names-below 5 (node eight (Ref 1) ∷ []) refl, refl), ((lit< tt, refl), ((names-below 5 (node eight (Ref 3) ∷ []) refl, refl), tt)))))
     ((lit< tt, refl), ((lit< tt, refl), tt)) refl refl refl
 
 -- it is a part, but no part of this cut: `in.a` belongs to `u`
-inner-owned : ¬ IsPlan design outer 2 (record { machines = set machines 0 (record { name = codes "hub:"; host = 0; body = Cut greedy; ins = 0 ∷ 2 ∷ []; outs = 1 ∷ 3 ∷ [] }); channels = channels; listed = listed })
+inner-owned : ¬ IsPlan design outer 2 (record { machines = set machines 0 (record { name = codes "hub:"; host = 0; body = Cut greedy; ins = 0 ∷ 2 ∷ []; outs = 1 ∷ 3 ∷ [] }); channels = channels; listed = listed; ratios = [] })
 inner-owned is = foreign-signal routed 0 greedy.globals 4 refl refl (is.machine 0 any_machine (lit< tt)).body.1.signals
 
 -- a unit without `in.a`, which gets `in.b` from outside
@@ -233,15 +236,16 @@ hollow =
       globals = 2 ∷ 5 ∷ 3 ∷ [];
       held = [];
       memories = [];
+      clocks = [];
     }
 
-hollow-part : IsPart circuit hollow.piece hollow.globals [] []
+hollow-part : IsPart circuit hollow.piece hollow.globals [] [] []
 hollow-part =
     is-part circuit hollow.piece hollow.globals refl refl refl refl refl refl
     ((lit< tt, refl), ((lit< tt, refl), ((names-below 3 (node eight (Ref 1) ∷ []) refl, refl), tt)))
     ((lit< tt, refl), ((lit< tt, refl), tt)) refl refl refl
 
-inner-lost : ¬ IsPlan design outer 2 (record { machines = set machines 1 (record { name = codes "u"; host = 1; body = Cut hollow; ins = 1 ∷ []; outs = 2 ∷ [] }); channels = channels; listed = listed })
+inner-lost : ¬ IsPlan design outer 2 (record { machines = set machines 1 (record { name = codes "u"; host = 1; body = Cut hollow; ins = 1 ∷ []; outs = 2 ∷ [] }); channels = channels; listed = listed; ratios = [] })
 inner-lost is = lost-signal routed 1 hollow.globals 4 (lit< tt) refl refl (is.machine 1 any_machine (lit< tt)).body.1.signals
 
 -- ---- `in` as a unit: the signals of `u` belong to the hub
@@ -276,6 +280,7 @@ around =
       globals = 0 ∷ 2 ∷ 4 ∷ 5 ∷ 3 ∷ 1 ∷ [];
       held = [];
       memories = [];
+      clocks = [];
     }
 
 abbrev pub within : Part
@@ -295,25 +300,26 @@ within =
       globals = 4 ∷ 5 ∷ [];
       held = [];
       memories = [];
+      clocks = [];
     }
 
-around-part : IsPart circuit around.piece around.globals [] []
+around-part : IsPart circuit around.piece around.globals [] [] []
 around-part =
     is-part circuit around.piece around.globals refl refl refl refl refl refl
     ((lit< tt, refl), ((names-below 6 (node eight (Ref 0) ∷ []) refl, refl), ((names-below 6 (node eight (Ref 1) ∷ []) refl, refl), ((lit< tt, refl), ((names-below 6 (node eight (Ref 3) ∷ []) refl, refl), ((names-below 6 (node eight (Ref 4) ∷ []) refl, refl), tt))))))
     ((lit< tt, refl), ((lit< tt, refl), tt)) refl refl refl
 
-within-part : IsPart circuit within.piece within.globals [] []
+within-part : IsPart circuit within.piece within.globals [] [] []
 within-part =
     is-part circuit within.piece within.globals refl refl refl refl refl refl
     ((lit< tt, refl), ((names-below 2 (node eight (Ref 0) ∷ []) refl, refl), tt))
     ((lit< tt, refl), tt) refl refl refl
 
 around-cut : IsCutPart design lower_listed lower_routed 0 around
-around-cut = is-cut-part design lower_listed lower_routed 0 around around-part refl refl refl refl refl refl refl (no-memories tree lower_listed 0 refl) refl
+around-cut = is-cut-part design lower_listed lower_routed 0 around around-part refl refl refl refl refl refl refl refl (no-memories tree lower_listed 0 refl) refl
 
 within-cut : IsCutPart design lower_listed lower_routed 1 within
-within-cut = is-cut-part design lower_listed lower_routed 1 within within-part refl refl refl refl refl refl refl (no-memories tree lower_listed 1 refl) refl
+within-cut = is-cut-part design lower_listed lower_routed 1 within within-part refl refl refl refl refl refl refl refl (no-memories tree lower_listed 1 refl) refl
 
 abbrev lower_machines : List Machine
 lower_machines =
@@ -348,5 +354,5 @@ is-lower-channel c any =
     (record { signal = refl; name = refl; type = refl; producer = refl; consumer = refl; bound = refl; pipe = refl; ascending = ascending (2 ∷ []) refl; needs = λ other. has-needs around (0 ∷ 2 ∷ []) 1 (2 ∷ []) refl })
     c
 
-pub is-lower-plan : IsPlan design lower 2 (record { machines = lower_machines; channels = lower_channels; listed = lower_listed })
-is-lower-plan = record { listed = refl; machine_total = refl; channel_total = refl; machine = is-lower-machine; channel = is-lower-channel; shared = unshared lower_machines refl }
+pub is-lower-plan : IsPlan design lower 2 (record { machines = lower_machines; channels = lower_channels; listed = lower_listed; ratios = [] })
+is-lower-plan = record { listed = refl; ratios = refl; machine_total = refl; channel_total = refl; machine = is-lower-machine; channel = is-lower-channel; shared = unshared lower_machines refl }

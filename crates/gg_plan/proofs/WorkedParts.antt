@@ -16,7 +16,7 @@ use Rattle.gg_part.specs.Building.{IsHeldIn, AreHeld}
 use Rattle.gg_part.specs.declared.part.Part.{Part}
 use Rattle.gg_cut.specs.declared.listed.Listed.{Listed}
 use Rattle.gg_cut.specs.Direct.{Hub, routes}
-use Rattle.gg_cut.specs.Plan.{channels_to, channels_from, signals_of, givens_of, HasMemory, IsCutPart}
+use Rattle.gg_cut.specs.Plan.{channels_to, channels_from, signals_of, givens_of, HasMemory, IsCutPart, machine_clocks}
 use Rattle.gg_plan.proofs.WorkedTests.{Upto, each-below, has, has-contains, contains-has, test-of, all_pairs, distinct, are_known, known-at, has_signals, has-signals, in_order, in-order}
 
 -- ---- registers
@@ -99,15 +99,15 @@ idle-register circuit globals ins held r listed idle are = true≢false (sym (ho
 
 -- ---- parts
 
--- a part, if its registers and memories are those of the whole
+-- a part without clocks, if its registers and memories are those of the whole
 pub is-part-with : (whole part : FlatCircuit) (globals held memories : List ℕ) → length part.signals ≡ length globals → are_known whole globals ≡ true → all_pairs (λ a b. not (a == b)) globals ≡ true
-    → part.paths ≡ map (path_at whole.paths) globals → signal_shapes part ≡ map (shape_at (signal_shapes whole)) globals → part.clocks ≡ whole.clocks
+    → part.paths ≡ map (path_at whole.paths) globals → signal_shapes part ≡ map (shape_at (signal_shapes whole)) globals → part.clocks ≡ 0
     → Upto (λ s. IsFrom part.ins globals held memories s (driver_at whole (value_at globals s)) (driver_at part s)) (length globals)
     → Upto (λ place. (value_at part.ins place < length globals) × (driver_at part (value_at part.ins place) ≡ Input place)) (length part.ins)
     → list_all (λ s. nat_lt s (length globals)) part.outs ≡ true
-    → length part.registers ≡ length held → ((r : ℕ) → r < length held → IsRegisterFrom whole part globals held r)
-    → length part.memories ≡ length memories → all_pairs (λ a b. not (a == b)) memories ≡ true → ((m : ℕ) → m < length memories → IsMemoryFrom whole part globals memories m)
-    → IsPart whole part globals held memories
+    → length part.registers ≡ length held → ((r : ℕ) → r < length held → IsRegisterFrom whole part globals held [] r)
+    → length part.memories ≡ length memories → all_pairs (λ a b. not (a == b)) memories ≡ true → ((m : ℕ) → m < length memories → IsMemoryFrom whole part globals memories [] m)
+    → IsPart whole part globals held memories []
 is-part-with whole part globals held memories count known once paths types clocks drivers ins outs register_count register_from memory_count memories_once memory_from =
     record {
       count = count;
@@ -115,7 +115,7 @@ is-part-with whole part globals held memories count known once paths types clock
       once = distinct globals once;
       paths = paths;
       types = types;
-      clocks = clocks;
+      clock_count = clocks;
       drivers = each-below (λ s. IsFrom part.ins globals held memories s (driver_at whole (value_at globals s)) (driver_at part s)) (length globals) drivers;
       ins = each-below (λ place. (value_at part.ins place < length globals) × (driver_at part (value_at part.ins place) ≡ Input place)) (length part.ins) ins;
       outs = λ place lt. ltb-true (value_at part.outs place) (length globals) (test-of (λ s. nat_lt s (length globals)) part.outs outs (value_at part.outs place) (place, lt, get_or_default part.outs place (value_at part.outs place) 0 lt));
@@ -126,13 +126,13 @@ is-part-with whole part globals held memories count known once paths types clock
       memory_from = memory_from;
     }
 
--- a part without registers and memories
+-- a part without clocks, registers and memories
 pub is-part : (whole part : FlatCircuit) (globals : List ℕ) → length part.signals ≡ length globals → are_known whole globals ≡ true → all_pairs (λ a b. not (a == b)) globals ≡ true
-    → part.paths ≡ map (path_at whole.paths) globals → signal_shapes part ≡ map (shape_at (signal_shapes whole)) globals → part.clocks ≡ whole.clocks
+    → part.paths ≡ map (path_at whole.paths) globals → signal_shapes part ≡ map (shape_at (signal_shapes whole)) globals → part.clocks ≡ 0
     → Upto (λ s. IsFrom part.ins globals [] [] s (driver_at whole (value_at globals s)) (driver_at part s)) (length globals)
     → Upto (λ place. (value_at part.ins place < length globals) × (driver_at part (value_at part.ins place) ≡ Input place)) (length part.ins)
     → list_all (λ s. nat_lt s (length globals)) part.outs ≡ true → length part.registers ≡ 0 → length part.memories ≡ 0
-    → IsPart whole part globals [] []
+    → IsPart whole part globals [] [] []
 is-part whole part globals count known once paths types clocks drivers ins outs no_registers no_memories =
     is-part-with whole part globals [] [] count known once paths types clocks drivers ins outs no_registers (λ r lt. absurd (omega arith)) no_memories refl (λ m lt. absurd (omega arith))
 
@@ -140,14 +140,15 @@ is-part whole part globals count known once paths types clocks drivers ins outs 
 pub no-memories : (tree : InstanceTree) (listed : Listed) (m : ℕ) → length tree.memories ≡ 0 → (k : ℕ) → Contains [] k ↔ HasMemory tree listed m k
 no-memories tree listed m none k = (λ at. absurd (omega (arith, at.1)), λ h. absurd (omega (arith, h.known, none)))
 
-pub is-cut-part : (design : Ordered) (listed : Listed) (hub : Hub) (m : ℕ) (part : Part) → IsPart design.circuit part.piece part.globals part.held part.memories
+pub is-cut-part : (design : Ordered) (listed : Listed) (hub : Hub) (m : ℕ) (part : Part) → IsPart design.circuit part.piece part.globals part.held part.memories part.clocks → part.clocks ≡ machine_clocks design.tree listed m
     → has_signals hub m part.globals ≡ true → are_known hub.circuit part.globals ≡ true
     → are_known hub.circuit (givens_of (routes hub) (channels_from (routes hub) m)) ≡ true → are_known hub.circuit (signals_of (routes hub) (channels_to (routes hub) m)) ≡ true
     → map (value_at part.globals) part.piece.ins ≡ signals_of (routes hub) (channels_to (routes hub) m) → map (value_at part.globals) part.piece.outs ≡ givens_of (routes hub) (channels_from (routes hub) m) → has_held design.circuit part.globals (signals_of (routes hub) (channels_to (routes hub) m)) part.held ≡ true
     → ((k : ℕ) → Contains part.memories k ↔ HasMemory design.tree listed m k) → in_order part.piece ≡ true → IsCutPart design listed hub m part
-is-cut-part design listed hub m part is test own given taken ins outs held memories ordered =
+is-cut-part design listed hub m part is clocks test own given taken ins outs held memories ordered =
     record {
       is = is;
+      clocks = clocks;
       signals = has-signals hub m part.globals test own given taken;
       ins = ins;
       outs = outs;

@@ -25,10 +25,10 @@ accepted : first_fault design late ≡ None
 accepted = refl
 
 hub-cut : IsCutPart design listed routed 0 hub
-hub-cut = is-cut-part design listed routed 0 hub hub-part refl refl refl refl refl refl refl (no-memories tree listed 0 refl) refl
+hub-cut = is-cut-part design listed routed 0 hub hub-part refl refl refl refl refl refl refl refl (no-memories tree listed 0 refl) refl
 
 core-cut : IsCutPart design listed routed 1 core
-core-cut = is-cut-part design listed routed 1 core core-part refl refl refl refl refl refl refl (no-memories tree listed 1 refl) refl
+core-cut = is-cut-part design listed routed 1 core core-part refl refl refl refl refl refl refl refl (no-memories tree listed 1 refl) refl
 
 is-machine : (m : ℕ) (any : Machine) → m < 3 → IsMachine design late listed routed m (slice_index_or machines m any)
 is-machine m any =
@@ -51,8 +51,8 @@ is-channel c any =
     (record { signal = refl; name = refl; type = refl; producer = refl; consumer = refl; bound = refl; pipe = refl; ascending = ascending (0 ∷ []) refl; needs = λ other. has-needs hub (0 ∷ []) 0 (0 ∷ []) refl })
     c
 
-is-plan : IsPlan design late 2 (record { machines = machines; channels = channels true false; listed = listed })
-is-plan = record { listed = refl; machine_total = refl; channel_total = refl; machine = is-machine; channel = is-channel; shared = unshared machines refl }
+is-plan : IsPlan design late 2 (record { machines = machines; channels = channels true false; listed = listed; ratios = [] })
+is-plan = record { listed = refl; ratios = refl; machine_total = refl; channel_total = refl; machine = is-machine; channel = is-channel; shared = unshared machines refl }
 
 -- ---- what isn't a plan of the request
 
@@ -63,9 +63,9 @@ clash : false ≡ true → ⊥
 clash e = absurd (cc)
 
 -- a channel that should be a pipe and isn't
-without : ¬ IsPlan design late 2 (record { machines = machines; channels = channels false false; listed = listed })
+without : ¬ IsPlan design late 2 (record { machines = machines; channels = channels false false; listed = listed; ratios = [] })
 without is = clash (is.channel 0 any (lit< tt)).pipe
 
 -- a pipe that isn't asked for
-another : ¬ IsPlan design late 2 (record { machines = machines; channels = channels true true; listed = listed })
+another : ¬ IsPlan design late 2 (record { machines = machines; channels = channels true true; listed = listed; ratios = [] })
 another is = clash (sym (is.channel 1 any (lit< tt)).pipe)

@@ -56,6 +56,7 @@ hub =
       globals = 0 ∷ 2 ∷ 4 ∷ 6 ∷ 7 ∷ 3 ∷ 5 ∷ 1 ∷ [];
       held = [];
       memories = [];
+      clocks = [];
     }
 
 abbrev pub part_a : Part
@@ -76,6 +77,7 @@ part_a =
       globals = 2 ∷ 3 ∷ 4 ∷ 5 ∷ [];
       held = [];
       memories = [];
+      clocks = [];
     }
 
 abbrev pub part_b : Part
@@ -96,6 +98,7 @@ part_b =
       globals = 6 ∷ 7 ∷ [];
       held = [];
       memories = [];
+      clocks = [];
     }
 
 -- ---- the plan
@@ -126,23 +129,23 @@ channels n =
     ∷ channel 1 (codes "q") 0 4 1 (4 ∷ []) ∷ []
 
 abbrev pub plan : Plan
-plan = record { machines = machines; channels = channels 1; listed = listed }
+plan = record { machines = machines; channels = channels 1; listed = listed; ratios = [] }
 
 -- ---- it is a plan of the cut
 
-hub-part : IsPart circuit hub.piece hub.globals [] []
+hub-part : IsPart circuit hub.piece hub.globals [] [] []
 hub-part =
     is-part circuit hub.piece hub.globals refl refl refl refl refl refl
     ((lit< tt, refl), ((names-below 8 (node eight (Ref 0) ∷ []) refl, refl), ((lit< tt, refl), ((names-below 8 (node eight (Ref 2) ∷ []) refl, refl), ((lit< tt, refl), ((names-below 8 (node eight (Ref 4) ∷ []) refl, refl), ((lit< tt, refl), ((names-below 8 (node eight (Ref 6) ∷ []) refl, refl), tt))))))))
     ((lit< tt, refl), ((lit< tt, refl), ((lit< tt, refl), ((lit< tt, refl), tt)))) refl refl refl
 
-a-part : IsPart circuit part_a.piece part_a.globals [] []
+a-part : IsPart circuit part_a.piece part_a.globals [] [] []
 a-part =
     is-part circuit part_a.piece part_a.globals refl refl refl refl refl refl
     ((lit< tt, refl), ((lit< tt, refl), ((names-below 4 (node eight (Ref 0) ∷ []) refl, refl), ((names-below 4 (node eight (Ref 0) ∷ node eight (Ref 1) ∷ node eight (Two Xor 0 1) ∷ []) refl, refl), tt))))
     ((lit< tt, refl), ((lit< tt, refl), tt)) refl refl refl
 
-b-part : IsPart circuit part_b.piece part_b.globals [] []
+b-part : IsPart circuit part_b.piece part_b.globals [] [] []
 b-part =
     is-part circuit part_b.piece part_b.globals refl refl refl refl refl refl
     ((lit< tt, refl), ((names-below 2 (node eight (Ref 0) ∷ node nine (Fix Shl 0 1 0) ∷ node eight (Fix Bits 1 7 0) ∷ []) refl, refl), tt))
@@ -156,13 +159,13 @@ abbrev pub routed : Hub
 routed = hub_of circuit tree listed (λ s. false) false
 
 hub-cut : IsCutPart design listed routed 0 hub
-hub-cut = is-cut-part design listed routed 0 hub hub-part refl refl refl refl refl refl refl (no-memories tree listed 0 refl) refl
+hub-cut = is-cut-part design listed routed 0 hub hub-part refl refl refl refl refl refl refl refl (no-memories tree listed 0 refl) refl
 
 a-cut : IsCutPart design listed routed 1 part_a
-a-cut = is-cut-part design listed routed 1 part_a a-part refl refl refl refl refl refl refl (no-memories tree listed 1 refl) refl
+a-cut = is-cut-part design listed routed 1 part_a a-part refl refl refl refl refl refl refl refl (no-memories tree listed 1 refl) refl
 
 b-cut : IsCutPart design listed routed 2 part_b
-b-cut = is-cut-part design listed routed 2 part_b b-part refl refl refl refl refl refl refl (no-memories tree listed 2 refl) refl
+b-cut = is-cut-part design listed routed 2 part_b b-part refl refl refl refl refl refl refl refl (no-memories tree listed 2 refl) refl
 
 -- a request for `a` and `b`, with these lists of shared hosts and these capacities
 abbrev pub asked : List (List (List ℕ)) → List (List ℕ × ℕ) → Request
@@ -215,13 +218,14 @@ is-channel capacity n b c any =
     ) c
 
 pub is-plan : IsPlan design both_units 1 plan
-is-plan = record { listed = refl; machine_total = refl; channel_total = refl; machine = is-machine [] (refl, (refl, (refl, (refl, (refl, tt))))) []; channel = is-channel (capacity_of [] 1) 1 (refl, refl, refl, refl, refl, refl, refl, refl); shared = unshared machines refl }
+is-plan = record { listed = refl; ratios = refl; machine_total = refl; channel_total = refl; machine = is-machine [] (refl, (refl, (refl, (refl, (refl, tt))))) []; channel = is-channel (capacity_of [] 1) 1 (refl, refl, refl, refl, refl, refl, refl, refl); shared = unshared machines refl }
 
 -- a capacity of the file takes the place of the default
-of-the-file : IsPlan design (asked [] ((codes "a.x", 7) ∷ [])) 1 (record { machines = machines; channels = channels 7; listed = listed })
+of-the-file : IsPlan design (asked [] ((codes "a.x", 7) ∷ [])) 1 (record { machines = machines; channels = channels 7; listed = listed; ratios = [] })
 of-the-file =
     record {
       listed = refl;
+      ratios = refl;
       machine_total = refl;
       channel_total = refl;
       machine = is-machine [] (refl, (refl, (refl, (refl, (refl, tt))))) ((codes "a.x", 7) ∷ []);
@@ -234,7 +238,7 @@ abbrev b_first : List (List (List ℕ))
 b_first = (codes "b" ∷ []) ∷ (codes "a" ∷ []) ∷ []
 
 by-machines : IsPlan design (asked b_first []) 1 plan
-by-machines = record { listed = refl; machine_total = refl; channel_total = refl; machine = is-machine b_first (refl, (refl, (refl, (refl, (refl, tt))))) []; channel = is-channel (capacity_of [] 1) 1 (refl, refl, refl, refl, refl, refl, refl, refl); shared = unshared machines refl }
+by-machines = record { listed = refl; ratios = refl; machine_total = refl; channel_total = refl; machine = is-machine b_first (refl, (refl, (refl, (refl, (refl, tt))))) []; channel = is-channel (capacity_of [] 1) 1 (refl, refl, refl, refl, refl, refl, refl, refl); shared = unshared machines refl }
 
 -- ---- what is no plan of the cut
 
@@ -257,6 +261,7 @@ in_share_order =
           2 (record { name = codes "b"; host = 1; body = Cut part_b; ins = 5 ∷ []; outs = 6 ∷ [] });
       channels = channels 1;
       listed = listed;
+      ratios = [];
     }
 
 share-order : ¬ IsPlan design (asked b_first []) 1 in_share_order
@@ -264,7 +269,7 @@ share-order is = let host : 2 ≡ 1 = (is.machine 1 any_machine (lit< tt)).host 
 
 -- a plan in which a channel has other needs
 abbrev with_needs : ℕ → Channel → Plan
-with_needs c other = record { machines = machines; channels = set (channels 1) c other; listed = listed }
+with_needs c other = record { machines = machines; channels = set (channels 1) c other; listed = listed; ratios = [] }
 
 -- `a.p` needs just one of the two inputs of `a`
 all-inputs : ¬ IsPlan design both_units 1 (with_needs 3 (channel 4 (codes "a.p") 1 0 1 (1 ∷ 2 ∷ [])))
@@ -301,20 +306,21 @@ given_p =
       globals = 2 ∷ 3 ∷ 4 ∷ 5 ∷ [];
       held = [];
       memories = [];
+      clocks = [];
     }
 
 -- it is a part, but no part of this cut
-given-part : IsPart circuit given_p.piece given_p.globals [] []
+given-part : IsPart circuit given_p.piece given_p.globals [] [] []
 given-part =
     is-part circuit given_p.piece given_p.globals refl refl refl refl refl refl
     ((lit< tt, refl), ((lit< tt, refl), ((lit< tt, refl), ((names-below 4 (node eight (Ref 0) ∷ node eight (Ref 1) ∷ node eight (Two Xor 0 1) ∷ []) refl, refl), tt))))
     ((lit< tt, refl), ((lit< tt, refl), ((lit< tt, refl), tt))) refl refl refl
 
-out-taken : ¬ IsPlan design both_units 1 (record { machines = set machines 1 (record { name = codes "a"; host = 1; body = Cut given_p; ins = 1 ∷ 2 ∷ []; outs = 3 ∷ 4 ∷ [] }); channels = channels 1; listed = listed })
+out-taken : ¬ IsPlan design both_units 1 (record { machines = set machines 1 (record { name = codes "a"; host = 1; body = Cut given_p; ins = 1 ∷ 2 ∷ []; outs = 3 ∷ 4 ∷ [] }); channels = channels 1; listed = listed; ratios = [] })
 out-taken is = let body = (is.machine 1 any_machine (lit< tt)).body in let count : 3 ≡ 2 = ap (λ (l : List ℕ). length l) body.1.ins in absurd (omega (arith, count))
 
 -- nor with the out-channel among the in-channels
-out-channel-taken : ¬ IsPlan design both_units 1 (record { machines = set machines 1 (record { name = codes "a"; host = 1; body = Cut given_p; ins = 1 ∷ 2 ∷ 3 ∷ []; outs = 3 ∷ 4 ∷ [] }); channels = channels 1; listed = listed })
+out-channel-taken : ¬ IsPlan design both_units 1 (record { machines = set machines 1 (record { name = codes "a"; host = 1; body = Cut given_p; ins = 1 ∷ 2 ∷ 3 ∷ []; outs = 3 ∷ 4 ∷ [] }); channels = channels 1; listed = listed; ratios = [] })
 out-channel-taken is = let count : 3 ≡ 2 = ap (λ (l : List ℕ). length l) (is.machine 1 any_machine (lit< tt)).ins in absurd (omega (arith, count))
 
 -- ---- an entry that names nothing is reported before one that stands twice

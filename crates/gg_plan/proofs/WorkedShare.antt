@@ -109,6 +109,7 @@ hub =
       globals = 0 ∷ 4 ∷ 3 ∷ 7 ∷ 6 ∷ 1 ∷ 2 ∷ [];
       held = [];
       memories = [];
+      clocks = [];
     }
 
 -- the part of `u`: the register, the output, the input
@@ -129,6 +130,7 @@ part_u =
       globals = 5 ∷ 4 ∷ 3 ∷ [];
       held = 0 ∷ [];
       memories = [];
+      clocks = [];
     }
 
 abbrev pub part_v : Part
@@ -148,50 +150,53 @@ part_v =
       globals = 8 ∷ 7 ∷ 6 ∷ [];
       held = 1 ∷ [];
       memories = [];
+      clocks = [];
     }
 
-hub-part : IsPart circuit hub.piece hub.globals [] []
+hub-part : IsPart circuit hub.piece hub.globals [] [] []
 hub-part =
     is-part circuit hub.piece hub.globals refl refl refl refl refl refl
     ((lit< tt, refl), ((lit< tt, refl), ((names-below 7 (node eight (Ref 0) ∷ []) refl, refl), ((lit< tt, refl), ((names-below 7 (node eight (Ref 0) ∷ node eight (One Not 0) ∷ []) refl, refl), ((names-below 7 (node eight (Ref 1) ∷ []) refl, refl), ((names-below 7 (node eight (Ref 3) ∷ []) refl, refl), tt)))))))
     ((lit< tt, refl), ((lit< tt, refl), ((lit< tt, refl), tt))) refl refl refl
 
-u-register : (r : ℕ) → r < 1 → IsRegisterFrom circuit part_u.piece part_u.globals (0 ∷ []) r
+u-register : (r : ℕ) → r < 1 → IsRegisterFrom circuit part_u.piece part_u.globals (0 ∷ []) [] r
 u-register =
-    only (IsRegisterFrom circuit part_u.piece part_u.globals (0 ∷ [])) (record {
+    only (IsRegisterFrom circuit part_u.piece part_u.globals (0 ∷ []) []) (record {
       within = lit< tt;
       is = λ any other. refl;
       below = λ any s names. elim names [ inl none ↦ absurd none | inr at ↦ names-below 3 (sum_of 0 2) refl s at ];
+      clocked = λ any. tt;
     })
 
-pub u-part : IsPart circuit part_u.piece part_u.globals (0 ∷ []) []
+pub u-part : IsPart circuit part_u.piece part_u.globals (0 ∷ []) [] []
 u-part =
     is-part-with circuit part_u.piece part_u.globals (0 ∷ []) [] refl refl refl refl refl refl
     ((lit< tt, refl), ((names-below 3 (node eight (Ref 0) ∷ []) refl, refl), ((lit< tt, refl), tt)))
     ((lit< tt, refl), tt) refl refl u-register refl refl (λ m lt. absurd (omega arith))
 
-v-register : (r : ℕ) → r < 1 → IsRegisterFrom circuit part_v.piece part_v.globals (1 ∷ []) r
+v-register : (r : ℕ) → r < 1 → IsRegisterFrom circuit part_v.piece part_v.globals (1 ∷ []) [] r
 v-register =
-    only (IsRegisterFrom circuit part_v.piece part_v.globals (1 ∷ [])) (record {
+    only (IsRegisterFrom circuit part_v.piece part_v.globals (1 ∷ []) []) (record {
       within = lit< tt;
       is = λ any other. refl;
       below = λ any s names. elim names [ inl none ↦ absurd none | inr at ↦ names-below 3 (sum_of 0 2) refl s at ];
+      clocked = λ any. tt;
     })
 
-pub v-part : IsPart circuit part_v.piece part_v.globals (1 ∷ []) []
+pub v-part : IsPart circuit part_v.piece part_v.globals (1 ∷ []) [] []
 v-part =
     is-part-with circuit part_v.piece part_v.globals (1 ∷ []) [] refl refl refl refl refl refl
     ((lit< tt, refl), ((names-below 3 (node eight (Ref 0) ∷ []) refl, refl), ((lit< tt, refl), tt)))
     ((lit< tt, refl), tt) refl refl v-register refl refl (λ m lt. absurd (omega arith))
 
 hub-cut : IsCutPart design listed routed 0 hub
-hub-cut = is-cut-part design listed routed 0 hub hub-part refl refl refl refl refl refl refl (no-memories tree listed 0 refl) refl
+hub-cut = is-cut-part design listed routed 0 hub hub-part refl refl refl refl refl refl refl refl (no-memories tree listed 0 refl) refl
 
 u-cut : IsCutPart design listed routed 1 part_u
-u-cut = is-cut-part design listed routed 1 part_u u-part refl refl refl refl refl refl refl (no-memories tree listed 1 refl) refl
+u-cut = is-cut-part design listed routed 1 part_u u-part refl refl refl refl refl refl refl refl (no-memories tree listed 1 refl) refl
 
 v-cut : IsCutPart design listed routed 2 part_v
-v-cut = is-cut-part design listed routed 2 part_v v-part refl refl refl refl refl refl refl (no-memories tree listed 2 refl) refl
+v-cut = is-cut-part design listed routed 2 part_v v-part refl refl refl refl refl refl refl refl (no-memories tree listed 2 refl) refl
 
 -- ---- the plan
 
@@ -261,18 +266,19 @@ is-channel c any =
       ),
     ) c
 
-pub is-plan : IsPlan design request 2 (record { machines = machines; channels = channels; listed = listed })
+pub is-plan : IsPlan design request 2 (record { machines = machines; channels = channels; listed = listed; ratios = [] })
 is-plan =
     record {
       listed = refl;
+      ratios = refl;
       machine_total = refl;
       channel_total = refl;
       machine = is-machine;
       channel = is-channel;
       shared =
           shared-two machines 1 2 9 (lit< tt) (λ e. absurd (omega (arith, e))) refl refl
-          (λ any other. record { signals = refl; registers = refl; memories = refl; ins = refl; outs = λ s. (λ c. c, λ c. c) })
-          (λ any other. record { signals = refl; registers = refl; memories = refl; ins = refl; outs = λ s. (λ c. c, λ c. c) });
+          (λ any other. record { signals = refl; clocks = refl; registers = refl; memories = refl; ins = refl; outs = λ s. (λ c. c, λ c. c) })
+          (λ any other. record { signals = refl; clocks = refl; registers = refl; memories = refl; ins = refl; outs = λ s. (λ c. c, λ c. c) });
     }
 
 -- ---- what is no plan of the cut
@@ -284,22 +290,22 @@ abbrev any_channel : Channel
 any_channel = channel 0 [] 0 0 []
 
 -- needs that go on through a register
-through-register : ¬ IsPlan design request 2 (record { machines = machines; channels = set channels 2 (channel 4 (codes "u.s") 1 0 (1 ∷ [])); listed = listed })
+through-register : ¬ IsPlan design request 2 (record { machines = machines; channels = set channels 2 (channel 4 (codes "u.s") 1 0 (1 ∷ [])); listed = listed; ratios = [] })
 through-register is = extra-need part_u (1 ∷ []) 1 (1 ∷ []) 1 refl refl refl ((is.channel 2 any_channel (lit< tt)).needs any_machine 1 (lit< tt) refl)
 
 -- a host of its own for the second unit
-apart : ¬ IsPlan design request 2 (record { machines = set machines 2 (record { name = codes "v"; host = 2; body = Cut part_v; ins = 3 ∷ []; outs = 4 ∷ [] }); channels = channels; listed = listed })
+apart : ¬ IsPlan design request 2 (record { machines = set machines 2 (record { name = codes "v"; host = 2; body = Cut part_v; ins = 3 ∷ []; outs = 4 ∷ [] }); channels = channels; listed = listed; ratios = [] })
 apart is = let host : 2 ≡ 1 = (is.machine 2 any_machine (lit< tt)).host in absurd (omega (arith, host))
 
 -- a host number left out before the machines that follow
-skipped : ¬ IsPlan design request 2 (record { machines = set machines 3 (record { name = codes "in:x"; host = 3; body = Source 0; ins = []; outs = 0 ∷ [] }); channels = channels; listed = listed })
+skipped : ¬ IsPlan design request 2 (record { machines = set machines 3 (record { name = codes "in:x"; host = 3; body = Source 0; ins = []; outs = 0 ∷ [] }); channels = channels; listed = listed; ratios = [] })
 skipped is = let host : 3 ≡ 2 = (is.machine 3 any_machine (lit< tt)).host in absurd (omega (arith, host))
 
 -- `v` with the register of `u`
 abbrev mixed : Part
-mixed = record { piece = part_v.piece; globals = part_v.globals; held = 0 ∷ []; memories = [] }
+mixed = record { piece = part_v.piece; globals = part_v.globals; held = 0 ∷ []; memories = []; clocks = [] }
 
-register-mixed : ¬ IsPlan design request 2 (record { machines = set machines 2 (record { name = codes "v"; host = 1; body = Cut mixed; ins = 3 ∷ []; outs = 4 ∷ [] }); channels = channels; listed = listed })
+register-mixed : ¬ IsPlan design request 2 (record { machines = set machines 2 (record { name = codes "v"; host = 1; body = Cut mixed; ins = 3 ∷ []; outs = 4 ∷ [] }); channels = channels; listed = listed; ratios = [] })
 register-mixed is = let body = (is.machine 2 any_machine (lit< tt)).body in let from = body.1.is.drivers 0 (lit< tt) in let wrong : Held 1 ≡ Held 0 = from.1 in cc
 
 -- the registers of both units, of which the signals of `u` hold one
@@ -307,7 +313,7 @@ register-idle : ¬ AreHeld circuit part_u.globals (3 ∷ []) (0 ∷ 1 ∷ [])
 register-idle = idle-register circuit part_u.globals (3 ∷ []) (0 ∷ 1 ∷ []) 1 refl refl
 
 -- both units with the part of `u`
-twice-u : ¬ IsPlan design request 2 (record { machines = set machines 2 (record { name = codes "v"; host = 1; body = Cut part_u; ins = 3 ∷ []; outs = 4 ∷ [] }); channels = channels; listed = listed })
+twice-u : ¬ IsPlan design request 2 (record { machines = set machines 2 (record { name = codes "v"; host = 1; body = Cut part_u; ins = 3 ∷ []; outs = 4 ∷ [] }); channels = channels; listed = listed; ratios = [] })
 twice-u is = let body = (is.machine 2 any_machine (lit< tt)).body in let wrong : 3 ≡ 6 = ap (λ (l : List ℕ). value_at l 0) body.1.ins in absurd (omega (arith, wrong))
 
 -- a part of `v` whose signals are listed in another order: it runs as well, but not as the part of `u`
@@ -328,27 +334,29 @@ turned =
       globals = 8 ∷ 6 ∷ 7 ∷ [];
       held = 1 ∷ [];
       memories = [];
+      clocks = [];
     }
 
-turned-register : (r : ℕ) → r < 1 → IsRegisterFrom circuit turned.piece turned.globals (1 ∷ []) r
+turned-register : (r : ℕ) → r < 1 → IsRegisterFrom circuit turned.piece turned.globals (1 ∷ []) [] r
 turned-register =
-    only (IsRegisterFrom circuit turned.piece turned.globals (1 ∷ [])) (record {
+    only (IsRegisterFrom circuit turned.piece turned.globals (1 ∷ []) []) (record {
       within = lit< tt;
       is = λ any other. refl;
       below = λ any s names. elim names [ inl none ↦ absurd none | inr at ↦ names-below 3 (sum_of 0 1) refl s at ];
+      clocked = λ any. tt;
     })
 
-turned-part : IsPart circuit turned.piece turned.globals (1 ∷ []) []
+turned-part : IsPart circuit turned.piece turned.globals (1 ∷ []) [] []
 turned-part =
     is-part-with circuit turned.piece turned.globals (1 ∷ []) [] refl refl refl refl refl refl
     ((lit< tt, refl), ((lit< tt, refl), ((names-below 3 (node eight (Ref 0) ∷ []) refl, refl), tt)))
     ((lit< tt, refl), tt) refl refl turned-register refl refl (λ m lt. absurd (omega arith))
 
 turned-cut : IsCutPart design listed routed 2 turned
-turned-cut = is-cut-part design listed routed 2 turned turned-part refl refl refl refl refl refl refl (no-memories tree listed 2 refl) refl
+turned-cut = is-cut-part design listed routed 2 turned turned-part refl refl refl refl refl refl refl refl (no-memories tree listed 2 refl) refl
 
 -- one host, but two programs
-two-programs : ¬ IsPlan design request 2 (record { machines = set machines 2 (record { name = codes "v"; host = 1; body = Cut turned; ins = 3 ∷ []; outs = 4 ∷ [] }); channels = channels; listed = listed })
+two-programs : ¬ IsPlan design request 2 (record { machines = set machines 2 (record { name = codes "v"; host = 1; body = Cut turned; ins = 3 ∷ []; outs = 4 ∷ [] }); channels = channels; listed = listed; ratios = [] })
 two-programs is =
     let alike = is.shared 1 2 any_machine any_machine (lit< tt) (lit< tt) (λ e. absurd (omega (arith, e))) refl in
     let wrong : 2 ≡ 1 = ap (λ (l : List ℕ). value_at l 0) alike.ins in absurd (omega (arith, wrong))

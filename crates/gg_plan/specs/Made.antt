@@ -10,7 +10,9 @@ use Rattle.gg_flat.specs.Circuit.{FlatCircuit, signal_shapes}
 use Rattle.gg_flat.specs.WellFormed.{IsWellFormed}
 use Rattle.gg_flat.specs.Tree.{path_at}
 use Rattle.gg_order.specs.Design.{Ordered}
+use Rattle.gg_part.specs.declared.part.Clocking.{Clocking}
 use Rattle.gg_part.specs.declared.part.Part.{Part}
+use Rattle.gg_part.specs.Clocking.{IsTimed}
 use Rattle.gg_part.specs.InOrder.{IsInOrder}
 use Rattle.gg_partfile.specs.declared.request.Request.{Request}
 use Rattle.gg_cut.specs.declared.plan.Body.{Body}
@@ -24,7 +26,7 @@ use Rattle.gg_split.specs.declared.share.Share.{Share}
 use Rattle.gg_routes.specs.Share.{IsPlanShare}
 use Rattle.gg_cut.specs.Alike.{AreAlike}
 use Rattle.gg_cut.specs.Hosts.{leader}
-use Rattle.gg_cut.specs.Machines.{machine_count}
+use Rattle.gg_cut.specs.Machines.{first_unit, first_memory, machine_count}
 use Rattle.gg_cut.specs.Plan.{wire_at, channels_to, channels_from, signals_of, givens_of, IsBody, IsMachine, AreNeedsOf, NeedsIn, IsChannel}
 
 -- how many tokens a channel may hold
@@ -38,17 +40,30 @@ HasAscending (Memory part) = AllPairs (λ a b. a < b) part.memories
 HasAscending (Source place) = Unit {0}
 HasAscending Tray = Unit {0}
 
+-- the registers and ports of a part follow what `clocking` has for the units
+abbrev pub IsTimedBody : Clocking → Body → Type 0
+IsTimedBody clocking (Cut part) = IsTimed part.piece part.held part.memories clocking.registers clocking.ports
+IsTimedBody clocking (Memory part) = Unit {0}
+IsTimedBody clocking (Source place) = Unit {0}
+IsTimedBody clocking Tray = Unit {0}
+
+-- if machine m is a unit, its registers and ports follow what `clocking` has for the units
+abbrev pub IsTimedUnit : Listed → Clocking → ℕ → Body → Type 0
+IsTimedUnit listed clocking m body = first_unit ≤ m → m < first_memory listed → IsTimedBody clocking body
+
 -- What machine m does, after the machines before it. If one of them is the first of its host, its part is like that one's.
-pub record IsMadeBody (design : Ordered) (request : Request) (listed : Listed) (hub : Hub) (machines : List Machine) (m : ℕ) (body : Body) : Type 0 where
+pub record IsMadeBody (design : Ordered) (request : Request) (listed : Listed) (hub : Hub) (clocking : Clocking) (machines : List Machine) (m : ℕ) (body : Body) : Type 0 where
   pub is : IsBody design listed hub m body
   pub ascend : HasAscending body
+  pub timed : IsTimedUnit listed clocking m body
   pub alike : (any : Machine) → leader request.units request.share m ≢ m → AreAlike (slice_index_or machines (leader request.units request.share m) any).body body
 
 -- the first `count` machines of a plan
-pub record AreMachinesTo (design : Ordered) (request : Request) (listed : Listed) (hub : Hub) (count : ℕ) (machines : List Machine) : Type 0 where
+pub record AreMachinesTo (design : Ordered) (request : Request) (listed : Listed) (hub : Hub) (clocking : Clocking) (count : ℕ) (machines : List Machine) : Type 0 where
   pub counted : length machines ≡ count
   pub each : (m : ℕ) (any : Machine) → m < count → IsMachine design request listed hub m (slice_index_or machines m any)
   pub ascend : (m : ℕ) (any : Machine) → m < count → HasAscending (slice_index_or machines m any).body
+  pub timed : (m : ℕ) (any : Machine) → m < count → IsTimedUnit listed clocking m (slice_index_or machines m any).body
   pub alike : (m : ℕ) (any other : Machine) → m < count → leader request.units request.share m ≢ m
       → AreAlike (slice_index_or machines (leader request.units request.share m) any).body (slice_index_or machines m other).body
 

@@ -3,6 +3,8 @@ ghost use Rattle.std.specs.Prelude.{◌≡◌, ℕ, ◌<◌, ◌≤◌, ◌^◌,
 ghost use Rattle.gg_limits.specs.Limits.{capacity_limit};
 ghost use Rattle.gg_cut.specs.declared.plan.Channel.{Channel};
 ghost use Rattle.gg_moved.specs.KeepsToTree.{KeepsToTree};
+ghost use Rattle.gg_cut.specs.Clocks.{ratios_of};
+ghost use Rattle.gg_cut.specs.Held.{AreHeldOnce};
 ghost use Rattle.gg_cut.specs.Listed.{listed_of};
 ghost use Rattle.gg_order.specs.Marks.{is_marked};
 ghost use Rattle.gg_cut.specs.Direct.{plan_hub, plan_wires, is_gone, is_piped};
@@ -18,9 +20,11 @@ use crate::channels::channels_of;
 use crate::machines::machines_of;
 use crate::needs::needs_table;
 use gg_bits::Items;
+use gg_clocks::Ratio;
 use gg_closed::listed_apart;
 use gg_cut::{
-    Channel, CutFault, Listed, Machine, Plan, Wire, judge_channels, judge_entries, judge_pipes,
+    Channel, CutFault, Listed, Machine, Plan, Wire, clock_ratios, judge_channels, judge_clocks,
+    judge_entries, judge_pipes,
 };
 use gg_order::Design;
 use gg_part::part_formed;
@@ -29,7 +33,7 @@ use gg_routes::{Channels, plan_routes};
 use gg_split::{Split, split};
 use std::alloc::{AllocError, Global};
 
-/// The plan of a design, whose circuit keeps to its tree, and a request. `default_capacity` is the capacity of the channels that the
+/// The plan of a design, whose circuit keeps to its tree and has each register held once, and a request. `default_capacity` is the capacity of the channels that the
 /// request doesn't name. Each channel's capacity is from 1 to 4,096.
 ///
 /// # Errors
@@ -44,6 +48,7 @@ pub fn cut(
 ) -> Result<Plan, CutFault>
     requires small { IsSmall request.now }
     requires keeps { KeepsToTree design.now.circuit design.now.tree }
+    requires held { AreHeldOnce design.now.circuit }
     requires some { 0 < default_capacity }
     requires bounded { default_capacity ≤ capacity_limit }
     ensures told { Tells (first_fault design.now request.now) result }
@@ -66,6 +71,7 @@ fn plan_of(
     requires small { IsSmall request.now }
     requires capacity { IsCapacity default_capacity }
     requires keeps { KeepsToTree design.now.circuit design.now.tree }
+    requires held { AreHeldOnce design.now.circuit }
     requires entries { first_of (entry_faults design.now.tree request.now) ≡ None }
     requires listed { listed ≡ listed_of design.now.tree request.now }
     requires units { length listed.units < 2 ^ 32 }
@@ -90,7 +96,7 @@ fn plan_of(
     Ok(plan)
 }
 
-// Judges the channels and the pipes of a plan whose entries have no fault.
+// Judges the channels, the pipes and the clocks of a plan whose entries have no fault.
 fn judge_routed(
     alloc: Global,
     design: &Design,
@@ -109,7 +115,8 @@ fn judge_routed(
 {
     let signals = all_signals(alloc, wires)?;
     judge_channels(alloc, design.piece(), request, listed, &signals)?;
-    judge_pipes(alloc, design.piece(), request, &signals)
+    judge_pipes(alloc, design.piece(), request, &signals)?;
+    judge_clocks(alloc, design.tree(), request)
 }
 
 // The signals that the consumers of channels take.
@@ -135,6 +142,7 @@ fn plan_by(
 ) -> Result<Plan, AllocError>
     requires capacity { IsCapacity default_capacity }
     requires keeps { KeepsToTree design.now.circuit design.now.tree }
+    requires held { AreHeldOnce design.now.circuit }
     requires faultless { first_fault design.now request.now ≡ None }
     requires listed { listed ≡ listed_of design.now.tree request.now }
     requires shares { AreShares design.now listed split.now.shares }
@@ -145,6 +153,7 @@ fn plan_by(
     ensures plan { IfOk result (λ plan. IsPlan design.now request.now default_capacity plan) }
     ensures capacities { IfOk result (λ plan. All (λ channel. IsCapacity channel.capacity) plan.channels) }
 {
+    let ratios = ratios_for(alloc, design, request)?;
     let machines = machines_of(alloc, design, request, &listed, split, routed)?;
     let channels = channels_for(
         alloc,
@@ -159,7 +168,16 @@ fn plan_by(
         machines: Items::from(machines),
         channels: Items::from(channels),
         listed,
+        ratios: Items::from(ratios),
     })
+}
+
+// The ratios of the circuit's clocks, for a request without a fault.
+fn ratios_for(alloc: Global, design: &Design, request: &Request) -> Result<Vec<Ratio>, AllocError>
+    requires { first_fault design.now request.now ≡ None }
+    ensures { IfOk result (λ ratios. ratios.items ≡ ratios_of design.now.tree request.now) }
+{
+    clock_ratios(alloc, design.tree(), request.clocks.as_slice())
 }
 
 // The channels between these machines, for a request without a fault.

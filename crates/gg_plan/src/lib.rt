@@ -7,8 +7,9 @@
 //!   Each channel's capacity is from 1 to 4,096. The channels are those that are left by gg_cut's `specs/Direct`;
 //! - `deps` returns the channels that a channel of a plan needs. It allocates nothing.
 //!
-//! A unit that isn't the first machine of its host gets the part of the first one, with its own numbers, paths and clocks
-//! (`moved`): so units of one host run one program. By a law of gg_duplicates that is the part that the plan asks for.
+//! A unit that isn't the first machine of its host gets the part of the first one, with its own numbers and paths
+//! (`moved`): so units of one host run one program. By a law of gg_duplicates that is the part that the plan asks for: inside of both
+//! units registers and ports follow the same Clock inputs (gg_cut_clocks).
 //!
 //! The time that `cut` takes is that of gg_split, gg_routes, gg_part and gg_needs, and otherwise linear, with one exception:
 //! to find the hosts it compares each entry of `share` with the units, of which there are at most 256.
@@ -17,7 +18,6 @@
 mod build;
 mod capacities;
 mod channels;
-mod clocks;
 mod hosts;
 mod lists;
 mod machines;

@@ -1,22 +1,25 @@
 //! The machines of a plan.
-ghost use Rattle.std.specs.Prelude.{◌≡◌, ◌≢◌, ℕ, ◌+◌, ◌<◌, ◌^◌, None, length, IfOk, slice_index_or, All};
+ghost use Rattle.std.specs.Prelude.{◌≡◌, ◌≢◌, ℕ, ◌+◌, ◌<◌, ◌≤◌, ◌^◌, None, length, IfOk, slice_index_or, All};
 ghost use Rattle.gg_moved.specs.KeepsToTree.{KeepsToTree};
 ghost use Rattle.gg_cut.specs.Alike.{AreAlike};
 ghost use Rattle.gg_order.specs.Marks.{is_marked};
 ghost use Rattle.gg_cut.specs.Direct.{plan_hub, plan_wires, is_gone};
 ghost use Rattle.gg_cut.specs.Fault.{first_fault};
+ghost use Rattle.gg_cut.specs.Held.{AreHeldOnce};
 ghost use Rattle.gg_cut.specs.Hosts.{leader, host_of};
 ghost use Rattle.gg_cut.specs.Listed.{listed_of};
-ghost use Rattle.gg_cut.specs.Machines.{machine_count, numbering_of};
+ghost use Rattle.gg_cut.specs.Machines.{first_unit, first_memory, machine_count, numbering_of};
 ghost use Rattle.gg_cut.specs.Plan.{IsMachine, IsBody, machine_names};
 ghost use Rattle.gg_flat.specs.Tree.{path_at};
 ghost use Rattle.gg_cut.specs.declared.plan.Machine.{Machine};
+ghost use Rattle.gg_closed.specs.Apart.{AreApart};
+ghost use Rattle.gg_cut_clocks.specs.Domains.{AreDomains};
 ghost use Rattle.gg_duplicates.specs.Again.{IsUnitAgain};
 ghost use Rattle.gg_routes.specs.Routes.{AreRoutes};
 ghost use Rattle.gg_routes.specs.Share.{IsPlanShare};
 ghost use Rattle.gg_plan.specs.MovedPart.{IsUnitRouted, IsUnitShare};
 ghost use Rattle.gg_split.specs.IsShare.{AreShares};
-ghost use Rattle.gg_plan.specs.Made.{IsMadeBody, AreMachines, AreMachinesTo, HasAscending};
+ghost use Rattle.gg_plan.specs.Made.{IsMadeBody, AreMachines, AreMachinesTo, HasAscending, IsTimedBody, IsTimedUnit};
 
 use crate::hosts::{leaders_of, number_hosts};
 use crate::moved::moved_part;
@@ -25,6 +28,7 @@ use crate::parts::{copied, cut_part};
 use crate::shares::plan_shares;
 use gg_bits::{Ids, Name};
 use gg_cut::{Body, Listed, Machine, Numbering, Role, Wire};
+use gg_cut_clocks::{Domains, domains_of};
 use gg_duplicates::units_stand_again;
 use gg_order::Design;
 use gg_partfile::Request;
@@ -46,6 +50,7 @@ pub(crate) fn machines_of(
     routed: &Channels,
 ) -> Result<Vec<Machine>, AllocError>
     requires keeps { KeepsToTree design.now.circuit design.now.tree }
+    requires held { AreHeldOnce design.now.circuit }
     requires faultless { first_fault design.now request.now ≡ None }
     requires listed { listed.now ≡ listed_of design.now.tree request.now }
     requires shares { AreShares design.now listed.now split.now.shares }
@@ -57,6 +62,7 @@ pub(crate) fn machines_of(
     ensures { IfOk result (λ machines. AreMachines design.now request.now listed.now (plan_hub design.now.circuit design.now.tree request.now) machines.items) }
 {
     let numbering = Numbering::of(design.piece(), listed);
+    let domains = domains_of(alloc, design, listed)?;
     let shares = plan_shares(alloc, design, request, listed, split, routed)?;
     let wires = routed.wires.as_slice();
     let units = request.units.as_slice();
@@ -76,6 +82,7 @@ pub(crate) fn machines_of(
             design,
             request,
             listed,
+            &domains,
             &numbering,
             wires,
             share,
@@ -169,6 +176,7 @@ fn body_at(
     design: &Design,
     request: &Request,
     listed: &Listed,
+    domains: &Domains,
     numbering: &Numbering,
     wires: &[Wire],
     share: &Share,
@@ -177,15 +185,16 @@ fn body_at(
     number: usize,
 ) -> Result<Body, AllocError>
     requires keeps { KeepsToTree design.now.circuit design.now.tree }
+    requires domains { AreDomains design.now listed.now domains.now }
     requires faultless { first_fault design.now request.now ≡ None }
     requires listed { listed.now ≡ listed_of design.now.tree request.now }
     requires wires { wires.now ≡ plan_wires design.now.circuit design.now.tree request.now }
     requires numbering { numbering.now ≡ numbering_of design.now.circuit listed.now }
     requires known { number < machine_count design.now.circuit listed.now }
     requires share { IsPlanShare design.now listed.now (plan_hub design.now.circuit design.now.tree request.now) number share.now.ins share.now.outs share.now.globals share.now.memories }
-    requires machines { AreMachinesTo design.now request.now listed.now (plan_hub design.now.circuit design.now.tree request.now) number machines.now }
+    requires machines { AreMachinesTo design.now request.now listed.now (plan_hub design.now.circuit design.now.tree request.now) domains.now.units number machines.now }
     requires first { first ≡ leader request.now.units request.now.share number }
-    ensures { IfOk result (λ body. IsMadeBody design.now request.now listed.now (plan_hub design.now.circuit design.now.tree request.now) machines.now number body) }
+    ensures { IfOk result (λ body. IsMadeBody design.now request.now listed.now (plan_hub design.now.circuit design.now.tree request.now) domains.now.units machines.now number body) }
 {
     let _ = request;
     let _ = design.piece();
@@ -198,6 +207,7 @@ fn body_at(
             design,
             request,
             listed,
+            domains,
             wires,
             share,
             leader,
@@ -206,7 +216,7 @@ fn body_at(
         )
     } else {
         own_body(
-            alloc, design, request, listed, numbering, wires, share, number,
+            alloc, design, request, listed, domains, numbering, wires, share, number,
         )
     }
 }
@@ -217,29 +227,35 @@ fn moved_body(
     design: &Design,
     request: &Request,
     listed: &Listed,
+    domains: &Domains,
     wires: &[Wire],
     share: &Share,
     leader: &Body,
     first: usize,
     number: usize,
 ) -> Result<Body, AllocError>
+    requires keeps { KeepsToTree design.now.circuit design.now.tree }
+    requires apart { AreApart design.now.tree listed.now }
+    requires domains { AreDomains design.now listed.now domains.now }
     requires again { IsUnitAgain design.now listed.now first number }
     requires routed { IsUnitRouted design.now listed.now (plan_hub design.now.circuit design.now.tree request.now) first }
     requires there { IsUnitRouted design.now listed.now (plan_hub design.now.circuit design.now.tree request.now) number }
     requires has { IsUnitShare design.now listed.now number share.now.globals share.now.memories }
     requires leader { IsBody design.now listed.now (plan_hub design.now.circuit design.now.tree request.now) first leader.now }
     requires ascend { HasAscending leader.now }
+    requires timed { IsTimedBody domains.now.units leader.now }
     requires share { IsPlanShare design.now listed.now (plan_hub design.now.circuit design.now.tree request.now) number share.now.ins share.now.outs share.now.globals share.now.memories }
     requires wires { wires.now ≡ plan_wires design.now.circuit design.now.tree request.now }
     requires units { All (λ k. k < length design.now.tree.instances) listed.now.units }
     ensures body { IfOk result (λ body. IsBody design.now listed.now (plan_hub design.now.circuit design.now.tree request.now) number body) }
     ensures ascend { IfOk result (λ body. HasAscending body) }
+    ensures timed { IfOk result (λ body. IsTimedBody domains.now.units body) }
     ensures alike { IfOk result (λ body. AreAlike leader.now body) }
 {
     match leader {
         Body::Cut(part) => {
             let moved = moved_part(
-                alloc, design, request, listed, wires, share, part, first, number,
+                alloc, design, request, listed, domains, wires, share, part, first, number,
             )?;
             Ok(Body::Cut(moved))
         }
@@ -255,25 +271,30 @@ fn own_body(
     design: &Design,
     request: &Request,
     listed: &Listed,
+    domains: &Domains,
     numbering: &Numbering,
     wires: &[Wire],
     share: &Share,
     number: usize,
 ) -> Result<Body, AllocError>
+    requires keeps { KeepsToTree design.now.circuit design.now.tree }
+    requires apart { AreApart design.now.tree listed.now }
+    requires domains { AreDomains design.now listed.now domains.now }
+    requires routed { first_unit ≤ number → number < first_memory listed.now → IsUnitRouted design.now listed.now (plan_hub design.now.circuit design.now.tree request.now) number }
     requires wires { wires.now ≡ plan_wires design.now.circuit design.now.tree request.now }
     requires numbering { numbering.now ≡ numbering_of design.now.circuit listed.now }
     requires known { number < machine_count design.now.circuit listed.now }
     requires share { IsPlanShare design.now listed.now (plan_hub design.now.circuit design.now.tree request.now) number share.now.ins share.now.outs share.now.globals share.now.memories }
     ensures body { IfOk result (λ body. IsBody design.now listed.now (plan_hub design.now.circuit design.now.tree request.now) number body) }
     ensures ascend { IfOk result (λ body. HasAscending body) }
+    ensures timed { IfOk result (λ body. IsTimedUnit listed.now domains.now.units number body) }
 {
     match numbering.role(number) {
-        Role::Hub => Ok(Body::Cut(cut_part(alloc, design, request, listed, wires, share, number)?)),
-        Role::Unit(_) => Ok(Body::Cut(cut_part(
-            alloc, design, request, listed, wires, share, number,
+        Role::Hub | Role::Unit(_) => Ok(Body::Cut(cut_part(
+            alloc, design, request, listed, domains, wires, share, number,
         )?)),
         Role::Memory(_) => Ok(Body::Memory(cut_part(
-            alloc, design, request, listed, wires, share, number,
+            alloc, design, request, listed, domains, wires, share, number,
         )?)),
         Role::Source(place) => Ok(Body::Source(place)),
         Role::Tray(_) => Ok(Body::Tray),

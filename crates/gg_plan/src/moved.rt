@@ -5,10 +5,14 @@ ghost use Rattle.gg_flat.specs.Circuit.{driver_at};
 ghost use Rattle.gg_flat.specs.Line.{value_at};
 ghost use Rattle.gg_moved.specs.Moved.{shifted};
 ghost use Rattle.gg_part.specs.Building.{AreHeld};
+ghost use Rattle.gg_part.specs.Clocking.{IsTimed};
 ghost use Rattle.gg_part.specs.Part.{IsPart};
 ghost use Rattle.gg_cut.specs.Direct.{plan_hub, plan_wires};
+ghost use Rattle.gg_cut_clocks.specs.Domains.{AreDomains};
 ghost use Rattle.gg_cut.specs.Machines.{first_unit, first_memory};
 ghost use Rattle.gg_cut.specs.Plan.{IsCutPart};
+ghost use Rattle.gg_closed.specs.Apart.{AreApart};
+ghost use Rattle.gg_moved.specs.KeepsToTree.{KeepsToTree};
 ghost use Rattle.gg_duplicates.specs.Again.{IsUnitAgain, unit_first};
 ghost use Rattle.gg_routes.specs.Share.{IsPlanShare};
 ghost use Rattle.gg_plan.specs.MovedPart.{IsFollower, IsUnitRouted, IsUnitShare, HoldAgain, HasAgain};
@@ -18,7 +22,8 @@ use crate::moved_piece::moved_piece;
 use crate::parts::{copied, givens};
 use gg_bits::Ids;
 use gg_cut::{Listed, Wire};
-use gg_flat::{Driver, Piece, Tree};
+use gg_cut_clocks::Domains;
+use gg_flat::{ClockNumbers, Driver, Piece, Tree};
 use gg_order::Design;
 use gg_part::Part;
 use gg_partfile::Request;
@@ -26,7 +31,7 @@ use gg_split::Share;
 use std::alloc::{AllocError, Global};
 
 /// The part of a unit, by its machine's number, from the part of the unit with the number `first`, which has the same
-/// with other numbers. The two pieces are one but for paths, clocks and how their out-signals are listed.
+/// with other numbers. The two pieces are one but for paths and how their out-signals are listed.
 ///
 /// # Errors
 ///
@@ -36,22 +41,27 @@ pub(crate) fn moved_part(
     design: &Design,
     request: &Request,
     listed: &Listed,
+    domains: &Domains,
     wires: &[Wire],
     share: &Share,
     leader: &Part,
     first: usize,
     number: usize,
 ) -> Result<Part, AllocError>
+    requires keeps { KeepsToTree design.now.circuit design.now.tree }
+    requires apart { AreApart design.now.tree listed.now }
+    requires domains { AreDomains design.now listed.now domains.now }
     requires again { IsUnitAgain design.now listed.now first number }
     requires routed { IsUnitRouted design.now listed.now (plan_hub design.now.circuit design.now.tree request.now) first }
     requires there { IsUnitRouted design.now listed.now (plan_hub design.now.circuit design.now.tree request.now) number }
     requires leader { IsCutPart design.now listed.now (plan_hub design.now.circuit design.now.tree request.now) first leader.now }
     requires ascend { AllPairs (λ a b. a < b) leader.now.memories }
+    requires timed { IsTimed leader.now.piece leader.now.held leader.now.memories domains.now.units.registers domains.now.units.ports }
     requires share { IsPlanShare design.now listed.now (plan_hub design.now.circuit design.now.tree request.now) number share.now.ins share.now.outs share.now.globals share.now.memories }
     requires has { IsUnitShare design.now listed.now number share.now.globals share.now.memories }
     requires wires { wires.now ≡ plan_wires design.now.circuit design.now.tree request.now }
     requires units { All (λ k. k < length design.now.tree.instances) listed.now.units }
-    ensures { IfOk result (λ part. IsFollower design.now listed.now (plan_hub design.now.circuit design.now.tree request.now) number leader.now part) }
+    ensures { IfOk result (λ part. IsFollower design.now listed.now (plan_hub design.now.circuit design.now.tree request.now) domains.now.units number leader.now part) }
 {
     let _ = request;
     let whole = design.piece();
@@ -62,20 +72,15 @@ pub(crate) fn moved_part(
     let globals = moved_numbers(alloc, leader.globals.as_slice(), from, to)?;
     let held = held_again(alloc, whole, leader, &globals)?;
     let outs = givens(alloc, wires, share.outs.as_slice())?;
-    let piece = moved_piece(
-        alloc,
-        whole,
-        &leader.piece,
-        &globals,
-        &held,
-        share.memories.as_slice(),
-        &outs,
-    )?;
+    let piece = moved_piece(alloc, whole, &leader.piece, &globals, &outs)?;
+    let memories = copied(alloc, share.memories.as_slice())?;
+    let clocks = Vec::from_slice(alloc, domains.clocks(listed, number))?;
     Ok(Part {
         piece,
         globals: Ids::from(globals),
         held: Ids::from(held),
-        memories: copied(alloc, share.memories.as_slice())?,
+        memories,
+        clocks: ClockNumbers::from(clocks),
     })
 }
 
@@ -113,7 +118,7 @@ fn held_again(
     part: &Part,
     globals: &[u32],
 ) -> Result<Vec<u32>, AllocError>
-    requires part { IsPart whole.now part.now.piece part.now.globals part.now.held part.now.memories }
+    requires part { IsPart whole.now part.now.piece part.now.globals part.now.held part.now.memories part.now.clocks }
     requires count { length globals.now ≡ length part.now.globals }
     requires within { All (λ s. s < length whole.now.signals) globals.now }
     ensures { IfOk result (λ held. (registers : ℕ → ℕ) (ins : List ℕ) → AreHeld whole.now part.now.globals ins part.now.held → ins ≡ map (value_at part.now.globals) part.now.piece.ins → HoldAgain whole.now part.now globals.now registers → held.items ≡ map registers part.now.held) }
@@ -127,7 +132,7 @@ fn held_again(
 
 // Writes the register that a signal holds into the table, at the register that the part's signal at this place holds.
 fn put_register(whole: &Piece, part: &Part, globals: &[u32], place: usize, table: &mut Vec<u32>)
-    requires part { IsPart whole.now part.now.piece part.now.globals part.now.held part.now.memories }
+    requires part { IsPart whole.now part.now.piece part.now.globals part.now.held part.now.memories part.now.clocks }
     requires count { length globals.now ≡ length part.now.globals }
     requires within { All (λ s. s < length whole.now.signals) globals.now }
     requires place { place < length globals.now }

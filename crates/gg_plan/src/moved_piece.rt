@@ -1,4 +1,4 @@
-//! `moved_piece`: a piece with the paths and the clocks of other signals, registers and memories.
+//! `moved_piece`: a piece with the paths of other signals.
 ghost use Rattle.std.specs.Prelude.{◌≡◌, ◌≢◌, ◌<◌, ◌-◌, ◌^◌, [], ◌∷◌, ◌++◌, length, map, slice_index_or, IfOk, OnOk, All, AllPairs, Contains};
 ghost use Rattle.gg_flat.specs.declared.paths.AddError.TheVariants.{Doubled};
 ghost use Rattle.gg_flat.specs.declared.piece.Signal.{Signal};
@@ -6,16 +6,15 @@ ghost use Rattle.gg_flat.specs.Circuit.{no_circuit};
 ghost use Rattle.gg_flat.specs.Line.{value_at};
 ghost use Rattle.gg_flat.specs.Tree.{path_at};
 ghost use Rattle.gg_flat.specs.WellFormed.{IsWellFormed};
-ghost use Rattle.gg_plan.specs.MovedPart.{AreMade, IsMovedPiece, register_there, memory_there};
+ghost use Rattle.gg_plan.specs.MovedPart.{IsMovedPiece};
 
-use crate::clocks::{clocked_memory, clocked_register};
 use crate::names::signal_name;
 use crate::places::found_at;
-use gg_flat::{AddError, Piece};
+use gg_flat::{AddError, Memory, Piece, Register};
 use std::alloc::{AllocError, Global};
 
-/// A piece for the signals, registers and memories with these numbers of a circuit: a copy of another piece, with their
-/// paths and clocks. It gives the signals of the circuit with the numbers `outs`, in this order.
+/// A piece for the signals with these numbers of a circuit: a copy of another piece, with their paths. It gives the signals of the circuit
+/// with the numbers `outs`, in this order.
 ///
 /// # Errors
 ///
@@ -25,31 +24,25 @@ pub(crate) fn moved_piece(
     whole: &Piece,
     other: &Piece,
     globals: &[u32],
-    held: &[u32],
-    memories: &[u32],
     outs: &[u32],
 ) -> Result<Piece, AllocError>
     requires formed { IsWellFormed whole.now }
     requires signals { length other.now.signals ≡ length globals.now }
     requires within { All (λ s. s < length whole.now.signals) globals.now }
     requires once { AllPairs (λ a b. a ≢ b) globals.now }
-    requires registers { length other.now.registers ≡ length held.now }
-    requires held { All (λ r. r < length whole.now.registers) held.now }
-    requires memories { length other.now.memories ≡ length memories.now }
-    requires banks { All (λ m. m < length whole.now.memories) memories.now }
     requires outs { All (λ s. Contains globals.now s) outs.now }
-    ensures { IfOk result (λ piece. IsMovedPiece whole.now other.now globals.now held.now memories.now outs.now piece) }
+    ensures { IfOk result (λ piece. IsMovedPiece whole.now other.now globals.now outs.now piece) }
 {
     // its contract says that the whole has few enough signals
     let _ = whole.signal_count();
     let mut piece = Piece::new(alloc);
     add_signals(alloc, whole, other, globals, &mut piece)?;
-    add_registers(whole, other, held, &mut piece)?;
-    add_memories(alloc, whole, other, memories, &mut piece)?;
+    add_registers(other.registers(), &mut piece)?;
+    add_memories(other.memories(), &mut piece)?;
     add_ins(other.ins(), &mut piece)?;
     let locals = found_at(alloc, whole.signals().len(), globals, outs)?;
     add_outs(&locals, &mut piece)?;
-    piece.set_clocks(whole.clocks());
+    piece.set_clocks(other.clocks());
     Ok(piece)
 }
 
@@ -114,47 +107,26 @@ fn refused(error: AddError) -> AllocError
 
 // ---- registers and memories
 
-// Adds the registers of another piece, with the clocks of these registers of the circuit.
-fn add_registers(
-    whole: &Piece,
-    other: &Piece,
-    held: &[u32],
-    piece: &mut Piece,
-) -> Result<(), AllocError>
-    requires registers { length other.now.registers ≡ length held.now }
-    requires held { All (λ r. r < length whole.now.registers) held.now }
+// Adds copies of these registers.
+fn add_registers(registers: &[Register], piece: &mut Piece) -> Result<(), AllocError>
     requires empty { piece.old.registers ≡ [] }
     ensures only { OnOk result (piece.new ≡ record piece.old { registers = piece.new.registers }) }
-    ensures registers { OnOk result (AreMade (register_there whole.now other.now held.now) (length held.now) piece.new.registers) }
+    ensures registers { OnOk result (piece.new.registers ≡ registers.now) }
 {
-    for place in 0..held.len() {
-        let there = &whole.registers()[held[place] as usize];
-        let own = &other.registers()[place];
-        let register = clocked_register(own, there)?;
-        piece.add_register(register)?;
+    for register in registers {
+        piece.add_register(register.clone()?)?;
     }
     Ok(())
 }
 
-// Adds the memories of another piece, with the clocks of these memories of the circuit.
-fn add_memories(
-    alloc: Global,
-    whole: &Piece,
-    other: &Piece,
-    memories: &[u32],
-    piece: &mut Piece,
-) -> Result<(), AllocError>
-    requires memories { length other.now.memories ≡ length memories.now }
-    requires banks { All (λ m. m < length whole.now.memories) memories.now }
+// Adds copies of these memories.
+fn add_memories(memories: &[Memory], piece: &mut Piece) -> Result<(), AllocError>
     requires empty { piece.old.memories ≡ [] }
     ensures only { OnOk result (piece.new ≡ record piece.old { memories = piece.new.memories }) }
-    ensures memories { OnOk result (AreMade (memory_there whole.now other.now memories.now) (length memories.now) piece.new.memories) }
+    ensures memories { OnOk result (piece.new.memories ≡ memories.now) }
 {
-    for place in 0..memories.len() {
-        let there = &whole.memories()[memories[place] as usize];
-        let own = &other.memories()[place];
-        let memory = clocked_memory(alloc, own, there)?;
-        piece.add_memory(memory)?;
+    for memory in memories {
+        piece.add_memory(memory.clone()?)?;
     }
     Ok(())
 }

@@ -51,9 +51,24 @@ pub moved_body-requires-clause-units : goal.moved_body-requires-clause-units
 moved_body-requires-clause-units c =
     subst (λ (l : Listed). All (λ k. k < length c.args.design.now.tree.instances) l.units) (sym c.requires.listed) (faultless-apart c.args.design.now c.args.request.now c.requires.faultless c.requires.keeps.fitting).known
 
+pub moved_body-requires-clause-apart : goal.moved_body-requires-clause-apart
+moved_body-requires-clause-apart c = subst (AreApart c.args.design.now.tree) (sym c.requires.listed) (faultless-apart c.args.design.now c.args.request.now c.requires.faultless c.requires.keeps.fitting)
+
+pub moved_body-requires-clause-timed : goal.moved_body-requires-clause-timed
+moved_body-requires-clause-timed c =
+    let again = moved_body-requires-clause-again c in
+    c.requires.machines.timed c.args.first c.index-machines-first.result c.if-first-number.true again.units.0 again.units.1
+
+pub own_body-requires-clause-apart : goal.own_body-requires-clause-apart
+own_body-requires-clause-apart c = subst (AreApart c.args.design.now.tree) (sym c.requires.listed) (faultless-apart c.args.design.now c.args.request.now c.requires.faultless c.requires.keeps.fitting)
+
+pub own_body-requires-clause-routed : goal.own_body-requires-clause-routed
+own_body-requires-clause-routed c = λ first low.
+    plan-unit-routed c.args.design.now c.args.request.now c.args.listed.now c.requires.listed (record { formed = c.piece.ensures.formed; ordered = c.order.ensures.ordered }) c.requires.keeps (own_body-requires-clause-apart c) c.args.«number» (λ z. absurd (omega (arith, first, z)))
+
 pub returns-else-first-number : goal.returns-else-first-number
 returns-else-first-number c =
     let request = c.args.request.now in
     let n = c.args.«number» in
     let below = leader-below request.units request.share n in
-    own-made c.args.design.now request c.args.listed.now (plan_hub c.args.design.now.circuit c.args.design.now.tree c.args.request.now) c.args.machines.now n c.own_body.result (omega (arith, c.requires.first, c.if-first-number.false, below)) c.own_body.ensures.body c.own_body.ensures.ascend
+    own-made c.args.design.now request c.args.listed.now (plan_hub c.args.design.now.circuit c.args.design.now.tree c.args.request.now) c.args.domains.now.units c.args.machines.now n c.own_body.result (omega (arith, c.requires.first, c.if-first-number.false, below)) c.own_body.ensures.body c.own_body.ensures.ascend c.own_body.ensures.timed

@@ -1,10 +1,9 @@
-use Rattle.std.proofs.Common.{◌≡◌}
-use Rattle.gg_plan.specs.MovedPart.{AreMade, memory_there}
+use Rattle.std.proofs.Common.{◌≡◌, take}
 use Rattle.gg_plan.proofs.moved_piece.add_memories.Given as goal
 
-abbrev pub invariant-loop-place : goal.invariant-loop-place
-invariant-loop-place l =
+abbrev pub invariant-loop-memory : goal.invariant-loop-memory
+invariant-loop-memory l =
     record {
       only : l.piece ≡ record l.initial.piece { memories = l.piece.memories };
-      made : AreMade (memory_there l.whole l.other l.memories) l.place l.piece.memories;
+      memories : l.piece.memories ≡ take l.memory-index l.memories;
     }

@@ -1,11 +1,8 @@
 use Rattle.std.proofs.Common.{◌≡◌, ◌<◌, List, ℕ, length, map, sym, ◌∙◌, ap, subst, arith}
 use Rattle.std.specs.Prelude.{All}
-use Rattle.gg_flat.specs.declared.memory.Memory.{Memory}
-use Rattle.gg_flat.specs.declared.piece.Register.{Register}
 use Rattle.gg_flat.specs.Circuit.{FlatCircuit}
 use Rattle.gg_flat.specs.Line.{value_at}
 use Rattle.gg_part.proofs.FrameLemmas.{length-once}
-use Rattle.gg_plan.specs.MovedPart.{AreMade, register_there, memory_there}
 use Rattle.gg_plan.proofs.moved_piece.moved_piece.Goals as goal
 
 pub found_at-requires-clause-few : goal.found_at-requires-clause-few
@@ -13,29 +10,19 @@ found_at-requires-clause-few c = omega (arith, c.signal_count.ensures.few, lengt
 
 pub returns : goal.returns
 returns c =
-    let whole = c.args.whole.now in
-    let other = c.args.other.now in
     let globals = c.args.globals.now in
-    let held = c.args.held.now in
-    let memories = c.args.memories.now in
     let piece = c.set_clocks.new.self in
     let clocks_only = c.set_clocks.ensures in
     let registers_only = c.in_ok-add_registers.ensures.only in
     let memories_only = c.in_ok-add_memories.ensures.only in
     let ins_only = c.in_ok-add_ins.ensures.only in
     let outs_only = c.in_ok-add_outs.ensures.only in
-    let own_registers : piece.registers ≡ c.add_registers.new.piece.registers = ap (λ (p : FlatCircuit). p.registers) clocks_only ∙ ap (λ (p : FlatCircuit). p.registers) outs_only ∙ ap (λ (p : FlatCircuit). p.registers) ins_only ∙ ap (λ (p : FlatCircuit). p.registers) memories_only in
-    let own_memories : piece.memories ≡ c.add_memories.new.piece.memories = ap (λ (p : FlatCircuit). p.memories) clocks_only ∙ ap (λ (p : FlatCircuit). p.memories) outs_only ∙ ap (λ (p : FlatCircuit). p.memories) ins_only in
     let outs : piece.outs ≡ c.in_ok-locals.locals.items = ap (λ (p : FlatCircuit). p.outs) clocks_only ∙ c.in_ok-add_outs.ensures.outs ∙ c.deref.ensures.value in
     record {
       paths = ap (λ (p : FlatCircuit). p.paths) clocks_only ∙ ap (λ (p : FlatCircuit). p.paths) outs_only ∙ ap (λ (p : FlatCircuit). p.paths) ins_only ∙ ap (λ (p : FlatCircuit). p.paths) memories_only ∙ ap (λ (p : FlatCircuit). p.paths) registers_only ∙ c.in_ok-add_signals.ensures.paths;
       signals = ap (λ (p : FlatCircuit). p.signals) clocks_only ∙ ap (λ (p : FlatCircuit). p.signals) outs_only ∙ ap (λ (p : FlatCircuit). p.signals) ins_only ∙ ap (λ (p : FlatCircuit). p.signals) memories_only ∙ ap (λ (p : FlatCircuit). p.signals) registers_only ∙ c.in_ok-add_signals.ensures.signals;
-      registers =
-          subst (λ n. AreMade (register_there whole other held) n piece.registers) (sym c.requires.registers)
-          (subst (λ (l : List Register). AreMade (register_there whole other held) (length held) l) (sym own_registers) c.in_ok-add_registers.ensures.registers);
-      memories =
-          subst (λ n. AreMade (memory_there whole other memories) n piece.memories) (sym c.requires.memories)
-          (subst (λ (l : List Memory). AreMade (memory_there whole other memories) (length memories) l) (sym own_memories) c.in_ok-add_memories.ensures.memories);
+      registers = ap (λ (p : FlatCircuit). p.registers) clocks_only ∙ ap (λ (p : FlatCircuit). p.registers) outs_only ∙ ap (λ (p : FlatCircuit). p.registers) ins_only ∙ ap (λ (p : FlatCircuit). p.registers) memories_only ∙ c.in_ok-add_registers.ensures.registers ∙ c.registers.ensures;
+      memories = ap (λ (p : FlatCircuit). p.memories) clocks_only ∙ ap (λ (p : FlatCircuit). p.memories) outs_only ∙ ap (λ (p : FlatCircuit). p.memories) ins_only ∙ c.in_ok-add_memories.ensures.memories ∙ c.memories.ensures;
       ins = ap (λ (p : FlatCircuit). p.ins) clocks_only ∙ ap (λ (p : FlatCircuit). p.ins) outs_only ∙ c.in_ok-add_ins.ensures.ins ∙ c.ins.ensures;
       outs = ap (map (value_at globals)) outs ∙ c.in_ok-locals.ensures.found;
       outs_within = subst (λ (l : List ℕ). All (λ s. s < length globals) l) (sym outs) c.in_ok-locals.ensures.within;

@@ -2,7 +2,7 @@ use Rattle.std.proofs.Common.{◌≡◌, ◌<◌, ◌∙◌, length, map, sym, a
 use Rattle.std.specs.Prelude.{All}
 use Rattle.std.proofs.lemmas.List.{length-replicate}
 use Rattle.gg_flat.specs.Line.{value_at}
-use Rattle.gg_plan.proofs.MadeLemmas.{known-below, found-within, found-are}
+use Rattle.gg_plan.proofs.PlaceLemmas.{known-below, found-within, found-are}
 use Rattle.gg_plan.proofs.places.found_at.Goals as goal
 
 pub picked-requires : goal.picked-requires
