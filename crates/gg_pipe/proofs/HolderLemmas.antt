@@ -19,10 +19,11 @@ use Rattle.gg_cut.proofs.PathLemmas.{IsPlace, first_place-Some, first_place-None
 use Rattle.gg_closed.proofs.ListLemmas.{AllPairs-map}
 use Rattle.gg_cut.specs.Direct.{Hub}
 use Rattle.gg_pipe.specs.Links.{maker_of}
-use Rattle.gg_pipe.specs.Made.{holds, holder_of, keeper_of, AreHeldOnce}
+use Rattle.gg_cut.specs.Held.{AreHeldOnce}
+use Rattle.gg_pipe.specs.Made.{holds, holder_of, keeper_of}
 use Rattle.gg_cut.proofs.OriginLemmas.{finds-any, clash}
 
-holds-is : (r : ℕ) (driver : Driver) → holds r driver ≡ true → driver ≡ Held r
+pub holds-is : (r : ℕ) (driver : Driver) → holds r driver ≡ true → driver ≡ Held r
 holds-is r (Input place) e = absurd (clash false e refl)
 holds-is r (Held register) e = ap Held (eqb-true register r e)
 holds-is r (MemoryWord memory reader addr en) e = absurd (clash false e refl)
@@ -30,23 +31,29 @@ holds-is r (ReadRegister memory reader) e = absurd (clash false e refl)
 holds-is r (Computed line) e = absurd (clash false e refl)
 
 -- the first place of an item that passes
-first-found : {A : Type 0} (test : A → Bool) (xs : List A) (x : A) → Contains xs x → test x ≡ true → IsPlace test xs (unwrap_or (first_place test xs) 0)
+pub first-found : {A : Type 0} (test : A → Bool) (xs : List A) (x : A) → Contains xs x → test x ≡ true → IsPlace test xs (unwrap_or (first_place test xs) 0)
 first-found test xs x h e = by (first_place test xs) refl
   where
     by : (o : Option ℕ) → first_place test xs ≡ o → IsPlace test xs (unwrap_or (first_place test xs) 0)
     by None f = absurd (clash (list_any test xs) (finds-any test xs x h e) (first_place-None test xs f))
     by (Some k) f = subst (λ o. IsPlace test xs (unwrap_or o 0)) (sym f) (first_place-Some test xs k f)
 
-pub holder-is : (hub : Hub) → AreHeldOnce hub.circuit → (s r : ℕ) → s < length hub.circuit.signals → driver_at hub.circuit s ≡ Held r → holder_of hub r ≡ maker_of hub s
-holder-is hub once s r lt e =
-    let numbers = range_with_len 0 (length hub.circuit.signals) in
-    let test = λ (t : ℕ). holds r (driver_at hub.circuit t) in
-    let at = first-found test numbers s (in-range (length hub.circuit.signals) s lt) (ap (holds r) e ∙ eq-eqb r r refl) in
+-- the first signal that holds register r
+abbrev pub first_holder : FlatCircuit → ℕ → ℕ
+first_holder circuit r = unwrap_or (first_place (λ s. holds r (driver_at circuit s)) (range_with_len 0 (length circuit.signals))) 0
+
+pub holder-found : (circuit : FlatCircuit) (s r : ℕ) → s < length circuit.signals → driver_at circuit s ≡ Held r → (first_holder circuit r < length circuit.signals) × (driver_at circuit (first_holder circuit r) ≡ Held r)
+holder-found circuit s r lt e =
+    let numbers = range_with_len 0 (length circuit.signals) in
+    let test = λ (t : ℕ). holds r (driver_at circuit t) in
+    let at = first-found test numbers s (in-range (length circuit.signals) s lt) (ap (holds r) e ∙ eq-eqb r r refl) in
     let place = unwrap_or (first_place test numbers) 0 in
-    let low : place < length hub.circuit.signals = (let inside = at.within in omega (arith, inside, length-range_with_len 0 (length hub.circuit.signals))) in
-    let is : get_or numbers place 0 ≡ place = get_or-range_with_len 0 (length hub.circuit.signals) place 0 low ∙ (let same : 0 + place ≡ place = omega arith in same) in
-    let found = holds-is r (driver_at hub.circuit place) (subst (λ t. holds r (driver_at hub.circuit t) ≡ true) is (at.passes 0)) in
-    ap (maker_of hub) (once place s r low lt found e)
+    let low : place < length circuit.signals = (let inside = at.within in omega (arith, inside, length-range_with_len 0 (length circuit.signals))) in
+    let is : get_or numbers place 0 ≡ place = get_or-range_with_len 0 (length circuit.signals) place 0 low ∙ (let same : 0 + place ≡ place = omega arith in same) in
+    (low, holds-is r (driver_at circuit place) (subst (λ t. holds r (driver_at circuit t) ≡ true) is (at.passes 0)))
+
+pub holder-is : (hub : Hub) → AreHeldOnce hub.circuit → (s r : ℕ) → s < length hub.circuit.signals → driver_at hub.circuit s ≡ Held r → holder_of hub r ≡ maker_of hub s
+holder-is hub once s r lt e = let found = holder-found hub.circuit s r lt e in ap (maker_of hub) (once (first_holder hub.circuit r) s r found.0 lt found.1 e)
 
 pub keeper-is : (circuit : FlatCircuit) (tree : InstanceTree) (listed : Listed) → IsTree circuit tree → (m k : ℕ) → HasMemory tree listed m k → keeper_of tree listed k ≡ m
 keeper-is circuit tree listed fits m k has =

@@ -1,5 +1,6 @@
 pub mod WorkedReference
 pub mod WorkedPipes
+pub mod WorkedOne
 pub mod RenameLemmas
 pub mod ReferenceLemmas
 pub mod PipeLemmas
@@ -14,5 +15,10 @@ pub mod FormedLemmas
 pub mod OrderedLemmas
 pub mod WholeReference
 pub mod NothingLemmas
+pub mod AgreeLemmas
+pub mod SideLemmas
+pub mod OneLemmas
+pub mod OneReference
+pub mod StartLemmas
 pub mod PlanLemmas
 pub mod SolveLemmas

@@ -1,34 +1,35 @@
--- In a run of the reference circuit, what the consumer of a channel gets is what its producer gives, behind a 0 where the channel is piped.
-use Rattle.std.proofs.Common.{◌≡◌, ℕ, ◌+◌, ◌<◌, List, [], ◌∷◌, Bool, true, false, Option, Some, None, length, take, sym, ◌∙◌, ap, ap₂, subst, inl, inr, ◌⊎◌, refl, eq-eqb, take_all, arith}
-use Rattle.std.specs.Prelude.{◌==◌, not, MatchOption, Contains, filter}
+-- In a run of the reference circuit, what the consumer of a channel gets is what its producer gives, a cycle later where the channel is piped.
+use Rattle.std.proofs.Common.{◌≡◌, ℕ, ◌+◌, ◌<◌, ◌≤◌, ◌++◌, List, drop, replicate, [], ◌∷◌, Bool, true, false, Option, Some, None, length, take, sym, ◌∙◌, ap, ap₂, subst, inl, inr, ◌⊎◌, refl, eq-eqb, take_all, arith}
+use Rattle.std.specs.Prelude.{◌==◌, not, MatchOption, Contains}
 use Rattle.std.specs.List.{list_any}
-use Rattle.std.proofs.lemmas.Bool.{and_parts, eqb-true}
+use Rattle.std.proofs.lemmas.Bool.{and_parts, cases_lt, eqb-true}
 use Rattle.std.proofs.lemmas.List.{get_or-map, length-map}
 use Rattle.std.proofs.lemmas.List.Elements.{All-contains}
 use Rattle.std.proofs.lemmas.Grind.{same_number_lists}
-use Rattle.gg_bits.specs.Shape.{Shape}
+use Rattle.gg_bits.specs.Shape.{Shape, shape}
 use Rattle.gg_flat.specs.declared.line.Node.{Node}
 use Rattle.gg_flat.specs.declared.line.Op.TheVariants.{Ref}
 use Rattle.gg_flat.specs.Line.{value_at, shape_at}
 use Rattle.gg_flat.specs.Circuit.{FlatCircuit, signal_shapes}
 use Rattle.gg_flat.specs.WellFormed.{IsWellFormed}
-use Rattle.gg_flat.specs.Clock.{Ratio}
-use Rattle.gg_flat.specs.Run.{clocked_start, IsRunFrom, row_at, column, state_at, inputs_at}
-use Rattle.gg_flat.proofs.ListLemmas.{Contains-map, Contains-filter}
+use Rattle.gg_flat.specs.State.{IsState}
+use Rattle.gg_flat.proofs.SinceLemmas.{row-dropped}
+use Rattle.gg_flat.specs.Run.{Start, row_at, column, state_at, inputs_at, later, since}
 use Rattle.gg_cut.specs.declared.wires.Wire.{Wire}
 use Rattle.gg_cut.specs.Listed.{first_place}
 use Rattle.gg_cut.proofs.PathLemmas.{IsPlace, place-tells}
 use Rattle.gg_cut.specs.Direct.{Hub, is_own, routes, origin_within}
 use Rattle.gg_cut.specs.Direct.{IsSame}
 use Rattle.gg_pipe.specs.Reference.{IsReference, driver_by, op_by}
-use Rattle.gg_cut.specs.Solves.{stream}
+use Rattle.gg_cut.specs.Solves.{AreRows, stream}
+use Rattle.gg_pipe.specs.Follows.{token_of, token_or}
 use Rattle.gg_pipe.specs.Links.{pipes_of, taken_as, seen_by, maker_of, views_of}
 use Rattle.gg_cut.proofs.OriginLemmas.{finds-any, clash, IsCopied, copied-is, own-free}
 use Rattle.gg_routes.proofs.RouteLemmas.{IsBase}
 use Rattle.gg_cut.proofs.DirectLemmas.{IsFromBase}
 use Rattle.gg_cut.proofs.SameLemmas.{copy-wide, IsKeptIn, AreKeptIn, routes-same}
-use Rattle.gg_pipe.proofs.PipeLemmas.{IsPipe, pipe-column}
-use Rattle.gg_pipe.proofs.SeenLemmas.{maker-inner, maker-wire, unpiped, piped-as, takes-seen, seen-origin, pipes-known}
+use Rattle.gg_pipe.proofs.PipeLemmas.{IsPipe, pipe-column, since-less}
+use Rattle.gg_pipe.proofs.SeenLemmas.{maker-inner, maker-wire, pipe-in, place-of, unpiped, takes-seen, seen-origin, pipes-known}
 
 module _ (hub : Hub) (base : IsBase hub) (all : FlatCircuit) (holder keeper : ℕ → ℕ) (reference : IsReference hub.circuit all (views_of hub holder keeper) (pipes_of hub)) (formed : IsWellFormed hub.circuit) where
   -- a copy of the hub that has an origin is a copy in the reference circuit
@@ -86,49 +87,61 @@ module _ (hub : Hub) (base : IsBase hub) (all : FlatCircuit) (holder keeper : �
         shape_is = reference.shapes c low;
       }
 
-  module _ (ratios : List Ratio) (columns : List (List ℕ)) (n : ℕ) (rows : List (List ℕ)) (run : IsRunFrom all (clocked_start all ratios) columns n rows) where
-    high : (s : ℕ) → length (column rows s) ≡ n
+  module _ (start : Start) (typed : IsState all start.state) (columns : List (List ℕ)) (end : ℕ) (rows : List (List ℕ)) (run : AreRows all start columns end rows) where
+    high : (s : ℕ) → length (column rows s) ≡ end
     high s = length-map rows (λ (row : List ℕ). value_at row s) ∙ run.count
 
     -- the signal of a channel has the column of what is given
     pub given-column : (r : Wire) → Contains (routes hub) r → column rows r.signal ≡ column rows r.given
     given-column r h =
         same_number_lists (column rows r.signal) (column rows r.given) (high r.signal ∙ sym (high r.given)) (λ t inside.
-        let lt : t < n = omega (arith, inside, high r.signal) in
+        let lt : t < end = omega (arith, inside, high r.signal) in
         let below : t < length rows = omega (arith, lt, run.count) in
         get_or-map (λ (row : List ℕ). value_at row r.signal) rows t [] 0 below
-        ∙ same (state_at all (clocked_start all ratios) rows t) (inputs_at columns t) (row_at rows t) (run.settled t lt)
+        ∙ each t lt (cases_lt t start.cycle)
         ∙ sym (get_or-map (λ (row : List ℕ). value_at row r.given) rows t [] 0 below))
       where
         same : IsSame all r
         same = All-contains (IsSame all) (routes hub) r (routes-same hub all kept-reference base.plain) h
 
-    -- What the consumer of a channel gets, in the first n cycles.
-    pub link-column : (r : Wire) → Contains (routes hub) r → column rows (taken_as hub r.signal) ≡ take n (stream (hub.piped r.signal) (column rows r.given))
+        each : (t : ℕ) → t < end → (t < start.cycle) ⊎ (start.cycle ≤ t) → value_at (row_at rows t) r.signal ≡ value_at (row_at rows t) r.given
+        each t lt (inl low) = run.before t r.signal low ∙ sym (run.before t r.given low)
+        each t lt (inr le) =
+            let k = since start.cycle t in
+            let is = row-dropped start.cycle t rows le in
+            ap (λ (row : List ℕ). value_at row r.signal) (sym is)
+            ∙ same (state_at all start (drop start.cycle rows) k) (inputs_at columns (later start.cycle k)) (row_at (drop start.cycle rows) k) (run.run.settled k (since-less start.cycle t end le lt))
+            ∙ ap (λ (row : List ℕ). value_at row r.given) is
+
+    counted : length start.state.registers ≡ length all.registers
+    counted = typed.typed.count ∙ length-map all.registers (λ register. shape register.ty)
+
+    -- What the consumer of a channel gets.
+    pub link-column : (r : Wire) → Contains (routes hub) r → column rows (taken_as hub r.signal) ≡ take end (stream start.cycle (token_of hub start.state r.signal) (hub.piped r.signal) (column rows r.given))
     link-column r h = by (hub.piped r.signal) refl
       where
-        plain : hub.piped r.signal ≡ false → column rows (taken_as hub r.signal) ≡ take n (column rows r.given)
-        plain e = ap (column rows) (unpiped hub base r.signal e) ∙ given-column r h ∙ sym (take_all n (column rows r.given) (let long = high r.given in omega (arith, long)))
+        plain : hub.piped r.signal ≡ false → column rows (taken_as hub r.signal) ≡ take end (column rows r.given)
+        plain e = ap (column rows) (unpiped hub base r.signal e) ∙ given-column r h ∙ sym (take_all end (column rows r.given) (let long = high r.given in omega (arith, long)))
 
-        place : (o : Option ℕ) → first_place (λ p. p == r.signal) (pipes_of hub) ≡ o → hub.piped r.signal ≡ true → column rows (taken_as hub r.signal) ≡ take n (0 ∷ column rows r.given)
+        place : (o : Option ℕ) → first_place (λ p. p == r.signal) (pipes_of hub) ≡ o → hub.piped r.signal ≡ true → column rows (taken_as hub r.signal) ≡ take end (replicate start.cycle 0 ++ token_or hub start.state o ∷ drop start.cycle (column rows r.given))
         place None e p =
             let none = subst (λ o. MatchOption o (list_any (λ p. p == r.signal) (pipes_of hub) ≡ false) (IsPlace (λ p. p == r.signal) (pipes_of hub))) e (place-tells (λ p. p == r.signal) (pipes_of hub)) in
             let there =
             finds-any (λ p. p == r.signal) (pipes_of hub) r.signal
-            (Contains-map (λ (q : Wire). q.signal) (filter (λ (q : Wire). hub.piped q.signal) (routes hub)) r (Contains-filter (λ (q : Wire). hub.piped q.signal) (routes hub) r h p))
+            (pipe-in hub base r h p)
             (eq-eqb r.signal r.signal refl) in
             absurd (clash (list_any (λ p. p == r.signal) (pipes_of hub)) there none)
         place (Some k) e p =
-            let is = piped-as hub base r.signal k e in
-            ap (column rows) is.is
-            ∙ pipe-column all (length hub.circuit.signals + is.pipe) (length hub.circuit.registers + is.pipe) (value_at (pipes_of hub) is.pipe) (pipe-of is.pipe is.known) ratios columns n rows run
-            ∙ ap (λ c. take n (0 ∷ column rows c)) is.of
-            ∙ ap (λ l. take n (0 ∷ l)) (given-column r h)
+            let at = place-of hub base r.signal k e in
+            ap (column rows) at.is
+            ∙ pipe-column all (length hub.circuit.signals + k) (length hub.circuit.registers + k) (value_at (pipes_of hub) k) (pipe-of k at.known) start counted columns end rows run
+            ∙ ap (λ c. take end (replicate start.cycle 0 ++ value_at start.state.registers (length hub.circuit.registers + k) ∷ drop start.cycle (column rows c))) at.of
+            ∙ ap (λ l. take end (replicate start.cycle 0 ++ value_at start.state.registers (length hub.circuit.registers + k) ∷ drop start.cycle l)) (given-column r h)
 
-        by : (b : Bool) → hub.piped r.signal ≡ b → column rows (taken_as hub r.signal) ≡ take n (stream (hub.piped r.signal) (column rows r.given))
-        by true e = place (first_place (λ p. p == r.signal) (pipes_of hub)) refl e ∙ ap (λ b. take n (stream b (column rows r.given))) (sym e)
-        by false e = plain e ∙ ap (λ b. take n (stream b (column rows r.given))) (sym e)
+        by : (b : Bool) → hub.piped r.signal ≡ b → column rows (taken_as hub r.signal) ≡ take end (stream start.cycle (token_of hub start.state r.signal) (hub.piped r.signal) (column rows r.given))
+        by true e = place (first_place (λ p. p == r.signal) (pipes_of hub)) refl e ∙ ap (λ b. take end (stream start.cycle (token_of hub start.state r.signal) b (column rows r.given))) (sym e)
+        by false e = plain e ∙ ap (λ b. take end (stream start.cycle (token_of hub start.state r.signal) b (column rows r.given))) (sym e)
 
     -- so in the columns that it sees
-    pub seen-column : (r : Wire) → Contains (routes hub) r → column rows (seen_by hub r.consumer r.signal) ≡ take n (stream (hub.piped r.signal) (column rows r.given))
+    pub seen-column : (r : Wire) → Contains (routes hub) r → column rows (seen_by hub r.consumer r.signal) ≡ take end (stream start.cycle (token_of hub start.state r.signal) (hub.piped r.signal) (column rows r.given))
     seen-column r h = ap (column rows) (takes-seen hub base r h) ∙ link-column r h

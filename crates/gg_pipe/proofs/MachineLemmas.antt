@@ -11,13 +11,13 @@ use Rattle.gg_flat.specs.Line.{value_at}
 use Rattle.gg_flat.specs.Circuit.{FlatCircuit, driver_at}
 use Rattle.gg_flat.specs.WellFormed.{IsWellFormed}
 use Rattle.gg_flat.specs.Tree.{path_at}
-use Rattle.gg_flat.specs.Clock.{Ratio}
-use Rattle.gg_flat.specs.Run.{clocked_start, IsRunFrom, column}
+use Rattle.gg_flat.specs.State.{IsState}
+use Rattle.gg_flat.specs.Run.{Start, column}
 use Rattle.gg_flat.proofs.ListLemmas.{map-same, once-apart, filter-cases, range-below}
 use Rattle.gg_part.specs.Part.{IsPart}
 use Rattle.gg_part.specs.Building.{AreHeld}
 use Rattle.gg_part.specs.InOrder.{IsInOrder}
-use Rattle.gg_part.specs.PartRun.{part_row, part_rows, part_columns}
+use Rattle.gg_part.specs.PartRun.{part_row, part_rows, part_columns, part_start}
 use Rattle.gg_part.specs.declared.part.Part.{Part}
 use Rattle.gg_part.proofs.RenameLemmas.{part_row-at}
 use Rattle.gg_order.specs.Design.{Ordered}
@@ -27,11 +27,12 @@ use Rattle.gg_closed.proofs.ListLemmas.{map-cases}
 use Rattle.gg_cut.specs.Plan.{wire_at, channels_to, channels_from, signals_of, givens_of, Takes, MakesBy, IsCutPart}
 use Rattle.gg_cut.specs.Direct.{Hub, hub_of, routes}
 use Rattle.gg_pipe.specs.Reference.{IsReference, with_paths}
-use Rattle.gg_cut.specs.Solves.{stream}
+use Rattle.gg_cut.specs.Solves.{AreRows, stream}
+use Rattle.gg_pipe.specs.Follows.{token_of}
 use Rattle.gg_pipe.specs.Links.{pipes_of, seen_by, views_of, AreHolders}
 use Rattle.gg_routes.proofs.RouteLemmas.{IsBase, chosen-out}
 use Rattle.gg_routes.proofs.ChoiceLemmas.{any-wire}
-use Rattle.gg_pipe.proofs.ReferenceLemmas.{IsOwn, part_of_reference, run-paths, clocked-part}
+use Rattle.gg_pipe.proofs.ReferenceLemmas.{IsOwn, part_of_reference, rows-paths, started-part}
 use Rattle.gg_pipe.proofs.SeenLemmas.{maker-is, all-seen, gives-seen, seen-own}
 use Rattle.gg_pipe.proofs.LinkLemmas.{seen-column}
 
@@ -43,7 +44,7 @@ map-agree f g (x ∷ xs) same = ap₂ (λ y l. y ∷ l) (same 0 (omega arith)) (
 -- What a machine's piece is to a hub: exactly the signals that the machine makes or takes, in an order of evaluation, and exactly
 -- the registers that those hold which it doesn't take.
 pub record IsRoutedPart (hub : Hub) (m : ℕ) (part : Part) : Type 0 where
-  pub is : IsPart hub.circuit part.piece part.globals part.held part.memories
+  pub is : IsPart hub.circuit part.piece part.globals part.held part.memories part.clocks
   pub signals : (s : ℕ) → Contains part.globals s ↔ (MakesBy hub m s ⊎ Takes (routes hub) m s)
   pub ins : map (value_at part.globals) part.piece.ins ≡ signals_of (routes hub) (channels_to (routes hub) m)
   pub outs : map (value_at part.globals) part.piece.outs ≡ givens_of (routes hub) (channels_from (routes hub) m)
@@ -71,7 +72,7 @@ module _ (hub : Hub) (base : IsBase hub) (all : FlatCircuit) (holder keeper : �
       by (inl made) = made
       by (inr taken) = absurd (not-taken taken)
 
-  pub own-of : IsOwn hub.circuit all (views_of hub holder keeper) (pipes_of hub) reference m (all-seen hub base m) part.piece part.globals part.held part.memories cut.is
+  pub own-of : IsOwn hub.circuit all (views_of hub holder keeper) (pipes_of hub) reference m (all-seen hub base m) part.piece part.globals part.held part.memories part.clocks cut.is
   own-of =
       record {
         made = λ s lt none. maker-is hub base m (value_at part.globals s) (makes (value_at part.globals s) (Contains-get_or part.globals s 0 lt) (free s lt none));
@@ -83,35 +84,35 @@ module _ (hub : Hub) (base : IsBase hub) (all : FlatCircuit) (holder keeper : �
       }
 
   -- so its piece is a part of the reference circuit
-  pub part-is : IsPart all (with_paths all part.piece (map (seen_by hub m) part.globals)) (map (seen_by hub m) part.globals) part.held part.memories
-  part-is = part_of_reference hub.circuit all (views_of hub holder keeper) (pipes_of hub) reference m (all-seen hub base m) part.piece part.globals part.held part.memories cut.is own-of
+  pub part-is : IsPart all (with_paths all part.piece (map (seen_by hub m) part.globals)) (map (seen_by hub m) part.globals) part.held part.memories part.clocks
+  part-is = part_of_reference hub.circuit all (views_of hub holder keeper) (pipes_of hub) reference m (all-seen hub base m) part.piece part.globals part.held part.memories part.clocks cut.is own-of
 
   mine-at : (s : ℕ) → s < length part.globals → value_at (map (seen_by hub m) part.globals) s ≡ seen_by hub m (value_at part.globals s)
   mine-at s lt = get_or-map (seen_by hub m) part.globals s 0 0 lt
 
-  module _ (ratios : List Ratio) (columns : List (List ℕ)) (n : ℕ) (rows : List (List ℕ)) (run : IsRunFrom all (clocked_start all ratios) columns n rows) where
-    ins-columns : map (λ s. column rows (value_at (map (seen_by hub m) part.globals) s)) part.piece.ins ≡ map (λ c. take n (stream (hub.piped (wire_at (routes hub) c).signal) (column rows (wire_at (routes hub) c).given))) (channels_to (routes hub) m)
+  module _ (start : Start) (typed : IsState all start.state) (columns : List (List ℕ)) (end : ℕ) (rows : List (List ℕ)) (run : AreRows all start columns end rows) where
+    ins-columns : map (λ s. column rows (value_at (map (seen_by hub m) part.globals) s)) part.piece.ins ≡ map (λ c. take end (stream start.cycle (token_of hub start.state (wire_at (routes hub) c).signal) (hub.piped (wire_at (routes hub) c).signal) (column rows (wire_at (routes hub) c).given))) (channels_to (routes hub) m)
     ins-columns =
         map-agree (λ s. column rows (value_at (map (seen_by hub m) part.globals) s)) (λ s. column rows (seen_by hub m (value_at part.globals s))) part.piece.ins (λ i lt. ap (column rows) (mine-at (value_at part.piece.ins i) (cut.is.ins i lt).0))
         ∙ sym (map-map (λ t. column rows (seen_by hub m t)) (value_at part.globals) part.piece.ins)
         ∙ ap (map (λ t. column rows (seen_by hub m t))) cut.ins
         ∙ map-map (λ t. column rows (seen_by hub m t)) (λ c. (wire_at (routes hub) c).signal) (channels_to (routes hub) m)
-        ∙ map-agree (λ c. column rows (seen_by hub m (wire_at (routes hub) c).signal)) (λ c. take n (stream (hub.piped (wire_at (routes hub) c).signal) (column rows (wire_at (routes hub) c).given))) (channels_to (routes hub) m) (λ i lt.
+        ∙ map-agree (λ c. column rows (seen_by hub m (wire_at (routes hub) c).signal)) (λ c. take end (stream start.cycle (token_of hub start.state (wire_at (routes hub) c).signal) (hub.piped (wire_at (routes hub) c).signal) (column rows (wire_at (routes hub) c).given))) (channels_to (routes hub) m) (λ i lt.
         let c = value_at (channels_to (routes hub) m) i in
         let kept = filter-cases (λ c. (wire_at (routes hub) c).consumer == m) (range_with_len 0 (length (routes hub))) c (Contains-get_or (channels_to (routes hub) m) i 0 lt) in
         let r = wire_at (routes hub) c in
         let among = Contains-get_or (routes hub) c any-wire (range-below (length (routes hub)) c kept.among) in
-        ap (λ k. column rows (seen_by hub k r.signal)) (sym (eqb-true r.consumer m kept.passes)) ∙ seen-column hub base all holder keeper reference formed ratios columns n rows run r among)
+        ap (λ k. column rows (seen_by hub k r.signal)) (sym (eqb-true r.consumer m kept.passes)) ∙ seen-column hub base all holder keeper reference formed start typed columns end rows run r among)
 
     -- the part's rows are a run of the piece
-    pub own-run : IsRunFrom part.piece (clocked_start part.piece ratios) (part_columns (map (seen_by hub m) part.globals) part.piece rows) n (part_rows (map (seen_by hub m) part.globals) rows)
+    pub own-run : AreRows part.piece (part_start part.held part.memories part.clocks start) (part_columns (map (seen_by hub m) part.globals) part.piece rows) end (part_rows (map (seen_by hub m) part.globals) rows)
     own-run =
-        run-paths part.piece (map (path_at all.paths) (map (seen_by hub m) part.globals)) (clocked_start part.piece ratios) (part_columns (map (seen_by hub m) part.globals) part.piece rows) n (part_rows (map (seen_by hub m) part.globals) rows)
-        (clocked-part all (with_paths all part.piece (map (seen_by hub m) part.globals)) (map (seen_by hub m) part.globals) part.held part.memories part-is ratios columns n rows run)
+        rows-paths part.piece (map (path_at all.paths) (map (seen_by hub m) part.globals)) (part_start part.held part.memories part.clocks start) (part_columns (map (seen_by hub m) part.globals) part.piece rows) end (part_rows (map (seen_by hub m) part.globals) rows)
+        (started-part all (with_paths all part.piece (map (seen_by hub m) part.globals)) (map (seen_by hub m) part.globals) part.held part.memories part.clocks part-is start columns end rows typed run)
 
     -- on what the machine takes
-    pub machine-run : IsRunFrom part.piece (clocked_start part.piece ratios) (map (λ c. take n (stream (hub.piped (wire_at (routes hub) c).signal) (column rows (wire_at (routes hub) c).given))) (channels_to (routes hub) m)) n (part_rows (map (seen_by hub m) part.globals) rows)
-    machine-run = subst (λ (given : List (List ℕ)). IsRunFrom part.piece (clocked_start part.piece ratios) given n (part_rows (map (seen_by hub m) part.globals) rows)) ins-columns own-run
+    pub machine-run : AreRows part.piece (part_start part.held part.memories part.clocks start) (map (λ c. take end (stream start.cycle (token_of hub start.state (wire_at (routes hub) c).signal) (hub.piped (wire_at (routes hub) c).signal) (column rows (wire_at (routes hub) c).given))) (channels_to (routes hub) m)) end (part_rows (map (seen_by hub m) part.globals) rows)
+    machine-run = subst (λ (given : List (List ℕ)). AreRows part.piece (part_start part.held part.memories part.clocks start) given end (part_rows (map (seen_by hub m) part.globals) rows)) ins-columns own-run
 
     column-part : (s : ℕ) → s < length part.globals → column (part_rows (map (seen_by hub m) part.globals) rows) s ≡ column rows (seen_by hub m (value_at part.globals s))
     column-part s lt =

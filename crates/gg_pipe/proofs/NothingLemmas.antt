@@ -1,7 +1,7 @@
 -- Where nothing is piped, the reference circuit is the circuit.
 use Rattle.std.proofs.Common.{◌≡◌, ℕ, suc, List, [], ◌∷◌, ◌++◌, Bool, true, false, length, map, refl, ◌∙◌, ap, ap₂}
 use Rattle.std.specs.Prelude.{◌&&◌, ◌==◌, if◌then◌else◌, Option, Some, None, cond, filter}
-use Rattle.std.specs.List.{list_any}
+use Rattle.std.specs.List.{list_any, range_with_len}
 use Rattle.std.proofs.lemmas.List.{append-nil, map-id}
 use Rattle.gg_flat.specs.declared.line.Node.{Node}
 use Rattle.gg_flat.specs.declared.line.Op.{Op}
@@ -21,9 +21,9 @@ use Rattle.gg_order.specs.Design.{Ordered}
 use Rattle.gg_partfile.specs.declared.request.Request.{Request}
 use Rattle.gg_cut.specs.Listed.{first_place, is_among, listed_of}
 use Rattle.gg_cut.specs.declared.wires.Wire.{Wire}
-use Rattle.gg_cut.specs.Direct.{Hub, routes, is_piped, plan_hub}
+use Rattle.gg_cut.specs.Direct.{Hub, routes, plan_hub}
 use Rattle.gg_pipe.specs.Reference.{Views, op_by, line_by, next_by, reset_by, register_by, reader_by, writer_by, memory_by, driver_by}
-use Rattle.gg_pipe.specs.Links.{pipes_of, pipe_or, taken_as, seen_by, views_of}
+use Rattle.gg_pipe.specs.Links.{is_carried, pipes_of, pipe_or, taken_as, seen_by, views_of}
 use Rattle.gg_pipe.specs.Made.{by_number, seen_signal, reference_of, reference, holder_of, keeper_of, plan_reference}
 
 -- a function that changes nothing leaves a list as it is
@@ -121,8 +121,17 @@ filter-none : {A : Type 0} (test : A → Bool) → ((x : A) → test x ≡ false
 filter-none test none [] = refl
 filter-none test none (x ∷ xs) = ap (λ b. cond b (x ∷ filter test xs) (filter test xs)) (none x) ∙ filter-none test none xs
 
-pub plan-plain : (design : Ordered) (request : Request) → request.pipe ≡ [] → plan_reference design request ≡ design.circuit
-plan-plain design request none =
-    let hub = plan_hub design.circuit design.tree request in
-    nothing-piped hub (holder_of hub) (keeper_of design.tree (listed_of design.tree request))
-    (ap (map (λ (r : Wire). r.signal)) (filter-none (λ (r : Wire). is_piped design.circuit request r.signal) (λ r. ap (λ names. is_among names (path_at design.circuit.paths r.signal)) none) (routes hub)))
+-- where no signal is to be piped, there are no pipes
+no-pipes : (hub : Hub) → ((s : ℕ) → hub.piped s ≡ false) → pipes_of hub ≡ []
+no-pipes hub none = filter-none (λ s. hub.piped s && is_carried hub s) (λ s. ap (λ b. b && is_carried hub s) (none s)) (range_with_len 0 (length hub.circuit.signals))
+
+module _ (design : Ordered) (request : Request) (none : request.pipe ≡ []) where
+  nothing-asked : pipes_of (plan_hub design.circuit design.tree request) ≡ []
+  nothing-asked = no-pipes (plan_hub design.circuit design.tree request) (λ s. ap (λ names. is_among names (path_at design.circuit.paths s)) none)
+
+  -- each signal is taken as itself
+  pub plan-taken-same : (s : ℕ) → taken_as (plan_hub design.circuit design.tree request) s ≡ s
+  plan-taken-same s = let hub = plan_hub design.circuit design.tree request in taken-same hub (holder_of hub) (keeper_of design.tree (listed_of design.tree request)) nothing-asked s
+
+  pub plan-plain : plan_reference design request ≡ design.circuit
+  plan-plain = let hub = plan_hub design.circuit design.tree request in nothing-piped hub (holder_of hub) (keeper_of design.tree (listed_of design.tree request)) nothing-asked

@@ -1,6 +1,6 @@
 -- What the plan of a request without a fault is to its reference circuit: each machine's piece is a part of it, and each channel's two
 -- ends are signals of it.
-use Rattle.std.proofs.Common.{◌≡◌, ℕ, ◌<◌, List, [], ◌++◌, None, length, map, take, get_or, sym, ◌∙◌, ap, subst, arith}
+use Rattle.std.proofs.Common.{◌≡◌, ℕ, ◌<◌, ◌≤◌, List, [], ◌++◌, None, length, map, take, get_or, sym, ◌∙◌, ap, subst, arith}
 use Rattle.std.specs.Prelude.{Contains}
 use Rattle.std.specs.List.{range_with_len}
 use Rattle.std.proofs.lemmas.List.Elements.{Contains-get_or}
@@ -8,10 +8,11 @@ use Rattle.gg_flat.specs.Line.{value_at, shape_at, AreTyped}
 use Rattle.gg_flat.specs.Circuit.{FlatCircuit, signal_shapes}
 use Rattle.gg_flat.specs.Order.{IsOrder}
 use Rattle.gg_flat.specs.WellFormed.{IsWellFormed}
-use Rattle.gg_flat.specs.Run.{IsRun, IsColumns, inputs_at, column}
+use Rattle.gg_flat.specs.Run.{IsColumns, Start, inputs_at, column}
+use Rattle.gg_flat.specs.State.{IsState}
 use Rattle.gg_moved.specs.KeepsToTree.{KeepsToTree}
 use Rattle.gg_part.specs.Part.{IsPart}
-use Rattle.gg_part.specs.PartRun.{part_rows, part_columns}
+use Rattle.gg_part.specs.PartRun.{part_rows, part_columns, part_start}
 use Rattle.gg_part.specs.declared.part.Part.{Part}
 use Rattle.gg_order.specs.Design.{Ordered, IsDesign}
 use Rattle.gg_partfile.specs.declared.request.Request.{Request}
@@ -20,7 +21,7 @@ use Rattle.gg_cut.specs.Listed.{listed_of}
 use Rattle.gg_cut.specs.Fault.{first_fault}
 use Rattle.gg_cut.specs.Plan.{wire_at, Takes, IsCutPart}
 use Rattle.gg_cut.specs.Direct.{Hub, is_piped, plan_hub, plan_wires}
-use Rattle.gg_cut.specs.Solves.{stream}
+use Rattle.gg_cut.specs.Solves.{AreRows, stream}
 use Rattle.gg_closed.specs.Apart.{AreApart}
 use Rattle.gg_closed.proofs.FaultlessLemmas.{faultless-apart}
 use Rattle.gg_routes.proofs.ChoiceLemmas.{any-wire}
@@ -28,8 +29,9 @@ use Rattle.gg_routes.proofs.RouteLemmas.{IsBase}
 use Rattle.gg_routes.proofs.RoutedLemmas.{routed-base}
 use Rattle.gg_pipe.specs.Reference.{IsReference, IsSeen, with_paths, driver_by}
 use Rattle.gg_pipe.specs.Links.{pipes_of, taken_as, maker_of, AreHolders}
-use Rattle.gg_pipe.specs.Made.{holder_of, keeper_of, plan_reference, plan_seen, views_in, IsFresh, AreHeldOnce}
-use Rattle.gg_pipe.specs.Follows.{Follows}
+use Rattle.gg_pipe.specs.Made.{holder_of, keeper_of, plan_reference, plan_seen, views_in, IsFresh}
+use Rattle.gg_cut.specs.Held.{AreHeldOnce}
+use Rattle.gg_pipe.specs.Follows.{Follows, plan_token}
 use Rattle.gg_pipe.proofs.HolderLemmas.{holder-is, keeper-is}
 use Rattle.gg_pipe.proofs.LinkLemmas.{given-column, seen-column}
 use Rattle.gg_pipe.proofs.MachineLemmas.{map-agree, IsRoutedPart, cut-part, part-is, own-run}
@@ -101,34 +103,35 @@ module _ (design : Ordered) (request : Request) (is : IsDesign design) (keeps : 
   routed : (m : ℕ) (part : Part) → IsCutPart design (listed_of design.tree request) (plan_hub design.circuit design.tree request) m part → IsRoutedPart (plan_hub design.circuit design.tree request) m part
   routed m part cut = cut-part design listed (is_piped design.circuit request) request.direct m part cut
 
-  pub plan-part : (m : ℕ) (part : Part) → IsCutPart design (listed_of design.tree request) (plan_hub design.circuit design.tree request) m part → IsPart (plan_reference design request) (with_paths (plan_reference design request) part.piece (map (plan_seen design request m) part.globals)) (map (plan_seen design request m) part.globals) part.held part.memories
+  pub plan-part : (m : ℕ) (part : Part) → IsCutPart design (listed_of design.tree request) (plan_hub design.circuit design.tree request) m part → IsPart (plan_reference design request) (with_paths (plan_reference design request) part.piece (map (plan_seen design request m) part.globals)) (map (plan_seen design request m) part.globals) part.held part.memories part.clocks
   plan-part m part cut = part-is hub base (plan_reference design request) (holder_of hub) (keeper_of design.tree listed) plan-made is.formed m part (routed m part cut) (holders m part cut)
 
-  -- ---- a run
+  -- ---- a run from any start
 
-  module _ (columns : List (List ℕ)) (n : ℕ) (rows : List (List ℕ)) (run : IsRun (plan_reference design request) columns n rows) where
-    pub plan-run : (m : ℕ) (part : Part) → IsCutPart design (listed_of design.tree request) (plan_hub design.circuit design.tree request) m part → IsRun part.piece (part_columns (map (plan_seen design request m) part.globals) part.piece rows) n (part_rows (map (plan_seen design request m) part.globals) rows)
-    plan-run m part cut = own-run hub base (plan_reference design request) (holder_of hub) (keeper_of design.tree listed) plan-made is.formed m part (routed m part cut) (holders m part cut) [] columns n rows run
+  module _ (start : Start) (typed : IsState (plan_reference design request) start.state) (columns : List (List ℕ)) (end : ℕ) (rows : List (List ℕ)) (run : AreRows (plan_reference design request) start columns end rows) where
+    pub rows-run : (m : ℕ) (part : Part) → IsCutPart design (listed_of design.tree request) (plan_hub design.circuit design.tree request) m part → AreRows part.piece (part_start part.held part.memories part.clocks start) (part_columns (map (plan_seen design request m) part.globals) part.piece rows) end (part_rows (map (plan_seen design request m) part.globals) rows)
+    rows-run m part cut = own-run hub base (plan_reference design request) (holder_of hub) (keeper_of design.tree listed) plan-made is.formed m part (routed m part cut) (holders m part cut) start typed columns end rows run
 
     -- so the machine follows the run
-    pub plan-follows : (m : ℕ) (part : Part) → IsCutPart design (listed_of design.tree request) (plan_hub design.circuit design.tree request) m part → Follows (plan_hub design.circuit design.tree request) m [] n part rows
-    plan-follows m part cut = follows hub base is.formed (holder_of hub) (keeper_of design.tree listed) m part (routed m part cut) (holders m part cut) [] columns n rows run
+    pub rows-follow : (m : ℕ) (part : Part) → IsCutPart design (listed_of design.tree request) (plan_hub design.circuit design.tree request) m part → Follows (plan_hub design.circuit design.tree request) m start end part rows
+    rows-follow m part cut = follows hub base is.formed (holder_of hub) (keeper_of design.tree listed) m part (routed m part cut) (holders m part cut) start typed columns end rows run
 
     -- the signal of a channel has the column of what is given
-    pub plan-given : (c : ℕ) → c < length (plan_wires design.circuit design.tree request) → column rows (wire_at (plan_wires design.circuit design.tree request) c).signal ≡ column rows (wire_at (plan_wires design.circuit design.tree request) c).given
-    plan-given c lt = given-column hub base (plan_reference design request) (holder_of hub) (keeper_of design.tree listed) plan-made is.formed [] columns n rows run (wire_at (plan_wires design.circuit design.tree request) c) (among c lt)
+    pub rows-given : (c : ℕ) → c < length (plan_wires design.circuit design.tree request) → column rows (wire_at (plan_wires design.circuit design.tree request) c).signal ≡ column rows (wire_at (plan_wires design.circuit design.tree request) c).given
+    rows-given c lt = given-column hub base (plan_reference design request) (holder_of hub) (keeper_of design.tree listed) plan-made is.formed start typed columns end rows run (wire_at (plan_wires design.circuit design.tree request) c) (among c lt)
 
-    -- its consumer takes that, behind a 0 if the channel is piped
-    pub plan-taken : (c : ℕ) → c < length (plan_wires design.circuit design.tree request) → column rows (plan_seen design request (wire_at (plan_wires design.circuit design.tree request) c).consumer (wire_at (plan_wires design.circuit design.tree request) c).signal)
-        ≡ take n (stream (is_piped design.circuit request (wire_at (plan_wires design.circuit design.tree request) c).signal) (column rows (wire_at (plan_wires design.circuit design.tree request) c).signal))
-    plan-taken c lt =
-        seen-column hub base (plan_reference design request) (holder_of hub) (keeper_of design.tree listed) plan-made is.formed [] columns n rows run (wire_at (plan_wires design.circuit design.tree request) c) (among c lt)
-        ∙ ap (λ l. take n (stream (is_piped design.circuit request (wire_at (plan_wires design.circuit design.tree request) c).signal) l)) (sym (plan-given c lt))
+    -- its consumer takes that, a cycle later and behind the pipe's token if the channel is piped
+    pub rows-taken : (c : ℕ) → c < length (plan_wires design.circuit design.tree request) → column rows (plan_seen design request (wire_at (plan_wires design.circuit design.tree request) c).consumer (wire_at (plan_wires design.circuit design.tree request) c).signal)
+        ≡ take end (stream start.cycle (plan_token design request start.state (wire_at (plan_wires design.circuit design.tree request) c).signal) (is_piped design.circuit request (wire_at (plan_wires design.circuit design.tree request) c).signal) (column rows (wire_at (plan_wires design.circuit design.tree request) c).signal))
+    rows-taken c lt =
+        let s = (wire_at (plan_wires design.circuit design.tree request) c).signal in
+        seen-column hub base (plan_reference design request) (holder_of hub) (keeper_of design.tree listed) plan-made is.formed start typed columns end rows run (wire_at (plan_wires design.circuit design.tree request) c) (among c lt)
+        ∙ ap (λ l. take end (stream start.cycle (plan_token design request start.state s) (is_piped design.circuit request s) l)) (sym (rows-given c lt))
 
-    -- an input of the top has the column that it was given
-    pub plan-source : (p : ℕ) → p < length design.circuit.ins → IsColumns design.circuit n columns → column rows (value_at design.circuit.ins p) ≡ get_or columns p []
-    plan-source p lt given =
+    -- an input of the top has, from the start on, what it was given
+    pub rows-source : (p : ℕ) → p < length design.circuit.ins → IsColumns design.circuit end columns → (t : ℕ) → start.cycle ≤ t → t < end → value_at (column rows (value_at design.circuit.ins p)) t ≡ value_at (get_or columns p []) t
+    rows-source p lt given t le below =
         let at = is.formed.ins p lt in
         let low = at.0 in
         let s = value_at design.circuit.ins p in
-        input-column (plan_reference design request) s p lt (omega (arith, low, plan-made.signals)) (plan-made.drivers s low ∙ ap (driver_by (plan_seen design request (maker_of hub s))) at.1) [] columns n rows (plan-columns n columns given) run
+        input-column (plan_reference design request) s p lt (omega (arith, low, plan-made.signals)) (plan-made.drivers s low ∙ ap (driver_by (plan_seen design request (maker_of hub s))) at.1) start columns end rows (plan-columns end columns given) run t le below

@@ -1,6 +1,6 @@
 -- A part of a design is a part of the reference circuit, by the numbers by which its machine sees its signals.
-use Rattle.std.proofs.Common.{◌≡◌, ◌≢◌, ℕ, zero, suc, ◌<◌, List, [], ◌∷◌, length, map, get_or, refl, sym, ◌∙◌, ap, ap₂, subst, inl, inr, ◌⊎◌, arith}
-use Rattle.std.specs.Prelude.{AllPairs}
+use Rattle.std.proofs.Common.{◌≡◌, ◌≢◌, ℕ, zero, suc, ◌<◌, ◌≤◌, List, drop, [], ◌∷◌, length, map, get_or, refl, sym, ◌∙◌, ap, ap₂, subst, inl, inr, ◌⊎◌, arith}
+use Rattle.std.specs.Prelude.{AllPairs, Option}
 use Rattle.std.proofs.lemmas.List.{get_or-map, get_or_default, length-map}
 use Rattle.gg_bits.specs.Shape.{Shape}
 use Rattle.gg_flat.specs.declared.memory.Memory.{Memory}
@@ -9,16 +9,16 @@ use Rattle.gg_flat.specs.declared.piece.Driver.{Driver}
 use Rattle.gg_flat.specs.declared.piece.Driver.TheVariants.{Input, Held, MemoryWord, ReadRegister, Computed}
 use Rattle.gg_flat.specs.Line.{value_at, shape_at}
 use Rattle.gg_flat.specs.Circuit.{FlatCircuit, signal_shapes, driver_at}
-use Rattle.gg_flat.specs.Clock.{Ratio, edges_at}
-use Rattle.gg_flat.specs.State.{State, next_state}
-use Rattle.gg_flat.specs.Run.{Start, IsRunFrom, clocked_start, state_at, row_at, inputs_at, later}
+use Rattle.gg_flat.specs.Clock.{edges_at}
+use Rattle.gg_flat.specs.State.{IsState, next_state}
+use Rattle.gg_flat.specs.Run.{Start, IsRunFrom, state_at, row_at, inputs_at, later, since}
 use Rattle.gg_flat.specs.Settled.{Settled}
 use Rattle.gg_flat.proofs.ListLemmas.{some-item}
 use Rattle.gg_closed.proofs.ListLemmas.{AllPairs-map}
-use Rattle.gg_flat.proofs.AlongLemmas.{IsState-opening}
-use Rattle.gg_part.specs.PartRun.{part_rows, part_columns}
-use Rattle.gg_part.proofs.RunLemmas.{opening-part, column-at, IsRunFrom-part}
+use Rattle.gg_part.specs.PartRun.{part_row, part_rows, part_columns, part_start}
+use Rattle.gg_part.proofs.RunLemmas.{column-at, IsRunFrom-part}
 use Rattle.gg_part.specs.Part.{IsPart, IsFrom, IsRegisterFrom, IsMemoryFrom, MemoryBelow}
+use Rattle.gg_cut.specs.Solves.{AreRows}
 use Rattle.gg_pipe.specs.Reference.{Views, IsReference, IsSeen, IsPiped, with_paths, driver_by, register_by, memory_by}
 use Rattle.gg_pipe.proofs.RenameLemmas.{value-by, line-by, register-by, memory-by}
 
@@ -40,7 +40,7 @@ own-driver part s = by (driver_at part s) refl
     by (ReadRegister memory reader) e = Inner (not-input (driver_at part s) (ReadRegister memory reader) e (λ place is. absurd (cc)))
     by (Computed line) e = Inner (not-input (driver_at part s) (Computed line) e (λ place is. absurd (cc)))
 
-module _ (one all : FlatCircuit) (views : Views) (pipes : List ℕ) (reference : IsReference one all views pipes) (m : ℕ) (seen : IsSeen one pipes (views.seen m)) (part : FlatCircuit) (globals held memories : List ℕ) (is : IsPart one part globals held memories) where
+module _ (one all : FlatCircuit) (views : Views) (pipes : List ℕ) (reference : IsReference one all views pipes) (m : ℕ) (seen : IsSeen one pipes (views.seen m)) (part : FlatCircuit) (globals held memories : List ℕ) (clocks : List (Option ℕ)) (is : IsPart one part globals held memories clocks) where
   -- What the machine makes: the signals of the part that aren't inputs, the registers and the memories of the part.
   pub record IsOwn : Type 0 where
     pub made : (s : ℕ) → s < length globals → ((place : ℕ) → driver_at part s ≢ Input place) → views.maker (value_at globals s) ≡ m
@@ -100,7 +100,7 @@ module _ (one all : FlatCircuit) (views : Views) (pipes : List ℕ) (reference :
         (sym (ap (driver_at all) (read s lt ∙ own.plain s lt none) ∙ reference.drivers (value_at globals s) (is.within s lt) ∙ ap (λ j. driver_by (views.seen j) (driver_at one (value_at globals s))) (own.made s lt none)))
         (from-by s (driver_at one (value_at globals s)) (driver_at part s) lt (is.drivers s lt))
 
-    register-from : (r : ℕ) → r < length held → IsRegisterFrom all (with_paths all part (map (views.seen m) globals)) (map (views.seen m) globals) held r
+    register-from : (r : ℕ) → r < length held → IsRegisterFrom all (with_paths all part (map (views.seen m) globals)) (map (views.seen m) globals) held clocks r
     register-from r lt =
         let at = is.register_from r lt in
         let low = at.within in
@@ -110,11 +110,12 @@ module _ (one all : FlatCircuit) (views : Views) (pipes : List ℕ) (reference :
               let some = some-item one.registers (value_at held r) low in
               reference.register (value_at held r) some other low
               ∙ ap₂ (λ j (register : Register). register_by (views.seen j) register) (own.held_by r lt) (at.is any some)
-              ∙ register-by globals (views.seen m) (get_or part.registers r any) (at.below any);
+              ∙ register-by globals (views.seen m) clocks (get_or part.registers r any) (at.below any);
           below = λ any s named. let b = at.below any s named in omega (arith, b, long);
+          clocked = at.clocked;
         }
 
-    memory-from : (k : ℕ) → k < length memories → IsMemoryFrom all (with_paths all part (map (views.seen m) globals)) (map (views.seen m) globals) memories k
+    memory-from : (k : ℕ) → k < length memories → IsMemoryFrom all (with_paths all part (map (views.seen m) globals)) (map (views.seen m) globals) memories clocks k
     memory-from k lt =
         let at = is.memory_from k lt in
         let low = at.within in
@@ -124,12 +125,13 @@ module _ (one all : FlatCircuit) (views : Views) (pipes : List ℕ) (reference :
               let some = some-item one.memories (value_at memories k) low in
               reference.memory (value_at memories k) some other low
               ∙ ap₂ (λ j (memory : Memory). memory_by (views.seen j) memory) (own.kept_by k lt) (at.is any some)
-              ∙ memory-by globals (views.seen m) (get_or part.memories k any) (at.below any);
+              ∙ memory-by globals (views.seen m) clocks (get_or part.memories k any) (at.below any);
           below = λ any. subst (λ n. MemoryBelow n (get_or part.memories k any)) (sym long) (at.below any);
+          clocked = at.clocked;
           given = at.given;
         }
 
-    pub part_of_reference : IsPart all (with_paths all part (map (views.seen m) globals)) (map (views.seen m) globals) held memories
+    pub part_of_reference : IsPart all (with_paths all part (map (views.seen m) globals)) (map (views.seen m) globals) held memories clocks
     part_of_reference =
         record {
           count = is.count ∙ sym long;
@@ -142,7 +144,7 @@ module _ (one all : FlatCircuit) (views : Views) (pipes : List ℕ) (reference :
           drivers = λ s lt. let inside : s < length globals = omega (arith, lt, long) in driver-from s inside (own-driver part s);
           ins = λ place lt. let at = is.ins place lt in (subst (λ n. value_at part.ins place < n) (sym long) at.0, at.1);
           outs = λ place lt. subst (λ n. value_at part.outs place < n) (sym long) (is.outs place lt);
-          clocks = is.clocks ∙ sym reference.clocks;
+          clock_count = is.clock_count;
           register_count = is.register_count;
           register_from = register-from;
           memory_count = is.memory_count;
@@ -169,7 +171,7 @@ module _ (one all : FlatCircuit) (views : Views) (pipes : List ℕ) (reference :
 -- ---- a run doesn't depend on paths
 
 module _ (part : FlatCircuit) (paths : List (List ℕ)) where
-  state-paths : (start : Start) (rows : List (List ℕ)) (t : ℕ) → state_at (record part { paths = paths }) start rows t ≡ state_at part start rows t
+  pub state-paths : (start : Start) (rows : List (List ℕ)) (t : ℕ) → state_at (record part { paths = paths }) start rows t ≡ state_at part start rows t
   state-paths start rows zero = refl
   state-paths start rows (suc t) = ap (λ state. next_state (edges_at start.ratios (later start.cycle t)) part state (row_at rows t)) (state-paths start rows t)
 
@@ -182,11 +184,53 @@ module _ (part : FlatCircuit) (paths : List (List ℕ)) where
             record { typed = s.typed; driven = s.driven };
       }
 
--- ---- a run of a part, from the opening, whatever the ratios of the clocks
+-- ---- a run of a part, from any start
 
-pub clocked-part : (whole part : FlatCircuit) (globals held memories : List ℕ) → IsPart whole part globals held memories → (ratios : List Ratio) (columns : List (List ℕ)) (n : ℕ) (rows : List (List ℕ)) → IsRunFrom whole (clocked_start whole ratios) columns n rows → IsRunFrom part (clocked_start part ratios) (part_columns globals part rows) n (part_rows globals rows)
-clocked-part whole part globals held memories is ratios columns n rows run =
-    let from : State → Start = λ state. record { cycle = 0; state = state; ratios = ratios } in
-    subst (λ state. IsRunFrom part (from state) (part_columns globals part rows) n (part_rows globals rows)) (opening-part whole part globals held memories is)
-    (IsRunFrom-part whole part globals held memories is (clocked_start whole ratios) columns (part_columns globals part rows) n rows (IsState-opening whole) run
-    (λ t place lt known. column-at whole part globals held memories is rows t place (omega (arith, lt, run.count)) known))
+part-zero : (globals : List ℕ) (row : List ℕ) → ((s : ℕ) → value_at row s ≡ 0) → (s : ℕ) → value_at (part_row globals row) s ≡ 0
+part-zero [] row zeros s = refl
+part-zero (g ∷ globals) row zeros zero = zeros g
+part-zero (g ∷ globals) row zeros (suc s) = part-zero globals row zeros s
+
+row-part : (globals : List ℕ) (rows : List (List ℕ)) (t : ℕ) → t < length rows → row_at (part_rows globals rows) t ≡ part_row globals (row_at rows t)
+row-part globals rows t lt = get_or-map (part_row globals) rows t [] [] lt
+
+drop-part : (globals : List ℕ) (rows : List (List ℕ)) (n : ℕ) → drop n (part_rows globals rows) ≡ part_rows globals (drop n rows)
+drop-part globals rows zero = refl
+drop-part globals [] (suc n) = refl
+drop-part globals (row ∷ rows) (suc n) = drop-part globals rows n
+
+later-row : (c t : ℕ) (rows : List (List ℕ)) → row_at (drop c rows) t ≡ row_at rows (later c t)
+later-row zero t rows = refl
+later-row (suc c) t [] = refl
+later-row (suc c) t (row ∷ rows) = later-row c t rows
+
+later-less : (c t e : ℕ) → c ≤ e → t < since c e → later c t < e
+later-less zero t e le lt = lt
+later-less (suc c) t zero le lt = absurd (omega (arith, le))
+later-less (suc c) t (suc e) le lt = omega (arith, later-less c t e (omega (arith, le)) lt)
+
+pub started-part : (whole part : FlatCircuit) (globals held memories : List ℕ) (clocks : List (Option ℕ)) → IsPart whole part globals held memories clocks → (start : Start) (columns : List (List ℕ)) (end : ℕ) (rows : List (List ℕ)) → IsState whole start.state → AreRows whole start columns end rows
+    → AreRows part (part_start held memories clocks start) (part_columns globals part rows) end (part_rows globals rows)
+started-part whole part globals held memories clocks is start columns end rows typed all = record {
+  begun = all.begun;
+  count = length-map rows (part_row globals) ∙ all.count;
+  before = λ t s lt.
+      let le = all.begun in
+      let low : t < length rows = omega (arith, lt, le, all.count) in
+      ap (λ (row : List ℕ). value_at row s) (row-part globals rows t low) ∙ part-zero globals (row_at rows t) (λ k. all.before t k lt) s;
+  run =
+      subst (IsRunFrom part (part_start held memories clocks start) (part_columns globals part rows) (since start.cycle end)) (sym (drop-part globals rows start.cycle))
+      (IsRunFrom-part whole part globals held memories clocks is start columns (part_columns globals part rows) (since start.cycle end) (drop start.cycle rows) typed all.run
+      (λ t place lt known.
+      column-at whole part globals held memories clocks is rows (later start.cycle t) place (omega (arith, later-less start.cycle t end all.begun lt, all.count)) known
+      ∙ ap (λ (row : List ℕ). value_at row (value_at globals (value_at part.ins place))) (sym (later-row start.cycle t rows))));
+}
+
+-- the same with other paths
+pub rows-paths : (part : FlatCircuit) (paths : List (List ℕ)) (start : Start) (columns : List (List ℕ)) (end : ℕ) (rows : List (List ℕ)) → AreRows (record part { paths = paths }) start columns end rows → AreRows part start columns end rows
+rows-paths part paths start columns end rows all = record {
+  begun = all.begun;
+  count = all.count;
+  before = all.before;
+  run = run-paths part paths start columns (since start.cycle end) (drop start.cycle rows) all.run;
+}

@@ -10,6 +10,7 @@ use Rattle.gg_flat.specs.declared.memory.Writer.{Writer}
 use Rattle.gg_flat.specs.declared.memory.Memory.{Memory}
 use Rattle.gg_flat.specs.declared.piece.Register.{Register}
 use Rattle.gg_flat.specs.declared.piece.Reset.{Reset}
+use Rattle.gg_flat.specs.Clocked.{clock_at}
 use Rattle.gg_flat.specs.Line.{value_at}
 use Rattle.gg_flat.specs.Reads.{NextNames, ResetNames}
 use Rattle.gg_flat.specs.Memory.{WritesAmong}
@@ -43,28 +44,28 @@ module _ (globals : List ℕ) (to : ℕ → ℕ) where
   reset-by (Some reset) below =
       ap₂ (λ condition init. let one : Reset = record { condition = condition; init = init } in Some one) (line-by reset.condition (λ s named. below s (inl named))) (line-by reset.init (λ s named. below s (inr named)))
 
-  pub register-by : (register : Register) → RegisterBelow (length globals) register → register_by to (renamed_register globals register) ≡ renamed_register (map to globals) register
-  register-by register below =
-      ap₂ (λ reset next. let one : Register = record { ty = register.ty; reset = reset; next = next; clock = register.clock } in one) (reset-by register.reset (λ s named. below s (inl named))) (next-by register.next (λ s named. below s (inr named)))
+  pub register-by : (clocks : List (Option ℕ)) (register : Register) → RegisterBelow (length globals) register → register_by to (renamed_register globals clocks register) ≡ renamed_register (map to globals) clocks register
+  register-by clocks register below =
+      ap₂ (λ reset next. let one : Register = record { ty = register.ty; reset = reset; next = next; clock = clock_at clocks register.clock } in one) (reset-by register.reset (λ s named. below s (inl named))) (next-by register.next (λ s named. below s (inr named)))
 
-  readers-by : (readers : List Reader) → All (λ reader. ReadsAmong (length globals) reader) readers → map (λ reader. reader_by to reader) (map (λ reader. renamed_reader globals reader) readers) ≡ map (λ reader. renamed_reader (map to globals) reader) readers
-  readers-by [] among = refl
-  readers-by (reader ∷ readers) among =
+  readers-by : (clocks : List (Option ℕ)) (readers : List Reader) → All (λ reader. ReadsAmong (length globals) reader) readers → map (λ reader. reader_by to reader) (map (λ reader. renamed_reader globals clocks reader) readers) ≡ map (λ reader. renamed_reader (map to globals) clocks reader) readers
+  readers-by clocks [] among = refl
+  readers-by clocks (reader ∷ readers) among =
       let here = among 0 reader (omega arith) in
       ap₂ (λ (one : Reader) rest. one ∷ rest)
-      (ap₂ (λ addr en. let one : Reader = record { addr = addr; en = en; word = to (value_at globals reader.word); clock = reader.clock } in one) (value-by reader.addr here.0) (value-by reader.en here.1)
-      ∙ ap (λ word. let one : Reader = record { addr = value_at (map to globals) reader.addr; en = value_at (map to globals) reader.en; word = word; clock = reader.clock } in one) (value-by reader.word here.2))
-      (readers-by readers (λ k d lt. among (suc k) d (omega (arith, lt))))
+      (ap₂ (λ addr en. let one : Reader = record { addr = addr; en = en; word = to (value_at globals reader.word); clock = clock_at clocks reader.clock } in one) (value-by reader.addr here.0) (value-by reader.en here.1)
+      ∙ ap (λ word. let one : Reader = record { addr = value_at (map to globals) reader.addr; en = value_at (map to globals) reader.en; word = word; clock = clock_at clocks reader.clock } in one) (value-by reader.word here.2))
+      (readers-by clocks readers (λ k d lt. among (suc k) d (omega (arith, lt))))
 
-  writers-by : (writers : List Writer) → All (λ writer. WritesAmong (length globals) writer) writers → map (λ writer. writer_by to writer) (map (λ writer. renamed_writer globals writer) writers) ≡ map (λ writer. renamed_writer (map to globals) writer) writers
-  writers-by [] among = refl
-  writers-by (writer ∷ writers) among =
+  writers-by : (clocks : List (Option ℕ)) (writers : List Writer) → All (λ writer. WritesAmong (length globals) writer) writers → map (λ writer. writer_by to writer) (map (λ writer. renamed_writer globals clocks writer) writers) ≡ map (λ writer. renamed_writer (map to globals) clocks writer) writers
+  writers-by clocks [] among = refl
+  writers-by clocks (writer ∷ writers) among =
       let here = among 0 writer (omega arith) in
       ap₂ (λ (one : Writer) rest. one ∷ rest)
-      (ap₂ (λ addr en. let one : Writer = record { addr = addr; en = en; word = to (value_at globals writer.word); mask = to (value_at globals writer.mask); clock = writer.clock } in one) (value-by writer.addr here.0) (value-by writer.en here.1)
-      ∙ ap₂ (λ word mask. let one : Writer = record { addr = value_at (map to globals) writer.addr; en = value_at (map to globals) writer.en; word = word; mask = mask; clock = writer.clock } in one) (value-by writer.word here.2) (value-by writer.mask here.3))
-      (writers-by writers (λ k d lt. among (suc k) d (omega (arith, lt))))
+      (ap₂ (λ addr en. let one : Writer = record { addr = addr; en = en; word = to (value_at globals writer.word); mask = to (value_at globals writer.mask); clock = clock_at clocks writer.clock } in one) (value-by writer.addr here.0) (value-by writer.en here.1)
+      ∙ ap₂ (λ word mask. let one : Writer = record { addr = value_at (map to globals) writer.addr; en = value_at (map to globals) writer.en; word = word; mask = mask; clock = clock_at clocks writer.clock } in one) (value-by writer.word here.2) (value-by writer.mask here.3))
+      (writers-by clocks writers (λ k d lt. among (suc k) d (omega (arith, lt))))
 
-  pub memory-by : (memory : Memory) → MemoryBelow (length globals) memory → memory_by to (renamed_memory globals memory) ≡ renamed_memory (map to globals) memory
-  memory-by memory below =
-      ap₂ (λ readers writers. let one : Memory = record { word = memory.word; depth = memory.depth; latency = memory.latency; readers = readers; writers = writers } in one) (readers-by memory.readers below.readers) (writers-by memory.writers below.writers)
+  pub memory-by : (clocks : List (Option ℕ)) (memory : Memory) → MemoryBelow (length globals) memory → memory_by to (renamed_memory globals clocks memory) ≡ renamed_memory (map to globals) clocks memory
+  memory-by clocks memory below =
+      ap₂ (λ readers writers. let one : Memory = record { word = memory.word; depth = memory.depth; latency = memory.latency; readers = readers; writers = writers } in one) (readers-by clocks memory.readers below.readers) (writers-by clocks memory.writers below.writers)

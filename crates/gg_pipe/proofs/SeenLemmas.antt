@@ -1,22 +1,21 @@
 -- Who makes a signal, and by which number a machine sees it.
-use Rattle.std.proofs.Common.{◌≡◌, ℕ, suc, ◌<◌, List, [], ◌∷◌, Bool, true, false, Option, Some, None, length, get_or, sym, ◌∙◌, ap, subst, inl, inr, ◌⊎◌, refl, eq-eqb, arith}
-use Rattle.std.specs.Prelude.{◌&&◌, ◌==◌, if◌then◌else◌, cond, Contains, filter, find}
-use Rattle.std.specs.List.{list_any}
+use Rattle.std.proofs.Common.{◌≡◌, ◌≢◌, ℕ, suc, ◌+◌, ◌<◌, List, [], ◌∷◌, Bool, true, false, Option, Some, None, length, get_or, sym, ◌∙◌, ap, subst, inl, inr, ◌⊎◌, refl, eq-eqb, arith}
+use Rattle.std.specs.Prelude.{◌&&◌, ◌==◌, if◌then◌else◌, cond, Contains, AllPairs, find}
+use Rattle.std.specs.List.{list_any, range_with_len}
 use Rattle.std.proofs.lemmas.Bool.{cases_Bool, and_parts, and_from, eqb-true, ne_eqb}
 use Rattle.std.proofs.lemmas.List.Elements.{All-contains, Contains-get_or}
 use Rattle.gg_flat.specs.Line.{value_at}
-use Rattle.gg_flat.proofs.ListLemmas.{filter-cases}
+use Rattle.gg_flat.proofs.ListLemmas.{Contains-filter, filter-cases, in-range, range-below, numbers-up}
 use Rattle.gg_cut.specs.declared.wires.Wire.{Wire}
 use Rattle.gg_cut.specs.Listed.{first_place}
 use Rattle.gg_cut.proofs.PathLemmas.{first_place-Some}
-use Rattle.gg_closed.proofs.ListLemmas.{map-cases}
 use Rattle.gg_closed.proofs.PlaceLemmas.{place-none}
 use Rattle.gg_cut.specs.Plan.{Takes, MakesBy}
 use Rattle.gg_cut.specs.Direct.{Hub, is_own, routes, origin_within}
 use Rattle.gg_pipe.specs.Reference.{IsSeen, IsPiped}
-use Rattle.gg_pipe.specs.Links.{pipes_of, pipe_or, taken_as, seen_by, maker_or, maker_of}
+use Rattle.gg_pipe.specs.Links.{is_carried, pipes_of, pipe_or, taken_as, seen_by, maker_or, maker_of}
 use Rattle.gg_cut.proofs.OriginLemmas.{any-finds, finds-any, clash, Chain, Here, Copy, chain}
-use Rattle.gg_routes.proofs.RouteLemmas.{IsBase, same-wire, own-no-wire, route-signal, out-routes, chosen-in, chosen-out, no-echo}
+use Rattle.gg_routes.proofs.RouteLemmas.{IsBase, routes-known, same-wire, own-no-wire, chosen-in, chosen-out, no-echo}
 use Rattle.gg_cut.proofs.DirectLemmas.{find-some, IsFromBase}
 use Rattle.gg_routes.proofs.ChoiceLemmas.{takes-out, From, Same, Origin, gives-out, inner-none, any-wire}
 
@@ -54,6 +53,34 @@ module _ (hub : Hub) (base : IsBase hub) where
       by (Same w stays plain) = maker-wire m s w
       by (Origin w into) = maker-wire m s w
 
+  -- ---- pipes
+
+  -- signal s is that of a piped channel
+  pub record HasPipe (s : ℕ) : Type 0 where
+    pub known : s < length hub.circuit.signals
+    pub piped : hub.piped s ≡ true
+    pub wire : Wire
+    pub among : Contains (routes hub) wire
+    pub is : wire.signal ≡ s
+
+  pub pipe-out : (s : ℕ) → Contains (pipes_of hub) s → HasPipe s
+  pipe-out s h =
+      let kept = filter-cases (λ t. hub.piped t && is_carried hub t) (range_with_len 0 (length hub.circuit.signals)) s h in
+      let parts = and_parts (hub.piped s) (is_carried hub s) kept.passes in
+      let w = any-finds (λ (r : Wire). r.signal == s) (routes hub) parts.1 in
+      record { known = range-below (length hub.circuit.signals) s kept.among; piped = parts.0; wire = w.item; among = w.among; is = eqb-true w.item.signal s w.passes }
+
+  pub pipe-in : (r : Wire) → Contains (routes hub) r → hub.piped r.signal ≡ true → Contains (pipes_of hub) r.signal
+  pipe-in r h p =
+      Contains-filter (λ t. hub.piped t && is_carried hub t) (range_with_len 0 (length hub.circuit.signals)) r.signal
+      (in-range (length hub.circuit.signals) r.signal (All-contains (λ (v : Wire). v.signal < length hub.circuit.signals) (routes hub) r (routes-known hub base) h))
+      (and_from (hub.piped r.signal) (is_carried hub r.signal) p (finds-any (λ (v : Wire). v.signal == r.signal) (routes hub) r h (eq-eqb r.signal r.signal refl)))
+
+  pub pipes-once : AllPairs (λ a b. a ≢ b) (pipes_of hub)
+  pipes-once i j d less lt same =
+      let up = numbers-up (λ t. hub.piped t && is_carried hub t) (length hub.circuit.signals) i j d less lt in
+      absurd (omega (arith, up, same))
+
   -- ---- by which number a signal is seen
 
   pub unpiped : (s : ℕ) → hub.piped s ≡ false → taken_as hub s ≡ s
@@ -61,16 +88,23 @@ module _ (hub : Hub) (base : IsBase hub) where
     where
       none : (p : ℕ) → Contains (pipes_of hub) p → (p == s) ≡ false
       none p h =
-          ne_eqb p s (λ same.
-          let at = map-cases (λ (r : Wire). r.signal) (filter (λ (r : Wire). hub.piped r.signal) (routes hub)) p h in
-          let r = get_or (filter (λ (r : Wire). hub.piped r.signal) (routes hub)) at.place any-wire in
-          let kept = filter-cases (λ (r : Wire). hub.piped r.signal) (routes hub) r (Contains-get_or (filter (λ (r : Wire). hub.piped r.signal) (routes hub)) at.place any-wire at.within) in
-          clash (hub.piped s) (subst (λ t. hub.piped t ≡ true) (at.holds any-wire ∙ same) kept.passes) plain)
+          ne_eqb p s (λ same. clash (hub.piped s) (subst (λ t. hub.piped t ≡ true) same (pipe-out p h).piped) plain)
 
   pub piped-as : (s k : ℕ) → first_place (λ p. p == s) (pipes_of hub) ≡ Some k → IsPiped hub.circuit (pipes_of hub) s (taken_as hub s)
   piped-as s k e =
       let at = first_place-Some (λ p. p == s) (pipes_of hub) k e in
       record { pipe = k; known = at.within; of = eqb-true (value_at (pipes_of hub) k) s (at.passes 0); is = ap (pipe_or (length hub.circuit.signals) s) e }
+
+  -- the place of a signal among the pipes
+  pub record IsPipeAt (s k : ℕ) : Type 0 where
+    pub known : k < length (pipes_of hub)
+    pub of : value_at (pipes_of hub) k ≡ s
+    pub is : taken_as hub s ≡ length hub.circuit.signals + k
+
+  pub place-of : (s k : ℕ) → first_place (λ p. p == s) (pipes_of hub) ≡ Some k → IsPipeAt s k
+  place-of s k e =
+      let at = first_place-Some (λ p. p == s) (pipes_of hub) k e in
+      record { known = at.within; of = eqb-true (value_at (pipes_of hub) k) s (at.passes 0); is = ap (pipe_or (length hub.circuit.signals) s) e }
 
   pub taken-seen : (s : ℕ) → (taken_as hub s ≡ s) ⊎ IsPiped hub.circuit (pipes_of hub) s (taken_as hub s)
   taken-seen s = by (first_place (λ p. p == s) (pipes_of hub)) refl
@@ -128,16 +162,6 @@ module _ (hub : Hub) (base : IsBase hub) where
           let w = takes-out hub base 0 t (takes-any 0 t f) in
           absurd (own-no-wire hub base w.wire w.among (subst (λ s. is_own hub s ≡ true) (sym w.is) own))
 
-  -- ---- pipes
-
-  -- a piped channel's signal is a signal of the circuit
+  -- a pipe's signal is one of the circuit
   pub pipes-known : (k : ℕ) → k < length (pipes_of hub) → value_at (pipes_of hub) k < length hub.circuit.signals
-  pipes-known k lt = known (value_at (pipes_of hub) k) (Contains-get_or (pipes_of hub) k 0 lt)
-    where
-      known : (c : ℕ) → Contains (pipes_of hub) c → c < length hub.circuit.signals
-      known c h =
-          let at = map-cases (λ (r : Wire). r.signal) (filter (λ (r : Wire). hub.piped r.signal) (routes hub)) c h in
-          let r = get_or (filter (λ (r : Wire). hub.piped r.signal) (routes hub)) at.place any-wire in
-          let kept = filter-cases (λ (r : Wire). hub.piped r.signal) (routes hub) r (Contains-get_or (filter (λ (r : Wire). hub.piped r.signal) (routes hub)) at.place any-wire at.within) in
-          let w = out-routes hub base r kept.among in
-          subst (λ t. t < length hub.circuit.signals) (sym (route-signal hub base w.wire) ∙ ap (λ (q : Wire). q.signal) w.is ∙ at.holds any-wire) (All-contains (λ (v : Wire). v.signal < length hub.circuit.signals) hub.base w.wire base.known w.among)
+  pipes-known k lt = (pipe-out (value_at (pipes_of hub) k) (Contains-get_or (pipes_of hub) k 0 lt)).known

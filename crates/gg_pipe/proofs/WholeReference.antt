@@ -1,9 +1,8 @@
 -- The reference circuit of a cut is well formed, and has an order.
 use Rattle.std.proofs.Common.{◌≡◌, ◌≢◌, ℕ, ◌<◌, List, [], ◌++◌, Bool, length, map, get_or, sym, ◌∙◌, subst, inl, inr, ◌⊎◌, refl, arith}
-use Rattle.std.specs.Prelude.{codes, AllPairs, filter}
+use Rattle.std.specs.Prelude.{codes, AllPairs}
 use Rattle.std.specs.List.{range_with_len}
 use Rattle.std.proofs.lemmas.List.{get_or-map, get_or_default, length-map, length-append}
-use Rattle.std.proofs.lemmas.List.Kept.{AllPairs-filter}
 use Rattle.gg_flat.specs.Line.{value_at}
 use Rattle.gg_flat.specs.Circuit.{FlatCircuit, readers_at}
 use Rattle.gg_flat.specs.WellFormed.{IsWellFormed}
@@ -18,13 +17,12 @@ use Rattle.gg_closed.specs.Apart.{AreApart}
 use Rattle.gg_closed.proofs.ListLemmas.{map-cases, AllPairs-append, AllPairs-map}
 use Rattle.gg_closed.proofs.ClosedLemmas.{reader-known}
 use Rattle.gg_closed.proofs.ChoiceLemmas.{place-of-memory}
-use Rattle.gg_cut.specs.declared.wires.Wire.{Wire}
-use Rattle.gg_cut.specs.Direct.{Hub, hub_of, routes}
+use Rattle.gg_cut.specs.Direct.{Hub, hub_of}
 use Rattle.gg_pipe.specs.Reference.{IsReference, IsPiped}
 use Rattle.gg_pipe.specs.Links.{pipes_of, taken_as, views_of}
 use Rattle.gg_pipe.specs.Made.{reference, IsFresh}
-use Rattle.gg_routes.proofs.RouteLemmas.{IsBase, routes-once}
-use Rattle.gg_pipe.proofs.SeenLemmas.{all-seen, taken-seen, pipes-known}
+use Rattle.gg_routes.proofs.RouteLemmas.{IsBase}
+use Rattle.gg_pipe.proofs.SeenLemmas.{all-seen, taken-seen, pipes-known, pipes-once}
 use Rattle.gg_pipe.proofs.MadeLemmas.{is-reference}
 use Rattle.gg_pipe.proofs.OrderedLemmas.{reference_ordered}
 use Rattle.gg_pipe.proofs.DataLemmas.{word-plain, word-maker}
@@ -58,11 +56,6 @@ module _ (circuit : FlatCircuit) (tree : InstanceTree) (listed : Listed) (formed
     pipe-name : ℕ → List ℕ
     pipe-name c = codes "pipe:" ++ path_at circuit.paths c
 
-    pipes-once : AllPairs (λ a b. a ≢ b) (pipes_of hub)
-    pipes-once =
-        AllPairs-map (λ a b. a ≢ b) (λ (r : Wire). r.signal) (filter (λ (r : Wire). hub.piped r.signal) (routes hub))
-        (AllPairs-filter (λ (r s : Wire). r.signal ≢ s.signal) (λ (r : Wire). hub.piped r.signal) (routes hub) (routes-once hub base))
-
     names-once : AllPairs (λ a b. a ≢ b) (map (λ c. codes "pipe:" ++ path_at circuit.paths c) (pipes_of hub))
     names-once =
         AllPairs-map (λ a b. a ≢ b) (λ c. codes "pipe:" ++ path_at circuit.paths c) (pipes_of hub) (λ i j d less lt same.
@@ -70,7 +63,7 @@ module _ (circuit : FlatCircuit) (tree : InstanceTree) (listed : Listed) (formed
         let known = pipes-known hub base in
         let a = subst (λ c. c < length circuit.paths) (sym (get_or_default (pipes_of hub) i d 0 low)) (let k = known i low in omega (arith, k, formed.named)) in
         let b = subst (λ c. c < length circuit.paths) (sym (get_or_default (pipes_of hub) j d 0 lt)) (let k = known j lt in omega (arith, k, formed.named)) in
-        pipes-once i j d less lt (once-apart circuit.paths [] formed.distinct (get_or (pipes_of hub) i d) (get_or (pipes_of hub) j d) a b (cancel (path_at circuit.paths (get_or (pipes_of hub) i d)) (path_at circuit.paths (get_or (pipes_of hub) j d)) same)))
+        pipes-once hub base i j d less lt (once-apart circuit.paths [] formed.distinct (get_or (pipes_of hub) i d) (get_or (pipes_of hub) j d) a b (cancel (path_at circuit.paths (get_or (pipes_of hub) i d)) (path_at circuit.paths (get_or (pipes_of hub) j d)) same)))
       where
         cancel : (a b : List ℕ) → codes "pipe:" ++ a ≡ codes "pipe:" ++ b → a ≡ b
         cancel a b e = cc

@@ -1,26 +1,28 @@
 -- Requests for pipes, worked by hand: the circuit that the network computes, by which signals machines see its values, and what
 -- trays keep.
-use Rattle.std.proofs.Common.{◌≡◌, ℕ, List, [], ◌∷◌, ◌++◌, Bool, true, false, refl}
-use Rattle.std.specs.Prelude.{◌==◌, codes, length, map, drop}
+use Rattle.std.proofs.Common.{◌≡◌, ℕ, ◌+◌, List, [], ◌∷◌, ◌++◌, Bool, true, false, refl, lit<, arith}
+use Rattle.std.specs.Prelude.{◌==◌, codes, length, map, drop, take}
 use Rattle.std.specs.List.{range_with_len}
 use Rattle.gg_bits.specs.declared.ops.Op1.TheVariants.{Not}
 use Rattle.gg_flat.specs.declared.line.Op.TheVariants.{Ref, One}
 use Rattle.gg_flat.specs.declared.piece.Driver.TheVariants.{Input, Computed}
 use Rattle.gg_flat.specs.Line.{value_at}
 use Rattle.gg_flat.specs.Circuit.{FlatCircuit, driver_at}
-use Rattle.gg_flat.specs.Run.{column}
-use Rattle.gg_flat.specs.Along.{rows_along}
+use Rattle.gg_flat.specs.Run.{Start, column}
+use Rattle.gg_flat.specs.Along.{rows_along, rows_from}
 use Rattle.gg_flat.proofs.WorkedCircuits.{eight, node}
 use Rattle.gg_flat.proofs.WorkedMemories.{signal, copy}
 use Rattle.gg_order.specs.Design.{Ordered}
 use Rattle.gg_partfile.specs.declared.request.Request.{Request}
 use Rattle.gg_cut.specs.declared.plan.Channel.{Channel}
+use Rattle.gg_cut.specs.declared.wires.Wire.{Wire}
 use Rattle.gg_cut.specs.Channels.{wire}
 use Rattle.gg_cut.specs.Direct.{Hub, routes, plan_hub}
-use Rattle.gg_cut.specs.Solves.{streams}
+use Rattle.gg_cut.specs.Solves.{AreRows, stream, streams}
 use Rattle.gg_cut.proofs.WorkedPair.{circuit, tree, both_units}
 use Rattle.gg_pipe.specs.Links.{pipes_of, seen_by}
 use Rattle.gg_pipe.specs.Made.{holder_of, reference, plan_reference, plan_seen}
+use Rattle.gg_pipe.specs.Follows.{plan_token}
 
 -- ---- two units that feed each other; signals: 0 x, 1 q, 2 a.x, 3 a.k, 4 a.p, 5 a.q, 6 b.m, 7 b.n
 
@@ -61,11 +63,14 @@ piped-twice = refl
 piped-both : kept (codes "q" ∷ codes "a.k" ∷ []) false ≡ (0 ∷ 15 ∷ []) ∷ []
 piped-both = refl
 
--- pipes stand in the order of the channels, not of the request
-pipes-ordered : pipes_of (plan_hub circuit tree (asked (codes "q" ∷ codes "a.k" ∷ []) false)) ≡ 3 ∷ 1 ∷ []
+-- pipes stand in the order of the signals, not of the channels or of the request
+pipes-ordered : map (λ pipe. pipes_of (plan_hub circuit tree (asked pipe false))) ((codes "q" ∷ codes "a.k" ∷ []) ∷ (codes "a.k" ∷ codes "q" ∷ []) ∷ []) ≡ (1 ∷ 3 ∷ []) ∷ (1 ∷ 3 ∷ []) ∷ []
 pipes-ordered = refl
 
-paths-ordered : drop 8 (plan_reference design (asked (codes "q" ∷ codes "a.k" ∷ []) false)).paths ≡ codes "pipe:a.k" ∷ codes "pipe:q" ∷ []
+channels-ordered : map (λ (r : Wire). r.signal) (routes (plan_hub circuit tree (asked (codes "q" ∷ codes "a.k" ∷ []) false))) ≡ 0 ∷ 2 ∷ 3 ∷ 4 ∷ 5 ∷ 6 ∷ 7 ∷ 1 ∷ []
+channels-ordered = refl
+
+paths-ordered : drop 8 (plan_reference design (asked (codes "a.k" ∷ codes "q" ∷ []) false)).paths ≡ codes "pipe:q" ∷ codes "pipe:a.k" ∷ []
 paths-ordered = refl
 
 -- a name of no channel makes no pipe; nor does one that a channel's name begins with
@@ -135,12 +140,50 @@ fork-routes = refl
 
 -- ---- what consumers take
 
-abbrev channel : Bool → Channel
-channel pipe = record { signal = 0; name = []; ty = eight; producer = 1; consumer = 2; capacity = 1; pipe = pipe; needs = [] }
+abbrev channel : ℕ → Bool → Channel
+channel s pipe = record { signal = s; name = []; ty = eight; producer = 1; consumer = 2; capacity = 1; pipe = pipe; needs = [] }
 
-taken : streams (channel true ∷ channel false ∷ []) ((5 ∷ 7 ∷ []) ∷ (1 ∷ 2 ∷ []) ∷ []) ≡ (0 ∷ 5 ∷ 7 ∷ []) ∷ (1 ∷ 2 ∷ []) ∷ []
+abbrev two : List Channel
+two = channel 0 true ∷ channel 1 false ∷ []
+
+taken : streams 0 (λ s. 0) two ((5 ∷ 7 ∷ []) ∷ (1 ∷ 2 ∷ []) ∷ []) ≡ (0 ∷ 5 ∷ 7 ∷ []) ∷ (1 ∷ 2 ∷ []) ∷ []
 taken = refl
 
 -- a pipe of a channel without a value is not empty
-taken-none : streams (channel true ∷ channel false ∷ []) ([] ∷ [] ∷ []) ≡ (0 ∷ []) ∷ [] ∷ []
+taken-none : streams 0 (λ s. 0) two ([] ∷ [] ∷ []) ≡ (0 ∷ []) ∷ [] ∷ []
 taken-none = refl
+
+-- from cycle 2 on, with the token 9; a channel without a pipe has none
+taken-late : streams 2 (λ s. 9 + s) two ((0 ∷ 0 ∷ 5 ∷ 7 ∷ []) ∷ (0 ∷ 0 ∷ 1 ∷ 2 ∷ []) ∷ []) ≡ (0 ∷ 0 ∷ 9 ∷ 5 ∷ 7 ∷ []) ∷ (0 ∷ 0 ∷ 1 ∷ 2 ∷ []) ∷ []
+taken-late = refl
+
+-- the token comes in the cycle of the start, not in the one before it
+not-before : ¬ (stream 2 9 true (0 ∷ 0 ∷ 5 ∷ 7 ∷ []) ≡ 0 ∷ 9 ∷ 0 ∷ 5 ∷ 7 ∷ [])
+not-before is = absurd (cc)
+
+-- ---- a run from cycle 2 in which the pipe of `q` has 9
+
+abbrev late : Start
+late = record { cycle = 2; state = record { registers = 9 ∷ []; banks = [] }; ratios = [] }
+
+abbrev all : FlatCircuit
+all = plan_reference design (asked (codes "q" ∷ []) false)
+
+-- its rows by cycle, where x is 0f and 81 in cycles 2 and 3; signal 8 is the pipe
+abbrev late-rows : List (List ℕ)
+late-rows = [] ∷ [] ∷ rows_from all (8 ∷ design.order) late ((0 ∷ 0 ∷ 15 ∷ 129 ∷ []) ∷ []) 2
+
+-- the tray of `q` gets 9 in cycle 2 and then what `q` had there
+late-q : map (column late-rows) (1 ∷ all.outs) ≡ (0 ∷ 0 ∷ 17 ∷ 131 ∷ []) ∷ (0 ∷ 0 ∷ 9 ∷ 17 ∷ []) ∷ []
+late-q = refl
+
+late-taken : take 4 (stream 2 (plan_token design (asked (codes "q" ∷ []) false) late.state 1) true (column late-rows 1)) ≡ column late-rows 8
+late-taken = refl
+
+-- Each pipe's token is its own register's, which come in the order of the pipes. A signal without a pipe has 0.
+tokens : map (plan_token design (asked (codes "q" ∷ codes "a.k" ∷ []) false) (record { registers = 9 ∷ 4 ∷ []; banks = [] })) (1 ∷ 3 ∷ 5 ∷ []) ≡ 9 ∷ 4 ∷ 0 ∷ []
+tokens = refl
+
+-- rows with a value before the start aren't those of a run from it
+not-rows : (columns rows : List (List ℕ)) (end : ℕ) → ¬ AreRows all late columns end ([] ∷ (5 ∷ []) ∷ rows)
+not-rows columns rows end is = absurd (omega (arith, is.before 1 0 (lit< tt)))

@@ -120,7 +120,7 @@ stop-piped = refl
 
 -- ---- a listed memory, machine 2, with one reader, of which one field is piped
 
-abbrev stored : FlatCircuit
+abbrev pub stored : FlatCircuit
 stored =
     record {
       paths = codes "x" ∷ codes "m.r.addr" ∷ codes "m.r.en" ∷ codes "m.r.data" ∷ codes "y" ∷ [];

@@ -1,8 +1,8 @@
 -- The two ends of a channel in the reference circuit: the signal by which its producer gives the value, and the signal by which
 -- its consumer gets it. They differ where the channel is direct or piped.
 -- Source: MEMOCODE 2009 (channels between the nodes of a dataflow network; tokens that are there at the start).
-use Rattle.std.specs.Prelude.{◌≡◌, ℕ, ◌<◌, ◌+◌, List, ◌==◌, ◌&&◌, if◌then◌else◌, Option, Some, None, length, map, filter, find, Contains}
-use Rattle.std.specs.List.{list_any}
+use Rattle.std.specs.Prelude.{◌≡◌, ℕ, ◌<◌, ◌+◌, List, Bool, ◌==◌, ◌&&◌, if◌then◌else◌, Option, Some, None, length, filter, find, Contains}
+use Rattle.std.specs.List.{list_any, range_with_len}
 use Rattle.gg_flat.specs.Circuit.{driver_at}
 use Rattle.gg_flat.specs.declared.piece.Driver.TheVariants.{Held}
 use Rattle.gg_cut.specs.declared.wires.Wire.{Wire}
@@ -10,9 +10,13 @@ use Rattle.gg_cut.specs.Listed.{first_place}
 use Rattle.gg_cut.specs.Direct.{Hub, routes}
 use Rattle.gg_pipe.specs.Reference.{Views}
 
--- the signals of the piped channels, in their order
+-- whether a channel carries signal s
+abbrev pub is_carried : Hub → ℕ → Bool
+is_carried hub s = list_any (λ r. r.signal == s) (routes hub)
+
+-- the signals of the piped channels, by their numbers
 abbrev pub pipes_of : Hub → List ℕ
-pipes_of hub = map (λ r. r.signal) (filter (λ r. hub.piped r.signal) (routes hub))
+pipes_of hub = filter (λ s. hub.piped s && is_carried hub s) (range_with_len 0 (length hub.circuit.signals))
 
 abbrev pub pipe_or : ℕ → ℕ → Option ℕ → ℕ
 pipe_or count s None = s

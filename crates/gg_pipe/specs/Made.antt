@@ -57,6 +57,16 @@ reference_of one views pipes =
 abbrev pub reference : Hub → (ℕ → ℕ) → (ℕ → ℕ) → FlatCircuit
 reference hub holder keeper = reference_of hub.circuit (views_of hub holder keeper) (pipes_of hub)
 
+-- Register r is that of a signal.
+pub record HasHolder (circuit : FlatCircuit) (r : ℕ) : Type 0 where
+  pub signal : ℕ
+  pub within : signal < length circuit.signals
+  pub holds : driver_at circuit signal ≡ Held r
+
+-- each register is that of a signal
+abbrev pub AllHeld : FlatCircuit → Type 0
+AllHeld circuit = (r : ℕ) → r < length circuit.registers → HasHolder circuit r
+
 -- No path of the circuit begins with `pipe:`.
 abbrev pub IsFresh : FlatCircuit → Type 0
 IsFresh circuit = (s : ℕ) (path : List ℕ) → s < length circuit.signals → path_at circuit.paths s ≢ codes "pipe:" ++ path
@@ -77,10 +87,6 @@ holder_of hub r = maker_of hub (unwrap_or (first_place (λ s. holds r (driver_at
 -- the machine of a memory of the circuit
 abbrev pub keeper_of : InstanceTree → Listed → ℕ → ℕ
 keeper_of tree listed m = memory_owner tree listed (unwrap_or (first_place (λ memory. memory.memory == m) tree.memories) 0)
-
--- No two signals hold one register.
-abbrev pub AreHeldOnce : FlatCircuit → Type 0
-AreHeldOnce circuit = (s t r : ℕ) → s < length circuit.signals → t < length circuit.signals → driver_at circuit s ≡ Held r → driver_at circuit t ≡ Held r → s ≡ t
 
 -- who names what in a cut: of a circuit with its tree, what is listed, the signals whose channels are piped, and whether channels
 -- are to be direct

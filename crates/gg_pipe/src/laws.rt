@@ -1,12 +1,13 @@
 //! Laws: facts about the definitions. Each is the contract of a function with an empty body.
-ghost use Rattle.std.specs.Prelude.{◌≡◌, ◌++◌, Contains, ℕ, ◌+◌, ◌<◌, List, [], Bool, None, length, map, slice_index_or};
+ghost use Rattle.std.specs.Prelude.{◌≡◌, ◌↔◌, ◌++◌, Contains, ℕ, ◌+◌, ◌<◌, ◌≤◌, List, [], Bool, None, length, map, slice_index_or};
 ghost use Rattle.std.specs.List.{range_with_len};
 ghost use Rattle.gg_flat.specs.Circuit.{FlatCircuit};
 ghost use Rattle.gg_flat.specs.Tree.{InstanceTree};
 ghost use Rattle.gg_flat.specs.WellFormed.{IsWellFormed};
 ghost use Rattle.gg_flat.specs.Order.{IsOrder};
-ghost use Rattle.gg_flat.specs.Clock.{Ratio};
-ghost use Rattle.gg_flat.specs.Run.{IsColumns, IsRun, IsRunFrom, clocked_start, column};
+ghost use Rattle.gg_flat.specs.Line.{value_at};
+ghost use Rattle.gg_flat.specs.Run.{IsColumns, Start, column};
+ghost use Rattle.gg_flat.specs.State.{IsState};
 ghost use Rattle.gg_moved.specs.KeepsToTree.{KeepsToTree};
 ghost use Rattle.gg_part.specs.declared.part.Part.{Part};
 ghost use Rattle.gg_order.specs.Design.{Ordered, IsDesign};
@@ -15,45 +16,47 @@ ghost use Rattle.gg_cut.specs.declared.plan.Plan.{Plan};
 ghost use Rattle.gg_cut.specs.declared.listed.Listed.{Listed};
 ghost use Rattle.gg_cut.specs.Machines.{first_source};
 ghost use Rattle.gg_cut.specs.Fault.{first_fault};
+ghost use Rattle.gg_cut.specs.Held.{AreHeldOnce};
 ghost use Rattle.gg_cut.specs.Plan.{wire_at, channels_from, IsCutPart, IsPlan};
-ghost use Rattle.gg_cut.specs.Solves.{Solves, columns_of};
+ghost use Rattle.gg_cut.specs.Solves.{AreRows, Solves, columns_of};
 ghost use Rattle.gg_closed.specs.Apart.{AreApart};
 ghost use Rattle.gg_cut.specs.Direct.{hub_of, plan_hub, routes};
 ghost use Rattle.gg_pipe.specs.Reference.{IsReference};
 ghost use Rattle.gg_pipe.specs.Links.{pipes_of, taken_as};
-ghost use Rattle.gg_pipe.specs.Made.{plan_reference, reference_circuit, views_in, IsFresh, AreHeldOnce};
-ghost use Rattle.gg_pipe.specs.Follows.{Follows, given_column, taken_column};
+ghost use Rattle.gg_pipe.specs.Made.{plan_reference, reference_circuit, views_in, AllHeld, IsFresh};
+ghost use Rattle.gg_pipe.specs.Follows.{Follows, given_column, plan_token, taken_column};
 
 use gg_closed::channels_once;
 
-/// A machine follows a run of the reference circuit, whatever the ratios of the clocks: on the values of the channels that
-/// it takes, with a 0 before those of piped channels, its piece has a run, and in each such run it gives the values of the
-/// channels that it gives. No register of the circuit may be held by two signals.
+/// A machine follows a run of the reference circuit, from any start and whatever the ratios of the clocks: on the values of
+/// the channels that it takes, those of piped channels a cycle later and behind the pipe's token, its piece has a run from its
+/// part of the start, and in each such run it gives the values of the channels that it gives. No register of the circuit may
+/// be held by two signals.
 pub fn parts_follow()
-    ensures { (design : Ordered) (listed : Listed) (piped : ℕ → Bool) (direct : Bool) (m : ℕ) (part : Part) (ratios : List Ratio) (columns : List (List ℕ)) (n : ℕ) (rows : List (List ℕ)) → IsDesign design → KeepsToTree design.circuit design.tree → AreApart design.tree listed → AreHeldOnce design.circuit → IsCutPart design listed (hub_of design.circuit design.tree listed piped direct) m part → IsRunFrom (reference_circuit design.circuit design.tree listed piped direct) (clocked_start (reference_circuit design.circuit design.tree listed piped direct) ratios) columns n rows → Follows (hub_of design.circuit design.tree listed piped direct) m ratios n part rows }
+    ensures { (design : Ordered) (listed : Listed) (piped : ℕ → Bool) (direct : Bool) (m : ℕ) (part : Part) (start : Start) (columns : List (List ℕ)) (end : ℕ) (rows : List (List ℕ)) → IsDesign design → KeepsToTree design.circuit design.tree → AreApart design.tree listed → AreHeldOnce design.circuit → IsCutPart design listed (hub_of design.circuit design.tree listed piped direct) m part → IsState (reference_circuit design.circuit design.tree listed piped direct) start.state → AreRows (reference_circuit design.circuit design.tree listed piped direct) start columns end rows → Follows (hub_of design.circuit design.tree listed piped direct) m start end part rows }
 {
     channels_once();
 }
 
 /// In a run of the reference circuit, the signal by which the consumer of a channel gets it has the values by which the
-/// producer gives it, with a 0 before them where the channel is piped.
+/// producer gives it, a cycle later and behind the pipe's token where the channel is piped.
 pub fn channels_follow()
-    ensures { (design : Ordered) (listed : Listed) (piped : ℕ → Bool) (direct : Bool) (ratios : List Ratio) (columns : List (List ℕ)) (n : ℕ) (rows : List (List ℕ)) (c : ℕ) → IsDesign design → KeepsToTree design.circuit design.tree → AreApart design.tree listed → IsRunFrom (reference_circuit design.circuit design.tree listed piped direct) (clocked_start (reference_circuit design.circuit design.tree listed piped direct) ratios) columns n rows → c < length (routes (hub_of design.circuit design.tree listed piped direct)) → column rows (taken_as (hub_of design.circuit design.tree listed piped direct) (wire_at (routes (hub_of design.circuit design.tree listed piped direct)) c).signal) ≡ taken_column (hub_of design.circuit design.tree listed piped direct) n rows c }
+    ensures { (design : Ordered) (listed : Listed) (piped : ℕ → Bool) (direct : Bool) (start : Start) (columns : List (List ℕ)) (end : ℕ) (rows : List (List ℕ)) (c : ℕ) → IsDesign design → KeepsToTree design.circuit design.tree → AreApart design.tree listed → IsState (reference_circuit design.circuit design.tree listed piped direct) start.state → AreRows (reference_circuit design.circuit design.tree listed piped direct) start columns end rows → c < length (routes (hub_of design.circuit design.tree listed piped direct)) → column rows (taken_as (hub_of design.circuit design.tree listed piped direct) (wire_at (routes (hub_of design.circuit design.tree listed piped direct)) c).signal) ≡ taken_column (hub_of design.circuit design.tree listed piped direct) start end rows c }
 {
     channels_once();
 }
 
-/// In a run of the reference circuit, each channel of the source of a top input is given the input's column.
+/// In a run of the reference circuit, each channel of the source of a top input is given the input's values.
 pub fn sources_follow()
-    ensures { (design : Ordered) (listed : Listed) (piped : ℕ → Bool) (direct : Bool) (ratios : List Ratio) (columns : List (List ℕ)) (n : ℕ) (rows : List (List ℕ)) (p c : ℕ) → IsDesign design → KeepsToTree design.circuit design.tree → AreApart design.tree listed → IsColumns (reference_circuit design.circuit design.tree listed piped direct) n columns → IsRunFrom (reference_circuit design.circuit design.tree listed piped direct) (clocked_start (reference_circuit design.circuit design.tree listed piped direct) ratios) columns n rows → p < length design.circuit.ins → Contains (channels_from (routes (hub_of design.circuit design.tree listed piped direct)) (first_source listed + p)) c → given_column (hub_of design.circuit design.tree listed piped direct) rows c ≡ slice_index_or columns p [] }
+    ensures { (design : Ordered) (listed : Listed) (piped : ℕ → Bool) (direct : Bool) (start : Start) (columns : List (List ℕ)) (end : ℕ) (rows : List (List ℕ)) (p c : ℕ) → IsDesign design → KeepsToTree design.circuit design.tree → AreApart design.tree listed → IsColumns (reference_circuit design.circuit design.tree listed piped direct) end columns → IsState (reference_circuit design.circuit design.tree listed piped direct) start.state → AreRows (reference_circuit design.circuit design.tree listed piped direct) start columns end rows → p < length design.circuit.ins → Contains (channels_from (routes (hub_of design.circuit design.tree listed piped direct)) (first_source listed + p)) c → (t : ℕ) → start.cycle ≤ t → t < end → value_at (given_column (hub_of design.circuit design.tree listed piped direct) rows c) t ≡ value_at (slice_index_or columns p []) t }
 {
     channels_once();
 }
 
-/// The columns of a run of the reference circuit solve the plan of a request without a fault, if the run was given the
-/// columns of the top inputs.
+/// The columns of a run of the reference circuit, from any start, solve the plan of a request without a fault, if the run was
+/// given the columns of the top inputs. Each pipe's token is what its register has at the start.
 pub fn columns_solve()
-    ensures { (design : Ordered) (request : Request) (default : ℕ) (plan : Plan) (columns : List (List ℕ)) (n : ℕ) (rows : List (List ℕ)) → IsDesign design → KeepsToTree design.circuit design.tree → AreHeldOnce design.circuit → first_fault design request ≡ None → IsPlan design request default plan → IsColumns design.circuit n columns → IsRun (plan_reference design request) columns n rows → Solves plan columns n (columns_of plan rows) }
+    ensures { (design : Ordered) (request : Request) (default : ℕ) (plan : Plan) (start : Start) (columns : List (List ℕ)) (end : ℕ) (rows : List (List ℕ)) → IsDesign design → KeepsToTree design.circuit design.tree → AreHeldOnce design.circuit → first_fault design request ≡ None → IsPlan design request default plan → IsColumns design.circuit end columns → IsState (plan_reference design request) start.state → AreRows (plan_reference design request) start columns end rows → Solves plan start (plan_token design request start.state) columns end (columns_of plan rows) }
 {}
 
 /// The reference circuit has the signals, the registers and the memories of the design, with the names by which their
@@ -76,4 +79,10 @@ pub fn outputs_kept()
 pub fn nothing_piped()
     ensures cut { (circuit : FlatCircuit) (tree : InstanceTree) (listed : Listed) (piped : ℕ → Bool) (direct : Bool) → pipes_of (hub_of circuit tree listed piped direct) ≡ [] → reference_circuit circuit tree listed piped direct ≡ circuit }
     ensures request { (design : Ordered) (request : Request) → request.pipe ≡ [] → plan_reference design request ≡ design.circuit }
+{}
+
+/// Two requests without a fault that ask for the same pipes have one reference circuit, whatever their units, their memories and
+/// their direct channels. Each register of the design has to be that of a signal.
+pub fn one_reference()
+    ensures { (design : Ordered) (request other : Request) → IsDesign design → KeepsToTree design.circuit design.tree → AllHeld design.circuit → first_fault design request ≡ None → first_fault design other ≡ None → ((name : List ℕ) → Contains request.pipe name ↔ Contains other.pipe name) → plan_reference design request ≡ plan_reference design other }
 {}

@@ -1,19 +1,19 @@
 -- The tables of a plan make its reference circuit.
 use Rattle.std.proofs.Common.{◌≡◌, ◌≢◌, ℕ, zero, suc, ◌+◌, ◌<◌, ◌≤◌, ◌⊎◌, List, ◌++◌, Bool, true, false, Option, Some, None, codes, length, map, get_or, refl, sym, ◌∙◌, ap, subst, inl, inr, eq-eqb, arith}
-use Rattle.std.specs.Prelude.{◌^◌, All, AllPairs, Contains, filter, unwrap_or, replicate}
+use Rattle.std.specs.Prelude.{◌&&◌, ◌==◌, ◌^◌, All, AllPairs, Contains, filter, unwrap_or, replicate}
 use Rattle.std.specs.List.{list_any, range_with_len}
-use Rattle.std.proofs.lemmas.Bool.{cases_Bool, cases_lt, eqb-true}
+use Rattle.std.proofs.lemmas.Bool.{and_from, and_parts, cases_Bool, cases_lt, eqb-true}
 use Rattle.std.proofs.lemmas.List.{length-map, get_or_default}
-use Rattle.std.proofs.lemmas.List.Elements.{Contains-get_or}
+use Rattle.std.proofs.lemmas.List.Elements.{All-filter, All-map, Contains-get_or}
+use Rattle.std.proofs.lemmas.List.Kept.{AllPairs-filter}
 use Rattle.std.proofs.lemmas.List.FromFn.{get_or-range_with_len, length-range_with_len}
 use Rattle.std.proofs.lemmas.List.Sums.{length-filter, count_by-le-length}
-use Rattle.gg_flat.specs.declared.piece.Driver.{Driver}
-use Rattle.gg_flat.specs.declared.piece.Driver.TheVariants.{Input, Held, MemoryWord, ReadRegister, Computed}
+use Rattle.gg_flat.specs.declared.piece.Driver.TheVariants.{Held}
 use Rattle.gg_flat.specs.Circuit.{FlatCircuit, driver_at}
 use Rattle.gg_flat.specs.Line.{value_at}
 use Rattle.gg_flat.specs.Tree.{path_at}
 use Rattle.gg_flat.specs.WellFormed.{MayDrive}
-use Rattle.gg_flat.proofs.ListLemmas.{in-range}
+use Rattle.gg_flat.proofs.ListLemmas.{Contains-filter, Contains-map, filter-cases, in-range}
 use Rattle.gg_order.specs.Design.{Ordered, IsDesign}
 use Rattle.gg_cut.specs.declared.listed.Listed.{Listed}
 use Rattle.gg_cut.specs.declared.plan.Channel.{Channel}
@@ -27,27 +27,22 @@ use Rattle.gg_cut.proofs.PathLemmas.{first_place-Some}
 use Rattle.gg_cut.proofs.OriginLemmas.{any-finds, finds-any, clash}
 use Rattle.gg_closed.specs.Apart.{AreApart}
 use Rattle.gg_closed.proofs.FaultlessLemmas.{faultless-apart}
+use Rattle.gg_closed.proofs.ListLemmas.{AllPairs-map, map-cases}
+use Rattle.gg_closed.proofs.PlaceLemmas.{same-bool}
 use Rattle.gg_routes.proofs.ChoiceLemmas.{any-wire}
-use Rattle.gg_routes.proofs.RouteLemmas.{IsBase}
+use Rattle.gg_routes.proofs.RouteLemmas.{IsBase, routes-known, routes-once}
 use Rattle.gg_routes.proofs.RoutedLemmas.{routed-base}
 use Rattle.gg_split.specs.declared.owned.Owned.{Owned}
 use Rattle.gg_piped.specs.declared.tables.Tables.{Tables}
-use Rattle.gg_pipe.specs.Links.{pipes_of, maker_of, seen_by}
+use Rattle.gg_pipe.specs.Links.{is_carried, pipes_of, maker_of, seen_by}
 use Rattle.gg_pipe.specs.Made.{plan_reference, reference_of, views_in, holder_of, keeper_of, holds}
 use Rattle.gg_piped.specs.CanPipe.{CanPipe}
-use Rattle.gg_piped.specs.Tables.{views_by, seen_in, AreSameViews, AreOwned, AreTables, CanFill, IsFilled, piped_signals, piped_takers}
-use Rattle.gg_pipe.proofs.HolderLemmas.{holder-is, keeper-is}
-use Rattle.gg_pipe.proofs.SeenLemmas.{pipes-known}
+use Rattle.gg_piped.specs.Tables.{views_by, seen_in, AreOwned, AreTables, CanFill, IsFilled, piped_places, piped_signals, piped_takers}
+use Rattle.gg_pipe.proofs.HolderLemmas.{holder-is, holds-is, keeper-is}
+use Rattle.gg_pipe.proofs.SeenLemmas.{pipes-known, pipes-once}
 use Rattle.gg_pipe.proofs.PlanLemmas.{plan-formed}
-use Rattle.gg_piped.proofs.TableLemmas.{chosen-agree, piped_routes, pipes-once, kept-is, seen-is, seen-empty, makers-are}
-use Rattle.gg_piped.proofs.ViewLemmas.{reference-agree}
-
-holds-is : (r : ℕ) (driver : Driver) → holds r driver ≡ true → driver ≡ Held r
-holds-is r (Input place) e = absurd (clash false e refl)
-holds-is r (Held register) e = ap Held (eqb-true register r e)
-holds-is r (MemoryWord memory reader addr en) e = absurd (clash false e refl)
-holds-is r (ReadRegister memory reader) e = absurd (clash false e refl)
-holds-is r (Computed line) e = absurd (clash false e refl)
+use Rattle.gg_piped.proofs.TableLemmas.{chosen-agree, few-among, piped_routes, kept-is, seen-is, seen-empty, makers-are}
+use Rattle.gg_pipe.proofs.AgreeLemmas.{AreAgreed, filter-agree, reference-agree}
 
 repeated : (n x r : ℕ) → r < n → value_at (replicate n x) r ≡ x
 repeated zero x r lt = absurd (omega (arith, lt))
@@ -55,13 +50,14 @@ repeated (suc n) x zero lt = refl
 repeated (suc n) x (suc r) lt = repeated n x r (omega (arith, lt))
 
 -- the signals and the pipes are few
-pub few-pipes : (design : Ordered) (plan : Plan) (can : CanPipe design plan) → length design.circuit.signals + length (piped_signals plan.channels) < 2 ^ 32
+pub few-pipes : (design : Ordered) (plan : Plan) (can : CanPipe design plan) → length design.circuit.signals + length (piped_signals (length design.circuit.signals) plan.channels) < 2 ^ 32
 few-pipes design plan can =
     let few = can.few in
     let chosen = length-filter (λ (channel : Channel). channel.pipe) plan.channels in
     let most = count_by-le-length (λ (channel : Channel). channel.pipe) plan.channels in
     let long = length-map (filter (λ (channel : Channel). channel.pipe) plan.channels) (λ (channel : Channel). channel.signal) in
-    omega (arith, few, chosen, most, long)
+    let among = few-among (piped_places plan.channels) (length design.circuit.signals) in
+    omega (arith, few, chosen, most, long, among)
 
 module _ (design : Ordered) (plan : Plan) (is : IsDesign design) (can : CanPipe design plan) where
   abbrev circuit : FlatCircuit
@@ -81,8 +77,8 @@ module _ (design : Ordered) (plan : Plan) (is : IsDesign design) (can : CanPipe 
 
   -- ---- pipes
 
-  pub pipes-are : piped_signals plan.channels ≡ pipes_of (plan_hub design.circuit design.tree can.request)
-  pipes-are =
+  places-are : piped_places plan.channels ≡ map (λ (w : Wire). w.signal) (piped_routes (plan_hub design.circuit design.tree can.request))
+  places-are =
       chosen-agree (λ (channel : Channel). channel.signal) (λ (w : Wire). w.signal) (λ (channel : Channel). channel.pipe) (λ (w : Wire). hub.piped w.signal) plan.channels (routes hub) can.is.channel_total
       (λ c x w lt. let at = can.is.channel c x lt in let same = wires-at c w lt in (at.signal ∙ ap (λ (v : Wire). v.signal) same, at.pipe ∙ ap (λ (v : Wire). hub.piped v.signal) same))
     where
@@ -97,11 +93,49 @@ module _ (design : Ordered) (plan : Plan) (is : IsDesign design) (can : CanPipe 
       wires-at : (c : ℕ) (w : Wire) → c < length plan.channels → wire_at (routes hub) c ≡ get_or (routes hub) c w
       wires-at c w lt = get_or_default (routes hub) c any-wire w (let total = can.is.channel_total in omega (arith, lt, total))
 
-  pub known-pipes : All (λ s. s < length design.circuit.signals) (piped_signals plan.channels)
+  pub pipes-are : piped_signals (length design.circuit.signals) plan.channels ≡ pipes_of (plan_hub design.circuit design.tree can.request)
+  pipes-are =
+      ap (λ (places : List ℕ). filter (λ s. list_any (λ place. s == place) places) (range_with_len 0 (length circuit.signals))) places-are
+      ∙ filter-agree (λ s. list_any (λ place. s == place) signals) (λ s. hub.piped s && is_carried hub s) 0 (length circuit.signals) (λ s lt. same-bool (list_any (λ place. s == place) signals) (hub.piped s && is_carried hub s) (only s) (back s))
+    where
+      signals : List ℕ
+      signals = map (λ (w : Wire). w.signal) (piped_routes hub)
+
+      only : (s : ℕ) → list_any (λ place. s == place) signals ≡ true → (hub.piped s && is_carried hub s) ≡ true
+      only s e =
+          let found = any-finds (λ place. s == place) signals e in
+          let at = map-cases (λ (w : Wire). w.signal) (piped_routes hub) found.item found.among in
+          let w = get_or (piped_routes hub) at.place any-wire in
+          let kept = filter-cases (λ (v : Wire). hub.piped v.signal) (routes hub) w (Contains-get_or (piped_routes hub) at.place any-wire at.within) in
+          let of = at.holds any-wire ∙ sym (eqb-true s found.item found.passes) in
+          and_from (hub.piped s) (is_carried hub s) (subst (λ t. hub.piped t ≡ true) of kept.passes) (finds-any (λ (v : Wire). v.signal == s) (routes hub) w kept.among (eq-eqb w.signal s of))
+
+      back : (s : ℕ) → (hub.piped s && is_carried hub s) ≡ true → list_any (λ place. s == place) signals ≡ true
+      back s e =
+          let parts = and_parts (hub.piped s) (is_carried hub s) e in
+          let w = any-finds (λ (v : Wire). v.signal == s) (routes hub) parts.1 in
+          let of = eqb-true w.item.signal s w.passes in
+          finds-any (λ place. s == place) signals w.item.signal
+          (Contains-map (λ (v : Wire). v.signal) (piped_routes hub) w.item (Contains-filter (λ (v : Wire). hub.piped v.signal) (routes hub) w.item w.among (ap hub.piped of ∙ parts.0)))
+          (eq-eqb s w.item.signal (sym of))
+
+  pub known-places : All (λ s. s < length design.circuit.signals) (piped_places plan.channels)
+  known-places =
+      subst (All (λ s. s < length circuit.signals)) (sym places-are)
+      (All-map (λ s. s < length circuit.signals) (λ (w : Wire). w.signal) (piped_routes hub)
+      (All-filter (λ (w : Wire). hub.piped w.signal) (λ (w : Wire). w.signal < length circuit.signals) (routes hub) (routes-known hub base)))
+
+  places-once : AllPairs (λ a b. a ≢ b) (piped_places plan.channels)
+  places-once =
+      subst (AllPairs (λ a b. a ≢ b)) (sym places-are)
+      (AllPairs-map (λ a b. a ≢ b) (λ (w : Wire). w.signal) (piped_routes hub)
+      (AllPairs-filter (λ (r s : Wire). r.signal ≢ s.signal) (λ (w : Wire). hub.piped w.signal) (routes hub) (routes-once hub base)))
+
+  pub known-pipes : All (λ s. s < length design.circuit.signals) (piped_signals (length design.circuit.signals) plan.channels)
   known-pipes = subst (All (λ s. s < length circuit.signals)) (sym pipes-are) (λ k d lt. subst (λ s. s < length circuit.signals) (sym (get_or_default (pipes_of hub) k d 0 lt)) (pipes-known hub base k lt))
 
   -- no path comes twice
-  pub distinct-paths : AllPairs (λ a b. a ≢ b) (design.circuit.paths ++ map (λ c. codes "pipe:" ++ path_at design.circuit.paths c) (piped_signals plan.channels))
+  pub distinct-paths : AllPairs (λ a b. a ≢ b) (design.circuit.paths ++ map (λ c. codes "pipe:" ++ path_at design.circuit.paths c) (piped_signals (length design.circuit.signals) plan.channels))
   distinct-paths =
       subst (λ (pipes : List ℕ). AllPairs (λ a b. a ≢ b) (circuit.paths ++ map (λ c. codes "pipe:" ++ path_at circuit.paths c) pipes)) (sym pipes-are)
       (plan-formed design can.request is can.keeps can.held can.none can.fresh).distinct
@@ -110,9 +144,11 @@ module _ (design : Ordered) (plan : Plan) (is : IsDesign design) (can : CanPipe 
     wires-are : owned.wires ≡ hub.base
     wires-are = owns.wires ∙ ap (wires_of circuit design.tree) can.is.listed
 
-    pub can-fill : CanFill design.circuit (piped_signals plan.channels) owned
+    pub can-fill : CanFill design.circuit plan.channels (piped_signals (length design.circuit.signals) plan.channels) owned
     can-fill =
         record {
+          places = known-places;
+          places_once = places-once;
           known = known-pipes;
           once = subst (AllPairs (λ a b. a ≢ b)) (sym pipes-are) (pipes-once hub base);
           few = few-pipes design plan can;
@@ -122,14 +158,14 @@ module _ (design : Ordered) (plan : Plan) (is : IsDesign design) (can : CanPipe 
           wires_once = subst (AllPairs (λ (v w : Wire). v.signal ≢ w.signal)) (sym wires-are) base.once;
         }
 
-    module _ (tables : Tables) (are : AreTables design.circuit plan.channels (piped_signals plan.channels) owned tables) where
+    module _ (tables : Tables) (are : AreTables design.circuit plan.channels (piped_signals (length design.circuit.signals) plan.channels) owned tables) where
       pipes : IsFilled (pipes_of hub) (range_with_len (length circuit.signals) (length (pipes_of hub))) (length (pipes_of hub)) (replicate (length circuit.signals) 0) tables.pipes
       pipes = subst (λ (l : List ℕ). IsFilled l (range_with_len (length circuit.signals) (length l)) (length l) (replicate (length circuit.signals) 0) tables.pipes) pipes-are are.pipes
 
-      takers : IsFilled (pipes_of hub) (map (λ (r : Wire). r.consumer) (piped_routes hub)) (length (pipes_of hub)) (replicate (length circuit.signals) 0) tables.takers
+      takers : IsFilled (map (λ (r : Wire). r.signal) (piped_routes hub)) (map (λ (r : Wire). r.consumer) (piped_routes hub)) (length (map (λ (r : Wire). r.signal) (piped_routes hub))) (replicate (length circuit.signals) 0) tables.takers
       takers =
-          subst (λ (l : List ℕ). IsFilled l (map (λ (r : Wire). r.consumer) (piped_routes hub)) (length l) (replicate (length circuit.signals) 0) tables.takers) pipes-are
-          (subst (λ (l : List ℕ). IsFilled (piped_signals plan.channels) l (length (piped_signals plan.channels)) (replicate (length circuit.signals) 0) tables.takers) takers-are are.takers)
+          subst (λ (l : List ℕ). IsFilled l (map (λ (r : Wire). r.consumer) (piped_routes hub)) (length l) (replicate (length circuit.signals) 0) tables.takers) places-are
+          (subst (λ (l : List ℕ). IsFilled (piped_places plan.channels) l (length (piped_places plan.channels)) (replicate (length circuit.signals) 0) tables.takers) takers-are are.takers)
 
       makers : (s : ℕ) → s < length circuit.signals → value_at tables.makers s ≡ maker_of hub s
       makers =
@@ -194,16 +230,16 @@ module _ (design : Ordered) (plan : Plan) (is : IsDesign design) (can : CanPipe 
           ∙ ap (λ l. memory_owner design.tree l k) can.is.listed
           ∙ sym (keeper-is circuit design.tree listed can.keeps.fitting (memory_owner design.tree listed k) k (record { place = k; known = known; is = can.keeps.copies.number k known; owner = refl }))
 
-      same-views : AreSameViews circuit (views_by tables) (views_in circuit design.tree listed (is_piped circuit can.request) can.request.direct)
-      same-views =
+      agreed : AreAgreed circuit (views_by tables) (views_in circuit design.tree listed (is_piped circuit can.request) can.request.direct)
+      agreed =
           record {
-            maker = λ s t lt. ap (λ m. seen_in tables m t) (makers s lt) ∙ seen (maker_of hub s) t;
-            holder = holder;
-            keeper = λ k t lt. ap (λ m. seen_in tables m t) (keeper k lt) ∙ seen (keeper_of design.tree listed k) t;
+            maker = λ s t lt named. ap (λ m. seen_in tables m t) (makers s lt) ∙ seen (maker_of hub s) t;
+            holder = λ r t register lt found named. holder r t lt;
+            keeper = λ k t lt field. ap (λ m. seen_in tables m t) (keeper k lt) ∙ seen (keeper_of design.tree listed k) t;
             kept = kept-is hub base tables pipes;
           }
 
-      pub reference-is : reference_of design.circuit (views_by tables) (piped_signals plan.channels) ≡ plan_reference design can.request
+      pub reference-is : reference_of design.circuit (views_by tables) (piped_signals (length design.circuit.signals) plan.channels) ≡ plan_reference design can.request
       reference-is =
           ap (reference_of circuit (views_by tables)) pipes-are
-          ∙ reference-agree circuit (views_by tables) (views_in circuit design.tree listed (is_piped circuit can.request) can.request.direct) (pipes_of hub) same-views
+          ∙ reference-agree circuit (views_by tables) (views_in circuit design.tree listed (is_piped circuit can.request) can.request.direct) (pipes_of hub) agreed

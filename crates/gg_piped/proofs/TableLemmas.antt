@@ -1,20 +1,21 @@
 -- The tables say what the definitions say.
 use Rattle.std.proofs.Common.{◌≡◌, ◌≢◌, ℕ, zero, suc, ◌+◌, ◌<◌, ◌≤◌, ◌⊎◌, List, [], ◌∷◌, ◌++◌, Bool, true, false, Option, Some, None, length, map, get_or, set, refl, sym, ◌∙◌, ap, ap₂, subst, inl, inr, eq-eqb, arith}
-use Rattle.std.specs.Prelude.{◌&&◌, ◌==◌, if◌then◌else◌, AllPairs, All, Contains, filter, replicate}
+use Rattle.std.specs.Prelude.{◌&&◌, ◌==◌, if◌then◌else◌, unwrap_or, AllPairs, All, Contains, filter, replicate}
 use Rattle.std.specs.List.{list_any, range_with_len}
 use Rattle.std.proofs.lemmas.Bool.{cases_Bool, cases_eq, and_parts, eqb-true, ne_eqb}
 use Rattle.std.proofs.lemmas.List.{map-id, get_or-map, get_or_default, length-map, length-set, get_or-set_same, get_or-set_other}
 use Rattle.std.proofs.lemmas.List.FromFn.{get_or-range_with_len, map-range_with_len_more}
-use Rattle.std.proofs.lemmas.List.Kept.{AllPairs-filter}
-use Rattle.std.proofs.lemmas.List.Elements.{Contains-get_or}
+use Rattle.std.proofs.lemmas.List.Elements.{All-map, Contains-get_or, filter-append}
 use Rattle.gg_flat.specs.declared.piece.Driver.{Driver}
 use Rattle.gg_flat.specs.declared.piece.Driver.TheVariants.{Input, Held, MemoryWord, ReadRegister, Computed}
 use Rattle.gg_flat.specs.Circuit.{FlatCircuit, driver_at}
 use Rattle.gg_flat.specs.Line.{value_at}
-use Rattle.gg_flat.proofs.ListLemmas.{once-apart, filter-cases}
+use Rattle.gg_flat.proofs.ListLemmas.{Contains-filter, numbers-up, once-apart, filter-cases}
+use Rattle.gg_order.specs.Marks.{is_marked}
+use Rattle.gg_part.proofs.FrameLemmas.{length-once}
 use Rattle.gg_cut.specs.declared.plan.Channel.{Channel}
 use Rattle.gg_cut.specs.declared.wires.Wire.{Wire}
-use Rattle.gg_cut.specs.Listed.{first_place}
+use Rattle.gg_cut.specs.Listed.{first_place, AreMarks}
 use Rattle.gg_cut.specs.Plan.{wire_at, IsInner}
 use Rattle.gg_cut.specs.Direct.{Hub, routes}
 use Rattle.gg_cut.proofs.PathLemmas.{IsPlace, first_place-Some, first_place-None}
@@ -25,10 +26,12 @@ use Rattle.gg_routes.proofs.RouteLemmas.{IsBase, routes-once}
 use Rattle.gg_routes.proofs.ChoiceLemmas.{any-wire}
 use Rattle.gg_split.specs.declared.owned.Owned.{Owned}
 use Rattle.gg_piped.specs.declared.tables.Tables.{Tables}
-use Rattle.gg_piped.specs.Tables.{kept_in, seen_in, IsFilled, held_by, AreHolding, AreTables, piped_takers}
-use Rattle.gg_pipe.specs.Made.{AreHeldOnce}
+use Rattle.gg_piped.specs.Tables.{kept_in, seen_in, IsFilled, held_by, AreHolding, AreTables, piped_places, piped_signals, piped_takers}
+use Rattle.gg_cut.specs.Held.{AreHeldOnce}
 use Rattle.gg_pipe.specs.Links.{pipes_of, pipe_or, taken_as, seen_by, maker_of, maker_or}
-use Rattle.gg_pipe.proofs.SeenLemmas.{pipes-known, maker-inner}
+use Rattle.gg_pipe.proofs.AgreeLemmas.{filter-agree}
+use Rattle.gg_pipe.proofs.HolderLemmas.{first-found}
+use Rattle.gg_pipe.proofs.SeenLemmas.{HasPipe, pipe-out, pipes-known, maker-inner}
 
 -- ---- tables that are filled value by value
 
@@ -90,11 +93,6 @@ abbrev pub piped_routes : Hub → List Wire
 piped_routes hub = filter (λ (r : Wire). hub.piped r.signal) (routes hub)
 
 module _ (hub : Hub) (base : IsBase hub) where
-  pub pipes-once : AllPairs (λ a b. a ≢ b) (pipes_of hub)
-  pipes-once =
-      AllPairs-map (λ a b. a ≢ b) (λ (r : Wire). r.signal) (piped_routes hub)
-      (AllPairs-filter (λ (r s : Wire). r.signal ≢ s.signal) (λ (r : Wire). hub.piped r.signal) (routes hub) (routes-once hub base))
-
   same-route : (v w : Wire) → Contains (routes hub) v → Contains (routes hub) w → v.signal ≡ w.signal → v ≡ w
   same-route v w h k e =
       let signals = map (λ (u : Wire). u.signal) (routes hub) in
@@ -135,7 +133,7 @@ module _ (hub : Hub) (base : IsBase hub) where
         by None e = kept-plain s e
         by (Some k) e = let known = pipes-known hub base k (first_place-Some (λ p. p == s) (pipes_of hub) k e).within in absurd (omega (arith, known, empty))
 
-    module _ (takers : IsFilled (pipes_of hub) (map (λ (r : Wire). r.consumer) (piped_routes hub)) (length (pipes_of hub)) (replicate (length hub.circuit.signals) 0) tables.takers) where
+    module _ (takers : IsFilled (map (λ (r : Wire). r.signal) (piped_routes hub)) (map (λ (r : Wire). r.consumer) (piped_routes hub)) (length (map (λ (r : Wire). r.signal) (piped_routes hub))) (replicate (length hub.circuit.signals) 0) tables.takers) where
       taker-is : (s k m : ℕ) → first_place (λ p. p == s) (pipes_of hub) ≡ Some k → (value_at tables.takers s == m) ≡ list_any (λ (r : Wire). (r.consumer == m) && (r.signal == s)) (routes hub)
       taker-is s k m e = ap (λ v. v == m) reads ∙ by (cases_Bool (r.consumer == m)) (cases_Bool (list_any test (routes hub)))
         where
@@ -145,20 +143,29 @@ module _ (hub : Hub) (base : IsBase hub) where
           test : Wire → Bool
           test v = (v.consumer == m) && (v.signal == s)
 
+          pipe : HasPipe hub base s
+          pipe = subst (HasPipe hub base) (eqb-true (value_at (pipes_of hub) k) s (at.passes 0)) (pipe-out hub base (value_at (pipes_of hub) k) (Contains-get_or (pipes_of hub) k 0 at.within))
+
           r : Wire
-          r = get_or (piped_routes hub) k any-wire
+          r = pipe.wire
 
-          inside : k < length (piped_routes hub)
-          inside = let low = at.within in let long = length-map (piped_routes hub) (λ (v : Wire). v.signal) in omega (arith, low, long)
+          of : pipe.wire.signal ≡ s
+          of = pipe.is
 
-          of : r.signal ≡ s
-          of = sym (get_or-map (λ (v : Wire). v.signal) (piped_routes hub) k any-wire 0 inside) ∙ eqb-true (value_at (pipes_of hub) k) s (at.passes 0)
+          among : Contains (routes hub) pipe.wire
+          among = pipe.among
 
-          among : Contains (routes hub) r
-          among = (filter-cases (λ (v : Wire). hub.piped v.signal) (routes hub) r (Contains-get_or (piped_routes hub) k any-wire inside)).among
+          q : Contains (piped_routes hub) pipe.wire
+          q = Contains-filter (λ (v : Wire). hub.piped v.signal) (routes hub) pipe.wire pipe.among (ap hub.piped pipe.is ∙ pipe.piped)
 
-          reads : value_at tables.takers s ≡ r.consumer
-          reads = subst (λ t. value_at tables.takers t ≡ r.consumer) (eqb-true (value_at (pipes_of hub) k) s (at.passes 0)) (takers.put k at.within ∙ get_or-map (λ (v : Wire). v.consumer) (piped_routes hub) k any-wire 0 inside)
+          inside : q.0 < length (map (λ (v : Wire). v.signal) (piped_routes hub))
+          inside = let low = q.1 in let long = length-map (piped_routes hub) (λ (v : Wire). v.signal) in omega (arith, low, long)
+
+          place : value_at (map (λ (v : Wire). v.signal) (piped_routes hub)) q.0 ≡ s
+          place = get_or-map (λ (v : Wire). v.signal) (piped_routes hub) q.0 pipe.wire 0 q.1 ∙ ap (λ (v : Wire). v.signal) q.2 ∙ pipe.is
+
+          reads : value_at tables.takers s ≡ pipe.wire.consumer
+          reads = subst (λ t. value_at tables.takers t ≡ pipe.wire.consumer) place (takers.put q.0 inside ∙ get_or-map (λ (v : Wire). v.consumer) (piped_routes hub) q.0 pipe.wire 0 q.1 ∙ ap (λ (v : Wire). v.consumer) q.2)
 
           by : ((r.consumer == m) ≡ true) ⊎ ((r.consumer == m) ≡ false) → (list_any test (routes hub) ≡ true) ⊎ (list_any test (routes hub) ≡ false) → (r.consumer == m) ≡ list_any test (routes hub)
           by (inl p) (inl q) = p ∙ sym q
@@ -270,17 +277,64 @@ holding-more one makers k before after new once lt known is given = by (driver_a
 pub range-more : (a n : ℕ) → range_with_len a (n + 1) ≡ range_with_len a n ++ (a + n) ∷ []
 range-more a n = sym (map-id (range_with_len a (n + 1))) ∙ map-range_with_len_more (λ x. x) a n (a + n) refl ∙ ap (λ l. l ++ (a + n) ∷ []) (map-id (range_with_len a n))
 
-pub tables-made : (one : FlatCircuit) (channels : List Channel) (signals : List ℕ) (owned : Owned) (count : ℕ) (takers numbers taker_table number_table makers makers_now holders : List ℕ) (tables : Tables) → count ≡ length one.signals → takers ≡ piped_takers channels → numbers ≡ range_with_len count (length signals) → IsFilled signals takers (length signals) (replicate count 0) taker_table → IsFilled signals numbers (length signals) (replicate count 0) number_table → IsFilled (map (λ (w : Wire). w.signal) owned.wires) (map (λ (w : Wire). w.producer) owned.wires) (length owned.wires) owned.signals makers → makers_now ≡ makers → AreHolding one makers_now (length one.signals) (replicate (length one.registers) (value_at makers_now 0)) holders → tables.makers ≡ makers → tables.holders ≡ holders → tables.keepers ≡ owned.memories → tables.takers ≡ taker_table → tables.pipes ≡ number_table → AreTables one channels signals owned tables
-tables-made one channels signals owned count takers numbers taker_table number_table makers makers_now holders tables many are_takers are_numbers by_taker by_number by_maker now by_holder m h k t p =
+-- one more number, if it is marked
+pub marked-more : (marks : List Bool) (n : ℕ) → filter (is_marked marks) (range_with_len 0 (n + 1)) ≡ filter (is_marked marks) (range_with_len 0 n) ++ (if is_marked marks n then n ∷ [] else [])
+marked-more marks n =
+    ap (filter (is_marked marks)) (range-more 0 n)
+    ∙ filter-append (is_marked marks) (range_with_len 0 n) ((0 + n) ∷ [])
+    ∙ ap (λ k. filter (is_marked marks) (range_with_len 0 n) ++ filter (is_marked marks) (k ∷ [])) (let same : 0 + n ≡ n = omega arith in same)
+
+-- the marked numbers are the signals of the pipes
+pub pipes-found : (marks : List Bool) (places : List ℕ) (count : ℕ) (channels : List Channel) → length marks ≡ count → AreMarks places marks → places ≡ piped_places channels → filter (is_marked marks) (range_with_len 0 (length marks)) ≡ piped_signals count channels
+pipes-found marks places count channels many are same =
+    filter-agree (is_marked marks) (λ s. list_any (λ place. s == place) places) 0 (length marks) (λ s lt. are s)
+    ∙ ap₂ (λ (l : List ℕ) n. filter (λ s. list_any (λ place. s == place) l) (range_with_len 0 n)) same many
+
+-- there are at most as many numbers among some as there are of these
+pub few-among : (places : List ℕ) (count : ℕ) → length (filter (λ s. list_any (λ place. s == place) places) (range_with_len 0 count)) ≤ length places
+few-among places count =
+    let long = length-map numbers place in
+    let few = length-once (map place numbers) (length places) once (All-map (λ x. x < length places) place numbers (λ k d lt. (at (get_or numbers k d) (Contains-get_or numbers k d lt)).within)) in
+    omega (arith, long, few)
+  where
+    numbers : List ℕ
+    numbers = filter (λ s. list_any (λ place. s == place) places) (range_with_len 0 count)
+
+    place : ℕ → ℕ
+    place s = unwrap_or (first_place (λ place. s == place) places) 0
+
+    at : (s : ℕ) → Contains numbers s → IsPlace (λ place. s == place) places (place s)
+    at s h =
+        let kept = filter-cases (λ s. list_any (λ place. s == place) places) (range_with_len 0 count) s h in
+        let found = any-finds (λ place. s == place) places kept.passes in
+        first-found (λ place. s == place) places found.item found.among found.passes
+
+    read : (s : ℕ) → Contains numbers s → s ≡ value_at places (place s)
+    read s h = eqb-true s (value_at places (place s)) ((at s h).passes 0)
+
+    once : AllPairs (λ a b. a ≢ b) (map place numbers)
+    once = AllPairs-map (λ a b. a ≢ b) place numbers pairs
+      where
+        pairs : AllPairs (λ a b. place a ≢ place b) numbers
+        pairs i j d less lt same =
+            let up = numbers-up (λ s. list_any (λ place. s == place) places) count i j d less lt in
+            let first = read (get_or numbers i d) (Contains-get_or numbers i d (omega (arith, less, lt))) in
+            let second = read (get_or numbers j d) (Contains-get_or numbers j d lt) in
+            let equal = first ∙ ap (value_at places) same ∙ sym second in
+            absurd (omega (arith, up, equal))
+
+pub tables-made : (one : FlatCircuit) (channels : List Channel) (signals : List ℕ) (owned : Owned) (count : ℕ) (places takers numbers taker_table number_table makers makers_now holders : List ℕ) (tables : Tables) → count ≡ length one.signals → places ≡ piped_places channels → takers ≡ piped_takers channels → numbers ≡ range_with_len count (length signals) → IsFilled places takers (length places) (replicate count 0) taker_table → IsFilled signals numbers (length signals) (replicate count 0) number_table → IsFilled (map (λ (w : Wire). w.signal) owned.wires) (map (λ (w : Wire). w.producer) owned.wires) (length owned.wires) owned.signals makers → makers_now ≡ makers → AreHolding one makers_now (length one.signals) (replicate (length one.registers) (value_at makers_now 0)) holders → tables.makers ≡ makers → tables.holders ≡ holders → tables.keepers ≡ owned.memories → tables.takers ≡ taker_table → tables.pipes ≡ number_table → AreTables one channels signals owned tables
+tables-made one channels signals owned count places takers numbers taker_table number_table makers makers_now holders tables many are_places are_takers are_numbers by_taker by_number by_maker now by_holder m h k t p =
     record {
       pipes =
           subst (IsFilled signals (range_with_len (length one.signals) (length signals)) (length signals) (replicate (length one.signals) 0)) (sym p)
           (subst (λ n. IsFilled signals (range_with_len n (length signals)) (length signals) (replicate n 0) number_table) many
           (subst (λ (l : List ℕ). IsFilled signals l (length signals) (replicate count 0) number_table) are_numbers by_number));
       takers =
-          subst (IsFilled signals (piped_takers channels) (length signals) (replicate (length one.signals) 0)) (sym t)
-          (subst (λ n. IsFilled signals (piped_takers channels) (length signals) (replicate n 0) taker_table) many
-          (subst (λ (l : List ℕ). IsFilled signals l (length signals) (replicate count 0) taker_table) are_takers by_taker));
+          subst (IsFilled (piped_places channels) (piped_takers channels) (length (piped_places channels)) (replicate (length one.signals) 0)) (sym t)
+          (subst (λ n. IsFilled (piped_places channels) (piped_takers channels) (length (piped_places channels)) (replicate n 0) taker_table) many
+          (subst (λ (l : List ℕ). IsFilled l (piped_takers channels) (length l) (replicate count 0) taker_table) are_places
+          (subst (λ (l : List ℕ). IsFilled places l (length places) (replicate count 0) taker_table) are_takers by_taker)));
       makers = subst (IsFilled (map (λ (w : Wire). w.signal) owned.wires) (map (λ (w : Wire). w.producer) owned.wires) (length owned.wires) owned.signals) (sym m) by_maker;
       holders =
           subst (λ (l : List ℕ). AreHolding one l (length one.signals) (replicate (length one.registers) (value_at l 0)) tables.holders) (now ∙ sym m)

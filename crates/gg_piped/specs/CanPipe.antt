@@ -7,7 +7,8 @@ use Rattle.gg_partfile.specs.declared.request.Request.{Request}
 use Rattle.gg_cut.specs.declared.plan.Plan.{Plan}
 use Rattle.gg_cut.specs.Fault.{first_fault}
 use Rattle.gg_cut.specs.Plan.{IsPlan}
-use Rattle.gg_pipe.specs.Made.{IsFresh, AreHeldOnce}
+use Rattle.gg_cut.specs.Held.{AreHeldOnce}
+use Rattle.gg_pipe.specs.Made.{IsFresh}
 
 -- The plan is that of a request without a fault. No register of the design is held by two signals, and no path begins with
 -- `pipe:`. The design's signals and the plan's channels are together fewer than 2^32.

@@ -1,7 +1,7 @@
 -- Who names what, by tables.
 -- Source: this program's profile.
 use Rattle.std.specs.Prelude.{◌≡◌, ℕ, ◌<◌, List, ◌==◌, if◌then◌else◌, ◌+◌, ◌^◌, ◌≢◌, length, map, filter, replicate, slice_set, All, AllPairs}
-use Rattle.std.specs.List.{range_with_len}
+use Rattle.std.specs.List.{list_any, range_with_len}
 use Rattle.gg_flat.specs.declared.piece.Driver.{Driver}
 use Rattle.gg_flat.specs.declared.piece.Driver.TheVariants.{Input, Held, MemoryWord, ReadRegister, Computed}
 use Rattle.gg_flat.specs.Circuit.{FlatCircuit, driver_at}
@@ -14,7 +14,7 @@ use Rattle.gg_cut.specs.Channels.{wires_of}
 use Rattle.gg_cut.specs.Plan.{IsInner}
 use Rattle.gg_order.specs.Design.{Ordered}
 use Rattle.gg_split.specs.declared.owned.Owned.{Owned}
-use Rattle.gg_pipe.specs.Made.{AreHeldOnce}
+use Rattle.gg_cut.specs.Held.{AreHeldOnce}
 use Rattle.gg_piped.specs.declared.tables.Tables.{Tables}
 
 -- the number by which the consumer of a signal's channel sees the signal: that of the pipe, or its own. No pipe has the number 0.
@@ -34,13 +34,6 @@ views_by tables =
       seen = seen_in tables;
       kept = kept_in tables;
     }
-
--- The two say the same of the signals, the registers and the memories of a circuit.
-pub record AreSameViews (one : FlatCircuit) (mine views : Views) : Type 0 where
-  pub maker : (s t : ℕ) → s < length one.signals → mine.seen (mine.maker s) t ≡ views.seen (views.maker s) t
-  pub holder : (r t : ℕ) → r < length one.registers → mine.seen (mine.holder r) t ≡ views.seen (views.holder r) t
-  pub keeper : (m t : ℕ) → m < length one.memories → mine.seen (mine.keeper m) t ≡ views.seen (views.keeper m) t
-  pub kept : (t : ℕ) → mine.kept t ≡ views.kept t
 
 -- Each of the first k values is written at its place, and nothing else is changed.
 pub record IsFilled (places values : List ℕ) (k : ℕ) (before after : List ℕ) : Type 0 where
@@ -64,12 +57,16 @@ pub record AreHolding (one : FlatCircuit) (makers : List ℕ) (k : ℕ) (before 
 
 -- ---- the tables of a plan
 
--- the signals of the piped channels, and the machines that take them
-abbrev pub piped_signals : List Channel → List ℕ
-piped_signals channels = map (λ channel. channel.signal) (filter (λ channel. channel.pipe) channels)
+-- the signals of the piped channels, and the machines that take them, in the order of the channels
+abbrev pub piped_places : List Channel → List ℕ
+piped_places channels = map (λ channel. channel.signal) (filter (λ channel. channel.pipe) channels)
 
 abbrev pub piped_takers : List Channel → List ℕ
 piped_takers channels = map (λ channel. channel.consumer) (filter (λ channel. channel.pipe) channels)
+
+-- the signals of the piped channels, by their numbers, in a circuit with `count` signals
+abbrev pub piped_signals : ℕ → List Channel → List ℕ
+piped_signals count channels = filter (λ s. list_any (λ place. s == place) (piped_places channels)) (range_with_len 0 count)
 
 -- what belongs to which machine of a cut
 pub record AreOwned (design : Ordered) (listed : Listed) (owned : Owned) : Type 0 where
@@ -78,9 +75,11 @@ pub record AreOwned (design : Ordered) (listed : Listed) (owned : Owned) : Type 
   pub signals : (s : ℕ) → s < length design.circuit.signals → IsInner owned.wires s → value_at owned.signals s ≡ owner_of design.circuit design.tree listed s
   pub memories : (place : ℕ) → place < length design.tree.memories → value_at owned.memories place ≡ memory_owner design.tree listed place
 
--- The signals of the pipes are signals of the circuit, each once, and so are those of the channels before the routing. Each driver
--- that holds a register holds one of the circuit, and no two the same.
-pub record CanFill (one : FlatCircuit) (pipes : List ℕ) (owned : Owned) : Type 0 where
+-- The signals of the piped channels are signals of the circuit, each once, so are those of the pipes, and so are those of the
+-- channels before the routing. Each driver that holds a register holds one of the circuit, and no two the same.
+pub record CanFill (one : FlatCircuit) (channels : List Channel) (pipes : List ℕ) (owned : Owned) : Type 0 where
+  pub places : All (λ s. s < length one.signals) (piped_places channels)
+  pub places_once : AllPairs (λ a b. a ≢ b) (piped_places channels)
   pub known : All (λ s. s < length one.signals) pipes
   pub once : AllPairs (λ a b. a ≢ b) pipes
   pub few : length one.signals + length pipes < 2 ^ 32
@@ -91,7 +90,7 @@ pub record CanFill (one : FlatCircuit) (pipes : List ℕ) (owned : Owned) : Type
 
 pub record AreTables (one : FlatCircuit) (channels : List Channel) (signals : List ℕ) (owned : Owned) (tables : Tables) : Type 0 where
   pub pipes : IsFilled signals (range_with_len (length one.signals) (length signals)) (length signals) (replicate (length one.signals) 0) tables.pipes
-  pub takers : IsFilled signals (piped_takers channels) (length signals) (replicate (length one.signals) 0) tables.takers
+  pub takers : IsFilled (piped_places channels) (piped_takers channels) (length (piped_places channels)) (replicate (length one.signals) 0) tables.takers
   pub makers : IsFilled (map (λ w. w.signal) owned.wires) (map (λ w. w.producer) owned.wires) (length owned.wires) owned.signals tables.makers
   pub holders : AreHolding one tables.makers (length one.signals) (replicate (length one.registers) (value_at tables.makers 0)) tables.holders
   pub keepers : tables.keepers ≡ owned.memories

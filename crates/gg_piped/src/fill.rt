@@ -1,20 +1,21 @@
 //! The tables of a plan.
-ghost use Rattle.std.specs.Prelude.{◌≡◌, ◌≢◌, ℕ, ◌<◌, ◌≤◌, ◌+◌, ◌^◌, length, map, replicate, IfOk, All, AllPairs};
+ghost use Rattle.std.specs.Prelude.{◌≡◌, ◌≢◌, ℕ, ◌<◌, ◌≤◌, ◌+◌, ◌^◌, [], ◌∷◌, ◌++◌, if◌then◌else◌, length, map, filter, replicate, IfOk, OnOk, All, AllPairs};
 ghost use Rattle.std.specs.List.{range_with_len};
 ghost use Rattle.gg_flat.specs.declared.piece.Driver.TheVariants.{Held};
 ghost use Rattle.gg_flat.specs.Circuit.{driver_at};
 ghost use Rattle.gg_flat.specs.Line.{value_at};
-ghost use Rattle.gg_pipe.specs.Made.{AreHeldOnce};
-ghost use Rattle.gg_piped.specs.Tables.{IsFilled, AreHolding, held_by, piped_signals, piped_takers, CanFill, AreTables};
+ghost use Rattle.gg_order.specs.Marks.{is_marked};
+ghost use Rattle.gg_cut.specs.Held.{AreHeldOnce};
+ghost use Rattle.gg_piped.specs.Tables.{IsFilled, AreHolding, held_by, piped_places, piped_signals, piped_takers, CanFill, AreTables};
 
 use crate::tables::{Tables, number_at};
 use gg_bits::Ids;
-use gg_cut::{Channel, Wire};
+use gg_cut::{Channel, Wire, marks_of};
 use gg_flat::{Driver, Piece};
 use gg_split::Owned;
 use std::alloc::{AllocError, Global};
 
-/// The tables of a plan with these channels, of which those with these signals are piped.
+/// The tables of a plan with these channels, and with the pipes of these signals.
 ///
 /// # Errors
 ///
@@ -26,14 +27,14 @@ pub(crate) fn tables_of(
     pipes: &[u32],
     owned: &Owned,
 ) -> Result<Tables, AllocError>
-    requires sound { CanFill one.now pipes.now owned.now }
-    requires pipes { pipes.now ≡ piped_signals channels.now }
+    requires { CanFill one.now channels.now pipes.now owned.now }
     ensures { IfOk result (λ tables. AreTables one.now channels.now pipes.now owned.now tables) }
 {
     let count = one.signals().len();
+    let places = places_in(alloc, channels)?;
     let takers = takers_in(alloc, channels)?;
+    let takers = table_of(alloc, count, &places, &takers)?;
     let numbers = numbers_from(alloc, count, pipes.len())?;
-    let takers = table_of(alloc, count, pipes, &takers)?;
     let numbers = table_of(alloc, count, pipes, &numbers)?;
     let makers = makers_of(alloc, owned)?;
     let holders = holders_of(alloc, one, &makers)?;
@@ -49,24 +50,62 @@ pub(crate) fn tables_of(
 
 // ---- lists
 
-/// The signals of the piped channels, in their order.
+/// The signals of the piped channels, by their numbers. All are below `count`.
 ///
 /// # Errors
 ///
 /// Returns `AllocError` if an allocation fails.
-pub(crate) fn pipes_in(alloc: Global, channels: &[Channel]) -> Result<Vec<u32>, AllocError>
-    ensures { IfOk result (λ pipes. pipes.items ≡ piped_signals channels.now) }
+pub(crate) fn pipes_in(
+    alloc: Global,
+    count: usize,
+    channels: &[Channel],
+) -> Result<Vec<u32>, AllocError>
+    requires known { All (λ s. s < count) (piped_places channels.now) }
+    requires few { count ≤ 2 ^ 32 }
+    ensures { IfOk result (λ pipes. pipes.items ≡ piped_signals count channels.now) }
 {
-    let mut pipes = Vec::new(alloc);
-    for channel in channels {
-        if channel.pipe {
-            pipes.push(channel.signal)?;
-        }
-    }
+    let places = places_in(alloc, channels)?;
+    let marks = marks_of(alloc, count, &places)?;
+    let pipes = marked_in(alloc, &marks)?;
     Ok(pipes)
 }
 
-// The machines that take the piped channels, in their order.
+// The numbers that are marked, ascending.
+fn marked_in(alloc: Global, marks: &[bool]) -> Result<Vec<u32>, AllocError>
+    requires { length marks.now ≤ 2 ^ 32 }
+    ensures { IfOk result (λ numbers. numbers.items ≡ filter (is_marked marks.now) (range_with_len 0 (length marks.now))) }
+{
+    let mut numbers = Vec::new(alloc);
+    for number in 0..marks.len() {
+        push_if(&mut numbers, number as u32, marks[number])?;
+    }
+    Ok(numbers)
+}
+
+// Adds a number at the end, if it is marked.
+fn push_if(numbers: &mut Vec<u32>, number: u32, marked: bool) -> Result<(), AllocError>
+    ensures { OnOk result (numbers.new.items ≡ numbers.old.items ++ (if marked then number ∷ [] else [])) }
+{
+    if marked {
+        numbers.push(number)?;
+    }
+    Ok(())
+}
+
+// The signals of the piped channels, in the order of the channels.
+fn places_in(alloc: Global, channels: &[Channel]) -> Result<Vec<u32>, AllocError>
+    ensures { IfOk result (λ places. places.items ≡ piped_places channels.now) }
+{
+    let mut places = Vec::new(alloc);
+    for channel in channels {
+        if channel.pipe {
+            places.push(channel.signal)?;
+        }
+    }
+    Ok(places)
+}
+
+// The machines that take the piped channels, in the order of the channels.
 fn takers_in(alloc: Global, channels: &[Channel]) -> Result<Vec<u32>, AllocError>
     ensures { IfOk result (λ takers. takers.items ≡ piped_takers channels.now) }
 {

@@ -29,9 +29,9 @@ pub fn pipe(alloc: Global, design: &Design, plan: &Plan) -> Result<Design, Alloc
     ensures order { IfOk result (λ made. (can : CanPipe design.now plan.now) → made.order ≡ range_with_len (length design.now.circuit.signals) (length (pipes_of (plan_hub design.now.circuit design.now.tree can.request))) ++ design.now.order) }
 {
     // their contracts say that the design is one
-    let _ = design.piece();
+    let count = design.piece().signals().len();
     let _ = design.order();
-    let pipes = pipes_in(alloc, plan.channels.as_slice())?;
+    let pipes = pipes_in(alloc, count, plan.channels.as_slice())?;
     let circuit = circuit_of(alloc, design, plan, &pipes)?;
     let tree = design.tree().copy()?;
     let order = order_of(alloc, design, pipes.len())?;
@@ -46,7 +46,7 @@ fn circuit_of(
     pipes: &[u32],
 ) -> Result<Piece, AllocError>
     requires can { CanPipe design.now plan.now }
-    requires pipes { pipes.now ≡ piped_signals plan.now.channels }
+    requires pipes { pipes.now ≡ piped_signals (length design.now.circuit.signals) plan.now.channels }
     ensures { IfOk result (λ circuit. (can : CanPipe design.now plan.now) → circuit ≡ plan_reference design.now can.request) }
 {
     // their contracts say that the design is one, and that there are few enough memories

@@ -12,8 +12,8 @@ use Rattle.gg_piped.proofs.piping.circuit_of.Goals as goal
 pub owned_of-requires-clause-apart : goal.owned_of-requires-clause-apart
 owned_of-requires-clause-apart c = plan-apart c.args.design.now c.args.plan.now (record { formed = c.piece-piece.ensures.formed; ordered = c.order.ensures.ordered }) c.requires.can
 
-pub tables_of-requires-clause-sound : goal.tables_of-requires-clause-sound
-tables_of-requires-clause-sound c =
+pub tables_of-requires : goal.tables_of-requires
+tables_of-requires c =
     let design = c.args.design.now in
     let plan = c.args.plan.now in
     let pipes = c.args.pipes.now in
@@ -21,7 +21,8 @@ tables_of-requires-clause-sound c =
     let ready : IsDesign design = record { formed = c.piece-piece.ensures.formed; ordered = c.order.ensures.ordered } in
     let owned = c.in_ok-owned.owned in
     let owns : AreOwned design plan.listed owned = record { wires = c.in_ok-owned.ensures.wires; count = c.in_ok-owned.ensures.count; signals = c.in_ok-owned.ensures.signals; memories = c.in_ok-owned.ensures.memories } in
-    subst (λ (one : FlatCircuit). CanFill one pipes owned) (sym same) (subst (λ (l : List ℕ). CanFill design.circuit l owned) (sym c.requires.pipes) (can-fill design plan ready c.requires.can owned owns))
+    subst (λ (one : FlatCircuit). CanFill one c.as_slice.result.now pipes owned) (sym same)
+    (subst (λ (l : List Channel). CanFill design.circuit l pipes owned) (sym c.as_slice.ensures) (subst (λ (l : List ℕ). CanFill design.circuit plan.channels l owned) (sym c.requires.pipes) (can-fill design plan ready c.requires.can owned owns)))
 
 pub made-requires-clause-known : goal.made-requires-clause-known
 made-requires-clause-known c =
@@ -60,7 +61,7 @@ returns c = λ can.
     let owned = c.in_ok-owned.owned in
     let owns : AreOwned design plan.listed owned = record { wires = c.in_ok-owned.ensures.wires; count = c.in_ok-owned.ensures.count; signals = c.in_ok-owned.ensures.signals; memories = c.in_ok-owned.ensures.memories } in
     let tables = c.in_ok-tables.tables in
-    let are : AreTables design.circuit plan.channels (piped_signals plan.channels) owned tables =
+    let are : AreTables design.circuit plan.channels (piped_signals (length design.circuit.signals) plan.channels) owned tables =
     subst (λ (l : List ℕ). AreTables design.circuit plan.channels l owned tables) c.requires.pipes
     (subst (λ (l : List Channel). AreTables design.circuit l pipes owned tables) c.as_slice.ensures
     (subst (λ (one : FlatCircuit). AreTables one c.as_slice.result.now pipes owned tables) same c.in_ok-tables.ensures)) in
