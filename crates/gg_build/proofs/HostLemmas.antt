@@ -5,6 +5,7 @@ use Rattle.std.proofs.lemmas.Bool.{cases_eq}
 use Rattle.std.proofs.lemmas.List.{get_or-map, get_or_push, get_or_append_left, length-append, length-map}
 use Rattle.gg_flat.specs.Circuit.{FlatCircuit}
 use Rattle.gg_flat.specs.Line.{value_at}
+use Rattle.gg_flat.specs.Run.{Start}
 use Rattle.gg_flat.specs.WellFormed.{IsWellFormed}
 use Rattle.gg_cut.specs.Alike.{AreAlike, IsAlike, IsLike}
 use Rattle.gg_cut.specs.declared.plan.Body.{Body}
@@ -14,29 +15,29 @@ use Rattle.gg_part.specs.declared.part.Part.{Part}
 use Rattle.gg_needs.specs.Needs.{AreNeedsOfOuts}
 use Rattle.gg_program.specs.Programmed.{Programmed}
 use Rattle.gg_node.specs.Machine.{Machine, first_kept, machine_at, no_machine, IsTray, kept_value}
-use Rattle.gg_fame5.specs.Machine.{opening_unit}
+use Rattle.gg_fame5.specs.Machine.{started_unit}
 use Rattle.gg_fame5.specs.Lane.{Laned, lane_machine}
 use Rattle.gg_fame5.specs.Shared.{Sharing}
 use Rattle.gg_fame5.specs.Shared as shared
 use Rattle.gg_net.specs.Net.{entry_of}
 use Rattle.gg_net.specs.declared.shape.ServedPort.{ServedPort}
-use Rattle.gg_sound.specs.Built.{IsBuilt, IsUnitOf}
+use Rattle.gg_sound.specs.Built.{IsUnitOf}
 use Rattle.gg_build.specs.declared.node.Node.{Node}
 use Rattle.gg_build.specs.Groups.{group_at}
-use Rattle.gg_build.specs.Hosts.{IsUnitPart, IsGroup, IsAlone, IsHost, IsHostOf, AreHosts, AreUnits, body_at, outs_at}
+use Rattle.gg_build.specs.Hosts.{IsUnitPart, IsGroup, IsAlone, IsBuiltWith, IsHost, IsHostOf, AreHosts, AreUnits, body_at, outs_at}
 use Rattle.gg_build.specs.Node.{machines_of}
 
 -- ---- units
 
 -- a piece is like itself
 alike-itself : (piece : FlatCircuit) → IsAlike piece piece
-alike-itself piece = record { signals = refl; registers = refl; memories = refl; ins = refl; outs = λ s. (λ has. has, λ has. has) }
+alike-itself piece = record { signals = refl; clocks = refl; registers = refl; memories = refl; ins = refl; outs = λ s. (λ has. has, λ has. has) }
 
 -- the unit of a program is alone on its host
-pub alone-unit : (part : Part) (program : Programmed) (unit : Sharing) → IsUnitPart part → program.circuit ≡ part.piece → AreNeedsOfOuts program.circuit program.needs → shared.machines_of unit ≡ opening_unit program [] ∷ [] → IsAlone (IsUnitOf part) (shared.machines_of unit)
-alone-unit part program unit can circuit needs are =
+pub alone-unit : (own : Start) (part : Part) (program : Programmed) (unit : Sharing) → IsUnitPart part → program.circuit ≡ part.piece → AreNeedsOfOuts program.circuit program.needs → shared.machines_of unit ≡ started_unit program own.ratios own.state own.cycle ∷ [] → IsAlone (IsUnitOf own part) (shared.machines_of unit)
+alone-unit own part program unit can circuit needs are =
     record {
-      alone = are ∙ ap (λ (m : Machine). m ∷ []) (sym at);
+      alone = are ∙ ap (λ (m : Machine). m ∷ []) (sym first);
       is = record {
         circuit = program.circuit;
         needs = program.needs;
@@ -44,12 +45,12 @@ alone-unit part program unit can circuit needs are =
         alike = subst (λ (c : FlatCircuit). IsAlike c part.piece) (sym circuit) (alike-itself part.piece);
         outs = ap (λ (c : FlatCircuit). c.outs) circuit;
         exact = subst (λ (c : FlatCircuit). AreNeedsOfOuts c program.needs) circuit needs;
-        is = at;
+        is = first;
       };
     }
   where
-    at : machine_at (shared.machines_of unit) 0 ≡ opening_unit program []
-    at = ap (λ (l : List Machine). machine_at l 0) are
+    first : machine_at (shared.machines_of unit) 0 ≡ started_unit program own.ratios own.state own.cycle
+    first = ap (λ (l : List Machine). machine_at l 0) are
 
 -- ---- trays
 
@@ -80,40 +81,40 @@ unit-ports unit ports none = λ i d lt.
 -- ---- the host of a group
 
 -- the first machine of a group is like the others, so it is alone if it is no unit
-one-alone : (columns : List (List ℕ)) (machines : List planned.Machine) (group : List ℕ) → IsGroup columns machines group → ((other : Body) → ¬ AreAlike (body_at machines (value_at group 0)) other) → length group ≡ 1
-one-alone columns machines group is none = by (cases_eq (length group) 1)
+one-alone : (starts : Body → Start) (columns : List (List ℕ)) (machines : List planned.Machine) (group : List ℕ) → IsGroup starts columns machines group → ((other : Body) → ¬ AreAlike (body_at machines (value_at group 0)) other) → length group ≡ 1
+one-alone starts columns machines group is none = by (cases_eq (length group) 1)
   where
     by : (length group ≡ 1) ⊎ (length group ≡ 1 → ⊥) → length group ≡ 1
     by (inl one) = one
     by (inr more) = absurd (none (body_at machines (value_at group 1)) (is.alike 0 1 is.some (omega (arith, is.some, more)) (λ same. absurd (omega (arith, same)))))
 
-module _ (columns : List (List ℕ)) (machines : List planned.Machine) (group : List ℕ) (node : Node) where
+module _ (starts : Body → Start) (columns : List (List ℕ)) (machines : List planned.Machine) (group : List ℕ) (node : Node) where
   abbrev outs : ℕ
   outs = outs_at machines (value_at group 0)
 
-  alone-host : (body : Body) → length group ≡ 1 → body_at machines (value_at group 0) ≡ body → IsHost (IsBuilt columns outs body) node → IsHostOf columns machines group node
+  alone-host : (body : Body) → length group ≡ 1 → body_at machines (value_at group 0) ≡ body → IsHost (IsBuiltWith starts columns outs body) node → IsHostOf starts columns machines group node
   alone-host body one is host =
       record {
         count = ap length host.own.alone ∙ sym one;
         each = λ t lt.
             let first : 0 ≡ t = omega (arith, lt, one) in
-            subst (λ k. IsBuilt columns (outs_at machines (value_at group k)) (body_at machines (value_at group k)) (machine_at (machines_of node) k)) first
-            (subst (λ (b : Body). IsBuilt columns outs b (machine_at (machines_of node) 0)) (sym is) host.own.is);
+            subst (λ k. IsBuiltWith starts columns (outs_at machines (value_at group k)) (body_at machines (value_at group k)) (machine_at (machines_of node) k)) first
+            (subst (λ (b : Body). IsBuiltWith starts columns outs b (machine_at (machines_of node) 0)) (sym is) host.own.is);
         ports = host.ports;
       }
 
-  pub memory-hosts : (part : Part) → IsGroup columns machines group → body_at machines (value_at group 0) ≡ Memory part → IsHost (IsBuilt columns outs (Memory part)) node → IsHostOf columns machines group node
-  memory-hosts part can is host = alone-host (Memory part) (one-alone columns machines group can (λ other alike. subst (λ (b : Body). AreAlike b other) is alike)) is host
+  pub memory-hosts : (part : Part) → IsGroup starts columns machines group → body_at machines (value_at group 0) ≡ Memory part → IsHost (IsBuiltWith starts columns outs (Memory part)) node → IsHostOf starts columns machines group node
+  memory-hosts part can is host = alone-host (Memory part) (one-alone starts columns machines group can (λ other alike. subst (λ (b : Body). AreAlike b other) is alike)) is host
 
-  pub source-hosts : (place : ℕ) → IsGroup columns machines group → body_at machines (value_at group 0) ≡ Source place → IsHost (IsBuilt columns outs (Source place)) node → IsHostOf columns machines group node
-  source-hosts place can is host = alone-host (Source place) (one-alone columns machines group can (λ other alike. subst (λ (b : Body). AreAlike b other) is alike)) is host
+  pub source-hosts : (place : ℕ) → IsGroup starts columns machines group → body_at machines (value_at group 0) ≡ Source place → IsHost (IsBuiltWith starts columns outs (Source place)) node → IsHostOf starts columns machines group node
+  source-hosts place can is host = alone-host (Source place) (one-alone starts columns machines group can (λ other alike. subst (λ (b : Body). AreAlike b other) is alike)) is host
 
-  pub tray-hosts : IsGroup columns machines group → body_at machines (value_at group 0) ≡ Tray → IsHost (IsBuilt columns outs Tray) node → IsHostOf columns machines group node
-  tray-hosts can is host = alone-host Tray (one-alone columns machines group can (λ other alike. subst (λ (b : Body). AreAlike b other) is alike)) is host
+  pub tray-hosts : IsGroup starts columns machines group → body_at machines (value_at group 0) ≡ Tray → IsHost (IsBuiltWith starts columns outs Tray) node → IsHostOf starts columns machines group node
+  tray-hosts can is host = alone-host Tray (one-alone starts columns machines group can (λ other alike. subst (λ (b : Body). AreAlike b other) is alike)) is host
 
 -- the units of a group are like the first
-pub group-units : (columns : List (List ℕ)) (machines : List planned.Machine) (group : List ℕ) (part : Part) → IsGroup columns machines group → body_at machines (value_at group 0) ≡ Cut part → AreUnits part.piece machines group
-group-units columns machines group part is first =
+pub group-units : (starts : Body → Start) (columns : List (List ℕ)) (machines : List planned.Machine) (group : List ℕ) (part : Part) → IsGroup starts columns machines group → body_at machines (value_at group 0) ≡ Cut part → AreUnits part.piece machines group
+group-units starts columns machines group part is first =
     record { some = is.some; few = is.few; known = is.known; alike = λ t lt. by t lt (cases_eq 0 t) }
   where
     by : (t : ℕ) → t < length group → (0 ≡ t) ⊎ (0 ≡ t → ⊥) → IsLike part.piece (body_at machines (value_at group t))
@@ -121,12 +122,12 @@ group-units columns machines group part is first =
     by t lt (inr other) = subst (λ (b : Body). AreAlike b (body_at machines (value_at group t))) first (is.alike 0 t is.some lt other)
 
 -- one host more
-pub hosts-more : (columns : List (List ℕ)) (machines : List planned.Machine) (members : List (List ℕ)) (count : ℕ) (old new : List Node) (own : Node) → new ≡ old ++ own ∷ [] → AreHosts columns machines members count old → IsHostOf columns machines (group_at members count) own → AreHosts columns machines members (count + 1) new
-hosts-more columns machines members count old new own is was one =
-    subst (AreHosts columns machines members (count + 1)) (sym is)
+pub hosts-more : (starts : Body → Start) (columns : List (List ℕ)) (machines : List planned.Machine) (members : List (List ℕ)) (count : ℕ) (old new : List Node) (own : Node) → new ≡ old ++ own ∷ [] → AreHosts starts columns machines members count old → IsHostOf starts columns machines (group_at members count) own → AreHosts starts columns machines members (count + 1) new
+hosts-more starts columns machines members count old new own is was one =
+    subst (AreHosts starts columns machines members (count + 1)) (sym is)
     (record {
       total = length-append old (own ∷ []) ∙ ap (λ k. k + 1) was.total;
-      each = λ h any. below_more (λ h. IsHostOf columns machines (group_at members h) (get_or (old ++ own ∷ []) h any)) count
-          (λ h lt. subst (IsHostOf columns machines (group_at members h)) (sym (get_or_append_left old (own ∷ []) any h (omega (arith, lt, was.total)))) (was.each h any lt))
-          (subst (IsHostOf columns machines (group_at members count)) (sym (get_or_push old own any count was.total)) one) h;
+      each = λ h any. below_more (λ h. IsHostOf starts columns machines (group_at members h) (get_or (old ++ own ∷ []) h any)) count
+          (λ h lt. subst (IsHostOf starts columns machines (group_at members h)) (sym (get_or_append_left old (own ∷ []) any h (omega (arith, lt, was.total)))) (was.each h any lt))
+          (subst (IsHostOf starts columns machines (group_at members count)) (sym (get_or_push old own any count was.total)) one) h;
     })

@@ -1,3 +1,4 @@
+pub mod BeginLemmas
 pub mod GroupLemmas
 pub mod UnitLemmas
 pub mod HostLemmas

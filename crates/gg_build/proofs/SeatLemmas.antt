@@ -2,17 +2,19 @@
 use Rattle.std.proofs.Common.{◌≡◌, ℕ, ◌+◌, ◌<◌, List, [], ◌∷◌, ◌++◌, length, map, get_or, sym, ap, subst, ◌∙◌, below_more, arith}
 use Rattle.std.proofs.lemmas.List.{get_or-map, get_or_default, get_or_push, get_or_append_left, length-append, length-map}
 use Rattle.gg_flat.specs.Line.{value_at}
+use Rattle.gg_flat.specs.Run.{Start}
+use Rattle.gg_cut.specs.declared.plan.Body.{Body}
 use Rattle.gg_cut.specs.declared.plan.Machine as planned
 use Rattle.gg_cut.specs.declared.plan.Plan.{Plan}
 use Rattle.gg_node.specs.Machine.{Machine, machine_at, no_machine}
 use Rattle.gg_net.specs.declared.shape.Station.{Station}
 use Rattle.gg_net.specs.Net.{entry_of}
 use Rattle.gg_net.specs.Seats.{hosted, seated, IsSeated, HasStation, AreSeated}
-use Rattle.gg_sound.specs.Built.{IsBuilt, machine_in, nameless}
+use Rattle.gg_sound.specs.Built.{machine_in, nameless}
 use Rattle.gg_build.specs.declared.node.Node.{Node}
 use Rattle.gg_build.specs.declared.node.Node.TheVariants as node
 use Rattle.gg_build.specs.Groups.{group_at, IsMember, AreGroups}
-use Rattle.gg_build.specs.Hosts.{CanBuildAll, IsGroup, IsHostOf, AreHosts, IsStation, AreStations, IsSeat, AreSeats, body_at, outs_at}
+use Rattle.gg_build.specs.Hosts.{CanBuildAll, IsBuiltWith, IsGroup, IsHostOf, AreHosts, IsStation, AreStations, IsSeat, AreSeats, body_at, outs_at}
 use Rattle.gg_build.specs.Node.{machines_of}
 
 -- the plan's numbers of the hosts of these machines
@@ -31,13 +33,13 @@ number-count machines = length-map machines (λ (machine : planned.Machine). mac
 number-at : (machines : List planned.Machine) (m : ℕ) → m < length machines → value_at (numbers_of machines) m ≡ (get_or machines m nameless).host
 number-at machines m lt = get_or-map (λ (machine : planned.Machine). machine.host) machines m nameless 0 lt
 
-module _ (columns : List (List ℕ)) (machines : List planned.Machine) (hosts threads : List ℕ) (members : List (List ℕ)) (can : CanBuildAll columns machines) (groups : AreGroups (numbers_of machines) hosts threads members) where
+module _ (starts : Body → Start) (columns : List (List ℕ)) (machines : List planned.Machine) (hosts threads : List ℕ) (members : List (List ℕ)) (can : CanBuildAll starts columns machines) (groups : AreGroups (numbers_of machines) hosts threads members) where
   member-low : (h t : ℕ) → t < length (group_at members h) → value_at (group_at members h) t < length machines
   member-low h t lt = let low = groups.grouped.known h t lt in omega (arith, low, number-count machines)
 
   -- ---- hosts
 
-  pub group-can : (h : ℕ) → h < length members → IsGroup columns machines (group_at members h)
+  pub group-can : (h : ℕ) → h < length members → IsGroup starts columns machines (group_at members h)
   group-can h low =
       let group = group_at members h in
       record {
@@ -45,6 +47,7 @@ module _ (columns : List (List ℕ)) (machines : List planned.Machine) (hosts th
         few = let most = groups.grouped.few h in let few = can.few in omega (arith, most, few, number-count machines);
         known = λ i d lt. subst (λ m. m < length machines) (get_or_default group i 0 d lt) (member-low h i lt);
         ready = λ t lt. can.ready (value_at group t) (member-low h t lt);
+        begin = λ t lt. can.begin (value_at group t) (member-low h t lt);
         alike = λ t u lt less other.
             let m = value_at group t in
             let k = value_at group u in
@@ -60,7 +63,7 @@ module _ (columns : List (List ℕ)) (machines : List planned.Machine) (hosts th
   at : (m : ℕ) → m < length machines → IsMember members (value_at hosts m) (value_at threads m) m
   at m lt = groups.grouped.at m (omega (arith, lt, number-count machines))
 
-  module _ (nodes : List Node) (are : AreHosts columns machines members (length members) nodes) where
+  module _ (nodes : List Node) (are : AreHosts starts columns machines members (length members) nodes) where
     pub host-known : (m : ℕ) → m < length machines → value_at hosts m < length nodes
     host-known m lt = let low = (at m lt).host in omega (arith, low, are.total)
 
@@ -75,7 +78,7 @@ module _ (columns : List (List ℕ)) (machines : List planned.Machine) (hosts th
       abbrev lists : List (List Machine)
       lists = map machines_of nodes
 
-      host-of : (m : ℕ) (lt : m < length machines) → IsHostOf columns machines (group_at members (value_at hosts m)) (get_or nodes (value_at hosts m) no_node)
+      host-of : (m : ℕ) (lt : m < length machines) → IsHostOf starts columns machines (group_at members (value_at hosts m)) (get_or nodes (value_at hosts m) no_node)
       host-of m lt = are.each (value_at hosts m) no_node (at m lt).host
 
       station-at : (m : ℕ) (s : Station) → m < length machines → IsStation (get_or machines m nameless) (value_at hosts m) (value_at threads m) (machine_at (machines_of (get_or nodes (value_at hosts m) no_node)) (value_at threads m)) (get_or stations m s)
@@ -89,13 +92,13 @@ module _ (columns : List (List ℕ)) (machines : List planned.Machine) (hosts th
           ap (λ (l : List Machine). machine_at l (get_or stations m s).thread) (hosted-is m s lt)
           ∙ ap (machine_at (machines_of (get_or nodes (value_at hosts m) no_node))) (station-at m s lt).thread_is
 
-      seat : (m : ℕ) (s : Station) → m < length machines → IsSeat columns (get_or machines m nameless) lists (get_or stations m s)
+      seat : (m : ℕ) (s : Station) → m < length machines → IsSeat starts columns (get_or machines m nameless) lists (get_or stations m s)
       seat m s lt =
           let is = at m lt in
           let station = station-at m s lt in
           record {
-            built = subst (IsBuilt columns (outs_at machines m) (body_at machines m)) (sym (seated-is m s lt))
-                (subst (λ k. IsBuilt columns (outs_at machines k) (body_at machines k) (machine_at (machines_of (get_or nodes (value_at hosts m) no_node)) (value_at threads m))) is.is ((host-of m lt).each (value_at threads m) is.thread));
+            built = subst (IsBuiltWith starts columns (outs_at machines m) (body_at machines m)) (sym (seated-is m s lt))
+                (subst (λ k. IsBuiltWith starts columns (outs_at machines k) (body_at machines k) (machine_at (machines_of (get_or nodes (value_at hosts m) no_node)) (value_at threads m))) is.is ((host-of m lt).each (value_at threads m) is.thread));
             ins = station.ins;
             outs = station.outs;
             ports = station.ports ∙ ap (λ (t : Machine). map entry_of t.ports) (sym (seated-is m s lt));
@@ -138,13 +141,13 @@ module _ (columns : List (List ℕ)) (machines : List planned.Machine) (hosts th
             whole = has-station;
           }
 
-      pub seats-are : (plan : Plan) → machines ≡ plan.machines → AreSeats plan columns nodes stations
+      pub seats-are : (plan : Plan) → machines ≡ plan.machines → AreSeats plan starts columns nodes stations
       seats-are plan same =
           let count : length machines ≡ length plan.machines = ap length same in
           let own : (m : ℕ) → get_or machines m nameless ≡ machine_in plan m = λ m. ap (λ (l : List planned.Machine). get_or l m nameless) same in
           record {
             total = stand.total ∙ count;
-            each = λ m s lt. subst (λ (o : planned.Machine). IsSeat columns o lists (get_or stations m s)) (own m) (seat m s (omega (arith, lt, count)));
+            each = λ m s lt. subst (λ (o : planned.Machine). IsSeat starts columns o lists (get_or stations m s)) (own m) (seat m s (omega (arith, lt, count)));
             threads = are-seated;
             together = λ m k s t lt less.
                 let low : m < length machines = omega (arith, lt, count) in

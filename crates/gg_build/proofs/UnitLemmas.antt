@@ -1,15 +1,20 @@
 -- Units with one piece as threads of one host.
-use Rattle.std.proofs.Common.{◌≡◌, ℕ, ◌+◌, ◌<◌, List, [], ◌∷◌, ◌++◌, Some, length, map, get_or, refl, sym, ap, subst, ◌∙◌, below_more, arith}
+use Rattle.std.proofs.Common.{◌≡◌, ℕ, ◌+◌, ◌<◌, List, [], ◌∷◌, ◌++◌, Some, length, map, take, get_or, refl, sym, ap, ap₂, subst, ◌∙◌, below_more, arith}
 use Rattle.std.specs.Prelude.{All, Contains, replicate}
 use Rattle.std.proofs.lemmas.Grind.{same_number_lists}
-use Rattle.std.proofs.lemmas.List.{get_or-map, get_or_default, get_or_push, get_or_append_left, get_or-replicate, length-append, length-map, length-replicate}
+use Rattle.std.proofs.lemmas.List.{get_or-map, get_or_default, get_or_push, get_or_append_left, length-append, length-map, length-replicate, map_more}
 use Rattle.std.proofs.lemmas.List.FromFn.{get_or-map-range_with_len, length-map-range_with_len}
+use Rattle.gg_bits.specs.Shape.{shape}
 use Rattle.gg_flat.specs.declared.piece.Driver.{Driver}
 use Rattle.gg_flat.specs.declared.piece.Driver.TheVariants.{Input, Held, MemoryWord, ReadRegister, Computed}
+use Rattle.gg_flat.specs.declared.memory.Memory as memories
+use Rattle.gg_flat.specs.declared.piece.Register.{Register}
 use Rattle.gg_flat.specs.Circuit.{FlatCircuit, driver_at}
 use Rattle.gg_flat.specs.Clock.{Ratio}
-use Rattle.gg_flat.specs.Line.{value_at}
-use Rattle.gg_flat.specs.State.{State, opening}
+use Rattle.gg_flat.specs.Line.{AreTyped, value_at}
+use Rattle.gg_flat.specs.Memory.{AreBanks}
+use Rattle.gg_flat.specs.Run.{Start}
+use Rattle.gg_flat.specs.State.{IsState, State}
 use Rattle.gg_flat.specs.Streams.{state_in}
 use Rattle.gg_flat.specs.WellFormed.{IsWellFormed, MayDrive}
 use Rattle.gg_cut.specs.Alike.{IsAlike, IsLike}
@@ -21,11 +26,13 @@ use Rattle.gg_part.specs.declared.part.Part.{Part}
 use Rattle.gg_program.specs.Programmed.{Programmed}
 use Rattle.gg_node.specs.Machine.{Machine, needs_at, no_machine}
 use Rattle.gg_fame5.specs.Fork.{forked, chosen_outs, chosen_needs}
-use Rattle.gg_fame5.specs.Machine.{opening_unit, started_unit}
-use Rattle.gg_fame5.specs.Shared.{opening_machines}
+use Rattle.gg_fame5.specs.Machine.{started_unit}
+use Rattle.gg_fame5.specs.Shared.{started_machines}
 use Rattle.gg_sound.specs.Built.{IsUnitOf, nameless}
 use Rattle.gg_sound.proofs.AlikeLemmas.{needs-alike}
-use Rattle.gg_build.specs.Hosts.{ArePicked, ArePickedFor, ArePlaced, AreUnits, IsUnitBody, RunUnits, body_at, outs_at}
+use Rattle.gg_build.specs.declared.begin.Begin.{Begin}
+use Rattle.gg_build.specs.Begin.{starts_of}
+use Rattle.gg_build.specs.Hosts.{ArePicked, ArePickedFor, ArePlaced, AreUnits, IsUnitBody, RunUnits, CanAllBegin, CanBegin, body_at, outs_at, ratios_for, states_for}
 use Rattle.gg_build.specs.Wires.{IsNoted}
 
 -- ---- the places of out-signals
@@ -135,6 +142,7 @@ module _ (program : Programmed) (part : Part) (outs : List ℕ) (formed : IsWell
   own-alike =
       record {
         signals = alike.signals;
+        clocks = alike.clocks;
         registers = alike.registers;
         memories = alike.memories;
         ins = alike.ins;
@@ -152,8 +160,8 @@ module _ (program : Programmed) (part : Part) (outs : List ℕ) (formed : IsWell
             (needs-alike program.circuit part.piece alike (value_at program.circuit.outs (value_at outs o)) (needs_at program.needs (value_at outs o)) (needed.each (value_at outs o) (out-low o low))));
       }
 
-  pub forked-unit : IsUnitOf part (opening_unit (forked program (Some outs)) [])
-  forked-unit =
+  pub forked-unit : (own : Start) → IsUnitOf own part (started_unit (forked program (Some outs)) own.ratios own.state own.cycle)
+  forked-unit start =
       record {
         circuit = own;
         needs = chosen_needs program.needs (Some outs);
@@ -164,33 +172,78 @@ module _ (program : Programmed) (part : Part) (outs : List ℕ) (formed : IsWell
         is = refl;
       }
 
-forked-body : (program : Programmed) (body : Body) (outs : List ℕ) → IsWellFormed program.circuit → AreNeedsOfOuts program.circuit program.needs → IsLike program.circuit body → ArePickedFor program.circuit.outs body outs → IsUnitBody body (opening_unit (forked program (Some outs)) [])
-forked-body program (Cut part) outs formed needed like picked = forked-unit program part outs formed needed like picked
-forked-body program (Memory part) outs formed needed like picked = absurd like
-forked-body program (Source place) outs formed needed like picked = absurd like
-forked-body program Tray outs formed needed like picked = absurd like
+forked-body : (starts : Body → Start) (program : Programmed) (body : Body) (outs : List ℕ) → IsWellFormed program.circuit → AreNeedsOfOuts program.circuit program.needs → IsLike program.circuit body → ArePickedFor program.circuit.outs body outs
+    → IsUnitBody starts body (started_unit (forked program (Some outs)) (starts body).ratios (starts body).state (starts body).cycle)
+forked-body starts program (Cut part) outs formed needed like picked = forked-unit program part outs formed needed like picked (starts (Cut part))
+forked-body starts program (Memory part) outs formed needed like picked = absurd like
+forked-body starts program (Source place) outs formed needed like picked = absurd like
+forked-body starts program Tray outs formed needed like picked = absurd like
+
+-- ---- where all begin
+
+-- each machine begins with the cycle
+pub at-cycle : (ratios : List Ratio) (begin : Begin) (body : Body) → begin.cycle ≡ (starts_of ratios begin body).cycle
+at-cycle ratios begin (Cut part) = refl
+at-cycle ratios begin (Memory part) = refl
+at-cycle ratios begin (Source place) = refl
+at-cycle ratios begin Tray = refl
+
+-- one machine more
+pub grown-by : {A : Type 0} (f : ℕ → A) (group : List ℕ) (k : ℕ) (old new : List A) (next : A) → k < length group → new ≡ old ++ next ∷ [] → next ≡ f (value_at group k) → old ≡ map f (take k group) → new ≡ map f (take (k + 1) group)
+grown-by {A} f group k old new next lt grows is was = grows ∙ ap₂ (λ (l : List A) (a : A). l ++ a ∷ []) was is ∙ sym (map_more f group k 0 lt)
+
+-- a state of a piece is one of a piece like it
+state-like : (starts : Body → Start) (circuit : FlatCircuit) (body : Body) → IsLike circuit body → CanBegin starts body → IsState circuit (starts body).state
+state-like starts circuit (Cut part) like can =
+    let own = (starts (Cut part)).state in
+    record {
+      typed = subst (λ (l : List Register). AreTyped (map (λ (r : Register). shape r.ty) l) own.registers) (sym like.registers) can.typed;
+      held = subst (λ (l : List memories.Memory). AreBanks l own.banks) (sym like.memories) can.held;
+    }
+state-like starts circuit (Memory part) like can = absurd like
+state-like starts circuit (Source place) like can = absurd like
+state-like starts circuit Tray like can = absurd like
+
+-- so the states of like units are states of their program's piece
+pub states-like : (starts : Body → Start) (piece : FlatCircuit) (machines : List planned.Machine) (group : List ℕ) (states : List State) → AreUnits piece machines group → CanAllBegin starts machines group → states ≡ states_for starts machines group → All (IsState piece) states
+states-like starts piece machines group states are can is =
+    subst (All (IsState piece)) (sym is)
+    (λ t any lt.
+    let low : t < length group = omega (arith, lt, length-map group (λ m. (starts (body_at machines m)).state)) in
+    subst (IsState piece) (sym (get_or-map (λ m. (starts (body_at machines m)).state) group t 0 any low)) (state-like starts piece (body_at machines (value_at group t)) (are.alike t low) (can t low)))
 
 -- ---- all threads
 
-pub run-units : (piece : FlatCircuit) (program : Programmed) (machines : List planned.Machine) (group : List ℕ) (outs : List (List ℕ)) (ratios : List (List Ratio)) (units : List Machine) → IsWellFormed piece → program.circuit ≡ piece → AreNeedsOfOuts program.circuit program.needs → AreUnits piece machines group → ArePlaced piece.outs machines group (length group) outs → ratios ≡ replicate (length group) []
-    → units ≡ opening_machines program outs ratios → RunUnits machines group units
-run-units piece program machines group outs ratios units formed circuit needed are placed none is =
-    subst (RunUnits machines group) (sym is)
-    (record {
-      count = length-map-range_with_len start 0 (length outs) ∙ placed.total;
-      each = λ t lt.
-          let low : t < length outs = omega (arith, lt, placed.total) in
-          subst (IsUnitBody (body_at machines (value_at group t))) (sym (get_or-map-range_with_len start 0 (length outs) t t no_machine low (omega arith) ∙ begins t lt low))
-          (forked-body program (body_at machines (value_at group t)) (get_or outs t [])
-          (subst IsWellFormed (sym circuit) formed) needed
-          (subst (λ (c : FlatCircuit). IsLike c (body_at machines (value_at group t))) (sym circuit) (are.alike t lt))
-          (subst (λ (c : FlatCircuit). ArePickedFor c.outs (body_at machines (value_at group t)) (get_or outs t [])) (sym circuit) (placed.each t lt)));
-    })
-  where
-    start : ℕ → Machine
-    start t = started_unit (forked program (Some (get_or outs t []))) (get_or ratios t []) (state_in (replicate (length outs) (opening program.circuit)) t) 0
+module _ (starts : Body → Start) (cycle : ℕ) (piece : FlatCircuit) (program : Programmed) (machines : List planned.Machine) (group : List ℕ) (outs : List (List ℕ)) (lists : List (List Ratio)) (states : List State) (placed : ArePlaced piece.outs machines group (length group) outs) (timed : lists ≡ ratios_for starts machines group) (begun : states ≡ states_for starts machines group)
+    (at_cycle : (t : ℕ) → t < length group → cycle ≡ (starts (body_at machines (value_at group t))).cycle) where
+  abbrev start : ℕ → Machine
+  start t = started_unit (forked program (Some (get_or outs t []))) (get_or lists t []) (state_in states t) cycle
 
-    begins : (t : ℕ) → t < length group → t < length outs → start t ≡ opening_unit (forked program (Some (get_or outs t []))) []
-    begins t lt low =
-        ap (λ (r : List Ratio). started_unit (forked program (Some (get_or outs t []))) r (state_in (replicate (length outs) (opening program.circuit)) t) 0) (ap (λ (l : List (List Ratio)). get_or l t []) none ∙ get_or-replicate (length group) t [] [] lt)
-        ∙ ap (λ (s : State). started_unit (forked program (Some (get_or outs t []))) [] s 0) (get_or-replicate (length outs) t (opening program.circuit) (record { registers = []; banks = [] }) low)
+  abbrev own_start : ℕ → Start
+  own_start t = starts (body_at machines (value_at group t))
+
+  lists-at : (t : ℕ) → t < length group → get_or lists t [] ≡ (own_start t).ratios
+  lists-at t lt = ap (λ (l : List (List Ratio)). get_or l t []) timed ∙ get_or-map (λ m. (starts (body_at machines m)).ratios) group t 0 [] lt
+
+  states-at : (t : ℕ) → t < length group → state_in states t ≡ (own_start t).state
+  states-at t lt = ap (λ (l : List State). state_in l t) begun ∙ get_or-map (λ m. (starts (body_at machines m)).state) group t 0 (record { registers = []; banks = [] }) lt
+
+  begins : (t : ℕ) → t < length group → start t ≡ started_unit (forked program (Some (get_or outs t []))) (own_start t).ratios (own_start t).state (own_start t).cycle
+  begins t lt =
+      ap (λ (r : List Ratio). started_unit (forked program (Some (get_or outs t []))) r (state_in states t) cycle) (lists-at t lt)
+      ∙ ap (λ (s : State). started_unit (forked program (Some (get_or outs t []))) (own_start t).ratios s cycle) (states-at t lt)
+      ∙ ap (started_unit (forked program (Some (get_or outs t []))) (own_start t).ratios (own_start t).state) (at_cycle t lt)
+
+  pub run-units : (units : List Machine) → IsWellFormed piece → program.circuit ≡ piece → AreNeedsOfOuts program.circuit program.needs → AreUnits piece machines group → units ≡ started_machines program outs lists states cycle → RunUnits starts machines group units
+  run-units units formed circuit needed are is =
+      subst (RunUnits starts machines group) (sym is)
+      (record {
+        count = length-map-range_with_len start 0 (length outs) ∙ placed.total;
+        each = λ t lt.
+            let low : t < length outs = omega (arith, lt, placed.total) in
+            subst (IsUnitBody starts (body_at machines (value_at group t))) (sym (get_or-map-range_with_len start 0 (length outs) t t no_machine low (omega arith) ∙ begins t lt))
+            (forked-body starts program (body_at machines (value_at group t)) (get_or outs t [])
+            (subst IsWellFormed (sym circuit) formed) needed
+            (subst (λ (c : FlatCircuit). IsLike c (body_at machines (value_at group t))) (sym circuit) (are.alike t lt))
+            (subst (λ (c : FlatCircuit). ArePickedFor c.outs (body_at machines (value_at group t)) (get_or outs t [])) (sym circuit) (placed.each t lt)));
+      })

@@ -1,6 +1,6 @@
 -- The channels of the network of a plan.
-use Rattle.std.proofs.Common.{◌≡◌, ℕ, ◌+◌, ◌^◌, ◌<◌, ◌≤◌, List, [], None, length, map, get_or, refl, sym, ap, subst, ◌∙◌, arith}
-use Rattle.std.specs.Prelude.{All, Contains, ◌==◌}
+use Rattle.std.proofs.Common.{◌≡◌, ℕ, ◌+◌, ◌^◌, ◌<◌, ◌≤◌, List, [], Bool, true, false, None, Some, length, map, get_or, refl, sym, ap, subst, ◌∙◌, arith}
+use Rattle.std.specs.Prelude.{All, Contains, Option, ◌==◌}
 use Rattle.std.proofs.lemmas.List.{get_or-map, length-map, get_or_default, ext_get_or}
 use Rattle.gg_flat.specs.Line.{value_at}
 use Rattle.gg_flat.proofs.ListLemmas.{some-item}
@@ -18,6 +18,7 @@ use Rattle.gg_sound.specs.Built.{nameless, first_token, wire_of, wires_of_plan}
 use Rattle.gg_sound.proofs.LinkLemmas.{AreLinks, length-from, wire-from}
 use Rattle.gg_sound.proofs.ListedLemmas.{given-at, given-in, taken-at, taken-in, at-in, at-out}
 use Rattle.gg_sound.proofs.GivenLemmas.{links-of}
+use Rattle.gg_build.specs.Begin.{AreTokens}
 use Rattle.gg_build.specs.Build.{IsFaultless}
 use Rattle.gg_build.specs.Wires.{channels_at, IsPlace, AreListed, ArePlaces, AreWires}
 
@@ -78,43 +79,50 @@ module _ (plan : Plan) (links : List Link) (are : AreLinks plan links) where
 
   -- ---- places
 
-  out-is : (c p : ℕ) → IsPlace (outs_of plan.machines) c p → (wire_at (wires_of_plan plan) c).out ≡ p
-  out-is c p at =
-      let m = at.at_machine in
-      let same = outs-at m (outs-few m at.there) in
-      let here : value_at (channels_from links m) p ≡ c = ap (λ l. value_at l p) (sym same) ∙ at.place.is in
-      let known : p < length (channels_from links m) = omega (arith, at.place.known, ap length same) in
-      subst (λ d. (wire_at (wires_of_plan plan) d).out ≡ p) here (at-out plan links are m p known).out
+  module _ (token : ℕ → ℕ) where
+    out-is : (c p : ℕ) → IsPlace (outs_of plan.machines) c p → (wire_at (wires_of_plan token plan) c).out ≡ p
+    out-is c p at =
+        let m = at.at_machine in
+        let same = outs-at m (outs-few m at.there) in
+        let here : value_at (channels_from links m) p ≡ c = ap (λ l. value_at l p) (sym same) ∙ at.place.is in
+        let known : p < length (channels_from links m) = omega (arith, at.place.known, ap length same) in
+        subst (λ d. (wire_at (wires_of_plan token plan) d).out ≡ p) here (at-out token plan links are m p known).out
 
-  place-is : (c p : ℕ) → IsPlace (ins_of plan.machines) c p → (wire_at (wires_of_plan plan) c).place ≡ p
-  place-is c p at =
-      let m = at.at_machine in
-      let same = ins-at m (ins-few m at.there) in
-      let here : value_at (channels_to links m) p ≡ c = ap (λ l. value_at l p) (sym same) ∙ at.place.is in
-      let known : p < length (channels_to links m) = omega (arith, at.place.known, ap length same) in
-      subst (λ d. (wire_at (wires_of_plan plan) d).place ≡ p) here (at-in plan links are m p known).place
+    place-is : (c p : ℕ) → IsPlace (ins_of plan.machines) c p → (wire_at (wires_of_plan token plan) c).place ≡ p
+    place-is c p at =
+        let m = at.at_machine in
+        let same = ins-at m (ins-few m at.there) in
+        let here : value_at (channels_to links m) p ≡ c = ap (λ l. value_at l p) (sym same) ∙ at.place.is in
+        let known : p < length (channels_to links m) = omega (arith, at.place.known, ap length same) in
+        subst (λ d. (wire_at (wires_of_plan token plan) d).place ≡ p) here (at-in token plan links are m p known).place
 
-  -- ---- the network's channels
+    -- ---- the network's channels
 
-  abbrev at_places : Channel → ℕ → ℕ → Wire
-  at_places channel o i = record { producer = channel.producer; out = o; consumer = channel.consumer; place = i; capacity = channel.capacity; first = first_token channel.pipe }
+    abbrev at_places : Channel → ℕ → ℕ → Option ℕ → Wire
+    at_places channel o i first = record { producer = channel.producer; out = o; consumer = channel.consumer; place = i; capacity = channel.capacity; first = first }
 
-  wire-is : (outs ins : List ℕ) (wires : List Wire) → ArePlaces (outs_of plan.machines) (length plan.channels) outs → ArePlaces (ins_of plan.machines) (length plan.channels) ins → AreWires plan.channels outs ins (length plan.channels) wires → (c : ℕ) → c < length plan.channels → wire_at wires c ≡ wire_at (wires_of_plan plan) c
-  wire-is outs ins wires placed_outs placed_ins at c lt =
-      let any = some-item plan.channels c lt in
-      let channel = get_or plan.channels c any in
-      let is : wire_at (wires_of_plan plan) c ≡ wire_of plan c channel = wire-from plan 0 plan.channels c any lt ∙ ap (λ k. wire_of plan k channel) (let same : 0 + c ≡ c = omega arith in same) in
-      let out : value_at outs c ≡ (wire_of plan c channel).out = sym (out-is c (value_at outs c) (placed_outs.each c lt)) ∙ ap (λ (w : Wire). w.out) is in
-      let place : value_at ins c ≡ (wire_of plan c channel).place = sym (place-is c (value_at ins c) (placed_ins.each c lt)) ∙ ap (λ (w : Wire). w.place) is in
-      at.each c any lt
-      ∙ ap (λ o. at_places channel o (value_at ins c)) out
-      ∙ ap (λ i. at_places channel (wire_of plan c channel).out i) place
-      ∙ sym is
+    module _ (outs ins tokens : List ℕ) (wires : List Wire) (placed_outs : ArePlaces (outs_of plan.machines) (length plan.channels) outs) (placed_ins : ArePlaces (ins_of plan.machines) (length plan.channels) ins) (at : AreWires plan.channels outs ins tokens (length plan.channels) wires) (have : AreTokens plan.channels token tokens) where
+      wire-is : (c : ℕ) → c < length plan.channels → wire_at wires c ≡ wire_at (wires_of_plan token plan) c
+      wire-is c lt =
+          let any = some-item plan.channels c lt in
+          let channel = get_or plan.channels c any in
+          let is : wire_at (wires_of_plan token plan) c ≡ wire_of token plan c channel = wire-from token plan 0 plan.channels c any lt ∙ ap (λ k. wire_of token plan k channel) (let same : 0 + c ≡ c = omega arith in same) in
+          let out : value_at outs c ≡ (wire_of token plan c channel).out = sym (out-is c (value_at outs c) (placed_outs.each c lt)) ∙ ap (λ (w : Wire). w.out) is in
+          let place : value_at ins c ≡ (wire_of token plan c channel).place = sym (place-is c (value_at ins c) (placed_ins.each c lt)) ∙ ap (λ (w : Wire). w.place) is in
+          at.each c any lt
+          ∙ ap (λ o. at_places channel o (value_at ins c) (first_token channel.pipe (value_at tokens c))) out
+          ∙ ap (λ i. at_places channel (wire_of token plan c channel).out i (first_token channel.pipe (value_at tokens c))) place
+          ∙ ap (at_places channel (wire_of token plan c channel).out (wire_of token plan c channel).place) (first-is channel.pipe (have c any lt))
+          ∙ sym is
+        where
+          first-is : {x y : ℕ} (pipe : Bool) → (pipe ≡ true → x ≡ y) → first_token pipe x ≡ first_token pipe y
+          first-is true same = ap (λ (t : ℕ). Some t) (same refl)
+          first-is false same = refl
 
-  pub wires-are : (outs ins : List ℕ) (wires : List Wire) → ArePlaces (outs_of plan.machines) (length plan.channels) outs → ArePlaces (ins_of plan.machines) (length plan.channels) ins → AreWires plan.channels outs ins (length plan.channels) wires → wires ≡ wires_of_plan plan
-  wires-are outs ins wires placed_outs placed_ins at =
-      ext_get_or (record { producer = 0; out = 0; consumer = 0; place = 0; capacity = 0; first = None }) wires (wires_of_plan plan) (at.total ∙ sym (length-from plan 0 plan.channels))
-      (λ c lt. wire-is outs ins wires placed_outs placed_ins at c (omega (arith, lt, at.total)))
+      pub wires-are : wires ≡ wires_of_plan token plan
+      wires-are =
+          ext_get_or (record { producer = 0; out = 0; consumer = 0; place = 0; capacity = 0; first = None }) wires (wires_of_plan token plan) (at.total ∙ sym (length-from token plan 0 plan.channels))
+          (λ c lt. wire-is c (omega (arith, lt, at.total)))
 
 -- ---- the links of a request without a fault
 

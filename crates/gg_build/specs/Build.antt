@@ -1,10 +1,11 @@
 -- The network of a plan before its first cycle.
 -- Source: MEMOCODE 2009 (a synchronous circuit as a network of its parts, whose streams are the circuit's own); ICCAD
 -- 2019 (units and memories of a target as models of their own).
-use Rattle.std.specs.Prelude.{◌≡◌, ℕ, ◌<◌, ◌≤◌, List, None, ◌++◌, length}
+use Rattle.std.specs.Prelude.{◌≡◌, ℕ, ◌<◌, ◌≤◌, List, None, Some, ◌++◌, length}
 use Rattle.std.specs.List.{range_with_len}
 use Rattle.gg_limits.specs.Limits.{capacity_limit}
-use Rattle.gg_flat.specs.Along.{rows_along}
+use Rattle.gg_flat.specs.Along.{rows_from}
+use Rattle.gg_flat.specs.Run.{Start}
 use Rattle.gg_flat.specs.Streams.{Flow}
 use Rattle.gg_moved.specs.KeepsToTree.{KeepsToTree}
 use Rattle.gg_order.specs.Design.{Ordered, IsDesign}
@@ -13,12 +14,15 @@ use Rattle.gg_cut.specs.declared.plan.Plan.{Plan}
 use Rattle.gg_cut.specs.Direct.{plan_hub}
 use Rattle.gg_cut.specs.Fault.{first_fault}
 use Rattle.gg_cut.specs.Plan.{IsPlan}
+use Rattle.gg_pipe.specs.Follows.{plan_start, plan_token}
 use Rattle.gg_pipe.specs.Links.{pipes_of}
 use Rattle.gg_pipe.specs.Made.{plan_reference}
 use Rattle.gg_node.specs.Machine.{Machine}
 use Rattle.gg_net.specs.Network.{Network}
 use Rattle.gg_net.specs.Net.{opening_net}
-use Rattle.gg_sound.specs.Built.{AreBuilt, IsGiven, flow_of, wires_of_plan}
+use Rattle.gg_sound.specs.Built.{AreBuilt, IsGiven, body_start, flow_of, machine_in, no_token, opening_of, wires_of_plan}
+use Rattle.gg_build.specs.declared.begin.Begin.{Begin}
+use Rattle.gg_build.specs.Begin.{AreTokens, starts_of}
 
 -- The plan is that of a design whose circuit keeps to its tree, and of a request without a fault for it. Its channels may hold at
 -- least one token each.
@@ -40,9 +44,9 @@ pub record IsToRun (plan : Plan) (columns : List (List ℕ)) (n : ℕ) (flow : F
   pub request : Request
   pub default : ℕ
   pub rows : List (List ℕ)
-  pub given : IsGiven design request default plan columns n rows
+  pub given : IsGiven design request default plan columns n (plan_start design request) rows
   pub room : default ≤ capacity_limit
-  pub flow_is : flow ≡ flow_of design request plan rows
+  pub flow_is : flow ≡ flow_of design request plan (plan_start design request) rows
 
 -- an order of the reference circuit: its pipes, and behind them the design's order
 abbrev pub reference_order : Ordered → Request → List ℕ
@@ -50,15 +54,64 @@ reference_order design request = range_with_len (length design.circuit.signals) 
 
 -- the rows of the reference circuit's run on these columns, computed along its order
 abbrev pub reference_rows : Ordered → Request → List (List ℕ) → ℕ → List (List ℕ)
-reference_rows design request columns n = rows_along (plan_reference design request) (reference_order design request) columns n
+reference_rows design request columns n = rows_from (plan_reference design request) (reference_order design request) (plan_start design request) columns n
 
 -- What the plan's network computes in the reference circuit's run on these columns.
 abbrev pub flow_along : Ordered → Request → Plan → List (List ℕ) → ℕ → Flow
-flow_along design request plan columns n = flow_of design request plan (reference_rows design request columns n)
+flow_along design request plan columns n = flow_of design request plan (plan_start design request) (reference_rows design request columns n)
 
 -- A network is that of the plan before its first cycle. It has the plan's machines, the plan's channels, each with the token that it
 -- opens with, and n cycles to do.
 pub record IsOpeningOf (plan : Plan) (columns : List (List ℕ)) (n : ℕ) (net : Network) : Type 0 where
   pub machines : List Machine
-  pub built : AreBuilt plan columns machines
-  pub is : net ≡ opening_net machines (wires_of_plan plan) n
+  pub built : AreBuilt plan (opening_of plan.ratios) columns machines
+  pub is : net ≡ opening_net machines (wires_of_plan no_token plan) n
+
+-- ---- from any start
+
+-- `begin` tells this start: its cycle, its state of the reference circuit, and the token of each channel that has a pipe. The start's
+-- ratios are the plan's.
+pub record Begins (design : Ordered) (request : Request) (plan : Plan) (start : Start) (begin : Begin) : Type 0 where
+  pub cycle : begin.cycle ≡ start.cycle
+  pub state : begin.state ≡ Some start.state
+  pub tokens : AreTokens plan.channels (plan_token design request start.state) begin.tokens.items
+  pub ratios : plan.ratios ≡ start.ratios
+
+-- The network of a plan can be built from a start for its sources' columns, as in `IsToRun`: the flow is what the plan's network computes
+-- from there in the reference circuit's run.
+pub record IsToBegin (plan : Plan) (begin : Begin) (columns : List (List ℕ)) (n : ℕ) (flow : Flow) : Type 0 where
+  pub design : Ordered
+  pub request : Request
+  pub default : ℕ
+  pub start : Start
+  pub rows : List (List ℕ)
+  pub given : IsGiven design request default plan columns n start rows
+  pub room : default ≤ capacity_limit
+  pub begins : Begins design request plan start begin
+  pub flow_is : flow ≡ flow_of design request plan start rows
+
+-- A network is that of the plan before its first step from this start, with these tokens in its pipes.
+pub record IsOpeningFrom (plan : Plan) (start : Start) (token : ℕ → ℕ) (columns : List (List ℕ)) (n : ℕ) (net : Network) : Type 0 where
+  pub machines : List Machine
+  pub built : AreBuilt plan (body_start start) columns machines
+  pub is : net ≡ opening_net machines (wires_of_plan token plan) n
+
+-- What both ways to begin have in common: each machine begins with its part of a start, and each pipe with its token.
+pub record IsToStart (plan : Plan) (begin : Begin) (columns : List (List ℕ)) (n : ℕ) (flow : Flow) : Type 0 where
+  pub design : Ordered
+  pub request : Request
+  pub default : ℕ
+  pub start : Start
+  pub rows : List (List ℕ)
+  pub given : IsGiven design request default plan columns n start rows
+  pub room : default ≤ capacity_limit
+  pub flow_is : flow ≡ flow_of design request plan start rows
+  pub cycle : begin.cycle ≡ start.cycle
+  pub starts : (m : ℕ) → m < length plan.machines → starts_of plan.ratios begin (machine_in plan m).body ≡ body_start start (machine_in plan m).body
+  pub tokens : AreTokens plan.channels (plan_token design request start.state) begin.tokens.items
+
+-- a network whose machines begin there, with the tokens that any of these lists tell
+pub record IsStarted (plan : Plan) (begin : Begin) (columns : List (List ℕ)) (n : ℕ) (net : Network) : Type 0 where
+  pub machines : List Machine
+  pub built : AreBuilt plan (starts_of plan.ratios begin) columns machines
+  pub is : (token : ℕ → ℕ) → AreTokens plan.channels token begin.tokens.items → net ≡ opening_net machines (wires_of_plan token plan) n

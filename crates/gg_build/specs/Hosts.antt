@@ -3,7 +3,10 @@
 -- memories that are served port by port).
 use Rattle.std.specs.Prelude.{◌≡◌, ◌≢◌, ◌↔◌, ℕ, ◌^◌, ◌<◌, ◌≤◌, List, [], ◌∷◌, ◌++◌, All, length, map, slice_index_or, ⊤}
 use Rattle.gg_flat.specs.Circuit.{FlatCircuit}
+use Rattle.gg_flat.specs.Clock.{Ratio}
 use Rattle.gg_flat.specs.Line.{value_at}
+use Rattle.gg_flat.specs.Run.{Start}
+use Rattle.gg_flat.specs.State.{IsState, State}
 use Rattle.gg_flat.specs.WellFormed.{IsWellFormed}
 use Rattle.gg_part.specs.Choice.{IsChoice}
 use Rattle.gg_part.specs.InOrder.{IsInOrder}
@@ -13,7 +16,7 @@ use Rattle.gg_cut.specs.declared.plan.Body.{Body}
 use Rattle.gg_cut.specs.declared.plan.Body.TheVariants.{Cut, Memory, Source, Tray}
 use Rattle.gg_cut.specs.declared.plan.Machine as planned
 use Rattle.gg_cut.specs.declared.plan.Plan.{Plan}
-use Rattle.gg_memunit.specs.MemoryUnit.{IsMemoryPiece, opening_unit}
+use Rattle.gg_memunit.specs.MemoryUnit.{IsMemoryPiece, started_unit}
 use Rattle.gg_node.specs.Machine.{Machine, machine_at}
 use Rattle.gg_net.specs.declared.shape.Station.{Station}
 use Rattle.gg_net.specs.Net.{entry_of}
@@ -52,6 +55,13 @@ CanBuild columns outs (Memory part) = IsMemoryPart part
 CanBuild columns outs (Source place) = IsSourceAt columns outs place
 CanBuild columns outs Tray = ⊤
 
+-- A unit or a listed memory begins in a state of its piece.
+abbrev pub CanBegin : (Body → Start) → Body → Type 0
+CanBegin starts (Cut part) = IsState part.piece (starts (Cut part)).state
+CanBegin starts (Memory part) = IsState part.piece (starts (Memory part)).state
+CanBegin starts (Source place) = ⊤
+CanBegin starts Tray = ⊤
+
 -- what machine m of these is
 abbrev pub body_at : List planned.Machine → ℕ → Body
 body_at machines m = (slice_index_or machines m nameless).body
@@ -61,21 +71,31 @@ abbrev pub outs_at : List planned.Machine → ℕ → ℕ
 outs_at machines m = length (slice_index_or machines m nameless).outs
 
 -- Each of these machines of a plan can be built, and its host has a number. Two that have one host are units with one piece.
-pub record CanBuildAll (columns : List (List ℕ)) (machines : List planned.Machine) : Type 0 where
+pub record CanBuildAll (starts : Body → Start) (columns : List (List ℕ)) (machines : List planned.Machine) : Type 0 where
   pub few : length machines < 2 ^ 32
   pub known : All (λ machine. machine.host < length machines) machines
   pub ready : (m : ℕ) → m < length machines → CanBuild columns (outs_at machines m) (body_at machines m)
+  pub begin : (m : ℕ) → m < length machines → CanBegin starts (body_at machines m)
   pub alike : (m k : ℕ) → m < length machines → k < length machines → m ≢ k → (slice_index_or machines m nameless).host ≡ (slice_index_or machines k nameless).host → AreAlike (body_at machines m) (body_at machines k)
 
+-- each of these machines begins in a state of its piece
+abbrev pub CanAllBegin : (Body → Start) → List planned.Machine → List ℕ → Type 0
+CanAllBegin starts machines group = (t : ℕ) → t < length group → CanBegin starts (body_at machines (value_at group t))
+
 -- Machines of a plan that can be built as one host.
-pub record IsGroup (columns : List (List ℕ)) (machines : List planned.Machine) (group : List ℕ) : Type 0 where
+pub record IsGroup (starts : Body → Start) (columns : List (List ℕ)) (machines : List planned.Machine) (group : List ℕ) : Type 0 where
   pub some : 0 < length group
   pub few : length group < 2 ^ 32
   pub known : All (λ m. m < length machines) group
   pub ready : (t : ℕ) → t < length group → CanBuild columns (outs_at machines (value_at group t)) (body_at machines (value_at group t))
+  pub begin : CanAllBegin starts machines group
   pub alike : (t u : ℕ) → t < length group → u < length group → t ≢ u → AreAlike (body_at machines (value_at group t)) (body_at machines (value_at group u))
 
 -- ---- hosts
+
+-- The machine for a machine of the plan that gives this many channels. `starts` tells where a machine begins.
+abbrev pub IsBuiltWith : (Body → Start) → List (List ℕ) → ℕ → Body → Machine → Type 0
+IsBuiltWith starts columns outs body machine = IsBuilt columns outs (starts body) body machine
 
 -- These machines are a single one, which has the property `Is`.
 pub record IsAlone (Is : Machine → Type 0) (machines : List Machine) : Type 0 where
@@ -85,8 +105,9 @@ pub record IsAlone (Is : Machine → Type 0) (machines : List Machine) : Type 0 
 -- A machine is the unit of a memory's piece.
 pub record IsServed (machine : Machine) : Type 0 where
   pub piece : FlatCircuit
+  pub own : Start
   pub is_memory : IsMemoryPiece piece
-  pub is : machine ≡ opening_unit piece []
+  pub is : machine ≡ started_unit piece own.ratios own.state own.cycle
 
 -- A host serves the ports of a memory, or none.
 abbrev pub HasPorts : Node → Type 0
@@ -102,15 +123,15 @@ pub record IsHost (Is : Machine → Type 0) (node : Node) : Type 0 where
   pub ports : HasPorts node
 
 -- A node has these machines of a plan, a thread each.
-pub record IsHostOf (columns : List (List ℕ)) (machines : List planned.Machine) (group : List ℕ) (node : Node) : Type 0 where
+pub record IsHostOf (starts : Body → Start) (columns : List (List ℕ)) (machines : List planned.Machine) (group : List ℕ) (node : Node) : Type 0 where
   pub count : length (machines_of node) ≡ length group
-  pub each : (t : ℕ) → t < length group → IsBuilt columns (outs_at machines (value_at group t)) (body_at machines (value_at group t)) (machine_at (machines_of node) t)
+  pub each : (t : ℕ) → t < length group → IsBuiltWith starts columns (outs_at machines (value_at group t)) (body_at machines (value_at group t)) (machine_at (machines_of node) t)
   pub ports : HasPorts node
 
 -- the hosts of these groups of machines
-pub record AreHosts (columns : List (List ℕ)) (machines : List planned.Machine) (members : List (List ℕ)) (count : ℕ) (nodes : List Node) : Type 0 where
+pub record AreHosts (starts : Body → Start) (columns : List (List ℕ)) (machines : List planned.Machine) (members : List (List ℕ)) (count : ℕ) (nodes : List Node) : Type 0 where
   pub total : length nodes ≡ count
-  pub each : (h : ℕ) (any : Node) → h < count → IsHostOf columns machines (group_at members h) (slice_index_or nodes h any)
+  pub each : (h : ℕ) (any : Node) → h < count → IsHostOf starts columns machines (group_at members h) (slice_index_or nodes h any)
 
 -- ---- units that share a host
 
@@ -126,12 +147,20 @@ ArePickedFor all (Memory part) places = ⊥
 ArePickedFor all (Source place) places = ⊥
 ArePickedFor all Tray places = ⊥
 
--- this machine is a unit that runs the part
-abbrev pub IsUnitBody : Body → Machine → Type 0
-IsUnitBody (Cut part) machine = IsUnitOf part machine
-IsUnitBody (Memory part) machine = ⊥
-IsUnitBody (Source place) machine = ⊥
-IsUnitBody Tray machine = ⊥
+-- this machine is a unit that runs the part, from where it begins
+abbrev pub IsUnitBody : (Body → Start) → Body → Machine → Type 0
+IsUnitBody starts (Cut part) machine = IsUnitOf (starts (Cut part)) part machine
+IsUnitBody starts (Memory part) machine = ⊥
+IsUnitBody starts (Source place) machine = ⊥
+IsUnitBody starts Tray machine = ⊥
+
+-- for each of these machines the ratios of its own clocks
+abbrev pub ratios_for : (Body → Start) → List planned.Machine → List ℕ → List (List Ratio)
+ratios_for starts machines group = map (λ m. (starts (body_at machines m)).ratios) group
+
+-- for each of these machines the state in which it begins
+abbrev pub states_for : (Body → Start) → List planned.Machine → List ℕ → List State
+states_for starts machines group = map (λ m. (starts (body_at machines m)).state) group
 
 -- Units of a plan with pieces like this one.
 pub record AreUnits (piece : FlatCircuit) (machines : List planned.Machine) (group : List ℕ) : Type 0 where
@@ -145,10 +174,10 @@ pub record ArePlaced (all : List ℕ) (machines : List planned.Machine) (group :
   pub total : length outs ≡ count
   pub each : (t : ℕ) → t < count → ArePickedFor all (body_at machines (value_at group t)) (slice_index_or outs t [])
 
--- These machines are units that run these machines of a plan.
-pub record RunUnits (machines : List planned.Machine) (group : List ℕ) (units : List Machine) : Type 0 where
+-- These machines are units that run these machines of a plan, each from where it begins.
+pub record RunUnits (starts : Body → Start) (machines : List planned.Machine) (group : List ℕ) (units : List Machine) : Type 0 where
   pub count : length units ≡ length group
-  pub each : (t : ℕ) → t < length group → IsUnitBody (body_at machines (value_at group t)) (machine_at units t)
+  pub each : (t : ℕ) → t < length group → IsUnitBody starts (body_at machines (value_at group t)) (machine_at units t)
 
 -- ---- stations
 
@@ -167,15 +196,15 @@ pub record AreStations (machines : List planned.Machine) (hosts threads : List �
       → IsStation (slice_index_or machines m nameless) (value_at hosts m) (value_at threads m) (machine_at (machines_of (slice_index_or nodes (value_at hosts m) any)) (value_at threads m)) (slice_index_or stations m other)
 
 -- The station of a machine of a plan. The machine that is seated there is built from it.
-pub record IsSeat (columns : List (List ℕ)) (own : planned.Machine) (lists : List (List Machine)) (station : Station) : Type 0 where
-  pub built : IsBuilt columns (length own.outs) own.body (seated lists station)
+pub record IsSeat (starts : Body → Start) (columns : List (List ℕ)) (own : planned.Machine) (lists : List (List Machine)) (station : Station) : Type 0 where
+  pub built : IsBuiltWith starts columns (length own.outs) own.body (seated lists station)
   pub ins : station.ins ≡ own.ins
   pub outs : station.outs ≡ own.outs
   pub ports : station.ports ≡ map entry_of (seated lists station).ports
 
 -- The hosts and the stations of a plan's machines. Two machines have one host exactly if they have one in the plan.
-pub record AreSeats (plan : Plan) (columns : List (List ℕ)) (nodes : List Node) (stations : List Station) : Type 0 where
+pub record AreSeats (plan : Plan) (starts : Body → Start) (columns : List (List ℕ)) (nodes : List Node) (stations : List Station) : Type 0 where
   pub total : length stations ≡ length plan.machines
-  pub each : (m : ℕ) (any : Station) → m < length plan.machines → IsSeat columns (machine_in plan m) (map machines_of nodes) (slice_index_or stations m any)
+  pub each : (m : ℕ) (any : Station) → m < length plan.machines → IsSeat starts columns (machine_in plan m) (map machines_of nodes) (slice_index_or stations m any)
   pub threads : AreSeated (map machines_of nodes) stations
   pub together : (m k : ℕ) (any other : Station) → m < length plan.machines → k < length plan.machines → ((machine_in plan m).host ≡ (machine_in plan k).host) ↔ ((slice_index_or stations m any).host ≡ (slice_index_or stations k other).host)

@@ -41,8 +41,8 @@ pub record ArePlaces (lists : List (List ℕ)) (count : ℕ) (places : List ℕ)
   pub total : length places ≡ count
   pub each : (c : ℕ) → c < count → IsPlace lists c (value_at places c)
 
--- The network's channels for the first `count` channels of the plan, at these places. A piped channel opens with the token 0, any other
+-- The network's channels for the first `count` channels of the plan, at these places. A piped channel opens with its token, any other
 -- without one.
-pub record AreWires (channels : List Channel) (outs ins : List ℕ) (count : ℕ) (wires : List Wire) : Type 0 where
+pub record AreWires (channels : List Channel) (outs ins tokens : List ℕ) (count : ℕ) (wires : List Wire) : Type 0 where
   pub total : length wires ≡ count
-  pub each : (c : ℕ) (any : Channel) → c < count → wire_at wires c ≡ record { producer = (slice_index_or channels c any).producer; out = value_at outs c; consumer = (slice_index_or channels c any).consumer; place = value_at ins c; capacity = (slice_index_or channels c any).capacity; first = first_token (slice_index_or channels c any).pipe }
+  pub each : (c : ℕ) (any : Channel) → c < count → wire_at wires c ≡ record { producer = (slice_index_or channels c any).producer; out = value_at outs c; consumer = (slice_index_or channels c any).consumer; place = value_at ins c; capacity = (slice_index_or channels c any).capacity; first = first_token (slice_index_or channels c any).pipe (value_at tokens c) }

@@ -1,19 +1,24 @@
 //! The hosts of a plan's machines.
-ghost use Rattle.std.specs.Prelude.{◌≡◌, ℕ, ◌<◌, [], None, false, IfOk, length, replicate, slice_index_or, map};
+ghost use Rattle.std.specs.Prelude.{◌≡◌, ℕ, ◌<◌, ◌≤◌, [], None, false, IfOk, length, replicate, slice_index_or, map};
 ghost use Rattle.gg_limits.specs.Limits.{cycle_limit};
 ghost use Rattle.gg_flat.specs.Line.{value_at};
-ghost use Rattle.gg_cut.specs.declared.plan.Body.TheVariants.{Cut};
+ghost use Rattle.gg_cut.specs.declared.plan.Body.TheVariants.{Cut, Memory};
 ghost use Rattle.gg_node.specs.Machine.{source_machine, tray_machine};
 ghost use Rattle.gg_fame5.specs.Shared as units;
 ghost use Rattle.gg_sound.specs.Alone.{IsCutAgain};
 ghost use Rattle.gg_sound.specs.Built.{IsUnitOf, IsMemoryOf, tray_rows};
+ghost use Rattle.gg_build.specs.Begin.{starts_of};
 ghost use Rattle.gg_build.specs.Groups.{group_at};
-ghost use Rattle.gg_build.specs.Hosts.{IsUnitPart, IsMemoryPart, IsSourceAt, IsGroup, IsAlone, IsHost, IsHostOf, HasPorts, AreHosts, AreUnits, RunUnits, body_at};
+ghost use Rattle.gg_build.specs.Hosts.{CanAllBegin, CanBegin, IsUnitPart, IsMemoryPart, IsSourceAt, IsGroup, IsAlone, IsHost, IsHostOf, HasPorts, AreHosts, AreUnits, RunUnits, body_at};
 ghost use Rattle.gg_build.specs.Node.{machines_of};
 
+use crate::begin::{Begin, own_state, part_of_state};
 use crate::node::Node;
+use crate::starts::own_ratios;
 use crate::units::units_of;
+use gg_clocks::Ratio;
 use gg_cut::{Body, Machine};
+use gg_cut_clocks::{own_clocks, whole_clocking};
 use gg_fame1::{NoMemory, Unit};
 use gg_memunit::MemUnit;
 use gg_node::{Source, Tray};
@@ -25,22 +30,38 @@ use std::alloc::{AllocError, Global};
 /// The greatest number of values that a tray keeps: the last ones.
 pub const TRAY_ROWS: u64 = 1024;
 
-// The unit of a part.
-fn unit_of<'a>(alloc: Global, part: &'a Part) -> Result<Unit<'a>, NoMemory>
-    requires { IsUnitPart part.now }
-    ensures { IfOk result (λ unit. IsAlone (IsUnitOf part.now) (units.machines_of unit)) }
+// The unit of a part, where the circuit's clocks have these ratios.
+fn unit_of<'a>(
+    alloc: Global,
+    part: &'a Part,
+    ratios: &[Ratio],
+    begin: &Begin,
+) -> Result<Unit<'a>, NoMemory>
+    requires part { IsUnitPart part.now }
+    requires begin { CanBegin (starts_of ratios.now begin.now) (Cut part.now) }
+    requires cycle { begin.now.cycle ≤ cycle_limit }
+    ensures { IfOk result (λ unit. IsAlone (IsUnitOf (starts_of ratios.now begin.now (Cut part.now)) part.now) (units.machines_of unit)) }
 {
+    let own = own_ratios(alloc, part, ratios)?;
+    let state = own_state(alloc, part, begin)?;
     let program = Program::of(alloc, &part.piece)?;
-    let unit = Unit::with_clocks(alloc, program, &[])?;
+    let unit = Unit::from_state(alloc, program, own.as_slice(), state, begin.cycle)?;
     Ok(unit)
 }
 
 // The host of the hub, or of a unit that is alone.
-fn unit_host<'a>(alloc: Global, part: &'a Part) -> Result<Node<'a>, AllocError>
-    requires { IsUnitPart part.now }
-    ensures { IfOk result (λ node. IsHost (IsUnitOf part.now) node) }
+fn unit_host<'a>(
+    alloc: Global,
+    part: &'a Part,
+    ratios: &[Ratio],
+    begin: &Begin,
+) -> Result<Node<'a>, AllocError>
+    requires part { IsUnitPart part.now }
+    requires begin { CanBegin (starts_of ratios.now begin.now) (Cut part.now) }
+    requires cycle { begin.now.cycle ≤ cycle_limit }
+    ensures { IfOk result (λ node. IsHost (IsUnitOf (starts_of ratios.now begin.now (Cut part.now)) part.now) node) }
 {
-    match unit_of(alloc, part) {
+    match unit_of(alloc, part, ratios, begin) {
         Ok(unit) => Ok(Node::Unit(unit)),
         Err(_) => Err(AllocError),
     }
@@ -52,13 +73,17 @@ fn shared_host<'a>(
     part: &'a Part,
     machines: &[Machine],
     group: &[u32],
+    ratios: &[Ratio],
+    begin: &Begin,
 ) -> Result<Node<'a>, AllocError>
     requires part { IsUnitPart part.now }
     requires units { AreUnits part.now.piece machines.now group.now }
-    ensures units { IfOk result (λ node. RunUnits machines.now group.now (machines_of node)) }
+    requires begin { CanAllBegin (starts_of ratios.now begin.now) machines.now group.now }
+    requires cycle { begin.now.cycle ≤ cycle_limit }
+    ensures units { IfOk result (λ node. RunUnits (starts_of ratios.now begin.now) machines.now group.now (machines_of node)) }
     ensures ports { IfOk result HasPorts }
 {
-    match units_of(alloc, part, machines, group) {
+    match units_of(alloc, part, machines, group, ratios, begin) {
         Ok(units) => Ok(Node::Shared(units)),
         Err(_) => Err(AllocError),
     }
@@ -70,18 +95,22 @@ fn cut_host<'a>(
     part: &'a Part,
     machines: &[Machine],
     group: &[u32],
+    ratios: &[Ratio],
+    begin: &Begin,
 ) -> Result<Node<'a>, AllocError>
     requires part { IsUnitPart part.now }
     requires first { body_at machines.now (value_at group.now 0) ≡ Cut part.now }
     requires units { AreUnits part.now.piece machines.now group.now }
-    ensures units { IfOk result (λ node. RunUnits machines.now group.now (machines_of node)) }
+    requires begin { CanAllBegin (starts_of ratios.now begin.now) machines.now group.now }
+    requires cycle { begin.now.cycle ≤ cycle_limit }
+    ensures units { IfOk result (λ node. RunUnits (starts_of ratios.now begin.now) machines.now group.now (machines_of node)) }
     ensures ports { IfOk result HasPorts }
 {
     if group.len() == 1 {
-        let node = unit_host(alloc, part)?;
+        let node = unit_host(alloc, part, ratios, begin)?;
         Ok(node)
     } else {
-        let node = shared_host(alloc, part, machines, group)?;
+        let node = shared_host(alloc, part, machines, group, ratios, begin)?;
         Ok(node)
     }
 }
@@ -95,17 +124,44 @@ fn alone_of(alloc: Global, part: &Part) -> Result<Part, AllocError>
     let mut globals = Vec::from_slice(alloc, piece.ins())?;
     globals.extend_from_slice(piece.outs())?;
     let memories = vec![in alloc; 0]?;
-    let alone = part_of(alloc, piece, &globals, piece.ins(), piece.outs(), &memories)?;
+    let clocking = whole_clocking(alloc, piece)?;
+    let clocks = own_clocks(alloc, piece)?;
+    let alone = part_of(
+        alloc,
+        piece,
+        clocks.as_slice(),
+        &clocking,
+        &globals,
+        piece.ins(),
+        piece.outs(),
+        &memories,
+    )?;
     Ok(alone)
 }
 
 // The host of a listed memory.
-fn memory_host<'a>(alloc: Global, part: &Part) -> Result<Node<'a>, AllocError>
-    requires { IsMemoryPart part.now }
-    ensures { IfOk result (λ node. IsHost (IsMemoryOf part.now) node) }
+fn memory_host<'a>(
+    alloc: Global,
+    part: &Part,
+    ratios: &[Ratio],
+    begin: &Begin,
+) -> Result<Node<'a>, AllocError>
+    requires part { IsMemoryPart part.now }
+    requires begin { CanBegin (starts_of ratios.now begin.now) (Memory part.now) }
+    requires cycle { begin.now.cycle ≤ cycle_limit }
+    ensures { IfOk result (λ node. IsHost (IsMemoryOf (starts_of ratios.now begin.now (Memory part.now)) part.now) node) }
 {
+    let own = own_ratios(alloc, part, ratios)?;
+    let whole = own_state(alloc, part, begin)?;
     let alone = alone_of(alloc, part)?;
-    let unit = MemUnit::with_clocks(alloc, alone.into_piece(), &[])?;
+    let state = part_of_state(alloc, &alone, &whole)?;
+    let unit = MemUnit::from_state(
+        alloc,
+        alone.into_piece(),
+        own.as_slice(),
+        state,
+        begin.cycle,
+    )?;
     Ok(Node::Memory(unit))
 }
 
@@ -115,56 +171,66 @@ fn source_host<'a>(
     trace: &Trace,
     place: u32,
     outs: usize,
+    cycle: u64,
 ) -> Result<Node<'a>, AllocError>
     requires { IsSourceAt trace.now.columns outs place }
-    ensures { IfOk result (λ node. IsHost (λ machine. machine ≡ source_machine (slice_index_or trace.now.columns place []) 0 (replicate outs false)) node) }
+    ensures { IfOk result (λ node. IsHost (λ machine. machine ≡ source_machine (slice_index_or trace.now.columns place []) cycle (replicate outs false)) node) }
 {
     let column = trace.column(alloc, place as usize)?;
-    let source = Source::forked(alloc, column, outs as u32)?;
+    let source = Source::from_cycle(alloc, column, outs as u32, cycle)?;
     Ok(Node::Source(source))
 }
 
 // The host of a tray.
-fn tray_host<'a>(alloc: Global) -> Result<Node<'a>, AllocError>
-    ensures { IfOk result (λ node. IsHost (λ machine. machine ≡ tray_machine tray_rows cycle_limit 0 [] None) node) }
+fn tray_host<'a>(alloc: Global, cycle: u64) -> Result<Node<'a>, AllocError>
+    ensures { IfOk result (λ node. IsHost (λ machine. machine ≡ tray_machine tray_rows cycle_limit cycle [] None) node) }
 {
-    let tray = Tray::new(alloc, TRAY_ROWS)?;
+    let tray = Tray::from_cycle(alloc, TRAY_ROWS, cycle)?;
     Ok(Node::Tray(tray))
 }
 
-// The host of these machines of a plan, a thread each.
+// The host of these machines of a plan, a thread each, where the circuit's clocks have these ratios.
 fn host_of<'a>(
     alloc: Global,
     trace: &Trace,
     machines: &'a [Machine],
     group: &[u32],
+    ratios: &[Ratio],
+    begin: &Begin,
 ) -> Result<Node<'a>, AllocError>
-    requires { IsGroup trace.now.columns machines.now group.now }
-    ensures { IfOk result (λ node. IsHostOf trace.now.columns machines.now group.now node) }
+    requires group { IsGroup (starts_of ratios.now begin.now) trace.now.columns machines.now group.now }
+    requires cycle { begin.now.cycle ≤ cycle_limit }
+    ensures { IfOk result (λ node. IsHostOf (starts_of ratios.now begin.now) trace.now.columns machines.now group.now node) }
 {
     let number = group[0] as usize;
     let machine = &machines[number];
     match &machine.body {
         Body::Cut(part) => {
-            let node = cut_host(alloc, part, machines, group)?;
+            let node = cut_host(alloc, part, machines, group, ratios, begin)?;
             Ok(node)
         }
         Body::Memory(part) => {
-            let node = memory_host(alloc, part)?;
+            let node = memory_host(alloc, part, ratios, begin)?;
             Ok(node)
         }
         Body::Source(place) => {
-            let node = source_host(alloc, trace, *place, machine.outs.as_slice().len())?;
+            let node = source_host(
+                alloc,
+                trace,
+                *place,
+                machine.outs.as_slice().len(),
+                begin.cycle,
+            )?;
             Ok(node)
         }
         Body::Tray => {
-            let node = tray_host(alloc)?;
+            let node = tray_host(alloc, begin.cycle)?;
             Ok(node)
         }
     }
 }
 
-/// The hosts of these groups of a plan's machines.
+/// The hosts of these groups of a plan's machines, where the circuit's clocks have these ratios.
 ///
 /// # Errors
 ///
@@ -174,14 +240,17 @@ pub(crate) fn hosts_of<'a>(
     trace: &Trace,
     machines: &'a [Machine],
     members: &[Vec<u32>],
+    ratios: &[Ratio],
+    begin: &Begin,
 ) -> Result<Vec<Node<'a>>, AllocError>
-    requires { (h : ℕ) → h < length members.now → IsGroup trace.now.columns machines.now (group_at (map (λ list. list.items) members.now) h) }
-    ensures { IfOk result (λ nodes. AreHosts trace.now.columns machines.now (map (λ list. list.items) members.now) (length members.now) nodes.items) }
+    requires cycle { begin.now.cycle ≤ cycle_limit }
+    requires groups { (h : ℕ) → h < length members.now → IsGroup (starts_of ratios.now begin.now) trace.now.columns machines.now (group_at (map (λ list. list.items) members.now) h) }
+    ensures { IfOk result (λ nodes. AreHosts (starts_of ratios.now begin.now) trace.now.columns machines.now (map (λ list. list.items) members.now) (length members.now) nodes.items) }
 {
     let mut nodes = Vec::new(alloc);
     for host in 0..members.len() {
         let group = &members[host];
-        let node = host_of(alloc, trace, machines, group)?;
+        let node = host_of(alloc, trace, machines, group, ratios, begin)?;
         nodes.push(node)?;
     }
     Ok(nodes)

@@ -5,27 +5,33 @@
 //!
 //! - [`build`] builds the network of a plan for an input trace (`IsOpeningOf` in `specs/Build`). It has each machine of
 //!   the plan before its first cycle, the plan's channels at the ins and outs where the machines list them, each queue
-//!   empty but for the token 0 of a piped channel, and as many cycles to do as the trace has rows. The hub and the units run their parts of the circuit,
-//!   and need exactly what they depend on. Each listed memory is a machine of its own, and its ports are served one by
-//!   one. A source gives the column of its top input. A tray keeps the last 1,024 values ([`TRAY_ROWS`]). A source or a
-//!   unit has an out for each channel that it gives, also where it gives one signal on several channels.
+//!   empty but for the token 0 of a piped channel, and as many cycles to do as the trace has rows. The hub and the units
+//!   run their parts of the circuit, and need exactly what they depend on. Each listed memory is a machine of its own,
+//!   and its ports are served one by one. Each clock of a unit or of a listed memory has the ratio of the circuit's clock
+//!   that it follows. A source gives the column of its top input. A tray keeps the last 1,024 values ([`TRAY_ROWS`]). A
+//!   source or a unit has an out for each channel that it gives, also where it gives one signal on several channels.
+//! - [`build_from`] builds the network that begins with any cycle, with any state of the reference circuit (`IsOpeningFrom`): each unit
+//!   and each listed memory with its part of the state, and each piped channel with the token that a [`Begin`] tells.
 //! - A [`Node`] is a host of such machines, of any kind. It passes each call on to that host. [`Node::value`] returns
 //!   the value of a cycle that a tray keeps.
 //!
 //! Units that the plan puts onto one host share it: they have one piece, so it has one program, and a thread for each of
-//! them. Each other machine has a host of its own. Except for the programs of units (gg_program), time and memory are
-//! linear in the plan, its pieces and the trace.
+//! them, with the ratios of its own clocks. Each other machine has a host of its own. Except for the programs of units
+//! (gg_program), time and memory are linear in the plan, its pieces and the trace.
 #![tactic(auto)]
 
+mod begin;
 mod groups;
 mod hosts;
 mod node;
 mod opening;
 mod ports;
 mod seats;
+mod starts;
 mod units;
 mod wires;
 
+pub use begin::Begin;
 pub use hosts::TRAY_ROWS;
 pub use node::Node;
-pub use opening::build;
+pub use opening::{build, build_from};

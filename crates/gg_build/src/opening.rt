@@ -1,7 +1,12 @@
-//! `build`: the network of a plan.
-ghost use Rattle.std.specs.Prelude.{IfOk};
-ghost use Rattle.gg_build.specs.Build.{IsToRun, IsOpeningOf};
+//! `build`, `build_from`: the network of a plan.
+ghost use Rattle.std.specs.Prelude.{◌≡◌, IfOk};
+ghost use Rattle.gg_flat.specs.Run.{Start};
+ghost use Rattle.gg_order.specs.Design.{Ordered};
+ghost use Rattle.gg_partfile.specs.declared.request.Request.{Request};
+ghost use Rattle.gg_pipe.specs.Follows.{plan_token};
+ghost use Rattle.gg_build.specs.Build.{Begins, IsOpeningFrom, IsOpeningOf, IsStarted, IsToBegin, IsToRun, IsToStart};
 
+use crate::begin::Begin;
 use crate::node::Node;
 use crate::seats::{Seats, seats_of};
 use crate::wires::wires_of;
@@ -9,6 +14,31 @@ use gg_cut::Plan;
 use gg_net::{Net, Shape, Streams};
 use gg_trace::Trace;
 use std::alloc::{AllocError, Global};
+
+// The network of a plan before its first step, with machines and pipes that begin there.
+fn started<'a, Z: Streams>(
+    alloc: Global,
+    plan: &'a Plan,
+    trace: &Trace,
+    begin: &Begin,
+) -> Result<Net<Node<'a>, Z>, AllocError>
+    requires { IsToStart plan.now begin.now trace.now.columns trace.now.rows Z.flow }
+    ensures { IfOk result (λ net. IsStarted plan.now begin.now trace.now.columns trace.now.rows net) }
+{
+    let Seats { hosts, stations } = seats_of(alloc, plan, trace, begin)?;
+    let wires = wires_of(alloc, plan, &begin.tokens)?;
+    let end = trace.rows();
+    let net = Net::new(
+        alloc,
+        hosts,
+        Shape {
+            stations,
+            wires,
+            end,
+        },
+    )?;
+    Ok(net)
+}
 
 /// The network of a plan before its first cycle. Its sources give the columns of a trace, and it has as many cycles to
 /// do as the trace has rows. Units that the plan puts onto one host share it, a thread each.
@@ -26,17 +56,32 @@ pub fn build<'a, Z: Streams>(
     requires { IsToRun plan.now trace.now.columns trace.now.rows Z.flow }
     ensures { IfOk result (λ net. IsOpeningOf plan.now trace.now.columns trace.now.rows net) }
 {
-    let Seats { hosts, stations } = seats_of(alloc, plan, trace)?;
-    let wires = wires_of(alloc, plan)?;
-    let end = trace.rows();
-    let net = Net::new(
-        alloc,
-        hosts,
-        Shape {
-            stations,
-            wires,
-            end,
-        },
-    )?;
+    let begin = Begin {
+        cycle: 0,
+        state: None,
+        tokens: Vec::new(alloc),
+    };
+    let net = started::<Z>(alloc, plan, trace, &begin)?;
+    Ok(net)
+}
+
+/// The network of a plan before its first step from there. Its sources give the columns of a trace, from the cycle of `begin` on, and it
+/// has to do the cycles from there up to the trace's last row.
+///
+/// Allocates all the memory that the network will use.
+///
+/// # Errors
+///
+/// Returns `AllocError` if an allocation fails.
+pub fn build_from<'a, Z: Streams>(
+    alloc: Global,
+    plan: &'a Plan,
+    trace: &Trace,
+    begin: &Begin,
+) -> Result<Net<Node<'a>, Z>, AllocError>
+    requires { IsToBegin plan.now begin.now trace.now.columns trace.now.rows Z.flow }
+    ensures { IfOk result (λ net. (design : Ordered) (request : Request) (start : Start) → Begins design request plan.now start begin.now → IsOpeningFrom plan.now start (plan_token design request start.state) trace.now.columns trace.now.rows net) }
+{
+    let net = started::<Z>(alloc, plan, trace, begin)?;
     Ok(net)
 }

@@ -1,12 +1,15 @@
 //! The hosts and stations of a plan's machines.
-ghost use Rattle.std.specs.Prelude.{◌≡◌, ◌<◌, ◌∷◌, [], ℕ, length, map, All, IfOk, slice_index_or};
+ghost use Rattle.std.specs.Prelude.{◌≡◌, ◌<◌, ◌≤◌, ◌∷◌, [], ℕ, length, map, All, IfOk, slice_index_or};
+ghost use Rattle.gg_limits.specs.Limits.{cycle_limit};
 ghost use Rattle.gg_flat.specs.Line.{value_at};
 ghost use Rattle.gg_node.specs.Machine.{machine_at};
 ghost use Rattle.gg_net.specs.Net.{entry_of};
 ghost use Rattle.gg_build.specs.declared.node.Node as declared;
+ghost use Rattle.gg_build.specs.Begin.{starts_of};
 ghost use Rattle.gg_build.specs.Hosts.{CanBuildAll, HasPorts, IsStation, AreStations, AreSeats};
 ghost use Rattle.gg_build.specs.Node.{machines_of};
 
+use crate::begin::Begin;
 use crate::groups::groups_of;
 use crate::hosts::hosts_of;
 use crate::node::Node;
@@ -128,13 +131,22 @@ pub(crate) fn seats_of<'a>(
     alloc: Global,
     plan: &'a Plan,
     trace: &Trace,
+    begin: &Begin,
 ) -> Result<Seats<'a>, AllocError>
-    requires { CanBuildAll trace.now.columns plan.now.machines }
-    ensures { IfOk result (λ seats. AreSeats plan.now trace.now.columns seats.hosts.items seats.stations.items) }
+    requires ready { CanBuildAll (starts_of plan.now.ratios begin.now) trace.now.columns plan.now.machines }
+    requires cycle { begin.now.cycle ≤ cycle_limit }
+    ensures { IfOk result (λ seats. AreSeats plan.now (starts_of plan.now.ratios begin.now) trace.now.columns seats.hosts.items seats.stations.items) }
 {
     let machines = plan.machines.as_slice();
     let groups = groups_of(alloc, machines)?;
-    let hosts = hosts_of(alloc, trace, machines, &groups.members)?;
+    let hosts = hosts_of(
+        alloc,
+        trace,
+        machines,
+        &groups.members,
+        plan.ratios.as_slice(),
+        begin,
+    )?;
     let stations = stations_of(alloc, machines, &groups.hosts, &groups.threads, &hosts)?;
     Ok(Seats { hosts, stations })
 }

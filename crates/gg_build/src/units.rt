@@ -1,15 +1,19 @@
 //! Units that share a host.
 ghost use Rattle.std.specs.Prelude.{◌≡◌, ◌^◌, ◌<◌, ◌≤◌, [], length, map, replicate, All, IfOk};
+ghost use Rattle.gg_limits.specs.Limits.{cycle_limit};
 ghost use Rattle.gg_flat.specs.Line.{value_at};
 ghost use Rattle.gg_flat.specs.WellFormed.{IsWellFormed};
 ghost use Rattle.gg_cut.specs.Alike.{IsLike};
 ghost use Rattle.gg_fame5.specs.Shared as shared_units;
-ghost use Rattle.gg_build.specs.Hosts.{IsUnitPart, AreUnits, ArePicked, ArePickedFor, ArePlaced, RunUnits};
+ghost use Rattle.gg_build.specs.Begin.{starts_of};
+ghost use Rattle.gg_build.specs.Hosts.{IsUnitPart, AreUnits, ArePicked, ArePickedFor, ArePlaced, CanAllBegin, RunUnits};
 ghost use Rattle.gg_build.specs.Wires.{IsNoted};
 
+use crate::begin::Begin;
+use crate::starts::{all_ratios, all_states};
 use crate::wires::note;
 use gg_bits::Ids;
-use gg_clocks::Ratios;
+use gg_clocks::Ratio;
 use gg_cut::{Body, Machine};
 use gg_fame1::NoMemory;
 use gg_fame5::Shared;
@@ -81,18 +85,7 @@ fn all_outs(
     Ok(outs)
 }
 
-// No ratios for each of this many threads: each clock has an edge in each tick.
-fn no_ratios(alloc: Global, count: usize) -> Result<Vec<Ratios>, AllocError>
-    ensures { IfOk result (λ ratios. ratios.items ≡ replicate count []) }
-{
-    let mut ratios = Vec::new(alloc);
-    for _thread in 0..count {
-        ratios.push(Ratios::from(Vec::new(alloc)))?;
-    }
-    Ok(ratios)
-}
-
-/// The units of these machines of a plan, a thread each. They run the piece of the first one's part.
+/// The units of these machines of a plan, a thread each. They run the piece of the first one's part, each from where it begins.
 ///
 /// # Errors
 ///
@@ -102,14 +95,19 @@ pub(crate) fn units_of<'a>(
     part: &'a Part,
     machines: &[Machine],
     group: &[u32],
+    ratios: &[Ratio],
+    begin: &Begin,
 ) -> Result<Shared<'a>, NoMemory>
     requires part { IsUnitPart part.now }
     requires units { AreUnits part.now.piece machines.now group.now }
-    ensures { IfOk result (λ shared. RunUnits machines.now group.now (shared_units.machines_of shared)) }
+    requires begin { CanAllBegin (starts_of ratios.now begin.now) machines.now group.now }
+    requires cycle { begin.now.cycle ≤ cycle_limit }
+    ensures { IfOk result (λ shared. RunUnits (starts_of ratios.now begin.now) machines.now group.now (shared_units.machines_of shared)) }
 {
     let outs = all_outs(alloc, &part.piece, machines, group)?;
-    let ratios = no_ratios(alloc, group.len())?;
+    let own = all_ratios(alloc, machines, group, ratios, begin)?;
+    let states = all_states(alloc, machines, group, ratios, begin)?;
     let program = Program::of(alloc, &part.piece)?;
-    let shared = Shared::with_clocks(alloc, program, &outs, &ratios)?;
+    let shared = Shared::from_state(alloc, program, &outs, &own, states, begin.cycle)?;
     Ok(shared)
 }

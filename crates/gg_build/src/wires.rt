@@ -3,6 +3,7 @@ ghost use Rattle.std.specs.Prelude.{◌≡◌, ◌^◌, ◌<◌, ◌≤◌, ℕ,
 ghost use Rattle.gg_flat.specs.Line.{value_at};
 ghost use Rattle.gg_cut.specs.declared.plan.Channel.{Channel};
 ghost use Rattle.gg_sound.specs.Built.{first_token, wires_of_plan};
+ghost use Rattle.gg_build.specs.Begin.{AreTokens};
 ghost use Rattle.gg_build.specs.Build.{IsFaultless};
 ghost use Rattle.gg_build.specs.Wires.{IsNoted, AreListed, ArePlaces, AreWires};
 
@@ -52,23 +53,30 @@ fn places_of(alloc: Global, machines: &[Machine], count: usize) -> Result<Places
     Ok(Places { outs, ins })
 }
 
-// The token that is in a channel at the start.
-fn opens_with(pipe: bool) -> Option<u128>
-    ensures { result ≡ first_token pipe }
+// The token that is in a channel at the start: if it has a pipe, the one at this place, and 0 behind the end.
+fn opens_with(pipe: bool, tokens: &[u128], place: usize) -> Option<u128>
+    ensures { result ≡ first_token pipe (value_at tokens.now place) }
 {
-    if pipe { Some(0) } else { None }
+    if !pipe {
+        return None;
+    }
+    match tokens.get(place) {
+        Some(token) => Some(*token),
+        None => Some(0),
+    }
 }
 
-// These channels, at these places.
+// These channels, at these places, with these tokens.
 fn wires_at(
     alloc: Global,
     channels: &[Channel],
     outs: &[u32],
     ins: &[u32],
+    tokens: &[u128],
 ) -> Result<Vec<Wire>, AllocError>
     requires outs { length outs.now ≡ length channels.now }
     requires ins { length ins.now ≡ length channels.now }
-    ensures { IfOk result (λ wires. AreWires channels.now outs.now ins.now (length channels.now) wires.items) }
+    ensures { IfOk result (λ wires. AreWires channels.now outs.now ins.now tokens.now (length channels.now) wires.items) }
 {
     let mut wires = Vec::new(alloc);
     for number in 0..channels.len() {
@@ -79,23 +87,23 @@ fn wires_at(
             consumer: channel.consumer,
             place: ins[number],
             capacity: channel.capacity,
-            first: opens_with(channel.pipe),
+            first: opens_with(channel.pipe, tokens, number),
         })?;
     }
     Ok(wires)
 }
 
-/// The channels of the network of a plan.
+/// The channels of the network of a plan, where these are the tokens of the pipes by channel.
 ///
 /// # Errors
 ///
 /// Returns `AllocError` if an allocation fails.
-pub(crate) fn wires_of(alloc: Global, plan: &Plan) -> Result<Vec<Wire>, AllocError>
+pub(crate) fn wires_of(alloc: Global, plan: &Plan, tokens: &[u128]) -> Result<Vec<Wire>, AllocError>
     requires { IsFaultless plan.now }
-    ensures { IfOk result (λ wires. wires.items ≡ wires_of_plan plan.now) }
+    ensures { IfOk result (λ wires. (token : ℕ → ℕ) → AreTokens plan.now.channels token tokens.now → wires.items ≡ wires_of_plan token plan.now) }
 {
     let channels = plan.channels.as_slice();
     let places = places_of(alloc, plan.machines.as_slice(), channels.len())?;
-    let wires = wires_at(alloc, channels, &places.outs, &places.ins)?;
+    let wires = wires_at(alloc, channels, &places.outs, &places.ins, tokens)?;
     Ok(wires)
 }

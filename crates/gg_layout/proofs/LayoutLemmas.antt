@@ -8,6 +8,7 @@ use Rattle.std.proofs.lemmas.List.Elements.{Contains-get_or}
 use Rattle.std.proofs.lemmas.List.FromFn.{length-range_with_len, get_or-range_with_len}
 use Rattle.gg_flat.specs.Tree.{port_count}
 use Rattle.gg_flat.proofs.ListLemmas.{some-item}
+use Rattle.gg_flat.specs.Run.{Start}
 use Rattle.gg_order.specs.Design.{Ordered}
 use Rattle.gg_partfile.specs.declared.request.Request.{Request}
 use Rattle.gg_cut.specs.declared.listed.Listed.{Listed}
@@ -27,7 +28,7 @@ use Rattle.gg_routes.proofs.RoutedLemmas.{plan-routed}
 use Rattle.gg_check.specs.CheckText.{AreChannelNeeds}
 use Rattle.gg_check.proofs.PlanLemmas.{channel-needs}
 use Rattle.gg_node.specs.Machine.{Machine, machine_at, needs_at}
-use Rattle.gg_memunit.specs.MemoryUnit.{opening_unit}
+use Rattle.gg_memunit.specs.MemoryUnit.{ports_of}
 use Rattle.gg_memunit.proofs.UnitLemmas.{sole}
 use Rattle.gg_net.specs.Network.{Frame, Kind, kind_of, kind_at, no_kind, wire_at as joint_at}
 use Rattle.gg_marking.specs.Marking.{Link, Turn, Layout, link_at, turns_at}
@@ -58,14 +59,14 @@ both-true true false x y p q = absurd (cc)
 both-true false b x y p q = absurd (cc)
 
 -- a channel opens with a token exactly if it has a pipe
-has-token : (pipe : Bool) → pipe ≡ is_some (first_token pipe)
-has-token true = refl
-has-token false = refl
+has-token : (pipe : Bool) (token : ℕ) → pipe ≡ is_some (first_token pipe token)
+has-token true token = refl
+has-token false token = refl
 
 no-turns : (frame : Frame) (m : ℕ) (turns : List Turn) → turns ≡ [] → AreTurnsOf frame m [] turns
 no-turns frame m turns none = record { count = ap length none; each = λ i port turn lt. absurd (omega (arith, lt)) }
 
-module _ (design : Ordered) (request : Request) (default : ℕ) (plan : Plan) (columns : List (List ℕ)) (n : ℕ) (rows : List (List ℕ)) (machines : List Machine) (given : IsGiven design request default plan columns n rows) (built : AreBuilt plan columns machines) where
+module _ (design : Ordered) (request : Request) (default : ℕ) (plan : Plan) (columns : List (List ℕ)) (n : ℕ) (start : Start) (rows : List (List ℕ)) (token : ℕ → ℕ) (starts : Body → Start) (machines : List Machine) (given : IsGiven design request default plan columns n start rows) (built : AreBuilt plan starts columns machines) where
   abbrev listed : Listed
   listed = listed_of design.tree request
 
@@ -76,7 +77,7 @@ module _ (design : Ordered) (request : Request) (default : ℕ) (plan : Plan) (c
   hub = plan_hub design.circuit design.tree request
 
   abbrev frame : Frame
-  frame = plan_frame plan machines n
+  frame = plan_frame token plan machines n
 
   apart : AreApart design.tree listed
   apart = faultless-apart design request given.faultless given.keeps.fitting
@@ -88,7 +89,7 @@ module _ (design : Ordered) (request : Request) (default : ℕ) (plan : Plan) (c
   routed = plan-routed design request given.design_is given.keeps given.faultless
 
   are : AreLinks plan wires
-  are = links design request default plan columns n rows machines given built
+  are = links design request default plan columns n start rows token starts machines given built
 
   -- ---- the layout
 
@@ -154,7 +155,7 @@ module _ (design : Ordered) (request : Request) (default : ℕ) (plan : Plan) (c
     needs = (link_at layout c).needs
 
     abbrev place : ℕ → ℕ
-    place d = (joint_at (wires_of_plan plan) d).place
+    place d = (joint_at (wires_of_plan token plan) d).place
 
     below : p < length plan.machines
     below = (are.ends c lt).0
@@ -165,11 +166,11 @@ module _ (design : Ordered) (request : Request) (default : ℕ) (plan : Plan) (c
         let any = some-item plan.channels c known in
         let machine = given.planned.machine p nameless below in
         subst (λ (link : Link). HasOutNeeds wires p c link.needs (kind_of (machine_at machines p))) (sym (link-is c any known))
-        (out-needs design request given.design_is given.keeps given.faultless p c (record { known = lt; producer = refl }) columns (length (machine_in plan p).outs) (machine_in plan p).body (machine_at machines p) (machine_in plan p).ins (get_or plan.channels c any).needs machine.body (built.each p below) machine.ins ((given.planned.channel c any known).needs nameless))
+        (out-needs design request given.design_is given.keeps given.faultless p c (record { known = lt; producer = refl }) columns (length (machine_in plan p).outs) (starts (machine_in plan p).body) (machine_in plan p).body (machine_at machines p) (machine_in plan p).ins (get_or plan.channels c any).needs machine.body (built.each p below) machine.ins ((given.planned.channel c any known).needs nameless))
 
     -- the place of a needed channel is its place among the channels that the machine takes
     place-is : (d : ℕ) → Contains needs d → place d ≡ place_in (channels_to wires p) d
-    place-is d has = let need = ((link-needs c lt).each d).0 has in place-at plan wires are p d need.known need.taken
+    place-is d has = let need = ((link-needs c lt).each d).0 has in place-at token plan wires are p d need.known need.taken
 
     grows : (d e : ℕ) → Contains needs d → Contains needs e → d < e → place d < place e
     grows d e one other less =
@@ -188,7 +189,7 @@ module _ (design : Ordered) (request : Request) (default : ℕ) (plan : Plan) (c
 
     needs-are : places_of frame needs ≡ needs_at (kind_at frame.kinds (joint_at frame.wires c).producer).needs (joint_at frame.wires c).out
     needs-are =
-        let link = linked plan wires are c lt in
+        let link = linked token plan wires are c lt in
         made-same place needs (needs_at (kind_of (machine_at machines p)).needs (place_in (channels_from wires p) c)) (link-needs c lt).ascending own-needs.up grows made
         ∙ ap (λ o. needs_at (kind_of (machine_at machines p)).needs o) (sym link.out)
         ∙ ap (λ k. needs_at k.needs (joint_at frame.wires c).out) (sym (kind-is machines p (omega (arith, below, built.count))))
@@ -198,19 +199,19 @@ module _ (design : Ordered) (request : Request) (default : ℕ) (plan : Plan) (c
     needs-taken i d within =
         let x = get_or needs i d in
         let need = ((link-needs c lt).each x).0 (Contains-get_or needs i d within) in
-        (omega (arith, need.known, length-wires plan wires are), (linked plan wires are x need.known).consumer ∙ need.taken ∙ sym (linked plan wires are c lt).producer)
+        (omega (arith, need.known, length-wires token plan wires are), (linked token plan wires are x need.known).consumer ∙ need.taken ∙ sym (linked token plan wires are c lt).producer)
 
     net-link : IsLinkOf frame c (link_at layout c)
     net-link =
         let known : c < length plan.channels = omega (arith, lt, given.planned.channel_total) in
         let any = some-item plan.channels c known in
-        let link = linked plan wires are c lt in
+        let link = linked token plan wires are c lt in
         let cut = cut-link c lt in
         record {
           producer = cut.producer ∙ sym link.producer;
           consumer = cut.consumer ∙ sym link.consumer;
-          capacity = ap (λ (l : Link). l.capacity) (link-is c any known) ∙ sym (joint-capacity plan wires are c any known);
-          piped = ap (λ (l : Link). l.piped) (link-is c any known) ∙ has-token (get_or plan.channels c any).pipe ∙ sym (ap is_some (link.first any known));
+          capacity = ap (λ (l : Link). l.capacity) (link-is c any known) ∙ sym (joint-capacity token plan wires are c any known);
+          piped = ap (λ (l : Link). l.piped) (link-is c any known) ∙ has-token (get_or plan.channels c any).pipe (token (get_or plan.channels c any).signal) ∙ sym (ap is_some (link.first any known));
           needs = needs-are;
           taken = needs-taken;
         }
@@ -231,16 +232,16 @@ module _ (design : Ordered) (request : Request) (default : ℕ) (plan : Plan) (c
     no-ports : (m < first_memory listed) ⊎ (first_source listed ≤ m) → ports_at m ≡ 0
     no-ports = otherwise (port_count design.circuit (memory_of design.tree listed m)) 0
 
-    body-ports : (outs : ℕ) (body : Body) (machine : Machine) → IsBody design listed hub m body → IsBuilt columns outs body machine → ports_at m ≡ (kind_of machine).port_count
-    body-ports outs (Cut part) machine body unit = subst (λ (t : Machine). ports_at m ≡ (kind_of t).port_count) (sym unit.is) (no-ports (inl body.0))
-    body-ports outs (Memory part) machine body stands =
+    body-ports : (outs : ℕ) (own : Start) (body : Body) (machine : Machine) → IsBody design listed hub m body → IsBuilt columns outs own body machine → ports_at m ≡ (kind_of machine).port_count
+    body-ports outs own (Cut part) machine body unit = subst (λ (t : Machine). ports_at m ≡ (kind_of t).port_count) (sym unit.is) (no-ports (inl body.0))
+    body-ports outs own (Memory part) machine body stands =
         let outer = memory-part design request m part given.design_is given.keeps apart routed body.0 body.1 body.2 few in
         let inner = sole stands.alone.piece.memories stands.is_memory.one in
         subst (λ (t : Machine). ports_at m ≡ (kind_of t).port_count) (sym stands.is)
         (of-memory (port_count design.circuit (memory_of design.tree listed m)) 0 body.0 body.1
-        ∙ memory-ports design request m part given.design_is given.keeps given.faultless body.0 body.1 body.2 machine stands outer.0 inner.0 outer.1 inner.1)
-    body-ports outs (Source place) machine body is = subst (λ (t : Machine). ports_at m ≡ (kind_of t).port_count) (sym is) (no-ports (inr (omega (arith, body.1))))
-    body-ports outs Tray machine body is =
+        ∙ memory-ports design request m part given.design_is given.keeps given.faultless body.0 body.1 body.2 own machine stands outer.0 inner.0 outer.1 inner.1)
+    body-ports outs own (Source place) machine body is = subst (λ (t : Machine). ports_at m ≡ (kind_of t).port_count) (sym is) (no-ports (inr (omega (arith, body.1))))
+    body-ports outs own Tray machine body is =
         let low : first_source listed ≤ m = omega (arith, body) in
         subst (λ (t : Machine). ports_at m ≡ (kind_of t).port_count) (sym is) (no-ports (inr low))
 
@@ -248,19 +249,19 @@ module _ (design : Ordered) (request : Request) (default : ℕ) (plan : Plan) (c
     port-count =
         let below : m < length plan.machines = omega (arith, lt, given.planned.machine_total) in
         subst (λ k. ports_at m ≡ k.port_count) (sym (kind-is machines m (omega (arith, below, built.count))))
-        (body-ports (length (machine_in plan m).outs) (machine_in plan m).body (machine_at machines m) (given.planned.machine m nameless below).body (built.each m below))
+        (body-ports (length (machine_in plan m).outs) (starts (machine_in plan m).body) (machine_in plan m).body (machine_at machines m) (given.planned.machine m nameless below).body (built.each m below))
 
-    body-turns : (outs : ℕ) (body : Body) (machine : Machine) → IsBody design listed hub m body → IsBuilt columns outs body machine → AreTurnsOf frame m (kind_of machine).ports (turns_of m)
-    body-turns outs (Cut part) machine body unit = subst (λ (t : Machine). AreTurnsOf frame m (kind_of t).ports (turns_of m)) (sym unit.is) (no-turns frame m (turns_of m) (not-memory (inl body.0)))
-    body-turns outs (Memory part) machine body stands =
+    body-turns : (outs : ℕ) (own : Start) (body : Body) (machine : Machine) → IsBody design listed hub m body → IsBuilt columns outs own body machine → AreTurnsOf frame m (kind_of machine).ports (turns_of m)
+    body-turns outs own (Cut part) machine body unit = subst (λ (t : Machine). AreTurnsOf frame m (kind_of t).ports (turns_of m)) (sym unit.is) (no-turns frame m (turns_of m) (not-memory (inl body.0)))
+    body-turns outs own (Memory part) machine body stands =
         let outer = memory-part design request m part given.design_is given.keeps apart routed body.0 body.1 body.2 few in
         let inner = sole stands.alone.piece.memories stands.is_memory.one in
-        let are_turns = memory-turns design request m part given.design_is given.keeps given.faultless body.0 body.1 body.2 machine stands outer.0 inner.0 outer.1 inner.1 plan are frame refl in
+        let are_turns = memory-turns design request m part given.design_is given.keeps given.faultless body.0 body.1 body.2 own machine stands outer.0 inner.0 outer.1 inner.1 token plan are frame refl in
         let same = of-memory (memory_turns design.circuit wires (memory_of design.tree listed m)) [] body.0 body.1 in
         subst (λ (t : Machine). AreTurnsOf frame m (kind_of t).ports (turns_of m)) (sym stands.is)
-        (subst (λ (l : List Turn). AreTurnsOf frame m (kind_of (opening_unit stands.alone.piece [])).ports l) (sym same) are_turns)
-    body-turns outs (Source place) machine body is = subst (λ (t : Machine). AreTurnsOf frame m (kind_of t).ports (turns_of m)) (sym is) (no-turns frame m (turns_of m) (not-memory (inr (omega (arith, body.1)))))
-    body-turns outs Tray machine body is =
+        (subst (λ (l : List Turn). AreTurnsOf frame m (ports_of stands.alone.piece.memories) l) (sym same) are_turns)
+    body-turns outs own (Source place) machine body is = subst (λ (t : Machine). AreTurnsOf frame m (kind_of t).ports (turns_of m)) (sym is) (no-turns frame m (turns_of m) (not-memory (inr (omega (arith, body.1)))))
+    body-turns outs own Tray machine body is =
         let low : first_source listed ≤ m = omega (arith, body) in
         subst (λ (t : Machine). AreTurnsOf frame m (kind_of t).ports (turns_of m)) (sym is) (no-turns frame m (turns_of m) (not-memory (inr low)))
 
@@ -269,7 +270,7 @@ module _ (design : Ordered) (request : Request) (default : ℕ) (plan : Plan) (c
         let below : m < length plan.machines = omega (arith, lt, given.planned.machine_total) in
         subst (λ (l : List Turn). AreTurnsOf frame m (kind_at frame.kinds m).ports l) (sym (turns-are m lt))
         (subst (λ k. AreTurnsOf frame m k.ports (turns_of m)) (sym (kind-is machines m (omega (arith, below, built.count))))
-        (body-turns (length (machine_in plan m).outs) (machine_in plan m).body (machine_at machines m) (given.planned.machine m nameless below).body (built.each m below)))
+        (body-turns (length (machine_in plan m).outs) (starts (machine_in plan m).body) (machine_in plan m).body (machine_at machines m) (given.planned.machine m nameless below).body (built.each m below)))
 
   net-ports : layout.port_counts ≡ map (λ (kind : Kind). kind.port_count) frame.kinds
   net-ports =
@@ -290,7 +291,7 @@ module _ (design : Ordered) (request : Request) (default : ℕ) (plan : Plan) (c
   of-network =
       let count = machine_count design.circuit listed in
       let kinds = length-map machines kind_of in
-      let joints = length-wires plan wires are in
+      let joints = length-wires token plan wires are in
       record {
         machines = omega (arith, length-map (range_with_len 0 count) turns_of, length-range_with_len 0 count, kinds, built.count, given.planned.machine_total);
         channels = omega (arith, length-map plan.channels link_of, joints, given.planned.channel_total);
@@ -301,13 +302,13 @@ module _ (design : Ordered) (request : Request) (default : ℕ) (plan : Plan) (c
       }
 
   pub in-order : IsInOrder frame
-  in-order = record { ins = joints-in-order plan wires are; outs = outs-in-order plan wires are }
+  in-order = record { ins = joints-in-order token plan wires are; outs = outs-in-order token plan wires are }
 
-pub plan-layout : (design : Ordered) (request : Request) (default : ℕ) (plan : Plan) (columns : List (List ℕ)) (n : ℕ) (rows : List (List ℕ)) (machines : List Machine) → IsGiven design request default plan columns n rows → AreBuilt plan columns machines
-    → (layout : Layout) × (IsLayoutOf design request default n layout × HasLayout (plan_frame plan machines n) layout)
-plan-layout design request default plan columns n rows machines given built =
-    (layout design request default plan columns n rows machines given built, (of-cut design request default plan columns n rows machines given built, of-network design request default plan columns n rows machines given built))
+pub plan-layout : (design : Ordered) (request : Request) (default : ℕ) (plan : Plan) (columns : List (List ℕ)) (n : ℕ) (start : Start) (rows : List (List ℕ)) (token : ℕ → ℕ) (starts : Body → Start) (machines : List Machine) → IsGiven design request default plan columns n start rows → AreBuilt plan starts columns machines
+    → (layout : Layout) × (IsLayoutOf design request default n layout × HasLayout (plan_frame token plan machines n) layout)
+plan-layout design request default plan columns n start rows token starts machines given built =
+    (layout design request default plan columns n start rows token starts machines given built, (of-cut design request default plan columns n start rows token starts machines given built, of-network design request default plan columns n start rows token starts machines given built))
 
-pub plan-in-order : (design : Ordered) (request : Request) (default : ℕ) (plan : Plan) (columns : List (List ℕ)) (n : ℕ) (rows : List (List ℕ)) (machines : List Machine) → IsGiven design request default plan columns n rows → AreBuilt plan columns machines
-    → IsInOrder (plan_frame plan machines n)
-plan-in-order design request default plan columns n rows machines given built = in-order design request default plan columns n rows machines given built
+pub plan-in-order : (design : Ordered) (request : Request) (default : ℕ) (plan : Plan) (columns : List (List ℕ)) (n : ℕ) (start : Start) (rows : List (List ℕ)) (token : ℕ → ℕ) (starts : Body → Start) (machines : List Machine) → IsGiven design request default plan columns n start rows → AreBuilt plan starts columns machines
+    → IsInOrder (plan_frame token plan machines n)
+plan-in-order design request default plan columns n start rows token starts machines given built = in-order design request default plan columns n start rows token starts machines given built

@@ -15,6 +15,7 @@ use Rattle.gg_flat.specs.Memory.{LooksAmong}
 use Rattle.gg_flat.specs.Tree.{InstanceTree, port_count}
 use Rattle.gg_flat.specs.Scoped.{writers_at}
 use Rattle.gg_flat.specs.WellFormed.{AreDriven, reader_driver}
+use Rattle.gg_flat.specs.Run.{Start}
 use Rattle.gg_moved.specs.KeepsToTree.{KeepsToTree}
 use Rattle.gg_order.specs.Design.{Ordered, IsDesign}
 use Rattle.gg_part.specs.Part.{renamed_memory, renamed_reader, renamed_writer}
@@ -56,7 +57,7 @@ use Rattle.gg_layout.proofs.ChannelLemmas.{channel-back}
 use Rattle.gg_layout.proofs.TurnLemmas.{number_of, reader_of, writer_of, turns-alone}
 use Rattle.gg_layout.proofs.ReachLemmas.{AreReached, late-needs, same-cycle-needs}
 
-module _ (design : Ordered) (request : Request) (m : ℕ) (part : Part) (is : IsDesign design) (keeps : KeepsToTree design.circuit design.tree) (faultless : first_fault design request ≡ None) (low : first_memory (listed_of design.tree request) ≤ m) (high : m < first_source (listed_of design.tree request)) (cut : IsCutPart design (listed_of design.tree request) (plan_hub design.circuit design.tree request) m part) (machine : Machine) (stands : IsMemoryOf part machine) where
+module _ (design : Ordered) (request : Request) (m : ℕ) (part : Part) (is : IsDesign design) (keeps : KeepsToTree design.circuit design.tree) (faultless : first_fault design request ≡ None) (low : first_memory (listed_of design.tree request) ≤ m) (high : m < first_source (listed_of design.tree request)) (cut : IsCutPart design (listed_of design.tree request) (plan_hub design.circuit design.tree request) m part) (begins : Start) (machine : Machine) (stands : IsMemoryOf begins part machine) where
   abbrev circuit : FlatCircuit
   circuit = design.circuit
 
@@ -76,7 +77,7 @@ module _ (design : Ordered) (request : Request) (m : ℕ) (part : Part) (is : Is
   piece = stands.alone.piece
 
   abbrev number : ℕ → ℕ
-  number = number_of part.globals stands.alone.globals
+  number = number_of part.globals stands.alone.globals part.clocks stands.alone.clocks
 
   apart : AreApart design.tree listed
   apart = faultless-apart design request faultless keeps.fitting
@@ -114,13 +115,13 @@ module _ (design : Ordered) (request : Request) (m : ℕ) (part : Part) (is : Is
       ∙ get_or-map (λ c. (wire_at wires c).signal) (channels_to wires m) x 0 0 (omega (arith, inside, channel-count))
 
   -- the channel of a field is at the in with the field's number
-  field-at : (plan : Plan) → AreLinks plan wires → (x : ℕ) → x < length piece.ins → IsAtIn (wires_of_plan plan) m x (channel_of wires (number x))
-  field-at plan are x lt =
+  field-at : (token : ℕ → ℕ) (plan : Plan) → AreLinks plan wires → (x : ℕ) → x < length piece.ins → IsAtIn (wires_of_plan token plan) m x (channel_of wires (number x))
+  field-at token plan are x lt =
       let inside : x < length (channels_to wires m) = omega (arith, lt, in-count, channel-count) in
       let c = value_at (channels_to wires m) x in
-      subst (IsAtIn (wires_of_plan plan) m x)
+      subst (IsAtIn (wires_of_plan token plan) m x)
       (sym (ap (channel_of wires) (field-signal x lt) ∙ channel-back wires c wires-once (taken-at wires m x inside).known))
-      (at-in plan wires are m x inside)
+      (at-in token plan wires are m x inside)
 
   field-place : (x c : ℕ) → x < length piece.ins → c < length wires → (wire_at wires c).signal ≡ number x → place_in (channels_to wires m) c ≡ x
   field-place x c lt inside same =
@@ -135,49 +136,49 @@ module _ (design : Ordered) (request : Request) (m : ℕ) (part : Part) (is : Is
     abbrev k : ℕ
     k = memory_of design.tree (listed_of design.tree request) m
 
-    inner-is : outer ≡ renamed_memory stands.alone.globals inner
+    inner-is : outer ≡ renamed_memory stands.alone.globals stands.alone.clocks inner
     inner-is =
         let first : value_at stands.alone.memories 0 ≡ 0 = ap (λ (l : List ℕ). value_at l 0) stands.memories in
         ap (λ (l : List Memory). get_or l 0 outer) (sym own.only)
         ∙ ap (λ j. get_or part.piece.memories j outer) (sym first)
         ∙ (stands.is_part.memory_from 0 (omega (arith, ap length stands.memories))).is inner outer
-        ∙ ap (λ (l : List Memory). renamed_memory stands.alone.globals (get_or l 0 inner)) only
+        ∙ ap (λ (l : List Memory). renamed_memory stands.alone.globals stands.alone.clocks (get_or l 0 inner)) only
 
     there : k < length circuit.memories
     there = known design request m part is keeps apart routed low high cut outer own.only
 
-    whole-is : get_or circuit.memories k outer ≡ renamed_memory part.globals (renamed_memory stands.alone.globals inner)
-    whole-is = whole design request m part is keeps apart routed low high cut outer own.only ∙ ap (renamed_memory part.globals) inner-is
+    whole-is : get_or circuit.memories k outer ≡ renamed_memory part.globals part.clocks (renamed_memory stands.alone.globals stands.alone.clocks inner)
+    whole-is = whole design request m part is keeps apart routed low high cut outer own.only ∙ ap (renamed_memory part.globals part.clocks) inner-is
 
     latency-is : latency_at circuit k ≡ inner.latency
     latency-is = get_or-map (λ (x : Memory). x.latency) circuit.memories k outer Zero there ∙ ap (λ (x : Memory). x.latency) whole-is
 
-    readers-are : readers_at circuit k ≡ map (reader_of part.globals stands.alone.globals) inner.readers
+    readers-are : readers_at circuit k ≡ map (reader_of part.globals stands.alone.globals part.clocks stands.alone.clocks) inner.readers
     readers-are =
         get_or-map (λ (x : Memory). x.readers) circuit.memories k outer [] there
         ∙ ap (λ (x : Memory). x.readers) whole-is
-        ∙ map-map (renamed_reader part.globals) (renamed_reader stands.alone.globals) inner.readers
+        ∙ map-map (renamed_reader part.globals part.clocks) (renamed_reader stands.alone.globals stands.alone.clocks) inner.readers
 
-    writers-are : writers_at circuit k ≡ map (writer_of part.globals stands.alone.globals) inner.writers
+    writers-are : writers_at circuit k ≡ map (writer_of part.globals stands.alone.globals part.clocks stands.alone.clocks) inner.writers
     writers-are =
         get_or-map (λ (x : Memory). x.writers) circuit.memories k outer [] there
         ∙ ap (λ (x : Memory). x.writers) whole-is
-        ∙ map-map (renamed_writer part.globals) (renamed_writer stands.alone.globals) inner.writers
+        ∙ map-map (renamed_writer part.globals part.clocks) (renamed_writer stands.alone.globals stands.alone.clocks) inner.writers
 
-    turns-by : ports_by (latency_at circuit k) (readers_at circuit k) (writers_at circuit k) ≡ ports_by inner.latency (map (reader_of part.globals stands.alone.globals) inner.readers) (map (writer_of part.globals stands.alone.globals) inner.writers)
+    turns-by : ports_by (latency_at circuit k) (readers_at circuit k) (writers_at circuit k) ≡ ports_by inner.latency (map (reader_of part.globals stands.alone.globals part.clocks stands.alone.clocks) inner.readers) (map (writer_of part.globals stands.alone.globals part.clocks stands.alone.clocks) inner.writers)
     turns-by =
         ap (λ (l : Latency). ports_by l (readers_at circuit k) (writers_at circuit k)) latency-is
         ∙ ap (λ (l : List Reader). ports_by inner.latency l (writers_at circuit k)) readers-are
-        ∙ ap (λ (l : List Writer). ports_by inner.latency (map (reader_of part.globals stands.alone.globals) inner.readers) l) writers-are
+        ∙ ap (λ (l : List Writer). ports_by inner.latency (map (reader_of part.globals stands.alone.globals part.clocks stands.alone.clocks) inner.readers) l) writers-are
 
-    pub memory-turns : (plan : Plan) → AreLinks plan wires → (frame : Frame) → frame.wires ≡ wires_of_plan plan → AreTurnsOf frame m (ports_of piece.memories) (memory_turns circuit wires k)
-    memory-turns plan are frame same =
+    pub memory-turns : (token : ℕ → ℕ) (plan : Plan) → AreLinks plan wires → (frame : Frame) → frame.wires ≡ wires_of_plan token plan → AreTurnsOf frame m (ports_of piece.memories) (memory_turns circuit wires k)
+    memory-turns token plan are frame same =
         let fit = ports-fit piece.memories (length piece.ins) stands.is_memory.readers stands.is_memory.writers in
         let at : (x : ℕ) → x < length piece.ins → IsAtIn frame.wires m x (channel_of wires (number x)) =
-        λ x lt. subst (λ l. IsAtIn l m x (channel_of wires (number x))) (sym same) (field-at plan are x lt) in
+        λ x lt. subst (λ l. IsAtIn l m x (channel_of wires (number x))) (sym same) (field-at token plan are x lt) in
         subst (λ (l : List Memory). AreTurnsOf frame m (ports_of l) (memory_turns circuit wires k)) (sym only)
         (subst (λ (l : List Port). AreTurnsOf frame m (ports_by inner.latency inner.readers inner.writers) (map (turn_of wires) l)) (sym turns-by)
-        (turns-alone part.globals stands.alone.globals frame wires m (length piece.ins) at (count_of (inner ∷ [])) inner.latency inner.readers inner.writers
+        (turns-alone part.globals stands.alone.globals part.clocks stands.alone.clocks frame wires m (length piece.ins) at (count_of (inner ∷ [])) inner.latency inner.readers inner.writers
         (subst (λ (l : List Memory). All (IsFitPort (length piece.ins) (count_of l)) (ports_of l)) only fit)))
 
     -- the memory that stands alone has as many ports as the memory in the whole circuit
@@ -186,8 +187,8 @@ module _ (design : Ordered) (request : Request) (m : ℕ) (part : Part) (is : Is
         get_or-map (λ (x : Memory). length x.readers + length x.writers) circuit.memories k outer 0 there
         ∙ ap (λ (x : Memory). length x.readers + length x.writers) whole-is
         ∙ ap₂ (λ (a b : ℕ). a + b)
-        (length-map (map (renamed_reader stands.alone.globals) inner.readers) (renamed_reader part.globals) ∙ length-map inner.readers (renamed_reader stands.alone.globals))
-        (length-map (map (renamed_writer stands.alone.globals) inner.writers) (renamed_writer part.globals) ∙ length-map inner.writers (renamed_writer stands.alone.globals))
+        (length-map (map (renamed_reader stands.alone.globals stands.alone.clocks) inner.readers) (renamed_reader part.globals part.clocks) ∙ length-map inner.readers (renamed_reader stands.alone.globals stands.alone.clocks))
+        (length-map (map (renamed_writer stands.alone.globals stands.alone.clocks) inner.writers) (renamed_writer part.globals part.clocks) ∙ length-map inner.writers (renamed_writer stands.alone.globals stands.alone.clocks))
         ∙ sym (ap count_of only)
 
     -- ---- needs
@@ -221,12 +222,12 @@ module _ (design : Ordered) (request : Request) (m : ℕ) (part : Part) (is : Is
       abbrev enable : Wire
       enable = wire (number reader.en) outside self
 
-      at-reader : IsBefore address enable (reader_wires outside self (reader_of part.globals stands.alone.globals reader))
+      at-reader : IsBefore address enable (reader_wires outside self (reader_of part.globals stands.alone.globals part.clocks stands.alone.clocks reader))
       at-reader = record { first = 0; second = 1; less = omega arith; within = omega arith; is_first = λ d. refl; is_second = λ d. refl }
 
       at-readers : IsBefore address enable (flattened (reader_wires outside self) (readers_at circuit k))
       at-readers =
-          let rename = reader_of part.globals stands.alone.globals in
+          let rename = reader_of part.globals stands.alone.globals part.clocks stands.alone.clocks in
           subst (λ (l : List Reader). IsBefore address enable (flattened (reader_wires outside self) l)) (sym readers-are)
           (flattened-before address enable (reader_wires outside self) (map rename inner.readers) o (rename nobody) (omega (arith, some, length-map inner.readers rename))
           (subst (λ (r : Reader). IsBefore address enable (reader_wires outside self r)) (sym (get_or-map rename inner.readers o nobody (rename nobody) some)) at-reader))
@@ -289,24 +290,24 @@ module _ (design : Ordered) (request : Request) (m : ℕ) (part : Part) (is : Is
 
       -- the out of the reader, and its driver
       abbrev inner_reader : Reader
-      inner_reader = renamed_reader stands.alone.globals reader
+      inner_reader = renamed_reader stands.alone.globals stands.alone.clocks reader
 
-      there-inner : o < length (map (renamed_reader stands.alone.globals) inner.readers)
-      there-inner = omega (arith, some, length-map inner.readers (renamed_reader stands.alone.globals))
+      there-inner : o < length (map (renamed_reader stands.alone.globals stands.alone.clocks) inner.readers)
+      there-inner = omega (arith, some, length-map inner.readers (renamed_reader stands.alone.globals stands.alone.clocks))
 
-      reader-is : get_or (map (renamed_reader stands.alone.globals) inner.readers) o nobody ≡ inner_reader
-      reader-is = get_or-map (renamed_reader stands.alone.globals) inner.readers o nobody nobody some
+      reader-is : get_or (map (renamed_reader stands.alone.globals stands.alone.clocks) inner.readers) o nobody ≡ inner_reader
+      reader-is = get_or-map (renamed_reader stands.alone.globals stands.alone.clocks) inner.readers o nobody nobody some
 
       out-is : value_at part.piece.outs o ≡ inner_reader.word
       out-is =
           ap (λ (l : List ℕ). value_at l o) own.words
           ∙ ap (λ (x : Memory). value_at (map (λ (r : Reader). r.word) x.readers) o) inner-is
-          ∙ get_or-map (λ (r : Reader). r.word) (map (renamed_reader stands.alone.globals) inner.readers) o nobody 0 there-inner
+          ∙ get_or-map (λ (r : Reader). r.word) (map (renamed_reader stands.alone.globals stands.alone.clocks) inner.readers) o nobody 0 there-inner
           ∙ ap (λ (r : Reader). r.word) reader-is
 
       driven : driver_at part.piece inner_reader.word ≡ reader_driver inner.latency 0 o inner_reader
       driven =
-          let formed = IsWellFormed-part circuit part.piece part.globals part.held part.memories is.formed cut.is in
+          let formed = IsWellFormed-part circuit part.piece part.globals part.held part.memories part.clocks is.formed cut.is in
           let first : 0 < length part.piece.memories = omega (arith, ap length own.only) in
           let one = subst (λ (l : List Memory). AreDriven (driver_at part.piece) 0 (get_or (map (λ (x : Memory). x.latency) l) 0 Zero) (get_or (map (λ (x : Memory). x.readers) l) 0 [])) own.only (formed.reads 0 first) in
           let all = subst (λ (x : Memory). AreDriven (driver_at part.piece) 0 x.latency x.readers) inner-is one in
@@ -323,7 +324,7 @@ module _ (design : Ordered) (request : Request) (m : ℕ) (part : Part) (is : Is
     pub memory-needs : (o : ℕ) → o < length part.piece.outs → AreReached part.piece (value_at part.piece.outs o) (needs_at (needs_of piece.memories) o)
     memory-needs o lt =
         let some : o < length inner.readers =
-        omega (arith, lt, ap length own.words, length-map outer.readers (λ (r : Reader). r.word), ap (λ (x : Memory). length x.readers) inner-is, length-map inner.readers (renamed_reader stands.alone.globals)) in
+        omega (arith, lt, ap length own.words, length-map outer.readers (λ (r : Reader). r.word), ap (λ (x : Memory). length x.readers) inner-is, length-map inner.readers (renamed_reader stands.alone.globals stands.alone.clocks)) in
         subst (AreReached part.piece (value_at part.piece.outs o))
         (sym (ap (λ (l : List Memory). needs_at (needs_of l) o) only ∙ get_or-map (needs_by inner.latency) inner.readers o nobody [] some))
         (needed o some inner.latency lt (ap (driver_at part.piece) (out-is o some) ∙ driven o some))

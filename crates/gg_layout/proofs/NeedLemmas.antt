@@ -3,6 +3,7 @@ use Rattle.std.proofs.Common.{◌≡◌, ℕ, zero, suc, ◌<◌, ◌≤◌, Lis
 use Rattle.std.specs.Prelude.{Contains, AllPairs, ◌==◌, replicate}
 use Rattle.std.proofs.lemmas.List.{get_or-map}
 use Rattle.gg_flat.specs.Line.{value_at}
+use Rattle.gg_flat.specs.Run.{Start}
 use Rattle.gg_moved.specs.KeepsToTree.{KeepsToTree}
 use Rattle.gg_order.specs.Design.{Ordered, IsDesign}
 use Rattle.gg_part.specs.declared.part.Part.{Part}
@@ -118,30 +119,30 @@ module _ (design : Ordered) (request : Request) (is : IsDesign design) (keeps : 
   routed : AreRoutes design listed hub
   routed = plan-routed design request is keeps faultless
 
-  unit-out-needs : (part : Part) (cut : IsCutPart design listed hub m part) (machine : Machine) → IsUnitOf part machine → (channels needs : List ℕ) → channels ≡ channels_to wires m
+  unit-out-needs : (part : Part) (cut : IsCutPart design listed hub m part) (own : Start) (machine : Machine) → IsUnitOf own part machine → (channels needs : List ℕ) → channels ≡ channels_to wires m
       → ((out : ℕ) → out < length part.globals → value_at part.globals out ≡ (wire_at wires c).given → AreNeedsOf part channels out needs) → HasOutNeeds wires m c needs (kind_of machine)
-  unit-out-needs part cut machine unit channels needs same are =
+  unit-out-needs part cut own machine unit channels needs same are =
       let exact = unit.exact.each o (out-low design listed hub m part cut c given) in
       subst (λ (t : Machine). HasOutNeeds wires m c needs (kind_of t)) (sym unit.is)
       (record { up = exact.ascending; made = part-made design listed hub m part cut c given channels needs (needs_at unit.needs o) same are (record { ascending = exact.ascending; exact = exact.exact }) })
 
-  memory-out-needs : (part : Part) (cut : IsCutPart design listed hub m part) (low : first_memory listed ≤ m) (high : m < first_source listed) (machine : Machine) → IsMemoryOf part machine → (channels needs : List ℕ) → channels ≡ channels_to wires m
+  memory-out-needs : (part : Part) (cut : IsCutPart design listed hub m part) (low : first_memory listed ≤ m) (high : m < first_source listed) (own : Start) (machine : Machine) → IsMemoryOf own part machine → (channels needs : List ℕ) → channels ≡ channels_to wires m
       → ((out : ℕ) → out < length part.globals → value_at part.globals out ≡ (wire_at wires c).given → AreNeedsOf part channels out needs) → HasOutNeeds wires m c needs (kind_of machine)
-  memory-out-needs part cut low high machine stands channels needs same are =
+  memory-out-needs part cut low high own machine stands channels needs same are =
       let outer = memory-part design request m part is keeps apart routed low high cut few in
       let inner = sole stands.alone.piece.memories stands.is_memory.one in
-      let exact = memory-needs design request m part is keeps faultless low high cut machine stands outer.0 inner.0 outer.1 inner.1 o (out-low design listed hub m part cut c given) in
+      let exact = memory-needs design request m part is keeps faultless low high cut own machine stands outer.0 inner.0 outer.1 inner.1 o (out-low design listed hub m part cut c given) in
       subst (λ (t : Machine). HasOutNeeds wires m c needs (kind_of t)) (sym stands.is)
       (record { up = exact.ascending; made = part-made design listed hub m part cut c given channels needs (needs_at (needs_of stands.alone.piece.memories) o) same are exact })
 
-  pub out-needs : (columns : List (List ℕ)) (outs : ℕ) (body : Body) (machine : Machine) (channels needs : List ℕ) → IsBody design listed hub m body → IsBuilt columns outs body machine → channels ≡ channels_to wires m → NeedsIn body channels (wire_at wires c).given needs → HasOutNeeds wires m c needs (kind_of machine)
-  out-needs columns outs (Cut part) machine channels needs body built same are = unit-out-needs part body.1 machine built channels needs same are
-  out-needs columns outs (Memory part) machine channels needs body built same are = memory-out-needs part body.2 body.0 body.1 machine built channels needs same are
-  out-needs columns outs (Source place) machine channels needs body built same none =
-      let own = needs_at (replicate (length (replicate outs false)) []) o in
+  pub out-needs : (columns : List (List ℕ)) (outs : ℕ) (own : Start) (body : Body) (machine : Machine) (channels needs : List ℕ) → IsBody design listed hub m body → IsBuilt columns outs own body machine → channels ≡ channels_to wires m → NeedsIn body channels (wire_at wires c).given needs → HasOutNeeds wires m c needs (kind_of machine)
+  out-needs columns outs own (Cut part) machine channels needs body built same are = unit-out-needs part body.1 own machine built channels needs same are
+  out-needs columns outs own (Memory part) machine channels needs body built same are = memory-out-needs part body.2 body.0 body.1 own machine built channels needs same are
+  out-needs columns outs own (Source place) machine channels needs body built same none =
+      let all = needs_at (replicate (length (replicate outs false)) []) o in
       let empty = source-needs (length (replicate outs false)) o in
       subst (λ (t : Machine). HasOutNeeds wires m c needs (kind_of t)) (sym built)
-      (record { up = none-up own empty; made = none-made (place_in (channels_to wires m)) needs own none empty })
-  out-needs columns outs Tray machine channels needs body built same none =
+      (record { up = none-up all empty; made = none-made (place_in (channels_to wires m)) needs all none empty })
+  out-needs columns outs own Tray machine channels needs body built same none =
       subst (λ (t : Machine). HasOutNeeds wires m c needs (kind_of t)) (sym built)
       (record { up = none-up [] refl; made = none-made (place_in (channels_to wires m)) needs [] none refl })

@@ -1,5 +1,5 @@
 -- The turns of a memory that stands alone: its ports, with the channels of their fields.
-use Rattle.std.proofs.Common.{◌≡◌, ℕ, suc, ◌<◌, List, [], ◌∷◌, ◌++◌, length, map, get_or, refl, sym, ◌∙◌, ap, ap₂, subst, arith}
+use Rattle.std.proofs.Common.{◌≡◌, ℕ, suc, ◌<◌, List, [], ◌∷◌, ◌++◌, length, map, get_or, refl, sym, ◌∙◌, ap, ap₂, subst, arith, Option}
 use Rattle.std.specs.Prelude.{All}
 use Rattle.std.proofs.lemmas.List.{length-map, get_or-map, map-append}
 use Rattle.std.proofs.lemmas.List.Elements.{All-nil, All-cons}
@@ -22,16 +22,16 @@ use Rattle.gg_layout.specs.CutLayout.{channel_of, turn_of}
 
 -- ---- ports with the signal numbers of the whole circuit
 
-module _ (outer inner : List ℕ) where
+module _ (outer inner : List ℕ) (outer_clocks inner_clocks : List (Option ℕ)) where
   -- the number that a signal of a part of a part has in the whole circuit
   abbrev pub number_of : ℕ → ℕ
   number_of s = value_at outer (value_at inner s)
 
   abbrev pub reader_of : Reader → Reader
-  reader_of reader = renamed_reader outer (renamed_reader inner reader)
+  reader_of reader = renamed_reader outer outer_clocks (renamed_reader inner inner_clocks reader)
 
   abbrev pub writer_of : Writer → Writer
-  writer_of writer = renamed_writer outer (renamed_writer inner writer)
+  writer_of writer = renamed_writer outer outer_clocks (renamed_writer inner inner_clocks writer)
 
   abbrev pub access_of : Access → Access
   access_of (ByReader r reader) = ByReader r (reader_of reader)

@@ -30,29 +30,29 @@ module _ (wires : List Wire) where
 
 -- ---- in the network
 
-module _ (plan : Plan) (wires : List Wire) (are : AreLinks plan wires) where
-  pub joint-capacity : (c : ℕ) (any : Channel) → c < length plan.channels → (joint_at (wires_of_plan plan) c).capacity ≡ (get_or plan.channels c any).capacity
-  joint-capacity c any lt = ap (λ w. w.capacity) (wire-from plan 0 plan.channels c any lt)
+module _ (token : ℕ → ℕ) (plan : Plan) (wires : List Wire) (are : AreLinks plan wires) where
+  pub joint-capacity : (c : ℕ) (any : Channel) → c < length plan.channels → (joint_at (wires_of_plan token plan) c).capacity ≡ (get_or plan.channels c any).capacity
+  joint-capacity c any lt = ap (λ w. w.capacity) (wire-from token plan 0 plan.channels c any lt)
 
   -- the in at which a channel is connected is its place among the channels that its machine takes
-  pub place-at : (m c : ℕ) → c < length wires → (wire_at wires c).consumer ≡ m → (joint_at (wires_of_plan plan) c).place ≡ place_in (channels_to wires m) c
-  place-at m c known is = (linked plan wires are c known).place ∙ ap (λ k. place_in (channels_to wires k) c) is
+  pub place-at : (m c : ℕ) → c < length wires → (wire_at wires c).consumer ≡ m → (joint_at (wires_of_plan token plan) c).place ≡ place_in (channels_to wires m) c
+  place-at m c known is = (linked token plan wires are c known).place ∙ ap (λ k. place_in (channels_to wires k) c) is
 
-  pub out-at : (m c : ℕ) → c < length wires → (wire_at wires c).producer ≡ m → (joint_at (wires_of_plan plan) c).out ≡ place_in (channels_from wires m) c
-  out-at m c known is = (linked plan wires are c known).out ∙ ap (λ k. place_in (channels_from wires k) c) is
+  pub out-at : (m c : ℕ) → c < length wires → (wire_at wires c).producer ≡ m → (joint_at (wires_of_plan token plan) c).out ≡ place_in (channels_from wires m) c
+  out-at m c known is = (linked token plan wires are c known).out ∙ ap (λ k. place_in (channels_from wires k) c) is
 
-  pub joints-in-order : (c d : ℕ) → c < d → d < length (wires_of_plan plan) → (joint_at (wires_of_plan plan) c).consumer ≡ (joint_at (wires_of_plan plan) d).consumer → (joint_at (wires_of_plan plan) c).place < (joint_at (wires_of_plan plan) d).place
+  pub joints-in-order : (c d : ℕ) → c < d → d < length (wires_of_plan token plan) → (joint_at (wires_of_plan token plan) c).consumer ≡ (joint_at (wires_of_plan token plan) d).consumer → (joint_at (wires_of_plan token plan) c).place < (joint_at (wires_of_plan token plan) d).place
   joints-in-order c d lt inside same =
-      let high : d < length wires = omega (arith, inside, length-wires plan wires are) in
+      let high : d < length wires = omega (arith, inside, length-wires token plan wires are) in
       let low : c < length wires = omega (arith, lt, high) in
       let m = (wire_at wires d).consumer in
-      let one : (wire_at wires c).consumer ≡ m = sym (linked plan wires are c low).consumer ∙ same ∙ (linked plan wires are d high).consumer in
+      let one : (wire_at wires c).consumer ≡ m = sym (linked token plan wires are c low).consumer ∙ same ∙ (linked token plan wires are d high).consumer in
       omega (arith, places-up wires m c d lt high one refl, place-at m c low one, place-at m d high refl)
 
-  pub outs-in-order : (c d : ℕ) → c < d → d < length (wires_of_plan plan) → (joint_at (wires_of_plan plan) c).producer ≡ (joint_at (wires_of_plan plan) d).producer → (joint_at (wires_of_plan plan) c).out < (joint_at (wires_of_plan plan) d).out
+  pub outs-in-order : (c d : ℕ) → c < d → d < length (wires_of_plan token plan) → (joint_at (wires_of_plan token plan) c).producer ≡ (joint_at (wires_of_plan token plan) d).producer → (joint_at (wires_of_plan token plan) c).out < (joint_at (wires_of_plan token plan) d).out
   outs-in-order c d lt inside same =
-      let high : d < length wires = omega (arith, inside, length-wires plan wires are) in
+      let high : d < length wires = omega (arith, inside, length-wires token plan wires are) in
       let low : c < length wires = omega (arith, lt, high) in
       let m = (wire_at wires d).producer in
-      let one : (wire_at wires c).producer ≡ m = sym (linked plan wires are c low).producer ∙ same ∙ (linked plan wires are d high).producer in
+      let one : (wire_at wires c).producer ≡ m = sym (linked token plan wires are c low).producer ∙ same ∙ (linked token plan wires are d high).producer in
       omega (arith, outs-up wires m c d lt high one refl, out-at m c low one, out-at m d high refl)

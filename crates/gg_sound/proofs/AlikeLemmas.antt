@@ -1,19 +1,19 @@
--- A piece like another does what the other does, where each clock has an edge in each tick.
-use Rattle.std.proofs.Common.{◌≡◌, ℕ, zero, suc, ◌<◌, List, [], ◌∷◌, length, sym, ◌∙◌, ap, ap₂, subst}
-use Rattle.std.specs.Prelude.{replicate}
+-- A piece like another does what the other does.
+use Rattle.std.proofs.Common.{◌≡◌, ℕ, zero, suc, ◌<◌, List, [], ◌∷◌, Bool, length, refl, sym, ◌∙◌, ap, ap₂, subst}
+use Rattle.gg_flat.specs.declared.memory.Memory.{Memory}
+use Rattle.gg_flat.specs.declared.piece.Register.{Register}
 use Rattle.gg_flat.specs.declared.piece.Signal.{Signal}
 use Rattle.gg_flat.specs.Circuit.{FlatCircuit, signal_shapes, driver_at}
+use Rattle.gg_flat.specs.Clock.{edges_at}
 use Rattle.gg_flat.specs.Depends.{SettlesOnce, DependsOn}
 use Rattle.gg_flat.specs.Line.{shape_at, value_at, AreTyped}
-use Rattle.gg_flat.specs.Memory.{Bank}
 use Rattle.gg_flat.specs.Reads.{NamesSignal, Reads, IsPath, Reaches}
-use Rattle.gg_flat.specs.Run.{IsRun, opening_start, state_at, row_at, inputs_at}
+use Rattle.gg_flat.specs.Run.{IsRunFrom, Start, inputs_at, later, row_at, state_at}
 use Rattle.gg_flat.specs.Settled.{Settled, driver_value}
 use Rattle.gg_flat.specs.State.{State, opening, next_state}
 use Rattle.gg_cut.specs.Alike.{IsAlike}
 use Rattle.gg_needs.specs.Needs.{AreNeeds}
 use Rattle.gg_net.specs.Kept.{in_columns}
-use Rattle.gg_sound.proofs.TickLemmas.{next-registers, next-banks, opening-banks, register-count}
 
 -- ---- cycles
 
@@ -55,26 +55,27 @@ module _ (one other : FlatCircuit) (alike : IsAlike one other) where
 
   pub opening-alike : opening one ≡ opening other
   opening-alike =
-      ap₂ (λ (n : ℕ) (banks : List Bank). let state : State = record { registers = replicate n 0; banks = banks } in state) (register-count one.registers other.registers alike.registers) (opening-banks one.memories other.memories alike.memories)
+      ap₂ (λ (registers : List Register) (memories : List Memory). opening (record one { registers = registers; memories = memories })) alike.registers alike.memories
 
-  next-alike : (state : State) (values : List ℕ) → next_state [] one state values ≡ next_state [] other state values
-  next-alike state values =
-      ap₂ (λ (registers : List ℕ) (banks : List Bank). let state : State = record { registers = registers; banks = banks } in state)
-      (next-registers values one.registers other.registers state.registers alike.registers)
-      (next-banks values one.memories other.memories state.banks alike.memories)
+  next-alike : (edges : List Bool) (state : State) (values : List ℕ) → next_state edges one state values ≡ next_state edges other state values
+  next-alike edges state values =
+      ap₂ (λ (registers : List Register) (memories : List Memory). next_state edges (record one { registers = registers; memories = memories }) state values) alike.registers alike.memories
 
-  state-alike : (rows : List (List ℕ)) (t : ℕ) → state_at one (opening_start one) rows t ≡ state_at other (opening_start other) rows t
-  state-alike rows zero = opening-alike
-  state-alike rows (suc t) = ap (λ (s : State). next_state [] one s (row_at rows t)) (state-alike rows t) ∙ next-alike (state_at other (opening_start other) rows t) (row_at rows t)
+  pub state-alike : (start : Start) (rows : List (List ℕ)) (t : ℕ) → state_at one start rows t ≡ state_at other start rows t
+  state-alike start rows zero = refl
+  state-alike start rows (suc t) =
+      let edges = edges_at start.ratios (later start.cycle t) in
+      ap (λ (s : State). next_state edges one s (row_at rows t)) (state-alike start rows t) ∙ next-alike edges (state_at other start rows t) (row_at rows t)
 
-  -- a run of the other piece on its own in-signals is one of this piece
-  pub run-alike : (n : ℕ) (rows : List (List ℕ)) → IsRun other (in_columns other rows) n rows → IsRun one (in_columns one rows) n rows
-  run-alike n rows run =
-      subst (λ (ins : List ℕ). IsRun one (in_columns (record one { ins = ins }) rows) n rows) (sym alike.ins)
+  -- a run of the other piece on the columns of its own in-signals is one of this piece, from any start
+  pub run-alike : (start : Start) (n : ℕ) (shown rows : List (List ℕ)) → IsRunFrom other start (in_columns other shown) n rows → IsRunFrom one start (in_columns one shown) n rows
+  run-alike start n shown rows run =
+      subst (λ (ins : List ℕ). IsRunFrom one start (in_columns (record one { ins = ins }) shown) n rows) (sym alike.ins)
       (record {
         count = run.count;
-        settled = λ t lt. subst (λ (s : State). Settled one s (inputs_at (in_columns other rows) t) (row_at rows t)) (sym (state-alike rows t))
-            (settled-back (state_at other (opening_start other) rows t) (inputs_at (in_columns other rows) t) (row_at rows t) (run.settled t lt));
+        settled = λ t lt.
+            let inputs = inputs_at (in_columns other shown) (later start.cycle t) in
+            subst (λ (s : State). Settled one s inputs (row_at rows t)) (sym (state-alike start rows t)) (settled-back (state_at other start rows t) inputs (row_at rows t) (run.settled t lt));
       })
 
   -- ---- needs

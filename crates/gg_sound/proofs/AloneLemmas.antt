@@ -95,45 +95,45 @@ module _ (part alone : Part) (memory : Memory) (formed : IsWellFormed part.piece
   count = ap length is.memories
 
   module _ (inner : Memory) (only : alone.piece.memories ≡ inner ∷ []) where
-    whole : memory ≡ renamed_memory alone.globals inner
+    whole : memory ≡ renamed_memory alone.globals alone.clocks inner
     whole =
         ap (λ (l : List Memory). get_or l 0 memory) (sym own.only)
         ∙ ap (λ k. get_or part.piece.memories k memory) (sym first)
         ∙ (is.is_part.memory_from 0 (omega (arith, count))).is inner memory
-        ∙ ap (λ (l : List Memory). renamed_memory alone.globals (get_or l 0 inner)) only
+        ∙ ap (λ (l : List Memory). renamed_memory alone.globals alone.clocks (get_or l 0 inner)) only
 
     below : MemoryBelow (length alone.globals) inner
     below = subst (λ (l : List Memory). MemoryBelow (length alone.globals) (get_or l 0 inner)) only ((is.is_part.memory_from 0 (omega (arith, count))).below inner)
 
     looks : All (LooksAmong (length alone.piece.ins)) inner.readers
     looks r any lt =
-        let among = All-unmap (ReaderAmong part.piece.ins) (renamed_reader alone.globals) inner.readers (subst (λ (x : Memory). All (ReaderAmong part.piece.ins) x.readers) whole own.looks) r any lt in
+        let among = All-unmap (ReaderAmong part.piece.ins) (renamed_reader alone.globals alone.clocks) inner.readers (subst (λ (x : Memory). All (ReaderAmong part.piece.ins) x.readers) whole own.looks) r any lt in
         let at = below.readers r any lt in
         let reader = get_or inner.readers r any in
         (field-low reader.addr at.0 among.0, field-low reader.en at.1 among.1)
 
     writes : All (WritesAmong (length alone.piece.ins)) inner.writers
     writes r any lt =
-        let among = All-unmap (WriterAmong part.piece.ins) (renamed_writer alone.globals) inner.writers (subst (λ (x : Memory). All (WriterAmong part.piece.ins) x.writers) whole own.writes) r any lt in
+        let among = All-unmap (WriterAmong part.piece.ins) (renamed_writer alone.globals alone.clocks) inner.writers (subst (λ (x : Memory). All (WriterAmong part.piece.ins) x.writers) whole own.writes) r any lt in
         let at = below.writers r any lt in
         let writer = get_or inner.writers r any in
         (field-low writer.addr at.0 among.0, field-low writer.en at.1 among.1, field-low writer.word at.2 among.2, field-low writer.mask at.3 among.3)
 
     few : length inner.readers + length inner.writers < 2 ^ 32
     few =
-        let reads : length memory.readers ≡ length inner.readers = ap (λ (x : Memory). length x.readers) whole ∙ length-map inner.readers (renamed_reader alone.globals) in
-        let writes : length memory.writers ≡ length inner.writers = ap (λ (x : Memory). length x.writers) whole ∙ length-map inner.writers (renamed_writer alone.globals) in
+        let reads : length memory.readers ≡ length inner.readers = ap (λ (x : Memory). length x.readers) whole ∙ length-map inner.readers (renamed_reader alone.globals alone.clocks) in
+        let writes : length memory.writers ≡ length inner.writers = ap (λ (x : Memory). length x.writers) whole ∙ length-map inner.writers (renamed_writer alone.globals alone.clocks) in
         omega (arith, reads, writes, own.few)
 
     words : alone.piece.outs ≡ map (λ (reader : Reader). reader.word) inner.readers
     words =
-        words-back alone.globals is.is_part.once alone.piece.outs inner.readers is.is_part.outs below.readers
+        words-back alone.globals is.is_part.once alone.clocks alone.piece.outs inner.readers is.is_part.outs below.readers
         (is.outs ∙ own.words ∙ ap (λ (x : Memory). map (λ (reader : Reader). reader.word) x.readers) whole)
 
     piece-with : IsMemoryPiece alone.piece
     piece-with =
         record {
-          formed = IsWellFormed-part part.piece alone.piece alone.globals alone.held alone.memories formed is.is_part;
+          formed = IsWellFormed-part part.piece alone.piece alone.globals alone.held alone.memories alone.clocks formed is.is_part;
           one = is.is_part.memory_count ∙ count;
           alone = no-registers;
           first = in-first;

@@ -1,5 +1,5 @@
 -- Numbers that stand for other numbers: what holds of the others holds of them too.
-use Rattle.std.proofs.Common.{◌≡◌, ◌≢◌, ℕ, ◌<◌, List, length, map, get_or, sym, ◌∙◌, ap, subst, arith}
+use Rattle.std.proofs.Common.{◌≡◌, ◌≢◌, ℕ, ◌<◌, List, length, map, get_or, sym, ◌∙◌, ap, subst, arith, Option}
 use Rattle.std.specs.Prelude.{All, AllPairs, Contains, None}
 use Rattle.std.proofs.lemmas.List.{length-map, get_or-map, get_or_default}
 use Rattle.std.proofs.lemmas.Grind.{same_number_lists}
@@ -37,13 +37,13 @@ module _ (globals : List ℕ) (once : AllPairs (λ a b. a ≢ b) globals) where
       (sym (get_or-map (value_at globals) xs k 0 0 lt) ∙ ap (λ (l : List ℕ). value_at l k) is ∙ get_or-map (value_at globals) ys k 0 0 inside))
 
   -- out-signals that stand for the data of readers are the data of these readers
-  pub words-back : (outs : List ℕ) (readers : List Reader) → ((k : ℕ) → k < length outs → value_at outs k < length globals) → All (λ reader. ReadsAmong (length globals) reader) readers → map (value_at globals) outs ≡ map (λ (reader : Reader). reader.word) (map (renamed_reader globals) readers)
+  pub words-back : (clocks : List (Option ℕ)) (outs : List ℕ) (readers : List Reader) → ((k : ℕ) → k < length outs → value_at outs k < length globals) → All (λ reader. ReadsAmong (length globals) reader) readers → map (value_at globals) outs ≡ map (λ (reader : Reader). reader.word) (map (renamed_reader globals clocks) readers)
       → outs ≡ map (λ (reader : Reader). reader.word) readers
-  words-back outs readers low among is =
+  words-back clocks outs readers low among is =
       let word : Reader → ℕ = λ reader. reader.word in
       let nobody : Reader = record { addr = 0; en = 0; word = 0; clock = None } in
       map-back outs (map word readers) low
       (λ k lt.
       let inside : k < length readers = omega (arith, lt, length-map readers word) in
       subst (λ s. s < length globals) (sym (get_or-map word readers k nobody 0 inside)) (among k nobody inside).2)
-      (is ∙ map-map word (renamed_reader globals) readers ∙ sym (map-map (value_at globals) word readers))
+      (is ∙ map-map word (renamed_reader globals clocks) readers ∙ sym (map-map (value_at globals) word readers))

@@ -3,13 +3,11 @@ use Rattle.std.proofs.Common.{◌≡◌, ℕ, ◌-◌, ◌<◌, ◌≤◌, List,
 use Rattle.std.proofs.lemmas.Bool.{cases_lt}
 use Rattle.std.proofs.lemmas.List.{nil_from_length, length-map, length-append, get_or-map, get_or-append_right}
 use Rattle.gg_flat.specs.Line.{value_at}
-use Rattle.gg_flat.specs.Circuit.{FlatCircuit}
-use Rattle.gg_flat.specs.State.{State, opening}
+use Rattle.gg_flat.specs.State.{State}
 use Rattle.gg_flat.proofs.ListLemmas.{once-apart}
 use Rattle.gg_part.specs.Part.{IsPart}
 use Rattle.gg_part.specs.PartRun.{part_state}
 use Rattle.gg_part.specs.declared.part.Part.{Part}
-use Rattle.gg_part.proofs.RunLemmas.{opening-part}
 use Rattle.gg_memunit.proofs.DependLemmas.{IsOutOf}
 
 one-number : (numbers : List ℕ) → length numbers ≡ 1 → numbers ≡ value_at numbers 0 ∷ []
@@ -17,22 +15,16 @@ one-number [] one = absurd (omega arith)
 one-number (x ∷ []) one = refl
 one-number (x ∷ y ∷ numbers) one = absurd (omega arith)
 
--- a part begins in its part of the circuit's state
-part-begins : (whole : FlatCircuit) (part : Part) → IsPart whole part.piece part.globals part.held part.memories → opening part.piece ≡ part_state part.held part.memories (opening whole)
-part-begins whole part is = sym (opening-part whole part.piece part.globals part.held part.memories is)
-
--- a memory that stands alone begins with what its part takes from this state
-pub memory-begins : (part alone : Part) (state : State) → opening part.piece ≡ part_state part.held part.memories state → IsPart part.piece alone.piece alone.globals alone.held alone.memories → alone.memories ≡ 0 ∷ [] → alone.piece.registers ≡ [] → length part.memories ≡ 1 → opening alone.piece ≡ part_state [] part.memories state
-memory-begins part alone state begins inner memories none one =
+-- a memory that stands alone begins with what its part takes from a state
+pub memory-begins : (part alone : Part) (state : State) → IsPart part.piece alone.piece alone.globals alone.held alone.memories alone.clocks → alone.memories ≡ 0 ∷ [] → alone.piece.registers ≡ [] → length part.memories ≡ 1 → part_state alone.held alone.memories (part_state part.held part.memories state) ≡ part_state [] part.memories state
+memory-begins part alone state inner memories none one =
     let held : alone.held ≡ [] = nil_from_length alone.held (sym inner.register_count ∙ ap length none) in
-    part-begins part.piece alone inner
-    ∙ ap₂ (λ (held memories : List ℕ). part_state held memories (opening part.piece)) held memories
-    ∙ ap (part_state [] (0 ∷ [])) begins
+    ap₂ (λ (held memories : List ℕ). part_state held memories (part_state part.held part.memories state)) held memories
     ∙ ap (λ (l : List ℕ). part_state [] (0 ∷ []) (part_state part.held l state)) (one-number part.memories one)
     ∙ ap (λ (l : List ℕ). part_state [] l state) (sym (one-number part.memories one))
 
 -- each signal of a memory that stands alone is an in-signal or an out-signal
-pub memory-sides : (part alone : Part) → IsPart part.piece alone.piece alone.globals alone.held alone.memories → alone.globals ≡ part.piece.ins ++ part.piece.outs → map (value_at alone.globals) alone.piece.ins ≡ part.piece.ins → map (value_at alone.globals) alone.piece.outs ≡ part.piece.outs
+pub memory-sides : (part alone : Part) → IsPart part.piece alone.piece alone.globals alone.held alone.memories alone.clocks → alone.globals ≡ part.piece.ins ++ part.piece.outs → map (value_at alone.globals) alone.piece.ins ≡ part.piece.ins → map (value_at alone.globals) alone.piece.outs ≡ part.piece.outs
     → (s : ℕ) → s < length alone.piece.signals → (s < length alone.piece.ins) ⊎ IsOutOf alone.piece s
 memory-sides part alone is globals ins outs s lt = by (cases_lt s (length part.piece.ins))
   where

@@ -2,6 +2,7 @@
 use Rattle.std.proofs.Common.{◌≡◌, ℕ, ◌^◌, ◌<◌, List, length, ap, subst, arith}
 use Rattle.std.specs.Prelude.{◌==◌}
 use Rattle.gg_flat.specs.WellFormed.{IsWellFormed}
+use Rattle.gg_flat.specs.Run.{Start}
 use Rattle.gg_order.specs.Design.{Ordered}
 use Rattle.gg_partfile.specs.declared.request.Request.{Request}
 use Rattle.gg_part.specs.InOrder.{IsInOrder}
@@ -19,12 +20,12 @@ use Rattle.gg_routes.proofs.RoutedLemmas.{plan-routed}
 use Rattle.gg_sound.specs.Built.{machine_in, nameless, IsGiven}
 use Rattle.gg_sound.proofs.SideLemmas.{source-gives}
 
-module _ (design : Ordered) (request : Request) (default : ℕ) (plan : Plan) (columns : List (List ℕ)) (n : ℕ) (rows : List (List ℕ)) (given : IsGiven design request default plan columns n rows) (m : ℕ) (lt : m < length plan.machines) where
+module _ (design : Ordered) (request : Request) (default : ℕ) (plan : Plan) (columns : List (List ℕ)) (n : ℕ) (start : Start) (rows : List (List ℕ)) (given : IsGiven design request default plan columns n start rows) (m : ℕ) (lt : m < length plan.machines) where
   body : (kind : Body) → (machine_in plan m).body ≡ kind → IsBody design (listed_of design.tree request) (plan_hub design.circuit design.tree request) m kind
   body kind is = subst (IsBody design (listed_of design.tree request) (plan_hub design.circuit design.tree request) m) is (given.planned.machine m nameless lt).body
 
   pub unit-formed : (part : Part) → (machine_in plan m).body ≡ Cut part → IsWellFormed part.piece
-  unit-formed part is = IsWellFormed-part design.circuit part.piece part.globals part.held part.memories given.design_is.formed (body (Cut part) is).1.is
+  unit-formed part is = IsWellFormed-part design.circuit part.piece part.globals part.held part.memories part.clocks given.design_is.formed (body (Cut part) is).1.is
 
   pub unit-ordered : (part : Part) → (machine_in plan m).body ≡ Cut part → IsInOrder part.piece
   unit-ordered part is = (body (Cut part) is).1.ordered

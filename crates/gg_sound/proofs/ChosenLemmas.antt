@@ -76,7 +76,7 @@ fields-low n s memory below h = by (Contains-append_cases (flat_map (λ reader. 
 
 -- ---- the choice
 
-module _ (whole : FlatCircuit) (part : Part) (memory : Memory) (formed : IsWellFormed part.piece) (is : IsPart whole part.piece part.globals part.held part.memories) (own : IsMemoryPart part memory) where
+module _ (whole : FlatCircuit) (part : Part) (memory : Memory) (formed : IsWellFormed part.piece) (is : IsPart whole part.piece part.globals part.held part.memories part.clocks) (own : IsMemoryPart part memory) where
   -- what is chosen is a signal of the part
   pub side-low : (s : ℕ) → Contains (part.piece.ins ++ part.piece.outs) s → s < length part.globals
   side-low s h = by (Contains-append_cases part.piece.ins part.piece.outs s h)

@@ -1,5 +1,5 @@
 -- What sources and trays do.
-use Rattle.std.proofs.Common.{◌≡◌, ℕ, ◌<◌, ◌≤◌, List, [], Bool, None, length, get_or, refl, sym, ◌∙◌, ap, subst, arith}
+use Rattle.std.proofs.Common.{◌≡◌, ℕ, ◌<◌, ◌≤◌, List, [], Bool, None, length, get_or, refl, sym, ◌∙◌, subst, arith}
 use Rattle.gg_limits.specs.Limits.{cycle_limit}
 use Rattle.gg_flat.specs.Line.{value_at}
 use Rattle.gg_flat.specs.Run.{column}
@@ -11,26 +11,26 @@ use Rattle.gg_sound.proofs.DoLemmas.{DoesCycles}
 
 -- ---- sources
 
--- The signals of the source's channels have the column of the input at this place.
-pub source-does : (rows : List (List ℕ)) (n place : ℕ) (columns : List (List ℕ)) (ins outs : List ℕ) (flags : List Bool) (machine : Machine) → length (get_or columns place []) ≡ n → length ins ≡ 0 → ((o : ℕ) → o < length outs → column rows (value_at outs o) ≡ get_or columns place []) → machine ≡ source_machine (get_or columns place []) 0 flags
-    → DoesCycles rows n ins outs (kind_of machine) no_state []
-source-does rows n place columns ins outs flags machine long none all is =
-    subst (λ (t : Machine). DoesCycles rows n ins outs (kind_of t) no_state []) (sym is)
+-- The signals of the source's channels have, from cycle `begin` on, the values of the column of the input at this place.
+pub source-does : (begin : ℕ) (rows : List (List ℕ)) (n place : ℕ) (columns : List (List ℕ)) (ins outs : List ℕ) (flags : List Bool) (machine : Machine) → length (get_or columns place []) ≡ n → length ins ≡ 0
+    → ((o t : ℕ) → o < length outs → begin ≤ t → t < n → value_at (column rows (value_at outs o)) t ≡ value_at (get_or columns place []) t) → machine ≡ source_machine (get_or columns place []) begin flags → DoesCycles begin rows n ins outs (kind_of machine) no_state []
+source-does begin rows n place columns ins outs flags machine long none all is =
+    subst (λ (t : Machine). DoesCycles begin rows n ins outs (kind_of t) no_state []) (sym is)
     (record {
       able = omega (arith, long);
       does = (omega (arith, long), refl);
-      answers = λ o t few below. ap (λ (l : List ℕ). value_at l t) (sym (all o few)) ∙ column-at rows (value_at outs o) t;
-      asks = λ k t few below. absurd (omega (arith, few, none));
+      answers = λ o t few le below. sym (all o t few le below) ∙ column-at rows (value_at outs o) t;
+      asks = λ k t few le below. absurd (omega (arith, few, none));
     })
 
 -- ---- trays
 
-pub tray-does : (rows : List (List ℕ)) (n : ℕ) (ins outs : List ℕ) (machine : Machine) → length ins ≡ 1 → length outs ≡ 0 → n ≤ cycle_limit → machine ≡ tray_machine tray_rows cycle_limit 0 [] None → DoesCycles rows n ins outs (kind_of machine) no_state []
-tray-does rows n ins outs machine one none most is =
-    subst (λ (t : Machine). DoesCycles rows n ins outs (kind_of t) no_state []) (sym is)
+pub tray-does : (begin : ℕ) (rows : List (List ℕ)) (n : ℕ) (ins outs : List ℕ) (machine : Machine) → length ins ≡ 1 → length outs ≡ 0 → n ≤ cycle_limit → machine ≡ tray_machine tray_rows cycle_limit begin [] None → DoesCycles begin rows n ins outs (kind_of machine) no_state []
+tray-does begin rows n ins outs machine one none most is =
+    subst (λ (t : Machine). DoesCycles begin rows n ins outs (kind_of t) no_state []) (sym is)
     (record {
       able = most;
       does = (refl, refl, λ some. omega arith);
-      answers = λ o t few lt. absurd (omega (arith, few, none));
-      asks = λ i t few lt. tt;
+      answers = λ o t few le lt. absurd (omega (arith, few, none));
+      asks = λ i t few le lt. tt;
     })

@@ -4,6 +4,7 @@ use Rattle.std.specs.Prelude.{Option, All, replicate}
 use Rattle.std.proofs.lemmas.List.{length-map, length-replicate, get_or-map}
 use Rattle.std.proofs.lemmas.List.Elements.{All-nil, All-weaker}
 use Rattle.gg_flat.specs.Line.{value_at}
+use Rattle.gg_flat.specs.Run.{Start}
 use Rattle.gg_order.specs.Design.{Ordered}
 use Rattle.gg_partfile.specs.declared.request.Request.{Request}
 use Rattle.gg_part.specs.declared.part.Part.{Part}
@@ -31,8 +32,8 @@ no-ports-fields n = All-nil (λ (port : Port). All (λ i. i < n) (fields_of port
 no-ports-numbers : All (λ (port : Port). port.number < 0) []
 no-ports-numbers = All-nil (λ (port : Port). port.number < 0)
 
-abbrev no_token : Option ℕ
-no_token = None
+abbrev empty_latch : Option ℕ
+empty_latch = None
 
 -- ---- machines with a piece
 
@@ -43,10 +44,10 @@ module _ (design : Ordered) (listed : Listed) (hub : Hub) (m : ℕ) (part : Part
   pub outs-count : length part.piece.outs ≡ length (channels_from (routes hub) m)
   outs-count = sym (length-map part.piece.outs (value_at part.globals)) ∙ ap length cut.outs ∙ length-map (channels_from (routes hub) m) (λ c. (link_at (routes hub) c).given)
 
-  unit-fits : (machine : Machine) → IsUnitOf part machine → IsFitting (routes hub) m (kind_of machine)
-  unit-fits machine unit =
+  unit-fits : (own : Start) (machine : Machine) → IsUnitOf own part machine → IsFitting (routes hub) m (kind_of machine)
+  unit-fits own machine unit =
       let piece = unit.circuit in
-      let ins : length (replicate (length piece.ins) no_token) ≡ length part.piece.ins = length-replicate (length piece.ins) no_token ∙ ap length unit.alike.ins in
+      let ins : length (replicate (length piece.ins) empty_latch) ≡ length part.piece.ins = length-replicate (length piece.ins) empty_latch ∙ ap length unit.alike.ins in
       subst (λ (t : Machine). IsFitting (routes hub) m (kind_of t)) (sym unit.is)
       (record {
         ins = ins ∙ ins-count;
@@ -59,10 +60,10 @@ module _ (design : Ordered) (listed : Listed) (hub : Hub) (m : ℕ) (part : Part
         numbers = no-ports-numbers;
       })
 
-  memory-fits : (machine : Machine) → IsMemoryOf part machine → IsFitting (routes hub) m (kind_of machine)
-  memory-fits machine memory =
+  memory-fits : (own : Start) (machine : Machine) → IsMemoryOf own part machine → IsFitting (routes hub) m (kind_of machine)
+  memory-fits own machine memory =
       let piece = memory.alone.piece in
-      let ins = length-replicate (length piece.ins) no_token in
+      let ins = length-replicate (length piece.ins) empty_latch in
       let own_ins : length piece.ins ≡ length part.piece.ins = sym (length-map piece.ins (value_at memory.alone.globals)) ∙ ap length memory.ins in
       let own_outs : length piece.outs ≡ length part.piece.outs = sym (length-map piece.outs (value_at memory.alone.globals)) ∙ ap length memory.outs in
       let is = memory.is_memory in
@@ -76,17 +77,17 @@ module _ (design : Ordered) (listed : Listed) (hub : Hub) (m : ℕ) (part : Part
             let low : o < length piece.outs = omega (arith, there, needs-count piece.memories, ap length is.outs) in
             let read = piece-needs piece o i is low has in
             omega (arith, read.within, ins);
-        fields = All-weaker (IsFitPort (length piece.ins) (count_of piece.memories)) (λ (port : Port). All (λ i. i < length (replicate (length piece.ins) no_token)) (fields_of port.access)) (λ port fit. subst (λ n. All (λ i. i < n) (fields_of port.access)) (sym ins) fit.fields) (ports_of piece.memories) ports;
+        fields = All-weaker (IsFitPort (length piece.ins) (count_of piece.memories)) (λ (port : Port). All (λ i. i < length (replicate (length piece.ins) empty_latch)) (fields_of port.access)) (λ port fit. subst (λ n. All (λ i. i < n) (fields_of port.access)) (sym ins) fit.fields) (ports_of piece.memories) ports;
         numbers = All-weaker (IsFitPort (length piece.ins) (count_of piece.memories)) (λ (port : Port). port.number < count_of piece.memories) (λ port fit. fit.number) (ports_of piece.memories) ports;
       })
 
 -- ---- all machines
 
 module _ (design : Ordered) (listed : Listed) (hub : Hub) (routed : AreRoutes design listed hub) where
-  fits : (columns : List (List ℕ)) (m : ℕ) (body : Body) (machine : Machine) → m < machine_count design.circuit listed → IsBody design listed hub m body → IsBuilt columns (length (channels_from (routes hub) m)) body machine → IsFitting (routes hub) m (kind_of machine)
-  fits columns m (Cut part) machine lt body built = unit-fits design listed hub m part body.1 machine built
-  fits columns m (Memory part) machine lt body built = memory-fits design listed hub m part body.2 machine built
-  fits columns m (Source place) machine lt body built =
+  fits : (columns : List (List ℕ)) (m : ℕ) (own : Start) (body : Body) (machine : Machine) → m < machine_count design.circuit listed → IsBody design listed hub m body → IsBuilt columns (length (channels_from (routes hub) m)) own body machine → IsFitting (routes hub) m (kind_of machine)
+  fits columns m own (Cut part) machine lt body built = unit-fits design listed hub m part body.1 own machine built
+  fits columns m own (Memory part) machine lt body built = memory-fits design listed hub m part body.2 own machine built
+  fits columns m own (Source place) machine lt body built =
       subst (λ (t : Machine). IsFitting (routes hub) m (kind_of t)) (sym built)
       (record {
         ins = sym (source-takes design listed hub routed m place body.0 body.1);
@@ -95,7 +96,7 @@ module _ (design : Ordered) (listed : Listed) (hub : Hub) (routed : AreRoutes de
         fields = no-ports-fields 0;
         numbers = no-ports-numbers;
       })
-  fits columns m Tray machine lt body built =
+  fits columns m own Tray machine lt body built =
       subst (λ (t : Machine). IsFitting (routes hub) m (kind_of t)) (sym built)
       (record {
         ins = sym (tray-takes design listed hub routed m body lt);
@@ -109,15 +110,15 @@ module _ (design : Ordered) (listed : Listed) (hub : Hub) (routed : AreRoutes de
 pub kind-is : (machines : List Machine) (m : ℕ) → m < length machines → kind_at (map kind_of machines) m ≡ kind_of (machine_at machines m)
 kind-is machines m lt = get_or-map kind_of machines m no_machine no_kind lt
 
-pub fitting : (design : Ordered) (request : Request) (default : ℕ) (plan : Plan) (columns : List (List ℕ)) (machines : List Machine) → IsPlan design request default plan → AreRoutes design (listed_of design.tree request) (plan_hub design.circuit design.tree request) → AreBuilt plan columns machines
+pub fitting : (design : Ordered) (request : Request) (default : ℕ) (plan : Plan) (starts : Body → Start) (columns : List (List ℕ)) (machines : List Machine) → IsPlan design request default plan → AreRoutes design (listed_of design.tree request) (plan_hub design.circuit design.tree request) → AreBuilt plan starts columns machines
     → AreFitting (plan_wires design.circuit design.tree request) (length plan.machines) (map kind_of machines)
-fitting design request default plan columns machines planned routed built =
+fitting design request default plan starts columns machines planned routed built =
     let hub = plan_hub design.circuit design.tree request in
     record {
       total = length-map machines kind_of ∙ built.count;
       each = λ m lt.
           let own = planned.machine m nameless lt in
           subst (IsFitting (routes hub) m) (sym (kind-is machines m (omega (arith, lt, built.count))))
-          (fits design (listed_of design.tree request) hub routed columns m (machine_in plan m).body (machine_at machines m) (omega (arith, lt, planned.machine_total)) own.body
-          (subst (λ (l : List ℕ). IsBuilt columns (length l) (machine_in plan m).body (machine_at machines m)) own.outs (built.each m lt)));
+          (fits design (listed_of design.tree request) hub routed columns m (starts (machine_in plan m).body) (machine_in plan m).body (machine_at machines m) (omega (arith, lt, planned.machine_total)) own.body
+          (subst (λ (l : List ℕ). IsBuilt columns (length l) (starts (machine_in plan m).body) (machine_in plan m).body (machine_at machines m)) own.outs (built.each m lt)));
     }

@@ -12,14 +12,15 @@ pub mod NeedLemmas
 pub mod RingLemmas
 pub mod PlanLemmas
 pub mod OpeningLemmas
+pub mod ZeroLemmas
 mod WorkedNetwork
 mod WorkedFork
 pub mod ShownLemmas
 pub mod SeenLemmas
 pub mod ServeLemmas
 pub mod BeginLemmas
-pub mod TickLemmas
 pub mod AlikeLemmas
+pub mod StateLemmas
 pub mod DoLemmas
 pub mod EdgeLemmas
 pub mod SolvedLemmas

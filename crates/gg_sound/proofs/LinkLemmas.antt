@@ -23,36 +23,36 @@ pub record AreLinks (plan : Plan) (links : List Link) : Type 0 where
 
 -- ---- the network's channels by number
 
-pub length-from : (plan : Plan) (a : ℕ) (channels : List Channel) → length (wires_from plan a channels) ≡ length channels
-length-from plan a [] = refl
-length-from plan a (channel ∷ channels) = ap suc (length-from plan (suc a) channels)
+pub length-from : (token : ℕ → ℕ) (plan : Plan) (a : ℕ) (channels : List Channel) → length (wires_from token plan a channels) ≡ length channels
+length-from token plan a [] = refl
+length-from token plan a (channel ∷ channels) = ap suc (length-from token plan (suc a) channels)
 
-pub wire-from : (plan : Plan) (a : ℕ) (channels : List Channel) (c : ℕ) (any : Channel) → c < length channels → wire_at (wires_from plan a channels) c ≡ wire_of plan (a + c) (get_or channels c any)
-wire-from plan a [] c any lt = absurd (omega (arith, lt))
-wire-from plan a (channel ∷ channels) zero any lt = ap (λ k. wire_of plan k channel) (let same : a ≡ a + 0 = omega arith in same)
-wire-from plan a (channel ∷ channels) (suc c) any lt =
-    wire-from plan (suc a) channels c any (omega (arith, lt)) ∙ ap (λ k. wire_of plan k (get_or channels c any)) (let same : suc a + c ≡ a + suc c = omega arith in same)
+pub wire-from : (token : ℕ → ℕ) (plan : Plan) (a : ℕ) (channels : List Channel) (c : ℕ) (any : Channel) → c < length channels → wire_at (wires_from token plan a channels) c ≡ wire_of token plan (a + c) (get_or channels c any)
+wire-from token plan a [] c any lt = absurd (omega (arith, lt))
+wire-from token plan a (channel ∷ channels) zero any lt = ap (λ k. wire_of token plan k channel) (let same : a ≡ a + 0 = omega arith in same)
+wire-from token plan a (channel ∷ channels) (suc c) any lt =
+    wire-from token plan (suc a) channels c any (omega (arith, lt)) ∙ ap (λ k. wire_of token plan k (get_or channels c any)) (let same : suc a + c ≡ a + suc c = omega arith in same)
 
 -- A channel of the network leads where its link does, and stands at the places at which the link's machines list it.
 -- It may hold a token, and opens with one if the plan's channel has a pipe.
-pub record IsLinkedAs (plan : Plan) (links : List Link) (c : ℕ) : Type 0 where
-  pub producer : (wire_at (wires_of_plan plan) c).producer ≡ (link_at links c).producer
-  pub out : (wire_at (wires_of_plan plan) c).out ≡ place_in (channels_from links (link_at links c).producer) c
-  pub consumer : (wire_at (wires_of_plan plan) c).consumer ≡ (link_at links c).consumer
-  pub place : (wire_at (wires_of_plan plan) c).place ≡ place_in (channels_to links (link_at links c).consumer) c
-  pub some : 0 < (wire_at (wires_of_plan plan) c).capacity
-  pub first : (any : Channel) → c < length plan.channels → (wire_at (wires_of_plan plan) c).first ≡ first_token (get_or plan.channels c any).pipe
+pub record IsLinkedAs (token : ℕ → ℕ) (plan : Plan) (links : List Link) (c : ℕ) : Type 0 where
+  pub producer : (wire_at (wires_of_plan token plan) c).producer ≡ (link_at links c).producer
+  pub out : (wire_at (wires_of_plan token plan) c).out ≡ place_in (channels_from links (link_at links c).producer) c
+  pub consumer : (wire_at (wires_of_plan token plan) c).consumer ≡ (link_at links c).consumer
+  pub place : (wire_at (wires_of_plan token plan) c).place ≡ place_in (channels_to links (link_at links c).consumer) c
+  pub some : 0 < (wire_at (wires_of_plan token plan) c).capacity
+  pub first : (any : Channel) → c < length plan.channels → (wire_at (wires_of_plan token plan) c).first ≡ first_token (get_or plan.channels c any).pipe (token (get_or plan.channels c any).signal)
 
-module _ (plan : Plan) (links : List Link) (are : AreLinks plan links) where
-  pub length-wires : length (wires_of_plan plan) ≡ length links
-  length-wires = length-from plan 0 plan.channels ∙ are.count
+module _ (token : ℕ → ℕ) (plan : Plan) (links : List Link) (are : AreLinks plan links) where
+  pub length-wires : length (wires_of_plan token plan) ≡ length links
+  length-wires = length-from token plan 0 plan.channels ∙ are.count
 
-  pub linked : (c : ℕ) → c < length links → IsLinkedAs plan links c
+  pub linked : (c : ℕ) → c < length links → IsLinkedAs token plan links c
   linked c lt =
       let known : c < length plan.channels = omega (arith, lt, are.count) in
       let any = some-item plan.channels c known in
       let channel = get_or plan.channels c any in
-      let is : wire_at (wires_of_plan plan) c ≡ wire_of plan c channel = wire-from plan 0 plan.channels c any known ∙ ap (λ k. wire_of plan k channel) (let same : 0 + c ≡ c = omega arith in same) in
+      let is : wire_at (wires_of_plan token plan) c ≡ wire_of token plan c channel = wire-from token plan 0 plan.channels c any known ∙ ap (λ k. wire_of token plan k channel) (let same : 0 + c ≡ c = omega arith in same) in
       let ends = are.ends c lt in
       let gives = are.producer c any known in
       let takes = are.consumer c any known in
@@ -63,5 +63,5 @@ module _ (plan : Plan) (links : List Link) (are : AreLinks plan links) where
         place = ap (λ w. w.place) is ∙ ap (λ p. place_in (machine_in plan p).ins c) takes ∙ ap (λ l. place_in l c) (are.ins (link_at links c).consumer ends.1);
         some = subst (λ (w : Wire). 0 < w.capacity) (sym is) (are.some c any known);
         first = λ other there.
-            ap (λ w. w.first) is ∙ ap (λ (d : Channel). first_token d.pipe) (get_or_default plan.channels c any other there);
+            ap (λ w. w.first) is ∙ ap (λ (d : Channel). first_token d.pipe (token d.signal)) (get_or_default plan.channels c any other there);
       }

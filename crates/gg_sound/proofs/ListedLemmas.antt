@@ -54,25 +54,25 @@ module _ (links : List Link) (m : ℕ) where
 
 -- ---- in the network
 
-module _ (plan : Plan) (links : List Link) (are : AreLinks plan links) where
-  pub at-in : (m i : ℕ) → i < length (channels_to links m) → IsAtIn (wires_of_plan plan) m i (value_at (channels_to links m) i)
+module _ (token : ℕ → ℕ) (plan : Plan) (links : List Link) (are : AreLinks plan links) where
+  pub at-in : (m i : ℕ) → i < length (channels_to links m) → IsAtIn (wires_of_plan token plan) m i (value_at (channels_to links m) i)
   at-in m i lt =
       let c = value_at (channels_to links m) i in
       let taken = taken-at links m i lt in
-      let link = linked plan links are c taken.known in
+      let link = linked token plan links are c taken.known in
       record {
-        known = omega (arith, taken.known, length-wires plan links are);
+        known = omega (arith, taken.known, length-wires token plan links are);
         machine = link.consumer ∙ taken.consumer;
         place = link.place ∙ ap (λ p. place_in (channels_to links p) c) taken.consumer ∙ place-back (channels_to links m) i (numbers-once (λ k. (link_at links k).consumer == m) (length links)) lt;
       }
 
-  pub at-out : (m o : ℕ) → o < length (channels_from links m) → IsAtOut (wires_of_plan plan) m o (value_at (channels_from links m) o)
+  pub at-out : (m o : ℕ) → o < length (channels_from links m) → IsAtOut (wires_of_plan token plan) m o (value_at (channels_from links m) o)
   at-out m o lt =
       let c = value_at (channels_from links m) o in
       let given = given-at links m o lt in
-      let link = linked plan links are c given.known in
+      let link = linked token plan links are c given.known in
       record {
-        known = omega (arith, given.known, length-wires plan links are);
+        known = omega (arith, given.known, length-wires token plan links are);
         machine = link.producer ∙ given.producer;
         out = link.out ∙ ap (λ p. place_in (channels_from links p) c) given.producer ∙ place-back (channels_from links m) o (numbers-once (λ k. (link_at links k).producer == m) (length links)) lt;
       }

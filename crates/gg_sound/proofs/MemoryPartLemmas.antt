@@ -202,22 +202,22 @@ module _ (design : Ordered) (request : Request) (m : ℕ) (part : Part) (is : Is
   -- ---- the memory's fields
 
   module _ (memory : Memory) (only : part.piece.memories ≡ memory ∷ []) where
-    from : IsMemoryFrom circuit part.piece part.globals part.memories 0
+    from : IsMemoryFrom circuit part.piece part.globals part.memories part.clocks 0
     from = cut.is.memory_from 0 (omega (arith, count))
 
     pub known : own < length circuit.memories
     known = subst (λ k. k < length circuit.memories) first from.within
 
-    pub whole : get_or circuit.memories own memory ≡ renamed_memory part.globals memory
+    pub whole : get_or circuit.memories own memory ≡ renamed_memory part.globals part.clocks memory
     whole =
         ap (λ k. get_or circuit.memories k memory) (sym first)
         ∙ from.is memory memory
-        ∙ ap (λ (l : List Memory). renamed_memory part.globals (get_or l 0 memory)) only
+        ∙ ap (λ (l : List Memory). renamed_memory part.globals part.clocks (get_or l 0 memory)) only
 
-    readers : readers_at circuit own ≡ map (renamed_reader part.globals) memory.readers
+    readers : readers_at circuit own ≡ map (renamed_reader part.globals part.clocks) memory.readers
     readers = get_or-map (λ (x : Memory). x.readers) circuit.memories own memory [] known ∙ ap (λ (x : Memory). x.readers) whole
 
-    writers : writers_at circuit own ≡ map (renamed_writer part.globals) memory.writers
+    writers : writers_at circuit own ≡ map (renamed_writer part.globals part.clocks) memory.writers
     writers = get_or-map (λ (x : Memory). x.writers) circuit.memories own memory [] known ∙ ap (λ (x : Memory). x.writers) whole
 
     below : MemoryBelow (length part.globals) memory
@@ -232,9 +232,9 @@ module _ (design : Ordered) (request : Request) (m : ℕ) (part : Part) (is : Is
     abbrev from_writers : List Link
     from_writers = flattened (writer_wires outside (first_memory listed + i)) (writers_at circuit own)
 
-    reader-link : (r : ℕ) (any : Reader) (w : Link) → r < length memory.readers → Contains (reader_wires outside (first_memory listed + i) (renamed_reader part.globals (get_or memory.readers r any))) w → Contains plain w
+    reader-link : (r : ℕ) (any : Reader) (w : Link) → r < length memory.readers → Contains (reader_wires outside (first_memory listed + i) (renamed_reader part.globals part.clocks (get_or memory.readers r any))) w → Contains plain w
     reader-link r any w lt h =
-        let rename = renamed_reader part.globals in
+        let rename = renamed_reader part.globals part.clocks in
         let inside : r < length (readers_at circuit own) = omega (arith, lt, ap length readers, length-map memory.readers rename) in
         let at : get_or (readers_at circuit own) r (rename any) ≡ rename (get_or memory.readers r any) = ap (λ (l : List Reader). get_or l r (rename any)) readers ∙ get_or-map rename memory.readers r any (rename any) lt in
         in-fields circuit tree listed i w there
@@ -242,9 +242,9 @@ module _ (design : Ordered) (request : Request) (m : ℕ) (part : Part) (is : Is
         (flattened-in (reader_wires outside (first_memory listed + i)) (readers_at circuit own) r (rename any) w inside
         (subst (λ (x : Reader). Contains (reader_wires outside (first_memory listed + i) x) w) (sym at) h)))
 
-    writer-link : (r : ℕ) (any : Writer) (w : Link) → r < length memory.writers → Contains (writer_wires outside (first_memory listed + i) (renamed_writer part.globals (get_or memory.writers r any))) w → Contains plain w
+    writer-link : (r : ℕ) (any : Writer) (w : Link) → r < length memory.writers → Contains (writer_wires outside (first_memory listed + i) (renamed_writer part.globals part.clocks (get_or memory.writers r any))) w → Contains plain w
     writer-link r any w lt h =
-        let rename = renamed_writer part.globals in
+        let rename = renamed_writer part.globals part.clocks in
         let inside : r < length (writers_at circuit own) = omega (arith, lt, ap length writers, length-map memory.writers rename) in
         let at : get_or (writers_at circuit own) r (rename any) ≡ rename (get_or memory.writers r any) = ap (λ (l : List Writer). get_or l r (rename any)) writers ∙ get_or-map rename memory.writers r any (rename any) lt in
         in-fields circuit tree listed i w there
@@ -278,15 +278,15 @@ module _ (design : Ordered) (request : Request) (m : ℕ) (part : Part) (is : Is
 
     words : part.piece.outs ≡ map (λ (reader : Reader). reader.word) memory.readers
     words =
-        words-back part.globals cut.is.once part.piece.outs memory.readers cut.is.outs below.readers
+        words-back part.globals cut.is.once part.clocks part.piece.outs memory.readers cut.is.outs below.readers
         (outs-are ∙ words-still hub base m number-is-memory no-hub ∙ memory-gives circuit tree listed m i there number outputs-apart ∙ ap (map (λ (reader : Reader). reader.word)) readers)
 
     few : AreFew circuit tree request → length memory.readers + length memory.writers ≤ 16384
     few are =
         let channels = are.channels in
         let ports = memory-few circuit tree listed (is_piped circuit request) request.direct base i there in
-        let reads : length (readers_at circuit own) ≡ length memory.readers = ap length readers ∙ length-map memory.readers (renamed_reader part.globals) in
-        let writes : length (writers_at circuit own) ≡ length memory.writers = ap length writers ∙ length-map memory.writers (renamed_writer part.globals) in
+        let reads : length (readers_at circuit own) ≡ length memory.readers = ap length readers ∙ length-map memory.readers (renamed_reader part.globals part.clocks) in
+        let writes : length (writers_at circuit own) ≡ length memory.writers = ap length writers ∙ length-map memory.writers (renamed_writer part.globals part.clocks) in
         omega (arith, channels, ports, reads, writes)
 
   pub memory-part : AreFew circuit tree request → (memory : Memory) × IsMemoryPart part memory

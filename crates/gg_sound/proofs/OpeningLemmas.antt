@@ -1,8 +1,8 @@
--- The machines of the network are before their first cycle, each in the state in which it begins.
+-- The machines of the network are before their first step, each in the state in which it begins.
 use Rattle.std.proofs.Common.{◌≡◌, ℕ, ◌<◌, List, None, false, length, refl, sym, ◌∙◌, ap, subst, arith}
 use Rattle.std.specs.Prelude.{Option, replicate}
 use Rattle.std.proofs.lemmas.List.{length-replicate, get_or-map}
-use Rattle.gg_flat.specs.State.{opening}
+use Rattle.gg_flat.specs.Run.{Start}
 use Rattle.gg_flat.specs.Streams.{state_in}
 use Rattle.gg_order.specs.Design.{Ordered}
 use Rattle.gg_partfile.specs.declared.request.Request.{Request}
@@ -16,13 +16,10 @@ use Rattle.gg_cut.specs.Direct.{Hub, plan_hub}
 use Rattle.gg_cut.specs.Plan.{IsBody}
 use Rattle.gg_closed.proofs.FaultlessLemmas.{faultless-apart, faultless-few}
 use Rattle.gg_routes.proofs.RoutedLemmas.{plan-routed}
-use Rattle.gg_pipe.specs.Made.{plan_reference}
 use Rattle.gg_node.specs.Machine.{Machine, machine_at, no_state}
 use Rattle.gg_net.specs.Net.{IsOpening}
-use Rattle.gg_sound.specs.Built.{machine_in, nameless, IsBuilt, AreBuilt, IsGiven, body_state, states_of, flow_of}
-use Rattle.gg_sound.proofs.AlikeLemmas.{opening-alike}
+use Rattle.gg_sound.specs.Built.{machine_in, nameless, IsBuilt, AreBuilt, IsGiven, body_start, body_state, states_of, flow_of}
 use Rattle.gg_sound.proofs.MemoryPartLemmas.{memory-part}
-use Rattle.gg_sound.proofs.SeenLemmas.{seen-begins}
 use Rattle.gg_sound.proofs.BeginLemmas.{memory-begins}
 
 -- lists of empty latches and of clear flags, by their own length
@@ -32,20 +29,20 @@ latches-of n = let none : Option ℕ = None in ap (λ (k : ℕ). replicate k non
 flags-of : (n : ℕ) → replicate n false ≡ replicate (length (replicate n false)) false
 flags-of n = ap (λ (k : ℕ). replicate k false) (sym (length-replicate n false))
 
-module _ (design : Ordered) (request : Request) (default : ℕ) (plan : Plan) (columns : List (List ℕ)) (n : ℕ) (rows : List (List ℕ)) (machines : List Machine) (given : IsGiven design request default plan columns n rows) (built : AreBuilt plan columns machines) where
+module _ (design : Ordered) (request : Request) (default : ℕ) (plan : Plan) (columns : List (List ℕ)) (n : ℕ) (start : Start) (rows : List (List ℕ)) (machines : List Machine) (given : IsGiven design request default plan columns n start rows) (built : AreBuilt plan (body_start start) columns machines) where
   abbrev listed : Listed
   listed = listed_of design.tree request
 
   abbrev hub : Hub
   hub = plan_hub design.circuit design.tree request
 
-  -- a machine with this body begins in its part of the opening
-  opens : (m outs : ℕ) (body : Body) (machine : Machine) → IsBody design listed hub m body → state_in (states_of plan (opening (plan_reference design request))) m ≡ body_state body (opening (plan_reference design request)) → IsBuilt columns outs body machine → IsOpening (flow_of design request plan rows) m machine
+  -- a machine with this body begins in its part of the start
+  opens : (m outs : ℕ) (body : Body) (machine : Machine) → IsBody design listed hub m body → state_in (states_of plan start.state) m ≡ body_state body start.state → IsBuilt columns outs (body_start start body) body machine → IsOpening (flow_of design request plan start rows) m machine
   opens m outs (Cut part) machine body begins unit =
-      subst (IsOpening (flow_of design request plan rows) m) (sym unit.is)
+      subst (IsOpening (flow_of design request plan start rows) m) (sym unit.is)
       (record {
         cycle = refl;
-        state = opening-alike unit.circuit part.piece unit.alike ∙ seen-begins design request given.design_is given.keeps given.held given.faultless m part body.1 ∙ sym begins;
+        state = sym begins;
         served = refl;
         latches = latches-of (length unit.circuit.ins);
         flags = flags-of (length unit.circuit.outs);
@@ -53,22 +50,20 @@ module _ (design : Ordered) (request : Request) (default : ℕ) (plan : Plan) (c
       })
   opens m outs (Memory part) machine body begins memory =
       let own = memory-part design request m part given.design_is given.keeps (faultless-apart design request given.faultless given.keeps.fitting) (plan-routed design request given.design_is given.keeps given.faultless) body.0 body.1 body.2 (faultless-few design request given.faultless) in
-      subst (IsOpening (flow_of design request plan rows) m) (sym memory.is)
+      subst (IsOpening (flow_of design request plan start rows) m) (sym memory.is)
       (record {
         cycle = refl;
-        state =
-            memory-begins part memory.alone (opening (plan_reference design request)) (seen-begins design request given.design_is given.keeps given.held given.faultless m part body.2) memory.is_part memory.memories memory.is_memory.alone own.1.count
-            ∙ sym begins;
+        state = memory-begins part memory.alone start.state memory.is_part memory.memories memory.is_memory.alone own.1.count ∙ sym begins;
         served = refl;
         latches = latches-of (length memory.alone.piece.ins);
         flags = flags-of (length memory.alone.piece.outs);
         kept = refl;
       })
-  opens m outs (Source place) machine body begins is = subst (IsOpening (flow_of design request plan rows) m) (sym is) (record { cycle = refl; state = refl; served = refl; latches = refl; flags = flags-of outs; kept = refl })
-  opens m outs Tray machine body begins is = subst (IsOpening (flow_of design request plan rows) m) (sym is) (record { cycle = refl; state = refl; served = refl; latches = refl; flags = refl; kept = refl })
+  opens m outs (Source place) machine body begins is = subst (IsOpening (flow_of design request plan start rows) m) (sym is) (record { cycle = refl; state = refl; served = refl; latches = refl; flags = flags-of outs; kept = refl })
+  opens m outs Tray machine body begins is = subst (IsOpening (flow_of design request plan start rows) m) (sym is) (record { cycle = refl; state = refl; served = refl; latches = refl; flags = refl; kept = refl })
 
-  pub built-opening : (m : ℕ) → m < length machines → IsOpening (flow_of design request plan rows) m (machine_at machines m)
+  pub built-opening : (m : ℕ) → m < length machines → IsOpening (flow_of design request plan start rows) m (machine_at machines m)
   built-opening m lt =
       let known : m < length plan.machines = omega (arith, lt, built.count) in
       opens m (length (machine_in plan m).outs) (machine_in plan m).body (machine_at machines m) (given.planned.machine m nameless known).body
-      (get_or-map (λ (machine : planned.Machine). body_state machine.body (opening (plan_reference design request))) plan.machines m nameless no_state known) (built.each m known)
+      (get_or-map (λ (machine : planned.Machine). body_state machine.body start.state) plan.machines m nameless no_state known) (built.each m known)

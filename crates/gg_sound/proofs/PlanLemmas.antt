@@ -2,6 +2,7 @@
 use Rattle.std.proofs.Common.{ℕ, ◌<◌, List, length, map, sym, ◌∙◌, ap, subst, arith}
 use Rattle.std.specs.Prelude.{◌==◌}
 use Rattle.gg_flat.specs.Line.{value_at}
+use Rattle.gg_flat.specs.Run.{Start}
 use Rattle.gg_order.specs.Design.{Ordered}
 use Rattle.gg_partfile.specs.declared.request.Request.{Request}
 use Rattle.gg_cut.specs.declared.plan.Plan.{Plan}
@@ -10,6 +11,7 @@ use Rattle.gg_cut.specs.Direct.{plan_hub, plan_wires}
 use Rattle.gg_cut.specs.Plan.{wire_at as link_at}
 use Rattle.gg_cut.proofs.WireLemmas.{all-plain}
 use Rattle.gg_cut.proofs.RangeLemmas.{filter-few}
+use Rattle.gg_cut.specs.declared.plan.Body.{Body}
 use Rattle.gg_closed.proofs.FaultlessLemmas.{faultless-few}
 use Rattle.gg_routes.specs.Routes.{AreRoutes}
 use Rattle.gg_routes.proofs.RoutedLemmas.{plan-routed}
@@ -26,7 +28,7 @@ use Rattle.gg_sound.proofs.NeedLemmas.{HasNeeds, has-needs}
 use Rattle.gg_sound.proofs.CopyLemmas.{routes-reach}
 use Rattle.gg_sound.proofs.RingLemmas.{no-ring}
 
-module _ (design : Ordered) (request : Request) (default : ℕ) (plan : Plan) (columns : List (List ℕ)) (n : ℕ) (rows : List (List ℕ)) (machines : List Machine) (given : IsGiven design request default plan columns n rows) (built : AreBuilt plan columns machines) where
+module _ (design : Ordered) (request : Request) (default : ℕ) (plan : Plan) (columns : List (List ℕ)) (n : ℕ) (start : Start) (rows : List (List ℕ)) (token : ℕ → ℕ) (starts : Body → Start) (machines : List Machine) (given : IsGiven design request default plan columns n start rows) (built : AreBuilt plan starts columns machines) where
   pub routed : AreRoutes design (listed_of design.tree request) (plan_hub design.circuit design.tree request)
   routed = plan-routed design request given.design_is given.keeps given.faultless
 
@@ -34,12 +36,12 @@ module _ (design : Ordered) (request : Request) (default : ℕ) (plan : Plan) (c
   links = links-of design request default plan given.design_is given.keeps given.faultless given.some given.planned
 
   pub fit : AreFitting (plan_wires design.circuit design.tree request) (length plan.machines) (map kind_of machines)
-  fit = fitting design request default plan columns machines given.planned routed built
+  fit = fitting design request default plan starts columns machines given.planned routed built
 
-  pub plan-wired : IsWired (plan_frame plan machines n)
-  plan-wired = wired plan (plan_wires design.circuit design.tree request) (map kind_of machines) n links fit
+  pub plan-wired : IsWired (plan_frame token plan machines n)
+  plan-wired = wired token plan (plan_wires design.circuit design.tree request) (map kind_of machines) n links fit
 
-  pub plan-listed : (m : ℕ) → m < length plan.machines → IsListedAt plan m (kind_at (map kind_of machines) m)
+  pub plan-listed : (m : ℕ) → m < length plan.machines → IsListedAt token plan m (kind_at (map kind_of machines) m)
   plan-listed m lt =
       let all = plan_wires design.circuit design.tree request in
       let own = fit.each m lt in
@@ -48,9 +50,9 @@ module _ (design : Ordered) (request : Request) (default : ℕ) (plan : Plan) (c
       let channels = (faultless-few design request given.faultless).channels in
       record {
         ins = ap length ins ∙ sym own.ins;
-        into = λ i low. subst (λ (l : List ℕ). IsAtIn (wires_of_plan plan) m i (value_at l i)) (sym ins) (at-in plan all links m i (omega (arith, low, own.ins)));
+        into = λ i low. subst (λ (l : List ℕ). IsAtIn (wires_of_plan token plan) m i (value_at l i)) (sym ins) (at-in token plan all links m i (omega (arith, low, own.ins)));
         outs = ap length outs ∙ sym own.outs;
-        from = λ o low. subst (λ (l : List ℕ). IsAtOut (wires_of_plan plan) m o (value_at l o)) (sym outs) (at-out plan all links m o (omega (arith, low, own.outs)));
+        from = λ o low. subst (λ (l : List ℕ). IsAtOut (wires_of_plan token plan) m o (value_at l o)) (sym outs) (at-out token plan all links m o (omega (arith, low, own.outs)));
         few = (
           omega (arith, own.ins, channels, filter-few (λ c. (link_at all c).consumer == m) 0 (length all)),
           omega (arith, own.outs, channels, filter-few (λ c. (link_at all c).producer == m) 0 (length all)),
@@ -60,9 +62,9 @@ module _ (design : Ordered) (request : Request) (default : ℕ) (plan : Plan) (c
   needs : (m : ℕ) → m < length plan.machines → HasNeeds design.circuit (plan_wires design.circuit design.tree request) m (kind_at (map kind_of machines) m)
   needs m lt =
       subst (HasNeeds design.circuit (plan_wires design.circuit design.tree request) m) (sym (kind-is machines m (omega (arith, lt, built.count))))
-      (has-needs design (listed_of design.tree request) (plan_hub design.circuit design.tree request) columns (length (machine_in plan m).outs) m (machine_in plan m).body (machine_at machines m) (given.planned.machine m nameless lt).body (built.each m lt))
+      (has-needs design (listed_of design.tree request) (plan_hub design.circuit design.tree request) columns (length (machine_in plan m).outs) m (starts (machine_in plan m).body) (machine_in plan m).body (machine_at machines m) (given.planned.machine m nameless lt).body (built.each m lt))
 
-  pub plan-no-ring : HasNoRing (plan_frame plan machines n)
+  pub plan-no-ring : HasNoRing (plan_frame token plan machines n)
   plan-no-ring =
       let reached = routes-reach (plan_hub design.circuit design.tree request) design.order given.design_is.ordered (all-plain design.circuit design.tree (listed_of design.tree request)) in
-      no-ring plan (plan_wires design.circuit design.tree request) (map kind_of machines) n design.circuit design.order given.design_is.ordered links reached routed.no_echo needs
+      no-ring token plan (plan_wires design.circuit design.tree request) (map kind_of machines) n design.circuit design.order given.design_is.ordered links reached routed.no_echo needs

@@ -1,5 +1,5 @@
 -- What a signal reaches comes before it in an order of evaluation, and what it reaches in a part it reaches in the whole circuit.
-use Rattle.std.proofs.Common.{◌≡◌, ℕ, ◌<◌, List, length, refl, sym, ◌∙◌, subst, inl, inr, ◌⊎◌, arith}
+use Rattle.std.proofs.Common.{◌≡◌, ℕ, ◌<◌, List, length, refl, sym, ◌∙◌, subst, inl, inr, ◌⊎◌, arith, Option}
 use Rattle.std.proofs.lemmas.List.{get_or_default}
 use Rattle.gg_flat.specs.Line.{value_at}
 use Rattle.gg_flat.specs.Circuit.{FlatCircuit, driver_at}
@@ -35,7 +35,7 @@ module _ (circuit : FlatCircuit) (order : List ℕ) (ordered : IsOrder circuit o
 
 -- ---- parts
 
-module _ (whole part : FlatCircuit) (globals held memories : List ℕ) (is : IsPart whole part globals held memories) where
+module _ (whole part : FlatCircuit) (globals held memories : List ℕ) (clocks : List (Option ℕ)) (is : IsPart whole part globals held memories clocks) where
   -- x is a signal of the part, and a reaches it in the whole circuit
   record IsReachedIn (a x : ℕ) : Type 0 where
     within : x < length globals

@@ -20,7 +20,7 @@ use Rattle.gg_sound.proofs.ListedLemmas.{taken-placed, given-placed}
 use Rattle.gg_sound.proofs.RankLemmas.{reach-lower}
 use Rattle.gg_sound.proofs.NeedLemmas.{HasNeeds}
 
-module _ (plan : Plan) (links : List Link) (kinds : List Kind) (end : ℕ) (circuit : FlatCircuit) (order : List ℕ) (ordered : IsOrder circuit order) (are : AreLinks plan links) (reached : All (λ (w : Link). Reaches circuit w.signal w.given) links)
+module _ (token : ℕ → ℕ) (plan : Plan) (links : List Link) (kinds : List Kind) (end : ℕ) (circuit : FlatCircuit) (order : List ℕ) (ordered : IsOrder circuit order) (are : AreLinks plan links) (reached : All (λ (w : Link). Reaches circuit w.signal w.given) links)
     (no-echo : (v w : Link) → Contains links v → Contains links w → v.producer ≡ w.consumer → v.given ≢ w.signal) (needs : (m : ℕ) → m < length plan.machines → HasNeeds circuit links m (kind_at kinds m)) where
   -- the place in the order of the signal by which each link is given
   abbrev ranks : List ℕ
@@ -36,12 +36,12 @@ module _ (plan : Plan) (links : List Link) (kinds : List Kind) (end : ℕ) (circ
     joined : (link_at links d).consumer ≡ (link_at links c).producer
     behind : Reaches circuit (link_at links c).given (link_at links d).signal
 
-  behind : (c d : ℕ) → NeedsChannel (record { kinds = kinds; wires = wires_of_plan plan; end = end }) c d → IsBehind c d
+  behind : (c d : ℕ) → NeedsChannel (record { kinds = kinds; wires = wires_of_plan token plan; end = end }) c d → IsBehind c d
   behind c d need =
-      let lc : c < length links = omega (arith, need.known, length-wires plan links are) in
-      let ld : d < length links = omega (arith, need.at.known, length-wires plan links are) in
-      let from = linked plan links are c lc in
-      let into = linked plan links are d ld in
+      let lc : c < length links = omega (arith, need.known, length-wires token plan links are) in
+      let ld : d < length links = omega (arith, need.at.known, length-wires token plan links are) in
+      let from = linked token plan links are c lc in
+      let into = linked token plan links are d ld in
       let p = (link_at links c).producer in
       let joined : (link_at links d).consumer ≡ p = sym into.consumer ∙ need.at.machine ∙ from.producer in
       let given = given-placed links p c (record { known = lc; producer = refl }) in
@@ -51,7 +51,7 @@ module _ (plan : Plan) (links : List Link) (kinds : List Kind) (end : ℕ) (circ
       let i = place_in (channels_to links p) d in
       let needed = subst (λ k. Contains (needs_at (kind_at kinds p).needs o) k) place
       (subst (λ k. Contains (needs_at (kind_at kinds p).needs k) need.place) from.out
-      (subst (λ m. Contains (needs_at (kind_at kinds m).needs (wire_at (wires_of_plan plan) c).out) need.place) from.producer need.needed)) in
+      (subst (λ m. Contains (needs_at (kind_at kinds m).needs (wire_at (wires_of_plan token plan) c).out) need.place) from.producer need.needed)) in
       let to = (needs p (are.ends c lc).0).reach o i needed in
       let out : value_at (givens_of links (channels_from links p)) o ≡ (link_at links c).given = get_or-map (λ k. (link_at links k).given) (channels_from links p) o 0 0 given.within ∙ ap (λ k. (link_at links k).given) given.is in
       let in_signal : value_at (signals_of links (channels_to links p)) i ≡ (link_at links d).signal = get_or-map (λ k. (link_at links k).signal) (channels_to links p) i 0 0 taken.within ∙ ap (λ k. (link_at links k).signal) taken.is in
@@ -62,7 +62,7 @@ module _ (plan : Plan) (links : List Link) (kinds : List Kind) (end : ℕ) (circ
         behind = subst (λ (s : ℕ). Reaches circuit s (link_at links d).signal) out (subst (λ (s : ℕ). Reaches circuit (value_at (givens_of links (channels_from links p)) o) s) in_signal to);
       }
 
-  lower : (c d : ℕ) → NeedsChannel (record { kinds = kinds; wires = wires_of_plan plan; end = end }) c d → value_at ranks d < value_at ranks c
+  lower : (c d : ℕ) → NeedsChannel (record { kinds = kinds; wires = wires_of_plan token plan; end = end }) c d → value_at ranks d < value_at ranks c
   lower c d need = by is (reach-lower circuit order ordered (link_at links c).given (link_at links d).signal is.behind) (reach-lower circuit order ordered (link_at links d).signal (link_at links d).given (reached d (wire 0 0 0) is.taker))
     where
       is : IsBehind c d
@@ -73,5 +73,5 @@ module _ (plan : Plan) (links : List Link) (kinds : List Kind) (end : ℕ) (circ
       by b (inr less) (inl same) = omega (arith, less, ap (place_in order) same, rank-at c b.giver, rank-at d b.taker)
       by b (inr less) (inr copy) = omega (arith, less, copy, rank-at c b.giver, rank-at d b.taker)
 
-  pub no-ring : HasNoRing (record { kinds = kinds; wires = wires_of_plan plan; end = end })
+  pub no-ring : HasNoRing (record { kinds = kinds; wires = wires_of_plan token plan; end = end })
   no-ring = record { ranks = ranks; lower = lower }

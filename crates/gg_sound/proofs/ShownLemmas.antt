@@ -1,14 +1,16 @@
 -- The rows of a part: what they show of the whole circuit's rows, and that they are a run on the columns of the part's own ins.
-use Rattle.std.proofs.Common.{◌≡◌, ℕ, suc, ◌<◌, List, [], ◌∷◌, length, map, refl, sym, ◌∙◌, ap, ap₂, subst, arith}
+use Rattle.std.proofs.Common.{◌≡◌, ℕ, suc, ◌<◌, List, [], ◌∷◌, length, map, refl, sym, ◌∙◌, ap, ap₂, subst, arith, Option}
 use Rattle.std.proofs.lemmas.List.{length-map, get_or-map, ext_get_or}
 use Rattle.std.proofs.lemmas.Grind.{same_number_lists}
 use Rattle.gg_flat.specs.Line.{value_at}
 use Rattle.gg_flat.specs.Circuit.{FlatCircuit}
-use Rattle.gg_flat.specs.Run.{IsRun, row_at, column}
+use Rattle.gg_flat.specs.Run.{Start, column, row_at}
+use Rattle.gg_flat.specs.State.{IsState}
 use Rattle.gg_part.specs.Part.{IsPart}
-use Rattle.gg_part.specs.PartRun.{part_row, part_rows, part_columns}
+use Rattle.gg_part.specs.PartRun.{part_columns, part_row, part_rows, part_start}
 use Rattle.gg_part.proofs.RenameLemmas.{part_row-at}
-use Rattle.gg_part.proofs.RunLemmas.{IsRun-part}
+use Rattle.gg_cut.specs.Solves.{AreRows}
+use Rattle.gg_pipe.proofs.ReferenceLemmas.{started-part}
 use Rattle.gg_net.specs.Kept.{in_columns}
 use Rattle.gg_net.proofs.StateLemmas.{column-at}
 
@@ -51,8 +53,8 @@ column-shown globals rows s low =
     column-at rows (value_at globals s) t
     ∙ sym (column-at (part_rows globals rows) s t ∙ (part-shown globals rows).at t s (omega (arith, lt, high)) low))
 
-module _ (whole part : FlatCircuit) (globals held memories : List ℕ) (is : IsPart whole part globals held memories) where
-  own-columns : (rows : List (List ℕ)) → part_columns globals part rows ≡ in_columns part (part_rows globals rows)
+module _ (whole part : FlatCircuit) (globals held memories : List ℕ) (clocks : List (Option ℕ)) (is : IsPart whole part globals held memories clocks) where
+  pub own-columns : (rows : List (List ℕ)) → part_columns globals part rows ≡ in_columns part (part_rows globals rows)
   own-columns rows =
       let given : ℕ → List ℕ = λ s. column rows (value_at globals s) in
       let own : ℕ → List ℕ = column (part_rows globals rows) in
@@ -62,7 +64,7 @@ module _ (whole part : FlatCircuit) (globals held memories : List ℕ) (is : IsP
       let low : i < length part.ins = omega (arith, lt, count) in
       get_or-map given part.ins i 0 [] low ∙ column-shown globals rows (value_at part.ins i) (is.ins i low).0 ∙ sym (get_or-map own part.ins i 0 [] low))
 
-  -- the rows of a part of a run are a run of the part, on the columns of its own ins
-  pub own-run : (columns : List (List ℕ)) (n : ℕ) (rows : List (List ℕ)) → IsRun whole columns n rows → IsRun part (in_columns part (part_rows globals rows)) n (part_rows globals rows)
-  own-run columns n rows run =
-      subst (λ (given : List (List ℕ)). IsRun part given n (part_rows globals rows)) (own-columns rows) (IsRun-part whole part globals held memories is columns n rows run)
+  -- the rows of a part of a run are a run of the part, from its part of the start, on the columns of its own ins
+  pub own-run : (start : Start) (columns : List (List ℕ)) (end : ℕ) (rows : List (List ℕ)) → IsState whole start.state → AreRows whole start columns end rows → AreRows part (part_start held memories clocks start) (in_columns part (part_rows globals rows)) end (part_rows globals rows)
+  own-run start columns end rows typed run =
+      subst (λ (given : List (List ℕ)). AreRows part (part_start held memories clocks start) given end (part_rows globals rows)) (own-columns rows) (started-part whole part globals held memories clocks is start columns end rows typed run)

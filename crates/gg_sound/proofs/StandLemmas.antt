@@ -1,6 +1,7 @@
 -- A listed memory of a plan can stand alone.
 use Rattle.std.proofs.Common.{◌≡◌, ℕ, ◌<◌, List, [], ◌∷◌, ◌++◌, length, subst}
 use Rattle.gg_flat.specs.WellFormed.{IsWellFormed}
+use Rattle.gg_flat.specs.Run.{Start}
 use Rattle.gg_order.specs.Design.{Ordered}
 use Rattle.gg_partfile.specs.declared.request.Request.{Request}
 use Rattle.gg_part.specs.Choice.{IsChoice}
@@ -22,7 +23,7 @@ use Rattle.gg_sound.proofs.MemoryPartLemmas.{memory-part}
 use Rattle.gg_sound.proofs.ChosenLemmas.{chosen}
 use Rattle.gg_sound.proofs.AloneLemmas.{stands-alone}
 
-module _ (design : Ordered) (request : Request) (default : ℕ) (plan : Plan) (columns : List (List ℕ)) (n : ℕ) (rows : List (List ℕ)) (given : IsGiven design request default plan columns n rows) (m : ℕ) (part : Part) (lt : m < length plan.machines) (memory : (machine_in plan m).body ≡ Memory part) where
+module _ (design : Ordered) (request : Request) (default : ℕ) (plan : Plan) (columns : List (List ℕ)) (n : ℕ) (start : Start) (rows : List (List ℕ)) (given : IsGiven design request default plan columns n start rows) (m : ℕ) (part : Part) (lt : m < length plan.machines) (memory : (machine_in plan m).body ≡ Memory part) where
   body : IsBody design (listed_of design.tree request) (plan_hub design.circuit design.tree request) m (Memory part)
   body = subst (IsBody design (listed_of design.tree request) (plan_hub design.circuit design.tree request) m) memory (given.planned.machine m nameless lt).body
 
@@ -36,7 +37,7 @@ module _ (design : Ordered) (request : Request) (default : ℕ) (plan : Plan) (c
   cut = body.2
 
   pub memory-formed : IsWellFormed part.piece
-  memory-formed = IsWellFormed-part design.circuit part.piece part.globals part.held part.memories given.design_is.formed cut.is
+  memory-formed = IsWellFormed-part design.circuit part.piece part.globals part.held part.memories part.clocks given.design_is.formed cut.is
 
   pub memory-chosen : IsChoice part.piece (part.piece.ins ++ part.piece.outs) part.piece.ins part.piece.outs (0 ∷ [])
   memory-chosen =

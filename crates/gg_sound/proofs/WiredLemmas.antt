@@ -27,21 +27,21 @@ pub record AreFitting (links : List Link) (count : ℕ) (kinds : List Kind) : Ty
   pub total : length kinds ≡ count
   pub each : (m : ℕ) → m < count → IsFitting links m (kind_at kinds m)
 
-module _ (plan : Plan) (links : List Link) (kinds : List Kind) (end : ℕ) (are : AreLinks plan links) (fit : AreFitting links (length plan.machines) kinds) where
+module _ (token : ℕ → ℕ) (plan : Plan) (links : List Link) (kinds : List Kind) (end : ℕ) (are : AreLinks plan links) (fit : AreFitting links (length plan.machines) kinds) where
   -- a channel is connected at an in and an out that exist
   record IsFast (c : ℕ) : Type 0 where
-    some : 0 < (wire_at (wires_of_plan plan) c).capacity
-    giver : (wire_at (wires_of_plan plan) c).producer < length kinds
-    out : (wire_at (wires_of_plan plan) c).out < (kind_at kinds (wire_at (wires_of_plan plan) c).producer).outs
-    taker : (wire_at (wires_of_plan plan) c).consumer < length kinds
-    place : (wire_at (wires_of_plan plan) c).place < (kind_at kinds (wire_at (wires_of_plan plan) c).consumer).ins
-    gives : value_at (channels_from links (wire_at (wires_of_plan plan) c).producer) (wire_at (wires_of_plan plan) c).out ≡ c
-    takes : value_at (channels_to links (wire_at (wires_of_plan plan) c).consumer) (wire_at (wires_of_plan plan) c).place ≡ c
+    some : 0 < (wire_at (wires_of_plan token plan) c).capacity
+    giver : (wire_at (wires_of_plan token plan) c).producer < length kinds
+    out : (wire_at (wires_of_plan token plan) c).out < (kind_at kinds (wire_at (wires_of_plan token plan) c).producer).outs
+    taker : (wire_at (wires_of_plan token plan) c).consumer < length kinds
+    place : (wire_at (wires_of_plan token plan) c).place < (kind_at kinds (wire_at (wires_of_plan token plan) c).consumer).ins
+    gives : value_at (channels_from links (wire_at (wires_of_plan token plan) c).producer) (wire_at (wires_of_plan token plan) c).out ≡ c
+    takes : value_at (channels_to links (wire_at (wires_of_plan token plan) c).consumer) (wire_at (wires_of_plan token plan) c).place ≡ c
 
-  fast : (c : ℕ) → c < length (wires_of_plan plan) → IsFast c
+  fast : (c : ℕ) → c < length (wires_of_plan token plan) → IsFast c
   fast c lt =
-      let known : c < length links = omega (arith, lt, length-wires plan links are) in
-      let link = linked plan links are c known in
+      let known : c < length links = omega (arith, lt, length-wires token plan links are) in
+      let link = linked token plan links are c known in
       let ends = are.ends c known in
       let p = (link_at links c).producer in
       let q = (link_at links c).consumer in
@@ -52,17 +52,17 @@ module _ (plan : Plan) (links : List Link) (kinds : List Kind) (end : ℕ) (are 
       record {
         some = link.some;
         giver = (let there = ends.0 in omega (arith, link.producer, there, fit.total));
-        out = subst (λ a. (wire_at (wires_of_plan plan) c).out < (kind_at kinds a).outs) (sym link.producer) (omega (arith, link.out, given.within, outs));
+        out = subst (λ a. (wire_at (wires_of_plan token plan) c).out < (kind_at kinds a).outs) (sym link.producer) (omega (arith, link.out, given.within, outs));
         taker = (let there = ends.1 in omega (arith, link.consumer, there, fit.total));
-        place = subst (λ a. (wire_at (wires_of_plan plan) c).place < (kind_at kinds a).ins) (sym link.consumer) (omega (arith, link.place, taken.within, ins));
-        gives = ap (λ a. value_at (channels_from links a) (wire_at (wires_of_plan plan) c).out) link.producer ∙ ap (value_at (channels_from links p)) link.out ∙ given.is;
-        takes = ap (λ a. value_at (channels_to links a) (wire_at (wires_of_plan plan) c).place) link.consumer ∙ ap (value_at (channels_to links q)) link.place ∙ taken.is;
+        place = subst (λ a. (wire_at (wires_of_plan token plan) c).place < (kind_at kinds a).ins) (sym link.consumer) (omega (arith, link.place, taken.within, ins));
+        gives = ap (λ a. value_at (channels_from links a) (wire_at (wires_of_plan token plan) c).out) link.producer ∙ ap (value_at (channels_from links p)) link.out ∙ given.is;
+        takes = ap (λ a. value_at (channels_to links a) (wire_at (wires_of_plan token plan) c).place) link.consumer ∙ ap (value_at (channels_to links q)) link.place ∙ taken.is;
       }
 
   known-kind : (m : ℕ) → m < length kinds → m < length plan.machines
   known-kind m lt = omega (arith, lt, fit.total)
 
-  pub wired : IsWired (record { kinds = kinds; wires = wires_of_plan plan; end = end })
+  pub wired : IsWired (record { kinds = kinds; wires = wires_of_plan token plan; end = end })
   wired =
       record {
         some = λ c lt. (fast c lt).some;
@@ -72,21 +72,21 @@ module _ (plan : Plan) (links : List Link) (kinds : List Kind) (end : ℕ) (are 
         place = λ c lt. (fast c lt).place;
         into = λ m i low lt.
             let ins = (fit.each m (known-kind m low)).ins in
-            (value_at (channels_to links m) i, at-in plan links are m i (omega (arith, lt, ins)));
+            (value_at (channels_to links m) i, at-in token plan links are m i (omega (arith, lt, ins)));
         from = λ m o low lt.
             let outs = (fit.each m (known-kind m low)).outs in
-            (value_at (channels_from links m) o, at-out plan links are m o (omega (arith, lt, outs)));
+            (value_at (channels_from links m) o, at-out token plan links are m o (omega (arith, lt, outs)));
         one_in = λ c d lc ld same place.
             sym (fast c lc).takes
-            ∙ ap (λ a. value_at (channels_to links a) (wire_at (wires_of_plan plan) c).place) same
-            ∙ ap (value_at (channels_to links (wire_at (wires_of_plan plan) d).consumer)) place
+            ∙ ap (λ a. value_at (channels_to links a) (wire_at (wires_of_plan token plan) c).place) same
+            ∙ ap (value_at (channels_to links (wire_at (wires_of_plan token plan) d).consumer)) place
             ∙ (fast d ld).takes;
         needs = λ m o i low has. (fit.each m (known-kind m low)).needs o i has;
         fields = λ m low. (fit.each m (known-kind m low)).fields;
         numbers = λ m low. (fit.each m (known-kind m low)).numbers;
         one_out = λ c d lc ld same out.
             sym (fast c lc).gives
-            ∙ ap (λ a. value_at (channels_from links a) (wire_at (wires_of_plan plan) c).out) same
-            ∙ ap (value_at (channels_from links (wire_at (wires_of_plan plan) d).producer)) out
+            ∙ ap (λ a. value_at (channels_from links a) (wire_at (wires_of_plan token plan) c).out) same
+            ∙ ap (value_at (channels_from links (wire_at (wires_of_plan token plan) d).producer)) out
             ∙ (fast d ld).gives;
       }

@@ -10,6 +10,7 @@ use Rattle.gg_flat.specs.declared.memory.Latency.TheVariants.{Zero, One}
 use Rattle.gg_flat.specs.declared.memory.Memory.{Memory}
 use Rattle.gg_flat.specs.Tree.{path_at}
 use Rattle.gg_flat.proofs.ListLemmas.{some-item}
+use Rattle.gg_flat.specs.Run.{Start}
 use Rattle.gg_order.specs.Design.{Ordered}
 use Rattle.gg_partfile.specs.declared.request.Request.{Request}
 use Rattle.gg_part.specs.Part.{renamed_memory, renamed_reader, renamed_writer}
@@ -42,25 +43,25 @@ count-most Zero readers writers = omega arith
 count-most (One under) readers writers = omega arith
 
 -- the machine of a listed memory serves at most as many ports as there may be channels
-memory-ports : (part : Part) (memory : Memory) (machine : Machine) → IsMemoryPart part memory → IsMemoryOf part machine → length (kind_of machine).ports ≤ 16384
-memory-ports part memory machine own is =
+memory-ports : (part : Part) (begins : Start) (memory : Memory) (machine : Machine) → IsMemoryPart part memory → IsMemoryOf begins part machine → length (kind_of machine).ports ≤ 16384
+memory-ports part begins memory machine own is =
     let piece = is.alone.piece in
     let found = sole piece.memories is.is_memory.one in
     let inner = found.0 in
     let only = found.1 in
     let low = is.is_part.memory_from 0 (omega (arith, ap length is.memories)) in
-    let whole : memory ≡ renamed_memory is.alone.globals inner =
+    let whole : memory ≡ renamed_memory is.alone.globals is.alone.clocks inner =
     ap (λ (l : List Memory). get_or l 0 memory) (sym own.only)
     ∙ ap (λ (l : List ℕ). get_or part.piece.memories (get_or l 0 0) memory) (sym is.memories)
     ∙ low.is inner memory
-    ∙ ap (λ (l : List Memory). renamed_memory is.alone.globals (get_or l 0 inner)) only in
-    let reads : length memory.readers ≡ length inner.readers = ap (λ (x : Memory). length x.readers) whole ∙ length-map inner.readers (renamed_reader is.alone.globals) in
-    let writes : length memory.writers ≡ length inner.writers = ap (λ (x : Memory). length x.writers) whole ∙ length-map inner.writers (renamed_writer is.alone.globals) in
+    ∙ ap (λ (l : List Memory). renamed_memory is.alone.globals is.alone.clocks (get_or l 0 inner)) only in
+    let reads : length memory.readers ≡ length inner.readers = ap (λ (x : Memory). length x.readers) whole ∙ length-map inner.readers (renamed_reader is.alone.globals is.alone.clocks) in
+    let writes : length memory.writers ≡ length inner.writers = ap (λ (x : Memory). length x.writers) whole ∙ length-map inner.writers (renamed_writer is.alone.globals is.alone.clocks) in
     let served : length (ports_of piece.memories) ≡ count_by inner.latency (length inner.readers) (length inner.writers) = ap (λ (l : List Memory). length (ports_of l)) only ∙ count_ports inner.latency inner.readers inner.writers in
     subst (λ (t : Machine). length (kind_of t).ports ≤ 16384) (sym is.is)
     (omega (arith, served, count-most inner.latency (length inner.readers) (length inner.writers), reads, writes, own.few))
 
-module _ (design : Ordered) (request : Request) (default : ℕ) (plan : Plan) (columns : List (List ℕ)) (n : ℕ) (rows : List (List ℕ)) (machines : List Machine) (given : IsGiven design request default plan columns n rows) (built : AreBuilt plan columns machines) where
+module _ (design : Ordered) (request : Request) (default : ℕ) (plan : Plan) (columns : List (List ℕ)) (n : ℕ) (start : Start) (rows : List (List ℕ)) (token : ℕ → ℕ) (starts : Body → Start) (machines : List Machine) (given : IsGiven design request default plan columns n start rows) (built : AreBuilt plan starts columns machines) where
   abbrev listed : Listed
   listed = listed_of design.tree request
 
@@ -71,27 +72,27 @@ module _ (design : Ordered) (request : Request) (default : ℕ) (plan : Plan) (c
   hub = plan_hub design.circuit design.tree request
 
   routed : AreRoutes design listed hub
-  routed = plans.routed design request default plan columns n rows machines given built
+  routed = plans.routed design request default plan columns n start rows token starts machines given built
 
-  body-ports : (m outs : ℕ) (body : Body) (machine : Machine) → IsBody design listed hub m body → IsBuilt columns outs body machine → length (kind_of machine).ports ≤ 16384
-  body-ports m outs (Cut part) machine body is = subst (λ (t : Machine). length (kind_of t).ports ≤ 16384) (sym is.is) (omega arith)
-  body-ports m outs (Listing part) machine body is =
+  body-ports : (m outs : ℕ) (own : Start) (body : Body) (machine : Machine) → IsBody design listed hub m body → IsBuilt columns outs own body machine → length (kind_of machine).ports ≤ 16384
+  body-ports m outs own (Cut part) machine body is = subst (λ (t : Machine). length (kind_of t).ports ≤ 16384) (sym is.is) (omega arith)
+  body-ports m outs own (Listing part) machine body is =
       let memory = memory-part design request m part given.design_is given.keeps (faultless-apart design request given.faultless given.keeps.fitting) routed body.0 body.1 body.2 (faultless-few design request given.faultless) in
-      memory-ports part memory.0 machine memory.1 is
-  body-ports m outs (Source place) machine body is = subst (λ (t : Machine). length (kind_of t).ports ≤ 16384) (sym is) (omega arith)
-  body-ports m outs Tray machine body is = subst (λ (t : Machine). length (kind_of t).ports ≤ 16384) (sym is) (omega arith)
+      memory-ports part own memory.0 machine memory.1 is
+  body-ports m outs own (Source place) machine body is = subst (λ (t : Machine). length (kind_of t).ports ≤ 16384) (sym is) (omega arith)
+  body-ports m outs own Tray machine body is = subst (λ (t : Machine). length (kind_of t).ports ≤ 16384) (sym is) (omega arith)
 
   machine-ports : All (λ (machine : Machine). length (kind_of machine).ports ≤ 16384) machines
   machine-ports m any lt =
       let known : m < length plan.machines = omega (arith, lt, built.count) in
       subst (λ (t : Machine). length (kind_of t).ports ≤ 16384) (get_or_default machines m no_machine any lt)
-      (body-ports m (length (machine_in plan m).outs) (machine_in plan m).body (machine_at machines m) (given.planned.machine m nameless known).body (built.each m known))
+      (body-ports m (length (machine_in plan m).outs) (starts (machine_in plan m).body) (machine_in plan m).body (machine_at machines m) (given.planned.machine m nameless known).body (built.each m known))
 
-  pub plan-within : default ≤ capacity_limit → IsWithinLimits (plan_frame plan machines n)
+  pub plan-within : default ≤ capacity_limit → IsWithinLimits (plan_frame token plan machines n)
   plan-within most =
       let few = faultless-few design request given.faultless in
       let total : length machines ≤ 33025 = omega (arith, few-machines design request routed few, given.planned.machine_total, built.count) in
-      let are = plans.links design request default plan columns n rows machines given built in
+      let are = plans.links design request default plan columns n start rows token starts machines given built in
       let kinds = map kind_of machines in
       let count : length kinds ≡ length machines = length-map machines kind_of in
       let ports : sum_by (λ (kind : Kind). length kind.ports) kinds ≤ length kinds * 16384 =
@@ -99,12 +100,12 @@ module _ (design : Ordered) (request : Request) (default : ℕ) (plan : Plan) (c
       record {
         cycles = given.most;
         machines = omega (arith, total, count);
-        channels = omega (arith, few.channels, length-wires plan links are);
+        channels = omega (arith, few.channels, length-wires token plan links are);
         ports = omega (arith, sum-map (λ (kind : Kind). length kind.ports) kinds, ports, count, total);
         capacities = λ c lt.
-            let known : c < length plan.channels = omega (arith, lt, length-from plan 0 plan.channels) in
+            let known : c < length plan.channels = omega (arith, lt, length-from token plan 0 plan.channels) in
             let any = some-item plan.channels c known in
-            let is : wire_at (wires_of_plan plan) c ≡ wire_of plan c (get_or plan.channels c any) = wire-from plan 0 plan.channels c any known ∙ ap (λ k. wire_of plan k (get_or plan.channels c any)) (let same : 0 + c ≡ c = omega arith in same) in
+            let is : wire_at (wires_of_plan token plan) c ≡ wire_of token plan c (get_or plan.channels c any) = wire-from token plan 0 plan.channels c any known ∙ ap (λ k. wire_of token plan k (get_or plan.channels c any)) (let same : 0 + c ≡ c = omega arith in same) in
             subst (λ (w : Wire). w.capacity ≤ capacity_limit) (sym is)
             (subst (λ n. n ≤ capacity_limit) (sym (given.planned.channel c any known).bound)
             (capacity-is (λ n. n ≤ capacity_limit) (λ n some low. low) request.capacity default (path_at design.circuit.paths (link_at links c).signal) (range-free design request given.faultless) most));

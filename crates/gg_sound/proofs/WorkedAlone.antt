@@ -9,6 +9,7 @@ use Rattle.gg_flat.specs.declared.memory.Latency.TheVariants.{Zero}
 use Rattle.gg_flat.specs.declared.memory.Memory.{Memory}
 use Rattle.gg_flat.specs.declared.piece.Driver.TheVariants.{Input, Held, MemoryWord}
 use Rattle.gg_flat.specs.Line.{value_at}
+use Rattle.gg_flat.specs.WellFormed.{IsClock}
 use Rattle.gg_flat.specs.Circuit.{FlatCircuit, driver_at, readers_at}
 use Rattle.gg_flat.proofs.WorkedCircuits.{one, eight}
 use Rattle.gg_flat.proofs.WorkedForms.{only, both, three, pair, single, apart}
@@ -38,6 +39,7 @@ part =
       globals = 4 ∷ 3 ∷ 5 ∷ [];
       held = [];
       memories = 0 ∷ [];
+      clocks = [];
     }
 
 abbrev alone : Part
@@ -56,22 +58,24 @@ alone =
       globals = 1 ∷ 0 ∷ 2 ∷ [];
       held = [];
       memories = 0 ∷ [];
+      clocks = [];
     }
 
 once : AllPairs (λ a b. a ≢ b) alone.globals
 once =
     AllPairs-cons (λ a b. a ≢ b) 1 (0 ∷ 2 ∷ []) (λ k d lt. both (λ i. 1 ≢ slice_index_or (0 ∷ 2 ∷ []) i d) (apart 1 0 refl) (apart 1 2 refl) k lt) (pair 0 2 (apart 0 2 refl))
 
-its-memory : IsMemoryFrom part.piece alone.piece alone.globals alone.memories 0
+its-memory : IsMemoryFrom part.piece alone.piece alone.globals alone.memories [] 0
 its-memory =
     record {
       within = lit< tt;
       is = λ any other. refl;
       below = λ any. record { readers = λ k d lt. only (λ i. ReadsAmong 3 (slice_index_or (memory 0 1).readers i d)) (lit< tt, lit< tt, lit< tt) k lt; writers = λ k d lt. absurd (omega (arith, lt)) };
+      clocked = λ any. record { readers = λ k d lt. only (λ i. IsClock 0 (slice_index_or (memory 0 1).readers i d).clock) tt k lt; writers = λ k d lt. absurd (omega (arith, lt)) };
       given = λ r place lt. only (λ i. driver_at alone.piece (slice_index_or (readers_at alone.piece 0) i (record { addr = 0; en = 0; word = 0; clock = None })).word ≢ Input place) (λ same. cc) r lt;
     }
 
-is-part : IsPart part.piece alone.piece alone.globals [] (0 ∷ [])
+is-part : IsPart part.piece alone.piece alone.globals [] (0 ∷ []) []
 is-part =
     record {
       count = refl;
@@ -82,12 +86,12 @@ is-part =
       drivers = three (λ s. IsFrom alone.piece.ins alone.globals [] (0 ∷ []) s (driver_at part.piece (value_at alone.globals s)) (driver_at alone.piece s)) (lit< tt, refl) (lit< tt, refl) (lit< tt, lit< tt, lit< tt, refl);
       ins = both (λ place. (value_at alone.piece.ins place < 3) × (driver_at alone.piece (value_at alone.piece.ins place) ≡ Input place)) (lit< tt, refl) (lit< tt, refl);
       outs = only (λ place. value_at alone.piece.outs place < 3) (lit< tt);
-      clocks = refl;
+      clock_count = refl;
       register_count = refl;
       register_from = λ r lt. absurd (omega (arith, lt));
       memory_count = refl;
       memories_once = single 0;
-      memory_from = only (λ m. IsMemoryFrom part.piece alone.piece alone.globals (0 ∷ []) m) its-memory;
+      memory_from = only (λ m. IsMemoryFrom part.piece alone.piece alone.globals (0 ∷ []) [] m) its-memory;
     }
 
 -- none of the part's signals holds a register
@@ -105,7 +109,7 @@ none-held =
     }
 
 cut : IsCutAgain part alone
-cut = record { is_part = is-part; globals = refl; ins = refl; outs = refl; memories = refl; held = none-held }
+cut = record { is_part = is-part; clocks = refl; globals = refl; ins = refl; outs = refl; memories = refl; held = none-held }
 
 -- ---- what isn't such a cut
 

@@ -12,10 +12,10 @@ use Rattle.gg_cut.specs.declared.plan.Body.TheVariants.{Source, Tray}
 use Rattle.gg_cut.specs.declared.plan.Machine as planned
 use Rattle.gg_cut.specs.declared.plan.Channel.{Channel}
 use Rattle.gg_cut.specs.declared.plan.Plan.{Plan}
-use Rattle.gg_node.specs.Machine.{Machine, source_machine}
+use Rattle.gg_node.specs.Machine.{Machine, no_state, source_machine}
 use Rattle.gg_net.specs.declared.shape.Wire.{Wire}
 use Rattle.gg_net.specs.Network.{IsAtOut, kind_of}
-use Rattle.gg_sound.specs.Built.{machine_in, wires_of_plan, IsBuilt, IsListedAt}
+use Rattle.gg_sound.specs.Built.{IsBuilt, IsListedAt, body_start, machine_in, no_token, wires_of_plan}
 
 abbrev machine : List ℕ → Body → List ℕ → List ℕ → planned.Machine
 machine name body ins outs = record { name = name; host = 0; body = body; ins = ins; outs = outs }
@@ -33,13 +33,14 @@ plan =
           ∷ machine (codes "out:q") Tray (3 ∷ []) [] ∷ [];
       channels = channel 0 (codes "x") 2 0 ∷ channel 2 (codes "u.a") 2 1 ∷ channel 3 (codes "u.b") 1 1 ∷ channel 1 (codes "q") 0 3 ∷ [];
       listed = record { units = 1 ∷ []; memories = [] };
+      ratios = [];
     }
 
 abbrev joins : ℕ → ℕ → ℕ → ℕ → Wire
 joins producer out consumer place = record { producer = producer; out = out; consumer = consumer; place = place; capacity = 1; first = None }
 
 -- `x` and `u.a` lead from two outs of the source, and `u.b` leads from the only out of `u` to its second in
-joined : wires_of_plan plan ≡ joins 2 0 0 0 ∷ joins 2 1 1 0 ∷ joins 1 0 1 1 ∷ joins 0 0 3 0 ∷ []
+joined : wires_of_plan no_token plan ≡ joins 2 0 0 0 ∷ joins 2 1 1 0 ∷ joins 1 0 1 1 ∷ joins 0 0 3 0 ∷ []
 joined = refl
 
 -- ---- the source
@@ -47,30 +48,39 @@ joined = refl
 abbrev columns : List (List ℕ)
 columns = (5 ∷ 7 ∷ []) ∷ []
 
-abbrev source : List Bool → Machine
-source flags = source_machine (5 ∷ 7 ∷ []) 0 flags
+-- the source at its first cycle, with these flags
+abbrev source : ℕ → List Bool → Machine
+source cycle flags = source_machine (5 ∷ 7 ∷ []) cycle flags
 
 -- a claim under an `abbrev`, with its arguments
-record IsSourceHere (flags : List Bool) : Type 0 where
-  is : IsBuilt columns (length (machine_in plan 2).outs) (machine_in plan 2).body (source flags)
+record IsSourceHere (cycle : ℕ) (machine : Machine) : Type 0 where
+  is : IsBuilt columns (length (machine_in plan 2).outs) (body_start (record { cycle = cycle; state = no_state; ratios = [] }) (machine_in plan 2).body) (machine_in plan 2).body machine
 
 -- it has a flag for each of its two channels
-forked : IsSourceHere (false ∷ false ∷ [])
+forked : IsSourceHere 0 (source 0 (false ∷ false ∷ []))
 forked = record { is = refl }
 
+-- it begins with the cycle with which all begins
+later : IsSourceHere 1 (source 1 (false ∷ false ∷ []))
+later = record { is = refl }
+
+-- another cycle is wrong
+other-cycle : IsSourceHere 1 (source 0 (false ∷ false ∷ [])) → ⊥
+other-cycle built = let same : 0 ≡ 1 = ap (λ (t : Machine). t.cycle) built.is in omega (arith, same)
+
 -- one flag for both is too few
-one-flag : IsSourceHere (false ∷ []) → ⊥
+one-flag : IsSourceHere 0 (source 0 (false ∷ [])) → ⊥
 one-flag built = let count : 1 ≡ 2 = ap (λ (t : Machine). length t.flags) built.is in omega (arith, count)
 
 -- with two outs both channels stand where the plan lists them
-listed : IsListedAt plan 2 (kind_of (source (false ∷ false ∷ [])))
+listed : IsListedAt no_token plan 2 (kind_of (source 0 (false ∷ false ∷ [])))
 listed = record { ins = refl; into = λ i lt. absurd (omega (arith, lt)); outs = refl; from = from; few = (omega arith, omega arith) }
   where
-    from : (o : ℕ) → o < 2 → IsAtOut (wires_of_plan plan) 2 o (value_at (0 ∷ 1 ∷ []) o)
+    from : (o : ℕ) → o < 2 → IsAtOut (wires_of_plan no_token plan) 2 o (value_at (0 ∷ 1 ∷ []) o)
     from zero lt = record { known = omega arith; machine = refl; out = refl }
     from (suc zero) lt = record { known = omega arith; machine = refl; out = refl }
     from (suc (suc o)) lt = absurd (omega (arith, lt))
 
 -- with one out they don't
-one-out : IsListedAt plan 2 (kind_of (source (false ∷ []))) → ⊥
+one-out : IsListedAt no_token plan 2 (kind_of (source 0 (false ∷ []))) → ⊥
 one-out at = omega (arith, at.outs)

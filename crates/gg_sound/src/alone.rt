@@ -1,5 +1,6 @@
 //! Laws: a listed memory can be a machine of its own.
 ghost use Rattle.std.specs.Prelude.{◌≡◌, ℕ, ◌<◌, ◌++◌, List, [], ◌∷◌, length};
+ghost use Rattle.gg_flat.specs.Run.{Start};
 ghost use Rattle.gg_flat.specs.WellFormed.{IsWellFormed};
 ghost use Rattle.gg_order.specs.Design.{Ordered};
 ghost use Rattle.gg_partfile.specs.declared.request.Request.{Request};
@@ -15,7 +16,7 @@ ghost use Rattle.gg_sound.specs.Alone.{IsCutAgain};
 /// a part. If it is cut again in this way (`IsCutAgain`), the result is the piece of a memory unit, with the in-signals
 /// first.
 pub fn memory_is_chosen()
-    ensures formed { (design : Ordered) (request : Request) (default : ℕ) (plan : Plan) (columns : List (List ℕ)) (n : ℕ) (rows : List (List ℕ)) → IsGiven design request default plan columns n rows → (m : ℕ) (part : Part) → m < length plan.machines → (machine_in plan m).body ≡ Memory part → IsWellFormed part.piece }
-    ensures chosen { (design : Ordered) (request : Request) (default : ℕ) (plan : Plan) (columns : List (List ℕ)) (n : ℕ) (rows : List (List ℕ)) → IsGiven design request default plan columns n rows → (m : ℕ) (part : Part) → m < length plan.machines → (machine_in plan m).body ≡ Memory part → IsChoice part.piece (part.piece.ins ++ part.piece.outs) part.piece.ins part.piece.outs (0 ∷ []) }
-    ensures alone { (design : Ordered) (request : Request) (default : ℕ) (plan : Plan) (columns : List (List ℕ)) (n : ℕ) (rows : List (List ℕ)) → IsGiven design request default plan columns n rows → (m : ℕ) (part alone : Part) → m < length plan.machines → (machine_in plan m).body ≡ Memory part → IsCutAgain part alone → IsMemoryPiece alone.piece }
+    ensures formed { (design : Ordered) (request : Request) (default : ℕ) (plan : Plan) (columns : List (List ℕ)) (n : ℕ) (start : Start) (rows : List (List ℕ)) → IsGiven design request default plan columns n start rows → (m : ℕ) (part : Part) → m < length plan.machines → (machine_in plan m).body ≡ Memory part → IsWellFormed part.piece }
+    ensures chosen { (design : Ordered) (request : Request) (default : ℕ) (plan : Plan) (columns : List (List ℕ)) (n : ℕ) (start : Start) (rows : List (List ℕ)) → IsGiven design request default plan columns n start rows → (m : ℕ) (part : Part) → m < length plan.machines → (machine_in plan m).body ≡ Memory part → IsChoice part.piece (part.piece.ins ++ part.piece.outs) part.piece.ins part.piece.outs (0 ∷ []) }
+    ensures alone { (design : Ordered) (request : Request) (default : ℕ) (plan : Plan) (columns : List (List ℕ)) (n : ℕ) (start : Start) (rows : List (List ℕ)) → IsGiven design request default plan columns n start rows → (m : ℕ) (part alone : Part) → m < length plan.machines → (machine_in plan m).body ≡ Memory part → IsCutAgain part alone → IsMemoryPiece alone.piece }
 {}

@@ -1,20 +1,24 @@
 //! Facts about the network of a plan: it is wired, has no ring, and is solved by a run of the circuit that it computes.
 //!
 //! A plan (`IsPlan` of gg_cut) names machines and channels. Its network (`specs/Built`) has a machine for each of the
-//! plan's machines, before its first cycle, and the plan's channels between them, some of which may be direct. A channel
-//! with a pipe opens with the token 0, the others open empty. So the network computes the reference circuit of gg_pipe,
-//! which has a register for each pipe; without pipes it is the design's circuit. The crate has no code. For the plan of a design and of a request without a fault, and for such machines, it promises:
+//! plan's machines, before its first step, and the plan's channels between them, some of which may be direct. All begins
+//! with a start: a cycle, a state of the reference circuit of gg_pipe, and the ratios of the circuit's clocks. The
+//! reference circuit has a register for each pipe; without pipes it is the design's circuit. Each machine begins in its
+//! part of the state, with the ratios of its own clocks. A channel with a pipe opens with the token that the pipe's
+//! register holds, the others open empty. So the network computes the reference circuit. The crate has no code. For the
+//! plan of a design and of a request without a fault, and for such machines, it promises:
 //!
 //! - a machine has an in or an out for each channel that the plan lists for it, and the channel is connected there
 //!   (`plan_is_listed`);
 //! - the network is wired: each in and each out has exactly one channel, and the ins that outs need and ports read
 //!   exist (`plan_is_wired`);
 //! - there is no ring among the needs of channels (`plan_has_no_ring`);
-//! - the columns of the reference circuit's run, each with the token that its channel opens with before it, solve the
-//!   network, with the rows of each machine in that run (`plan_is_solved`), so the network is sound, as `Net::new` of gg_net requires (`plan_is_sound`); it is within the
-//!   limits (`plan_is_within`);
+//! - the columns of the reference circuit's run from the start, those of a pipe a cycle later and behind its token, solve
+//!   the network, with the rows of each machine in that run (`plan_is_solved`), so the network is sound, as `Net::new` of
+//!   gg_net requires (`plan_is_sound`); it is within the limits (`plan_is_within`);
 //! - the ports that a machine serves are among its ports (`ports_are_named`), and the machines are before their first
-//!   cycle (`machines_are_opening`);
+//!   step (`machines_are_opening`);
+//! - at cycle 0, with zeros, the machines begin with zeros and the pipes with the token 0 (`all_begin_with_zeros`);
 //! - the machines can be built: a unit's signals are in an order of evaluation (`unit_is_ordered`), a source has a
 //!   column and gives it on at least one channel (`source_has_column`), and a listed memory's part can be cut once more
 //!   to give a memory alone (`memory_is_chosen`).
@@ -29,7 +33,8 @@
 //! sees the pipe in place of a piped channel that it takes. The rows of a part in a run are a run of the part, on the
 //! columns of its own in-signals. A memory whose ports are all served is in its next state. The signal by which a channel
 //! is given and the channel's own signal have one value in each row. A channel's consumer sees that value in the same
-//! row, or in the next one if the channel is piped.
+//! row, or in the next one if the channel is piped. Two units with one piece have clocks that may follow different clocks of
+//! the circuit; each has the ratios of those that its own follow.
 #![tactic(auto)]
 
 mod alone;
@@ -40,6 +45,7 @@ mod solved;
 pub use alone::memory_is_chosen;
 pub use bodies::{source_has_column, unit_is_ordered};
 pub use laws::{
-    machines_are_opening, plan_has_no_ring, plan_is_listed, plan_is_wired, ports_are_named,
+    all_begin_with_zeros, machines_are_opening, plan_has_no_ring, plan_is_listed, plan_is_wired,
+    ports_are_named,
 };
 pub use solved::{plan_is_solved, plan_is_sound, plan_is_within};

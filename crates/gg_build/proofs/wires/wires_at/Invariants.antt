@@ -2,4 +2,4 @@ use Rattle.gg_build.specs.Wires.{AreWires}
 use Rattle.gg_build.proofs.wires.wires_at.Given as goal
 
 abbrev pub invariant-loop-number : goal.invariant-loop-number
-invariant-loop-number l = AreWires l.channels l.outs l.ins l.«number» l.wires.items
+invariant-loop-number l = AreWires l.channels l.outs l.ins l.tokens l.«number» l.wires.items

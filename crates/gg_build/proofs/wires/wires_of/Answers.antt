@@ -21,15 +21,15 @@ places_of-requires c =
     }
 
 pub returns : goal.returns
-returns c =
+returns c = λ token have.
     let plan = c.args.plan.now in
     let is = c.requires in
     let links = plan_wires is.design.circuit is.design.tree is.request in
     let places = c.in_ok-places.places in
     let wires = c.in_ok-wires.wires.items in
-    wires-are plan links (links-in plan is) places.outs.items places.ins.items wires
+    wires-are plan links (links-in plan is) token places.outs.items places.ins.items c.args.tokens.now wires
     (subst (λ (cs : List Channel). ArePlaces (outs_of plan.machines) (length cs) places.outs.items) c.as_slice-channels.ensures (subst (λ (ms : List planned.Machine). ArePlaces (outs_of ms) (length c.as_slice-channels.result.now) places.outs.items) c.as_slice.ensures c.in_ok-places.ensures.outs))
     (subst (λ (cs : List Channel). ArePlaces (ins_of plan.machines) (length cs) places.ins.items) c.as_slice-channels.ensures (subst (λ (ms : List planned.Machine). ArePlaces (ins_of ms) (length c.as_slice-channels.result.now) places.ins.items) c.as_slice.ensures c.in_ok-places.ensures.ins))
-    (subst (λ (os : List ℕ). AreWires plan.channels os places.ins.items (length plan.channels) wires) c.deref.ensures.value
-    (subst (λ (ps : List ℕ). AreWires plan.channels c.deref.result.now ps (length plan.channels) wires) c.deref-2.ensures.value
-    (subst (λ (cs : List Channel). AreWires cs c.deref.result.now c.deref-2.result.now (length cs) wires) c.as_slice-channels.ensures c.in_ok-wires.ensures)))
+    (subst (λ (os : List ℕ). AreWires plan.channels os places.ins.items c.args.tokens.now (length plan.channels) wires) c.deref.ensures.value
+    (subst (λ (ps : List ℕ). AreWires plan.channels c.deref.result.now ps c.args.tokens.now (length plan.channels) wires) c.deref-2.ensures.value
+    (subst (λ (cs : List Channel). AreWires cs c.deref.result.now c.deref-2.result.now c.args.tokens.now (length cs) wires) c.as_slice-channels.ensures c.in_ok-wires.ensures))) have

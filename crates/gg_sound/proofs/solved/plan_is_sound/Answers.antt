@@ -1,11 +1,13 @@
+use Rattle.gg_pipe.specs.Follows.{plan_token}
+use Rattle.gg_sound.specs.Built.{body_start}
 use Rattle.gg_sound.proofs.PlanLemmas.{plan-wired, plan-no-ring}
 use Rattle.gg_sound.proofs.SolvedLemmas.{plan-solved}
 use Rattle.gg_sound.proofs.solved.plan_is_sound.Goals as goal
 
 pub returns : goal.returns
-returns c = λ design request default plan columns n rows machines given built.
+returns c = λ design request default plan columns n start rows machines given built.
     record {
-      wired = plan-wired design request default plan columns n rows machines given built;
-      no_ring = plan-no-ring design request default plan columns n rows machines given built;
-      solves = plan-solved design request default plan columns n rows machines given built;
+      wired = plan-wired design request default plan columns n start rows (plan_token design request start.state) (body_start start) machines given built;
+      no_ring = plan-no-ring design request default plan columns n start rows (plan_token design request start.state) (body_start start) machines given built;
+      solves = plan-solved design request default plan columns n start rows machines given built;
     }

@@ -1,0 +1,43 @@
+use Rattle.std.proofs.Common.{◌≡◌, sym, subst}
+use Rattle.gg_net.specs.Seats.{machines_by}
+use Rattle.gg_net.specs.Net.{Opens, opening_net}
+use Rattle.gg_build.specs.Begin.{AreTokens}
+use Rattle.gg_build.proofs.BeginLemmas.{begins-within}
+use Rattle.gg_build.proofs.ReadyLemmas.{all-ready, faultless}
+use Rattle.gg_build.proofs.OpenLemmas.{lists_of, opens, started}
+use Rattle.gg_build.proofs.opening.started.Goals as goal
+
+pub seats_of-requires-clause-ready : goal.seats_of-requires-clause-ready
+seats_of-requires-clause-ready g c = all-ready c.args.plan.now c.args.begin.now c.args.trace.now.columns c.args.trace.now.rows g.Z.Streams.flow c.requires
+
+pub seats_of-requires-clause-cycle : goal.seats_of-requires-clause-cycle
+seats_of-requires-clause-cycle g c = begins-within c.args.plan.now c.args.begin.now c.args.trace.now.columns c.args.trace.now.rows g.Z.Streams.flow c.requires
+
+pub wires_of-requires : goal.wires_of-requires
+wires_of-requires g c = faultless c.args.plan.now c.args.begin.now c.args.trace.now.columns c.args.trace.now.rows g.Z.Streams.flow c.requires
+
+pub new-requires-after_bounds : goal.new-requires-after_bounds
+new-requires-after_bounds g c κs within =
+    let plan = c.args.plan.now in
+    let begin = c.args.begin.now in
+    let columns = c.args.trace.now.columns in
+    let n = c.args.trace.now.rows in
+    let hosts = c.in_ok-hosts.field-0.hosts.items in
+    let stations = c.in_ok-hosts.field-0.stations.items in
+    let wires = c.in_ok-wires.wires.items in
+    subst (Opens g.Z.Streams.flow (lists_of plan begin columns n hosts stations c.in_ok-hosts.ensures) stations wires) (sym c.rows-end.ensures.count)
+    (opens plan begin columns n hosts stations c.in_ok-hosts.ensures g.Z.Streams.flow c.requires wires
+    (λ token have. c.in_ok-wires.ensures token (subst (AreTokens plan.channels token) (sym c.deref.ensures.value) have)))
+
+pub returns : goal.returns
+returns g c =
+    let plan = c.args.plan.now in
+    let begin = c.args.begin.now in
+    let columns = c.args.trace.now.columns in
+    let n = c.args.trace.now.rows in
+    let hosts = c.in_ok-hosts.field-0.hosts.items in
+    let stations = c.in_ok-hosts.field-0.stations.items in
+    let wires = c.in_ok-wires.wires.items in
+    started plan begin columns n hosts stations c.in_ok-hosts.ensures wires c.in_ok-net.net
+    (λ token have. c.in_ok-wires.ensures token (subst (AreTokens plan.channels token) (sym c.deref.ensures.value) have))
+    (subst (λ k. c.in_ok-net.net ≡ opening_net (machines_by (lists_of plan begin columns n hosts stations c.in_ok-hosts.ensures) stations) wires k) c.rows-end.ensures.count c.in_ok-net.ensures)
