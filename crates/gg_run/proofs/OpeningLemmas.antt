@@ -5,18 +5,20 @@ use Rattle.std.proofs.lemmas.List.{length-map}
 use Rattle.gg_flat.specs.Line.{value_at}
 use Rattle.gg_flat.specs.Streams.{Flow}
 use Rattle.gg_cut.specs.declared.plan.Plan.{Plan}
+use Rattle.gg_pipe.specs.Follows.{plan_start}
 use Rattle.gg_node.specs.Machine.{Machine, latch_at, machine_at}
 use Rattle.gg_node.proofs.EmptyLemmas.{empty-after}
 use Rattle.gg_net.specs.declared.shape.Wire.{Wire}
-use Rattle.gg_net.specs.Kept.{BetweenAt, IsSound, Kept, list_at}
+use Rattle.gg_net.specs.Kept.{BetweenAt, IsSound, Kept, Solves, list_at}
 use Rattle.gg_net.specs.Net.{IsOpening, opening_net}
 use Rattle.gg_net.specs.Network.{Network, entered, entered_by, frame_of, got_by, kind_of, opening_queue, queue_at, takes, wire_at}
 use Rattle.gg_net.proofs.OpenLemmas.{machine-open, queue-opens}
 use Rattle.gg_marking.proofs.OpeningLemmas.{none-put}
-use Rattle.gg_sound.specs.Built.{flow_of, wires_of_plan}
+use Rattle.gg_sound.specs.Built.{AreBuilt, body_start, flow_of, no_token, opening_of, wires_of_plan}
 use Rattle.gg_sound.proofs.OpeningLemmas.{built-opening}
 use Rattle.gg_sound.proofs.PlanLemmas.{plan-no-ring, plan-wired}
 use Rattle.gg_sound.proofs.SolvedLemmas.{plan-solved}
+use Rattle.gg_sound.proofs.ZeroLemmas.{built-with-zeros, zero-tokens}
 use Rattle.gg_build.specs.Build.{IsOpeningOf, IsToRun}
 
 -- the queue that a channel opens with, by the token in it
@@ -61,14 +63,25 @@ module _ (flow : Flow) (machines : List Machine) (wires : List Wire) (end : ℕ)
         channels = between;
       }
 
-pub opening-kept : (plan : Plan) (columns : List (List ℕ)) (n : ℕ) (flow : Flow) → IsToRun plan columns n flow → (start : Network) → IsOpeningOf plan columns n start → Kept flow start
-opening-kept plan columns n flow run start opens =
-    subst (Kept flow) (sym opens.is)
-    (subst (λ (f : Flow). Kept f (opening_net opens.machines (wires_of_plan plan) n)) (sym run.flow_is)
-    (kept-opening (flow_of run.design run.request plan run.rows) opens.machines (wires_of_plan plan) n
-    (λ m lt. built-opening run.design run.request run.default plan columns n run.rows opens.machines run.given opens.built m lt)
-    (record {
-      wired = plan-wired run.design run.request run.default plan columns n run.rows opens.machines run.given opens.built;
-      no_ring = plan-no-ring run.design run.request run.default plan columns n run.rows opens.machines run.given opens.built;
-      solves = plan-solved run.design run.request run.default plan columns n run.rows opens.machines run.given opens.built;
-    })))
+module _ (plan : Plan) (columns : List (List ℕ)) (n : ℕ) (flow : Flow) (run : IsToRun plan columns n flow) (net : Network) (opens : IsOpeningOf plan columns n net) where
+  -- the machines begin with their parts of the start
+  built : AreBuilt plan (body_start (plan_start run.design run.request)) columns opens.machines
+  built = built-with-zeros run.design run.request run.default plan columns opens.machines run.given.planned opens.built
+
+  pub begins-so : (m : ℕ) → m < length opens.machines → IsOpening (flow_of run.design run.request plan (plan_start run.design run.request) run.rows) m (machine_at opens.machines m)
+  begins-so m lt = built-opening run.design run.request run.default plan columns n (plan_start run.design run.request) run.rows opens.machines run.given built m lt
+
+  pub opening-kept : Kept flow net
+  opening-kept =
+      let start = plan_start run.design run.request in
+      let given = run.given in
+      let own = flow_of run.design run.request plan start run.rows in
+      subst (Kept flow) (sym opens.is)
+      (subst (λ (f : Flow). Kept f (opening_net opens.machines (wires_of_plan no_token plan) n)) (sym run.flow_is)
+      (kept-opening own opens.machines (wires_of_plan no_token plan) n begins-so
+      (record {
+        wired = plan-wired run.design run.request run.default plan columns n start run.rows no_token (opening_of plan.ratios) opens.machines given opens.built;
+        no_ring = plan-no-ring run.design run.request run.default plan columns n start run.rows no_token (opening_of plan.ratios) opens.machines given opens.built;
+        solves = subst (λ (wires : List Wire). Solves own (frame_of (opening_net opens.machines wires n))) (zero-tokens run.design run.request plan)
+            (plan-solved run.design run.request run.default plan columns n start run.rows opens.machines given built);
+      })))

@@ -5,7 +5,7 @@ use Rattle.std.proofs.lemmas.List.{get_or-map, length-map, ext_get_or}
 use Rattle.gg_flat.specs.Line.{value_at}
 use Rattle.gg_flat.proofs.ListLemmas.{some-item}
 use Rattle.gg_flat.specs.Circuit.{FlatCircuit}
-use Rattle.gg_flat.specs.Run.{row_at}
+use Rattle.gg_flat.specs.Run.{Start, row_at}
 use Rattle.gg_flat.specs.Streams.{Flow}
 use Rattle.gg_order.specs.Design.{Ordered}
 use Rattle.gg_cut.specs.Direct.{Hub, routes, plan_hub}
@@ -20,6 +20,7 @@ use Rattle.gg_cut.specs.declared.plan.Channel.{Channel}
 use Rattle.gg_cut.specs.declared.plan.Plan.{Plan}
 use Rattle.gg_cut.specs.Solves.{columns_of, streams}
 use Rattle.gg_routes.proofs.RoutedLemmas.{plan-routed}
+use Rattle.gg_pipe.specs.Follows.{plan_start, plan_token}
 use Rattle.gg_pipe.specs.Links.{taken_as}
 use Rattle.gg_pipe.specs.Made.{plan_reference}
 use Rattle.gg_pipe.proofs.SolveLemmas.{plan-output-value}
@@ -27,7 +28,7 @@ use Rattle.gg_node.specs.Machine.{KeepsLast, Machine, kept_value, machine_at}
 use Rattle.gg_net.specs.Network.{Network, Frame, Kind, frame_of, kind_of, kind_at, wire_at}
 use Rattle.gg_net.specs.Kept.{Kept, list_at}
 use Rattle.gg_measure.specs.Nets.{AllStandAt}
-use Rattle.gg_sound.specs.Built.{IsBuilt, machine_in, nameless, tray_rows, wires_of_plan}
+use Rattle.gg_sound.specs.Built.{IsBuilt, machine_in, nameless, no_token, opening_of, tray_rows, wires_of_plan}
 use Rattle.gg_sound.proofs.FitLemmas.{kind-is}
 use Rattle.gg_sound.proofs.LinkLemmas.{length-from, wire-from}
 use Rattle.gg_sound.proofs.ListedLemmas.{taken-at}
@@ -42,12 +43,12 @@ pub net-stays : (plan : Plan) (columns : List (List ℕ)) (n : ℕ) (old new : N
 net-stays plan columns n old new is same = record { machines = is.machines; built = is.built; frame = same ∙ is.frame }
 
 -- a machine of a plan from the first tray on is a tray
-tray-behaves : (design : Ordered) (listed : Listed) (hub : Hub) (columns : List (List ℕ)) (outs m : ℕ) (body : Body) (machine : Machine) → first_tray design.circuit listed ≤ m → IsBody design listed hub m body → IsBuilt columns outs body machine
+tray-behaves : (design : Ordered) (listed : Listed) (hub : Hub) (columns : List (List ℕ)) (outs m : ℕ) (own : Start) (body : Body) (machine : Machine) → first_tray design.circuit listed ≤ m → IsBody design listed hub m body → IsBuilt columns outs own body machine
     → machine.behaviour ≡ KeepsLast tray_rows
-tray-behaves design listed hub columns outs m (Cut part) machine low is built = absurd (omega (arith, low, is.0))
-tray-behaves design listed hub columns outs m (Memory part) machine low is built = absurd (omega (arith, low, is.1))
-tray-behaves design listed hub columns outs m (Source place) machine low is built = absurd (omega (arith, low, is.0, is.1))
-tray-behaves design listed hub columns outs m Tray machine low is built = ap (λ (x : Machine). x.behaviour) built
+tray-behaves design listed hub columns outs m own (Cut part) machine low is built = absurd (omega (arith, low, is.0))
+tray-behaves design listed hub columns outs m own (Memory part) machine low is built = absurd (omega (arith, low, is.1))
+tray-behaves design listed hub columns outs m own (Source place) machine low is built = absurd (omega (arith, low, is.0, is.1))
+tray-behaves design listed hub columns outs m own Tray machine low is built = ap (λ (x : Machine). x.behaviour) built
 
 -- ---- the tray of an output
 
@@ -89,7 +90,7 @@ module _ (plan : Plan) (columns : List (List ℕ)) (n : ℕ) (flow : Flow) (run 
       let kinds : kind_of (machine_at net.machines m) ≡ kind_of (machine_at is.machines m) =
       sym (kind-is net.machines m (omega (arith, lt, count))) ∙ ap (λ (f : Frame). kind_at f.kinds m) is.frame ∙ kind-is is.machines m (omega (arith, there, is.built.count)) in
       ap (λ (kind : Kind). kind.behaviour) kinds
-      ∙ tray-behaves run.design listed hub columns (length (machine_in plan m).outs) m (machine_in plan m).body (machine_at is.machines m) (omega arith)
+      ∙ tray-behaves run.design listed hub columns (length (machine_in plan m).outs) m (opening_of plan.ratios (machine_in plan m).body) (machine_in plan m).body (machine_at is.machines m) (omega arith)
       (run.given.planned.machine m nameless there).body (is.built.each m there)
 
   -- the plan's channel of a tray
@@ -114,7 +115,7 @@ module _ (plan : Plan) (columns : List (List ℕ)) (n : ℕ) (flow : Flow) (run 
   record IsTrayChannel (k c : ℕ) : Type 0 where
     known : c < length net.wires
     taken : (wire_at net.wires c).consumer ≡ tray k
-    list : list_at flow.lists c ≡ list_at (streams plan.channels (columns_of plan run.rows)) c
+    list : list_at flow.lists c ≡ list_at (streams 0 (plan_token run.design run.request (plan_start run.design run.request).state) plan.channels (columns_of plan run.rows)) c
     routed : c < length (routes hub)
     signal : (planned.wire_at (routes hub) c).signal ≡ value_at outs k
 
@@ -123,10 +124,10 @@ module _ (plan : Plan) (columns : List (List ℕ)) (n : ℕ) (flow : Flow) (run 
       let among : c < length plan.channels = omega (arith, wire.known, run.given.planned.channel_total) in
       let any : Channel = some-item plan.channels c among in
       let channel = run.given.planned.channel c any among in
-      let same : net.wires ≡ wires_of_plan plan = ap (λ (f : Frame). f.wires) is.frame in
+      let same : net.wires ≡ wires_of_plan no_token plan = ap (λ (f : Frame). f.wires) is.frame in
       record {
-        known = omega (arith, among, ap length same, length-from plan 0 plan.channels);
-        taken = ap (λ l. (wire_at l c).consumer) same ∙ ap (λ v. v.consumer) (wire-from plan 0 plan.channels c any among) ∙ channel.consumer ∙ wire.consumer;
+        known = omega (arith, among, ap length same, length-from no_token plan 0 plan.channels);
+        taken = ap (λ l. (wire_at l c).consumer) same ∙ ap (λ v. v.consumer) (wire-from no_token plan 0 plan.channels c any among) ∙ channel.consumer ∙ wire.consumer;
         list = ap (λ (f : Flow). list_at f.lists c) run.flow_is;
         routed = wire.known;
         signal = wire.signal;
@@ -142,7 +143,7 @@ module _ (plan : Plan) (columns : List (List ℕ)) (n : ℕ) (flow : Flow) (run 
   carried : (k c t : ℕ) → k < length outs → IsTrayChannel k c → t < n → value_at (list_at flow.lists c) t ≡ value_at (row_at run.rows t) (value_at all.outs k)
   carried k c t lt channel within =
       ap (λ l. value_at l t) channel.list
-      ∙ plan-output-value run.design run.request run.default plan run.given.design_is run.given.keeps run.given.held run.given.faultless run.given.planned columns n run.rows run.given.given run.given.run k c t lt channel.routed channel.signal within
+      ∙ plan-output-value run.design run.request run.default plan run.given.design_is run.given.keeps run.given.held run.given.faultless run.given.planned (plan_start run.design run.request) run.given.typed columns n run.rows run.given.given run.given.run k c t lt channel.routed channel.signal within
 
   -- no machine is past the end
   within-end : (m t : ℕ) → m < length net.machines → t < (machine_at net.machines m).cycle → t < n

@@ -5,6 +5,7 @@ use Rattle.std.specs.Io.KnownBytes.{append_known}
 use Rattle.std.proofs.lemmas.List.{drop-map, get_or-map, take-map}
 use Rattle.std.proofs.Math.Nat.{eq-or-lt_of_le}
 use Rattle.gg_flat.specs.Circuit.{FlatCircuit}
+use Rattle.gg_flat.specs.Clock.{Ratio}
 use Rattle.gg_flat.specs.Line.{value_at}
 use Rattle.gg_flat.specs.Run.{row_at, column}
 use Rattle.gg_flat.specs.declared.ports.Port.{Port}
@@ -40,11 +41,11 @@ shown-row circuit ports rows t outs lt is =
     ap (take (length ports)) is ∙ take-map (value_at (row_at rows t)) (length ports) circuit.outs ∙ outputs-row circuit rows t lt (take (length ports) circuit.outs)
 
 -- the other values of the outputs are the conditions of the stops
-pub halts-row : (circuit : FlatCircuit) (ports : List Port) (rows : List (List ℕ)) (t : ℕ) (outs : List ℕ) (halted : Bool) → t < length rows → outs ≡ outputs_in circuit rows t
-    → halted ≡ acts (drop (length ports) outs) → halted ≡ is_halt circuit ports rows t
-halts-row circuit ports rows t outs halted lt is told =
-    told ∙ ap (λ (l : List ℕ). acts (drop (length ports) l)) is
-    ∙ ap acts (drop-map (value_at (row_at rows t)) (length ports) circuit.outs ∙ outputs-row circuit rows t lt (drop (length ports) circuit.outs))
+pub halts-row : (stops : List Ratio) (circuit : FlatCircuit) (ports : List Port) (rows : List (List ℕ)) (t : ℕ) (outs : List ℕ) (halted : Bool) → t < length rows → outs ≡ outputs_in circuit rows t
+    → halted ≡ acts stops t (drop (length ports) outs) → halted ≡ is_halt stops circuit ports rows t
+halts-row stops circuit ports rows t outs halted lt is told =
+    told ∙ ap (λ (l : List ℕ). acts stops t (drop (length ports) l)) is
+    ∙ ap (acts stops t) (drop-map (value_at (row_at rows t)) (length ports) circuit.outs ∙ outputs-row circuit rows t lt (drop (length ports) circuit.outs))
 
 -- the text of the first rows is a front part of the text of all rows
 pub trace_text-front : (ports : List Port) (columns : List (List ℕ)) (n t : ℕ) → t ≤ n → IsFront (trace_text ports columns t) (trace_text ports columns n)
@@ -84,12 +85,12 @@ stop-as T U before now failed text NoMemory prints = prints
 
 -- ---- one row after another
 
-module _ {K : Type 0} (sink : Sink.Ghosts K) (circuit : FlatCircuit) (ports : List Port) (rows : List (List ℕ)) (n : ℕ) (counted : length rows ≡ n) (before : K) where
+module _ {K : Type 0} (sink : Sink.Ghosts K) (stops : List Ratio) (circuit : FlatCircuit) (ports : List Port) (rows : List (List ℕ)) (n : ℕ) (counted : length rows ≡ n) (before : K) where
   abbrev row : ℕ → List ℕ
   row t = outputs_in circuit rows t
 
   abbrev h : ℕ → Bool
-  h = is_halt circuit ports rows
+  h = is_halt stops circuit ports rows
 
   abbrev text : ℕ → List ℕ
   text k = text_to circuit ports rows k
@@ -104,9 +105,9 @@ module _ {K : Type 0} (sink : Sink.Ghosts K) (circuit : FlatCircuit) (ports : Li
   shown : (t : ℕ) → t < n → take (length ports) (row t) ≡ row_of (shown_columns circuit ports rows) t
   shown t lt = shown-row circuit ports rows t (row t) (omega (arith, lt, counted)) refl
 
-  halts-so : (t : ℕ) → t < n → (goes_on : Bool) → goes_on ≡ not (acts (drop (length ports) (row t))) → h t ≡ not goes_on
+  halts-so : (t : ℕ) → t < n → (goes_on : Bool) → goes_on ≡ not (acts stops t (drop (length ports) (row t))) → h t ≡ not goes_on
   halts-so t lt goes_on is =
-      sym (halts-row circuit ports rows t (row t) (acts (drop (length ports) (row t))) (omega (arith, lt, counted)) refl refl) ∙ sym (not-not (acts (drop (length ports) (row t)))) ∙ ap not (sym is)
+      sym (halts-row stops circuit ports rows t (row t) (acts stops t (drop (length ports) (row t))) (omega (arith, lt, counted)) refl refl) ∙ sym (not-not (acts stops t (drop (length ports) (row t)))) ∙ ap not (sym is)
 
   -- one more line
   line-more : (t : ℕ) → t < n → (middle after : K) → PrintedSo middle t → sink.written after ≡ append_known (sink.written middle) (row_line ports t (take (length ports) (row t)))
@@ -117,7 +118,7 @@ module _ {K : Type 0} (sink : Sink.Ghosts K) (circuit : FlatCircuit) (ports : Li
       ∙ append_known-append base (text t) (row_line ports t (take (length ports) (row t)))
       ∙ ap (append_known base) (trace_text-more ports (shown_columns circuit ports rows) t (take (length ports) (row t)) (shown t lt))
 
-  took-so : (k : ℕ) → k ≤ n → (after : K) → TookTo (PrintsRow sink ports) row before k after → PrintedSo after k
+  took-so : (k : ℕ) → k ≤ n → (after : K) → TookTo (PrintsRow sink stops ports) row before k after → PrintedSo after k
   took-so zero le after same =
       record {
         quiet = refl;
@@ -134,8 +135,8 @@ module _ {K : Type 0} (sink : Sink.Ghosts K) (circuit : FlatCircuit) (ports : Li
       }
 
   -- how the printing has ended
-  pub took-prints : {count : ℕ} {after : K} {result : Result Bool Ending} → Took (PrintsRow sink ports) row n count before after result
-      → (base : Option (List ℕ)) → sink.written before ≡ append_known base (text 0) → Prints base (sink.written after) (Rose (sink.faults before) (sink.faults after)) (text_of circuit ports rows n) result
+  pub took-prints : {count : ℕ} {after : K} {result : Result Bool Ending} → Took (PrintsRow sink stops ports) row n count before after result
+      → (base : Option (List ℕ)) → sink.written before ≡ append_known base (text 0) → Prints base (sink.written after) (Rose (sink.faults before) (sink.faults after)) (text_of stops circuit ports rows n) result
   took-prints {after = after} (All took counts ends) base begins =
       let so = took-so n (omega arith) after took in
       rw ends (so.written base begins ∙ ap (λ k. append_known base (text k)) (sym (rows-all h n so.quiet)))
@@ -147,9 +148,9 @@ module _ {K : Type 0} (sink : Sink.Ghosts K) (circuit : FlatCircuit) (ports : Li
   took-prints {after = after} (Fails t lt middle took ending fails counts ends) base begins =
       let so = took-so t (omega (arith, lt)) middle took in
       let line = row_line ports t (take (length ports) (row t)) in
-      let whole = text_of circuit ports rows n in
+      let whole = text_of stops circuit ports rows n in
       let reached = rows-reach h t n lt so.quiet in
-      let front = trace_text-front ports (shown_columns circuit ports rows) (rows_to circuit ports rows n) (suc t) (omega (arith, reached)) in
+      let front = trace_text-front ports (shown_columns circuit ports rows) (rows_to stops circuit ports rows n) (suc t) (omega (arith, reached)) in
       rw ends
       (stop-within Bool base _ _ _ _ (text t) line whole ending (so.written base begins) (rose-earlier _ _ _ so.on.faults_stay_or_rise)
       (subst (λ (x : List ℕ). IsFront x whole) (sym (trace_text-more ports (shown_columns circuit ports rows) t (take (length ports) (row t)) (shown t lt))) front)
@@ -157,22 +158,22 @@ module _ {K : Type 0} (sink : Sink.Ghosts K) (circuit : FlatCircuit) (ports : Li
   took-prints {count = count} {after = after} (Wants within took ends) base begins =
       let so = took-so count within after took in
       rw ends
-      (text count, trace_text-front ports (shown_columns circuit ports rows) (rows_to circuit ports rows n) count (rows-open h count n within so.quiet), so.written base begins)
+      (text count, trace_text-front ports (shown_columns circuit ports rows) (rows_to stops circuit ports rows n) count (rows-open h count n within so.quiet), so.written base begins)
 
   -- the header, and then the rows
   pub took-text : (start : K) → sink.written before ≡ append_known (sink.written start) (header_line ports) → SinkWentOn sink start before
-      → {count : ℕ} {after : K} {result : Result Bool Ending} → Took (PrintsRow sink ports) row n count before after result → PrintsOn sink start after (text_of circuit ports rows n) result
+      → {count : ℕ} {after : K} {result : Result Bool Ending} → Took (PrintsRow sink stops ports) row n count before after result → PrintsOn sink start after (text_of stops circuit ports rows n) result
   took-text start header on {result = result} took =
       prints-more Bool _ _ _ _ _ result (rose-earlier _ _ _ on.faults_stay_or_rise) (took-prints took (sink.written start) header)
 
-  pub took-on : {count : ℕ} {after : K} {result : Result Bool Ending} → Took (PrintsRow sink ports) row n count before after result → SinkWentOn sink before after
+  pub took-on : {count : ℕ} {after : K} {result : Result Bool Ending} → Took (PrintsRow sink stops ports) row n count before after result → SinkWentOn sink before after
   took-on {after = after} (All took counts ends) = (took-so n (omega arith) after took).on
   took-on (Last t lt middle took last counts ends) = on-then (took-so t (omega (arith, lt)) middle took).on last.on
   took-on (Fails t lt middle took ending fails counts ends) = on-then (took-so t (omega (arith, lt)) middle took).on fails.on
   took-on {count = count} {after = after} (Wants within took ends) = (took-so count within after took).on
 
   -- as many rows were printed as the run has
-  pub took-count : {count : ℕ} {after : K} {all : Bool} → Took (PrintsRow sink ports) row n count before after (Ok all) → count ≡ rows_to circuit ports rows n
+  pub took-count : {count : ℕ} {after : K} {all : Bool} → Took (PrintsRow sink stops ports) row n count before after (Ok all) → count ≡ rows_to stops circuit ports rows n
   took-count {after = after} (All took counts ends) = counts ∙ sym (rows-all h n (took-so n (omega arith) after took).quiet)
   took-count (Last t lt middle took last counts ends) =
       let so = took-so t (omega (arith, lt)) middle took in

@@ -11,13 +11,13 @@ use Rattle.gg_measure.specs.Nets.{AllStandAt}
 use Rattle.gg_net.specs.Kept.{Kept}
 use Rattle.gg_net.specs.Network.{Frame, Network, frame_of}
 use Rattle.gg_sound.specs.Built.{tray_rows}
-use Rattle.gg_sound.proofs.OpeningLemmas.{built-opening}
 use Rattle.gg_told.specs.declared.endings.Ending.{Ending}
 use Rattle.gg_told.specs.declared.endings.Ending.TheVariants.{NoMemory}
 use Rattle.gg_run.specs.Rows.{StandsAt, TraysKeep, run_row}
 use Rattle.gg_run.specs.Taken.{Ran, Took, TookTo}
 use Rattle.gg_run.specs.Taken.Took.{Wants}
 use Rattle.gg_run.specs.Window.{window_end}
+use Rattle.gg_run.proofs.OpeningLemmas.{begins-so}
 use Rattle.gg_run.proofs.OutputLemmas.{net-stays, opening-is-net}
 use Rattle.gg_run.proofs.TakenLemmas.{count-within, ended-within, took-all, took-fails, took-last, took-next, went-on}
 use Rattle.gg_run.proofs.TrayKeepLemmas.{trays-keep}
@@ -31,7 +31,7 @@ opening-stands plan columns n flow net run opens =
       of_plan = opening-is-net plan columns n net opens;
       all = λ m lt.
           subst (AllStandAt 0) (sym opens.is)
-          (λ m lt. (built-opening run.design run.request run.default plan columns n run.rows opens.machines run.given opens.built m lt).cycle) m lt;
+          (λ m lt. (begins-so plan columns n flow run net opens m lt).cycle) m lt;
       within = omega arith;
     }
 

@@ -3,6 +3,7 @@ use Rattle.std.proofs.Common.{◌≡◌, ℕ, zero, suc, ◌<◌, List, ◌++◌
 use Rattle.std.specs.Prelude.{drop, slice_index}
 use Rattle.std.proofs.lemmas.List.{drop-map, length-map, take-map, take_all}
 use Rattle.gg_flat.specs.Circuit.{FlatCircuit}
+use Rattle.gg_flat.specs.Clock.{Ratio}
 use Rattle.gg_flat.specs.Line.{value_at}
 use Rattle.gg_flat.specs.Run.{row_at, column}
 use Rattle.gg_flat.specs.Streams.{Flow}
@@ -20,7 +21,7 @@ use Rattle.gg_trace.specs.Table.{row_of}
 use Rattle.gg_trace.proofs.LastLaws.{rows-agree, rows-within}
 use Rattle.gg_run.specs.Rows.{outputs_in}
 use Rattle.gg_run.proofs.TrayKeepLemmas.{trays-only}
-use Rattle.gg_run.specs.Printed.{AreKept, is_halt, out_columns, rows_to, shown_columns, text_of}
+use Rattle.gg_run.specs.Printed.{AreKept, is_halt, out_columns, plan_stops, rows_to, shown_columns, text_of}
 use Rattle.gg_run.proofs.PrintLemmas.{outputs-row}
 
 -- texts with the same rows are the same
@@ -32,7 +33,10 @@ rows-text ports a b (suc n) same =
 -- what columns that come to the trays tell: as many rows as the run has, and its text
 module _ (plan : Plan) (columns : List (List ℕ)) (n : ℕ) (flow : Flow) (run : IsToRun plan columns n flow) (ports : List Port) (told : ℕ) (kept : List (List ℕ))
     (are : AreKept plan columns n (first_tray run.design.circuit (listed_of run.design.tree run.request)) told kept) (count : length kept ≡ length run.design.circuit.outs)
-    (ends : told ≡ row_count (halts (drop (length ports) kept)) n) where
+    (ends : told ≡ row_count (halts (plan_stops run.design run.request) (drop (length ports) kept)) n) where
+  abbrev stops : List Ratio
+  stops = plan_stops run.design run.request
+
   abbrev all : FlatCircuit
   all = plan_reference run.design run.request
 
@@ -42,7 +46,7 @@ module _ (plan : Plan) (columns : List (List ℕ)) (n : ℕ) (flow : Flow) (run 
   -- a row that comes to the trays is a row of the run
   row-own : (t : ℕ) → t < told → row_of kept t ≡ row_of own t
   row-own t lt =
-      let within : t < n = omega (arith, lt, ends, rows-within (halts (drop (length ports) kept)) n) in
+      let within : t < n = omega (arith, lt, ends, rows-within (halts stops (drop (length ports) kept)) n) in
       let wide : length (row_of kept t) ≡ length run.design.circuit.outs = length-map kept (λ (column : List ℕ). slice_index column t) ∙ count in
       let outs : length (outputs_in all run.rows t) ≡ length run.design.circuit.outs =
       length-map all.outs (value_at (row_at run.rows t)) ∙ length-map run.design.circuit.outs (taken_as (plan_hub run.design.circuit run.design.tree run.request)) in
@@ -58,20 +62,20 @@ module _ (plan : Plan) (columns : List (List ℕ)) (n : ℕ) (flow : Flow) (run 
       ∙ take-map (λ (c : List ℕ). slice_index c t) (length ports) own
       ∙ ap (λ (l : List (List ℕ)). row_of l t) (take-map (column run.rows) (length ports) all.outs)
 
-  row-stops : (t : ℕ) → t < told → halts (drop (length ports) kept) t ≡ is_halt all ports run.rows t
+  row-stops : (t : ℕ) → t < told → halts stops (drop (length ports) kept) t ≡ is_halt stops all ports run.rows t
   row-stops t lt =
-      ap acts
+      ap (acts stops t)
       (sym (drop-map (λ (c : List ℕ). slice_index c t) (length ports) kept)
       ∙ ap (drop (length ports)) (row-own t lt)
       ∙ drop-map (λ (c : List ℕ). slice_index c t) (length ports) own
       ∙ ap (λ (l : List (List ℕ)). row_of l t) (drop-map (column run.rows) (length ports) all.outs))
 
   -- there are as many rows
-  pub told-rows : told ≡ rows_to (plan_reference run.design run.request) ports run.rows n
+  pub told-rows : told ≡ rows_to (plan_stops run.design run.request) (plan_reference run.design run.request) ports run.rows n
   told-rows =
-      ends ∙ (rows-agree (halts (drop (length ports) kept)) (is_halt all ports run.rows) n (λ t lt. row-stops t (omega (arith, lt, ends)))).1
+      ends ∙ (rows-agree (halts stops (drop (length ports) kept)) (is_halt stops all ports run.rows) n (λ t lt. row-stops t (omega (arith, lt, ends)))).1
 
-  pub shown-text : trace_text ports (take (length ports) kept) told ≡ text_of (plan_reference run.design run.request) ports run.rows n
+  pub shown-text : trace_text ports (take (length ports) kept) told ≡ text_of (plan_stops run.design run.request) (plan_reference run.design run.request) ports run.rows n
   shown-text =
       rows-text ports (take (length ports) kept) (shown_columns all ports run.rows) told row-shown
       ∙ ap (trace_text ports (shown_columns all ports run.rows)) told-rows

@@ -29,11 +29,10 @@ use Rattle.gg_progress.proofs.EndLemmas.{opening-lowest}
 use Rattle.gg_measure.specs.Nets.{AllStandAt}
 use Rattle.gg_measure.proofs.NetLemmas.{allowed-of, begun-of, can-run}
 use Rattle.gg_measure.proofs.WayLemmas.{steps-up}
-use Rattle.gg_sound.specs.Built.{tray_rows, wires_of_plan}
-use Rattle.gg_sound.proofs.OpeningLemmas.{built-opening}
+use Rattle.gg_sound.specs.Built.{no_token, tray_rows, wires_of_plan}
 use Rattle.gg_build.specs.Build.{IsOpeningOf, IsToRun}
 use Rattle.gg_run.specs.Rows.{IsNetOfPlan, TraysKeep, outputs_in}
-use Rattle.gg_run.proofs.OpeningLemmas.{opening-kept}
+use Rattle.gg_run.proofs.OpeningLemmas.{begins-so, opening-kept}
 use Rattle.gg_run.proofs.OutputLemmas.{keeps, keeps-only, net-stays, opening-is-net}
 
 -- from a network before its first cycle steps lead to each other of the same flow and frame
@@ -69,9 +68,9 @@ module _ (plan : Plan) (columns : List (List ℕ)) (n : ℕ) (flow : Flow) (run 
   leads-to : (net : Network) → Kept flow net → frame_of net ≡ frame_of opening → (events : List Event) × Steps opening (map (λ e. Some e) events) net
   leads-to net later same =
       let begins : (m : ℕ) → m < length opens.machines → IsOpening flow m (machine_at opens.machines m) =
-      (λ m lt. subst (λ (f : Flow). IsOpening f m (machine_at opens.machines m)) (sym run.flow_is) (built-opening run.design run.request run.default plan columns n run.rows opens.machines run.given opens.built m lt)) in
+      (λ m lt. subst (λ (f : Flow). IsOpening f m (machine_at opens.machines m)) (sym run.flow_is) (begins-so plan columns n flow run opening opens m lt)) in
       subst (λ (o : Network). (events : List Event) × Steps o (map (λ e. Some e) events) net) (sym opens.is)
-      (reached flow opens.machines (wires_of_plan plan) n begins net (subst (Kept flow) opens.is kept) later (same ∙ ap frame_of opens.is))
+      (reached flow opens.machines (wires_of_plan no_token plan) n begins net (subst (Kept flow) opens.is kept) later (same ∙ ap frame_of opens.is))
 
   -- whatever steps are done, the tray of an output keeps no other value of a cycle
   no-other : (events : List (Option Event)) (net : Network) (k t value : ℕ) → Steps opening events net → k < length run.design.circuit.outs

@@ -3,12 +3,16 @@
 -- k-th token of each queue is the value of its signal in cycle k, in whatever order the nodes go on).
 use Rattle.std.specs.Prelude.{ℕ, ◌≡◌, ◌<◌, List, Bool, Result, IfOk, not, length, map, take, drop}
 use Rattle.gg_build.specs.Build.{IsOpeningOf}
+use Rattle.gg_cut.specs.Clocks.{ratios_of, stop_ratios}
 use Rattle.gg_cut.specs.declared.plan.Plan.{Plan}
+use Rattle.gg_flat.specs.Clock.{Ratio}
 use Rattle.gg_flat.specs.Circuit.{FlatCircuit}
 use Rattle.gg_flat.specs.Run.{column}
 use Rattle.gg_flat.specs.declared.ports.Port.{Port}
 use Rattle.gg_io.specs.declared.output.Sink
 use Rattle.gg_net.specs.Network.{Network}
+use Rattle.gg_order.specs.Design.{Ordered}
+use Rattle.gg_partfile.specs.declared.request.Request.{Request}
 use Rattle.gg_told.specs.Endings.{PrintsOn}
 use Rattle.gg_told.specs.WentOn.{SinkWentOn}
 use Rattle.gg_told.specs.declared.endings.Ending.{Ending}
@@ -28,21 +32,25 @@ shown_columns circuit ports rows = map (column rows) (take (length ports) circui
 abbrev pub stop_columns : FlatCircuit → List Port → (rows : List (List ℕ)) → List (List ℕ)
 stop_columns circuit ports rows = map (column rows) (drop (length ports) circuit.outs)
 
--- whether a stop acts in cycle t of a run
-abbrev pub is_halt : FlatCircuit → List Port → (rows : List (List ℕ)) → (t : ℕ) → Bool
-is_halt circuit ports rows t = halts (stop_columns circuit ports rows) t
+-- the ratios of the clocks that the stops follow, in the run of a request
+abbrev pub plan_stops : Ordered → Request → List Ratio
+plan_stops design request = stop_ratios design.tree (ratios_of design.tree request)
+
+-- whether a stop acts in cycle t of a run, where the clocks of the stops have these ratios
+abbrev pub is_halt : List Ratio → FlatCircuit → List Port → (rows : List (List ℕ)) → (t : ℕ) → Bool
+is_halt stops circuit ports rows t = halts stops (stop_columns circuit ports rows) t
 
 -- how many of the first n cycles of a run have a row: a stop ends it
-abbrev pub rows_to : FlatCircuit → List Port → (rows : List (List ℕ)) → (n : ℕ) → ℕ
-rows_to circuit ports rows n = row_count (is_halt circuit ports rows) n
+abbrev pub rows_to : List Ratio → FlatCircuit → List Port → (rows : List (List ℕ)) → (n : ℕ) → ℕ
+rows_to stops circuit ports rows n = row_count (is_halt stops circuit ports rows) n
 
 -- the text of n rows of a run: a header, and the rows
 abbrev pub text_to : FlatCircuit → List Port → (rows : List (List ℕ)) → (n : ℕ) → List ℕ
 text_to circuit ports rows n = trace_text ports (shown_columns circuit ports rows) n
 
 -- the text of the first n cycles of a run, to the row of the first of them in which a stop acts
-abbrev pub text_of : FlatCircuit → List Port → (rows : List (List ℕ)) → (n : ℕ) → List ℕ
-text_of circuit ports rows n = text_to circuit ports rows (rows_to circuit ports rows n)
+abbrev pub text_of : List Ratio → FlatCircuit → List Port → (rows : List (List ℕ)) → (n : ℕ) → List ℕ
+text_of stops circuit ports rows n = text_to circuit ports rows (rows_to stops circuit ports rows n)
 
 -- From this network host steps bring the first n rows of these columns to the trays from number `first` on.
 abbrev pub RowsAreKept : (opening : Network) (first n : ℕ) (kept : List (List ℕ)) → Type 0
@@ -55,9 +63,14 @@ pub record AreKept (plan : Plan) (columns : List (List ℕ)) (n first told : ℕ
   pub opens : IsOpeningOf plan columns n opening
   pub rows : RowsAreKept opening first told kept
 
+-- What rows are printed by: the ports whose values are shown, and the ratios of the clocks of the stops.
+pub record RowForm : Type 0 where
+  pub ports : List Port
+  pub stops : List Ratio
+
 -- The row of a cycle was printed: its line, with the first values, one for each port, is on the output, or a front part of it if the
--- printing stopped. It is to go on if no stop acts, by the other values.
-pub record PrintsRow {K : Type 0} (sink : Sink.Ghosts K) (ports : List Port) (before : K) (cycle : ℕ) (row : List ℕ) (after : K) (answer : Result Bool Ending) : Type 0 where
+-- printing stopped. It is to go on if no stop acts in the cycle, by the other values.
+pub record PrintsRow {K : Type 0} (sink : Sink.Ghosts K) (stops : List Ratio) (ports : List Port) (before : K) (cycle : ℕ) (row : List ℕ) (after : K) (answer : Result Bool Ending) : Type 0 where
   pub prints : PrintsOn sink before after (row_line ports cycle (take (length ports) row)) answer
-  pub goes : IfOk answer (λ goes_on. goes_on ≡ not (acts (drop (length ports) row)))
+  pub goes : IfOk answer (λ goes_on. goes_on ≡ not (acts stops cycle (drop (length ports) row)))
   pub on : SinkWentOn sink before after

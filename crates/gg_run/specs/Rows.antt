@@ -14,7 +14,7 @@ use Rattle.gg_node.specs.Machine.{Behaviour, RunsPiece, GivesColumn, KeepsLast, 
 use Rattle.gg_net.specs.declared.event.Event.{Event}
 use Rattle.gg_net.specs.Network.{Network, frame_of, wire_at}
 use Rattle.gg_pipe.specs.Made.{plan_reference}
-use Rattle.gg_sound.specs.Built.{AreBuilt, plan_frame}
+use Rattle.gg_sound.specs.Built.{AreBuilt, no_token, opening_of, plan_frame}
 
 -- ---- one tray
 
@@ -44,8 +44,8 @@ pub record StillHas (net : Network) (m c begin cycle : ℕ) : Type 0 where
 -- A network of a plan, at any time of its run: its frame is that of the plan's network before its first cycle.
 pub record IsNetOfPlan (plan : Plan) (columns : List (List ℕ)) (n : ℕ) (net : Network) : Type 0 where
   pub machines : List Machine
-  pub built : AreBuilt plan columns machines
-  pub frame : frame_of net ≡ plan_frame plan machines n
+  pub built : AreBuilt plan (opening_of plan.ratios) columns machines
+  pub frame : frame_of net ≡ plan_frame no_token plan machines n
 
 -- A network of a plan, all of whose machines stand at this cycle.
 pub record StandsAt (plan : Plan) (columns : List (List ℕ)) (n cycle : ℕ) (net : Network) : Type 0 where

@@ -4,14 +4,14 @@ ghost use Rattle.gg_build.specs.Build.{IsToRun};
 ghost use Rattle.gg_cut.specs.Listed.{listed_of};
 ghost use Rattle.gg_cut.specs.Machines.{first_tray};
 ghost use Rattle.gg_pipe.specs.Made.{plan_reference};
-ghost use Rattle.gg_run.specs.Printed.{AreKept, out_columns, rows_to, text_of};
+ghost use Rattle.gg_run.specs.Printed.{AreKept, out_columns, plan_stops, rows_to, text_of};
 ghost use Rattle.gg_told.specs.Endings.{PrintsOn};
 ghost use Rattle.gg_told.specs.WentOn.{SinkWentOn};
 
 use crate::printer::RowPrinter;
 use crate::run::run_rows;
 use gg_build::build;
-use gg_cut::Plan;
+use gg_cut::{Plan, stop_ratios};
 use gg_flat::Ports;
 use gg_io::{Gate, Sink};
 use gg_net::Streams;
@@ -24,8 +24,8 @@ use std::thread::Threads;
 /// Prints the run of the reference circuit of a plan of the design from the plan's network: a header, and then the rows, a window
 /// at a time. The network is run by this many workers, and then by steps in the fixed order. The values of a row are those of the
 /// first out-signals, one for each port; the others are conditions of stops. The last row is that of the first cycle in which a stop
-/// acts, if one does, and no window begins after that cycle. Host steps bring all these values to the trays of the plan's network,
-/// and bring no others there.
+/// acts, if one does, and no window begins after that cycle. A stop acts in a cycle in which its condition is one and its clock has
+/// an edge. Host steps bring all these values to the trays of the plan's network, and bring no others there.
 ///
 /// # Errors
 ///
@@ -46,17 +46,19 @@ pub fn print_net<R: Threads + Sync, Z: Streams, K: Sink, G: Gate + Sync>(
     requires run { (run : IsToRun plan.now inputs.now.columns inputs.now.rows Z.flow) × (run.design ≡ design.now) }
     requires ports { length ports.now ≤ length design.now.circuit.outs }
     ensures prints { (run : IsToRun plan.now inputs.now.columns inputs.now.rows Z.flow) → run.design ≡ design.now
-        → PrintsOn K.Sink out.old out.new (text_of (plan_reference run.design run.request) ports.now run.rows inputs.now.rows) result }
+        → PrintsOn K.Sink out.old out.new (text_of (plan_stops run.design run.request) (plan_reference run.design run.request) ports.now run.rows inputs.now.rows) result }
     ensures kept { IfOk result (λ done. (run : IsToRun plan.now inputs.now.columns inputs.now.rows Z.flow) → run.design ≡ design.now
-        → AreKept plan.now inputs.now.columns inputs.now.rows (first_tray run.design.circuit (listed_of run.design.tree run.request)) (rows_to (plan_reference run.design run.request) ports.now run.rows inputs.now.rows) (out_columns (plan_reference run.design run.request) run.rows)) }
+        → AreKept plan.now inputs.now.columns inputs.now.rows (first_tray run.design.circuit (listed_of run.design.tree run.request)) (rows_to (plan_stops run.design run.request) (plan_reference run.design run.request) ports.now run.rows inputs.now.rows) (out_columns (plan_reference run.design run.request) run.rows)) }
     ensures out { SinkWentOn K.Sink out.old out.new }
 {
     let mut outs = vec![in alloc; 0u128; design.piece().outs().len()]?;
     let header = header_text(alloc, ports)?;
+    let ratios = plan.ratios.as_slice();
+    let stops = stop_ratios(alloc, design.tree(), ratios)?;
     let net = build::<Z>(alloc, plan, inputs)?;
     net.kept();
     put(out, header.as_bytes())?;
-    let printer = RowPrinter::new(alloc, ports);
+    let printer = RowPrinter::new(alloc, ports, stops.as_slice());
     run_rows::<R, Z, K, RowPrinter<'_>, G>(
         rt,
         alloc,

@@ -1,6 +1,7 @@
 //! `run_rows`: a network is run window by window, and its rows are handed over.
 ghost use Rattle.std.specs.Prelude.{◌≡◌, ◌+◌, ◌<◌, ◌≤◌, ℕ, List, length};
 ghost use Rattle.gg_build.specs.Build.{IsOpeningOf, IsToRun};
+ghost use Rattle.gg_limits.specs.Limits.{cycle_limit};
 ghost use Rattle.gg_cut.specs.Listed.{listed_of};
 ghost use Rattle.gg_cut.specs.Machines.{first_tray};
 ghost use Rattle.gg_cut.specs.declared.plan.Plan.{Plan};
@@ -28,6 +29,7 @@ fn take_cycle<Z: Streams, T, W: Rows<T>>(
     rows: &W,
     taken: &mut T,
 ) -> Result<bool, Ending>
+    requires within { cycle ≤ cycle_limit }
     requires outs { length outs.old ≤ length net.now.machines }
     requires can { W.can_take rows.now (length outs.old) }
     ensures { (plan : Plan) (columns : List (List ℕ)) (n upto : ℕ) (run : IsToRun plan columns n Z.flow) → StandsAt plan columns n upto net.now
@@ -47,6 +49,7 @@ fn take_window<Z: Streams, T, W: Rows<T>>(
     rows: &W,
     taken: &mut T,
 ) -> Result<bool, Ending>
+    requires within { upto ≤ cycle_limit }
     requires outs { length outs.old ≤ length net.now.machines }
     requires can { W.can_take rows.now (length outs.old) }
     ensures { (plan : Plan) (columns : List (List ℕ)) (n : ℕ) (run : IsToRun plan columns n Z.flow) (before : T) → StandsAt plan columns n upto net.now
@@ -87,6 +90,7 @@ pub fn run_rows<R: Threads + Sync, Z: Streams, T, W: Rows<T>, G: Gate + Sync>(
     ensures { (plan : Plan) (columns : List (List ℕ)) (n : ℕ) (run : IsToRun plan columns n Z.flow) → IsOpeningOf plan columns n net.entry → length outs.old ≡ length run.design.circuit.outs
         → Ran (W.takes rows.now) (run_row run) net.entry (first_tray run.design.circuit (listed_of run.design.tree run.request)) n taken.old taken.new result }
 {
+    net.within_limits();
     let end = net.end();
     let mut net = net;
     let mut begun = 0;

@@ -1,5 +1,6 @@
 //! `Rows`: what is done with the rows of a run.
-ghost use Rattle.std.specs.Prelude.{ℕ, List, Bool, Result, length};
+ghost use Rattle.std.specs.Prelude.{ℕ, ◌≤◌, List, Bool, Result, length};
+ghost use Rattle.gg_limits.specs.Limits.{cycle_limit};
 ghost use Rattle.gg_told.specs.declared.endings.Ending.{Ending};
 
 use gg_told::Ending;
@@ -12,12 +13,13 @@ pub trait Rows<T> {
     // What the taking of a row does: the value before, the cycle, the row, the value after, and the answer.
     ghost takes: { Self → T → ℕ → List ℕ → T → Result Bool Ending → Type 0 };
 
-    /// Takes the row of a cycle. Returns whether to go on with the next one.
+    /// Takes the row of a cycle, which is at most 1,000,000. Returns whether to go on with the next one.
     ///
     /// # Errors
     ///
     /// Returns why the row couldn't be taken.
     fn take(&self, taken: &mut T, cycle: u64, values: &[u128]) -> Result<bool, Ending>
-        requires { can_take self.now (length values.now) }
+        requires within { cycle ≤ cycle_limit }
+        requires can { can_take self.now (length values.now) }
         ensures { takes self.now taken.old cycle values.now taken.new result };
 }

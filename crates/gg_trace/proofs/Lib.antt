@@ -14,3 +14,4 @@ pub mod PartedLaws
 pub mod LinedLaws
 pub mod WorkedRows
 pub mod LastLaws
+pub mod StopLaws

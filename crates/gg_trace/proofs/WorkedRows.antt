@@ -1,6 +1,6 @@
 -- The definitions of a trace at small texts, and at their near misses. Bytes that aren't printable characters are given by their
 -- numbers: 9 is a tab, 10 a line feed, 13 a carriage return, 32 a space.
-use Rattle.std.proofs.Common.{◌≡◌, ◌≢◌, ℕ, zero, suc, ◌+◌, ◌<◌, ◌^◌, ◌*◌, List, [], ◌∷◌, ◌++◌, false, length, get_or, codes, decimal, inr, refl, sym, ap, ◌∙◌, subst, arith, lit≤}
+use Rattle.std.proofs.Common.{◌≡◌, ◌≢◌, ℕ, zero, suc, ◌+◌, ◌<◌, ◌^◌, ◌*◌, List, [], ◌∷◌, ◌++◌, true, false, length, get_or, codes, decimal, inr, refl, sym, ap, ◌∙◌, subst, arith, lit≤}
 use Rattle.std.specs.Char.{digit_value}
 use Rattle.std.proofs.lemmas.Fmt.{decimal_digit}
 use Rattle.gg_bits.specs.declared.types.Kind.TheVariants.{UInt, SInt}
@@ -12,7 +12,8 @@ use Rattle.gg_trace.specs.Ports.{IsNamed, width_at}
 use Rattle.gg_trace.specs.Header.{field, IsHeader, IsListed, MayStand}
 use Rattle.gg_trace.specs.Trace.{row_at, IsRow, IsValueField, Columns, IsFirstFault}
 use Rattle.gg_trace.specs.Printing.{trace_text}
-use Rattle.gg_trace.specs.Last.{halts, has_halted, row_count}
+use Rattle.gg_flat.specs.Clock.{Ratio}
+use Rattle.gg_trace.specs.Last.{acts, halts, has_halted, row_count}
 
 -- A line ends with LF or CR LF, the last with the text too; a CR that no LF follows is part of its line.
 lines_of_both_ends : text_lines (97 ∷ 13 ∷ 10 ∷ 98 ∷ 10 ∷ 99 ∷ []) ≡ codes "a" ∷ codes "b" ∷ codes "c" ∷ []
@@ -269,40 +270,83 @@ too_many_fields = (
 -- ---- stops
 
 -- a stop whose condition is 1 in cycle 2 ends a run of five cycles with three rows, also if it is 1 again later
-stop_ends_with_its_row : row_count (halts ((0 ∷ 0 ∷ 1 ∷ 0 ∷ 1 ∷ []) ∷ [])) 5 ≡ 3
+stop_ends_with_its_row : row_count (halts [] ((0 ∷ 0 ∷ 1 ∷ 0 ∷ 1 ∷ []) ∷ [])) 5 ≡ 3
 stop_ends_with_its_row = refl
 
 -- the text has no row behind it, and isn't without its row
-stop_is_no_row_later : row_count (halts ((0 ∷ 0 ∷ 1 ∷ 0 ∷ 1 ∷ []) ∷ [])) 5 ≢ 4
+stop_is_no_row_later : row_count (halts [] ((0 ∷ 0 ∷ 1 ∷ 0 ∷ 1 ∷ []) ∷ [])) 5 ≢ 4
 stop_is_no_row_later e = let said : 3 ≡ 4 = sym stop_ends_with_its_row ∙ e in omega (arith, said)
 
-stop_is_no_row_earlier : row_count (halts ((0 ∷ 0 ∷ 1 ∷ 0 ∷ 1 ∷ []) ∷ [])) 5 ≢ 2
+stop_is_no_row_earlier : row_count (halts [] ((0 ∷ 0 ∷ 1 ∷ 0 ∷ 1 ∷ []) ∷ [])) 5 ≢ 2
 stop_is_no_row_earlier e = let said : 3 ≡ 2 = sym stop_ends_with_its_row ∙ e in omega (arith, said)
 
 -- in the first cycle, in the last one, and in the one after the last
-stop_at_once : row_count (halts ((1 ∷ 1 ∷ []) ∷ [])) 2 ≡ 1
+stop_at_once : row_count (halts [] ((1 ∷ 1 ∷ []) ∷ [])) 2 ≡ 1
 stop_at_once = refl
 
-stop_in_the_last_cycle : row_count (halts ((0 ∷ 1 ∷ []) ∷ [])) 2 ≡ 2
+stop_in_the_last_cycle : row_count (halts [] ((0 ∷ 1 ∷ []) ∷ [])) 2 ≡ 2
 stop_in_the_last_cycle = refl
 
-stop_behind_the_last_cycle : row_count (halts ((0 ∷ 0 ∷ 1 ∷ []) ∷ [])) 2 ≡ 2
+stop_behind_the_last_cycle : row_count (halts [] ((0 ∷ 0 ∷ 1 ∷ []) ∷ [])) 2 ≡ 2
 stop_behind_the_last_cycle = refl
 
 -- the earlier of two stops ends it, and two may act in one cycle
-earlier_of_two_stops : row_count (halts ((0 ∷ 0 ∷ 1 ∷ []) ∷ (0 ∷ 1 ∷ 0 ∷ []) ∷ [])) 3 ≡ 2
+earlier_of_two_stops : row_count (halts [] ((0 ∷ 0 ∷ 1 ∷ []) ∷ (0 ∷ 1 ∷ 0 ∷ []) ∷ [])) 3 ≡ 2
 earlier_of_two_stops = refl
 
-two_stops_at_once : row_count (halts ((0 ∷ 1 ∷ 0 ∷ []) ∷ (0 ∷ 1 ∷ 0 ∷ []) ∷ [])) 3 ≡ 2
+two_stops_at_once : row_count (halts [] ((0 ∷ 1 ∷ 0 ∷ []) ∷ (0 ∷ 1 ∷ 0 ∷ []) ∷ [])) 3 ≡ 2
 two_stops_at_once = refl
 
 -- without stops, and without cycles
-no_stops : row_count (halts []) 3 ≡ 3
+no_stops : row_count (halts [] []) 3 ≡ 3
 no_stops = refl
 
-no_cycles : row_count (halts ((1 ∷ []) ∷ [])) 0 ≡ 0
+no_cycles : row_count (halts [] ((1 ∷ []) ∷ [])) 0 ≡ 0
 no_cycles = refl
 
 -- whether it was halted is asked of the cycles before
-not_halted_by_its_own_cycle : has_halted (halts ((0 ∷ 1 ∷ []) ∷ [])) 1 ≡ false
+not_halted_by_its_own_cycle : has_halted (halts [] ((0 ∷ 1 ∷ []) ∷ [])) 1 ≡ false
 not_halted_by_its_own_cycle = refl
+
+-- ---- stops with a clock
+
+-- a clock with an edge in every second tick, from tick 1 on
+abbrev half : Ratio
+half = record { m = 1; d = 2 }
+
+abbrev whole : Ratio
+whole = record { m = 1; d = 1 }
+
+-- A condition that is 1 from cycle 2 on: there is no edge in tick 2, and so the stop acts in tick 3.
+stop_waits_for_an_edge : acts (half ∷ []) 2 (1 ∷ []) ≡ false
+stop_waits_for_an_edge = refl
+
+stop_acts_at_an_edge : acts (half ∷ []) 3 (1 ∷ []) ≡ true
+stop_acts_at_an_edge = refl
+
+stop_ends_at_an_edge : row_count (halts (half ∷ []) ((0 ∷ 0 ∷ 1 ∷ 1 ∷ []) ∷ [])) 4 ≡ 4
+stop_ends_at_an_edge = refl
+
+-- without ratios, or with an edge in each tick, the same conditions end it with three rows
+stop_without_ratios : row_count (halts [] ((0 ∷ 0 ∷ 1 ∷ 1 ∷ []) ∷ [])) 4 ≡ 3
+stop_without_ratios = refl
+
+stop_at_each_edge : row_count (halts (whole ∷ []) ((0 ∷ 0 ∷ 1 ∷ 1 ∷ []) ∷ [])) 4 ≡ 3
+stop_at_each_edge = refl
+
+-- near misses: an edge is nothing without the condition, also if the condition was 1 in a tick before
+edge_alone : acts (half ∷ []) 3 (0 ∷ []) ≡ false
+edge_alone = refl
+
+condition_of_a_tick_before : row_count (halts (half ∷ []) ((0 ∷ 0 ∷ 1 ∷ 0 ∷ 0 ∷ []) ∷ [])) 5 ≡ 5
+condition_of_a_tick_before = refl
+
+waiting_is_no_end : row_count (halts (half ∷ []) ((0 ∷ 0 ∷ 1 ∷ 1 ∷ []) ∷ [])) 4 ≢ 3
+waiting_is_no_end e = let said : 4 ≡ 3 = sym stop_ends_at_an_edge ∙ e in omega (arith, said)
+
+-- each stop goes by its own clock: in tick 2 only the second one may act
+own_clock_has_no_edge : acts (half ∷ whole ∷ []) 2 (1 ∷ 0 ∷ []) ≡ false
+own_clock_has_no_edge = refl
+
+own_clock_has_an_edge : acts (half ∷ whole ∷ []) 2 (0 ∷ 1 ∷ []) ≡ true
+own_clock_has_an_edge = refl

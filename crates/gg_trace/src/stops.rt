@@ -1,12 +1,34 @@
 //! Stops: whether one acts, and how many rows of a run are written.
-ghost use Rattle.std.specs.Prelude.{◌≡◌, ℕ, suc, ◌<◌, Bool, true, false};
+ghost use Rattle.std.specs.Prelude.{◌≡◌, ℕ, suc, ◌<◌, ◌≤◌, Bool, true, false, Some};
+ghost use Rattle.gg_limits.specs.Limits.{cycle_limit};
+ghost use Rattle.gg_flat.specs.Clock.{edges_at, ticks};
 ghost use Rattle.gg_trace.specs.Last.{acts, row_count};
 
-/// Whether one of these conditions of stops is 1.
-pub fn acts(conditions: &[u128]) -> bool
-    ensures { result ≡ acts conditions.now }
+use gg_clocks::Ratio;
+
+// Whether clock k has an edge in the tick. A clock past the end has one in each tick.
+fn has_edge(ratios: &[Ratio], k: usize, tick: u64) -> bool
+    requires { tick ≤ cycle_limit }
+    ensures { result ≡ ticks (edges_at ratios.now tick) (Some k) }
 {
-    conditions.contains(&1)
+    match ratios.get(k) {
+        None => true,
+        Some(ratio) => ratio.edge(tick),
+    }
+}
+
+/// Whether a stop acts in the tick, which is at most 1,000,000, if the stops have these conditions: one of these is 1, and the stop's
+/// clock has an edge in the tick. `ratios` are those of the stops' clocks. Without them each clock has an edge in each tick.
+pub fn acts(ratios: &[Ratio], tick: u64, conditions: &[u128]) -> bool
+    requires { tick ≤ cycle_limit }
+    ensures { result ≡ acts ratios.now tick conditions.now }
+{
+    for (k, &condition) in conditions.iter().enumerate() {
+        if condition == 1 && has_edge(ratios, k, tick) {
+            return true;
+        }
+    }
+    false
 }
 
 /// The rows that are written are one more than the first cycle that halts the run has before it: its row is the last one. If no

@@ -19,8 +19,9 @@ use Rattle.gg_order.specs.Design.{Ordered}
 use Rattle.gg_progress.specs.Counts.{counts_of}
 use Rattle.gg_progress.specs.Measure.{all_dues, left}
 use Rattle.gg_progress.proofs.EndLemmas.{opening-left}
+use Rattle.gg_pipe.specs.Follows.{plan_start}
 use Rattle.gg_pipe.specs.Made.{plan_reference}
-use Rattle.gg_sound.specs.Built.{IsGiven, wires_of_plan}
+use Rattle.gg_sound.specs.Built.{IsGiven, no_token, wires_of_plan}
 use Rattle.gg_run.specs.Sums.{AreSums, FoldsRows, output_column, sums_text}
 use Rattle.gg_run.specs.declared.sums.Sums.{Sums}
 use Rattle.gg_told.specs.Ends.{Loads, Puts}
@@ -100,13 +101,13 @@ module _ (seed size : ℕ) (fed : Fed) (is : IsFed (demo_circuit size) (demo_par
   abbrev reference : FlatCircuit
   reference = plan_reference design fed.case.cut.request
 
-  given : IsGiven design fed.case.cut.request demo_capacity fed.case.cut.plan fed.trace.columns n ran
+  given : IsGiven design fed.case.cut.request demo_capacity fed.case.cut.plan fed.trace.columns n (plan_start design fed.case.cut.request) ran
   given = fed_setting.given circuit partition trace demo_capacity fed is
 
   module _ (agree : DesignsAgree) (once : OneRun) (some : 0 < size) (whole : n ≡ demo_cycles size) (sums : Sums)
       (are : AreSums fed.case.cut.plan fed.trace.columns n (fed_flow fed) (to-replay circuit partition trace demo_capacity fed is) sums) where
     abbrev opening : Network
-    opening = opening_net are.opens.machines (wires_of_plan fed.case.cut.plan) n
+    opening = opening_net are.opens.machines (wires_of_plan no_token fed.case.cut.plan) n
 
     kept : Kept (fed_flow fed) opening
     kept = subst (λ (x : Network). Kept (fed_flow fed) x) are.opens.is are.kept

@@ -1,13 +1,16 @@
 -- How the steps of a file end for what was read: the text that is printed is the only one, and what is reported is right.
-use Rattle.std.proofs.Common.{◌≡◌, ◌↔◌, ℕ, ◌+◌, ◌*◌, ◌<◌, ◌≤◌, List, length, take, refl, sym, ap, ◌∙◌, subst}
+use Rattle.std.proofs.Common.{◌≡◌, ◌↔◌, ℕ, ◌+◌, ◌*◌, ◌<◌, ◌≤◌, List, length, take, refl, sym, ap, ap₂, ◌∙◌, subst}
 use Rattle.std.specs.Prelude.{Option, Result, Ok, drop}
 use Rattle.std.proofs.lemmas.List.{drop-map, length-map, take-map}
 use Rattle.gg_flat.specs.Ports.{output_ports}
-use Rattle.gg_flat.specs.Run.{IsRun, column}
+use Rattle.gg_flat.specs.Run.{column}
+use Rattle.gg_flat.specs.Clock.{Ratio}
+use Rattle.gg_flat.specs.Tree.{InstanceTree}
 use Rattle.gg_flat.specs.Scoped.{stop_signals}
 use Rattle.gg_flat.specs.declared.ports.Port.{Port}
 use Rattle.gg_order.specs.Design.{Ordered}
 use Rattle.gg_partfile.specs.declared.request.Request.{Request}
+use Rattle.gg_cut.specs.Clocks.{stop_ratios}
 use Rattle.gg_cut.specs.Direct.{plan_hub}
 use Rattle.gg_cut.specs.declared.plan.Plan.{Plan}
 use Rattle.gg_net.specs.declared.event.Event.{Event}
@@ -17,6 +20,7 @@ use Rattle.gg_progress.specs.Measure.{all_dues}
 use Rattle.gg_paths.specs.Paths.{HavePaths}
 use Rattle.gg_paths.proofs.PortLemmas.{have-paths}
 use Rattle.gg_pipe.specs.Links.{taken_as}
+use Rattle.gg_pipe.specs.Follows.{plan_start}
 use Rattle.gg_pipe.specs.Made.{plan_reference}
 use Rattle.gg_sound.specs.Built.{IsGiven}
 use Rattle.gg_build.specs.Build.{reference_order, reference_rows}
@@ -35,9 +39,9 @@ use Rattle.golden.specs.Case.{AreFedToTrays, IsFed}
 use Rattle.golden.specs.Network.{IsNetworkText}
 use Rattle.golden.specs.Replay.{CanGoOn, GoesOnUntilAll, IsReplayText, IsReplayed, IsSetting, Setting, TellsSteps, all_steps, naming_of, replay_text, replayed}
 use Rattle.golden.specs.Replayed.{AreFewNames, IsNetText, IsToReplay, TellsStop, case_naming, fed_flow}
-use Rattle.gg_run.specs.Printed.{out_columns, rows_to, text_of}
+use Rattle.gg_run.specs.Printed.{out_columns, plan_stops, rows_to, text_of}
 use Rattle.golden.specs.Run.{IsTextOf}
-use Rattle.golden.specs.RunText.{columns_of, outputs_kept, outputs_of, run_rows, run_text, stops_kept}
+use Rattle.golden.specs.RunText.{IsRunBy, columns_of, outputs_kept, outputs_of, run_rows, run_text, stops_kept}
 use Rattle.golden.specs.declared.case.Fed.{Fed}
 use Rattle.golden.proofs.CaseLemmas.{case-fresh, case-ordered}
 use Rattle.golden.proofs.OutputLemmas.{output-ports-count, output-ports-few}
@@ -71,15 +75,19 @@ module _ (circuit partition trace : List ℕ) (capacity : ℕ) (fed : Fed) (is :
   abbrev rows : List (List ℕ)
   rows = reference_rows design request columns n
 
-  pub given : IsGiven fed.case.design fed.case.cut.request capacity fed.case.cut.plan fed.trace.columns fed.trace.rows (reference_rows fed.case.design fed.case.cut.request fed.trace.columns fed.trace.rows)
+  pub given : IsGiven fed.case.design fed.case.cut.request capacity fed.case.cut.plan fed.trace.columns fed.trace.rows (plan_start fed.case.design fed.case.cut.request) (reference_rows fed.case.design fed.case.cut.request fed.trace.columns fed.trace.rows)
   given = given-along design request capacity plan columns n is.case.designed is.case.keeps is.case.held (case-fresh is.case) is.case.cuts.faultless is.case.planned is.case.bounded.0 is.case.bounded.1 is.most is.columns
 
   -- the plan's network can be built
   abbrev pub to-replay : IsToReplay fed (fed_flow fed)
   to-replay = record { design = design; request = request; default = capacity; rows = rows; given = given; room = is.case.bounded.1; flow_is = refl }
 
-  pub own-run : IsRun (plan_reference fed.case.design fed.case.cut.request) fed.trace.columns fed.trace.rows (reference_rows fed.case.design fed.case.cut.request fed.trace.columns fed.trace.rows)
-  own-run = given.run
+  pub own-run : IsRunBy fed.case.design fed.case.cut.request fed.trace.columns fed.trace.rows (reference_rows fed.case.design fed.case.cut.request fed.trace.columns fed.trace.rows)
+  own-run = given.run.run
+
+  -- the ratios of the stops' clocks, from the tree and the plan
+  pub fed-stops : (tree : InstanceTree) (ratios stops : List Ratio) → tree ≡ fed.case.design.tree → ratios ≡ fed.case.cut.plan.ratios → stops ≡ stop_ratios tree ratios → stops ≡ plan_stops fed.case.design fed.case.cut.request
+  fed-stops tree ratios stops its given own = own ∙ ap₂ stop_ratios its (given ∙ is.case.planned.ratios)
 
   -- there are as many ports of the top's outputs as outputs
   fed-count : (ports : List Port) → ports ≡ output_ports fed.case.design.circuit fed.case.design.tree → length ports ≡ length (outputs_of fed.case.design.tree)
@@ -88,17 +96,17 @@ module _ (circuit partition trace : List ℕ) (capacity : ℕ) (fed : Fed) (is :
 
   -- the text of a run for these ports is that of the outputs
   pub fed-text : (ports : List Port) (ran : List (List ℕ)) → ports ≡ output_ports fed.case.design.circuit fed.case.design.tree
-      → text_of (plan_reference fed.case.design fed.case.cut.request) ports ran fed.trace.rows ≡ run_text fed.case.design fed.case.cut.request ran fed.trace.rows
+      → text_of (plan_stops fed.case.design fed.case.cut.request) (plan_reference fed.case.design fed.case.cut.request) ports ran fed.trace.rows ≡ run_text fed.case.design fed.case.cut.request ran fed.trace.rows
   fed-text ports ran e = text-kept design request (stop_signals design.tree) ports is.case.keeps.scoped.outs refl (fed-count ports e) ran n e
 
   -- what is printed of that run for the ports of the top's outputs is printed of the outputs
   pub fed-prints : {T : Type 0} (before now : Option (List ℕ)) (failed : Type 0) (r : Result T Ending) (ports : List Port) (ran : List (List ℕ)) → ports ≡ output_ports fed.case.design.circuit fed.case.design.tree
-      → Prints before now failed (text_of (plan_reference fed.case.design fed.case.cut.request) ports ran fed.trace.rows) r → Prints before now failed (run_text fed.case.design fed.case.cut.request ran fed.trace.rows) r
+      → Prints before now failed (text_of (plan_stops fed.case.design fed.case.cut.request) (plan_reference fed.case.design fed.case.cut.request) ports ran fed.trace.rows) r → Prints before now failed (run_text fed.case.design fed.case.cut.request ran fed.trace.rows) r
   fed-prints {T = T} before now failed r ports ran e prints = subst (λ (text : List ℕ). Prints before now failed text r) (fed-text ports ran e) prints
 
   -- and there are as many rows
   pub fed-rows : (ports : List Port) (ran : List (List ℕ)) → ports ≡ output_ports fed.case.design.circuit fed.case.design.tree
-      → rows_to (plan_reference fed.case.design fed.case.cut.request) ports ran fed.trace.rows ≡ run_rows fed.case.design fed.case.cut.request ran fed.trace.rows
+      → rows_to (plan_stops fed.case.design fed.case.cut.request) (plan_reference fed.case.design fed.case.cut.request) ports ran fed.trace.rows ≡ run_rows fed.case.design fed.case.cut.request ran fed.trace.rows
   fed-rows ports ran e = rows-kept design request (stop_signals design.tree) ports is.case.keeps.scoped.outs refl (fed-count ports e) ran n
 
   -- the columns of the trays are those of the outputs and of the stops
@@ -227,7 +235,7 @@ module _ (circuit partition trace : List ℕ) (capacity : ℕ) (fed : Fed) (is :
 -- ---- the text of the run
 
 -- what is printed of a run of what was read is a text of the run
-pub run-text-of : {circuit partition trace : List ℕ} {capacity : ℕ} {fed : Fed} → IsFed circuit partition trace capacity fed → (ran : List (List ℕ)) → IsRun (plan_reference fed.case.design fed.case.cut.request) fed.trace.columns fed.trace.rows ran
+pub run-text-of : {circuit partition trace : List ℕ} {capacity : ℕ} {fed : Fed} → IsFed circuit partition trace capacity fed → (ran : List (List ℕ)) → IsRunBy fed.case.design fed.case.cut.request fed.trace.columns fed.trace.rows ran
     → IsTextOf circuit partition trace (run_text fed.case.design fed.case.cut.request ran fed.trace.rows)
 run-text-of {fed = fed} is ran run = (
   fed.case.design,
@@ -254,7 +262,7 @@ network-text-of {circuit = circuit} {partition = partition} {trace = trace} {cap
       kept = out_columns (plan_reference fed.case.design fed.case.cut.request) ran;
       each = fed-each circuit partition trace capacity fed is ran;
       told = run_rows fed.case.design fed.case.cut.request ran fed.trace.rows;
-      ends = ap (λ (columns : List (List ℕ)). row_count (halts columns) fed.trace.rows) (sym (fed-stops-seen circuit partition trace capacity fed is ran));
+      ends = ap (λ (columns : List (List ℕ)). row_count (halts (plan_stops fed.case.design fed.case.cut.request) columns) fed.trace.rows) (sym (fed-stops-seen circuit partition trace capacity fed is ran));
       trays = kept;
       is =
           ap (λ (columns : List (List ℕ)). trace_text (output_ports fed.case.design.circuit fed.case.design.tree) columns (run_rows fed.case.design fed.case.cut.request ran fed.trace.rows))

@@ -1,23 +1,21 @@
 -- What a run of known files wrote.
-use Rattle.std.proofs.Common.{◌≡◌, ℕ, List, [], ◌∷◌, Bool, false, length, map, refl, sym, ap, ap₂, ◌∙◌, subst, arith}
-use Rattle.std.specs.Prelude.{◌==◌, cond, filter}
+use Rattle.std.proofs.Common.{◌≡◌, ℕ, List, [], Bool, map, sym, ap, ap₂, ◌∙◌, subst, arith}
 use Rattle.std.proofs.lemmas.List.{map-id}
 use Rattle.gg_io.specs.Told.{Holds, Told}
 use Rattle.gg_flat.proofs.ListLemmas.{map-same}
 use Rattle.gg_flat.specs.Circuit.{FlatCircuit}
 use Rattle.gg_flat.specs.Ports.{output_ports}
-use Rattle.gg_flat.specs.Run.{IsRun}
+use Rattle.gg_flat.specs.Run.{IsRun, clocked_start, IsRunFrom}
 use Rattle.gg_flat.specs.Scoped.{stop_signals}
-use Rattle.gg_flat.specs.Tree.{path_at}
 use Rattle.gg_front.specs.Meaning.{MeansDesign}
 use Rattle.gg_order.specs.Design.{Ordered}
 use Rattle.gg_partfile.specs.Partition.{IsPartition}
 use Rattle.gg_partfile.specs.declared.request.Request.{Request}
-use Rattle.gg_cut.specs.Direct.{is_piped, plan_hub, routes}
-use Rattle.gg_cut.specs.Listed.{first_place, is_among}
-use Rattle.gg_cut.specs.declared.wires.Wire.{Wire}
-use Rattle.gg_pipe.specs.Links.{pipe_or, pipes_of, taken_as}
-use Rattle.gg_pipe.proofs.NothingLemmas.{plan-plain}
+use Rattle.gg_cut.specs.Clocks.{ratios_of}
+use Rattle.gg_cut.specs.Direct.{plan_hub}
+use Rattle.gg_pipe.specs.Links.{taken_as}
+use Rattle.gg_pipe.proofs.NothingLemmas.{plan-plain, plan-taken-same}
+use Rattle.gg_run.specs.Printed.{plan_stops}
 use Rattle.gg_told.specs.Ends.{Loads}
 use Rattle.gg_told.specs.Order.{IsOnly, IsWritten}
 use Rattle.gg_told.proofs.EndsLemmas.{Failed, Stopped, Wanted, WhyEnds, Wrote, ends-why}
@@ -31,9 +29,11 @@ use Rattle.golden.specs.Commands.{order_of}
 use Rattle.golden.specs.Outcome.{Asked, Outcome, Unasked, WantsMemoryFirst}
 use Rattle.golden.specs.Partition.{partition_file_for}
 use Rattle.golden.specs.Run.{IsPlainText, IsTextOf, circuit_file, trace_file_for}
-use Rattle.golden.specs.RunText.{IsRunText, columns_of, outputs_of}
+use Rattle.golden.specs.RunText.{IsRunBy, IsRunText, columns_of, outputs_of}
 use Rattle.golden.proofs.CauseLemmas.{ExactOrders, OneMeaning, asks-once}
 use Rattle.golden.proofs.NetworkLemmas.{refused-some}
+use Rattle.golden.proofs.StopLemmas.{ratios-plain, rows-plain}
+use Rattle.golden.proofs.TickLemmas.{AreAlways, always-of, run-without-ratios}
 
 -- bytes hold at most one request
 abbrev pub OneRequest : Type 0
@@ -70,23 +70,19 @@ run-known files circuit partition trace capacity workers mono c p t text hc hp h
     (subst (λ (b : List ℕ). IsOnly (IsTextOf c' b t) text) two
     (subst (λ (b : List ℕ). IsOnly (IsTextOf c' p' b) text) three only))
 
--- ---- a request that asks for no pipe
+-- ---- a request that asks for no pipe and gives no clocks
 
-filter-none : {A : Type 0} (test : A → Bool) → ((x : A) → test x ≡ false) → (xs : List A) → filter test xs ≡ []
-filter-none test none [] = refl
-filter-none test none (x ∷ xs) = ap (λ b. cond b (x ∷ filter test xs) (filter test xs)) (none x) ∙ filter-none test none xs
-
-module _ (design : Ordered) (request : Request) (none : request.pipe ≡ []) where
+module _ (design : Ordered) (request : Request) (none : request.pipe ≡ []) (always : request.clocks ≡ []) where
   -- each signal is taken as itself
-  taken-plain : (s : ℕ) → taken_as (plan_hub design.circuit design.tree request) s ≡ s
-  taken-plain s =
-      let hub = plan_hub design.circuit design.tree request in
-      let empty : pipes_of hub ≡ [] =
-      ap (map (λ (r : Wire). r.signal)) (filter-none (λ (r : Wire). is_piped design.circuit request r.signal) (λ r. ap (λ names. is_among names (path_at design.circuit.paths r.signal)) none) (routes hub)) in
-      ap (λ pipes. pipe_or (length design.circuit.signals) s (first_place (λ p. p == s) pipes)) empty
-
   all-plain : (signals : List ℕ) → map (taken_as (plan_hub design.circuit design.tree request)) signals ≡ signals
-  all-plain signals = map-same (taken_as (plan_hub design.circuit design.tree request)) (λ s. s) signals taken-plain ∙ map-id signals
+  all-plain signals = map-same (taken_as (plan_hub design.circuit design.tree request)) (λ s. s) signals (plan-taken-same design request none) ∙ map-id signals
+
+  -- and each clock has an edge in each cycle
+  own-run : (columns : List (List ℕ)) (n : ℕ) (rows : List (List ℕ)) → IsRunBy design request columns n rows → IsRun design.circuit columns n rows
+  own-run columns n rows run =
+      let ratios = ratios_of design.tree request in
+      run-without-ratios design.circuit ratios (subst AreAlways (sym (ratios-plain design request always)) (always-of design.tree.clocks)) columns n rows
+      (subst (λ (f : FlatCircuit). IsRunFrom f (clocked_start f ratios) columns n rows) (plan-plain design request none) run)
 
   -- so the text of the run is that of the flat circuit's own
   pub text-plain : (circuit trace text : List ℕ) → MeansDesign circuit design → IsRunText design request trace text → IsPlainText circuit trace text
@@ -98,13 +94,15 @@ module _ (design : Ordered) (request : Request) (none : request.pipe ≡ []) whe
         columns = ran.columns;
         rows = ran.rows;
         feeds = ran.feeds;
-        run = subst (λ (f : FlatCircuit). IsRun f ran.columns ran.cycles ran.rows) (plan-plain design request none) ran.run;
+        run = own-run ran.columns ran.cycles ran.rows ran.run;
         is = ran.is
-            ∙ ap₂ (λ (outs stops : List ℕ). trace_text (output_ports design.circuit design.tree) (columns_of outs ran.rows) (row_count (halts (columns_of stops ran.rows)) ran.cycles))
-            (all-plain (outputs_of design.tree)) (all-plain (stop_signals design.tree));
+            ∙ ap₂ (λ (outs stops : List ℕ). trace_text (output_ports design.circuit design.tree) (columns_of outs ran.rows) (row_count (halts (plan_stops design request) (columns_of stops ran.rows)) ran.cycles))
+            (all-plain (outputs_of design.tree)) (all-plain (stop_signals design.tree))
+            ∙ ap (λ k. trace_text (output_ports design.circuit design.tree) (columns_of (outputs_of design.tree) ran.rows) k) (rows-plain design request always (columns_of (stop_signals design.tree) ran.rows) ran.cycles);
       }
 
--- the text of a run whose partition asks for no pipe
-pub run-plain : OneRequest → (c p t text : List ℕ) (request : Request) → IsPartition p request → request.pipe ≡ [] → IsTextOf c p t text → IsPlainText c t text
-run-plain one c p t text request asks none (design, means, (other, others, ran)) =
-    text-plain design other (ap (λ (r : Request). r.pipe) (one p other request others asks) ∙ none) c t text means ran
+-- the text of a run whose partition asks for no pipe and gives no clocks
+pub run-plain : OneRequest → (c p t text : List ℕ) (request : Request) → IsPartition p request → request.pipe ≡ [] → request.clocks ≡ [] → IsTextOf c p t text → IsPlainText c t text
+run-plain one c p t text request asks none always (design, means, (other, others, ran)) =
+    let same = one p other request others asks in
+    text-plain design other (ap (λ (r : Request). r.pipe) same ∙ none) (ap (λ (r : Request). r.clocks) same ∙ always) c t text means ran

@@ -26,3 +26,5 @@ pub mod RunLemmas
 pub mod SettingLemmas
 pub mod TextLemmas
 pub mod UsableLemmas
+pub mod TickLemmas
+pub mod StopLemmas

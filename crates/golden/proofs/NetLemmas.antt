@@ -21,9 +21,9 @@ use Rattle.gg_marking.proofs.StepsLemmas.{steps-frame}
 use Rattle.gg_replay.specs.Log.{AreFronts, opening_log, tokens_at}
 use Rattle.gg_replay.specs.ReplayText.{channel_line}
 use Rattle.gg_replay.proofs.OpeningLemmas.{first-fronts}
-use Rattle.gg_sound.specs.Built.{wires_of_plan}
+use Rattle.gg_sound.specs.Built.{no_token, wires_of_plan}
 use Rattle.gg_sound.proofs.LinkLemmas.{length-from}
-use Rattle.gg_sound.proofs.OpeningLemmas.{built-opening}
+use Rattle.gg_run.proofs.OpeningLemmas.{begins-so}
 use Rattle.gg_steps.specs.Naming.{Naming}
 use Rattle.gg_told.specs.declared.endings.Ending.{Ending}
 use Rattle.gg_told.specs.declared.endings.Ending.TheVariants.{NoMemory}
@@ -41,17 +41,17 @@ module _ (plan : Plan) (columns : List (List ℕ)) (n : ℕ) (flow : Flow) (net 
   pub opening-right : (log : List (List ℕ)) (wires : List Wire) → IsToRun plan columns n flow → Kept flow net → wires ≡ net.wires → log ≡ opening_log wires → AreFronts flow net log
   opening-right log wires run kept same is =
       let machines = opens.machines in
-      let opening = opening_net machines (wires_of_plan plan) n in
-      let fronts : AreFronts flow opening (opening_log (wires_of_plan plan)) =
-      first-fronts flow machines (wires_of_plan plan) n (ap (λ (f : Flow). f.begin) run.flow_is) (subst (λ (x : Network). Kept flow x) opens.is kept)
-      (λ m lt. subst (λ (f : Flow). IsOpening f m (machine_at machines m)) (sym run.flow_is) (built-opening run.design run.request run.default plan columns n run.rows machines run.given opens.built m lt)) in
-      let given : log ≡ opening_log (wires_of_plan plan) = is ∙ ap opening_log (same ∙ ap (λ (x : Network). x.wires) opens.is) in
+      let opening = opening_net machines (wires_of_plan no_token plan) n in
+      let fronts : AreFronts flow opening (opening_log (wires_of_plan no_token plan)) =
+      first-fronts flow machines (wires_of_plan no_token plan) n (ap (λ (f : Flow). f.begin) run.flow_is) (subst (λ (x : Network). Kept flow x) opens.is kept)
+      (λ m lt. subst (λ (f : Flow). IsOpening f m (machine_at machines m)) (sym run.flow_is) (begins-so plan columns n flow run net opens m lt)) in
+      let given : log ≡ opening_log (wires_of_plan no_token plan) = is ∙ ap opening_log (same ∙ ap (λ (x : Network). x.wires) opens.is) in
       subst (λ (x : Network). AreFronts flow x log) (sym opens.is) (subst (λ l. AreFronts flow opening l) (sym given) fronts)
 
   -- steps don't change the number of channels
   pub wires-stay : (events : List (Option Event)) (new : Network) → Steps net events new → length new.wires ≡ length plan.channels
   wires-stay events new steps =
-      ap (λ (f : Frame). length f.wires) (steps-frame net events new steps) ∙ ap (λ (x : Network). length x.wires) opens.is ∙ length-from plan 0 plan.channels
+      ap (λ (f : Frame). length f.wires) (steps-frame net events new steps) ∙ ap (λ (x : Network). length x.wires) opens.is ∙ length-from no_token plan 0 plan.channels
 
 -- a refused step is reported by its number and cause, however these are written
 pub told-so : (naming : Naming) (events : List (Option Event)) (ending : Ending) (step step' : ℕ) (cause cause' : Refusal) → step ≡ step' → cause ≡ cause'

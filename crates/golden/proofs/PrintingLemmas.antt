@@ -1,11 +1,11 @@
 -- The rows of a run, one by one.
-use Rattle.std.proofs.Common.{◌≡◌, ℕ, suc, ◌+◌, ◌<◌, List, [], ◌++◌, Bool, true, false, length, map, take, sym, ap, ◌∙◌, subst, arith}
+use Rattle.std.proofs.Common.{◌≡◌, ℕ, suc, ◌+◌, ◌<◌, List, ◌++◌, Bool, true, false, length, map, take, sym, ap, ◌∙◌, subst, arith}
 use Rattle.std.specs.Prelude.{Result, Ok, Err, drop}
 use Rattle.std.proofs.lemmas.List.{drop-map, take-map}
 use Rattle.std.proofs.Math.Seq.{drop-append_seam, take-append_seam}
 use Rattle.gg_flat.specs.Circuit.{FlatCircuit}
 use Rattle.gg_flat.specs.Order.{IsOrder}
-use Rattle.gg_flat.specs.Run.{IsRun, row_at, opening_start, state_at, inputs_at}
+use Rattle.gg_flat.specs.Run.{IsRunFrom, clocked_start, row_at, state_at, inputs_at}
 use Rattle.gg_flat.specs.Settled.{Settled}
 use Rattle.gg_flat.specs.State.{State, next_state}
 use Rattle.gg_io.specs.declared.output.Sink
@@ -26,94 +26,101 @@ use Rattle.gg_pipe.specs.Made.{plan_reference}
 use Rattle.golden.specs.RunText.{columns_of, outputs_kept, outputs_of, run_rows, run_text, stops_kept}
 use Rattle.gg_told.specs.WentOn.{SinkWentOn}
 use Rattle.gg_told.proofs.WritingLemmas.{on-then}
-use Rattle.gg_run.specs.Printed.{PrintsRow, rows_to, shown_columns, stop_columns, text_of}
+use Rattle.gg_run.specs.Printed.{PrintsRow, RowForm, plan_stops, rows_to, shown_columns, stop_columns, text_of}
 use Rattle.gg_run.specs.Rows.{outputs_in}
 use Rattle.gg_run.specs.Taken.{Took, TookTo}
 use Rattle.gg_run.proofs.TakenLemmas.{took-all, took-fails, took-last, took-next}
 
 -- The first `cycle` rows were printed, each time to go on, and the simulator is in the state before the next, in any run.
-pub record SimulatedTo {K : Type 0} (circuit : FlatCircuit) (inputs : Table) (ports : List Port) (sink : Sink.Ghosts K) (out out' : K) (cycle : ℕ) (mono : Simulation) (outs : List ℕ) : Type 0 where
+pub record SimulatedTo {K : Type 0} (circuit : FlatCircuit) (ratios : List Ratio) (inputs : Table) (form : RowForm) (sink : Sink.Ghosts K) (out out' : K) (cycle : ℕ) (mono : Simulation) (outs : List ℕ) : Type 0 where
   pub same : mono.circuit ≡ circuit
-  pub every : mono.ratios ≡ []
+  pub timed : mono.ratios ≡ ratios
   pub made : mono.cycle ≡ cycle
   pub count : length outs ≡ length circuit.outs
-  pub state : (rows : List (List ℕ)) → IsRun circuit inputs.columns inputs.rows rows → mono.state ≡ state_at circuit (opening_start circuit) rows cycle
-  pub took : (rows : List (List ℕ)) → IsRun circuit inputs.columns inputs.rows rows → TookTo (PrintsRow sink ports) (outputs_in circuit rows) out cycle out'
+  pub state : (rows : List (List ℕ)) → IsRunFrom circuit (clocked_start circuit ratios) inputs.columns inputs.rows rows → mono.state ≡ state_at circuit (clocked_start circuit ratios) rows cycle
+  pub took : (rows : List (List ℕ)) → IsRunFrom circuit (clocked_start circuit ratios) inputs.columns inputs.rows rows → TookTo (PrintsRow sink form.stops form.ports) (outputs_in circuit rows) out cycle out'
   pub on : SinkWentOn sink out out'
 
 -- what the rows of a run owe
-abbrev pub TookAll : {K : Type 0} (circuit : FlatCircuit) (inputs : Table) (ports : List Port) (sink : Sink.Ghosts K) (out out' : K) (result : Result Bool Ending) → Type 0
-TookAll circuit inputs ports sink out out' result =
-    (rows : List (List ℕ)) → IsRun circuit inputs.columns inputs.rows rows → (count : ℕ) × Took (PrintsRow sink ports) (outputs_in circuit rows) inputs.rows count out out' result
+abbrev pub TookAll : {K : Type 0} (circuit : FlatCircuit) (ratios : List Ratio) (inputs : Table) (form : RowForm) (sink : Sink.Ghosts K) (out out' : K) (result : Result Bool Ending) → Type 0
+TookAll circuit ratios inputs form sink out out' result =
+    (rows : List (List ℕ)) → IsRunFrom circuit (clocked_start circuit ratios) inputs.columns inputs.rows rows
+    → (count : ℕ) × Took (PrintsRow sink form.stops form.ports) (outputs_in circuit rows) inputs.rows count out out' result
 
 -- a state and inputs have only one settled row
 abbrev pub SettledOnce : Type 0
 SettledOnce = (circuit : FlatCircuit) (order : List ℕ) (state : State) (inputs v w : List ℕ) → IsOrder circuit order → Settled circuit state inputs v → Settled circuit state inputs w → v ≡ w
 
--- a cycle from the state before cycle t of a run, with its inputs, is cycle t of the run
-pub cycle-row : SettledOnce → (circuit : FlatCircuit) (order : List ℕ) (columns : List (List ℕ)) (n : ℕ) (rows : List (List ℕ)) (t : ℕ)
-    (before after : State) (inputs printed : List ℕ) → IsOrder circuit order → IsRun circuit columns n rows → t < n
-    → before ≡ state_at circuit (opening_start circuit) rows t → inputs ≡ inputs_at columns t → (cycle : Cycle [] circuit before inputs printed after) → cycle.row ≡ row_at rows t
-cycle-row once circuit order columns n rows t before after inputs printed ordered run lt is given cycle =
-    once circuit order before inputs cycle.row (row_at rows t) ordered cycle.settled
-    (subst (λ (s : State). Settled circuit s inputs (row_at rows t)) (sym is) (subst (λ (i : List ℕ). Settled circuit (state_at circuit (opening_start circuit) rows t) i (row_at rows t)) (sym given) (run.settled t lt)))
-
 -- what a cycle of a run leaves: the next state, and the row
-pub record Follows (circuit : FlatCircuit) (rows : List (List ℕ)) (t : ℕ) (after : State) (printed : List ℕ) : Type 0 where
-  pub state : after ≡ state_at circuit (opening_start circuit) rows (t + 1)
+pub record Follows (circuit : FlatCircuit) (ratios : List Ratio) (rows : List (List ℕ)) (t : ℕ) (after : State) (printed : List ℕ) : Type 0 where
+  pub state : after ≡ state_at circuit (clocked_start circuit ratios) rows (t + 1)
   pub row : printed ≡ outputs_in circuit rows t
 
-pub cycle-follows : SettledOnce → (circuit : FlatCircuit) (order : List ℕ) (columns : List (List ℕ)) (n : ℕ) (rows : List (List ℕ)) (t : ℕ)
-    (before after : State) (inputs printed : List ℕ) → IsOrder circuit order → IsRun circuit columns n rows → t < n
-    → before ≡ state_at circuit (opening_start circuit) rows t → inputs ≡ inputs_at columns t → Cycle [] circuit before inputs printed after → Follows circuit rows t after printed
-cycle-follows once circuit order columns n rows t before after inputs printed ordered run lt is given cycle =
-    let row = cycle-row once circuit order columns n rows t before after inputs printed ordered run lt is given cycle in
-    let turned : suc t ≡ t + 1 = omega arith in
-    record {
-      state = cycle.next ∙ ap (λ (s : State). next_state [] circuit s cycle.row) is ∙ ap (next_state [] circuit (state_at circuit (opening_start circuit) rows t)) row ∙ ap (state_at circuit (opening_start circuit) rows) turned;
-      row = cycle.outputs_are ∙ ap (outputs circuit) row;
-    }
+-- a cycle from the state before cycle t of a run, with its edges and inputs, is cycle t of the run
+module _ (once : SettledOnce) (circuit : FlatCircuit) (ratios : List Ratio) (order : List ℕ) (columns : List (List ℕ)) (n : ℕ) (rows : List (List ℕ)) (t : ℕ) (before after : State) (inputs printed : List ℕ) (ordered : IsOrder circuit order)
+    (run : IsRunFrom circuit (clocked_start circuit ratios) columns n rows) (lt : t < n) (is : before ≡ state_at circuit (clocked_start circuit ratios) rows t) (given : inputs ≡ inputs_at columns t)
+    (cycle : Cycle (edges_at ratios t) circuit before inputs printed after) where
+  cycle-row : cycle.row ≡ row_at rows t
+  cycle-row =
+      once circuit order before inputs cycle.row (row_at rows t) ordered cycle.settled
+      (subst (λ (s : State). Settled circuit s inputs (row_at rows t)) (sym is) (subst (λ (i : List ℕ). Settled circuit (state_at circuit (clocked_start circuit ratios) rows t) i (row_at rows t)) (sym given) (run.settled t lt)))
 
-module _ {K : Type 0} {circuit : FlatCircuit} {inputs : Table} {ports : List Port} {sink : Sink.Ghosts K} {out out' : K} {t : ℕ} {mono : Simulation} {outs outs' : List ℕ}
+  pub cycle-follows : Follows circuit ratios rows t after printed
+  cycle-follows =
+      let turned : suc t ≡ t + 1 = omega arith in
+      record {
+        state = cycle.next ∙ ap (λ (s : State). next_state (edges_at ratios t) circuit s cycle.row) is
+            ∙ ap (next_state (edges_at ratios t) circuit (state_at circuit (clocked_start circuit ratios) rows t)) cycle-row
+            ∙ ap (state_at circuit (clocked_start circuit ratios) rows) turned;
+        row = cycle.outputs_are ∙ ap (outputs circuit) cycle-row;
+      }
+
+module _ {K : Type 0} {circuit : FlatCircuit} {ratios : List Ratio} {inputs : Table} {form : RowForm} {sink : Sink.Ghosts K} {out out' : K} {t : ℕ} {mono : Simulation} {outs outs' : List ℕ}
     (once : SettledOnce) (order : List ℕ) (ordered : IsOrder circuit order) (lt : t < inputs.rows) (row : List ℕ) (given : row ≡ row_of inputs.columns t)
-    (simulated : SimulatedTo circuit inputs ports sink out out' t mono outs) (mono' : Simulation) (cycle : Cycle (edges_at mono.ratios mono.cycle) mono.circuit mono.state row outs' mono'.state)
+    (simulated : SimulatedTo circuit ratios inputs form sink out out' t mono outs) (mono' : Simulation) (cycle : Cycle (edges_at mono.ratios mono.cycle) mono.circuit mono.state row outs' mono'.state)
     (out'' : K) where
-  follows-so : (rows : List (List ℕ)) → IsRun circuit inputs.columns inputs.rows rows → Follows circuit rows t mono'.state outs'
-  follows-so rows run =
-      cycle-follows once circuit order inputs.columns inputs.rows rows t mono.state mono'.state row outs' ordered run lt (simulated.state rows run) given
-      (subst (λ (c : FlatCircuit). Cycle [] c mono.state row outs' mono'.state) simulated.same
-      (subst (λ (ratios : List Ratio). Cycle (edges_at ratios mono.cycle) mono.circuit mono.state row outs' mono'.state) simulated.every cycle))
+  own-cycle : Cycle (edges_at ratios t) circuit mono.state row outs' mono'.state
+  own-cycle =
+      subst (λ (c : FlatCircuit). Cycle (edges_at ratios t) c mono.state row outs' mono'.state) simulated.same
+      (subst (λ (k : ℕ). Cycle (edges_at ratios k) mono.circuit mono.state row outs' mono'.state) simulated.made
+      (subst (λ (own : List Ratio). Cycle (edges_at own mono.cycle) mono.circuit mono.state row outs' mono'.state) simulated.timed cycle))
+
+  follows-so : (rows : List (List ℕ)) → IsRunFrom circuit (clocked_start circuit ratios) inputs.columns inputs.rows rows → Follows circuit ratios rows t mono'.state outs'
+  follows-so rows run = cycle-follows once circuit ratios order inputs.columns inputs.rows rows t mono.state mono'.state row outs' ordered run lt (simulated.state rows run) given own-cycle
 
   -- the row that is printed is that of the run
-  row-so : {answer : Result Bool Ending} → PrintsRow sink ports out' t outs' out'' answer → (rows : List (List ℕ)) → IsRun circuit inputs.columns inputs.rows rows → PrintsRow sink ports out' t (outputs_in circuit rows t) out'' answer
-  row-so {answer = answer} prints rows run = subst (λ (l : List ℕ). PrintsRow sink ports out' t l out'' answer) (follows-so rows run).row prints
+  row-so : {answer : Result Bool Ending} → PrintsRow sink form.stops form.ports out' t outs' out'' answer → (rows : List (List ℕ)) → IsRunFrom circuit (clocked_start circuit ratios) inputs.columns inputs.rows rows
+      → PrintsRow sink form.stops form.ports out' t (outputs_in circuit rows t) out'' answer
+  row-so {answer = answer} prints rows run = subst (λ (l : List ℕ). PrintsRow sink form.stops form.ports out' t l out'' answer) (follows-so rows run).row prints
 
   -- one more cycle, and then on
-  pub simulated-next : (goes_on : Bool) → goes_on ≡ true → PrintsRow sink ports out' t outs' out'' (Ok goes_on) → mono'.circuit ≡ mono.circuit → mono'.ratios ≡ mono.ratios → mono'.cycle ≡ mono.cycle + 1
-      → length outs' ≡ length outs → SimulatedTo circuit inputs ports sink out out'' (t + 1) mono' outs'
-  simulated-next goes_on on prints same every made counted = record {
+  pub simulated-next : (goes_on : Bool) → goes_on ≡ true → PrintsRow sink form.stops form.ports out' t outs' out'' (Ok goes_on) → mono'.circuit ≡ mono.circuit → mono'.ratios ≡ mono.ratios → mono'.cycle ≡ mono.cycle + 1
+      → length outs' ≡ length outs → SimulatedTo circuit ratios inputs form sink out out'' (t + 1) mono' outs'
+  simulated-next goes_on on prints same timed made counted = record {
     same = same ∙ simulated.same;
-    every = every ∙ simulated.every;
+    timed = timed ∙ simulated.timed;
     made = made ∙ ap (λ k. k + 1) simulated.made;
     count = counted ∙ simulated.count;
     state = λ rows run. (follows-so rows run).state;
-    took = λ rows run. took-next (PrintsRow sink ports) (outputs_in circuit rows) out t out' out'' goes_on on (simulated.took rows run) (row-so prints rows run);
+    took = λ rows run. took-next (PrintsRow sink form.stops form.ports) (outputs_in circuit rows) out t out' out'' goes_on on (simulated.took rows run) (row-so prints rows run);
     on = on-then simulated.on prints.on;
   }
 
   -- the last row
-  pub simulated-last : (goes_on : Bool) → goes_on ≡ false → PrintsRow sink ports out' t outs' out'' (Ok goes_on) → TookAll circuit inputs ports sink out out'' (Ok false)
-  simulated-last goes_on off prints rows run = (suc t, took-last (PrintsRow sink ports) (outputs_in circuit rows) out t inputs.rows out' out'' goes_on off lt (simulated.took rows run) (row-so prints rows run))
+  pub simulated-last : (goes_on : Bool) → goes_on ≡ false → PrintsRow sink form.stops form.ports out' t outs' out'' (Ok goes_on) → TookAll circuit ratios inputs form sink out out'' (Ok false)
+  simulated-last goes_on off prints rows run =
+      (suc t, took-last (PrintsRow sink form.stops form.ports) (outputs_in circuit rows) out t inputs.rows out' out'' goes_on off lt (simulated.took rows run) (row-so prints rows run))
 
   -- a row that couldn't be printed
-  pub simulated-fails : {r : Result Bool Ending} {ending : Ending} → r ≡ Err ending → PrintsRow sink ports out' t outs' out'' (Err ending) → TookAll circuit inputs ports sink out out'' r
-  simulated-fails {r = r} {ending = ending} ends prints rows run = (t, took-fails (PrintsRow sink ports) (outputs_in circuit rows) out t inputs.rows out' out'' ending lt (simulated.took rows run) (row-so prints rows run) r ends)
+  pub simulated-fails : {r : Result Bool Ending} {ending : Ending} → r ≡ Err ending → PrintsRow sink form.stops form.ports out' t outs' out'' (Err ending) → TookAll circuit ratios inputs form sink out out'' r
+  simulated-fails {r = r} {ending = ending} ends prints rows run =
+      (t, took-fails (PrintsRow sink form.stops form.ports) (outputs_in circuit rows) out t inputs.rows out' out'' ending lt (simulated.took rows run) (row-so prints rows run) r ends)
 
 -- all rows
-pub simulated-all : {K : Type 0} {circuit : FlatCircuit} {inputs : Table} {ports : List Port} {sink : Sink.Ghosts K} {out out' : K} {cycle : ℕ} {mono : Simulation} {outs : List ℕ}
-    → SimulatedTo circuit inputs ports sink out out' cycle mono outs → cycle ≡ inputs.rows → TookAll circuit inputs ports sink out out' (Ok true)
-simulated-all {circuit = circuit} {inputs = inputs} {ports = ports} {sink = sink} {out = out} {out' = out'} {cycle = cycle} simulated all rows run =
-    (inputs.rows, took-all (PrintsRow sink ports) (outputs_in circuit rows) out cycle inputs.rows out' (simulated.took rows run) all)
+pub simulated-all : {K : Type 0} {circuit : FlatCircuit} {ratios : List Ratio} {inputs : Table} {form : RowForm} {sink : Sink.Ghosts K} {out out' : K} {cycle : ℕ} {mono : Simulation} {outs : List ℕ}
+    → SimulatedTo circuit ratios inputs form sink out out' cycle mono outs → cycle ≡ inputs.rows → TookAll circuit ratios inputs form sink out out' (Ok true)
+simulated-all {circuit = circuit} {inputs = inputs} {form = form} {sink = sink} {out = out} {out' = out'} {cycle = cycle} simulated all rows run =
+    (inputs.rows, took-all (PrintsRow sink form.stops form.ports) (outputs_in circuit rows) out cycle inputs.rows out' (simulated.took rows run) all)
 
 -- the first out-signals of the reference circuit have the values of the top's outputs, and those behind them the stops' conditions
 module _ (design : Ordered) (request : Request) (stops : List ℕ) (ports : List Port) (outs : outputs_of design.tree ++ stops ≡ design.circuit.outs) (are : stops ≡ stop_signals design.tree) (count : length ports ≡ length (outputs_of design.tree))
@@ -134,12 +141,12 @@ module _ (design : Ordered) (request : Request) (stops : List ℕ) (ports : List
       ap (λ (signals : List ℕ). columns_of signals rows) (drop-map taken (length ports) design.circuit.outs ∙ ap (map taken) rest)
 
   -- as many rows
-  pub rows-kept : (n : ℕ) → rows_to (plan_reference design request) ports rows n ≡ run_rows design request rows n
-  rows-kept n = ap (λ (columns : List (List ℕ)). row_count (halts columns) n) stops-seen
+  pub rows-kept : (n : ℕ) → rows_to (plan_stops design request) (plan_reference design request) ports rows n ≡ run_rows design request rows n
+  rows-kept n = ap (λ (columns : List (List ℕ)). row_count (halts (plan_stops design request) columns) n) stops-seen
 
   -- so the text of as many ports is that of these
-  pub text-kept : (n : ℕ) → ports ≡ output_ports design.circuit design.tree → text_of (plan_reference design request) ports rows n ≡ run_text design request rows n
+  pub text-kept : (n : ℕ) → ports ≡ output_ports design.circuit design.tree → text_of (plan_stops design request) (plan_reference design request) ports rows n ≡ run_text design request rows n
   text-kept n e =
-      ap (λ (columns : List (List ℕ)). trace_text ports columns (rows_to (plan_reference design request) ports rows n)) shown-kept
+      ap (λ (columns : List (List ℕ)). trace_text ports columns (rows_to (plan_stops design request) (plan_reference design request) ports rows n)) shown-kept
       ∙ ap (trace_text ports (columns_of (outputs_kept design request) rows)) (rows-kept n)
       ∙ ap (λ (p : List Port). trace_text p (columns_of (outputs_kept design request) rows) (run_rows design request rows n)) e

@@ -94,11 +94,11 @@ module _ {words : List (List ℕ)} {loads : Loads} {out err : Puts} {status : �
     plain : OneMeaning → OneRequest → (circuit partition trace : List ℕ) (capacity workers : ℕ) (mono : Bool) (c p t : List ℕ) (request : Request)
         → IsCommand words (Run circuit partition trace capacity workers mono) → status ≡ 0
         → loads.files circuit ≡ Holds c → loads.files partition ≡ Holds p → loads.files trace ≡ Holds t
-        → IsPartition p request → request.pipe ≡ []
+        → IsPartition p request → request.pipe ≡ [] → request.clocks ≡ []
         → (text : List ℕ) × (out.after ≡ append_known out.before text) × IsPlainText c t text
-    plain once one circuit partition trace capacity workers mono c p t request asks zero hc hp ht is none =
+    plain once one circuit partition trace capacity workers mono c p t request asks zero hc hp ht is none always =
         let wrote = known once circuit partition trace capacity workers mono c p t asks zero hc hp ht in
-        (wrote.0, wrote.1, run-plain one c p t wrote.0 request is none wrote.2.is)
+        (wrote.0, wrote.1, run-plain one c p t wrote.0 request is none always wrote.2.is)
 
     nothing_written : status ≢ 0 → status ≢ 4 → status ≢ 5 → out.after ≡ out.before
     nothing_written x y z =

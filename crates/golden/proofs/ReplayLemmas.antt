@@ -1,12 +1,12 @@
 -- The network of a plan on a trace, in terms of the setting of its design: names, texts, and where steps lead.
-use Rattle.std.proofs.Common.{◌≡◌, ℕ, suc, ◌+◌, ◌<◌, List, [], ◌∷◌, length, map, refl, sym, ap, ◌∙◌, subst, arith}
+use Rattle.std.proofs.Common.{◌≡◌, ℕ, suc, ◌+◌, ◌<◌, List, [], ◌∷◌, length, map, refl, sym, ap, ap₂, ◌∙◌, subst, arith}
 use Rattle.std.specs.Prelude.{Option, Ok, Err, flat_map, slice_index_or, take}
 use Rattle.std.specs.List.{range_with_len}
 use Rattle.std.proofs.lemmas.List.{get_or-map}
 use Rattle.gg_bits.specs.Shape.{Shape}
 use Rattle.gg_flat.specs.Circuit.{signal_shapes}
 use Rattle.gg_flat.specs.Line.{shape_at}
-use Rattle.gg_flat.specs.Run.{IsRun, column}
+use Rattle.gg_flat.specs.Run.{Start, column}
 use Rattle.gg_flat.specs.Streams.{Flow}
 use Rattle.gg_flat.specs.Tree.{path_at}
 use Rattle.gg_flat.proofs.ListLemmas.{some-item}
@@ -40,15 +40,18 @@ use Rattle.gg_marking.proofs.OpeningLemmas.{opens-so}
 use Rattle.gg_marking.proofs.StepsLemmas.{all-done, steps-frame, stops-at}
 use Rattle.gg_measure.proofs.NetLemmas.{can-run}
 use Rattle.gg_progress.specs.Counts.{CanRun}
-use Rattle.gg_pipe.specs.Made.{plan_reference}
-use Rattle.gg_sound.specs.Built.{AreBuilt, IsGiven, flow_of, wires_of_plan}
+use Rattle.gg_pipe.specs.Follows.{plan_start, plan_token}
+use Rattle.gg_pipe.proofs.StartLemmas.{start-token}
+use Rattle.gg_sound.specs.Built.{AreBuilt, IsGiven, flow_of, no_token, opening_of, wires_of_plan}
 use Rattle.gg_sound.proofs.LinkLemmas.{length-from}
 use Rattle.gg_sound.proofs.OpeningLemmas.{built-opening}
 use Rattle.gg_sound.proofs.SolvedLemmas.{stream-at}
+use Rattle.gg_sound.proofs.ZeroLemmas.{built-with-zeros}
 use Rattle.gg_layout.specs.CutLayout.{IsLayoutOf}
 use Rattle.gg_layout.proofs.LayoutLemmas.{plan-layout, plan-in-order}
 use Rattle.gg_replay.specs.ReplayText.{channel_line}
 use Rattle.golden.specs.Replay.{Setting, channel_told, naming_of, port_names, replay_text}
+use Rattle.golden.specs.RunText.{IsRunBy}
 use Rattle.golden.specs.Replayed.{name_in, net_line, net_text, plan_naming, width_in}
 
 -- the setting that has these
@@ -57,7 +60,7 @@ setting_of design request n columns rows layout = record { design = design; requ
 
 -- The circuit's run, and the layout of the request's cut, whose network can go on.
 pub record AreSet (design : Ordered) (request : Request) (default n : ℕ) (columns rows : List (List ℕ)) (layout : Layout) : Type 0 where
-  pub run : IsRun (plan_reference design request) columns n rows
+  pub run : IsRunBy design request columns n rows
   pub laid : IsLayoutOf design request default n layout
   pub able : CanRun layout
 
@@ -76,7 +79,10 @@ map-range f g (x ∷ xs) a h =
 map-numbers : {A B : Type 0} (f : A → B) (g : ℕ → B) (xs : List A) → ((k : ℕ) (any : A) → k < length xs → f (slice_index_or xs k any) ≡ g k) → map f xs ≡ map g (range_with_len 0 (length xs))
 map-numbers f g xs h = map-range f g xs 0 (λ k any lt. h k any lt ∙ ap g (let e : k ≡ 0 + k = omega arith in e))
 
-module _ (design : Ordered) (request : Request) (default : ℕ) (plan : Plan) (columns : List (List ℕ)) (n : ℕ) (rows : List (List ℕ)) (given : IsGiven design request default plan columns n rows) where
+module _ (design : Ordered) (request : Request) (default : ℕ) (plan : Plan) (columns : List (List ℕ)) (n : ℕ) (rows : List (List ℕ)) (given : IsGiven design request default plan columns n (plan_start design request) rows) where
+  abbrev start : Start
+  start = plan_start design request
+
   abbrev the_listed : Listed
   the_listed = listed_of design.tree request
 
@@ -84,7 +90,7 @@ module _ (design : Ordered) (request : Request) (default : ℕ) (plan : Plan) (c
   the_wires = plan_wires design.circuit design.tree request
 
   abbrev flow : Flow
-  flow = flow_of design request plan rows
+  flow = flow_of design request plan start rows
 
   abbrev path_of : ℕ → List ℕ
   path_of = path_at (machine_names design request the_listed)
@@ -130,8 +136,11 @@ module _ (design : Ordered) (request : Request) (default : ℕ) (plan : Plan) (c
         let put : network.puts net c ≡ puts layout (marking_of net) c = puts-are net layout has c known in
         let have : network.entered net c ≡ entered layout (marking_of net) c = entered-are net layout has c known in
         let took : network.takes net c ≡ takes layout (marking_of net) c = takes-are net layout has c known in
-        let carried : list_at flow.lists c ≡ stream (is_piped design.circuit request w.signal) (column rows w.signal) =
-        stream-at plan.channels rows c any lt ∙ ap (λ p. stream p (column rows own.signal)) at.pipe ∙ ap (λ s. stream (is_piped design.circuit request w.signal) (column rows s)) at.signal in
+        let token = plan_token design request start.state in
+        let carried : list_at flow.lists c ≡ stream 0 0 (is_piped design.circuit request w.signal) (column rows w.signal) =
+        stream-at 0 token plan.channels rows c any lt
+        ∙ ap₂ (λ p s. stream 0 (token s) p (column rows s)) at.pipe at.signal
+        ∙ ap (λ v. stream 0 v (is_piped design.circuit request w.signal) (column rows w.signal)) (start-token design request w.signal) in
         ap (λ x. channel_line x (width_in plan c) (network.puts net c) (network.takes net c) (take (network.entered net c) (list_at flow.lists c))) named
         ∙ ap (λ x. channel_line name x (network.puts net c) (network.takes net c) (take (network.entered net c) (list_at flow.lists c))) width
         ∙ ap (λ x. channel_line name wide x (network.takes net c) (take (network.entered net c) (list_at flow.lists c))) put
@@ -146,24 +155,25 @@ module _ (design : Ordered) (request : Request) (default : ℕ) (plan : Plan) (c
 
   -- ---- the steps
 
-  module _ (machines : List Machine) (built : AreBuilt plan columns machines) (kept : Kept flow (opening_net machines (wires_of_plan plan) n)) where
+  module _ (machines : List Machine) (built : AreBuilt plan (opening_of plan.ratios) columns machines) (kept : Kept flow (opening_net machines (wires_of_plan no_token plan) n)) where
     abbrev opening : Network
-    opening = opening_net machines (wires_of_plan plan) n
+    opening = opening_net machines (wires_of_plan no_token plan) n
 
     pub laid : (layout : Layout) × (IsLayoutOf design request default n layout × HasLayout (frame_of opening) layout)
-    laid = plan-layout design request default plan columns n rows machines given built
+    laid = plan-layout design request default plan columns n start rows no_token (opening_of plan.ratios) machines given built
 
     pub opens : marking_of opening ≡ opening_marking laid.0 0
-    opens = opens-so flow machines (wires_of_plan plan) n (built-opening design request default plan columns n rows machines given built) laid.0 laid.1.1
+    opens = opens-so flow machines (wires_of_plan no_token plan) n
+        (built-opening design request default plan columns n start rows machines given (built-with-zeros design request default plan columns machines given.planned built)) laid.0 laid.1.1
 
     pub are-set : AreSet design request default n columns rows laid.0
-    are-set = record { run = given.run; laid = laid.1.0; able = can-run flow opening kept laid.0 laid.1.1 }
+    are-set = record { run = given.run.run; laid = laid.1.0; able = can-run flow opening kept laid.0 laid.1.1 }
 
     pub frame-has : (events : List (Option Event)) (net : Network) → Steps opening events net → HasLayout (frame_of net) laid.0
     frame-has events net steps = subst (λ (f : Frame). HasLayout f laid.0) (sym (steps-frame opening events net steps)) laid.1.1
 
     pub wires-count : (events : List (Option Event)) (net : Network) → Steps opening events net → length net.wires ≡ length plan.channels
-    wires-count events net steps = ap (λ (f : Frame). length f.wires) (steps-frame opening events net steps) ∙ length-from plan 0 plan.channels
+    wires-count events net steps = ap (λ (f : Frame). length f.wires) (steps-frame opening events net steps) ∙ length-from no_token plan 0 plan.channels
 
     pub went : (events : List (Option Event)) (net : Network) → Steps opening events net → replayed_from laid.0 1 (opening_marking laid.0 0) events ≡ Ok (marking_of net)
     went events net steps =
@@ -171,4 +181,4 @@ module _ (design : Ordered) (request : Request) (default : ℕ) (plan : Plan) (c
 
     pub stopped-so : (events : List (Option Event)) (net : Network) (stopped : Stopped) → StopsAt 1 opening events net stopped → replayed_from laid.0 1 (opening_marking laid.0 0) events ≡ Err stopped
     stopped-so events net stopped stops =
-        ap (λ m. replayed_from laid.0 1 m events) (sym opens) ∙ stops-at flow laid.0 1 opening events net stopped kept laid.1.1 (plan-in-order design request default plan columns n rows machines given built) stops
+        ap (λ m. replayed_from laid.0 1 m events) (sym opens) ∙ stops-at flow laid.0 1 opening events net stopped kept laid.1.1 (plan-in-order design request default plan columns n start rows no_token (opening_of plan.ratios) machines given built) stops

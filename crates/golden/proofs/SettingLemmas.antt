@@ -109,5 +109,5 @@ pub rows-same : DesignsAgree → OneRun → (circuit partition trace : List ℕ)
     → IsSetting circuit partition trace capacity own → FeedsOnly own.design.circuit trace own.cycles own.columns
     → (other : Setting) → IsSetting circuit partition trace capacity other → other.rows ≡ own.rows
 rows-same agree once circuit partition trace capacity own order ordered x feeds other y =
-    (same-run once trace own.design.circuit (plan_reference own.design own.request) order ordered own.cycles own.columns own.rows x.run feeds other.design.circuit (plan_reference other.design other.request)
-    (designs-alike agree circuit partition trace capacity other own y x).circuit (references-same agree circuit partition trace capacity other own y x) other.cycles other.columns other.rows y.feeds y.run).1
+    (same-run once trace own.design own.request order ordered own.cycles own.columns own.rows x.run feeds other.design other.request
+    (designs-alike agree circuit partition trace capacity other own y x) (requests-same agree circuit partition trace capacity other own y x) other.cycles other.columns other.rows y.feeds y.run).1

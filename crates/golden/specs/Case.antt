@@ -4,13 +4,14 @@ use Rattle.gg_limits.specs.Limits.{cycle_limit}
 use Rattle.gg_cut.specs.Listed.{listed_of}
 use Rattle.gg_cut.specs.Machines.{first_tray}
 use Rattle.gg_cut.specs.Plan.{IsPlan}
-use Rattle.gg_flat.specs.Run.{IsColumns, IsRun}
+use Rattle.gg_flat.specs.Run.{IsColumns}
 use Rattle.gg_front.specs.Meaning.{MeansDesign}
 use Rattle.gg_io.specs.Told.{Told}
 use Rattle.gg_moved.specs.KeepsToTree.{KeepsToTree}
 use Rattle.gg_order.specs.Design.{IsDesign}
 use Rattle.gg_io.specs.declared.output.Sink
-use Rattle.gg_pipe.specs.Made.{AreHeldOnce, plan_reference}
+use Rattle.gg_cut.specs.Held.{AreHeldOnce}
+use Rattle.gg_pipe.specs.Made.{plan_reference}
 use Rattle.gg_run.specs.Printed.{AreKept, out_columns}
 use Rattle.gg_told.specs.Endings.{PrintsOn}
 use Rattle.gg_told.specs.declared.endings.Ending.{Ending}
@@ -19,7 +20,7 @@ use Rattle.gg_words.specs.Range.{IsCapacity}
 use Rattle.golden.specs.Commands.{Asked, read_order, fed_order}
 use Rattle.golden.specs.Partition.{Cuts, partition_file_for}
 use Rattle.golden.specs.Run.{circuit_file, trace_file_for}
-use Rattle.golden.specs.RunText.{FeedsOnly, run_rows, run_text}
+use Rattle.golden.specs.RunText.{FeedsOnly, IsRunBy, run_rows, run_text}
 use Rattle.golden.specs.declared.case.Case.{Case}
 use Rattle.golden.specs.declared.case.Fed.{Fed}
 
@@ -52,7 +53,7 @@ pub record IsFed (circuit partition trace : List ℕ) (capacity : ℕ) (fed : Fe
 -- The text of the run of the reference circuit on what the trace gives is printed, or printing stopped.
 abbrev pub PrintsFed : {T K : Type 0} → Sink.Ghosts K → (out out' : K) → Fed → Result T Ending → Type 0
 PrintsFed sink out out' fed result =
-    (rows : List (List ℕ)) × IsRun (plan_reference fed.case.design fed.case.cut.request) fed.trace.columns fed.trace.rows rows
+    (rows : List (List ℕ)) × IsRunBy fed.case.design fed.case.cut.request fed.trace.columns fed.trace.rows rows
     × PrintsOn sink out out' (run_text fed.case.design fed.case.cut.request rows fed.trace.rows) result
 
 -- host steps bring so many rows of these columns to the trays of the plan's network
@@ -64,7 +65,7 @@ AreFedToTrays fed told kept =
 -- the trays.
 abbrev pub PrintsFedByNetwork : {T K : Type 0} → Sink.Ghosts K → (out out' : K) → Fed → Result T Ending → Type 0
 PrintsFedByNetwork sink out out' fed result =
-    (rows : List (List ℕ)) × IsRun (plan_reference fed.case.design fed.case.cut.request) fed.trace.columns fed.trace.rows rows
+    (rows : List (List ℕ)) × IsRunBy fed.case.design fed.case.cut.request fed.trace.columns fed.trace.rows rows
     × PrintsOn sink out out' (run_text fed.case.design fed.case.cut.request rows fed.trace.rows) result
     × IfOk result (λ done. AreFedToTrays fed (run_rows fed.case.design fed.case.cut.request rows fed.trace.rows) (out_columns (plan_reference fed.case.design fed.case.cut.request) rows))
 

@@ -19,7 +19,8 @@ abbrev pub IsDemoSetting : (seed size : ℕ) → Setting → Type 0
 IsDemoSetting seed size setting = IsSetting (demo_circuit size) (demo_partition size) (demo_trace seed size) demo_capacity setting
 
 -- The summary in a setting: how many machines, channels and steps there are, and the columns that the first two out-signals, y
--- and z, have in the run of the reference circuit. That is the circuit itself, since a demo's partition asks for no pipe.
+-- and z, have in the run of the reference circuit. That is the circuit itself, since a demo's partition asks for no pipe, and its clock
+-- has an edge in each cycle, since the partition gives no clocks.
 abbrev pub setting_summary : (seed size : ℕ) → Setting → List ℕ
 setting_summary seed size setting =
     demo_summary seed size (length setting.layout.turns) (length setting.layout.links) (all_steps setting)

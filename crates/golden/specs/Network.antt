@@ -11,7 +11,7 @@ use Rattle.gg_cut.specs.Listed.{listed_of}
 use Rattle.gg_cut.specs.Machines.{first_tray}
 use Rattle.gg_cut.specs.Plan.{IsPlan}
 use Rattle.gg_cut.specs.declared.plan.Plan.{Plan}
-use Rattle.gg_run.specs.Printed.{AreKept}
+use Rattle.gg_run.specs.Printed.{AreKept, plan_stops}
 use Rattle.gg_trace.specs.Last.{halts, row_count}
 use Rattle.gg_trace.specs.Printing.{trace_text}
 use Rattle.gg_told.specs.Ends.{Loads, Puts}
@@ -23,7 +23,8 @@ use Rattle.golden.specs.RunText.{Feeds}
 -- The text of the network of a cut. The bytes of a circuit, a partition and a trace mean a design, a request and columns for some
 -- cycles, and the network is that of the request's plan, with this capacity of the channels that the request doesn't name. The text
 -- is a header, and a row for each cycle: the values of that cycle that host steps bring to the trays of the top's outputs. The last
--- row is that of the first cycle for which a 1 comes to the tray of a stop, if there is one. No other values come to the trays in
+-- row is that of the first cycle in which a stop acts, if one does: a 1 comes to the tray of the stop for it, and the stop's clock has
+-- an edge, by the request's ratios. No other values come to the trays in
 -- these cycles, whatever steps are done. The circuit's run isn't spoken of.
 pub record IsNetworkText (circuit partition trace : List ℕ) (capacity : ℕ) (text : List ℕ) : Type 0 where
   pub design : Ordered
@@ -39,7 +40,7 @@ pub record IsNetworkText (circuit partition trace : List ℕ) (capacity : ℕ) (
   pub kept : List (List ℕ)
   pub each : length kept ≡ length design.circuit.outs
   pub told : ℕ
-  pub ends : told ≡ row_count (halts (drop (length (output_ports design.circuit design.tree)) kept)) cycles
+  pub ends : told ≡ row_count (halts (plan_stops design request) (drop (length (output_ports design.circuit design.tree)) kept)) cycles
   pub trays : AreKept plan columns cycles (first_tray design.circuit (listed_of design.tree request)) told kept
   pub is : text ≡ trace_text (output_ports design.circuit design.tree) (take (length (output_ports design.circuit design.tree)) kept) told
 

@@ -22,7 +22,7 @@ pub record Cuts (design : Ordered) (bytes : List ℕ) (request : Request) : Type
   pub faultless : cut.first_fault design request ≡ None
 
 -- The bytes have the fault with this text: they hold no request (P1), or this is the first fault that the request that
--- they hold has for the design (P2 to P11).
+-- they hold has for the design (P2 to P13).
 pub data HasFault (design : Ordered) (bytes text : List ℕ) : Type 0 where
   OfFile : (key : List ℕ) (wrong : file.IsRefused bytes key) (is : text ≡ file.fault_text (WrongKey key)) → HasFault design bytes text
   OfRequest : (request : Request) (asks : IsPartition bytes request) (fault : CutFault) (first : cut.first_fault design request ≡ Some fault) (is : text ≡ cut.fault_text fault) → HasFault design bytes text

@@ -46,11 +46,12 @@ pub record Promised (words : List (List ℕ)) (loads : Loads) (out err : Puts) (
       → IsCommand words (Run circuit partition trace capacity workers mono) → status ≡ 0
       → loads.files circuit ≡ Holds c → loads.files partition ≡ Holds p → loads.files trace ≡ Holds t
       → (text : List ℕ) × (out.after ≡ append_known out.before text) × IsOnly (IsTextOf c p t) text
-  -- If the partition asks for no pipe, it is the run of the circuit's own flat circuit.
+  -- If the partition asks for no pipe and gives no clocks, it is the run of the circuit's own flat circuit, whose clocks have an edge in
+  -- each cycle.
   pub run_plain : (circuit partition trace : List ℕ) (capacity workers : ℕ) (mono : Bool) (c p t : List ℕ) (request : Request)
       → IsCommand words (Run circuit partition trace capacity workers mono) → status ≡ 0
       → loads.files circuit ≡ Holds c → loads.files partition ≡ Holds p → loads.files trace ≡ Holds t
-      → IsPartition p request → request.pipe ≡ []
+      → IsPartition p request → request.pipe ≡ [] → request.clocks ≡ []
       → (text : List ℕ) × (out.after ≡ append_known out.before text) × IsPlainText c t text
   -- `run` without `--mono`: at status 0 the text is also that of the network of the cut, for the same bytes of the files, and the
   -- network has no other. It isn't claimed of a call with `--mono`.

@@ -5,7 +5,7 @@ use Rattle.std.specs.Prelude.{◌≡◌, ◌↔◌, ℕ, ◌+◌, ◌-◌, ◌*�
 use Rattle.std.specs.List.{range_with_len}
 use Rattle.gg_flat.specs.Circuit.{signal_shapes}
 use Rattle.gg_flat.specs.Line.{shape_at, value_at}
-use Rattle.gg_flat.specs.Run.{IsRun, column}
+use Rattle.gg_flat.specs.Run.{column}
 use Rattle.gg_flat.specs.Tree.{InstanceTree, memory_at, path_at}
 use Rattle.gg_front.specs.Meaning.{MeansDesign}
 use Rattle.gg_order.specs.Design.{Ordered}
@@ -19,7 +19,6 @@ use Rattle.gg_cut.specs.declared.listed.Listed.{Listed}
 use Rattle.gg_cut.specs.declared.wires.Wire.{Wire}
 use Rattle.gg_check.specs.CheckText.{channel_name}
 use Rattle.gg_net.specs.declared.event.Event.{Event}
-use Rattle.gg_pipe.specs.Made.{plan_reference}
 use Rattle.gg_marking.specs.Marking.{Layout, Marking, opening_marking, entered, puts, takes}
 use Rattle.gg_marking.specs.Goes.{Stopped, replayed_from}
 use Rattle.gg_progress.specs.Measure.{all_dues}
@@ -35,7 +34,7 @@ use Rattle.golden.specs.Limits.{steps_limit}
 use Rattle.golden.specs.Lines.{step_fault}
 use Rattle.gg_told.specs.Order.{File, IsOnly}
 use Rattle.golden.specs.Partition.{Cuts}
-use Rattle.golden.specs.RunText.{Feeds}
+use Rattle.golden.specs.RunText.{Feeds, IsRunBy}
 
 -- ---- what a circuit, a partition and a trace mean
 
@@ -55,7 +54,7 @@ pub record IsSetting (circuit partition trace : List ℕ) (capacity : ℕ) (sett
   pub means : MeansDesign circuit setting.design
   pub cuts : Cuts setting.design partition setting.request
   pub feeds : Feeds setting.design.circuit trace setting.cycles setting.columns
-  pub run : IsRun (plan_reference setting.design setting.request) setting.columns setting.cycles setting.rows
+  pub run : IsRunBy setting.design setting.request setting.columns setting.cycles setting.rows
   pub laid : IsLayoutOf setting.design setting.request capacity setting.cycles setting.layout
 
 -- ---- names
@@ -132,7 +131,7 @@ abbrev pub channel_told : Setting → Marking → List Wire → ℕ → List ℕ
 channel_told setting marking wires c =
     channel_line (channel_name setting.design.circuit wires c) (shape_at (signal_shapes setting.design.circuit) (wire_at wires c).signal).width
     (puts setting.layout marking c) (takes setting.layout marking c)
-    (take (entered setting.layout marking c) (stream (is_piped setting.design.circuit setting.request (wire_at wires c).signal) (column setting.rows (wire_at wires c).signal)))
+    (take (entered setting.layout marking c) (stream 0 0 (is_piped setting.design.circuit setting.request (wire_at wires c).signal) (column setting.rows (wire_at wires c).signal)))
 
 abbrev pub lines_told : Setting → Marking → List Wire → List ℕ
 lines_told setting marking wires = flat_map (channel_told setting marking wires) (range_with_len 0 (length wires))

@@ -12,7 +12,7 @@ use Rattle.gg_net.specs.Net.{opening_net}
 use Rattle.gg_net.specs.Network.{Network, puts, entered, takes}
 use Rattle.gg_marking.specs.Goes.{Stopped}
 use Rattle.gg_marking.specs.Steps.{Steps, StopsAt}
-use Rattle.gg_sound.specs.Built.{AreBuilt, wires_of_plan}
+use Rattle.gg_sound.specs.Built.{AreBuilt, no_token, opening_of, wires_of_plan}
 use Rattle.gg_build.specs.Build.{IsToRun, flow_along}
 use Rattle.gg_steps.specs.Naming.{Naming}
 use Rattle.gg_replay.specs.ReplayText.{channel_line}
@@ -70,20 +70,20 @@ abbrev pub IsToReplay : Fed → Flow → Type 0
 IsToReplay fed flow = IsToRun fed.case.cut.plan fed.trace.columns fed.trace.rows flow
 
 -- the plan's network before its first cycle, with these machines
-abbrev pub opening_of : Fed → List Machine → Network
-opening_of fed machines = opening_net machines (wires_of_plan fed.case.cut.plan) fed.trace.rows
+abbrev pub fed_opening : Fed → List Machine → Network
+fed_opening fed machines = opening_net machines (wires_of_plan no_token fed.case.cut.plan) fed.trace.rows
 
 -- The machines of the plan's network, which carries the values of this flow.
 pub record Opened (fed : Fed) (flow : Flow) (machines : List Machine) : Type 0 where
-  pub built : AreBuilt fed.case.cut.plan fed.trace.columns machines
-  pub kept : Kept flow (opening_of fed machines)
+  pub built : AreBuilt fed.case.cut.plan (opening_of fed.case.cut.plan.ratios) fed.trace.columns machines
+  pub kept : Kept flow (fed_opening fed machines)
 
 -- The text of the network that these steps lead to.
 pub record IsNetText (fed : Fed) (flow : Flow) (events : List (Option Event)) (text : List ℕ) : Type 0 where
   pub machines : List Machine
   pub opened : Opened fed flow machines
   pub net : Network
-  pub steps : Steps (opening_of fed machines) events net
+  pub steps : Steps (fed_opening fed machines) events net
   pub is : text ≡ net_text fed.case.cut.plan flow net
 
 -- This is reported for these steps, which stop at one.
@@ -92,5 +92,5 @@ pub record TellsStop (fed : Fed) (flow : Flow) (naming : Naming) (events : List 
   pub opened : Opened fed flow machines
   pub net : Network
   pub stopped : Stopped
-  pub stops : StopsAt 1 (opening_of fed machines) events net stopped
+  pub stops : StopsAt 1 (fed_opening fed machines) events net stopped
   pub is : said ≡ stopped_by naming events stopped

@@ -1,5 +1,5 @@
 -- The files of a circuit and of a trace, and the text that `run` writes.
-use Rattle.std.specs.Prelude.{◌≡◌, ◌≢◌, ℕ, List}
+use Rattle.std.specs.Prelude.{◌≡◌, ◌≢◌, ℕ, List, []}
 use Rattle.gg_flat.specs.Circuit.{FlatCircuit}
 use Rattle.gg_flat.specs.Run.{IsRun}
 use Rattle.gg_flat.specs.Scoped.{stop_signals}
@@ -57,14 +57,15 @@ TellsTraceFor circuit trace said = (flat : FlatCircuit) × Means circuit flat ×
 abbrev pub trace_file_for : (circuit name : List ℕ) → File
 trace_file_for circuit name = trace_file name (IsTraceFor circuit) (TellsTraceFor circuit)
 
--- The text of the run of a design that these bytes mean, with the pipes that the partition's request asks for, on this trace.
+-- The text of the run of a design that these bytes mean, with the pipes and the clocks of the partition's request, on this trace.
 abbrev pub IsTextOf : (circuit partition trace text : List ℕ) → Type 0
 IsTextOf circuit partition trace text =
     (design : Ordered) × MeansDesign circuit design × ((request : Request) × IsPartition partition request × IsRunText design request trace text)
 
 -- The text of the run of the flat circuit that these bytes mean, as it stands, on this trace. The trace gives the columns of the
--- circuit's inputs for some cycles, and `rows` is its run on them. The text is a header, and a row for each cycle up to the first in
--- which a stop acts: the values of the top's outputs. A partition that asks for no pipe leaves the run so.
+-- circuit's inputs for some cycles, and `rows` is its run on them, in which each clock has an edge in each cycle. The text is a header,
+-- and a row for each cycle up to the first in which the condition of a stop is 1: the values of the top's outputs. A partition that asks
+-- for no pipe and gives no clocks leaves the run so.
 pub record IsPlainText (circuit trace text : List ℕ) : Type 0 where
   pub design : Ordered
   pub means : MeansDesign circuit design
@@ -73,4 +74,4 @@ pub record IsPlainText (circuit trace text : List ℕ) : Type 0 where
   pub rows : List (List ℕ)
   pub feeds : Feeds design.circuit trace cycles columns
   pub run : IsRun design.circuit columns cycles rows
-  pub is : text ≡ trace_text (output_ports design.circuit design.tree) (columns_of (outputs_of design.tree) rows) (row_count (halts (columns_of (stop_signals design.tree) rows)) cycles)
+  pub is : text ≡ trace_text (output_ports design.circuit design.tree) (columns_of (outputs_of design.tree) rows) (row_count (halts [] (columns_of (stop_signals design.tree) rows)) cycles)

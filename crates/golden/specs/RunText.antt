@@ -1,9 +1,10 @@
--- The text of the run of a design on a trace, with the pipes that a request asks for: what `run` writes.
+-- The text of the run of a design on a trace, with the pipes and the clocks of a request: what `run` writes.
 -- Source: ICCAD 2019 (Golden Gate) for target cycles as rows; FIRRTL Specification for what a cycle is (crate gg_flat). MEMOCODE 2009
--- (a buffer with a token in it at the start) for pipes, by which gg_pipe defines the reference circuit.
+-- (a buffer with a token in it at the start) for pipes, by which gg_pipe defines the reference circuit. Ratios of clocks are this
+-- program's own (gg_flat's `edge`).
 use Rattle.std.specs.Prelude.{◌≡◌, ℕ, List, map}
 use Rattle.gg_flat.specs.Circuit.{FlatCircuit}
-use Rattle.gg_flat.specs.Run.{IsRun, column}
+use Rattle.gg_flat.specs.Run.{IsRunFrom, column}
 use Rattle.gg_trace.specs.Trace.{Columns}
 use Rattle.gg_trace.specs.Last.{halts, row_count}
 use Rattle.gg_trace.specs.Printing.{trace_text}
@@ -13,8 +14,10 @@ use Rattle.gg_flat.specs.Tree.{InstanceTree, instance_at}
 use Rattle.gg_order.specs.Design.{Ordered}
 use Rattle.gg_partfile.specs.declared.request.Request.{Request}
 use Rattle.gg_cut.specs.Direct.{plan_hub}
+use Rattle.gg_pipe.specs.Follows.{plan_start}
 use Rattle.gg_pipe.specs.Links.{taken_as}
 use Rattle.gg_pipe.specs.Made.{plan_reference}
+use Rattle.gg_run.specs.Printed.{plan_stops}
 
 -- the top's outputs, in port order
 abbrev pub outputs_of : InstanceTree → List ℕ
@@ -45,16 +48,21 @@ outputs_kept design request = map (taken_as (plan_hub design.circuit design.tree
 abbrev pub stops_kept : Ordered → Request → List ℕ
 stops_kept design request = map (taken_as (plan_hub design.circuit design.tree request)) (stop_signals design.tree)
 
+-- The run of the reference circuit of a request from cycle 0 on, with zeros. Each clock has an edge in the ticks that the ratio tells
+-- which the request gives it, and in each tick if the request gives none.
+abbrev pub IsRunBy : Ordered → Request → (columns : List (List ℕ)) → (n : ℕ) → (rows : List (List ℕ)) → Type 0
+IsRunBy design request columns n rows = IsRunFrom (plan_reference design request) (plan_start design request) columns n rows
+
 -- How many of the n cycles of a run of the reference circuit have a row: those up to the first cycle in which a stop acts, or all if
--- none does.
+-- none does. A stop acts if its condition is 1 in a cycle in which its clock has an edge.
 abbrev pub run_rows : Ordered → Request → (rows : List (List ℕ)) → (n : ℕ) → ℕ
-run_rows design request rows n = row_count (halts (columns_of (stops_kept design request) rows)) n
+run_rows design request rows n = row_count (halts (plan_stops design request) (columns_of (stops_kept design request) rows)) n
 
 -- a header, and these rows, with the columns of the top's outputs
 abbrev pub run_text : Ordered → Request → (rows : List (List ℕ)) → (n : ℕ) → List ℕ
 run_text design request rows n = trace_text (output_ports design.circuit design.tree) (columns_of (outputs_kept design request) rows) (run_rows design request rows n)
 
--- The text of the run of a design with the pipes that a request asks for. The trace gives the columns of the circuit's inputs for some
+-- The text of the run of a design with the pipes and the clocks of a request. The trace gives the columns of the circuit's inputs for some
 -- cycles, and `rows` is the run of the reference circuit on them. The reference circuit has the same inputs, and it is the
 -- circuit itself if the request asks for no pipe (gg_pipe's law `nothing_piped`). A stop ends the text, but not the run that is spoken
 -- of: its condition is printed nowhere.
@@ -63,5 +71,5 @@ pub record IsRunText (design : Ordered) (request : Request) (trace text : List �
   pub columns : List (List ℕ)
   pub rows : List (List ℕ)
   pub feeds : Feeds design.circuit trace cycles columns
-  pub run : IsRun (plan_reference design request) columns cycles rows
+  pub run : IsRunBy design request columns cycles rows
   pub is : text ≡ run_text design request rows cycles

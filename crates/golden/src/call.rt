@@ -153,11 +153,13 @@ fn answer<R: Threads + Sync, S: Shelf, K: Sink, E: Sink, G: Gate + Sync>(
 }
 
 /// A call of the program. Does what the words ask for, with files from `shelf`. Writes the text to `out`, and at most
-/// one line to `err`. Returns the status. The first word is the program's own name. All memory comes from `alloc`: the
+/// one line to `err`, which the usage of each command may follow. Returns the status. The first word is the program's own name. All memory comes from `alloc`: the
 /// files, one at a time, what is built from them, and the lines of refusals. If an allocation fails the status is 5.
 ///
 /// `run CIRCUIT PARTITION TRACE` writes the text of the run on the trace of the circuit with the pipes that the partition
-/// asks for: a header, then a row for each cycle. It runs the network of the cut, up to 1,024 cycles before their rows are
+/// asks for: a header, then a row for each cycle, to the first one in which a stop acts. A cycle is a base tick. Each clock has an edge
+/// in the ticks that the ratio tells which the partition gives it, or in each tick. A stop acts if its condition is one and its clock
+/// has an edge. It runs the network of the cut, up to 1,024 cycles before their rows are
 /// written: by its workers, each in a thread of `rt`, and then by steps in the fixed order. With `--mono` it runs the
 /// simulator. Only the workers call the gate. `replay CIRCUIT PARTITION TRACE STEPS` does the steps of a file, one after
 /// another, on the network of the cut, beginning before its first cycle. It writes a line for each channel, with the number

@@ -8,7 +8,7 @@ ghost use Rattle.gg_flat.specs.Run.{IsColumns};
 ghost use Rattle.gg_front.specs.Meaning.{MeansDesign};
 ghost use Rattle.gg_limits.specs.Limits.{cycle_limit};
 ghost use Rattle.gg_moved.specs.KeepsToTree.{KeepsToTree};
-ghost use Rattle.gg_pipe.specs.Made.{AreHeldOnce};
+ghost use Rattle.gg_cut.specs.Held.{AreHeldOnce};
 ghost use Rattle.gg_run.specs.Sums.{AreSums};
 ghost use Rattle.gg_told.specs.Ends.{puts_of};
 ghost use Rattle.gg_told.specs.Endings.{PrintsOrStops};
@@ -62,6 +62,7 @@ fn demo_design(alloc: Global, size: u32) -> Result<Design, Ending>
 fn demo_cut(alloc: Global, size: u32, design: &Design) -> Result<Cut, Ending>
     requires most { size ≤ 64 }
     requires keeps { KeepsToTree design.now.circuit design.now.tree }
+    requires held { AreHeldOnce design.now.circuit }
     ensures cuts { IfOk result (λ cut. Cuts design.now (demo_partition size) cut.request) }
     ensures planned { IfOk result (λ cut. IsPlan design.now cut.request demo_capacity cut.plan) }
 {

@@ -1,7 +1,8 @@
 //! The program golden as one call. [`golden`] does what the words of a call ask for, with files from a shelf. It writes
 //! the text to one output, and at most one line to another, which the usage of each command may follow. It returns the
 //! status. gg_words defines which words are which command. `run` prints the run on the trace of the circuit with the
-//! pipes that the partition asks for, from the network of the cut, window by window, or by the simulator. The text is the
+//! pipes that the partition asks for, from the network of the cut, window by window, or by the simulator. Each clock has an
+//! edge in the cycles that its ratio tells, if the partition gives it one, and else in each cycle. The text is the
 //! same, whatever the rest of the partition and the number of workers.
 //! `replay` does a list of steps on the network of the cut, and prints the tokens of each channel. `check` prints the
 //! machines, the channels and the needs of the cut that the partition asks for. A partition with a fault is refused.
@@ -13,7 +14,7 @@
 //!   ask for, or of words that ask for none. A command is an order of files. It ends if a file is refused, after each
 //!   file before it was accepted; if a put fails; if an allocation fails; or with its whole text. With status 0 the
 //!   text on `out` is that of the run of the reference circuit on the trace (`IsTextOf`): the circuit with a register for
-//!   each pipe, and its own where there is none. For any flat circuit that the bytes
+//!   each pipe, and its own where there is none, whose clocks have the ratios that the partition gives them (`IsRunBy`). For any flat circuit that the bytes
 //!   mean, each such run on the trace has this text and no other (`IsOnly`). The same holds for the text of the cut
 //!   (`IsCutTextOf`), for the summary of a demo (`IsDemoText`), and for the text of the marking that the steps lead to
 //!   (`IsReplayOf`). The tokens of each

@@ -1,6 +1,7 @@
 //! Reading of the partition's file, and the cut of the circuit that it asks for.
 ghost use Rattle.std.specs.Prelude.{◌≡◌, ◌≢◌, ◌≤◌, ◌++◌, ℕ, List, IfOk, IfErr, Some, None, codes, length, string_bytes};
 ghost use Rattle.gg_cut.specs.Fault as cut;
+ghost use Rattle.gg_cut.specs.Held.{AreHeldOnce};
 ghost use Rattle.gg_cut.specs.Plan.{IsPlan};
 ghost use Rattle.gg_moved.specs.KeepsToTree.{KeepsToTree};
 ghost use Rattle.gg_words.specs.Range.{IsCapacity};
@@ -111,6 +112,7 @@ pub(crate) fn cut_request(
 ) -> Result<Cut, Ending>
     requires small { cut.IsSmall request }
     requires keeps { KeepsToTree design.now.circuit design.now.tree }
+    requires held { AreHeldOnce design.now.circuit }
     requires range { IsCapacity capacity }
     ensures faultless { IfOk result (λ _. cut.first_fault design.now request ≡ None) }
     ensures request { IfOk result (λ cut. cut.request ≡ request) }
@@ -132,6 +134,7 @@ pub(crate) fn read_cut<S: Shelf>(
     capacity: u32,
 ) -> Result<Cut, Ending>
     requires keeps { KeepsToTree design.now.circuit design.now.tree }
+    requires held { AreHeldOnce design.now.circuit }
     requires range { IsCapacity capacity }
     ensures accepted { IfOk result (λ cut. (bytes : List ℕ) × CanBe (S.files shelf.old) (partition_file_of design.now name.now) bytes × Cuts design.now bytes cut.request) }
     ensures planned { IfOk result (λ cut. IsPlan design.now cut.request capacity cut.plan) }

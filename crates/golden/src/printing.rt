@@ -3,7 +3,7 @@ ghost use Rattle.std.specs.Prelude.{◌≡◌, ◌+◌, ◌++◌, ◌∷◌, ◌
 ghost use Rattle.gg_limits.specs.Limits.{cycle_limit};
 ghost use Rattle.gg_flat.specs.Clock.{edges_at};
 ghost use Rattle.gg_flat.specs.Order.{IsOrder};
-ghost use Rattle.gg_flat.specs.Run.{IsRun, IsColumns};
+ghost use Rattle.gg_flat.specs.Run.{IsColumns, IsRunFrom, clocked_start};
 ghost use Rattle.gg_flat.specs.Scoped.{output_signals};
 ghost use Rattle.gg_flat.specs.Settled.{IsInputs};
 ghost use Rattle.gg_flat.specs.State.{opening};
@@ -15,11 +15,13 @@ ghost use Rattle.gg_run.specs.Printed.{PrintsRow, text_of};
 ghost use Rattle.gg_run.specs.Rows.{outputs_in};
 ghost use Rattle.gg_run.specs.Taken.{Took};
 ghost use Rattle.golden.specs.Case.{IsCase, IsFed, PrintsFed};
-ghost use Rattle.golden.specs.RunText.{outputs_of};
+ghost use Rattle.golden.specs.RunText.{IsRunBy, outputs_of};
 ghost use Rattle.gg_told.specs.Endings.{PrintsOn};
 ghost use Rattle.gg_told.specs.WentOn.{SinkWentOn};
 
 use crate::case::{Case, Fed};
+use gg_clocks::Ratio;
+use gg_cut::stop_ratios;
 use gg_flat::{InstancePort, Ports, Tree, runs_along, settled_once};
 use gg_io::Sink;
 use gg_order::Design;
@@ -40,14 +42,15 @@ fn print_row<K: Sink>(
     out: &mut K,
 ) -> Result<bool, Ending>
     requires few { mono.old.cycle < cycle_limit }
+    requires within { cycle ≤ cycle_limit }
     requires inputs { IsInputs mono.old.circuit inputs.now }
     requires outs { length outs.old ≡ length mono.old.circuit.outs }
-    requires ports { length printer.now ≤ length mono.old.circuit.outs }
+    requires ports { length printer.now.ports ≤ length mono.old.circuit.outs }
     ensures circuit { mono.new.circuit ≡ mono.old.circuit }
     ensures ratios { mono.new.ratios ≡ mono.old.ratios }
     ensures count { mono.new.cycle ≡ mono.old.cycle + 1 }
     ensures cycle { Cycle (edges_at mono.old.ratios mono.old.cycle) mono.old.circuit mono.old.state inputs.now outs.new mono.new.state }
-    ensures prints { PrintsRow K.Sink printer.now out.old cycle outs.new out.new result }
+    ensures prints { PrintsRow K.Sink printer.now.stops printer.now.ports out.old cycle outs.new out.new result }
 {
     mono.cycle(inputs, outs);
     printer.take(out, cycle, outs)
@@ -62,15 +65,14 @@ fn print_rows<K: Sink>(
     out: &mut K,
 ) -> Result<bool, Ending>
     requires opening { mono.old.state ≡ opening mono.old.circuit }
-    requires every { mono.old.ratios ≡ [] }
     requires begun { mono.old.cycle ≡ 0 }
     requires few { inputs.now.rows ≤ cycle_limit }
     requires ordered { (order : List ℕ) × IsOrder mono.old.circuit order }
     requires fed { IsColumns mono.old.circuit inputs.now.rows inputs.now.columns }
     requires outs { length outs.old ≡ length mono.old.circuit.outs }
-    requires ports { length printer.now ≤ length mono.old.circuit.outs }
-    ensures took { (rows : List (List ℕ)) → IsRun mono.old.circuit inputs.now.columns inputs.now.rows rows
-        → (count : ℕ) × Took (PrintsRow K.Sink printer.now) (outputs_in mono.old.circuit rows) inputs.now.rows count out.old out.new result }
+    requires ports { length printer.now.ports ≤ length mono.old.circuit.outs }
+    ensures took { (rows : List (List ℕ)) → IsRunFrom mono.old.circuit (clocked_start mono.old.circuit mono.old.ratios) inputs.now.columns inputs.now.rows rows
+        → (count : ℕ) × Took (PrintsRow K.Sink printer.now.stops printer.now.ports) (outputs_in mono.old.circuit rows) inputs.now.rows count out.old out.new result }
     ensures out { SinkWentOn K.Sink out.old out.new }
 {
     settled_once();
@@ -83,28 +85,28 @@ fn print_rows<K: Sink>(
     Ok(true)
 }
 
-// Writes the header and the rows of a run.
+// Writes the header and the rows of a run. The clocks of the stops have these ratios.
 fn print_all<K: Sink>(
     alloc: Global,
     mono: &mut Mono<'_>,
+    stops: &[Ratio],
     ports: &Ports,
     inputs: &Trace,
     out: &mut K,
 ) -> Result<(), Ending>
     requires opening { mono.old.state ≡ opening mono.old.circuit }
-    requires every { mono.old.ratios ≡ [] }
     requires begun { mono.old.cycle ≡ 0 }
     requires few { inputs.now.rows ≤ cycle_limit }
     requires fed { IsColumns mono.old.circuit inputs.now.rows inputs.now.columns }
     requires ports { length ports.now ≤ length mono.old.circuit.outs }
-    ensures prints { (rows : List (List ℕ)) → IsRun mono.old.circuit inputs.now.columns inputs.now.rows rows
-        → PrintsOn K.Sink out.old out.new (text_of mono.old.circuit ports.now rows inputs.now.rows) result }
+    ensures prints { (rows : List (List ℕ)) → IsRunFrom mono.old.circuit (clocked_start mono.old.circuit mono.old.ratios) inputs.now.columns inputs.now.rows rows
+        → PrintsOn K.Sink out.old out.new (text_of stops.now mono.old.circuit ports.now rows inputs.now.rows) result }
     ensures out { SinkWentOn K.Sink out.old out.new }
 {
     let mut outs = vec![in alloc; 0u128; mono.piece().outs().len()]?;
     let header = header_text(alloc, ports)?;
     put(out, header.as_bytes())?;
-    let printer = RowPrinter::new(alloc, ports);
+    let printer = RowPrinter::new(alloc, ports, stops);
     print_rows(mono, &printer, inputs, outs.as_mut_slice(), out)?;
     Ok(())
 }
@@ -149,10 +151,13 @@ pub(crate) fn top_ports(alloc: Global, design: &Design) -> Result<Ports, AllocEr
     Ok(ports)
 }
 
-// Prints the run of a design's circuit on these inputs, by the simulator: a value for each port, of the first out-signals.
+// Prints the run of a design's circuit on these inputs, by the simulator: a value for each port, of the first out-signals. The clocks
+// of the circuit and those of the stops have these ratios.
 fn print_simulated<K: Sink>(
     alloc: Global,
     design: &Design,
+    ratios: &[Ratio],
+    stops: &[Ratio],
     ports: &Ports,
     inputs: &Trace,
     out: &mut K,
@@ -160,8 +165,8 @@ fn print_simulated<K: Sink>(
     requires few { inputs.now.rows ≤ cycle_limit }
     requires fed { IsColumns design.now.circuit inputs.now.rows inputs.now.columns }
     requires ports { length ports.now ≤ length design.now.circuit.outs }
-    ensures prints { (rows : List (List ℕ)) × IsRun design.now.circuit inputs.now.columns inputs.now.rows rows
-        × PrintsOn K.Sink out.old out.new (text_of design.now.circuit ports.now rows inputs.now.rows) result }
+    ensures prints { (rows : List (List ℕ)) × IsRunFrom design.now.circuit (clocked_start design.now.circuit ratios.now) inputs.now.columns inputs.now.rows rows
+        × PrintsOn K.Sink out.old out.new (text_of stops.now design.now.circuit ports.now rows inputs.now.rows) result }
     ensures out { SinkWentOn K.Sink out.old out.new }
 {
     runs_along();
@@ -169,11 +174,11 @@ fn print_simulated<K: Sink>(
     let _ = design.order();
     // and for that on its piece
     let _ = design.piece();
-    let mut mono = match Mono::with_clocks(alloc, design, &[]) {
+    let mut mono = match Mono::with_clocks(alloc, design, ratios) {
         Ok(mono) => mono,
         Err(_) => return Err(Ending::NoMemory),
     };
-    print_all(alloc, &mut mono, ports, inputs, out)
+    print_all(alloc, &mut mono, stops, ports, inputs, out)
 }
 
 // Whether numbers of 32 bits suffice for the signals and the channels of a case together.
@@ -197,25 +202,28 @@ fn reference_of(alloc: Global, case: &Case) -> Result<Design, AllocError>
     Ok(made)
 }
 
-// Prints the run of the reference circuit on a trace, by the simulator: a value for each port, of the first out-signals.
+// Prints the run of the reference circuit on a trace, by the simulator: a value for each port, of the first out-signals. The clocks of
+// the stops have these ratios.
 fn print_reference<K: Sink>(
     alloc: Global,
     fed: &Fed,
+    stops: &[Ratio],
     ports: &Ports,
     out: &mut K,
 ) -> Result<(), Ending>
     requires fed { (circuit : List ℕ) × (partition : List ℕ) × (trace : List ℕ) × (capacity : ℕ) × IsFed circuit partition trace capacity fed.now }
     requires ports { length ports.now ≤ length fed.now.case.design.circuit.outs }
-    ensures prints { (rows : List (List ℕ)) × IsRun (plan_reference fed.now.case.design fed.now.case.cut.request) fed.now.trace.columns fed.now.trace.rows rows
-        × PrintsOn K.Sink out.old out.new (text_of (plan_reference fed.now.case.design fed.now.case.cut.request) ports.now rows fed.now.trace.rows) result }
+    ensures prints { (rows : List (List ℕ)) × IsRunBy fed.now.case.design fed.now.case.cut.request fed.now.trace.columns fed.now.trace.rows rows
+        × PrintsOn K.Sink out.old out.new (text_of stops.now (plan_reference fed.now.case.design fed.now.case.cut.request) ports.now rows fed.now.trace.rows) result }
     ensures out { SinkWentOn K.Sink out.old out.new }
 {
     let reference = reference_of(alloc, &fed.case)?;
-    print_simulated(alloc, &reference, ports, &fed.trace, out)
+    let ratios = fed.case.cut.plan.ratios.as_slice();
+    print_simulated(alloc, &reference, ratios, stops, ports, &fed.trace, out)
 }
 
 /// Prints the run of a design on a trace, by the simulator: the top's outputs, cycle by cycle, to the first cycle in which a stop
-/// acts. If the request asks for pipes, the reference circuit is simulated.
+/// acts. The clocks have the ratios that the request gives. If it asks for pipes, the reference circuit is simulated.
 pub(crate) fn print_run<K: Sink>(alloc: Global, fed: &Fed, out: &mut K) -> Result<(), Ending>
     requires fed { (circuit : List ℕ) × (partition : List ℕ) × (trace : List ℕ) × (capacity : ℕ) × IsFed circuit partition trace capacity fed.now }
     ensures prints { PrintsFed K.Sink out.old out.new fed.now result }
@@ -223,8 +231,11 @@ pub(crate) fn print_run<K: Sink>(alloc: Global, fed: &Fed, out: &mut K) -> Resul
 {
     let case = &fed.case;
     let ports = top_ports(alloc, &case.design)?;
+    let ratios = case.cut.plan.ratios.as_slice();
+    let own = stop_ratios(alloc, case.design.tree(), ratios)?;
+    let stops = own.as_slice();
     if case.cut.request.pipe.as_slice().is_empty() {
-        return print_simulated(alloc, &case.design, &ports, &fed.trace, out);
+        return print_simulated(alloc, &case.design, ratios, stops, &ports, &fed.trace, out);
     }
-    print_reference(alloc, fed, &ports, out)
+    print_reference(alloc, fed, stops, &ports, out)
 }

@@ -5,7 +5,7 @@ ghost use Rattle.gg_front.specs.Meaning.{MeansDesign};
 ghost use Rattle.gg_front.specs.declared.fault.FrontFault.TheVariants as front;
 ghost use Rattle.gg_flat.specs.Run.{IsColumns};
 ghost use Rattle.gg_moved.specs.KeepsToTree.{KeepsToTree};
-ghost use Rattle.gg_pipe.specs.Made.{AreHeldOnce};
+ghost use Rattle.gg_cut.specs.Held.{AreHeldOnce};
 ghost use Rattle.gg_trace.specs.declared.faults.TraceFault.TheVariants.{NoMemory};
 ghost use Rattle.gg_trace.specs.FaultText.{fault_words};
 ghost use Rattle.golden.specs.Lines.{circuit_fault, trace_fault};

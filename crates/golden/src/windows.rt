@@ -3,7 +3,7 @@ ghost use Rattle.std.specs.Prelude.{◌≡◌, ◌≤◌, ℕ, List, IfOk, lengt
 ghost use Rattle.gg_cut.specs.Listed.{listed_of};
 ghost use Rattle.gg_cut.specs.Machines.{first_tray};
 ghost use Rattle.gg_pipe.specs.Made.{plan_reference};
-ghost use Rattle.gg_run.specs.Printed.{AreKept, out_columns, rows_to, text_of};
+ghost use Rattle.gg_run.specs.Printed.{AreKept, out_columns, plan_stops, rows_to, text_of};
 ghost use Rattle.gg_told.specs.Endings.{PrintsOn};
 ghost use Rattle.gg_told.specs.WentOn.{SinkWentOn};
 ghost use Rattle.golden.specs.Case.{IsFed, PrintsFedByNetwork};
@@ -34,9 +34,9 @@ fn print_flow<R: Threads + Sync, Z: Streams, K: Sink, G: Gate + Sync>(
     requires run { (run : IsToReplay fed.now Z.flow) × (run.design ≡ fed.now.case.design) }
     requires ports { length ports.now ≤ length fed.now.case.design.circuit.outs }
     ensures prints { (run : IsToReplay fed.now Z.flow) → run.design ≡ fed.now.case.design
-        → PrintsOn K.Sink out.old out.new (text_of (plan_reference run.design run.request) ports.now run.rows fed.now.trace.rows) result }
+        → PrintsOn K.Sink out.old out.new (text_of (plan_stops run.design run.request) (plan_reference run.design run.request) ports.now run.rows fed.now.trace.rows) result }
     ensures kept { IfOk result (λ done. (run : IsToReplay fed.now Z.flow) → run.design ≡ fed.now.case.design
-        → AreKept fed.now.case.cut.plan fed.now.trace.columns fed.now.trace.rows (first_tray run.design.circuit (listed_of run.design.tree run.request)) (rows_to (plan_reference run.design run.request) ports.now run.rows fed.now.trace.rows) (out_columns (plan_reference run.design run.request) run.rows)) }
+        → AreKept fed.now.case.cut.plan fed.now.trace.columns fed.now.trace.rows (first_tray run.design.circuit (listed_of run.design.tree run.request)) (rows_to (plan_stops run.design run.request) (plan_reference run.design run.request) ports.now run.rows fed.now.trace.rows) (out_columns (plan_reference run.design run.request) run.rows)) }
     ensures out { SinkWentOn K.Sink out.old out.new }
 {
     let case = &fed.case;
@@ -53,7 +53,7 @@ fn print_flow<R: Threads + Sync, Z: Streams, K: Sink, G: Gate + Sync>(
     )
 }
 
-/// Prints the run of a design on a trace, with its pipes, from the network of the plan: the top's outputs, cycle by cycle, to the
+/// Prints the run of a design on a trace, with its pipes and clocks, from the network of the plan: the top's outputs, cycle by cycle, to the
 /// first cycle in which a stop acts. The network is run by this many workers. Host steps bring the rows to its trays.
 pub(crate) fn print_fed<R: Threads + Sync, K: Sink, G: Gate + Sync>(
     rt: &R,

@@ -16,6 +16,9 @@ pub run_window-requires-clause-none_above : goal.run_window-requires-clause-none
 run_window-requires-clause-none_above g c = λ κs outlive m lt.
     omega (arith, c.loop-begun.invariant.all m lt, c.loop-begun-test.true, c.window_end-upto.ensures)
 
+pub take_window-requires-clause-within : goal.take_window-requires-clause-within
+take_window-requires-clause-within g c = omega (arith, c.window_end-upto.ensures, c.end-end.ensures, c.within_limits.ensures.cycles)
+
 pub take_window-requires-clause-outs : goal.take_window-requires-clause-outs
 take_window-requires-clause-outs g c =
     omega (

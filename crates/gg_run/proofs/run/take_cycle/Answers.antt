@@ -1,8 +1,8 @@
 use Rattle.std.proofs.Common.{◌≡◌, List, ℕ, length, subst, arith}
 use Rattle.gg_run.proofs.run.take_cycle.Goals as goal
 
-pub take-requires : goal.take-requires
-take-requires g c =
+pub take-requires-clause-can : goal.take-requires-clause-can
+take-requires-clause-can g c =
     let same : length c.args.outs.now ≡ length c.output_values.new.outs = omega (arith, c.output_values.auto.outs) in
     subst (g.W.Rows.can_take c.args.rows.now) same c.requires.can
 

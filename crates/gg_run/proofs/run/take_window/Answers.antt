@@ -6,6 +6,9 @@ use Rattle.gg_run.proofs.run.take_window.Goals as goal
 pub loop-cycle-init : goal.loop-cycle-init
 loop-cycle-init g c = taken-start
 
+pub take_cycle-requires-clause-within : goal.take_cycle-requires-clause-within
+take_cycle-requires-clause-within g c = omega (arith, c.loop-cycle-test.true, c.requires.within)
+
 pub take_cycle-requires-clause-can : goal.take_cycle-requires-clause-can
 take_cycle-requires-clause-can g c κs within =
     let same : length c.args.outs.now ≡ length c.loop-cycle.outs = omega (arith, c.loop-cycle.auto.outs) in

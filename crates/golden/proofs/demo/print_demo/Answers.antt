@@ -22,6 +22,6 @@ returns-clause-ended g c =
     let d = c.one_meaning.ensures in
     let run = to-replay (demo_circuit c.args.size) (demo_partition c.args.size) (demo_trace c.args.seed c.args.size) demo_capacity c.args.fed.now c.requires.fed in
     PrintsText _
-    (sums-only c.args.seed c.args.size c.args.fed.now c.requires.fed (designs-agree d.flat d.tree) c.run_once.ensures.opening c.requires.some
+    (sums-only c.args.seed c.args.size c.args.fed.now c.requires.fed (designs-agree d.flat d.tree) c.run_once.ensures.from c.requires.some
     (c.is_whole.ensures (grind (arith, c.if-not-is_whole.false))).1 c.in_ok-sums.sums (c.in_ok-sums.ensures run refl))
     c.put_summary.ensures.prints

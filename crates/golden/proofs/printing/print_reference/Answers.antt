@@ -1,9 +1,12 @@
-use Rattle.std.proofs.Common.{List, ℕ, ◌≤◌, length, refl, sym, subst}
+use Rattle.std.proofs.Common.{◌≡◌, List, ℕ, ◌≤◌, length, refl, sym, ◌∙◌, subst}
 use Rattle.std.proofs.lemmas.List.{length-map}
+use Rattle.gg_cut.specs.Clocks.{ratios_of}
 use Rattle.gg_cut.specs.Direct.{plan_hub}
 use Rattle.gg_flat.specs.Circuit.{FlatCircuit}
-use Rattle.gg_flat.specs.Run.{IsColumns, IsRun}
+use Rattle.gg_flat.specs.Clock.{Ratio}
+use Rattle.gg_flat.specs.Run.{IsColumns, IsRunFrom, clocked_start}
 use Rattle.gg_pipe.specs.Links.{taken_as}
+use Rattle.gg_pipe.specs.Made.{plan_reference}
 use Rattle.gg_pipe.proofs.PlanLemmas.{plan-columns}
 use Rattle.gg_run.specs.Printed.{text_of}
 use Rattle.gg_told.specs.Endings.{PrintsOn}
@@ -41,7 +44,13 @@ print_simulated-requires-clause-ports g c =
 pub returns-clause-prints : goal.returns-clause-prints
 returns-clause-prints g c =
     let fed = c.args.fed.now in
+    let reference = plan_reference fed.case.design fed.case.cut.request in
+    let timed : c.as_slice-ratios.result.now ≡ ratios_of fed.case.design.tree fed.case.cut.request = c.as_slice-ratios.ensures ∙ c.requires.fed.4.case.planned.ratios in
     subst
-    (λ (f : FlatCircuit). (rows : List (List ℕ)) × IsRun f fed.trace.columns fed.trace.rows rows
-    × PrintsOn g.K.Sink c.args.out.now c.print_simulated.new.out (text_of f c.args.ports.now rows fed.trace.rows) c.print_simulated.result)
-    c.in_ok-reference.ensures c.print_simulated.ensures.prints
+    (λ (ratios : List Ratio). (rows : List (List ℕ)) × IsRunFrom reference (clocked_start reference ratios) fed.trace.columns fed.trace.rows rows
+    × PrintsOn g.K.Sink c.args.out.now c.print_simulated.new.out (text_of c.args.stops.now reference c.args.ports.now rows fed.trace.rows) c.print_simulated.result)
+    timed
+    (subst
+    (λ (f : FlatCircuit). (rows : List (List ℕ)) × IsRunFrom f (clocked_start f c.as_slice-ratios.result.now) fed.trace.columns fed.trace.rows rows
+    × PrintsOn g.K.Sink c.args.out.now c.print_simulated.new.out (text_of c.args.stops.now f c.args.ports.now rows fed.trace.rows) c.print_simulated.result)
+    c.in_ok-reference.ensures c.print_simulated.ensures.prints)

@@ -18,6 +18,11 @@ print_row-requires-clause-few g c =
     let below = c.loop-cycle-test.true in
     omega (arith, below, c.rows-cycle-end.ensures.count, c.loop-cycle.invariant.made, c.requires.few)
 
+pub print_row-requires-clause-within : goal.print_row-requires-clause-within
+print_row-requires-clause-within g c =
+    let below = c.loop-cycle-test.true in
+    omega (arith, below, c.rows-cycle-end.ensures.count, c.requires.few)
+
 pub returns-in_err-goes_on-clause-took : goal.returns-in_err-goes_on-clause-took
 returns-in_err-goes_on-clause-took g c =
     let below = c.loop-cycle-test.true in

@@ -1,6 +1,7 @@
 use Rattle.std.proofs.Common.{List, ℕ, ◌≤◌, length, refl, sym, ap, subst}
 use Rattle.gg_flat.specs.Circuit.{FlatCircuit}
-use Rattle.gg_flat.specs.Run.{IsRun}
+use Rattle.gg_flat.specs.Run.{IsRunFrom, clocked_start}
+use Rattle.gg_flat.proofs.AlongLemmas.{IsState-opening}
 use Rattle.gg_run.specs.Printed.{text_of}
 use Rattle.gg_refsim.specs.Cycle.{Simulation}
 use Rattle.gg_told.specs.Endings.{PrintsOn}
@@ -10,7 +11,8 @@ use Rattle.golden.proofs.printing.print_simulated.Goals as goal
 pub returns-in-Err-clause-prints : goal.returns-in-Err-clause-prints
 returns-in-Err-clause-prints g c = (
   _,
-  c.runs_along.ensures.opening c.args.design.now.circuit c.args.design.now.order c.args.inputs.now.columns c.args.inputs.now.rows c.piece.ensures.formed c.order.ensures.ordered c.requires.fed,
+  c.runs_along.ensures.from c.args.design.now.circuit c.args.design.now.order (clocked_start c.args.design.now.circuit c.args.ratios.now) c.args.inputs.now.columns c.args.inputs.now.rows c.piece.ensures.formed c.order.ensures.ordered
+      (IsState-opening c.args.design.now.circuit) c.requires.fed.inputs,
   none-front _ _ _ refl,
 )
 
@@ -22,9 +24,12 @@ pub returns-clause-prints : goal.returns-clause-prints
 returns-clause-prints g c =
     let circuit = c.args.design.now.circuit in
     let inputs = c.args.inputs.now in
-    let run = c.runs_along.ensures.opening circuit c.args.design.now.order inputs.columns inputs.rows c.piece.ensures.formed c.order.ensures.ordered c.requires.fed in (
+    let start = clocked_start circuit c.args.ratios.now in
+    let run = c.runs_along.ensures.from circuit c.args.design.now.order start inputs.columns inputs.rows c.piece.ensures.formed c.order.ensures.ordered (IsState-opening circuit) c.requires.fed.inputs in (
       _,
       run,
-      subst (λ (f : FlatCircuit). (rows : List (List ℕ)) → IsRun f inputs.columns inputs.rows rows → PrintsOn g.K.Sink c.args.out.now c.print_all.new.out (text_of f c.args.ports.now rows inputs.rows) c.print_all.result)
-          (ap (λ (mono : Simulation). mono.circuit) c.in-Ok.ensures) c.print_all.ensures.prints _ run,
+      subst
+          (λ (mono : Simulation). (rows : List (List ℕ)) → IsRunFrom mono.circuit (clocked_start mono.circuit mono.ratios) inputs.columns inputs.rows rows
+          → PrintsOn g.K.Sink c.args.out.now c.print_all.new.out (text_of c.args.stops.now mono.circuit c.args.ports.now rows inputs.rows) c.print_all.result)
+          c.in-Ok.ensures c.print_all.ensures.prints _ run,
     )

@@ -21,6 +21,6 @@ returns-clause-ended g c =
     let d = c.one_meaning.ensures in
     let case = c.args.fed.now.case in
     λ circuit partition trace capacity is.
-    steps-judged circuit partition trace capacity c.args.fed.now is (designs-agree d.flat d.tree) c.run_once.ensures.opening c.args.steps.now _ _
+    steps-judged circuit partition trace capacity c.args.fed.now is (designs-agree d.flat d.tree) c.run_once.ensures.from c.args.steps.now _ _
     (c.in_ok-names.ensures ∙ ap (λ (t : InstanceTree). plan_naming case.cut.plan t) c.tree.ensures.tree)
     (c.as_slice.ensures.value ∙ c.in_ok-events.ensures) c.replay_net.ensures.ended

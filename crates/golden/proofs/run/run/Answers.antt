@@ -33,7 +33,7 @@ returns-clause-ended g c =
     (record {
       is = run-text-of read.is prints.0 prints.1;
       only =
-          only-text (designs-agree c.one_meaning.ensures.flat c.one_meaning.ensures.tree) c.run_once.ensures.opening read.read.circuit read.read.partition read.bytes
+          only-text (designs-agree c.one_meaning.ensures.flat c.one_meaning.ensures.tree) c.run_once.ensures.from read.read.circuit read.read.partition read.bytes
           fed.case.design fed.case.cut.request (reference_order fed.case.design fed.case.cut.request) (case-ordered read.read.is) means read.read.is.cuts.asks
           fed.trace.rows fed.trace.columns prints.0 prints.1 read.is.feeds;
     })

@@ -32,7 +32,7 @@ returns-clause-prints g c =
     let columns = out_columns (plan_reference fed.case.design fed.case.cut.request) run.rows in
     let told = fed-rows r.0 r.1 r.2 r.3 fed r.4 c.in_ok-ports.ports run.rows c.in_ok-ports.ensures in (
       run.rows,
-      run.given.run,
+      run.given.run.run,
       fed-prints r.0 r.1 r.2 r.3 fed r.4 _ _ _ c.print_flow.result c.in_ok-ports.ports run.rows c.in_ok-ports.ensures (c.print_flow.ensures.prints run refl),
       IfOk-weaker c.print_flow.result _ _ (λ done kept. subst (λ k. AreFedToTrays fed k columns) told (kept run refl)) c.print_flow.ensures.kept,
     )
