@@ -49,6 +49,10 @@ pub const FORK: &str =
 pub const KEPT: &str =
     "circuit Kept :\nmodule Neg :\ninput a : UInt<2>\noutput b : UInt<2>\nb <= not(a)\nmodule Kept :\ninput clock : Clock\ninput x : UInt<2>\noutput y : UInt<2>\noutput z : UInt<2>\noutput r : UInt<2>\noutput q : UInt<2>\nmem m :\ndata-type => UInt<2>\ndepth => 4\nread-latency => 0\nwrite-latency => 1\nreader => r\nwriter => w\nread-under-write => undefined\ninst u of Neg\nu.a <= x\nm.r.clk <= clock\nm.w.clk <= clock\nm.r.addr <= u.b\nm.w.addr <= u.b\nm.r.en <= UInt<1>(1)\nm.w.en <= UInt<1>(1)\nm.w.mask <= UInt<1>(1)\nm.w.data <= x\ny <= m.r.data\nz <= u.b\nr <= u.b\nq <= not(r)\n";
 
+/// Two registers of two clocks. The second adds the first.
+pub const DUAL: &str =
+    "circuit Dual :\nmodule Dual :\ninput c1 : Clock\ninput c2 : Clock\noutput p : UInt<4>\noutput q : UInt<4>\nreg r : UInt<4>, c1\nreg s : UInt<4>, c2\np <= r\nq <= s\nr <= tail(add(r, UInt<1>(\"h1\")), 1)\ns <= tail(add(s, r), 1)\n";
+
 /// A trace of the counter.
 pub const TRACE: &str = "cycle reset\n0 1\n1 0\n2 0\n3 0\n";
 

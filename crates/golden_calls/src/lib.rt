@@ -11,6 +11,6 @@ mod circuits;
 
 pub use calls::{Answer, CHECK, RUN, ask, ask_of, call, counter_files, files_of, run, words_of};
 pub use circuits::{
-    BANKS, BOTH, COUNTER, FORK, KEPT, LATE, LOOP, MEMORY, PAIR, TEXT, TILES, TRACE, TWO, WIDE,
-    counter, edited,
+    BANKS, BOTH, COUNTER, DUAL, FORK, KEPT, LATE, LOOP, MEMORY, PAIR, TEXT, TILES, TRACE, TWO,
+    WIDE, counter, edited,
 };

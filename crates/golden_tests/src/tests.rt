@@ -1,6 +1,7 @@
 //! The tests: tables of calls, by what they are about, and their check; and four tests of what no table says.
 mod calls;
 mod circuits;
+mod clocks;
 mod commands;
 mod cuts;
 mod demos;

@@ -3,7 +3,8 @@ ghost use Rattle.std.specs.Prelude.{IfSome};
 ghost use Rattle.gg_cut.specs.Fault.{IsSmall};
 ghost use Rattle.gg_flat.specs.Run.{IsColumns};
 ghost use Rattle.gg_moved.specs.KeepsToTree.{KeepsToTree};
-ghost use Rattle.gg_pipe.specs.Made.{AreHeldOnce, IsFresh};
+ghost use Rattle.gg_cut.specs.Held.{AreHeldOnce};
+ghost use Rattle.gg_pipe.specs.Made.{IsFresh};
 
 use gg_front::front;
 use gg_order::Design;

@@ -1,1 +1,2 @@
+mod BeginLemmas
 mod OrderLemmas

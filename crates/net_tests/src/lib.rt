@@ -9,6 +9,8 @@
 #![tactic(auto)]
 
 #[cfg(test)]
+mod begins;
+#[cfg(test)]
 mod circuits;
 #[cfg(test)]
 mod clocks;

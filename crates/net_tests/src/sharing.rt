@@ -10,12 +10,16 @@ const FOUR: &str =
 
 // Two units of two clocks each, of which the second has the clocks the other way round. A unit has a register of its second clock, and, two
 // instances further down, a memory of its first: the word at the least bit of its input sums up the inputs.
-const DEEP: &str =
+pub(crate) const DEEP: &str =
     "circuit Deep :\nmodule Leaf :\ninput c : Clock\ninput a : UInt<8>\noutput s : UInt<8>\nmem m :\ndata-type => UInt<8>\ndepth => 2\nread-latency => 0\nwrite-latency => 1\nreader => r\nwriter => w\nread-under-write => undefined\nm.r.addr <= bits(a, 0, 0)\nm.r.en <= UInt<1>(1)\nm.r.clk <= c\nm.w.addr <= bits(a, 0, 0)\nm.w.en <= UInt<1>(1)\nm.w.clk <= c\nm.w.mask <= UInt<1>(1)\nm.w.data <= bits(add(m.r.data, a), 7, 0)\ns <= m.r.data\nmodule Mid :\ninput c : Clock\ninput a : UInt<8>\noutput s : UInt<8>\noutput t : UInt<8>\ninst leaf of Leaf\nleaf.c <= c\nleaf.a <= a\ns <= leaf.s\nt <= xor(leaf.s, a)\nmodule Outer :\ninput c : Clock\ninput d : Clock\ninput a : UInt<8>\noutput s : UInt<8>\nreg r : UInt<8>, d\ninst mid of Mid\nmid.c <= c\nmid.a <= a\ns <= bits(add(mid.s, r), 7, 0)\nr <= mid.t\nmodule Deep :\ninput c1 : Clock\ninput c2 : Clock\ninput x : UInt<8>\noutput q : UInt<16>\ninst u of Outer\ninst v of Outer\nu.c <= c1\nu.d <= c2\nv.c <= c2\nv.d <= c1\nu.a <= x\nv.a <= not(x)\nq <= cat(u.s, v.s)\n";
+
+/// A trace of five cycles for them.
+pub(crate) const DEEP_TRACE: &str = "cycle x\n0 01\n1 10\n2 83\n3 05\n4 62\n";
 
 /// The two units share a host, in lists among empty ones too:
 /// in a cycle they take turns. They share none: no list, an empty one, lists of one unit; the first is through its cycle ahead of the second.
-/// Four units share two hosts, by turns. Two units of many levels share one.
+/// Four units share two hosts, by turns. Two units of many levels share one; the second of the circuit's clocks has an edge in two of three
+/// ticks, and the units have the clocks the other way round.
 pub(crate) static SHARES: [Row; 4] = [
     (
         Whole(SUMS),
@@ -82,8 +86,11 @@ pub(crate) static SHARES: [Row; 4] = [
     ),
     (
         Whole(DEEP),
-        &["{\"units\":[\"u\",\"v\"],\"share\":[[\"u\",\"v\"]]}"],
-        "cycle x\n0 01\n1 10\n2 83\n3 05\n4 62\n",
+        &[
+            "{\"units\":[\"u\",\"v\"],\"share\":[[\"u\",\"v\"]],\"clocks\":{\"c2\":[2,3]}}",
+            "{\"units\":[\"u\",\"v\"],\"share\":[[\"v\",\"u\"]],\"clocks\":{\"c1\":[1,1],\"c2\":[2,3]}}",
+        ],
+        DEEP_TRACE,
         Case {
             machines: 5,
             channels: 6,
@@ -93,7 +100,7 @@ pub(crate) static SHARES: [Row; 4] = [
             cause: Refusal::NeedsInput { channel: 0 },
             steps: "0F 0L 3F 1F 1L 3L 4F 2F 2E 4L 2L 5F 0E 1E 5L 4E 3E",
             served: (0, 0, 0),
-            kept: &[0, 0x1fe, 0x11ed, 0x6fc, 0x916f],
+            kept: &[0, 0xfe, 0x11ef, 0x6f8, 0x9275],
             hosts: &[0, 1, 1, 2, 3],
         },
     ),

@@ -5,6 +5,7 @@ ghost use Rattle.gg_flat.specs.Settled.{IsInputs};
 
 use crate::circuits::Circuit::{Memory, Whole};
 use crate::circuits::{Circuit, text_of};
+use crate::sharing::{DEEP, DEEP_TRACE};
 use gg_clocks::Ratio;
 use gg_order::Design;
 use gg_refsim::Mono;
@@ -105,10 +106,17 @@ fn is_right(alloc: Global, circuit: &Circuit, skips: bool, trace: &str, outputs:
 }
 
 // A circuit, whether its second clock skips a tick in three, a trace, and the outputs.
-static RUNS: [(Circuit, bool, &str, &[u128]); 8] = [
+static RUNS: [(Circuit, bool, &str, &[u128]); 9] = [
     (Whole(COUNTER), false, COUNTER_TRACE, &[0, 0, 1, 2]),
     (Whole(DUAL), true, SIX_CYCLES, &[0, 0, 1, 3, 3, 7]),
     (Whole(DUAL), false, SIX_CYCLES, &[0, 0, 1, 3, 6, 10]),
+    // a register and a memory in each of two instances, whose clocks are the other way round in the second
+    (
+        Whole(DEEP),
+        true,
+        DEEP_TRACE,
+        &[0, 0xfe, 0x11ef, 0x6f8, 0x9275],
+    ),
     // a stop is an output
     (Whole(HALT), false, SIX_CYCLES, &[0, 0, 1, 0, 0, 0]),
     // a word that is written is read at once, or a cycle late, or two cycles late where the old word is read; an undefined word is

@@ -1,4 +1,5 @@
 //! The tests: all tables, and the calls of which no table tells.
+use crate::begins::check_begins;
 use crate::clocks::goes_in_two_of_three;
 use crate::direct::DIRECT;
 use crate::logs::{check_lines, has_first_token};
@@ -18,6 +19,7 @@ fn networks_run(rt: HostRuntime) {
     check_networks(&rt, alloc, "DIRECT", &DIRECT);
     check_networks(&rt, alloc, "SHARES", &SHARES);
     check_networks(&rt, alloc, "PIPED", &PIPED);
+    check_begins(&rt, alloc);
 }
 
 // This holds. If not, the test fails, and shows what it is about.

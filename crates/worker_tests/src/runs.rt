@@ -3,7 +3,8 @@ ghost use Rattle.gg_build.specs.Build.{IsToRun};
 ghost use Rattle.gg_cut.specs.Fault.{IsSmall};
 ghost use Rattle.gg_flat.specs.Run.{IsColumns};
 ghost use Rattle.gg_moved.specs.KeepsToTree.{KeepsToTree};
-ghost use Rattle.gg_pipe.specs.Made.{AreHeldOnce, IsFresh};
+ghost use Rattle.gg_cut.specs.Held.{AreHeldOnce};
+ghost use Rattle.gg_pipe.specs.Made.{IsFresh};
 
 use crate::lodge::{Lodge, beside_none};
 use gg_build::{Node, build};

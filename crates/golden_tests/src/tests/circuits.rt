@@ -5,7 +5,7 @@ use super::calls::Row;
 use golden_calls::{COUNTER, LATE, LOOP, MEMORY, PAIR, TEXT, TRACE, WIDE};
 
 /// Circuits of one module.
-pub(crate) static RUNS: [Row; 18] = [
+pub(crate) static RUNS: [Row; 17] = [
     // the counter with lines that end with CR LF, comments, tabs and file information
     (
         Run(
@@ -53,15 +53,6 @@ pub(crate) static RUNS: [Row; 18] = [
             TRACE,
         ),
         Prints(3, TEXT),
-    ),
-    // two clocks, each of which has an edge in every cycle
-    (
-        Run(
-            "circuit Dual :\nmodule Dual :\ninput c1 : Clock\ninput c2 : Clock\noutput p : UInt<4>\noutput q : UInt<4>\nreg r : UInt<4>, c1\nreg s : UInt<4>, c2\np <= r\nq <= s\nr <= tail(add(r, UInt<1>(\"h1\")), 1)\ns <= tail(add(s, r), 1)\n",
-            "{}\n",
-            "cycle\n0\n1\n2\n3\n4\n",
-        ),
-        Prints(3, "cycle p q\n0 0 0\n1 1 0\n2 2 1\n3 3 3\n4 4 6\n"),
     ),
     // a register that isn't reset
     (

@@ -2,7 +2,7 @@
 use super::calls::Call::OnLarge;
 use super::calls::End::{Prints, Refuses};
 use super::calls::Row;
-use super::large::Large::{Blanks, Nested, Nodes, Outputs, Padded, Rows, Units};
+use super::large::Large::{Blanks, Clocks, Nested, Nodes, Outputs, Padded, Rows, Units};
 use super::steps::REPLAY;
 use gg_io::hold;
 use golden_calls::{
@@ -20,6 +20,8 @@ pub(crate) enum Large {
     Units(&'static str, u64),
     /// `run` in each way, on so many outputs.
     Outputs(u64),
+    /// `run` in each way, on a thousand clocks, where the last of them, and so many from the first on, have ratios.
+    Clocks(u64),
     /// These words, on an output that is an instance's behind a hundred nodes.
     Nodes(&'static str),
     /// `run` in each way, on the counter and so many rows.
@@ -30,8 +32,8 @@ pub(crate) enum Large {
     Blanks(&'static str, &'static str, usize),
 }
 
-/// Operations one inside the other, units, channels, and a chain of copies.
-pub(crate) static LIMITS: [Row; 9] = [
+/// Operations one inside the other, units, channels, clocks, and a chain of copies.
+pub(crate) static LIMITS: [Row; 11] = [
     (OnLarge(Nested(256)), Prints(3, TEXT)),
     (
         OnLarge(Nested(257)),
@@ -53,6 +55,14 @@ pub(crate) static LIMITS: [Row; 9] = [
     (
         OnLarge(Outputs(16_385)),
         Refuses(6, 2, "golden: partition: P9 channels 16385\n"),
+    ),
+    (
+        OnLarge(Clocks(999)),
+        Prints(3, "cycle y\n0 0\n1 0\n2 1\n3 1\n"),
+    ),
+    (
+        OnLarge(Clocks(1_001)),
+        Refuses(6, 2, "golden: partition: P12 c1000\n"),
     ),
     (
         OnLarge(Nodes(CHECK)),
@@ -99,6 +109,7 @@ pub(crate) fn ask_large<R: Threads + Sync>(
         Large::Nested(depth) => run_nested(rt, alloc, *depth),
         Large::Units(line, count) => ask_units(rt, alloc, line, *count),
         Large::Outputs(count) => run_outputs(rt, alloc, *count),
+        Large::Clocks(count) => run_clocks(rt, alloc, *count),
         Large::Nodes(line) => ask_nodes(rt, alloc, line),
         Large::Rows(count) => run_rows(rt, alloc, *count),
         Large::Padded(size) => run_padded(rt, alloc, *size),
@@ -174,6 +185,24 @@ fn run_outputs<R: Threads + Sync>(rt: &R, alloc: Global, count: u64) -> Result<A
     push_numbered(&mut circuit, 0, count, "output o", " : UInt<1>\n")?;
     push_numbered(&mut circuit, 0, count, "o", " is invalid\n")?;
     run(rt, alloc, circuit.as_str(), "{}", "")
+}
+
+/// `run` in each way, on a register of the last of a thousand clocks. That one has an edge in each second cycle, and so many from the first on
+/// in each third one.
+fn run_clocks<R: Threads + Sync>(rt: &R, alloc: Global, count: u64) -> Result<Answer, AllocError> {
+    let mut circuit = String::from_str(alloc, "circuit Top :\nmodule Top :\n")?;
+    push_numbered(&mut circuit, 0, 1_000, "input c", " : Clock\n")?;
+    circuit.push_str("output y : UInt<1>\nreg r : UInt<1>, c999\ny <= r\nr <= not(r)\n")?;
+    let mut partition = String::from_str(alloc, "{\"clocks\":{\"c999\":[1,2]")?;
+    push_numbered(&mut partition, 0, count, ",\"c", "\":[1,3]")?;
+    partition.push_str("}}")?;
+    run(
+        rt,
+        alloc,
+        circuit.as_str(),
+        partition.as_str(),
+        "cycle\n0\n1\n2\n3\n",
+    )
 }
 
 /// A circuit whose output is an instance's behind a hundred nodes.

@@ -36,6 +36,10 @@ const SHARED: &str = "{\"units\":[\"c\",\"d\"],\"share\":[[\"c\",\"d\"]]}";
 const DEEP: &str =
     "circuit Top :\nmodule Core :\ninput clock : Clock\ninput i : UInt<2>\nstop(clock, eq(i, UInt<2>(2)), 1) : done\nmodule Tile :\ninput clock : Clock\ninput i : UInt<2>\ninst core of Core\ncore.clock <= clock\ncore.i <= not(i)\nmodule Top :\ninput clock : Clock\ninput x : UInt<2>\noutput y : UInt<2>\ninst tile of Tile\ntile.clock <= clock\ntile.i <= x\ny <= x\n";
 
+// A stop in each of two instances, each with a clock of its own, where the input is 1 and where it is 2. The top has no register on either.
+const TICKED: &str =
+    "circuit Top :\nmodule Cell :\ninput clock : Clock\ninput i : UInt<2>\nstop(clock, eq(i, UInt<2>(1)), 1)\nmodule Top :\ninput c1 : Clock\ninput c2 : Clock\ninput x : UInt<2>\noutput y : UInt<2>\ninst c of Cell\ninst d of Cell\nc.clock <= c1\nd.clock <= c2\nc.i <= x\nd.i <= not(x)\ny <= x\n";
+
 /// Stops in circuits of one module.
 pub(crate) static STOPS: [Row; 10] = [
     (
@@ -126,6 +130,76 @@ pub(crate) static STOPPED_CUTS: [Row; 8] = [
     (
         Run(HALT, "{\"pipe\":[\"x\"]}", "cycle x\n0 0\n1 3\n2 1\n3 2\n"),
         Prints(3, "cycle y\n0 0\n1 0\n2 3\n"),
+    ),
+];
+
+/// Stops act where their clocks have an edge. By hand, the counter whose clock has one in each second cycle: c is 0 0 1 1, with edges in the cycles 1
+/// and 3, so that the stop doesn't act in cycle 2. A stop whose clock has no edge in the trace. Behind a pipe the edge counts that comes
+/// a cycle later. Two stops with a clock of their own each, whole, on one host, and in a unit and the hub.
+pub(crate) static CLOCKED_STOPS: [Row; 8] = [
+    (
+        Run(
+            COUNTED,
+            "{\"clocks\":{\"clock\":[1,2]}}",
+            "cycle reset\n0 1\n1 0\n2 0\n3 0\n4 0\n5 0\n",
+        ),
+        Prints(3, "cycle out\n0 00\n1 00\n2 01\n3 01\n"),
+    ),
+    (
+        Run(
+            HALT,
+            "{\"clocks\":{\"clock\":[1,65535]}}",
+            "cycle x\n0 3\n1 3\n2 3\n",
+        ),
+        Prints(3, "cycle y\n0 3\n1 3\n2 3\n"),
+    ),
+    (
+        Run(
+            HALT,
+            "{\"pipe\":[\"stop:0\"],\"clocks\":{\"clock\":[1,2]}}",
+            "cycle x\n0 3\n1 0\n2 0\n",
+        ),
+        Prints(3, "cycle y\n0 3\n1 0\n"),
+    ),
+    (
+        Run(
+            HALT,
+            "{\"pipe\":[\"stop:0\"],\"clocks\":{\"clock\":[1,2]}}",
+            "cycle x\n0 0\n1 3\n2 0\n3 0\n",
+        ),
+        Prints(3, "cycle y\n0 0\n1 3\n2 0\n3 0\n"),
+    ),
+    (
+        Run(
+            TICKED,
+            "{\"clocks\":{\"c2\":[1,2]}}",
+            "cycle x\n0 2\n1 0\n2 2\n3 2\n4 0\n",
+        ),
+        Prints(3, "cycle y\n0 2\n1 0\n2 2\n3 2\n"),
+    ),
+    (
+        Run(
+            TICKED,
+            "{\"clocks\":{\"c2\":[1,2]},\"units\":[\"c\",\"d\"],\"share\":[[\"c\",\"d\"]]}",
+            "cycle x\n0 2\n1 0\n2 2\n3 2\n4 0\n",
+        ),
+        Prints(3, "cycle y\n0 2\n1 0\n2 2\n3 2\n"),
+    ),
+    (
+        Run(
+            TICKED,
+            "{\"clocks\":{\"c2\":[1,2]},\"units\":[\"c\",\"d\"],\"share\":[[\"c\",\"d\"]]}",
+            "cycle x\n0 2\n1 0\n2 1\n3 2\n4 0\n",
+        ),
+        Prints(3, "cycle y\n0 2\n1 0\n2 1\n"),
+    ),
+    (
+        Run(
+            TICKED,
+            "{\"clocks\":{\"c1\":[1,2]},\"units\":[\"d\"]}",
+            "cycle x\n0 1\n1 0\n2 1\n3 1\n4 0\n",
+        ),
+        Prints(3, "cycle y\n0 1\n1 0\n2 1\n3 1\n"),
     ),
 ];
 

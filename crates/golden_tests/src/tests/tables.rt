@@ -1,6 +1,7 @@
 //! The tests of all tables.
 use super::calls::check_rows;
 use super::circuits::{CIRCUIT_FAULTS, CUT, RUNS, WHOLE};
+use super::clocks::{CLOCK_CUTS, CLOCK_FAULTS, CLOCKED, HANDSHAKES, SERVED_WITHOUT_AN_EDGE};
 use super::commands::{ASKED, NO_NUMBERS, UNASKED};
 use super::cuts::{CUT_FAULTS, HOST_CUTS, ORDER_CUTS, ROUTED, UNIT_CUTS};
 use super::demos::SUMMARIES;
@@ -14,7 +15,8 @@ use super::steps::{
     STEPS_DONE, STEPS_REFUSED, STEPS_UNREAD,
 };
 use super::stops::{
-    FAULTS_BEHIND_A_STOP, PUTS_AT_A_STOP, STEPS_BEHIND_A_STOP, STOP_CHANNELS, STOPPED_CUTS, STOPS,
+    CLOCKED_STOPS, FAULTS_BEHIND_A_STOP, PUTS_AT_A_STOP, STEPS_BEHIND_A_STOP, STOP_CHANNELS,
+    STOPPED_CUTS, STOPS,
 };
 use super::traces::TRACES;
 use super::workers::BY_WORKERS;
@@ -151,6 +153,35 @@ fn stops_have_channels(rt: HostRuntime) {
     let alloc = rt.alloc();
     check_rows(&rt, alloc, "STOP_CHANNELS", &STOP_CHANNELS);
     check_rows(&rt, alloc, "STEPS_BEHIND_A_STOP", &STEPS_BEHIND_A_STOP);
+}
+
+#[test]
+fn clocks_have_ratios(rt: HostRuntime) {
+    check_rows(&rt, rt.alloc(), "CLOCKED", &CLOCKED);
+}
+
+#[test]
+fn clocks_have_ratios_in_cuts(rt: HostRuntime) {
+    let alloc = rt.alloc();
+    check_rows(&rt, alloc, "CLOCK_CUTS", &CLOCK_CUTS);
+    check_rows(
+        &rt,
+        alloc,
+        "SERVED_WITHOUT_AN_EDGE",
+        &SERVED_WITHOUT_AN_EDGE,
+    );
+}
+
+#[test]
+fn clocks_meet(rt: HostRuntime) {
+    let alloc = rt.alloc();
+    check_rows(&rt, alloc, "HANDSHAKES", &HANDSHAKES);
+    check_rows(&rt, alloc, "CLOCKED_STOPS", &CLOCKED_STOPS);
+}
+
+#[test]
+fn ratios_are_refused(rt: HostRuntime) {
+    check_rows(&rt, rt.alloc(), "CLOCK_FAULTS", &CLOCK_FAULTS);
 }
 
 // `rt try --test` doesn't end on this one.

@@ -1,4 +1,4 @@
-//! Runs of more cycles than a tray keeps values, and stops about the end of the first window.
+//! Runs of more cycles than a tray keeps values, also with a slow clock, and stops about the end of the first window.
 use super::calls::NONE;
 use gg_io::FailingPut;
 use golden_calls::{Answer, call, files_of};
@@ -19,11 +19,12 @@ fn circuit_of(alloc: Global, stop: u64) -> Result<String, AllocError> {
     format!(in alloc; "{COUNTS}stop(clock, eq(r, UInt<11>({stop})), 1)\n")
 }
 
-// A header and so many rows, which end in turn with one text and with the other.
+// A header and so many rows, which end in turn with one text and with the other. If the clock is slow, three after another end alike.
 fn rows_of(
     alloc: Global,
     header: &str,
     count: u64,
+    is_slow: bool,
     even: &str,
     odd: &str,
 ) -> Result<String, AllocError> {
@@ -31,22 +32,33 @@ fn rows_of(
     let mut text = String::from_str(alloc, header)?;
     for row in 0..count {
         text.push_str(buffer.format(row))?;
-        text.push_str(if row % 2 == 0 { even } else { odd })?;
+        let edges = if is_slow { row / 3 } else { row };
+        text.push_str(if edges % 2 == 0 { even } else { odd })?;
     }
     Ok(text)
 }
+
+// The clock has an edge in every third cycle.
+const SLOW_CLOCK: &str = "{\"clocks\":{\"clock\":[1,3]}}";
 
 // A run of 1,028 cycles with this stop, where the put on `out` of this number takes nothing and fails.
 fn run_long<R: Threads + Sync>(
     rt: &R,
     alloc: Global,
     line: &str,
+    is_slow: bool,
     stop: u64,
     number: u64,
 ) -> Result<Answer, AllocError> {
     let circuit = circuit_of(alloc, stop)?;
-    let trace = rows_of(alloc, "cycle\n", 1_028, "\n", "\n")?;
-    let files = files_of(alloc, circuit.as_bytes(), b"{}", trace.as_bytes())?;
+    let trace = rows_of(alloc, "cycle\n", 1_028, false, "\n", "\n")?;
+    let partition = if is_slow { SLOW_CLOCK } else { "{}" };
+    let files = files_of(
+        alloc,
+        circuit.as_bytes(),
+        partition.as_bytes(),
+        trace.as_bytes(),
+    )?;
     let puts = vec![in alloc; FailingPut { number, takes: 0 }]?;
     call(
         rt,
@@ -64,10 +76,11 @@ fn ends_after(
     alloc: Global,
     answer: &Answer,
     status: u8,
+    is_slow: bool,
     rows: u64,
     line: &str,
 ) -> Result<bool, AllocError> {
-    let text = rows_of(alloc, "cycle q\n", rows, " 0\n", " 1\n")?;
+    let text = rows_of(alloc, "cycle q\n", rows, is_slow, " 0\n", " 1\n")?;
     Ok(
         answer.status == status
             && answer.out.as_slice() == text.as_bytes()
@@ -198,11 +211,42 @@ static STOPPED: [Long; 9] = [
     ),
 ];
 
+// The clock has an edge in every third cycle: in 1,025, the second one of the second window. The register is 341 from 1,023 on.
+static SLOW: [Long; 3] = [
+    (
+        "golden run k1.fir p.json k1.trace --workers 0",
+        341,
+        NONE,
+        0,
+        1_026,
+        "",
+    ),
+    (
+        "golden run k1.fir p.json k1.trace --workers 2",
+        341,
+        NONE,
+        0,
+        1_026,
+        "",
+    ),
+    (
+        "golden run k1.fir p.json k1.trace --mono",
+        341,
+        NONE,
+        0,
+        1_026,
+        "",
+    ),
+];
+
 // Checks how each run ends.
-fn check_long<R: Threads + Sync + Abort>(rt: &R, alloc: Global, runs: &[Long]) {
+fn check_long<R: Threads + Sync + Abort>(rt: &R, alloc: Global, is_slow: bool, runs: &[Long]) {
     for (words, stop, number, status, rows, line) in runs {
-        let answer = run_long(rt, alloc, words, *stop, *number).expect(rt, "there is memory");
-        let is_right = ends_after(alloc, &answer, *status, *rows, line).expect(
+        let answer = run_long(rt, alloc, words, is_slow, *stop, *number).expect(
+            rt,
+            "there is memory",
+        );
+        let is_right = ends_after(alloc, &answer, *status, is_slow, *rows, line).expect(
             rt,
             "there is memory",
         );
@@ -212,10 +256,15 @@ fn check_long<R: Threads + Sync + Abort>(rt: &R, alloc: Global, runs: &[Long]) {
 
 #[test]
 fn runs_of_two_windows(rt: HostRuntime) {
-    check_long(&rt, rt.alloc(), &LONG);
+    check_long(&rt, rt.alloc(), false, &LONG);
 }
 
 #[test]
 fn stops_about_a_window(rt: HostRuntime) {
-    check_long(&rt, rt.alloc(), &STOPPED);
+    check_long(&rt, rt.alloc(), false, &STOPPED);
+}
+
+#[test]
+fn a_slow_clock_over_two_windows(rt: HostRuntime) {
+    check_long(&rt, rt.alloc(), true, &SLOW);
 }
