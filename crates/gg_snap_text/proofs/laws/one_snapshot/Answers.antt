@@ -1,0 +1,8 @@
+use Rattle.gg_snap_text.proofs.OneLemmas.{no-fault, one-snap}
+use Rattle.gg_snap_text.proofs.laws.one_snapshot.Goals as goal
+
+pub returns : goal.returns
+returns c = record {
+  once = one-snap;
+  apart = no-fault;
+}
