@@ -10,37 +10,43 @@ pub unjudged-0 : IsJudgement 0 → ⊥
 unjudged-0 (inl e) = absurd (omega arith)
 unjudged-0 (inr (inl e)) = absurd (omega arith)
 unjudged-0 (inr (inr (inl e))) = absurd (omega arith)
-unjudged-0 (inr (inr (inr e))) = absurd (omega arith)
+unjudged-0 (inr (inr (inr (inl e)))) = absurd (omega arith)
+unjudged-0 (inr (inr (inr (inr e)))) = absurd (omega arith)
 
 pub unjudged-2 : IsJudgement 2 → ⊥
 unjudged-2 (inl e) = absurd (omega arith)
 unjudged-2 (inr (inl e)) = absurd (omega arith)
 unjudged-2 (inr (inr (inl e))) = absurd (omega arith)
-unjudged-2 (inr (inr (inr e))) = absurd (omega arith)
+unjudged-2 (inr (inr (inr (inl e)))) = absurd (omega arith)
+unjudged-2 (inr (inr (inr (inr e)))) = absurd (omega arith)
 
 pub unjudged-3 : IsJudgement 3 → ⊥
 unjudged-3 (inl e) = absurd (omega arith)
 unjudged-3 (inr (inl e)) = absurd (omega arith)
 unjudged-3 (inr (inr (inl e))) = absurd (omega arith)
-unjudged-3 (inr (inr (inr e))) = absurd (omega arith)
+unjudged-3 (inr (inr (inr (inl e)))) = absurd (omega arith)
+unjudged-3 (inr (inr (inr (inr e)))) = absurd (omega arith)
 
 pub unjudged-4 : IsJudgement 4 → ⊥
 unjudged-4 (inl e) = absurd (omega arith)
 unjudged-4 (inr (inl e)) = absurd (omega arith)
 unjudged-4 (inr (inr (inl e))) = absurd (omega arith)
-unjudged-4 (inr (inr (inr e))) = absurd (omega arith)
+unjudged-4 (inr (inr (inr (inl e)))) = absurd (omega arith)
+unjudged-4 (inr (inr (inr (inr e)))) = absurd (omega arith)
 
 pub unjudged-5 : IsJudgement 5 → ⊥
 unjudged-5 (inl e) = absurd (omega arith)
 unjudged-5 (inr (inl e)) = absurd (omega arith)
 unjudged-5 (inr (inr (inl e))) = absurd (omega arith)
-unjudged-5 (inr (inr (inr e))) = absurd (omega arith)
+unjudged-5 (inr (inr (inr (inl e)))) = absurd (omega arith)
+unjudged-5 (inr (inr (inr (inr e)))) = absurd (omega arith)
 
 pub unjudged-8 : IsJudgement 8 → ⊥
 unjudged-8 (inl e) = absurd (omega arith)
 unjudged-8 (inr (inl e)) = absurd (omega arith)
 unjudged-8 (inr (inr (inl e))) = absurd (omega arith)
-unjudged-8 (inr (inr (inr e))) = absurd (omega arith)
+unjudged-8 (inr (inr (inr (inl e)))) = absurd (omega arith)
+unjudged-8 (inr (inr (inr (inr e)))) = absurd (omega arith)
 
 module _ (loads : Loads) (unwritten : Type 0) where
   -- why a command ended, with its status

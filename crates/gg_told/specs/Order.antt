@@ -17,9 +17,9 @@ pub data Order : Type 1 where
   Load : (file : File) (next : List ℕ → Order) → Order
   Write : (IsText : List ℕ → Type 0) → Order
 
--- a status with which the bytes of a file are refused: 1 for circuits, 6 for partitions, 7 for traces, 9 for steps
+-- a status with which the bytes of a file are refused: 1 for circuits, 6 for partitions, 7 for traces, 9 for steps, 10 for snapshots
 abbrev pub IsJudgement : ℕ → Type 0
-IsJudgement status = (status ≡ 1) ⊎ ((status ≡ 6) ⊎ ((status ≡ 7) ⊎ (status ≡ 9)))
+IsJudgement status = (status ≡ 1) ⊎ ((status ≡ 6) ⊎ ((status ≡ 7) ⊎ ((status ≡ 9) ⊎ (status ≡ 10))))
 
 -- This is such a text, and the only one.
 pub record IsOnly (IsText : List ℕ → Type 0) (text : List ℕ) : Type 0 where

@@ -6,7 +6,7 @@ use Rattle.clap.specs.Walk.{Row, Text}
 use Rattle.clap.specs.Simple.{subcommand_of}
 use Rattle.clap.specs.Kinds.{IsAmong}
 use Rattle.gg_words.specs.Line.{golden_app}
-use Rattle.gg_words.specs.Meaning.{FoundSays, IfWordFault, IsCommand, IsWordFault, check_of, demo_of, replay_of, run_of}
+use Rattle.gg_words.specs.Meaning.{FoundSays, IfWordFault, IsCommand, IsWordFault, check_of, demo_of, replay_of, resume_of, run_of, save_of}
 use Rattle.gg_words.specs.declared.command.Cmd.{Cmd}
 use Rattle.gg_words.specs.declared.command.WordFault.{WordFault}
 use Rattle.gg_words.specs.declared.command.WordFault.TheVariants.{Unexpected, Refused, WrongNumber, NoMemory}
@@ -16,19 +16,24 @@ use Rattle.gg_words.proofs.KindLaws.{taken-expected}
 found-once : (found : Option (Text × List Row)) (one other : Result Cmd Text) → FoundSays found one → FoundSays found other → one ≡ other
 found-once None one other says also = absurd says
 found-once (Some found) one other says also =
-    go (bytes_eq found.0 (codes "run")) (bytes_eq found.0 (codes "replay")) (bytes_eq found.0 (codes "check")) (bytes_eq found.0 (codes "demo")) says also
+    go (bytes_eq found.0 (codes "run")) (bytes_eq found.0 (codes "replay")) (bytes_eq found.0 (codes "check")) (bytes_eq found.0 (codes "demo"))
+    (bytes_eq found.0 (codes "save")) (bytes_eq found.0 (codes "resume")) says also
   where
-    go : (run replay check demo : Bool)
-        → cond run (one ≡ run_of found.1) (cond replay (one ≡ replay_of found.1) (cond check (one ≡ check_of found.1) (cond demo (one ≡ demo_of found.1) ⊥)))
-        → cond run (other ≡ run_of found.1) (cond replay (other ≡ replay_of found.1) (cond check (other ≡ check_of found.1) (cond demo (other ≡ demo_of found.1) ⊥)))
+    go : (run replay check demo save resume : Bool)
+        → cond run (one ≡ run_of found.1) (cond replay (one ≡ replay_of found.1) (cond check (one ≡ check_of found.1) (cond demo (one ≡ demo_of found.1)
+        (cond save (one ≡ save_of found.1) (cond resume (one ≡ resume_of found.1) ⊥)))))
+        → cond run (other ≡ run_of found.1) (cond replay (other ≡ replay_of found.1) (cond check (other ≡ check_of found.1) (cond demo (other ≡ demo_of found.1)
+        (cond save (other ≡ save_of found.1) (cond resume (other ≡ resume_of found.1) ⊥)))))
         → one ≡ other
-    go true replay check demo is also = is ∙ sym also
-    go false true check demo is also = is ∙ sym also
-    go false false true demo is also = is ∙ sym also
-    go false false false true is also = is ∙ sym also
-    go false false false false is also = absurd is
+    go true replay check demo save resume is also = is ∙ sym also
+    go false true check demo save resume is also = is ∙ sym also
+    go false false true demo save resume is also = is ∙ sym also
+    go false false false true save resume is also = is ∙ sym also
+    go false false false false true resume is also = is ∙ sym also
+    go false false false false false true is also = is ∙ sym also
+    go false false false false false false is also = absurd is
 
-abbrev is_said : Result Cmd Text → Bool
+abbrev pub is_said : Result Cmd Text → Bool
 is_said (Ok cmd) = true
 is_said (Err value) = false
 

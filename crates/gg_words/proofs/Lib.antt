@@ -6,7 +6,9 @@ pub mod UnexpectedLaws
 pub mod ApartLaws
 pub mod TakenLaws
 pub mod RangeLaws
+pub mod ReadLaws
 pub mod WorkedRows
 pub mod ReplayRows
 pub mod DemoRows
 pub mod UnexpectedRows
+pub mod SnapRows

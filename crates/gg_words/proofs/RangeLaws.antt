@@ -4,15 +4,15 @@ use Rattle.std.specs.Option.{option_map_or}
 use Rattle.std.specs.Str.{all_ascii_digits, bytes_eq}
 use Rattle.std.specs.Str.Parse.{digits_value}
 use Rattle.std.proofs.lemmas.Bool.{and_parts, leb-true}
-use Rattle.gg_limits.specs.Limits.{capacity_limit}
+use Rattle.gg_limits.specs.Limits.{capacity_limit, cycle_limit}
 use Rattle.clap.specs.Walk.{Row, Text, first_of}
 use Rattle.clap.specs.Simple.{subcommand_of}
 use Rattle.gg_words.specs.Line.{golden_app}
-use Rattle.gg_words.specs.Meaning.{FoundSays, IsCommand, capacity_of, check_of, demo_of, is_set, replay_of, run_of, seed_of, size_of, text_of, with_number, workers_of}
+use Rattle.gg_words.specs.Meaning.{FoundSays, IsCommand, at_of, capacity_of, check_of, demo_of, is_set, replay_of, resume_of, run_of, save_of, seed_of, size_of, text_of, with_number, workers_of}
 use Rattle.gg_words.specs.Number.{judged, number_of}
 use Rattle.gg_words.specs.Range.{AreInRange, IsCapacity, IsWithin, greatest_seed, most_stages, most_workers}
 use Rattle.gg_words.specs.declared.command.Cmd.{Cmd}
-use Rattle.gg_words.specs.declared.command.Cmd.TheVariants.{Run, Replay, Check, Demo}
+use Rattle.gg_words.specs.declared.command.Cmd.TheVariants.{Run, Replay, Check, Demo, Save, Resume}
 
 ok-same : {X E : Type 0} (x y : X) → ◌≡◌ {A = Result X E} (Ok x) (Ok y) → x ≡ y
 ok-same x y e = cc
@@ -76,18 +76,40 @@ module _ (rows : List Row) (cmd : Cmd) where
       subst AreInRange (ok-same (Demo s n w) cmd last)
       (judged-within 0 greatest_seed (text_of (codes "seed") rows) s seed, judged-within 1 most_stages (text_of (codes "size") rows) n size, workers-within rows w workers)))) is
 
-  said-within : (run replay check demo : Bool)
-      → cond run (Ok cmd ≡ run_of rows) (cond replay (Ok cmd ≡ replay_of rows) (cond check (Ok cmd ≡ check_of rows) (cond demo (Ok cmd ≡ demo_of rows) ⊥))) → AreInRange cmd
-  said-within true replay check demo is = run-within (sym is)
-  said-within false true check demo is = replay-within (sym is)
-  said-within false false true demo is = check-within (sym is)
-  said-within false false false true is = demo-within (sym is)
-  said-within false false false false is = absurd is
+  save-within : save_of rows ≡ Ok cmd → AreInRange cmd
+  save-within is =
+      let made : ℕ → ℕ → ℕ → Cmd =
+      λ a k w. Save (text_of (codes "circuit") rows) (text_of (codes "partition") rows) (text_of (codes "trace") rows) a k w in
+      from-number (at_of rows) (λ a. with_number (capacity_of rows) (λ k. with_number (workers_of rows) (λ w. Ok (made a k w)))) cmd (λ a at.
+      from-number (capacity_of rows) (λ k. with_number (workers_of rows) (λ w. Ok (made a k w))) cmd (λ k capacity.
+      from-number (workers_of rows) (λ w. Ok (made a k w)) cmd (λ w workers last.
+      subst AreInRange (ok-same (made a k w) cmd last)
+      (judged-within 0 cycle_limit (text_of (codes "at") rows) a at, capacity-within rows k capacity, workers-within rows w workers)))) is
+
+  resume-within : resume_of rows ≡ Ok cmd → AreInRange cmd
+  resume-within is =
+      let made : ℕ → ℕ → Cmd =
+      λ k w. Resume (text_of (codes "circuit") rows) (text_of (codes "partition") rows) (text_of (codes "trace") rows) (text_of (codes "snap") rows) k w in
+      from-number (capacity_of rows) (λ k. with_number (workers_of rows) (λ w. Ok (made k w))) cmd (λ k capacity.
+      from-number (workers_of rows) (λ w. Ok (made k w)) cmd (λ w workers last.
+      subst AreInRange (ok-same (made k w) cmd last) (capacity-within rows k capacity, workers-within rows w workers))) is
+
+  said-within : (run replay check demo save resume : Bool)
+      → cond run (Ok cmd ≡ run_of rows) (cond replay (Ok cmd ≡ replay_of rows) (cond check (Ok cmd ≡ check_of rows) (cond demo (Ok cmd ≡ demo_of rows)
+      (cond save (Ok cmd ≡ save_of rows) (cond resume (Ok cmd ≡ resume_of rows) ⊥))))) → AreInRange cmd
+  said-within true replay check demo save resume is = run-within (sym is)
+  said-within false true check demo save resume is = replay-within (sym is)
+  said-within false false true demo save resume is = check-within (sym is)
+  said-within false false false true save resume is = demo-within (sym is)
+  said-within false false false false true resume is = save-within (sym is)
+  said-within false false false false false true is = resume-within (sym is)
+  said-within false false false false false false is = absurd is
 
 found-within : (found : Option (Text × List Row)) (cmd : Cmd) → FoundSays found (Ok cmd) → AreInRange cmd
 found-within None cmd says = absurd says
 found-within (Some found) cmd says =
-    said-within found.1 cmd (bytes_eq found.0 (codes "run")) (bytes_eq found.0 (codes "replay")) (bytes_eq found.0 (codes "check")) (bytes_eq found.0 (codes "demo")) says
+    said-within found.1 cmd (bytes_eq found.0 (codes "run")) (bytes_eq found.0 (codes "replay")) (bytes_eq found.0 (codes "check")) (bytes_eq found.0 (codes "demo"))
+    (bytes_eq found.0 (codes "save")) (bytes_eq found.0 (codes "resume")) says
 
 pub command-within : (words : List Text) (cmd : Cmd) → IsCommand words cmd → AreInRange cmd
 command-within words cmd is = found-within (subcommand_of golden_app words) cmd is.found

@@ -13,7 +13,7 @@ use Rattle.clap.specs.Faults.{check_fault, defaults_fault, entered_fault, fault_
 use Rattle.clap.specs.Walk.{answers_to}
 use Rattle.clap.specs.declared.error.kind.ErrorKind.{ErrorKind}
 use Rattle.gg_words.specs.Line.{golden_app}
-use Rattle.gg_words.specs.Meaning.{HaveTexts, HasWords, run_files, replay_files, check_files, demo_numbers}
+use Rattle.gg_words.specs.Meaning.{HaveTexts, HasWords, run_files, replay_files, check_files, demo_numbers, save_words, resume_files}
 use Rattle.gg_words.proofs.FileLaws.{AreFull, find-all, find-passes, full-finished, full-walk, has_value}
 
 cons≢nil : (k : ErrorKind) (ks : Kinds) → k ∷ ks ≡ [] → ⊥
@@ -104,6 +104,12 @@ check_built = shape_at whole.subs 2
 abbrev demo_built : Shape
 demo_built = shape_at whole.subs 3
 
+abbrev save_built : Shape
+save_built = shape_at whole.subs 4
+
+abbrev resume_built : Shape
+resume_built = shape_at whole.subs 5
+
 -- one of these files was not given
 abbrev lacks : List Row → List Text → Bool
 lacks rows [] = false
@@ -141,25 +147,35 @@ check-texts words e = file-texts check_built.rules (λ x. refl) words check_file
 demo-texts : (words : List Text) → level_fault demo_built [] nothing_held words false [] ≡ [] → HaveTexts demo_numbers (rows_at demo_built words).1
 demo-texts words e = file-texts demo_built.rules (λ x. refl) words demo_numbers refl (none-lacking demo_built words demo_numbers refl e)
 
+save-texts : (words : List Text) → level_fault save_built [] nothing_held words false [] ≡ [] → HaveTexts save_words (rows_at save_built words).1
+save-texts words e = file-texts save_built.rules (λ x. refl) words save_words refl (none-lacking save_built words save_words refl e)
+
+resume-texts : (words : List Text) → level_fault resume_built [] nothing_held words false [] ≡ [] → HaveTexts resume_files (rows_at resume_built words).1
+resume-texts words e = file-texts resume_built.rules (λ x. refl) words resume_files refl (none-lacking resume_built words resume_files refl e)
+
 -- the command that is entered: the first of these whose test holds
-abbrev entering : (run replay check demo : Bool) → Option Shape
-entering run replay check demo = cond run (Some run_built) (cond replay (Some replay_built) (cond check (Some check_built) (cond demo (Some demo_built) None)))
+abbrev entering : (run replay check demo save resume : Bool) → Option Shape
+entering run replay check demo save resume = cond run (Some run_built) (cond replay (Some replay_built) (cond check (Some check_built) (cond demo (Some demo_built)
+    (cond save (Some save_built) (cond resume (Some resume_built) None)))))
 
 -- what the command that was entered requires
-by-command : (words : List Text) (run replay check demo : Bool)
-    → option_map_or (λ (s : Shape). level_fault s [] nothing_held words false []) (entering run replay check demo) [] ≡ []
-    → is_some (option_map (λ (s : Shape). rows_at s words) (entering run replay check demo)) ≡ true
-    → HasWords (option_map (λ (s : Shape). rows_at s words) (entering run replay check demo))
-by-command words true replay check demo none met = inl (refl, run-texts words none)
-by-command words false true check demo none met = inr (inl (refl, replay-texts words none))
-by-command words false false true demo none met = inr (inr (inl (refl, check-texts words none)))
-by-command words false false false true none met = inr (inr (inr (refl, demo-texts words none)))
-by-command words false false false false none met = absurd (true≢false (sym met))
+by-command : (words : List Text) (run replay check demo save resume : Bool)
+    → option_map_or (λ (s : Shape). level_fault s [] nothing_held words false []) (entering run replay check demo save resume) [] ≡ []
+    → is_some (option_map (λ (s : Shape). rows_at s words) (entering run replay check demo save resume)) ≡ true
+    → HasWords (option_map (λ (s : Shape). rows_at s words) (entering run replay check demo save resume))
+by-command words true replay check demo save resume none met = inl (refl, run-texts words none)
+by-command words false true check demo save resume none met = inr (inl (refl, replay-texts words none))
+by-command words false false true demo save resume none met = inr (inr (inl (refl, check-texts words none)))
+by-command words false false false true save resume none met = inr (inr (inr (inl (refl, demo-texts words none))))
+by-command words false false false false true resume none met = inr (inr (inr (inr (inl (refl, save-texts words none)))))
+by-command words false false false false false true none met = inr (inr (inr (inr (inr (refl, resume-texts words none)))))
+by-command words false false false false false false none met = absurd (true≢false (sym met))
 
 entered-names : (stop : Option (Text × List Text)) → entered_fault whole stop ≡ [] → is_some (entered whole stop) ≡ true → HasWords (entered whole stop)
 entered-names None none met = absurd (true≢false (sym met))
 entered-names (Some p) none met =
-    by-command p.1 (answers_to p.0 (label_of run_built)) (answers_to p.0 (label_of replay_built)) (answers_to p.0 (label_of check_built)) (answers_to p.0 (label_of demo_built)) none met
+    by-command p.1 (answers_to p.0 (label_of run_built)) (answers_to p.0 (label_of replay_built)) (answers_to p.0 (label_of check_built)) (answers_to p.0 (label_of demo_built))
+    (answers_to p.0 (label_of save_built)) (answers_to p.0 (label_of resume_built)) none met
 
 pub taken-names : (words : List Text) → fault_of golden_app words ≡ [] → HasWords (subcommand_of golden_app words)
 taken-names words e =

@@ -79,3 +79,15 @@ value-missing = refl
 twice : has_unexpected (line (codes "run" ∷ codes "c" ∷ codes "p" ∷ codes "t" ∷ codes "--mono" ∷ codes "--mono" ∷ [])) ≡ false
 unfolding has_unexpected clap_on_literals
 twice = refl
+
+save-mono : IsUnexpected (line (codes "save" ∷ codes "c" ∷ codes "p" ∷ codes "t" ∷ codes "3" ∷ codes "--mono" ∷ [])) (codes "--mono")
+unfolding has_unexpected clap_on_literals
+save-mono = row _ _ 6 (record { refused = refl; stands = refl; here = refl; clean = refl })
+
+save-one-word-more : IsUnexpected (line (codes "save" ∷ codes "c" ∷ codes "p" ∷ codes "t" ∷ codes "3" ∷ codes "s" ∷ [])) (codes "s")
+unfolding has_unexpected clap_on_literals
+save-one-word-more = row _ _ 6 (record { refused = refl; stands = refl; here = refl; clean = refl })
+
+resume-at : IsUnexpected (line (codes "resume" ∷ codes "c" ∷ codes "p" ∷ codes "t" ∷ codes "s" ∷ codes "--at" ∷ codes "3" ∷ [])) (codes "--at")
+unfolding has_unexpected clap_on_literals
+resume-at = row _ _ 6 (record { refused = refl; stands = refl; here = refl; clean = refl })

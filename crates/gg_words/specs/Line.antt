@@ -37,6 +37,18 @@ check_rules = word_rule (codes "circuit") ∷ word_rule (codes "partition") ∷ 
 abbrev pub demo_rules : List Rule
 demo_rules = word_rule (codes "seed") ∷ word_rule (codes "size") ∷ value_rule (codes "workers") ∷ []
 
+-- `save CIRCUIT PARTITION TRACE AT [--capacity K] [--workers W]`
+abbrev pub save_rules : List Rule
+save_rules =
+    word_rule (codes "circuit") ∷ word_rule (codes "partition") ∷ word_rule (codes "trace") ∷ word_rule (codes "at")
+    ∷ value_rule (codes "capacity") ∷ value_rule (codes "workers") ∷ []
+
+-- `resume CIRCUIT PARTITION TRACE SNAP [--capacity K] [--workers W]`
+abbrev pub resume_rules : List Rule
+resume_rules =
+    word_rule (codes "circuit") ∷ word_rule (codes "partition") ∷ word_rule (codes "trace") ∷ word_rule (codes "snap")
+    ∷ value_rule (codes "capacity") ∷ value_rule (codes "workers") ∷ []
+
 -- a command of the program
 abbrev pub command_shape : Text → List Rule → Shape
 command_shape name rules = record (new_shape name) { rules = rules }
@@ -53,6 +65,12 @@ check_shape = command_shape (codes "check") check_rules
 abbrev pub demo_shape : Shape
 demo_shape = command_shape (codes "demo") demo_rules
 
+abbrev pub save_shape : Shape
+save_shape = command_shape (codes "save") save_rules
+
+abbrev pub resume_shape : Shape
+resume_shape = command_shape (codes "resume") resume_rules
+
 -- The program: it requires a command, and has no words that ask for help.
 abbrev pub golden_app : App
 golden_app = record {
@@ -62,5 +80,5 @@ golden_app = record {
     disable_help_subcommand = true;
     subcommand_required = true;
   };
-  subs = run_shape ∷ replay_shape ∷ check_shape ∷ demo_shape ∷ [];
+  subs = run_shape ∷ replay_shape ∷ check_shape ∷ demo_shape ∷ save_shape ∷ resume_shape ∷ [];
 }

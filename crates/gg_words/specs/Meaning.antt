@@ -3,7 +3,7 @@
 use Rattle.std.specs.Prelude.{◌≡◌, ◌⊎◌, ℕ, Bool, true, false, List, [], ◌∷◌, Option, None, Some, is_some, Result, Ok, Err, MatchResult, String, codes, cond, map, string_bytes, unwrap_or, ⊤}
 use Rattle.std.specs.Option.{option_map_or}
 use Rattle.std.specs.Str.{bytes_eq}
-use Rattle.gg_limits.specs.Limits.{capacity_limit}
+use Rattle.gg_limits.specs.Limits.{capacity_limit, cycle_limit}
 use Rattle.clap.specs.Walk.{Row, Text, first_of}
 use Rattle.clap.specs.Simple.{subcommand_of}
 use Rattle.clap.specs.Faults.{fault_of}
@@ -13,7 +13,7 @@ use Rattle.gg_words.specs.Number.{judged, number_of}
 use Rattle.gg_words.specs.Unexpected.{IsUnexpected, has_unexpected}
 use Rattle.gg_words.specs.Range.{greatest_seed, most_stages, most_workers}
 use Rattle.gg_words.specs.declared.command.Cmd.{Cmd}
-use Rattle.gg_words.specs.declared.command.Cmd.TheVariants.{Run, Replay, Check, Demo}
+use Rattle.gg_words.specs.declared.command.Cmd.TheVariants.{Run, Replay, Check, Demo, Save, Resume}
 use Rattle.gg_words.specs.declared.command.WordFault.{WordFault}
 use Rattle.gg_words.specs.declared.command.WordFault.TheVariants.{Unexpected, Refused, WrongNumber, NoMemory}
 
@@ -42,6 +42,10 @@ seed_of rows = judged 0 greatest_seed (text_of (codes "seed") rows)
 abbrev pub size_of : List Row → Result ℕ Text
 size_of rows = judged 1 most_stages (text_of (codes "size") rows)
 
+-- the cycle of a snapshot that is to be saved: 0 to 1,000,000
+abbrev pub at_of : List Row → Result ℕ Text
+at_of rows = judged 0 cycle_limit (text_of (codes "at") rows)
+
 -- the result of a function of a number, or the value that isn't a number
 abbrev pub with_number : Result ℕ Text → (ℕ → Result Cmd Text) → Result Cmd Text
 with_number (Ok n) next = next n
@@ -69,12 +73,26 @@ abbrev pub demo_of : List Row → Result Cmd Text
 demo_of rows = with_number (seed_of rows) (λ seed. with_number (size_of rows) (λ size. with_number (workers_of rows) (λ workers.
     Ok (Demo seed size workers))))
 
+-- the same for `save`
+abbrev pub save_of : List Row → Result Cmd Text
+save_of rows = with_number (at_of rows) (λ at. with_number (capacity_of rows) (λ capacity. with_number (workers_of rows) (λ workers.
+    Ok (Save (text_of (codes "circuit") rows) (text_of (codes "partition") rows) (text_of (codes "trace") rows)
+    at capacity workers))))
+
+-- the same for `resume`
+abbrev pub resume_of : List Row → Result Cmd Text
+resume_of rows = with_number (capacity_of rows) (λ capacity. with_number (workers_of rows) (λ workers.
+    Ok (Resume (text_of (codes "circuit") rows) (text_of (codes "partition") rows) (text_of (codes "trace") rows)
+    (text_of (codes "snap") rows) capacity workers)))
+
 -- what was found under the command's name says this
 abbrev pub CommandSays : Text → List Row → Result Cmd Text → Type 0
 CommandSays name rows said = cond (bytes_eq name (codes "run")) (said ≡ run_of rows)
     (cond (bytes_eq name (codes "replay")) (said ≡ replay_of rows)
     (cond (bytes_eq name (codes "check")) (said ≡ check_of rows)
-    (cond (bytes_eq name (codes "demo")) (said ≡ demo_of rows) ⊥)))
+    (cond (bytes_eq name (codes "demo")) (said ≡ demo_of rows)
+    (cond (bytes_eq name (codes "save")) (said ≡ save_of rows)
+    (cond (bytes_eq name (codes "resume")) (said ≡ resume_of rows) ⊥)))))
 
 abbrev pub FoundSays : Option (Text × List Row) → Result Cmd Text → Type 0
 FoundSays None said = ⊥
@@ -132,11 +150,18 @@ check_files = codes "circuit" ∷ codes "partition" ∷ []
 abbrev pub demo_numbers : List Text
 demo_numbers = codes "seed" ∷ codes "size" ∷ []
 
+abbrev pub save_words : List Text
+save_words = codes "circuit" ∷ codes "partition" ∷ codes "trace" ∷ codes "at" ∷ []
+
+abbrev pub resume_files : List Text
+resume_files = codes "circuit" ∷ codes "partition" ∷ codes "trace" ∷ codes "snap" ∷ []
+
 -- a command was found, and each word that it requires was given
 abbrev pub HasWords : Option (Text × List Row) → Type 0
 HasWords None = ⊥
 HasWords (Some found) = ((found.0 ≡ codes "run") × HaveTexts run_files found.1) ⊎ ((found.0 ≡ codes "replay") × HaveTexts replay_files found.1)
     ⊎ ((found.0 ≡ codes "check") × HaveTexts check_files found.1) ⊎ ((found.0 ≡ codes "demo") × HaveTexts demo_numbers found.1)
+    ⊎ ((found.0 ≡ codes "save") × HaveTexts save_words found.1) ⊎ ((found.0 ≡ codes "resume") × HaveTexts resume_files found.1)
 
 -- the texts of the words
 abbrev pub texts : {Y : Type 0} → List (String Y) → List Text

@@ -55,6 +55,36 @@ pub enum Cmd {
         /// The number of workers, at most 64.
         workers: u32,
     },
+    /// `save`: runs a circuit on a trace up to a cycle, and gives a snapshot of its state there.
+    Save {
+        /// The circuit's file.
+        circuit: Name,
+        /// The partition's file.
+        partition: Name,
+        /// The trace's file.
+        trace: Name,
+        /// The cycle before which the state is saved, at most 1,000,000.
+        at: u32,
+        /// The capacity of channels, 1 to 4,096.
+        capacity: u32,
+        /// The number of workers, at most 64.
+        workers: u32,
+    },
+    /// `resume`: runs a circuit on a trace from a snapshot on.
+    Resume {
+        /// The circuit's file.
+        circuit: Name,
+        /// The partition's file.
+        partition: Name,
+        /// The trace's file.
+        trace: Name,
+        /// The snapshot's file.
+        snap: Name,
+        /// The capacity of channels, 1 to 4,096.
+        capacity: u32,
+        /// The number of workers, at most 64.
+        workers: u32,
+    },
 }
 
 /// Why words aren't a command.
@@ -67,7 +97,7 @@ pub enum WordFault {
     /// allocation.
     Refused(ErrorKind),
     /// `clap` takes them, and this value isn't a number in its range. It is the first such value: a demo's seed before its
-    /// size, then the capacity, then the workers.
+    /// size, or the cycle of a snapshot, then the capacity, then the workers.
     WrongNumber(Name),
     /// An allocation failed.
     NoMemory,

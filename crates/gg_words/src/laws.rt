@@ -9,14 +9,14 @@ ghost use Rattle.gg_words.specs.Range.{AreInRange};
 ghost use Rattle.gg_words.specs.declared.command.Cmd.{Cmd};
 ghost use Rattle.gg_words.specs.declared.command.WordFault.{WordFault};
 
-/// If `clap` takes words, it finds a command in them, and each word that the command requires is given: its files, or a
-/// demo's seed and size.
+/// If `clap` takes words, it finds a command in them, and each word that the command requires is given: its files, a
+/// snapshot's cycle, or a demo's seed and size.
 pub fn words_are_given()
     ensures { (words : List (List ℕ)) → fault_of golden_app words ≡ [] → HasWords (subcommand_of golden_app words) }
 {}
 
 /// The numbers of a command are in their ranges: the capacity is 1 to 4,096, the number of workers is at most 64, a demo's
-/// seed is at most 4,294,967,295, and its size is 1 to 64.
+/// seed is at most 4,294,967,295, its size is 1 to 64, and the cycle of a snapshot is at most 1,000,000.
 pub fn numbers_are_in_range()
     ensures { (words : List (List ℕ)) (cmd : Cmd) → IsCommand words cmd → AreInRange cmd }
 {}

@@ -8,14 +8,14 @@ ghost use Rattle.clap.specs.Kinds.{IsAmong};
 ghost use Rattle.gg_words.specs.Line.{golden_app};
 ghost use Rattle.gg_words.specs.Unexpected.{IsUnexpected, has_unexpected, is_for_word};
 ghost use Rattle.gg_words.specs.Number.{judged, number_of};
-ghost use Rattle.gg_words.specs.Meaning.{Answers, FoundSays, IfWordFault, IsCommand, IsWordFault, HasWords, SaysFault, capacity_of, check_of, demo_of, is_set, replay_of, run_of, text_of, texts, workers_of};
+ghost use Rattle.gg_words.specs.Meaning.{Answers, FoundSays, IfWordFault, IsCommand, IsWordFault, HasWords, SaysFault, at_of, capacity_of, check_of, demo_of, is_set, replay_of, resume_of, run_of, save_of, text_of, texts, workers_of};
 ghost use Rattle.gg_words.specs.declared.command.Cmd.{Cmd};
 ghost use Rattle.gg_words.specs.declared.command.WordFault.{WordFault};
 
 use crate::command::{Cmd, WordFault};
 use crate::laws::{one_meaning, words_are_given};
 use crate::line::golden_line;
-use crate::numbers::{GREATEST_SEED, MOST_STAGES, MOST_WORKERS, number_in};
+use crate::numbers::{GREATEST_SEED, LATEST_CYCLE, MOST_STAGES, MOST_WORKERS, number_in};
 use clap::ArgMatches;
 use clap::error::ErrorKind;
 use gg_bits::Name;
@@ -156,6 +156,46 @@ fn demo_of(alloc: Global, matches: &ArgMatches<'_>) -> Result<Cmd, WordFault>
     })
 }
 
+// The cycle of a snapshot.
+fn at_of(alloc: Global, matches: &ArgMatches<'_>) -> Result<u32, WordFault>
+    ensures { Answers result (at_of (rows_of (found_of matches.now))) }
+{
+    number_at(alloc, matches, "at", 0, LATEST_CYCLE)
+}
+
+// The command `save`.
+fn save_of(alloc: Global, matches: &ArgMatches<'_>) -> Result<Cmd, WordFault>
+    ensures { Answers result (save_of (rows_of (found_of matches.now))) }
+{
+    let at = at_of(alloc, matches)?;
+    let capacity = capacity_of(alloc, matches)?;
+    let workers = workers_of(alloc, matches)?;
+    Ok(Cmd::Save {
+        circuit: name_of(alloc, matches, "circuit")?,
+        partition: name_of(alloc, matches, "partition")?,
+        trace: name_of(alloc, matches, "trace")?,
+        at,
+        capacity,
+        workers,
+    })
+}
+
+// The command `resume`.
+fn resume_of(alloc: Global, matches: &ArgMatches<'_>) -> Result<Cmd, WordFault>
+    ensures { Answers result (resume_of (rows_of (found_of matches.now))) }
+{
+    let capacity = capacity_of(alloc, matches)?;
+    let workers = workers_of(alloc, matches)?;
+    Ok(Cmd::Resume {
+        circuit: name_of(alloc, matches, "circuit")?,
+        partition: name_of(alloc, matches, "partition")?,
+        trace: name_of(alloc, matches, "trace")?,
+        snap: name_of(alloc, matches, "snap")?,
+        capacity,
+        workers,
+    })
+}
+
 // The command that was found.
 fn command_of(alloc: Global, matches: &ArgMatches<'_>) -> Result<Cmd, WordFault>
     requires { HasWords (subcommand_rows_of matches.now) }
@@ -166,7 +206,9 @@ fn command_of(alloc: Global, matches: &ArgMatches<'_>) -> Result<Cmd, WordFault>
         "run" => run_of(alloc, inner),
         "replay" => replay_of(alloc, inner),
         "check" => check_of(alloc, inner),
-        _ => demo_of(alloc, inner),
+        "demo" => demo_of(alloc, inner),
+        "save" => save_of(alloc, inner),
+        _ => resume_of(alloc, inner),
     }
 }
 
@@ -246,17 +288,19 @@ fn read_words(alloc: Global, words: &[String]) -> Result<Cmd, WordFault>
 /// - `replay CIRCUIT PARTITION TRACE STEPS [--capacity K]`
 /// - `check CIRCUIT PARTITION [--capacity K]`
 /// - `demo SEED SIZE [--workers W]`
+/// - `save CIRCUIT PARTITION TRACE AT [--capacity K] [--workers W]`
+/// - `resume CIRCUIT PARTITION TRACE SNAP [--capacity K] [--workers W]`
 ///
 /// Options may be anywhere after the command's name, at most once each. A value is given after `=` or as the next
-/// word. After `--` each word is a file, or a demo's number, so a file whose name begins with `-` needs `--` before it. K is
-/// 1 to 4,096, and 2 by default. W is 0 to 64, and 0 by default. SEED is 0 to 4,294,967,295, and SIZE is 1 to 64. A number
-/// is one or more decimal digits, and may have leading zeros.
+/// word. After `--` each word is a file or a number that stands by its place, so a file whose name begins with `-` needs
+/// `--` before it. K is 1 to 4,096, and 2 by default. W is 0 to 64, and 0 by default. SEED is 0 to 4,294,967,295, SIZE is 1
+/// to 64, and AT is 0 to 1,000,000. A number is one or more decimal digits, and may have leading zeros.
 ///
 /// # Errors
 ///
 /// Returns `Unexpected` with the word because of which `clap` refuses the words, also if it asks for help. Returns
 /// `Refused` if `clap` refuses them for another reason. Else returns `WrongNumber` with the first value, in the order SEED,
-/// SIZE, K, W, that isn't a number in its range. Returns `NoMemory` if an allocation fails.
+/// SIZE, AT, K, W, that isn't a number in its range. Returns `NoMemory` if an allocation fails.
 pub fn words(alloc: Global, words: &[String]) -> Result<Cmd, WordFault>
     // The result is the command that the words are.
     ensures command { IfOk result (IsCommand (texts words.now)) }
