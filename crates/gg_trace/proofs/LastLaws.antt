@@ -1,5 +1,5 @@
 -- How many rows of a run are written.
-use Rattle.std.proofs.Common.{◌≡◌, ℕ, zero, suc, ◌<◌, ◌≤◌, Bool, true, false, true≢false, refl, sym, ap, ◌∙◌, inl, inr, ◌⊎◌, arith}
+use Rattle.std.proofs.Common.{◌≡◌, ℕ, zero, suc, ◌+◌, ◌-◌, ◌<◌, ◌≤◌, Bool, true, false, true≢false, refl, sym, ap, ◌∙◌, inl, inr, ◌⊎◌, arith}
 use Rattle.std.specs.Prelude.{◌||◌, if◌then◌else◌}
 use Rattle.std.proofs.lemmas.Bool.{cases_Bool, or_from, or_left, or_parts}
 use Rattle.std.proofs.Math.Nat.{eq-or-lt_of_le}
@@ -86,6 +86,59 @@ module _ (is_halt : ℕ → Bool) where
 
   pub halts-none : (n : ℕ) → ((t : ℕ) → t < n → is_halt t ≡ false) → row_count is_halt n ≡ n
   halts-none n none = rows-all n (none-halted n none)
+
+  -- Counted from a cycle on before which the run isn't halted, it is halted where the whole run is, and the rows are those that are left.
+  halted-later : (begin : ℕ) → has_halted is_halt begin ≡ false → (n : ℕ) → has_halted (λ k. is_halt (begin + k)) n ≡ has_halted is_halt (begin + n)
+  halted-later begin none zero = let e : begin + 0 ≡ begin = omega arith in sym (ap (has_halted is_halt) e ∙ none)
+  halted-later begin none (suc n) =
+      let e : begin + suc n ≡ suc (begin + n) = omega arith in
+      ap (λ b. b || is_halt (begin + n)) (halted-later begin none n) ∙ sym (ap (has_halted is_halt) e)
+
+  rows-later : (begin : ℕ) → has_halted is_halt begin ≡ false → (n : ℕ) → begin + row_count (λ k. is_halt (begin + k)) n ≡ row_count is_halt (begin + n)
+  rows-later begin none zero = let e : begin + 0 ≡ begin = omega arith in e ∙ sym (ap (row_count is_halt) e ∙ rows-all begin none)
+  rows-later begin none (suc n) = go (cases_Bool (has_halted is_halt (begin + n))) (halted-later begin none n) (rows-later begin none n)
+    where
+      later : ℕ → Bool
+      later k = is_halt (begin + k)
+
+      e : begin + suc n ≡ suc (begin + n)
+      e = omega arith
+
+      go : (has_halted is_halt (begin + n) ≡ true) ⊎ (has_halted is_halt (begin + n) ≡ false) → has_halted later n ≡ has_halted is_halt (begin + n)
+          → begin + row_count later n ≡ row_count is_halt (begin + n) → begin + row_count later (suc n) ≡ row_count is_halt (begin + suc n)
+      go (inl halted) same before =
+          ap (λ b. begin + (if b then row_count later n else suc n)) (same ∙ halted) ∙ before
+          ∙ sym (ap (row_count is_halt) e ∙ ap (λ b. if b then row_count is_halt (begin + n) else suc (begin + n)) halted)
+      go (inr quiet) same before =
+          ap (λ b. begin + (if b then row_count later n else suc n)) (same ∙ quiet) ∙ e
+          ∙ sym (ap (row_count is_halt) e ∙ rows-next (begin + n) quiet)
+
+  pub rows-from-zero : (n : ℕ) → row_count (λ k. is_halt (0 + k)) n ≡ row_count is_halt n
+  rows-from-zero n =
+      let e : 0 + n ≡ n = omega arith in
+      omega (arith, rows-later 0 refl n, ap (row_count is_halt) e)
+
+  -- If no cycle before this one halts the run, but for the last of all n cycles, then each cycle before it has a row, and the rows from it
+  -- on are those that are left.
+  pub rows-before : (begin n : ℕ) → begin ≤ n → ((t : ℕ) → t < begin → t + 1 < n → is_halt t ≡ false) → begin ≤ row_count is_halt n
+  rows-before begin zero le none = omega (arith, le)
+  rows-before begin (suc n) le none =
+      elim (eq-or-lt_of_le {n = begin} {m = suc n} le) [
+        | inl e ↦ omega (arith, e, rows-next n (none-halted n (λ t lt. none t (omega (arith, e, lt)) (omega (arith, lt)))))
+        | inr lt ↦ rows-open begin (suc n) le (none-halted begin (λ t low. none t low (omega (arith, low, lt))))
+      ]
+
+  pub rows-since : (begin n : ℕ) → begin ≤ n → ((t : ℕ) → t < begin → t + 1 < n → is_halt t ≡ false)
+      → row_count (λ k. is_halt (begin + k)) (n - begin) ≡ row_count is_halt n - begin
+  rows-since begin n le none =
+      elim (eq-or-lt_of_le {n = begin} {m = n} le) [
+        | inl e ↦
+            let left : n - begin ≡ 0 = omega (arith, e) in
+            ap (row_count (λ k. is_halt (begin + k))) left ∙ omega (arith, e, rows-within n)
+        | inr lt ↦
+            let back : begin + (n - begin) ≡ n = omega (arith, le) in
+            omega (arith, rows-later begin (none-halted begin (λ t low. none t low (omega (arith, low, lt)))) (n - begin), ap (row_count is_halt) back)
+      ]
 
 -- Two tests that agree in all cycles that have a row by one of them give the same number of rows.
 pub rows-agree : (one other : ℕ → Bool) (n : ℕ) → ((t : ℕ) → t < row_count one n → one t ≡ other t) → (has_halted one n ≡ has_halted other n) × (row_count one n ≡ row_count other n)

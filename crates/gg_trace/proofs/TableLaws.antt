@@ -2,7 +2,7 @@
 use Rattle.std.proofs.Common.{◌≡◌, ℕ, ◌+◌, ◌*◌, ◌<◌, ◌≤◌, List, [], ◌∷◌, ◌++◌, map, length, get_or, take, drop, sym, ap, ◌∙◌, arith, length-drop}
 use Rattle.std.specs.List.{range_with_len}
 use Rattle.std.proofs.lemmas.List.{get_or-map, get_or-take, get_or-drop, get_or_default, same_lists, length-map, length-take-le}
-use Rattle.std.proofs.lemmas.List.FromFn.{get_or-map-range_with_len, length-map-range_with_len, map-range_with_len_more}
+use Rattle.std.proofs.lemmas.List.FromFn.{get_or-map-range_with_len, length-map-range_with_len, map-range_with_len_more, take-map-range_with_len}
 use Rattle.std.proofs.lemmas.Nat.{mul-add-lt}
 use Rattle.gg_trace.specs.Table.{table_of, row_of}
 
@@ -51,3 +51,32 @@ row_in rows width cells r size h =
 -- a column with one more row
 pub column_more : (rows width : ℕ) (cells : List ℕ) (i : ℕ) → column_in (rows + 1) width cells i ≡ column_in rows width cells i ++ get_or cells (rows * width + i) 0 ∷ []
 column_more rows width cells i = map-range_with_len_more (λ r. get_or cells (r * width + i) 0) 0 rows rows (omega arith)
+
+-- the table of the first rows has the front part of each column
+pub first-rows : (rows width : ℕ) (cells : List ℕ) (n : ℕ) → n ≤ rows
+    → table_of n width (take (n * width) cells) ≡ record { rows = n; columns = map (take n) (table_of rows width cells).columns }
+first-rows rows width cells n le = ap (λ (columns : List (List ℕ)). record { rows = n; columns = columns }) same
+  where
+    front : List ℕ
+    front = take (n * width) cells
+
+    column : (i : ℕ) → i < width → column_in n width front i ≡ take n (column_in rows width cells i)
+    column i inside =
+        same_lists _ _ (length-column n width front i ∙ sym (length-column n width cells i)) (λ r d before.
+        let lt : r < n = omega (arith, before, length-column n width front i) in
+        get_or-map-range_with_len (λ q. get_or front (q * width + i) 0) 0 n r r d lt (omega arith)
+        ∙ get_or-take (n * width) cells (r * width + i) 0 (omega (arith, mul-add-lt r width i n lt inside))
+        ∙ sym (get_or-map-range_with_len (λ q. get_or cells (q * width + i) 0) 0 n r r d lt (omega arith)))
+        ∙ sym (take-map-range_with_len (λ r. get_or cells (r * width + i) 0) 0 rows n le)
+
+    all : List (List ℕ)
+    all = (table_of rows width cells).columns
+
+    same : (table_of n width front).columns ≡ map (take n) all
+    same =
+        same_lists _ _ (length-columns n width front ∙ sym (length-map all (take n) ∙ length-columns rows width cells)) (λ i d before.
+        let lt : i < width = omega (arith, before, length-columns n width front) in
+        get_or-map-range_with_len (column_in n width front) 0 width i i d lt (omega arith)
+        ∙ column i lt
+        ∙ ap (take n) (sym (column_at rows width cells i lt))
+        ∙ sym (get_or-map (take n) all i [] d (omega (arith, lt, length-columns rows width cells))))

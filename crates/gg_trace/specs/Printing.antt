@@ -28,7 +28,11 @@ values_text (p ∷ ports) (v ∷ values) = (32 ∷ hex_digits (digit_count p.ty.
 abbrev pub row_line : List Port → ℕ → List ℕ → List ℕ
 row_line ports cycle values = decimal cycle ++ values_text ports values ++ 10 ∷ []
 
+-- The text of a trace that begins with a cycle: the header, then a row for each of n cycles from that one on.
+abbrev pub text_from : List Port → List (List ℕ) → (begin n : ℕ) → List ℕ
+text_from ports columns begin zero = header_line ports
+text_from ports columns begin (suc n) = text_from ports columns begin n ++ row_line ports (begin + n) (row_of columns (begin + n))
+
 -- The text of a trace: the header, then a row for each of the first n cycles.
 abbrev pub trace_text : List Port → List (List ℕ) → ℕ → List ℕ
-trace_text ports columns zero = header_line ports
-trace_text ports columns (suc n) = trace_text ports columns n ++ row_line ports n (row_of columns n)
+trace_text ports columns n = text_from ports columns 0 n

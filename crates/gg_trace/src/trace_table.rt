@@ -1,6 +1,6 @@
 //! An input trace: a value for each port in each row.
 
-ghost use Rattle.std.specs.Prelude.{◌≡◌, ℕ, ◌+◌, ◌*◌, ◌<◌, ◌≤◌, [], IfOk, map, length, slice_index, slice_index_or};
+ghost use Rattle.std.specs.Prelude.{◌≡◌, ℕ, ◌+◌, ◌*◌, ◌<◌, ◌≤◌, [], IfOk, map, take, length, slice_index, slice_index_or};
 ghost use Rattle.std.specs.List.{range_with_len};
 ghost use Rattle.gg_limits.specs.Limits.{cycle_limit};
 ghost use Rattle.gg_trace.specs.Table.{row_of, table_of};
@@ -67,6 +67,24 @@ impl Trace {
         ensures { result ≡ length self.now.columns }
     {
         self.inputs
+    }
+
+    /// The first rows, as many as `rows` says. Does not allocate.
+    pub fn first_rows(self, rows: u64) -> Trace
+        requires { rows ≤ self.rows }
+        ensures { result ≡ record { rows = rows; columns = map (take rows) self.columns } }
+    {
+        let Self {
+            rows: _,
+            inputs,
+            mut cells,
+        } = self;
+        cells.truncate(rows as usize * inputs);
+        Trace {
+            rows: rows as usize,
+            inputs,
+            cells,
+        }
     }
 
     /// The values of one row, in port order.

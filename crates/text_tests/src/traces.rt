@@ -146,6 +146,28 @@ fn texts(rt: HostRuntime) {
     }
 }
 
+/// How many rows are kept of a trace of three, and what is left.
+static FIRST: [(u64, Column); 3] = [
+    (2, (0, &[10, 11], &[11, 2])),
+    (2, (1, &[1, 2], &[11, 2])),
+    (0, (1, &[], &[])),
+];
+
+/// Whether the first rows of a trace of three, so many, have this column and this last row.
+fn has_first(alloc: Global, rows: u64, column: &Column) -> bool {
+    match read(alloc, XAndY, b"cycle x y\n0 a 1\n1 b 2\n2 c 3\n") {
+        Ok(trace) => rows <= trace.rows() && has(alloc, &trace.first_rows(rows), column),
+        Err(_) => false,
+    }
+}
+
+#[test]
+fn first_rows(rt: HostRuntime) {
+    for (rows, column) in &FIRST {
+        assert!(rt; has_first(rt.alloc(), *rows, column), "{rows}: {column:?}");
+    }
+}
+
 /// How many rows are read of a trace with so many rows and no ports.
 fn rows_of(alloc: Global, rows: u64) -> Result<u64, TraceFault> {
     let mut text = String::from_str(alloc, "cycle\n")?;
