@@ -97,7 +97,7 @@ same-circuit circuit views seen kept =
     signal-same s own = ap (λ driver. let one : Signal = record { ty = own.ty; driver = driver } in one) (driver-same (views.seen (views.maker s)) (seen (views.maker s)) own.driver)
 
 module _ (hub : Hub) (holder keeper : ℕ → ℕ) (none : pipes_of hub ≡ []) where
-  taken-same : (s : ℕ) → taken_as hub s ≡ s
+  pub taken-same : (s : ℕ) → taken_as hub s ≡ s
   taken-same s = ap (λ pipes. pipe_or count s (first_place (λ p. p == s) pipes)) none
     where
       count : ℕ
@@ -117,7 +117,7 @@ module _ (hub : Hub) (holder keeper : ℕ → ℕ) (none : pipes_of hub ≡ []) 
 
 -- ---- a request that asks for no pipe
 
-filter-none : {A : Type 0} (test : A → Bool) → ((x : A) → test x ≡ false) → (xs : List A) → filter test xs ≡ []
+pub filter-none : {A : Type 0} (test : A → Bool) → ((x : A) → test x ≡ false) → (xs : List A) → filter test xs ≡ []
 filter-none test none [] = refl
 filter-none test none (x ∷ xs) = ap (λ b. cond b (x ∷ filter test xs) (filter test xs)) (none x) ∙ filter-none test none xs
 

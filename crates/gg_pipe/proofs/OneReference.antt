@@ -1,5 +1,5 @@
 -- Two requests without a fault that ask for the same pipes have one reference circuit.
-use Rattle.std.proofs.Common.{◌≡◌, ◌≢◌, ℕ, ◌<◌, List, [], Bool, true, false, Option, Some, None, length, get_or, slice_get, refl, sym, ◌∙◌, ap, ap₂, subst, inl, inr, ◌⊎◌, eq-eqb, arith}
+use Rattle.std.proofs.Common.{◌≡◌, ◌≢◌, ℕ, ◌<◌, List, [], Bool, true, false, Option, Some, None, length, map, get_or, slice_get, refl, sym, ◌∙◌, ap, ap₂, subst, inl, inr, ◌⊎◌, eq-eqb, arith}
 use Rattle.std.specs.Prelude.{◌↔◌, ◌&&◌, ◌==◌, if◌then◌else◌, filter, Contains, All}
 use Rattle.std.specs.List.{range_with_len}
 use Rattle.std.proofs.lemmas.Bool.{eqb-true}
@@ -15,8 +15,10 @@ use Rattle.gg_flat.specs.Line.{value_at}
 use Rattle.gg_flat.specs.Circuit.{FlatCircuit, driver_at, readers_at, reader_at, latency_at}
 use Rattle.gg_flat.specs.Reads.{NamesSignal, RegisterNames}
 use Rattle.gg_flat.specs.WellFormed.{reader_driver}
+use Rattle.gg_flat.specs.Run.{clocked_start}
 use Rattle.gg_flat.specs.Tree.{InstanceTree, memory_at, path_at}
 use Rattle.gg_flat.specs.Scoped.{IsFieldOf, IsVisible, IsWritten, memory_fields}
+use Rattle.gg_flat.proofs.ListLemmas.{map-same}
 use Rattle.gg_flat.proofs.PathLemmas.{found-path}
 use Rattle.gg_moved.specs.KeepsToTree.{KeepsToTree}
 use Rattle.gg_order.specs.Design.{Ordered, IsDesign}
@@ -25,6 +27,7 @@ use Rattle.gg_cut.specs.declared.wires.Wire.{Wire}
 use Rattle.gg_cut.specs.declared.listed.Listed.{Listed}
 use Rattle.gg_cut.specs.Listed.{first_place, is_among, listed_of, owner_of_instance, memory_owner}
 use Rattle.gg_cut.specs.Channels.{channel_names}
+use Rattle.gg_cut.specs.Clocks.{ratio_of}
 use Rattle.gg_cut.specs.Direct.{Hub, is_piped, plan_hub, plan_signals, routes}
 use Rattle.gg_cut.specs.Fault.{first_fault}
 use Rattle.gg_cut.proofs.ChannelLemmas.{named-channel}
@@ -39,6 +42,7 @@ use Rattle.gg_routes.proofs.ChoiceLemmas.{any-wire}
 use Rattle.gg_routes.proofs.RouteLemmas.{IsBase, routes-known}
 use Rattle.gg_routes.proofs.RoutedLemmas.{routed-base}
 use Rattle.gg_pipe.specs.Made.{keeper_of, plan_reference, reference_of, views_in, AllHeld}
+use Rattle.gg_pipe.specs.Follows.{plan_start}
 use Rattle.gg_pipe.specs.Links.{is_carried, pipes_of, pipe_or, taken_as, seen_by, maker_of}
 use Rattle.gg_pipe.proofs.AgreeLemmas.{AreAgreed, filter-agree, reference-agree}
 use Rattle.gg_pipe.proofs.HolderLemmas.{keeper-is, first_holder, holder-found}
@@ -290,3 +294,7 @@ module _ (design : Ordered) (request other : Request) (is : IsDesign design) (ke
   one-reference =
       reference-agree circuit (views_in circuit tree my-listed (is_piped circuit request) request.direct) (views_in circuit tree their-listed (is_piped circuit other) other.direct) (pipes_of mine) agreed
       ∙ ap (reference_of circuit (views_in circuit tree their-listed (is_piped circuit other) other.direct)) pipes-alike
+
+  -- and their runs start alike, if their clocks have the same ratios
+  pub one-start : ((clock : List ℕ) → ratio_of request.clocks clock ≡ ratio_of other.clocks clock) → plan_start design request ≡ plan_start design other
+  one-start alike = ap₂ (λ all ratios. clocked_start all ratios) one-reference (map-same (ratio_of request.clocks) (ratio_of other.clocks) tree.clocks alike)

@@ -85,7 +85,7 @@ module _ (circuit : FlatCircuit) (g r c : ℕ) (pipe : IsPipe circuit g r c) (st
       ∙ ap₂ (λ reset next. reset_or row (shape register.ty) reset (connected_or row (shape register.ty) next own)) is.reset is.next
       ∙ bare-value row (shape register.ty) is.node c is.op (ap (λ (s : Shape). s.width) (is.wide ∙ sym is.type)) (subst (λ s. Fits s (value_at row c)) (sym is.type) fits)
 
-  after : (t : ℕ) → start.cycle ≤ t → t < end → value_at (state_at circuit start (drop start.cycle rows) (suc (since start.cycle t))).registers r ≡ value_at (row_at rows t) c
+  pub after : (t : ℕ) → start.cycle ≤ t → t < end → value_at (state_at circuit start (drop start.cycle rows) (suc (since start.cycle t))).registers r ≡ value_at (row_at rows t) c
   after t le lt =
       let k = since start.cycle t in
       let row = row_at (drop start.cycle rows) k in

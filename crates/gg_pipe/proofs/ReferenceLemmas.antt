@@ -194,7 +194,7 @@ part-zero (g ∷ globals) row zeros (suc s) = part-zero globals row zeros s
 row-part : (globals : List ℕ) (rows : List (List ℕ)) (t : ℕ) → t < length rows → row_at (part_rows globals rows) t ≡ part_row globals (row_at rows t)
 row-part globals rows t lt = get_or-map (part_row globals) rows t [] [] lt
 
-drop-part : (globals : List ℕ) (rows : List (List ℕ)) (n : ℕ) → drop n (part_rows globals rows) ≡ part_rows globals (drop n rows)
+pub drop-part : (globals : List ℕ) (rows : List (List ℕ)) (n : ℕ) → drop n (part_rows globals rows) ≡ part_rows globals (drop n rows)
 drop-part globals rows zero = refl
 drop-part globals [] (suc n) = refl
 drop-part globals (row ∷ rows) (suc n) = drop-part globals rows n

@@ -14,6 +14,7 @@ ghost use Rattle.gg_order.specs.Design.{Ordered, IsDesign};
 ghost use Rattle.gg_partfile.specs.declared.request.Request.{Request};
 ghost use Rattle.gg_cut.specs.declared.plan.Plan.{Plan};
 ghost use Rattle.gg_cut.specs.declared.listed.Listed.{Listed};
+ghost use Rattle.gg_cut.specs.Clocks.{ratio_of};
 ghost use Rattle.gg_cut.specs.Machines.{first_source};
 ghost use Rattle.gg_cut.specs.Fault.{first_fault};
 ghost use Rattle.gg_cut.specs.Held.{AreHeldOnce};
@@ -24,7 +25,7 @@ ghost use Rattle.gg_cut.specs.Direct.{hub_of, plan_hub, routes};
 ghost use Rattle.gg_pipe.specs.Reference.{IsReference};
 ghost use Rattle.gg_pipe.specs.Links.{pipes_of, taken_as};
 ghost use Rattle.gg_pipe.specs.Made.{plan_reference, reference_circuit, views_in, AllHeld, IsFresh};
-ghost use Rattle.gg_pipe.specs.Follows.{Follows, given_column, plan_token, taken_column};
+ghost use Rattle.gg_pipe.specs.Follows.{Follows, given_column, plan_start, plan_token, taken_column};
 
 use gg_closed::channels_once;
 
@@ -82,7 +83,9 @@ pub fn nothing_piped()
 {}
 
 /// Two requests without a fault that ask for the same pipes have one reference circuit, whatever their units, their memories and
-/// their direct channels. Each register of the design has to be that of a signal.
+/// their direct channels. If they give the clocks the same ratios, their runs start alike too. Each register of the design has to
+/// be that of a signal.
 pub fn one_reference()
-    ensures { (design : Ordered) (request other : Request) → IsDesign design → KeepsToTree design.circuit design.tree → AllHeld design.circuit → first_fault design request ≡ None → first_fault design other ≡ None → ((name : List ℕ) → Contains request.pipe name ↔ Contains other.pipe name) → plan_reference design request ≡ plan_reference design other }
+    ensures circuit { (design : Ordered) (request other : Request) → IsDesign design → KeepsToTree design.circuit design.tree → AllHeld design.circuit → first_fault design request ≡ None → first_fault design other ≡ None → ((name : List ℕ) → Contains request.pipe name ↔ Contains other.pipe name) → plan_reference design request ≡ plan_reference design other }
+    ensures start { (design : Ordered) (request other : Request) → IsDesign design → KeepsToTree design.circuit design.tree → AllHeld design.circuit → first_fault design request ≡ None → first_fault design other ≡ None → ((name : List ℕ) → Contains request.pipe name ↔ Contains other.pipe name) → ((clock : List ℕ) → ratio_of request.clocks clock ≡ ratio_of other.clocks clock) → plan_start design request ≡ plan_start design other }
 {}

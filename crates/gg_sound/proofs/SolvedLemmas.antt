@@ -73,7 +73,7 @@ stream-at begin token (channel ∷ channels) rows zero any lt = refl
 stream-at begin token (channel ∷ channels) rows (suc c) any lt = stream-at begin token channels rows c any (omega (arith, lt))
 
 -- the rows of a machine by its number
-rows-at : (seen : ℕ → ℕ → ℕ) (a : ℕ) (machines : List planned.Machine) (rows : List (List ℕ)) (m : ℕ) → m < length machines → rows_at (rows_from seen a machines rows) m ≡ body_rows (seen (a + m)) (get_or machines m nameless).body rows
+pub rows-at : (seen : ℕ → ℕ → ℕ) (a : ℕ) (machines : List planned.Machine) (rows : List (List ℕ)) (m : ℕ) → m < length machines → rows_at (rows_from seen a machines rows) m ≡ body_rows (seen (a + m)) (get_or machines m nameless).body rows
 rows-at seen a [] rows m lt = absurd (omega (arith, lt))
 rows-at seen a (machine ∷ machines) rows zero lt = ap (λ k. body_rows (seen k) machine.body rows) (let same : a ≡ a + 0 = omega arith in same)
 rows-at seen a (machine ∷ machines) rows (suc m) lt =
