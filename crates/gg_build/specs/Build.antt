@@ -69,6 +69,21 @@ pub record IsOpeningOf (plan : Plan) (columns : List (List ℕ)) (n : ℕ) (net 
 
 -- ---- from any start
 
+-- The network of a plan can be run from a start for its sources' columns, up to cycle n: the flow is what the plan's network computes
+-- from there in the reference circuit's run. `IsToRun` is the case of cycle 0 and zeros (`run_from_zeros`), `IsToBegin` that of a
+-- start that is told (`run_from_begin`).
+pub record IsToRunFrom (plan : Plan) (start : Start) (columns : List (List ℕ)) (n : ℕ) (flow : Flow) : Type 0 where
+  pub design : Ordered
+  pub request : Request
+  pub default : ℕ
+  pub rows : List (List ℕ)
+  pub given : IsGiven design request default plan columns n start rows
+  pub room : default ≤ capacity_limit
+  pub flow_is : flow ≡ flow_of design request plan start rows
+
+abbrev pub run_from_zeros : {plan : Plan} {columns : List (List ℕ)} {n : ℕ} {flow : Flow} (run : IsToRun plan columns n flow) → IsToRunFrom plan (plan_start run.design run.request) columns n flow
+run_from_zeros run = record { design = run.design; request = run.request; default = run.default; rows = run.rows; given = run.given; room = run.room; flow_is = run.flow_is }
+
 -- `begin` tells this start: its cycle, its state of the reference circuit, and the token of each channel that has a pipe. The start's
 -- ratios are the plan's.
 pub record Begins (design : Ordered) (request : Request) (plan : Plan) (start : Start) (begin : Begin) : Type 0 where
@@ -89,6 +104,13 @@ pub record IsToBegin (plan : Plan) (begin : Begin) (columns : List (List ℕ)) (
   pub room : default ≤ capacity_limit
   pub begins : Begins design request plan start begin
   pub flow_is : flow ≡ flow_of design request plan start rows
+
+abbrev pub run_from_begin : {plan : Plan} {begin : Begin} {columns : List (List ℕ)} {n : ℕ} {flow : Flow} (run : IsToBegin plan begin columns n flow) → IsToRunFrom plan run.start columns n flow
+run_from_begin run = record { design = run.design; request = run.request; default = run.default; rows = run.rows; given = run.given; room = run.room; flow_is = run.flow_is }
+
+-- the token of each signal's pipe, in the network that is run from a start
+abbrev pub run_token : {plan : Plan} {start : Start} {columns : List (List ℕ)} {n : ℕ} {flow : Flow} → IsToRunFrom plan start columns n flow → ℕ → ℕ
+run_token {start = start} run s = plan_token run.design run.request start.state s
 
 -- A network is that of the plan before its first step from this start, with these tokens in its pipes.
 pub record IsOpeningFrom (plan : Plan) (start : Start) (token : ℕ → ℕ) (columns : List (List ℕ)) (n : ℕ) (net : Network) : Type 0 where

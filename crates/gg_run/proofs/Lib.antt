@@ -8,9 +8,12 @@ pub mod TrayKeepLemmas
 mod WorkedWindows
 pub mod TakenLemmas
 mod WorkedTaking
+mod WorkedStops
 pub mod RunLemmas
 pub mod PrintLemmas
 pub mod PrintedLemmas
 pub mod TextLemmas
+mod StopLemmas
+mod StoppedLemmas
 pub mod FoldLemmas
 pub mod LineLemmas

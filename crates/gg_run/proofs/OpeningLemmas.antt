@@ -1,25 +1,26 @@
--- The network of a plan before its first cycle is kept.
+-- The network of a plan before its first step is kept.
 use Rattle.std.proofs.Common.{◌≡◌, ℕ, zero, suc, ◌<◌, List, ◌+◌, Some, None, length, refl, sym, ap, ◌∙◌, subst, arith}
 use Rattle.std.specs.Prelude.{Option}
 use Rattle.std.proofs.lemmas.List.{length-map}
 use Rattle.gg_flat.specs.Line.{value_at}
 use Rattle.gg_flat.specs.Streams.{Flow}
 use Rattle.gg_cut.specs.declared.plan.Plan.{Plan}
+use Rattle.gg_flat.specs.Run.{Start}
 use Rattle.gg_pipe.specs.Follows.{plan_start}
 use Rattle.gg_node.specs.Machine.{Machine, latch_at, machine_at}
 use Rattle.gg_node.proofs.EmptyLemmas.{empty-after}
 use Rattle.gg_net.specs.declared.shape.Wire.{Wire}
-use Rattle.gg_net.specs.Kept.{BetweenAt, IsSound, Kept, Solves, list_at}
+use Rattle.gg_net.specs.Kept.{BetweenAt, IsSound, Kept, list_at}
 use Rattle.gg_net.specs.Net.{IsOpening, opening_net}
 use Rattle.gg_net.specs.Network.{Network, entered, entered_by, frame_of, got_by, kind_of, opening_queue, queue_at, takes, wire_at}
 use Rattle.gg_net.proofs.OpenLemmas.{machine-open, queue-opens}
 use Rattle.gg_marking.proofs.OpeningLemmas.{none-put}
-use Rattle.gg_sound.specs.Built.{AreBuilt, body_start, flow_of, no_token, opening_of, wires_of_plan}
+use Rattle.gg_sound.specs.Built.{body_start, flow_of, wires_of_plan}
 use Rattle.gg_sound.proofs.OpeningLemmas.{built-opening}
 use Rattle.gg_sound.proofs.PlanLemmas.{plan-no-ring, plan-wired}
 use Rattle.gg_sound.proofs.SolvedLemmas.{plan-solved}
 use Rattle.gg_sound.proofs.ZeroLemmas.{built-with-zeros, zero-tokens}
-use Rattle.gg_build.specs.Build.{IsOpeningOf, IsToRun}
+use Rattle.gg_build.specs.Build.{IsOpeningFrom, IsOpeningOf, IsToRun, IsToRunFrom, run_from_zeros, run_token}
 
 -- the queue that a channel opens with, by the token in it
 between-first : (first : Option ℕ) (list : List ℕ) (capacity begin taken entered : ℕ) (queue : List ℕ) → queue ≡ opening_queue first → taken ≡ begin → entered ≡ entered_by first begin → 0 < capacity
@@ -63,25 +64,33 @@ module _ (flow : Flow) (machines : List Machine) (wires : List Wire) (end : ℕ)
         channels = between;
       }
 
-module _ (plan : Plan) (columns : List (List ℕ)) (n : ℕ) (flow : Flow) (run : IsToRun plan columns n flow) (net : Network) (opens : IsOpeningOf plan columns n net) where
+module _ (plan : Plan) (start : Start) (columns : List (List ℕ)) (n : ℕ) (flow : Flow) (run : IsToRunFrom plan start columns n flow) (net : Network) (opens : IsOpeningFrom plan start (run_token run) columns n net) where
   -- the machines begin with their parts of the start
-  built : AreBuilt plan (body_start (plan_start run.design run.request)) columns opens.machines
-  built = built-with-zeros run.design run.request run.default plan columns opens.machines run.given.planned opens.built
-
-  pub begins-so : (m : ℕ) → m < length opens.machines → IsOpening (flow_of run.design run.request plan (plan_start run.design run.request) run.rows) m (machine_at opens.machines m)
-  begins-so m lt = built-opening run.design run.request run.default plan columns n (plan_start run.design run.request) run.rows opens.machines run.given built m lt
+  pub begins-so : (m : ℕ) → m < length opens.machines → IsOpening (flow_of run.design run.request plan start run.rows) m (machine_at opens.machines m)
+  begins-so m lt = built-opening run.design run.request run.default plan columns n start run.rows opens.machines run.given opens.built m lt
 
   pub opening-kept : Kept flow net
   opening-kept =
-      let start = plan_start run.design run.request in
       let given = run.given in
+      let token = run_token run in
+      let starts = body_start start in
       let own = flow_of run.design run.request plan start run.rows in
       subst (Kept flow) (sym opens.is)
-      (subst (λ (f : Flow). Kept f (opening_net opens.machines (wires_of_plan no_token plan) n)) (sym run.flow_is)
-      (kept-opening own opens.machines (wires_of_plan no_token plan) n begins-so
+      (subst (λ (f : Flow). Kept f (opening_net opens.machines (wires_of_plan token plan) n)) (sym run.flow_is)
+      (kept-opening own opens.machines (wires_of_plan token plan) n begins-so
       (record {
-        wired = plan-wired run.design run.request run.default plan columns n start run.rows no_token (opening_of plan.ratios) opens.machines given opens.built;
-        no_ring = plan-no-ring run.design run.request run.default plan columns n start run.rows no_token (opening_of plan.ratios) opens.machines given opens.built;
-        solves = subst (λ (wires : List Wire). Solves own (frame_of (opening_net opens.machines wires n))) (zero-tokens run.design run.request plan)
-            (plan-solved run.design run.request run.default plan columns n start run.rows opens.machines given built);
+        wired = plan-wired run.design run.request run.default plan columns n start run.rows token starts opens.machines given opens.built;
+        no_ring = plan-no-ring run.design run.request run.default plan columns n start run.rows token starts opens.machines given opens.built;
+        solves = plan-solved run.design run.request run.default plan columns n start run.rows opens.machines given opens.built;
       })))
+
+-- ---- the start of the whole run
+
+pub from-zeros : (plan : Plan) (columns : List (List ℕ)) (n : ℕ) (flow : Flow) (run : IsToRun plan columns n flow) (opening : Network) → IsOpeningOf plan columns n opening
+    → IsOpeningFrom plan (plan_start run.design run.request) (run_token (run_from_zeros run)) columns n opening
+from-zeros plan columns n flow run opening opens =
+    record {
+      machines = opens.machines;
+      built = built-with-zeros run.design run.request run.default plan columns opens.machines run.given.planned opens.built;
+      is = opens.is ∙ ap (λ (wires : List Wire). opening_net opens.machines wires n) (sym (zero-tokens run.design run.request plan));
+    }

@@ -20,7 +20,7 @@ use Rattle.gg_cut.specs.declared.plan.Channel.{Channel}
 use Rattle.gg_cut.specs.declared.plan.Plan.{Plan}
 use Rattle.gg_cut.specs.Solves.{columns_of, streams}
 use Rattle.gg_routes.proofs.RoutedLemmas.{plan-routed}
-use Rattle.gg_pipe.specs.Follows.{plan_start, plan_token}
+use Rattle.gg_pipe.specs.Follows.{plan_token}
 use Rattle.gg_pipe.specs.Links.{taken_as}
 use Rattle.gg_pipe.specs.Made.{plan_reference}
 use Rattle.gg_pipe.proofs.SolveLemmas.{plan-output-value}
@@ -28,19 +28,19 @@ use Rattle.gg_node.specs.Machine.{KeepsLast, Machine, kept_value, machine_at}
 use Rattle.gg_net.specs.Network.{Network, Frame, Kind, frame_of, kind_of, kind_at, wire_at}
 use Rattle.gg_net.specs.Kept.{Kept, list_at}
 use Rattle.gg_measure.specs.Nets.{AllStandAt}
-use Rattle.gg_sound.specs.Built.{IsBuilt, machine_in, nameless, no_token, opening_of, tray_rows, wires_of_plan}
+use Rattle.gg_sound.specs.Built.{IsBuilt, body_start, machine_in, nameless, tray_rows, wires_of_plan}
 use Rattle.gg_sound.proofs.FitLemmas.{kind-is}
 use Rattle.gg_sound.proofs.LinkLemmas.{length-from, wire-from}
 use Rattle.gg_sound.proofs.ListedLemmas.{taken-at}
-use Rattle.gg_build.specs.Build.{IsToRun, IsOpeningOf}
+use Rattle.gg_build.specs.Build.{IsOpeningFrom, IsToRunFrom, run_token}
 use Rattle.gg_run.specs.Rows.{IsNetOfPlan, StillHas, outputs_in, told_value}
 use Rattle.gg_run.proofs.TrayLemmas.{tray-keeps, tray-only, tray-tells}
 
-pub opening-is-net : (plan : Plan) (columns : List (List ℕ)) (n : ℕ) (net : Network) → IsOpeningOf plan columns n net → IsNetOfPlan plan columns n net
-opening-is-net plan columns n net is = record { machines = is.machines; built = is.built; frame = ap frame_of is.is }
+pub opening-is-net : (plan : Plan) (start : Start) (token : ℕ → ℕ) (columns : List (List ℕ)) (n : ℕ) (net : Network) → IsOpeningFrom plan start token columns n net → IsNetOfPlan plan start token columns n net
+opening-is-net plan start token columns n net is = record { machines = is.machines; built = is.built; frame = ap frame_of is.is }
 
-pub net-stays : (plan : Plan) (columns : List (List ℕ)) (n : ℕ) (old new : Network) → IsNetOfPlan plan columns n old → frame_of new ≡ frame_of old → IsNetOfPlan plan columns n new
-net-stays plan columns n old new is same = record { machines = is.machines; built = is.built; frame = same ∙ is.frame }
+pub net-stays : (plan : Plan) (start : Start) (token : ℕ → ℕ) (columns : List (List ℕ)) (n : ℕ) (old new : Network) → IsNetOfPlan plan start token columns n old → frame_of new ≡ frame_of old → IsNetOfPlan plan start token columns n new
+net-stays plan start token columns n old new is same = record { machines = is.machines; built = is.built; frame = same ∙ is.frame }
 
 -- a machine of a plan from the first tray on is a tray
 tray-behaves : (design : Ordered) (listed : Listed) (hub : Hub) (columns : List (List ℕ)) (outs m : ℕ) (own : Start) (body : Body) (machine : Machine) → first_tray design.circuit listed ≤ m → IsBody design listed hub m body → IsBuilt columns outs own body machine
@@ -52,7 +52,7 @@ tray-behaves design listed hub columns outs m own Tray machine low is built = ap
 
 -- ---- the tray of an output
 
-module _ (plan : Plan) (columns : List (List ℕ)) (n : ℕ) (flow : Flow) (run : IsToRun plan columns n flow) (net : Network) (is : IsNetOfPlan plan columns n net) (kept : Kept flow net) where
+module _ (plan : Plan) (start : Start) (columns : List (List ℕ)) (n : ℕ) (flow : Flow) (run : IsToRunFrom plan start columns n flow) (net : Network) (is : IsNetOfPlan plan start (run_token run) columns n net) (kept : Kept flow net) where
   abbrev listed : Listed
   listed = listed_of run.design.tree run.request
 
@@ -90,7 +90,7 @@ module _ (plan : Plan) (columns : List (List ℕ)) (n : ℕ) (flow : Flow) (run 
       let kinds : kind_of (machine_at net.machines m) ≡ kind_of (machine_at is.machines m) =
       sym (kind-is net.machines m (omega (arith, lt, count))) ∙ ap (λ (f : Frame). kind_at f.kinds m) is.frame ∙ kind-is is.machines m (omega (arith, there, is.built.count)) in
       ap (λ (kind : Kind). kind.behaviour) kinds
-      ∙ tray-behaves run.design listed hub columns (length (machine_in plan m).outs) m (opening_of plan.ratios (machine_in plan m).body) (machine_in plan m).body (machine_at is.machines m) (omega arith)
+      ∙ tray-behaves run.design listed hub columns (length (machine_in plan m).outs) m (body_start start (machine_in plan m).body) (machine_in plan m).body (machine_at is.machines m) (omega arith)
       (run.given.planned.machine m nameless there).body (is.built.each m there)
 
   -- the plan's channel of a tray
@@ -115,7 +115,7 @@ module _ (plan : Plan) (columns : List (List ℕ)) (n : ℕ) (flow : Flow) (run 
   record IsTrayChannel (k c : ℕ) : Type 0 where
     known : c < length net.wires
     taken : (wire_at net.wires c).consumer ≡ tray k
-    list : list_at flow.lists c ≡ list_at (streams 0 (plan_token run.design run.request (plan_start run.design run.request).state) plan.channels (columns_of plan run.rows)) c
+    list : list_at flow.lists c ≡ list_at (streams start.cycle (plan_token run.design run.request start.state) plan.channels (columns_of plan run.rows)) c
     routed : c < length (routes hub)
     signal : (planned.wire_at (routes hub) c).signal ≡ value_at outs k
 
@@ -124,10 +124,10 @@ module _ (plan : Plan) (columns : List (List ℕ)) (n : ℕ) (flow : Flow) (run 
       let among : c < length plan.channels = omega (arith, wire.known, run.given.planned.channel_total) in
       let any : Channel = some-item plan.channels c among in
       let channel = run.given.planned.channel c any among in
-      let same : net.wires ≡ wires_of_plan no_token plan = ap (λ (f : Frame). f.wires) is.frame in
+      let same : net.wires ≡ wires_of_plan (run_token run) plan = ap (λ (f : Frame). f.wires) is.frame in
       record {
-        known = omega (arith, among, ap length same, length-from no_token plan 0 plan.channels);
-        taken = ap (λ l. (wire_at l c).consumer) same ∙ ap (λ v. v.consumer) (wire-from no_token plan 0 plan.channels c any among) ∙ channel.consumer ∙ wire.consumer;
+        known = omega (arith, among, ap length same, length-from (run_token run) plan 0 plan.channels);
+        taken = ap (λ l. (wire_at l c).consumer) same ∙ ap (λ v. v.consumer) (wire-from (run_token run) plan 0 plan.channels c any among) ∙ channel.consumer ∙ wire.consumer;
         list = ap (λ (f : Flow). list_at f.lists c) run.flow_is;
         routed = wire.known;
         signal = wire.signal;
@@ -143,20 +143,20 @@ module _ (plan : Plan) (columns : List (List ℕ)) (n : ℕ) (flow : Flow) (run 
   carried : (k c t : ℕ) → k < length outs → IsTrayChannel k c → t < n → value_at (list_at flow.lists c) t ≡ value_at (row_at run.rows t) (value_at all.outs k)
   carried k c t lt channel within =
       ap (λ l. value_at l t) channel.list
-      ∙ plan-output-value run.design run.request run.default plan run.given.design_is run.given.keeps run.given.held run.given.faultless run.given.planned (plan_start run.design run.request) run.given.typed columns n run.rows run.given.given run.given.run k c t lt channel.routed channel.signal within
+      ∙ plan-output-value run.design run.request run.default plan run.given.design_is run.given.keeps run.given.held run.given.faultless run.given.planned start run.given.typed columns n run.rows run.given.given run.given.run k c t lt channel.routed channel.signal within
 
   -- no machine is past the end
   within-end : (m t : ℕ) → m < length net.machines → t < (machine_at net.machines m).cycle → t < n
   within-end m t there done = omega (arith, done, (kept.machines m there).within, ap (λ (f : Frame). f.end) is.frame)
 
   -- the tray of an output still has the values of a window at the end of which all machines stand
-  still-has : (k upto t : ℕ) (lt : k < length outs) → AllStandAt upto net → t < upto → upto ≤ t + tray_rows → StillHas net (tray k) (tray-channel k lt).0 flow.begin t
-  still-has k upto t lt stand done near =
+  still-has : (k upto t : ℕ) (lt : k < length outs) → AllStandAt upto net → start.cycle ≤ t → t < upto → upto ≤ t + tray_rows → StillHas net (tray k) (tray-channel k lt).0 flow.begin t
+  still-has k upto t lt stand from done near =
       let there : tray k < length net.machines = omega (arith, lt, count) in
       let channel = (tray-channel k lt).1 in
       let at = stand (tray k) there in
-      let begin : flow.begin ≡ 0 = ap (λ (f : Flow). f.begin) run.flow_is in
-      record { there = there; known = channel.known; taken = channel.taken; rows = tray_rows; tray = behaves k lt; begun = omega (arith, begin); done = omega (arith, done, at); last = omega (arith, near, at) }
+      let begin : flow.begin ≡ start.cycle = ap (λ (f : Flow). f.begin) run.flow_is in
+      record { there = there; known = channel.known; taken = channel.taken; rows = tray_rows; tray = behaves k lt; begun = omega (arith, begin, from); done = omega (arith, done, at); last = omega (arith, near, at) }
 
   -- the reference circuit has as many out-signals
   outs-count : length all.outs ≡ length outs
@@ -167,15 +167,15 @@ module _ (plan : Plan) (columns : List (List ℕ)) (n : ℕ) (flow : Flow) (run 
   output-is k t lt = get_or-map (value_at (row_at run.rows t)) all.outs k 0 0 (omega (arith, lt, outs-count))
 
   -- what the tray of an output keeps and tells of a cycle of such a window
-  pub keeps : (k upto t : ℕ) → k < length outs → AllStandAt upto net → t < upto → upto ≤ t + tray_rows → kept_value (machine_at net.machines (tray k)) t ≡ Some (value_at (outputs_in all run.rows t) k)
-  keeps k upto t lt stand done near =
-      let has = still-has k upto t lt stand done near in
+  pub keeps : (k upto t : ℕ) → k < length outs → AllStandAt upto net → start.cycle ≤ t → t < upto → upto ≤ t + tray_rows → kept_value (machine_at net.machines (tray k)) t ≡ Some (value_at (outputs_in all run.rows t) k)
+  keeps k upto t lt stand from done near =
+      let has = still-has k upto t lt stand from done near in
       let found = tray-channel k lt in
       tray-keeps flow net (tray k) found.0 t kept has ∙ ap Some (carried k found.0 t lt found.1 (within-end (tray k) t has.there has.done) ∙ sym (output-is k t lt))
 
-  tells : (k upto t : ℕ) → k < length outs → AllStandAt upto net → t < upto → upto ≤ t + tray_rows → told_value (machine_at net.machines (tray k)) t ≡ value_at (outputs_in all run.rows t) k
-  tells k upto t lt stand done near =
-      let has = still-has k upto t lt stand done near in
+  tells : (k upto t : ℕ) → k < length outs → AllStandAt upto net → start.cycle ≤ t → t < upto → upto ≤ t + tray_rows → told_value (machine_at net.machines (tray k)) t ≡ value_at (outputs_in all run.rows t) k
+  tells k upto t lt stand from done near =
+      let has = still-has k upto t lt stand from done near in
       let found = tray-channel k lt in
       tray-tells flow net (tray k) found.0 t kept has ∙ carried k found.0 t lt found.1 (within-end (tray k) t has.there has.done) ∙ sym (output-is k t lt)
 
@@ -187,11 +187,11 @@ module _ (plan : Plan) (columns : List (List ℕ)) (n : ℕ) (flow : Flow) (run 
       let told = tray-only flow net (tray k) found.0 tray_rows t value kept there found.1.known found.1.taken (behaves k lt) has in
       told.1 ∙ carried k found.0 t lt found.1 (within-end (tray k) t there told.0) ∙ sym (output-is k t lt)
 
-  pub outputs-are : (upto t : ℕ) (values : List ℕ) → length values ≡ length outs → AllStandAt upto net → t < upto → upto ≤ t + tray_rows
+  pub outputs-are : (upto t : ℕ) (values : List ℕ) → length values ≡ length outs → start.cycle ≤ t → AllStandAt upto net → t < upto → upto ≤ t + tray_rows
       → ((k : ℕ) → k < length values → value_at values k ≡ told_value (machine_at net.machines (length net.machines - length values + k)) t) → values ≡ outputs_in (plan_reference run.design run.request) run.rows t
-  outputs-are upto t values same all_done done near told =
+  outputs-are upto t values same from all_done done near told =
       ext_get_or 0 values (outputs_in all run.rows t) (same ∙ sym (length-map all.outs (value_at (row_at run.rows t)) ∙ outs-count))
       (λ k lt.
       let low : k < length outs = omega (arith, lt, same) in
       let place : length net.machines - length values + k ≡ tray k = omega (arith, count, same) in
-      told k lt ∙ ap (λ m. told_value (machine_at net.machines m) t) place ∙ tells k upto t low all_done done near)
+      told k lt ∙ ap (λ m. told_value (machine_at net.machines m) t) place ∙ tells k upto t low all_done from done near)

@@ -1,5 +1,5 @@
 -- What the trays tell is the text of the run.
-use Rattle.std.proofs.Common.{◌≡◌, ℕ, zero, suc, ◌<◌, List, ◌++◌, length, take, refl, sym, ap, ap₂, ◌∙◌, arith}
+use Rattle.std.proofs.Common.{◌≡◌, ℕ, zero, suc, ◌+◌, ◌<◌, List, ◌++◌, length, take, refl, sym, ap, ap₂, ◌∙◌, subst, arith}
 use Rattle.std.specs.Prelude.{drop, slice_index}
 use Rattle.std.proofs.lemmas.List.{drop-map, length-map, take-map, take_all}
 use Rattle.gg_flat.specs.Circuit.{FlatCircuit}
@@ -8,18 +8,20 @@ use Rattle.gg_flat.specs.Line.{value_at}
 use Rattle.gg_flat.specs.Run.{row_at, column}
 use Rattle.gg_flat.specs.Streams.{Flow}
 use Rattle.gg_flat.specs.declared.ports.Port.{Port}
-use Rattle.gg_build.specs.Build.{IsToRun}
+use Rattle.gg_build.specs.Build.{IsToRun, run_from_zeros}
 use Rattle.gg_cut.specs.Direct.{plan_hub}
 use Rattle.gg_cut.specs.Listed.{listed_of}
 use Rattle.gg_cut.specs.Machines.{first_tray}
 use Rattle.gg_cut.specs.declared.plan.Plan.{Plan}
+use Rattle.gg_pipe.specs.Follows.{plan_start}
 use Rattle.gg_pipe.specs.Links.{taken_as}
 use Rattle.gg_pipe.specs.Made.{plan_reference}
 use Rattle.gg_trace.specs.Last.{acts, halts, row_count}
 use Rattle.gg_trace.specs.Printing.{row_line, trace_text}
 use Rattle.gg_trace.specs.Table.{row_of}
 use Rattle.gg_trace.proofs.LastLaws.{rows-agree, rows-within}
-use Rattle.gg_run.specs.Rows.{outputs_in}
+use Rattle.gg_run.specs.Rows.{TraysKeep, outputs_in}
+use Rattle.gg_run.proofs.OpeningLemmas.{from-zeros}
 use Rattle.gg_run.proofs.TrayKeepLemmas.{trays-only}
 use Rattle.gg_run.specs.Printed.{AreKept, is_halt, out_columns, plan_stops, rows_to, shown_columns, text_of}
 use Rattle.gg_run.proofs.PrintLemmas.{outputs-row}
@@ -28,7 +30,8 @@ use Rattle.gg_run.proofs.PrintLemmas.{outputs-row}
 rows-text : (ports : List Port) (a b : List (List ℕ)) (n : ℕ) → ((t : ℕ) → t < n → row_of a t ≡ row_of b t) → trace_text ports a n ≡ trace_text ports b n
 rows-text ports a b zero same = refl
 rows-text ports a b (suc n) same =
-    ap₂ (λ (front row : List ℕ). front ++ row_line ports n row) (rows-text ports a b n (λ t lt. same t (omega (arith, lt)))) (same n (omega arith))
+    let there : 0 + n ≡ n = omega arith in
+    ap₂ (λ (front row : List ℕ). front ++ row_line ports (0 + n) row) (rows-text ports a b n (λ t lt. same t (omega (arith, lt)))) (ap (row_of a) there ∙ same n (omega arith) ∙ sym (ap (row_of b) there))
 
 -- what columns that come to the trays tell: as many rows as the run has, and its text
 module _ (plan : Plan) (columns : List (List ℕ)) (n : ℕ) (flow : Flow) (run : IsToRun plan columns n flow) (ports : List Port) (told : ℕ) (kept : List (List ℕ))
@@ -46,11 +49,12 @@ module _ (plan : Plan) (columns : List (List ℕ)) (n : ℕ) (flow : Flow) (run 
   -- a row that comes to the trays is a row of the run
   row-own : (t : ℕ) → t < told → row_of kept t ≡ row_of own t
   row-own t lt =
+      let there : 0 + t ≡ t = omega arith in
       let within : t < n = omega (arith, lt, ends, rows-within (halts stops (drop (length ports) kept)) n) in
       let wide : length (row_of kept t) ≡ length run.design.circuit.outs = length-map kept (λ (column : List ℕ). slice_index column t) ∙ count in
       let outs : length (outputs_in all run.rows t) ≡ length run.design.circuit.outs =
       length-map all.outs (value_at (row_at run.rows t)) ∙ length-map run.design.circuit.outs (taken_as (plan_hub run.design.circuit run.design.tree run.request)) in
-      trays-only plan columns n flow run are.opening are.opens t (row_of kept t) (omega (arith, wide)) (are.rows t lt)
+      trays-only plan (plan_start run.design run.request) columns n flow (run_from_zeros run) are.opening (from-zeros plan columns n flow run are.opening are.opens) t (row_of kept t) (omega (arith, wide)) (subst (λ k. TraysKeep are.opening (first_tray run.design.circuit (listed_of run.design.tree run.request)) k (row_of kept k)) there (are.rows t lt))
       ∙ take_all (length (row_of kept t)) (outputs_in all run.rows t) (omega (arith, wide, outs))
       ∙ outputs-row all run.rows t (omega (arith, within, run.given.run.count)) all.outs
 

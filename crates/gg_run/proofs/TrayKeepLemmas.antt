@@ -3,7 +3,7 @@ use Rattle.std.proofs.Common.{◌≡◌, ℕ, ◌+◌, ◌<◌, ◌≤◌, List,
 use Rattle.std.specs.Prelude.{Option}
 use Rattle.std.proofs.lemmas.List.{ext_get_or, get_or-take, length-map, length-take-le}
 use Rattle.gg_flat.specs.Line.{value_at}
-use Rattle.gg_flat.specs.Run.{row_at}
+use Rattle.gg_flat.specs.Run.{Start, row_at}
 use Rattle.gg_flat.specs.Streams.{Flow}
 use Rattle.gg_cut.specs.Direct.{plan_hub}
 use Rattle.gg_cut.specs.Listed.{listed_of}
@@ -29,31 +29,31 @@ use Rattle.gg_progress.proofs.EndLemmas.{opening-lowest}
 use Rattle.gg_measure.specs.Nets.{AllStandAt}
 use Rattle.gg_measure.proofs.NetLemmas.{allowed-of, begun-of, can-run}
 use Rattle.gg_measure.proofs.WayLemmas.{steps-up}
-use Rattle.gg_sound.specs.Built.{no_token, tray_rows, wires_of_plan}
-use Rattle.gg_build.specs.Build.{IsOpeningOf, IsToRun}
+use Rattle.gg_sound.specs.Built.{tray_rows, wires_of_plan}
+use Rattle.gg_build.specs.Build.{IsOpeningFrom, IsToRunFrom, run_token}
 use Rattle.gg_run.specs.Rows.{IsNetOfPlan, TraysKeep, outputs_in}
 use Rattle.gg_run.proofs.OpeningLemmas.{begins-so, opening-kept}
 use Rattle.gg_run.proofs.OutputLemmas.{keeps, keeps-only, net-stays, opening-is-net}
 
--- from a network before its first cycle steps lead to each other of the same flow and frame
+-- from a network before its first step steps lead to each other of the same flow and frame
 module _ (flow : Flow) (machines : List Machine) (wires : List Wire) (end : ℕ) (opening : (m : ℕ) → m < length machines → IsOpening flow m (machine_at machines m)) where
-  abbrev start : Network
-  start = opening_net machines wires end
+  abbrev first_net : Network
+  first_net = opening_net machines wires end
 
-  pub reached : (net : Network) → Kept flow start → Kept flow net → frame_of net ≡ frame_of start → (events : List Event) × Steps start (map (λ e. Some e) events) net
-  reached net start_kept kept same =
-      let layout : Layout = layout_of (frame_of start) in
-      let has = has-layout (frame_of start) start_kept.sound.wired in
+  pub reached : (net : Network) → Kept flow first_net → Kept flow net → frame_of net ≡ frame_of first_net → (events : List Event) × Steps first_net (map (λ e. Some e) events) net
+  reached net first_kept kept same =
+      let layout : Layout = layout_of (frame_of first_net) in
+      let has = has-layout (frame_of first_net) first_kept.sound.wired in
       let other = subst (λ frame. HasLayout frame layout) (sym same) has in
-      let begins : flow.begin ≤ layout.end = omega (arith, start_kept.sound.solves.begins, has.end) in
-      let least : AreAtMost layout (counts_of layout (marking_of start)) (counts_of layout (marking_of net)) =
+      let begins : flow.begin ≤ layout.end = omega (arith, first_kept.sound.solves.begins, has.end) in
+      let least : AreAtMost layout (counts_of layout (marking_of first_net)) (counts_of layout (marking_of net)) =
       subst (λ (m : Marking). AreAtMost layout (counts_of layout m) (counts_of layout (marking_of net))) (sym (opens-so flow machines wires end opening layout has))
-      (opening-lowest layout (can-run flow start start_kept layout has) flow.begin begins (counts_of layout (marking_of net)) (allowed-of flow net kept layout other) (begun-of flow net kept layout other)) in
-      steps-up flow start net layout start_kept kept same has least
+      (opening-lowest layout (can-run flow first_net first_kept layout has) flow.begin begins (counts_of layout (marking_of net)) (allowed-of flow net kept layout other) (begun-of flow net kept layout other)) in
+      steps-up flow first_net net layout first_kept kept same has least
 
 -- ---- in the network of a plan
 
-module _ (plan : Plan) (columns : List (List ℕ)) (n : ℕ) (flow : Flow) (run : IsToRun plan columns n flow) (opening : Network) (opens : IsOpeningOf plan columns n opening) where
+module _ (plan : Plan) (start : Start) (columns : List (List ℕ)) (n : ℕ) (flow : Flow) (run : IsToRunFrom plan start columns n flow) (opening : Network) (opens : IsOpeningFrom plan start (run_token run) columns n opening) where
   abbrev row : ℕ → List ℕ
   row t = outputs_in (plan_reference run.design run.request) run.rows t
 
@@ -63,34 +63,34 @@ module _ (plan : Plan) (columns : List (List ℕ)) (n : ℕ) (flow : Flow) (run 
       length-map all.outs (value_at (row_at run.rows t)) ∙ length-map run.design.circuit.outs (taken_as (plan_hub run.design.circuit run.design.tree run.request))
 
   kept : Kept flow opening
-  kept = opening-kept plan columns n flow run opening opens
+  kept = opening-kept plan start columns n flow run opening opens
 
   leads-to : (net : Network) → Kept flow net → frame_of net ≡ frame_of opening → (events : List Event) × Steps opening (map (λ e. Some e) events) net
   leads-to net later same =
       let begins : (m : ℕ) → m < length opens.machines → IsOpening flow m (machine_at opens.machines m) =
-      (λ m lt. subst (λ (f : Flow). IsOpening f m (machine_at opens.machines m)) (sym run.flow_is) (begins-so plan columns n flow run opening opens m lt)) in
+      (λ m lt. subst (λ (f : Flow). IsOpening f m (machine_at opens.machines m)) (sym run.flow_is) (begins-so plan start columns n flow run opening opens m lt)) in
       subst (λ (o : Network). (events : List Event) × Steps o (map (λ e. Some e) events) net) (sym opens.is)
-      (reached flow opens.machines (wires_of_plan no_token plan) n begins net (subst (Kept flow) opens.is kept) later (same ∙ ap frame_of opens.is))
+      (reached flow opens.machines (wires_of_plan (run_token run) plan) n begins net (subst (Kept flow) opens.is kept) later (same ∙ ap frame_of opens.is))
 
   -- whatever steps are done, the tray of an output keeps no other value of a cycle
   no-other : (events : List (Option Event)) (net : Network) (k t value : ℕ) → Steps opening events net → k < length run.design.circuit.outs
       → kept_value (machine_at net.machines (first_tray run.design.circuit (listed_of run.design.tree run.request) + k)) t ≡ Some value → value ≡ value_at (row t) k
   no-other events net k t value steps lt has =
-      let is = net-stays plan columns n opening net (opening-is-net plan columns n opening opens) (steps-frame opening events net steps) in
-      keeps-only plan columns n flow run net is (steps-kept flow opening events net kept steps) k t value lt has
+      let is = net-stays plan start (run_token run) columns n opening net (opening-is-net plan start (run_token run) columns n opening opens) (steps-frame opening events net steps) in
+      keeps-only plan start columns n flow run net is (steps-kept flow opening events net kept steps) k t value lt has
 
   -- what a network that stands at the end of a window keeps of its cycles
-  pub trays-keep : (net : Network) → Kept flow net → frame_of net ≡ frame_of opening → (upto t : ℕ) → AllStandAt upto net → t < upto → upto ≤ t + tray_rows
+  pub trays-keep : (net : Network) → Kept flow net → frame_of net ≡ frame_of opening → (upto t : ℕ) → AllStandAt upto net → start.cycle ≤ t → t < upto → upto ≤ t + tray_rows
       → TraysKeep opening (first_tray run.design.circuit (listed_of run.design.tree run.request)) t (outputs_in (plan_reference run.design run.request) run.rows t)
-  trays-keep net later same upto t stand done near =
-      let is : IsNetOfPlan plan columns n net = net-stays plan columns n opening net (opening-is-net plan columns n opening opens) same in
+  trays-keep net later same upto t stand from done near =
+      let is : IsNetOfPlan plan start (run_token run) columns n net = net-stays plan start (run_token run) columns n opening net (opening-is-net plan start (run_token run) columns n opening opens) same in
       let way = leads-to net later same in
       record {
         events = map (λ e. Some e) way.0;
         net = net;
         leads = way.1;
         done = λ m lt. omega (arith, done, stand m lt);
-        keep = λ k lt. keeps plan columns n flow run net is later k upto t (omega (arith, lt, row-count t)) stand done near;
+        keep = λ k lt. keeps plan start columns n flow run net is later k upto t (omega (arith, lt, row-count t)) stand from done near;
         only = λ others other k value steps lt has. no-other others other k t value steps (omega (arith, lt, row-count t)) has;
       }
 

@@ -4,9 +4,9 @@
 use Rattle.std.specs.Prelude.{◌≡◌, ℕ, ◌+◌, ◌<◌, ◌≤◌, List, Option, Some, length, map, unwrap_or}
 use Rattle.gg_flat.specs.Circuit.{FlatCircuit}
 use Rattle.gg_flat.specs.Line.{value_at}
-use Rattle.gg_flat.specs.Run.{row_at}
+use Rattle.gg_flat.specs.Run.{Start, row_at}
 use Rattle.gg_flat.specs.Streams.{Flow}
-use Rattle.gg_build.specs.Build.{IsToRun}
+use Rattle.gg_build.specs.Build.{IsToRunFrom}
 use Rattle.gg_cut.specs.declared.plan.Plan.{Plan}
 use Rattle.gg_marking.specs.Steps.{Steps}
 use Rattle.gg_measure.specs.Nets.{AllStandAt}
@@ -14,7 +14,7 @@ use Rattle.gg_node.specs.Machine.{Behaviour, RunsPiece, GivesColumn, KeepsLast, 
 use Rattle.gg_net.specs.declared.event.Event.{Event}
 use Rattle.gg_net.specs.Network.{Network, frame_of, wire_at}
 use Rattle.gg_pipe.specs.Made.{plan_reference}
-use Rattle.gg_sound.specs.Built.{AreBuilt, no_token, opening_of, plan_frame}
+use Rattle.gg_sound.specs.Built.{AreBuilt, body_start, plan_frame}
 
 -- ---- one tray
 
@@ -41,15 +41,16 @@ pub record StillHas (net : Network) (m c begin cycle : ℕ) : Type 0 where
 
 -- ---- the network of a plan
 
--- A network of a plan, at any time of its run: its frame is that of the plan's network before its first cycle.
-pub record IsNetOfPlan (plan : Plan) (columns : List (List ℕ)) (n : ℕ) (net : Network) : Type 0 where
+-- A network of a plan, at any time of its run from a start, with these tokens in its pipes at the start: its frame is that of the plan's
+-- network before its first step.
+pub record IsNetOfPlan (plan : Plan) (start : Start) (token : ℕ → ℕ) (columns : List (List ℕ)) (n : ℕ) (net : Network) : Type 0 where
   pub machines : List Machine
-  pub built : AreBuilt plan (opening_of plan.ratios) columns machines
-  pub frame : frame_of net ≡ plan_frame no_token plan machines n
+  pub built : AreBuilt plan (body_start start) columns machines
+  pub frame : frame_of net ≡ plan_frame token plan machines n
 
 -- A network of a plan, all of whose machines stand at this cycle.
-pub record StandsAt (plan : Plan) (columns : List (List ℕ)) (n cycle : ℕ) (net : Network) : Type 0 where
-  pub of_plan : IsNetOfPlan plan columns n net
+pub record StandsAt (plan : Plan) (start : Start) (token : ℕ → ℕ) (columns : List (List ℕ)) (n cycle : ℕ) (net : Network) : Type 0 where
+  pub of_plan : IsNetOfPlan plan start token columns n net
   pub all : AllStandAt cycle net
   pub within : cycle ≤ n
 
@@ -58,7 +59,7 @@ abbrev pub outputs_in : FlatCircuit → List (List ℕ) → ℕ → List ℕ
 outputs_in circuit rows t = map (value_at (row_at rows t)) circuit.outs
 
 -- the row of a cycle: the values of the reference circuit's out-signals in its run
-abbrev pub run_row : {plan : Plan} {columns : List (List ℕ)} {n : ℕ} {flow : Flow} → IsToRun plan columns n flow → (t : ℕ) → List ℕ
+abbrev pub run_row : {plan : Plan} {start : Start} {columns : List (List ℕ)} {n : ℕ} {flow : Flow} → IsToRunFrom plan start columns n flow → (t : ℕ) → List ℕ
 run_row run t = outputs_in (plan_reference run.design run.request) run.rows t
 
 -- ---- what host steps bring to trays

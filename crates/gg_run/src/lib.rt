@@ -12,8 +12,10 @@
 //! - host steps bring these values to the trays, and bring no others there, whatever steps are done ([`trays_keep_rows`]);
 //! - [`run_rows`] runs a network and hands over its rows, one after another, until one is the last. The rows are those of the
 //!   reference circuit's run, and host steps bring them to the trays. It is the one loop over windows;
-//! - [`RowPrinter`] writes a row, and goes on unless a stop acts in it; [`print_net`] prints the run of a plan's network so. The text
-//!   is that of the reference circuit's run, to the row of the first cycle in which a stop acts;
+//! - [`RowPrinter`] writes a row, and goes on unless a stop acts in it; [`print_net`] prints the run of a plan's network so, and
+//!   [`print_from`] a run from any start. The text is that of the reference circuit's run, to the row of the first cycle in which a stop
+//!   acts;
+//! - [`run_to_stop`] runs a network to its end, and tells the first cycle in which a stop ends the run;
 //! - [`sum_net`] counts the network of a plan and the steps from its opening to its end, runs it, and folds its rows;
 //! - [`put_summary`] writes the four lines of a demo's summary, one piece each.
 #![tactic(auto)]
@@ -24,18 +26,21 @@ mod printer;
 mod printing;
 mod rows;
 mod run;
+mod stopping;
 mod sums;
 mod taking;
 mod window;
 
 pub use laws::{
     openings_are_kept, openings_are_nets, steps_keep_nets, trays_keep_rows, windows_are_kept,
+    zeros_are_a_start,
 };
 pub use lines::put_summary;
 pub use printer::RowPrinter;
-pub use printing::print_net;
+pub use printing::{print_from, print_net};
 pub use rows::{output_values, tray_value};
 pub use run::run_rows;
+pub use stopping::run_to_stop;
 pub use sums::{Sums, sum_net};
 pub use taking::Rows;
 pub use window::{run_window, window_end};

@@ -1,25 +1,80 @@
-//! `print_net`: the run of the reference circuit of a plan is printed from the plan's network.
-ghost use Rattle.std.specs.Prelude.{◌≡◌, ◌≤◌, IfOk, length};
-ghost use Rattle.gg_build.specs.Build.{IsToRun};
+//! `print_net`, `print_from`: the run of the reference circuit of a plan is printed from the plan's network.
+ghost use Rattle.std.specs.Prelude.{◌≡◌, ◌-◌, ◌≤◌, ℕ, List, IfOk, length};
+ghost use Rattle.gg_build.specs.Build.{IsOpeningFrom, IsToRun, IsToRunFrom, run_token};
+ghost use Rattle.gg_cut.specs.declared.plan.Plan.{Plan};
+ghost use Rattle.gg_flat.specs.Run.{Start};
+ghost use Rattle.gg_measure.specs.Nets.{AllStandAt};
 ghost use Rattle.gg_cut.specs.Listed.{listed_of};
 ghost use Rattle.gg_cut.specs.Machines.{first_tray};
 ghost use Rattle.gg_pipe.specs.Made.{plan_reference};
-ghost use Rattle.gg_run.specs.Printed.{AreKept, out_columns, plan_stops, rows_to, text_of};
+ghost use Rattle.gg_run.specs.Printed.{AreKept, RowsAreKept, out_columns, plan_stops, rows_since, rows_to, text_of, text_since};
 ghost use Rattle.gg_told.specs.Endings.{PrintsOn};
 ghost use Rattle.gg_told.specs.WentOn.{SinkWentOn};
 
 use crate::printer::RowPrinter;
 use crate::run::run_rows;
-use gg_build::build;
+use gg_build::{Node, build};
+use gg_clocks::Ratio;
 use gg_cut::{Plan, stop_ratios};
 use gg_flat::Ports;
 use gg_io::{Gate, Sink};
-use gg_net::Streams;
+use gg_net::{Net, Streams};
 use gg_order::Design;
 use gg_told::{Ending, put};
 use gg_trace::{Trace, header_text};
 use std::alloc::Global;
 use std::thread::Threads;
+
+/// Prints a run from a network before its first step: a header, and then the rows from cycle `begin` on, a window at a time. The network
+/// is run by this many workers, and then by steps in the fixed order. The values of a row are those of the first out-signals, of which
+/// there are `outs`, one for each port; the others are conditions of stops, and `stops` has the ratios of their clocks. The last row is
+/// that of the first cycle in which a stop acts, if one does, and no window begins after that cycle. Host steps bring all these values to
+/// the trays of the network, and bring no others there.
+///
+/// # Errors
+///
+/// Returns `Unwritten` if a put fails, and `NoMemory` if an allocation fails. What was written by then is a first part of
+/// the text.
+pub fn print_from<R: Threads + Sync, Z: Streams, K: Sink, G: Gate + Sync>(
+    rt: &R,
+    alloc: Global,
+    net: Net<Node<'_>, Z>,
+    begin: u64,
+    outs: usize,
+    stops: &[Ratio],
+    ports: &Ports,
+    workers: u32,
+    out: &mut K,
+    gate: &G,
+) -> Result<(), Ending>
+    requires few { workers ≤ 64 }
+    requires opening { AllStandAt begin net }
+    requires within { begin ≤ net.end }
+    requires outs { outs ≤ length net.machines }
+    requires ports { length ports.now ≤ outs }
+    ensures prints { (plan : Plan) (start : Start) (columns : List (List ℕ)) (n : ℕ) (run : IsToRunFrom plan start columns n Z.flow) → IsOpeningFrom plan start (run_token run) columns n net.entry → start.cycle ≡ begin → outs ≡ length run.design.circuit.outs
+        → stops.now ≡ plan_stops run.design run.request → PrintsOn K.Sink out.old out.new (text_since (plan_stops run.design run.request) (plan_reference run.design run.request) ports.now run.rows begin (n - begin)) result }
+    ensures kept { IfOk result (λ done. (plan : Plan) (start : Start) (columns : List (List ℕ)) (n : ℕ) (run : IsToRunFrom plan start columns n Z.flow) → IsOpeningFrom plan start (run_token run) columns n net.entry → start.cycle ≡ begin → outs ≡ length run.design.circuit.outs
+        → stops.now ≡ plan_stops run.design run.request → RowsAreKept net.entry (first_tray run.design.circuit (listed_of run.design.tree run.request)) begin (rows_since (plan_stops run.design run.request) (plan_reference run.design run.request) ports.now run.rows begin (n - begin)) (out_columns (plan_reference run.design run.request) run.rows)) }
+    ensures out { SinkWentOn K.Sink out.old out.new }
+{
+    let mut values = vec![in alloc; 0u128; outs]?;
+    let header = header_text(alloc, ports)?;
+    put(out, header.as_bytes())?;
+    let printer = RowPrinter::new(alloc, ports, stops);
+    run_rows::<R, Z, K, RowPrinter<'_>, G>(
+        rt,
+        alloc,
+        net,
+        begin,
+        workers,
+        values.as_mut_slice(),
+        &printer,
+        out,
+        gate,
+    )?;
+    Ok(())
+}
 
 /// Prints the run of the reference circuit of a plan of the design from the plan's network: a header, and then the rows, a window
 /// at a time. The network is run by this many workers, and then by steps in the fixed order. The values of a row are those of the
@@ -51,23 +106,20 @@ pub fn print_net<R: Threads + Sync, Z: Streams, K: Sink, G: Gate + Sync>(
         → AreKept plan.now inputs.now.columns inputs.now.rows (first_tray run.design.circuit (listed_of run.design.tree run.request)) (rows_to (plan_stops run.design run.request) (plan_reference run.design run.request) ports.now run.rows inputs.now.rows) (out_columns (plan_reference run.design run.request) run.rows)) }
     ensures out { SinkWentOn K.Sink out.old out.new }
 {
-    let mut outs = vec![in alloc; 0u128; design.piece().outs().len()]?;
-    let header = header_text(alloc, ports)?;
-    let ratios = plan.ratios.as_slice();
-    let stops = stop_ratios(alloc, design.tree(), ratios)?;
+    let outs = design.piece().outs().len();
+    let stops = stop_ratios(alloc, design.tree(), plan.ratios.as_slice())?;
     let net = build::<Z>(alloc, plan, inputs)?;
     net.kept();
-    put(out, header.as_bytes())?;
-    let printer = RowPrinter::new(alloc, ports, stops.as_slice());
-    run_rows::<R, Z, K, RowPrinter<'_>, G>(
+    print_from::<R, Z, K, G>(
         rt,
         alloc,
         net,
+        0,
+        outs,
+        stops.as_slice(),
+        ports,
         workers,
-        outs.as_mut_slice(),
-        &printer,
         out,
         gate,
-    )?;
-    Ok(())
+    )
 }

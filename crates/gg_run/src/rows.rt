@@ -1,12 +1,13 @@
 //! The values that trays keep.
 ghost use Rattle.std.specs.Prelude.{◌≡◌, ℕ, ◌+◌, ◌<◌, ◌≤◌, List, length};
 ghost use Rattle.gg_flat.specs.Line.{value_at};
+ghost use Rattle.gg_flat.specs.Run.{Start};
 ghost use Rattle.gg_cut.specs.declared.plan.Plan.{Plan};
 ghost use Rattle.gg_pipe.specs.Made.{plan_reference};
 ghost use Rattle.gg_node.specs.Machine.{machine_at};
 ghost use Rattle.gg_net.specs.Kept.{list_at};
 ghost use Rattle.gg_measure.specs.Nets.{AllStandAt};
-ghost use Rattle.gg_build.specs.Build.{IsToRun};
+ghost use Rattle.gg_build.specs.Build.{IsToRunFrom, run_token};
 ghost use Rattle.gg_sound.specs.Built.{tray_rows};
 ghost use Rattle.gg_run.specs.Rows.{IsNetOfPlan, StillHas, outputs_in, told_value};
 
@@ -31,8 +32,8 @@ pub fn tray_value<Z: Streams>(net: &Net<Node<'_>, Z>, machine: u32, cycle: u64) 
 /// be a place for each output.
 pub fn output_values<Z: Streams>(net: &Net<Node<'_>, Z>, cycle: u64, outs: &mut [u128])
     requires { length outs.old ≤ length net.now.machines }
-    ensures { (plan : Plan) (columns : List (List ℕ)) (n upto : ℕ) (run : IsToRun plan columns n Z.flow) → IsNetOfPlan plan columns n net.now
-        → length outs.old ≡ length run.design.circuit.outs → AllStandAt upto net.now → cycle < upto → upto ≤ cycle + tray_rows
+    ensures { (plan : Plan) (start : Start) (columns : List (List ℕ)) (n upto : ℕ) (run : IsToRunFrom plan start columns n Z.flow) → IsNetOfPlan plan start (run_token run) columns n net.now
+        → start.cycle ≤ cycle → length outs.old ≡ length run.design.circuit.outs → AllStandAt upto net.now → cycle < upto → upto ≤ cycle + tray_rows
         → outs.new ≡ outputs_in (plan_reference run.design run.request) run.rows cycle }
 {
     net.kept();

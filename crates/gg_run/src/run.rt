@@ -1,14 +1,15 @@
 //! `run_rows`: a network is run window by window, and its rows are handed over.
-ghost use Rattle.std.specs.Prelude.{◌≡◌, ◌+◌, ◌<◌, ◌≤◌, ℕ, List, length};
-ghost use Rattle.gg_build.specs.Build.{IsOpeningOf, IsToRun};
+ghost use Rattle.std.specs.Prelude.{◌≡◌, ◌+◌, ◌-◌, ◌<◌, ◌≤◌, ℕ, List, IfOk, length};
+ghost use Rattle.gg_build.specs.Build.{IsOpeningFrom, IsToRunFrom, run_token};
 ghost use Rattle.gg_limits.specs.Limits.{cycle_limit};
+ghost use Rattle.gg_flat.specs.Run.{Start};
 ghost use Rattle.gg_cut.specs.Listed.{listed_of};
 ghost use Rattle.gg_cut.specs.Machines.{first_tray};
 ghost use Rattle.gg_cut.specs.declared.plan.Plan.{Plan};
 ghost use Rattle.gg_measure.specs.Nets.{AllStandAt};
 ghost use Rattle.gg_sound.specs.Built.{tray_rows};
 ghost use Rattle.gg_run.specs.Rows.{StandsAt, run_row};
-ghost use Rattle.gg_run.specs.Taken.{Ran, Took, TookTo};
+ghost use Rattle.gg_run.specs.Taken.{IsRanOut, Ran, TakesSome, Took, TookTo, WentBy, answer_of};
 
 use crate::rows::output_values;
 use crate::taking::Rows;
@@ -32,9 +33,10 @@ fn take_cycle<Z: Streams, T, W: Rows<T>>(
     requires within { cycle ≤ cycle_limit }
     requires outs { length outs.old ≤ length net.now.machines }
     requires can { W.can_take rows.now (length outs.old) }
-    ensures { (plan : Plan) (columns : List (List ℕ)) (n upto : ℕ) (run : IsToRun plan columns n Z.flow) → StandsAt plan columns n upto net.now
-        → length outs.old ≡ length run.design.circuit.outs → cycle < upto → upto ≤ cycle + tray_rows
+    ensures row { (plan : Plan) (start : Start) (columns : List (List ℕ)) (n upto : ℕ) (run : IsToRunFrom plan start columns n Z.flow) → StandsAt plan start (run_token run) columns n upto net.now
+        → start.cycle ≤ cycle → length outs.old ≡ length run.design.circuit.outs → cycle < upto → upto ≤ cycle + tray_rows
         → W.takes rows.now taken.old cycle (run_row run cycle) taken.new result }
+    ensures some { TakesSome (W.takes rows.now) taken.old taken.new result }
 {
     output_values(net, cycle, outs);
     rows.take(taken, cycle, outs)
@@ -52,10 +54,11 @@ fn take_window<Z: Streams, T, W: Rows<T>>(
     requires within { upto ≤ cycle_limit }
     requires outs { length outs.old ≤ length net.now.machines }
     requires can { W.can_take rows.now (length outs.old) }
-    ensures { (plan : Plan) (columns : List (List ℕ)) (n : ℕ) (run : IsToRun plan columns n Z.flow) (before : T) → StandsAt plan columns n upto net.now
-        → length outs.old ≡ length run.design.circuit.outs → begun ≤ upto → upto ≤ begun + tray_rows
-        → TookTo (W.takes rows.now) (run_row run) before begun taken.old
-        → (count : ℕ) × Took (W.takes rows.now) (run_row run) upto count before taken.new result }
+    ensures rows { (plan : Plan) (start : Start) (columns : List (List ℕ)) (n : ℕ) (run : IsToRunFrom plan start columns n Z.flow) (before : T) → StandsAt plan start (run_token run) columns n upto net.now
+        → length outs.old ≡ length run.design.circuit.outs → start.cycle ≤ begun → begun ≤ upto → upto ≤ begun + tray_rows
+        → TookTo (W.takes rows.now) (run_row run) start.cycle before (begun - start.cycle) taken.old
+        → (count : ℕ) × Took (W.takes rows.now) (run_row run) start.cycle (upto - start.cycle) count before taken.new result }
+    ensures went { WentBy (W.takes rows.now) taken.old taken.new result }
 {
     for cycle in begun..upto {
         let goes_on = take_cycle(net, cycle, outs, rows, taken)?;
@@ -66,46 +69,51 @@ fn take_window<Z: Streams, T, W: Rows<T>>(
     Ok(true)
 }
 
-/// Runs a network from its first cycle on, window by window: by this many workers, and then by steps in the fixed order. After each
-/// window it hands over the rows of its cycles: the values of the reference circuit's out-signals. It ends with the network,
-/// or with a row after which it isn't to go on; no window begins then. Returns whether all rows were taken.
+/// Runs a network from its first cycle on, which is `begin`, window by window: by this many workers, and then by steps in the fixed
+/// order. After each window it hands over the rows of its cycles: the values of the reference circuit's out-signals. It ends with the
+/// network, or with a row after which it isn't to go on; no window begins then. Returns the network, and whether all rows were taken. If
+/// they were, all machines stand at the network's end.
 ///
 /// # Errors
 ///
 /// Returns why a row couldn't be taken, and `NoMemory` if an allocation fails.
-pub fn run_rows<R: Threads + Sync, Z: Streams, T, W: Rows<T>, G: Gate + Sync>(
+pub fn run_rows<'n, R: Threads + Sync, Z: Streams, T, W: Rows<T>, G: Gate + Sync>(
     rt: &R,
     alloc: Global,
-    net: Net<Node<'_>, Z>,
+    net: Net<Node<'n>, Z>,
+    begin: u64,
     workers: u32,
     outs: &mut [u128],
     rows: &W,
     taken: &mut T,
     gate: &G,
-) -> Result<bool, Ending>
+) -> Result<(Net<Node<'n>, Z>, bool), Ending>
     requires few { workers ≤ 64 }
-    requires opening { AllStandAt 0 net }
+    requires opening { AllStandAt begin net }
+    requires within { begin ≤ net.end }
     requires outs { length outs.old ≤ length net.machines }
     requires can { W.can_take rows.now (length outs.old) }
-    ensures { (plan : Plan) (columns : List (List ℕ)) (n : ℕ) (run : IsToRun plan columns n Z.flow) → IsOpeningOf plan columns n net.entry → length outs.old ≡ length run.design.circuit.outs
-        → Ran (W.takes rows.now) (run_row run) net.entry (first_tray run.design.circuit (listed_of run.design.tree run.request)) n taken.old taken.new result }
+    ensures ran { (plan : Plan) (start : Start) (columns : List (List ℕ)) (n : ℕ) (run : IsToRunFrom plan start columns n Z.flow) → IsOpeningFrom plan start (run_token run) columns n net.entry → start.cycle ≡ begin → length outs.old ≡ length run.design.circuit.outs
+        → Ran (W.takes rows.now) (run_row run) net.entry (first_tray run.design.circuit (listed_of run.design.tree run.request)) begin (n - begin) taken.old taken.new (answer_of result) }
+    ensures out { IfOk result (λ r. IsRanOut net.entry r.0 r.1) }
+    ensures went { WentBy (W.takes rows.now) taken.old taken.new (answer_of result) }
 {
     net.within_limits();
     let end = net.end();
     let mut net = net;
-    let mut begun = 0;
+    let mut begun = begin;
     while begun < end {
         let upto = window_end(begun, end);
-        net = match run_window::<R, Node<'_>, Ring, Z, G>(rt, (), alloc, net, workers, upto, gate) {
+        net = match run_window::<R, Node<'n>, Ring, Z, G>(rt, (), alloc, net, workers, upto, gate) {
             Ok(net) => net,
             Err(_) => return Err(Ending::NoMemory),
         };
         net.kept();
         let goes_on = take_window(&net, begun, upto, outs, rows, taken)?;
         if !goes_on {
-            return Ok(false);
+            return Ok((net, false));
         }
         begun = upto;
     }
-    Ok(true)
+    Ok((net, true))
 }

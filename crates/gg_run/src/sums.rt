@@ -76,6 +76,7 @@ pub fn sum_net<R: Threads + Sync, Z: Streams, G: Gate + Sync>(
         rt,
         alloc,
         net,
+        0,
         workers,
         outs.as_mut_slice(),
         &Folding,

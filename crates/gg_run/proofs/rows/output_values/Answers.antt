@@ -12,5 +12,5 @@ returns g c =
     (λ k lt.
     let place : c.machines.result - length c.args.outs.now + k ≡ length c.args.net.now.machines - length c.loop-k.outs + k = omega (arith, c.machines.ensures, count) in
     c.loop-k.invariant k (omega (arith, lt, count, c.loop-k-test.false)) ∙ ap (λ m. told_value (machine_at c.args.net.now.machines m) c.args.cycle) place) in
-    λ plan columns n upto run is same all done near.
-    outputs-are plan columns n g.Z.Streams.flow run c.args.net.now is c.kept.ensures upto c.args.cycle c.loop-k.outs (count ∙ same) all done near told
+    λ plan start columns n upto run is from same all done near.
+    outputs-are plan start columns n g.Z.Streams.flow run c.args.net.now is c.kept.ensures upto c.args.cycle c.loop-k.outs (count ∙ same) from all done near told
