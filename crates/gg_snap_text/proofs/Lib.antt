@@ -10,6 +10,7 @@ pub mod WriteLemmas
 mod ParseLemmas
 mod TableLemmas
 pub mod FeedLemmas
+mod PlainLemmas
 mod OneLemmas
 mod FindLemmas
 pub mod PartLemmas

@@ -1,10 +1,9 @@
 -- Lines of two places differ.
-use Rattle.std.proofs.Common.{◌≡◌, ◌≢◌, ℕ, zero, suc, ◌+◌, ◌<◌, ◌≤◌, ◌^◌, List, [], ◌∷◌, ◌++◌, length, get_or, drop, decimal, refl, sym, ap, ap₂, ◌∙◌, subst, arith, append_assoc, ◌⊎◌, inl, inr}
+use Rattle.std.proofs.Common.{◌≡◌, ◌≢◌, ℕ, zero, suc, ◌+◌, ◌<◌, ◌^◌, List, [], ◌∷◌, ◌++◌, get_or, drop, decimal, refl, sym, ap, ap₂, ◌∙◌, subst, arith, append_assoc, ◌⊎◌, inl, inr}
 use Rattle.std.specs.Prelude.{All, Contains}
 use Rattle.std.proofs.lemmas.List.{append_cancel_left}
 use Rattle.std.proofs.lemmas.List.Elements.{All-head, All-tail}
 use Rattle.std.proofs.lemmas.Fmt.{decimal_is_IsNumeral}
-use Rattle.std.proofs.lemmas.Str.Parse.{digit_at}
 use Rattle.std.specs.Str.Parse.{digits_value}
 use Rattle.gg_flat.specs.Circuit.{FlatCircuit}
 use Rattle.gg_flat.proofs.ListLemmas.{here, further}
@@ -19,6 +18,7 @@ use Rattle.gg_snap_text.specs.Lines.{address_text, head_of, kind_word, line_of, 
 use Rattle.gg_snap_text.specs.Draft.{with_value}
 use Rattle.gg_snap_text.specs.Places.{places, places_from}
 use Rattle.gg_snap_text.proofs.DraftLemmas.{set-beside, set-elsewhere}
+use Rattle.gg_snap_text.proofs.FeedLemmas.{decimal-no}
 use Rattle.gg_snap_text.proofs.PlaceLemmas.{AllTwo, AllTwo-append, AreTwo, EachTwo, TwoFrom, TwoFrom-joined}
 
 -- ---- texts up to a blank
@@ -37,17 +37,6 @@ blank-cut (x ∷ xs) [] s t p q e =
     absurd (p (subst (λ b. Contains (x ∷ xs) b) same (here x xs)))
 blank-cut (x ∷ xs) (y ∷ ys) s t p q e =
     ap₂ (λ b l. b ∷ l) (ap (λ (l : List ℕ). get_or l 0 0) e) (blank-cut xs ys s t (no-tail 32 x xs p) (no-tail 32 y ys q) (ap (λ (l : List ℕ). drop 1 l) e))
-
--- a number has only digits
-pub decimal-no : (b n : ℕ) → b < 48 → n < 2 ^ 64 → HasNo b (decimal n)
-decimal-no b n low small c =
-    let digit = digit_at (decimal n) c.0 (decimal_is_IsNumeral n small).0.1 c.1 in
-    other (decimal n) c.0 c.1 c.2 digit
-  where
-    other : (ds : List ℕ) (k : ℕ) → k < length ds → get_or ds k b ≡ b → (48 ≤ get_or ds k 0) × (get_or ds k 0 ≤ 57) → ⊥
-    other [] k lt is digit = omega (arith, lt)
-    other (d ∷ ds) zero lt is digit = omega (arith, is, digit.0, low)
-    other (d ∷ ds) (suc k) lt is digit = other ds k (omega (arith, lt)) is digit
 
 pub same-decimal : (a b : ℕ) → a < 2 ^ 64 → b < 2 ^ 64 → decimal a ≡ decimal b → a ≡ b
 same-decimal a b low high e = sym (decimal_is_IsNumeral a low).1 ∙ ap (λ ds. digits_value 10 ds) e ∙ (decimal_is_IsNumeral b high).1
@@ -117,7 +106,7 @@ two-rows one other a b p q differ = record {
 -- two addresses of one memory
 address-apart : (row : Row) (m a b v w : ℕ) → row.at ≡ Words m → a < 2 ^ 64 → b < 2 ^ 64 → a ≢ b → line_of row a v ≡ line_of row b w → ⊥
 address-apart row m a b v w is low high apart e =
-    apart (same-decimal a b low high (blank-cut (decimal a) (decimal b) (hex_digits (digit_count row.width) v ++ 10 ∷ []) (hex_digits (digit_count row.width) w ++ 10 ∷ []) (decimal-no 32 a (omega arith) low) (decimal-no 32 b (omega arith) high) texts))
+    apart (same-decimal a b low high (blank-cut (decimal a) (decimal b) (hex_digits (digit_count row.width) v ++ 10 ∷ []) (hex_digits (digit_count row.width) w ++ 10 ∷ []) (decimal-no 32 a (omega arith)) (decimal-no 32 b (omega arith)) texts))
   where
     tails : tail_of row a v ≡ tail_of row b w
     tails = append_cancel_left (head_of row) (tail_of row a v) (tail_of row b w) e

@@ -1,10 +1,11 @@
 -- Two states with the same lines are one.
-use Rattle.std.proofs.Common.{◌≡◌, ℕ, zero, suc, ◌+◌, ◌<◌, ◌≤◌, ◌^◌, List, [], ◌∷◌, ◌++◌, length, map, take, drop, get_or, codes, decimal, Some, None, Option, Bool, true, false, cond, refl, sym, ap, ap₂, ◌∙◌, subst, arith, inl, inr}
+use Rattle.std.proofs.Common.{◌≡◌, ℕ, zero, suc, ◌+◌, ◌<◌, ◌≤◌, ◌^◌, List, [], ◌∷◌, ◌++◌, length, map, take, drop, get_or, codes, decimal, Some, None, Option, Bool, true, false, cond, refl, sym, ap, ap₂, ◌∙◌, subst, arith, inl, inr, ◌⊎◌}
 use Rattle.std.specs.Prelude.{⊤, All, ◌==◌}
 use Rattle.std.specs.List.{flat_map, range_with_len}
 use Rattle.std.proofs.lemmas.Bool.Decides.{nat_tests}
-use Rattle.std.proofs.lemmas.List.{append_cancel_left, append_cancel_right, get_or-map, get_or_default, length-map, same_lists}
-use Rattle.std.proofs.lemmas.List.Elements.{All-head, All-tail}
+use Rattle.std.proofs.lemmas.Bool.{cases_lt}
+use Rattle.std.proofs.lemmas.List.{append_cancel_left, append_cancel_right, get_or-map, get_or_default, length-map, same_lists, take-take}
+use Rattle.std.proofs.lemmas.List.Elements.{All-head, All-tail, All-weaker}
 use Rattle.gg_bits.specs.Shape.{shape}
 use Rattle.gg_trace.specs.Cells.{hexadecimal}
 use Rattle.gg_trace.specs.Printing.{hex_digits, digit_count}
@@ -25,12 +26,13 @@ use Rattle.gg_flat.specs.Tree.{InstanceTree, memory_at, path_at}
 use Rattle.gg_snap_text.specs.declared.row.At.TheVariants.{Register, Read}
 use Rattle.gg_snap_text.specs.declared.row.Kind.TheVariants as kind
 use Rattle.gg_snap_text.specs.declared.row.Row.{Row}
-use Rattle.gg_snap_text.specs.Known.{AreKnown, IsKnown}
+use Rattle.gg_snap_text.specs.Known.{AreKnown, CanSave, IsKnown}
 use Rattle.gg_snap_text.specs.Whole.{IsWhole}
 use Rattle.gg_snap_text.specs.Table.{by_path, channel_of, memory_row, memory_rows, pipe_named, pipe_row, pipe_rows, read_row, read_rows, register_named, register_row, register_rows, rows_of}
 use Rattle.gg_snap_text.specs.Lines.{address_text, cycle_line, head_of, line_of, snap_lines, tail_of, value_lines, value_of}
-use Rattle.gg_snap_text.specs.Standing.{IsFirstFault, IsSnap, Lacks, Stops, pieces}
-use Rattle.gg_snap_text.proofs.FeedLemmas.{snap-pieces}
+use Rattle.gg_snap_text.specs.Standing.{CanStand, IsFirstFault, IsSnap, Lacks, Stops, pieces}
+use Rattle.gg_snap_text.proofs.FeedLemmas.{IsPlainRow, snap-begins, snap-pieces}
+use Rattle.gg_snap_text.proofs.PlainLemmas.{rows-plain}
 use Rattle.gg_snap_text.proofs.TableLemmas.{word-known}
 use Rattle.gg_snap_text.specs.Places.{Place, places, places_from}
 use Rattle.gg_snap_text.proofs.ItemLemmas.{AllApart, Are, Item, Off, On, first-text, none-else, texts}
@@ -273,22 +275,60 @@ same-cycle : (a b : ℕ) → a ≤ cycle_limit → b ≤ cycle_limit → cycle_l
 same-cycle a b low high e =
     same-decimal a b (omega (arith, low)) (omega (arith, high)) (append_cancel_right (decimal a) (decimal b) (10 ∷ []) (append_cancel_left (codes "cycle ") (decimal a ++ 10 ∷ []) (decimal b ++ 10 ∷ []) e))
 
--- a text is that of one cycle and one state
+-- a text is that of one cycle
+pub one-cycle : (circuit : FlatCircuit) (tree : InstanceTree) (text : List ℕ) (c d : ℕ) (s t : State) → IsSnap circuit tree text c s → IsSnap circuit tree text d t → c ≡ d
+one-cycle circuit tree text c d s t a b =
+    let rows = rows_of circuit tree in
+    same-cycle c d a.within b.within
+    (ap (λ (l : List (List ℕ)). get_or l 1 []) (sym (snap-begins rows c s) ∙ ap pieces (sym a.is ∙ b.is) ∙ snap-begins rows d t))
+
+-- and of one state
 pub one-snap : (circuit : FlatCircuit) (tree : InstanceTree) (text : List ℕ) (c d : ℕ) (s t : State) → IsWellFormed circuit → IsWhole circuit tree → AreKnown circuit (rows_of circuit tree) → IsSnap circuit tree text c s → IsSnap circuit tree text d t → (c ≡ d) × (s ≡ t)
 one-snap circuit tree text c d s t formed whole known a b =
     let rows = rows_of circuit tree in
-    let lines : snap_lines rows c s ≡ snap_lines rows d t = sym (snap-pieces circuit rows c s known.each a.within) ∙ ap pieces (sym a.is ∙ b.is) ∙ snap-pieces circuit rows d t known.each b.within in (
-      same-cycle c d a.within b.within (ap (λ (l : List (List ℕ)). get_or l 1 []) lines),
+    let plain = All-weaker (IsKnown circuit) IsPlainRow (λ row one. one.plain) rows known.each in
+    let lines : snap_lines rows c s ≡ snap_lines rows d t = sym (snap-pieces rows c s plain) ∙ ap pieces (sym a.is ∙ b.is) ∙ snap-pieces rows d t plain in (
+      one-cycle circuit tree text c d s t a b,
       same-state circuit tree formed whole s t a.typed b.typed (same-values circuit rows s t known a.typed b.typed (ap (λ (l : List (List ℕ)). drop 2 l) lines)),
     )
 
 -- the text of a snapshot has no fault
-pub no-fault : (circuit : FlatCircuit) (tree : InstanceTree) (text : List ℕ) (cycle line : ℕ) (s : State) → AreKnown circuit (rows_of circuit tree) → IsSnap circuit tree text cycle s → IsFirstFault circuit tree text line → ⊥
-no-fault circuit tree text cycle line s known is (Stops k e there before stops) =
-    let rows = rows_of circuit tree in
-    let lines : pieces text ≡ snap_lines rows cycle s = ap pieces is.is ∙ snap-pieces circuit rows cycle s known.each is.within in
-    stops (record { cycle = cycle; state = s; within = is.within; typed = is.typed; there = omega (arith, there); enough = omega (arith, there, ap length lines); same = ap (take (suc k)) lines })
-no-fault circuit tree text cycle line s known is (Lacks e few before) =
-    let rows = rows_of circuit tree in
-    let lines : pieces text ≡ snap_lines rows cycle s = ap pieces is.is ∙ snap-pieces circuit rows cycle s known.each is.within in
-    omega (arith, few, ap length lines)
+pub no-fault : (circuit : FlatCircuit) (tree : InstanceTree) (text : List ℕ) (cycle line : ℕ) (s : State) → CanSave circuit tree → IsSnap circuit tree text cycle s → IsFirstFault circuit tree text line → ⊥
+no-fault circuit tree text cycle line s can is = by
+  where
+    lines : pieces text ≡ snap_lines (rows_of circuit tree) cycle s
+    lines = ap pieces is.is ∙ snap-pieces (rows_of circuit tree) cycle s (rows-plain circuit tree can)
+
+    by : IsFirstFault circuit tree text line → ⊥
+    by (Stops k e there before stops) =
+        stops (record { cycle = cycle; state = s; within = is.within; typed = is.typed; there = omega (arith, there); enough = omega (arith, there, ap length lines); same = ap (take (suc k)) lines })
+    by (Lacks e few before) = omega (arith, few, ap length lines)
+
+-- ---- one fault
+
+module _ (circuit : FlatCircuit) (tree : InstanceTree) (text : List ℕ) where
+  -- fewer lines can stand where more can
+  fewer : (k n : ℕ) → k ≤ n → CanStand circuit tree text n → CanStand circuit tree text k
+  fewer k n le can =
+      let rows = rows_of circuit tree in
+      record {
+        cycle = can.cycle;
+        state = can.state;
+        within = can.within;
+        typed = can.typed;
+        there = omega (arith, le, can.there);
+        enough = omega (arith, le, can.enough);
+        same = sym (take-take k n (pieces text) le) ∙ ap (take k) can.same ∙ take-take k n (snap_lines rows can.cycle can.state) le;
+      }
+
+  -- a text has one first fault
+  pub one-fault : (line other : ℕ) → IsFirstFault circuit tree text line → IsFirstFault circuit tree text other → line ≡ other
+  one-fault line other (Stops k e there before stops) (Stops j f inside still ends) = by (cases_lt k j) (cases_lt j k)
+    where
+      by : (k < j) ⊎ (j ≤ k) → (j < k) ⊎ (k ≤ j) → line ≡ other
+      by (inl lt) any = absurd (stops (fewer (suc k) j (omega (arith, lt)) still))
+      by (inr le) (inl lt) = absurd (ends (fewer (suc j) k (omega (arith, lt)) before))
+      by (inr le) (inr ge) = omega (arith, e, f, le, ge)
+  one-fault line other (Stops k e there before stops) (Lacks f few still) = absurd (stops (fewer (suc k) (length (pieces text)) (omega (arith, there)) still))
+  one-fault line other (Lacks e few before) (Stops j f inside still ends) = absurd (ends (fewer (suc j) (length (pieces text)) (omega (arith, inside)) before))
+  one-fault line other (Lacks e few before) (Lacks f few_too still) = e ∙ sym f

@@ -40,13 +40,17 @@ pub record IsNumbered (Q : ℕ → Row → Type 0) (a b : ℕ) (row : Row) : Typ
   pub high : number < b
   pub is : Q number row
 
-each-append : (P : Row → Type 0) (xs ys : List Row) → Each P xs → Each P ys → Each P (xs ++ ys)
+pub each-append : (P : Row → Type 0) (xs ys : List Row) → Each P xs → Each P ys → Each P (xs ++ ys)
 each-append P [] ys a b = b
 each-append P (x ∷ xs) ys a b = (a.0, each-append P xs ys a.1 b)
 
 pub each-map : (P Q : Row → Type 0) (rows : List Row) → ((row : Row) → P row → Q row) → Each P rows → Each Q rows
 each-map P Q [] to each = tt
 each-map P Q (row ∷ rows) to each = (to row each.0, each-map P Q rows to each.1)
+
+pub all-each : (P : Row → Type 0) (rows : List Row) → Each P rows → All P rows
+all-each P [] each = All-nil P
+all-each P (row ∷ rows) each = All-cons P row rows each.0 (all-each P rows each.1)
 
 pub numbered : (Q : ℕ → Row → Type 0) (f : ℕ → List Row) (a n m : ℕ) → a + n ≤ m → ((s : ℕ) → s < m → Each (Q s) (f s)) → Each (IsNumbered Q a m) (flat_map f (range_with_len a n))
 numbered Q f a zero m le each = tt
@@ -204,6 +208,16 @@ after-once (x ∷ front) (c ∷ one) (d ∷ other) name a b = by (λ f g. after-
     by later true true e f a b = ap₂ (λ h t. h ∷ t) (let ec : x ≡ c = grind (arith, nat_tests) in let ed : x ≡ d = grind (arith, nat_tests) in sym ec ∙ ed) (later a b)
     by later true false e f a b = absurd (none-some name b)
     by later false q e f a b = absurd (none-some name a)
+
+-- what follows the front of a text is in it
+pub contains-behind : (front text rest : List ℕ) (b : ℕ) → after front text ≡ Some rest → Contains rest b → Contains text b
+contains-behind [] text rest b e c = subst (λ t. Contains t b) (sym (same_Some text rest e)) c
+contains-behind (x ∷ front) [] rest b e c = absurd (none-some rest e)
+contains-behind (x ∷ front) (y ∷ text) rest b e c = by (λ f. contains-behind front text rest b f c) (x == y) e
+  where
+    by : (after front text ≡ Some rest → Contains text b) → (t : Bool) → cond t (after front text) None ≡ Some rest → Contains (y ∷ text) b
+    by later true e = further y text b (later e)
+    by later false e = absurd (none-some rest e)
 
 -- the data of a reader is a signal
 pub word-known : (circuit : FlatCircuit) (m r : ℕ) → IsWellFormed circuit → r < length (readers_at circuit m) → (reader_at (readers_at circuit m) r).word < length circuit.signals
@@ -423,15 +437,6 @@ module _ (circuit : FlatCircuit) (tree : InstanceTree) (formed : IsWellFormed ci
         let signal = get_or circuit.signals s some in
         subst (λ (h : Shape). (0 < h.width) × (h.width ≤ 128)) (sym is) (let low = signal.ty.positive in let high = signal.ty.bounded in (omega (arith, low), omega (arith, high)))
 
-    contains-behind : (front text rest : List ℕ) (b : ℕ) → after front text ≡ Some rest → Contains rest b → Contains text b
-    contains-behind [] text rest b e c = subst (λ t. Contains t b) (sym (same_Some text rest e)) c
-    contains-behind (x ∷ front) [] rest b e c = absurd (none-some rest e)
-    contains-behind (x ∷ front) (y ∷ text) rest b e c = by (λ f. contains-behind front text rest b f c) (x == y) e
-      where
-        by : (after front text ≡ Some rest → Contains text b) → (t : Bool) → cond t (after front text) None ≡ Some rest → Contains (y ∷ text) b
-        by later true e = further y text b (later e)
-        by later false e = absurd (none-some rest e)
-
     plain-at : (s : ℕ) → s < length circuit.signals → IsPlain (path_at circuit.paths s)
     plain-at s lt = All-get_or IsPlain circuit.paths s [] (omega (arith, lt, formed.named)) can.plain
 
@@ -520,17 +525,13 @@ module _ (circuit : FlatCircuit) (tree : InstanceTree) (formed : IsWellFormed ci
     one-few : (row : Row) → row.count ≡ 1 → IsFew row
     one-few row e = omega (arith, e)
 
-    all-few : (rows : List Row) → Each IsFew rows → All IsFew rows
-    all-few [] each = All-nil IsFew
-    all-few (row ∷ rows) each = All-cons IsFew row rows each.0 (all-few rows each.1)
-
     each-few : (rows : List Row) → All IsFew rows → Each IsFew rows
     each-few [] all = tt
     each-few (row ∷ rows) all = (All-head IsFew row rows all, each-few rows (All-tail IsFew row rows all))
 
     pub table-known : (rows memories : List Row) → rows ≡ rows_of circuit tree → memories ≡ memory_rows circuit tree → All (λ row. row.count < 2 ^ 32) memories → AreKnown circuit rows
     table-known rows memories is made few =
-        rows-known rows is (subst (All IsFew) (sym is) (all-few (rows_of circuit tree)
+        rows-known rows is (subst (All IsFew) (sym is) (all-each IsFew (rows_of circuit tree)
         (each-append IsFew all_registers (all_reads ++ (all_pipes ++ all_memories)) (each-map _ IsFew all_registers (λ row own. one-few row own.is.held.count) registers-each)
         (each-append IsFew all_reads (all_pipes ++ all_memories) (each-map _ IsFew all_reads (λ row own. one-few row own.is.count) reads-each)
         (each-append IsFew all_pipes all_memories (each-map _ IsFew all_pipes (λ row own. one-few row own.is.held.count) pipes-each)

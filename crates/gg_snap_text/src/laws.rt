@@ -17,11 +17,13 @@ pub fn trees_can_save()
         All IsPlain circuit.paths → All IsPlain tree.memory_paths → CanSave circuit tree }
 {}
 
-/// A text is the snapshot of at most one cycle and one state, where each register has a signal that holds it and each memory a place in the
-/// tree. The text of a snapshot has no fault.
+/// A text is the snapshot of at most one cycle, and of at most one state where each register has a signal that holds it and each memory a
+/// place in the tree. Where the circuit can be saved, the text of a snapshot has no fault. Each text has at most one first fault.
 pub fn one_snapshot()
     ensures once { (circuit : FlatCircuit) (tree : InstanceTree) (text : List ℕ) (c d : ℕ) (s t : State) →
         IsWellFormed circuit → IsWhole circuit tree → AreKnown circuit (rows_of circuit tree) → IsSnap circuit tree text c s → IsSnap circuit tree text d t → (c ≡ d) × (s ≡ t) }
+    ensures cycle { (circuit : FlatCircuit) (tree : InstanceTree) (text : List ℕ) (c d : ℕ) (s t : State) → IsSnap circuit tree text c s → IsSnap circuit tree text d t → c ≡ d }
     ensures apart { (circuit : FlatCircuit) (tree : InstanceTree) (text : List ℕ) (cycle line : ℕ) (s : State) →
-        AreKnown circuit (rows_of circuit tree) → IsSnap circuit tree text cycle s → IsFirstFault circuit tree text line → ⊥ }
+        CanSave circuit tree → IsSnap circuit tree text cycle s → IsFirstFault circuit tree text line → ⊥ }
+    ensures first { (circuit : FlatCircuit) (tree : InstanceTree) (text : List ℕ) (line other : ℕ) → IsFirstFault circuit tree text line → IsFirstFault circuit tree text other → line ≡ other }
 {}

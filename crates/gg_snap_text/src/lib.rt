@@ -6,7 +6,7 @@
 //!
 //! - `snap_text` writes the text of a snapshot.
 //! - `read_snap` reads it again. It refuses all else, and tells the first line that can't stand in any snapshot of the circuit.
-//! - `one_snapshot` is a law: a text is that of at most one cycle and one state.
+//! - `one_snapshot` is a law: a text is that of at most one cycle and one state, and then it has no fault. It has at most one first fault.
 //! - `trees_can_save` is a law: which circuits can be saved.
 //! - `Draft` is a state that is put together from the states of parts.
 #![tactic(auto)]

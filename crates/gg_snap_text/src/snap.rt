@@ -81,6 +81,19 @@ impl<'a> Snap<'a> {
     {
         &self.state
     }
+
+    /// The state before the cycle. Does not allocate.
+    pub fn into_state(self) -> State
+        ensures is { result ≡ self.entry.state }
+        ensures typed { IsState self.entry.design.circuit result }
+    {
+        let Self {
+            design: _,
+            cycle: _,
+            state,
+        } = self;
+        state
+    }
 }
 
 /// The snapshot of a design's circuit whose text these bytes are.
