@@ -1,0 +1,79 @@
+//! `snapshot`, `restore`: from a network to a snapshot, and back.
+ghost use Rattle.std.specs.Prelude.{◌≡◌, ◌≤◌, ℕ, List, IfOk};
+ghost use Rattle.gg_flat.specs.Run.{Start};
+ghost use Rattle.gg_limits.specs.Limits.{cycle_limit};
+ghost use Rattle.gg_pipe.specs.Made.{AllHeld, IsFresh, plan_reference};
+ghost use Rattle.gg_build.specs.Build.{IsOpeningFrom, run_token};
+ghost use Rattle.gg_snap.specs.Whole.{CanBegin, HasEnded, last_state};
+
+use crate::gathering::gather;
+use crate::pipes::tokens_of;
+use gg_build::{Begin, Node, build_from};
+use gg_cut::Plan;
+use gg_net::{Net, Streams};
+use gg_order::Design;
+use gg_snap_text::Snap;
+use gg_trace::Trace;
+use std::alloc::{AllocError, Global};
+
+/// The snapshot of a plan's network that stands at the end of its run: the cycle there, and the state of the reference circuit. `plan` is a
+/// plan of `design`, and `reference` has the reference circuit of the plan.
+///
+/// # Errors
+///
+/// Returns `AllocError` if an allocation fails.
+pub fn snapshot<'a, Z: Streams>(
+    alloc: Global,
+    net: &Net<Node<'_>, Z>,
+    plan: &Plan,
+    design: &Design,
+    reference: &'a Design,
+    cycle: u64,
+) -> Result<Snap<'a>, AllocError>
+    requires ended { (start : Start) × (columns : List (List ℕ)) × (ended : HasEnded plan.now design.now start columns cycle Z.flow net.now) × (reference.now.circuit ≡ plan_reference ended.run.design ended.run.request) }
+    requires fresh { IsFresh design.now.circuit }
+    requires held { AllHeld design.now.circuit }
+    ensures design { IfOk result (λ snap. snap.design ≡ reference.now) }
+    ensures cycle { IfOk result (λ snap. snap.cycle ≡ cycle) }
+    ensures state { IfOk result (λ snap. (start : Start) (columns : List (List ℕ)) (ended : HasEnded plan.now design.now start columns cycle Z.flow net.now) → snap.state ≡ last_state ended.run) }
+{
+    net.kept();
+    net.within_limits();
+    let state = gather(alloc, net, plan, design.piece())?;
+    Ok(Snap::new(reference, cycle, state))
+}
+
+/// The network of a plan that begins with a snapshot's cycle and state. `plan` is a plan of `design`, and the snapshot is one of the
+/// reference circuit of the plan. The sources give the columns of a trace, from the snapshot's cycle on, which should be at most the
+/// number of the trace's rows.
+///
+/// Allocates all the memory that the network will use.
+///
+/// # Errors
+///
+/// Returns `AllocError` if an allocation fails.
+pub fn restore<'p, Z: Streams>(
+    alloc: Global,
+    plan: &'p Plan,
+    design: &Design,
+    trace: &Trace,
+    snap: Snap<'_>,
+) -> Result<Net<Node<'p>, Z>, AllocError>
+    requires { (start : Start) × CanBegin plan.now design.now snap.cycle snap.state start trace.now.columns trace.now.rows Z.flow }
+    ensures { IfOk result (λ net. (start : Start) (can : CanBegin plan.now design.now snap.entry.cycle snap.entry.state start trace.now.columns trace.now.rows Z.flow) → IsOpeningFrom plan.now start (run_token can.run) trace.now.columns trace.now.rows net) }
+{
+    let piece = design.piece();
+    let signals = piece.signal_count();
+    let held = piece.registers().len();
+    let cycle = snap.cycle();
+    let state = snap.into_state();
+    let channels = plan.channels.as_slice();
+    let tokens = tokens_of(alloc, channels, signals, held, state.registers())?;
+    let begin = Begin {
+        cycle,
+        state: Some(state),
+        tokens,
+    };
+    let net = build_from::<Z>(alloc, plan, trace, &begin)?;
+    Ok(net)
+}
