@@ -1,9 +1,19 @@
 -- What a case is to its reference circuit. How a command ends whose first files are read: what it ends with behind them is how it ends.
-use Rattle.std.proofs.Common.{ℕ, List, inl, inr}
+use Rattle.std.proofs.Common.{◌≡◌, ℕ, List, None, subst, inl, inr}
 use Rattle.std.specs.Prelude.{Result}
 use Rattle.gg_io.specs.Told.{Told}
+use Rattle.gg_flat.specs.Circuit.{FlatCircuit}
 use Rattle.gg_flat.specs.Order.{IsOrder}
+use Rattle.gg_flat.specs.Tree.{InstanceTree}
+use Rattle.gg_cut.specs.Fault.{first_fault}
+use Rattle.gg_cut.specs.Held.{AreHeldOnce}
+use Rattle.gg_moved.specs.KeepsToTree.{KeepsToTree}
+use Rattle.gg_order.specs.Design.{IsDesign, Ordered}
+use Rattle.gg_partfile.specs.declared.request.Request.{Request}
+use Rattle.gg_paths.specs.Paths.{HavePaths}
 use Rattle.gg_paths.proofs.FreshLemmas.{none-piped}
+use Rattle.gg_paths.proofs.PortLemmas.{have-paths}
+use Rattle.gg_snap_text.specs.Known.{CanSave}
 use Rattle.gg_pipe.specs.Made.{IsFresh, plan_reference}
 use Rattle.gg_pipe.proofs.PlanLemmas.{plan-ordered}
 use Rattle.gg_build.specs.Build.{reference_order}
@@ -32,6 +42,25 @@ case-fresh {circuit = circuit} {case = case} is = λ s path lt.
 pub case-ordered : {circuit partition : List ℕ} {capacity : ℕ} {case : Case} → IsCase circuit partition capacity case
     → IsOrder (plan_reference case.design case.cut.request) (reference_order case.design case.cut.request)
 case-ordered {case = case} is = plan-ordered case.design case.cut.request is.designed is.keeps is.held is.cuts.faultless
+
+-- the paths of its signals and of its memories have only characters of names
+pub case-paths : {circuit partition : List ℕ} {capacity : ℕ} {case : Case} → IsCase circuit partition capacity case → HavePaths case.design.circuit case.design.tree
+case-paths {circuit = circuit} {case = case} is =
+    let means = is.means.means in
+    have-paths circuit means.text.circuit case.design.circuit case.design.tree means.text.spelt means.flattened is.means.grown is.keeps.fitting is.keeps.scoped
+
+-- the reference circuit can be saved
+abbrev pub PlansCanSave : Type 0
+PlansCanSave =
+    (design : Ordered) (request : Request) → IsDesign design → KeepsToTree design.circuit design.tree → AreHeldOnce design.circuit → HavePaths design.circuit design.tree → first_fault design request ≡ None
+    → CanSave (plan_reference design request) design.tree
+
+pub case-can-save : PlansCanSave → {circuit partition : List ℕ} {capacity : ℕ} {case : Case} → IsCase circuit partition capacity case → CanSave (plan_reference case.design case.cut.request) case.design.tree
+case-can-save can {case = case} is = can case.design case.cut.request is.designed is.keeps is.held (case-paths is) is.cuts.faultless
+
+-- what holds of a circuit that was made and of its tree holds of those that they are
+pub of-made : (P : FlatCircuit → InstanceTree → Type 0) {f g : FlatCircuit} {t u : InstanceTree} → f ≡ g → t ≡ u → P f t → P g u
+of-made P {f = f} {u = u} circuit tree holds = subst (λ (x : FlatCircuit). P x u) circuit (subst (P f) tree holds)
 
 -- ---- refusals
 

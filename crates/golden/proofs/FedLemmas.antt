@@ -18,7 +18,6 @@ use Rattle.gg_marking.specs.Fits.{marking_of}
 use Rattle.gg_marking.specs.Marking.{Layout, Marking}
 use Rattle.gg_progress.specs.Measure.{all_dues}
 use Rattle.gg_paths.specs.Paths.{HavePaths}
-use Rattle.gg_paths.proofs.PortLemmas.{have-paths}
 use Rattle.gg_pipe.specs.Links.{taken_as}
 use Rattle.gg_pipe.specs.Follows.{plan_start}
 use Rattle.gg_pipe.specs.Made.{plan_reference}
@@ -36,14 +35,16 @@ use Rattle.gg_trace.specs.Fields.{text_lines}
 use Rattle.gg_trace.specs.Last.{halts, row_count}
 use Rattle.gg_trace.specs.Printing.{trace_text}
 use Rattle.golden.specs.Case.{AreFedToTrays, IsFed}
+use Rattle.golden.specs.Meant.{AreMeant}
 use Rattle.golden.specs.Network.{IsNetworkText}
 use Rattle.golden.specs.Replay.{CanGoOn, GoesOnUntilAll, IsReplayText, IsReplayed, IsSetting, Setting, TellsSteps, all_steps, naming_of, replay_text, replayed}
 use Rattle.golden.specs.Replayed.{AreFewNames, IsNetText, IsToReplay, TellsStop, case_naming, fed_flow}
 use Rattle.gg_run.specs.Printed.{out_columns, plan_stops, rows_to, text_of}
 use Rattle.golden.specs.Run.{IsTextOf}
+use Rattle.golden.specs.Runs.{meant_by}
 use Rattle.golden.specs.RunText.{IsRunBy, columns_of, outputs_kept, outputs_of, run_rows, run_text, stops_kept}
 use Rattle.golden.specs.declared.case.Fed.{Fed}
-use Rattle.golden.proofs.CaseLemmas.{case-fresh, case-ordered}
+use Rattle.golden.proofs.CaseLemmas.{case-fresh, case-ordered, case-paths}
 use Rattle.golden.proofs.OutputLemmas.{output-ports-count, output-ports-few}
 use Rattle.golden.proofs.PrintingLemmas.{rows-kept, shown-kept, stops-seen, text-kept}
 use Rattle.golden.proofs.FewLemmas.{few-names}
@@ -82,6 +83,19 @@ module _ (circuit partition trace : List ℕ) (capacity : ℕ) (fed : Fed) (is :
   abbrev pub to-replay : IsToReplay fed (fed_flow fed)
   to-replay = record { design = design; request = request; default = capacity; rows = rows; given = given; room = is.case.bounded.1; flow_is = refl }
 
+  -- the three files mean what was read
+  pub fed-are : AreMeant circuit partition trace (meant_by fed)
+  fed-are =
+      record {
+        means = is.case.means;
+        designed = is.case.designed;
+        keeps = is.case.keeps;
+        held = is.case.held;
+        whole = is.case.whole;
+        cuts = is.case.cuts;
+        feeds = is.feeds.feeds;
+      }
+
   pub own-run : IsRunBy fed.case.design fed.case.cut.request fed.trace.columns fed.trace.rows (reference_rows fed.case.design fed.case.cut.request fed.trace.columns fed.trace.rows)
   own-run = given.run.run
 
@@ -90,7 +104,7 @@ module _ (circuit partition trace : List ℕ) (capacity : ℕ) (fed : Fed) (is :
   fed-stops tree ratios stops its given own = own ∙ ap₂ stop_ratios its (given ∙ is.case.planned.ratios)
 
   -- there are as many ports of the top's outputs as outputs
-  fed-count : (ports : List Port) → ports ≡ output_ports fed.case.design.circuit fed.case.design.tree → length ports ≡ length (outputs_of fed.case.design.tree)
+  pub fed-count : (ports : List Port) → ports ≡ output_ports fed.case.design.circuit fed.case.design.tree → length ports ≡ length (outputs_of fed.case.design.tree)
   fed-count ports e =
       ap (λ (l : List Port). length l) e ∙ output-ports-count design.circuit design.tree (stop_signals design.tree) is.case.keeps.scoped.outs is.case.designed.formed
 
@@ -169,9 +183,7 @@ module _ (circuit partition trace : List ℕ) (capacity : ℕ) (fed : Fed) (is :
         x = own-setting layout are
 
         have : HavePaths design.circuit design.tree
-        have =
-            have-paths circuit is.case.means.means.text.circuit design.circuit design.tree is.case.means.means.text.spelt is.case.means.means.flattened is.case.means.grown
-            is.case.keeps.fitting is.case.keeps.scoped
+        have = case-paths is.case
 
         same : all_steps (setting layout) ≡ all_steps b
         same =

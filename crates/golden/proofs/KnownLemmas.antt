@@ -1,4 +1,4 @@
--- What a run of known files wrote.
+-- What a run of known files wrote, and one that goes on from a known snapshot.
 use Rattle.std.proofs.Common.{◌≡◌, ℕ, List, [], Bool, map, sym, ap, ap₂, ◌∙◌, subst, arith}
 use Rattle.std.proofs.lemmas.List.{map-id}
 use Rattle.gg_io.specs.Told.{Holds, Told}
@@ -24,10 +24,11 @@ use Rattle.gg_trace.specs.Last.{halts, row_count}
 use Rattle.gg_trace.specs.Printing.{trace_text}
 use Rattle.gg_words.specs.Meaning.{IsCommand}
 use Rattle.gg_words.specs.declared.command.Cmd.{Cmd}
-use Rattle.gg_words.specs.declared.command.Cmd.TheVariants.{Run}
+use Rattle.gg_words.specs.declared.command.Cmd.TheVariants.{Resume, Run}
 use Rattle.golden.specs.Commands.{order_of}
 use Rattle.golden.specs.Outcome.{Asked, Outcome, Unasked, WantsMemoryFirst}
 use Rattle.golden.specs.Partition.{partition_file_for}
+use Rattle.golden.specs.Resumed.{IsResumedText, snap_file_for}
 use Rattle.golden.specs.Run.{IsPlainText, IsTextOf, circuit_file, trace_file_for}
 use Rattle.golden.specs.RunText.{IsRunBy, IsRunText, columns_of, outputs_of}
 use Rattle.golden.proofs.CauseLemmas.{ExactOrders, OneMeaning, asks-once}
@@ -69,6 +70,20 @@ run-known files circuit partition trace capacity workers mono c p t text hc hp h
     subst (λ (b : List ℕ). IsOnly (IsTextOf b p t) text) one
     (subst (λ (b : List ℕ). IsOnly (IsTextOf c' b t) text) two
     (subst (λ (b : List ℕ). IsOnly (IsTextOf c' p' b) text) three only))
+
+-- the same of a run that goes on from a snapshot
+pub resume-known : (files : List ℕ → Told) (circuit partition trace snap : List ℕ) (capacity workers : ℕ) (c p t s text : List ℕ)
+    → files circuit ≡ Holds c → files partition ≡ Holds p → files trace ≡ Holds t → files snap ≡ Holds s
+    → IsWritten files (order_of (Resume circuit partition trace snap capacity workers)) text → IsOnly (IsResumedText c p t s) text
+resume-known files circuit partition trace snap capacity workers c p t s text hc hp ht hs (c', can, fits, (p', can', fits', (t', can'', fits'', (s', can''', fits''', only)))) =
+    let one : c' ≡ c = told-bytes files (circuit_file circuit) c c' hc can in
+    let two : p' ≡ p = told-bytes files (partition_file_for c' partition) p p' hp can' in
+    let three : t' ≡ t = told-bytes files (trace_file_for c' trace) t t' ht can'' in
+    let four : s' ≡ s = told-bytes files (snap_file_for c' p' t' snap) s s' hs can''' in
+    subst (λ (b : List ℕ). IsOnly (IsResumedText b p t s) text) one
+    (subst (λ (b : List ℕ). IsOnly (IsResumedText c' b t s) text) two
+    (subst (λ (b : List ℕ). IsOnly (IsResumedText c' p' b s) text) three
+    (subst (λ (b : List ℕ). IsOnly (IsResumedText c' p' t' b) text) four only)))
 
 -- ---- a request that asks for no pipe and gives no clocks
 

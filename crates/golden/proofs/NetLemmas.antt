@@ -18,12 +18,14 @@ use Rattle.gg_net.specs.Network.{Frame, Network, puts, entered, takes}
 use Rattle.gg_marking.specs.Goes.{Stopped}
 use Rattle.gg_marking.specs.Steps.{Steps, StopsAt}
 use Rattle.gg_marking.proofs.StepsLemmas.{steps-frame}
+use Rattle.gg_pipe.specs.Follows.{plan_start}
 use Rattle.gg_replay.specs.Log.{AreFronts, opening_log, tokens_at}
 use Rattle.gg_replay.specs.ReplayText.{channel_line}
 use Rattle.gg_replay.proofs.OpeningLemmas.{first-fronts}
 use Rattle.gg_sound.specs.Built.{no_token, wires_of_plan}
 use Rattle.gg_sound.proofs.LinkLemmas.{length-from}
-use Rattle.gg_run.proofs.OpeningLemmas.{begins-so}
+use Rattle.gg_sound.proofs.OpeningLemmas.{built-opening}
+use Rattle.gg_sound.proofs.ZeroLemmas.{built-with-zeros}
 use Rattle.gg_steps.specs.Naming.{Naming}
 use Rattle.gg_told.specs.declared.endings.Ending.{Ending}
 use Rattle.gg_told.specs.declared.endings.Ending.TheVariants.{NoMemory}
@@ -44,7 +46,8 @@ module _ (plan : Plan) (columns : List (List ℕ)) (n : ℕ) (flow : Flow) (net 
       let opening = opening_net machines (wires_of_plan no_token plan) n in
       let fronts : AreFronts flow opening (opening_log (wires_of_plan no_token plan)) =
       first-fronts flow machines (wires_of_plan no_token plan) n (ap (λ (f : Flow). f.begin) run.flow_is) (subst (λ (x : Network). Kept flow x) opens.is kept)
-      (λ m lt. subst (λ (f : Flow). IsOpening f m (machine_at machines m)) (sym run.flow_is) (begins-so plan columns n flow run net opens m lt)) in
+      (λ m lt. subst (λ (f : Flow). IsOpening f m (machine_at machines m)) (sym run.flow_is) (built-opening run.design run.request run.default plan columns n (plan_start run.design run.request) run.rows machines run.given
+      (built-with-zeros run.design run.request run.default plan columns machines run.given.planned opens.built) m lt)) in
       let given : log ≡ opening_log (wires_of_plan no_token plan) = is ∙ ap opening_log (same ∙ ap (λ (x : Network). x.wires) opens.is) in
       subst (λ (x : Network). AreFronts flow x log) (sym opens.is) (subst (λ l. AreFronts flow opening l) (sym given) fronts)
 

@@ -29,7 +29,7 @@ use Rattle.gg_told.proofs.WritingLemmas.{on-then}
 use Rattle.gg_run.specs.Printed.{PrintsRow, RowForm, plan_stops, rows_to, shown_columns, stop_columns, text_of}
 use Rattle.gg_run.specs.Rows.{outputs_in}
 use Rattle.gg_run.specs.Taken.{Took, TookTo}
-use Rattle.gg_run.proofs.TakenLemmas.{took-all, took-fails, took-last, took-next}
+use Rattle.gg_run.proofs.TakenLemmas.{row-there, took-all, took-fails, took-last, took-next}
 
 -- The first `cycle` rows were printed, each time to go on, and the simulator is in the state before the next, in any run.
 pub record SimulatedTo {K : Type 0} (circuit : FlatCircuit) (ratios : List Ratio) (inputs : Table) (form : RowForm) (sink : Sink.Ghosts K) (out out' : K) (cycle : ℕ) (mono : Simulation) (outs : List ℕ) : Type 0 where
@@ -38,14 +38,14 @@ pub record SimulatedTo {K : Type 0} (circuit : FlatCircuit) (ratios : List Ratio
   pub made : mono.cycle ≡ cycle
   pub count : length outs ≡ length circuit.outs
   pub state : (rows : List (List ℕ)) → IsRunFrom circuit (clocked_start circuit ratios) inputs.columns inputs.rows rows → mono.state ≡ state_at circuit (clocked_start circuit ratios) rows cycle
-  pub took : (rows : List (List ℕ)) → IsRunFrom circuit (clocked_start circuit ratios) inputs.columns inputs.rows rows → TookTo (PrintsRow sink form.stops form.ports) (outputs_in circuit rows) out cycle out'
+  pub took : (rows : List (List ℕ)) → IsRunFrom circuit (clocked_start circuit ratios) inputs.columns inputs.rows rows → TookTo (PrintsRow sink form.stops form.ports) (outputs_in circuit rows) 0 out cycle out'
   pub on : SinkWentOn sink out out'
 
 -- what the rows of a run owe
 abbrev pub TookAll : {K : Type 0} (circuit : FlatCircuit) (ratios : List Ratio) (inputs : Table) (form : RowForm) (sink : Sink.Ghosts K) (out out' : K) (result : Result Bool Ending) → Type 0
 TookAll circuit ratios inputs form sink out out' result =
     (rows : List (List ℕ)) → IsRunFrom circuit (clocked_start circuit ratios) inputs.columns inputs.rows rows
-    → (count : ℕ) × Took (PrintsRow sink form.stops form.ports) (outputs_in circuit rows) inputs.rows count out out' result
+    → (count : ℕ) × Took (PrintsRow sink form.stops form.ports) (outputs_in circuit rows) 0 inputs.rows count out out' result
 
 -- a state and inputs have only one settled row
 abbrev pub SettledOnce : Type 0
@@ -93,6 +93,13 @@ module _ {K : Type 0} {circuit : FlatCircuit} {ratios : List Ratio} {inputs : Ta
       → PrintsRow sink form.stops form.ports out' t (outputs_in circuit rows t) out'' answer
   row-so {answer = answer} prints rows run = subst (λ (l : List ℕ). PrintsRow sink form.stops form.ports out' t l out'' answer) (follows-so rows run).row prints
 
+  -- its cycle is t after cycle 0
+  from-zero : {answer : Result Bool Ending} (rows : List (List ℕ)) → PrintsRow sink form.stops form.ports out' t (outputs_in circuit rows t) out'' answer
+      → PrintsRow sink form.stops form.ports out' (0 + t) (outputs_in circuit rows (0 + t)) out'' answer
+  from-zero {answer = answer} rows prints =
+      let same : t ≡ 0 + t = omega arith in
+      row-there (PrintsRow sink form.stops form.ports) (outputs_in circuit rows) 0 out t t out' out'' answer same prints
+
   -- one more cycle, and then on
   pub simulated-next : (goes_on : Bool) → goes_on ≡ true → PrintsRow sink form.stops form.ports out' t outs' out'' (Ok goes_on) → mono'.circuit ≡ mono.circuit → mono'.ratios ≡ mono.ratios → mono'.cycle ≡ mono.cycle + 1
       → length outs' ≡ length outs → SimulatedTo circuit ratios inputs form sink out out'' (t + 1) mono' outs'
@@ -102,25 +109,25 @@ module _ {K : Type 0} {circuit : FlatCircuit} {ratios : List Ratio} {inputs : Ta
     made = made ∙ ap (λ k. k + 1) simulated.made;
     count = counted ∙ simulated.count;
     state = λ rows run. (follows-so rows run).state;
-    took = λ rows run. took-next (PrintsRow sink form.stops form.ports) (outputs_in circuit rows) out t out' out'' goes_on on (simulated.took rows run) (row-so prints rows run);
+    took = λ rows run. took-next (PrintsRow sink form.stops form.ports) (outputs_in circuit rows) 0 out t out' out'' goes_on on (simulated.took rows run) (from-zero rows (row-so prints rows run));
     on = on-then simulated.on prints.on;
   }
 
   -- the last row
   pub simulated-last : (goes_on : Bool) → goes_on ≡ false → PrintsRow sink form.stops form.ports out' t outs' out'' (Ok goes_on) → TookAll circuit ratios inputs form sink out out'' (Ok false)
   simulated-last goes_on off prints rows run =
-      (suc t, took-last (PrintsRow sink form.stops form.ports) (outputs_in circuit rows) out t inputs.rows out' out'' goes_on off lt (simulated.took rows run) (row-so prints rows run))
+      (suc t, took-last (PrintsRow sink form.stops form.ports) (outputs_in circuit rows) 0 out t inputs.rows out' out'' goes_on off lt (simulated.took rows run) (from-zero rows (row-so prints rows run)))
 
   -- a row that couldn't be printed
   pub simulated-fails : {r : Result Bool Ending} {ending : Ending} → r ≡ Err ending → PrintsRow sink form.stops form.ports out' t outs' out'' (Err ending) → TookAll circuit ratios inputs form sink out out'' r
   simulated-fails {r = r} {ending = ending} ends prints rows run =
-      (t, took-fails (PrintsRow sink form.stops form.ports) (outputs_in circuit rows) out t inputs.rows out' out'' ending lt (simulated.took rows run) (row-so prints rows run) r ends)
+      (t, took-fails (PrintsRow sink form.stops form.ports) (outputs_in circuit rows) 0 out t inputs.rows out' out'' ending lt (simulated.took rows run) (from-zero rows (row-so prints rows run)) r ends)
 
 -- all rows
 pub simulated-all : {K : Type 0} {circuit : FlatCircuit} {ratios : List Ratio} {inputs : Table} {form : RowForm} {sink : Sink.Ghosts K} {out out' : K} {cycle : ℕ} {mono : Simulation} {outs : List ℕ}
     → SimulatedTo circuit ratios inputs form sink out out' cycle mono outs → cycle ≡ inputs.rows → TookAll circuit ratios inputs form sink out out' (Ok true)
 simulated-all {circuit = circuit} {inputs = inputs} {form = form} {sink = sink} {out = out} {out' = out'} {cycle = cycle} simulated all rows run =
-    (inputs.rows, took-all (PrintsRow sink form.stops form.ports) (outputs_in circuit rows) out cycle inputs.rows out' (simulated.took rows run) all)
+    (inputs.rows, took-all (PrintsRow sink form.stops form.ports) (outputs_in circuit rows) 0 out cycle inputs.rows out' (simulated.took rows run) all)
 
 -- the first out-signals of the reference circuit have the values of the top's outputs, and those behind them the stops' conditions
 module _ (design : Ordered) (request : Request) (stops : List ℕ) (ports : List Port) (outs : outputs_of design.tree ++ stops ≡ design.circuit.outs) (are : stops ≡ stop_signals design.tree) (count : length ports ≡ length (outputs_of design.tree))

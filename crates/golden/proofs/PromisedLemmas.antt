@@ -16,7 +16,7 @@ use Rattle.gg_order.specs.Design.{Ordered}
 use Rattle.gg_partfile.specs.Partition.{IsPartition}
 use Rattle.gg_partfile.specs.declared.request.Request.{Request}
 use Rattle.gg_told.specs.Said.{Said}
-use Rattle.gg_told.specs.Order.{Order, Load, Write, StopsAt, DueAt, IsOnly, IsExact, IsExactFile, IsUnique, IsUniqueFile, IsJudgement}
+use Rattle.gg_told.specs.Order.{Order, Load, Write, StopsAt, DueAt, IsDueAccepted, IsOnly, IsExact, IsExactFile, IsUnique, IsUniqueFile, IsJudgement}
 use Rattle.gg_told.specs.Ends.{Loads, Puts, Reports, Tells}
 use Rattle.gg_told.proofs.EndsLemmas.{SaysDue}
 use Rattle.gg_told.proofs.OrderLemmas.{IsOnlyDue, first-only, later-only}
@@ -26,19 +26,21 @@ use Rattle.gg_trace.specs.Trace.{IsFirstFault}
 use Rattle.gg_trace.specs.declared.faults.TraceFault.{TraceFault}
 use Rattle.gg_words.specs.Meaning.{IsCommand}
 use Rattle.gg_words.specs.declared.command.Cmd.{Cmd}
-use Rattle.gg_words.specs.declared.command.Cmd.TheVariants.{Run, Replay, Check, Demo}
+use Rattle.gg_words.specs.declared.command.Cmd.TheVariants.{Run, Replay, Check, Demo, Save, Resume}
 use Rattle.golden.specs.Commands.{Asked, asked_by, asking, order_behind, order_by, order_of, read_order, trace_of}
-use Rattle.golden.specs.Limits.{circuit_limit, partition_limit, steps_limit, trace_limit}
+use Rattle.golden.specs.Limits.{circuit_limit, partition_limit, snap_limit, steps_limit, trace_limit}
 use Rattle.golden.specs.Lines.{TellsUnread, partition_fault, trace_fault}
 use Rattle.golden.specs.Network.{RanNetwork}
 use Rattle.golden.specs.Outcome.{Answered}
 use Rattle.golden.specs.Partition.{HasFault, IsPartitionFor, TellsPartitionFor, partition_file_for}
 use Rattle.golden.specs.Promised.{JudgedAt, Promised}
 use Rattle.golden.specs.Replay.{IsReplayOf, IsSetting, Setting, TellsSteps, replayed, steps_file_for, stopped_said}
+use Rattle.golden.specs.Resumed.{CanBeResumed, HaveSamePipes, HaveSameRatios, IsRestOf, IsResumedText}
+use Rattle.golden.specs.Saved.{IsSavedText, saved_file_for}
 use Rattle.golden.specs.Run.{IsPlainText, IsTextOf, TellsCircuit, TellsTraceFor, circuit_file, trace_file_for}
 use Rattle.golden.specs.Words.{AskForCommand, TellsUnasked}
 use Rattle.golden.proofs.CauseLemmas.{Cause, ExactOrders, OneMeaning, cause, complete-status, cut-8, due-said, judged-file, lost-3, no_command-2, none-written, unasked-2, unasked-status, unwritten-4}
-use Rattle.golden.proofs.KnownLemmas.{OneRequest, run-known, run-plain, written-0}
+use Rattle.golden.proofs.KnownLemmas.{OneRequest, resume-known, run-known, run-plain, written-0}
 
 -- if a text has a fault of reading, only this fault is reported
 abbrev pub OneReading : Type 0
@@ -47,6 +49,16 @@ OneReading = (bytes : List ℕ) (fault : ReadFault) (said other : Said) → HasR
 -- at most one thing is reported for each file that follows the circuit
 abbrev pub UniqueOrders : Type 0
 UniqueOrders = (command : Cmd) (asked : Asked) (circuit : List ℕ) → IsUnique (Load (partition_file_for circuit asked.partition) (order_behind command circuit))
+
+-- the text that `save` writes is accepted as a snapshot, under each partition that asks for the same pipes
+abbrev pub Accepted : Type 0
+Accepted = (circuit partition cut trace snap : List ℕ) (one other : Request) (at : ℕ) → IsSavedText circuit cut at trace snap → IsPartitionFor circuit partition → IsPartition partition one → IsPartition cut other → HaveSamePipes one other
+    → CanBeResumed circuit partition trace snap
+
+-- and what `resume` writes is the rest of what `run` writes
+abbrev pub GoesOn : Type 0
+GoesOn = (circuit partition cut trace snap text whole : List ℕ) (one other : Request) (at : ℕ) → IsSavedText circuit cut at trace snap → IsPartitionFor circuit partition → IsPartition partition one → IsPartition cut other → HaveSamePipes one other → HaveSameRatios one other
+    → IsResumedText circuit partition trace snap text → IsTextOf circuit cut trace whole → IsRestOf at whole text
 
 -- the order of a command that asks this of its files
 reads-files : (command : Cmd) (asked : Asked) → asked_by command ≡ Some asked → order_of command ≡ read_order asked (order_behind command)
@@ -99,6 +111,35 @@ module _ {words : List (List ℕ)} {loads : Loads} {out err : Puts} {status : �
     plain once one circuit partition trace capacity workers mono c p t request asks zero hc hp ht is none always =
         let wrote = known once circuit partition trace capacity workers mono c p t asks zero hc hp ht in
         (wrote.0, wrote.1, run-plain one c p t wrote.0 request is none always wrote.2.is)
+
+    -- a run that goes on from a saved snapshot wrote the rest
+    resumed : OneMeaning → Accepted → GoesOn → (loads.lost → ⊥) → (out.failed → ⊥) → (circuit partition trace snap : List ℕ) (capacity workers : ℕ) (c p q t s whole : List ℕ) (one other : Request) (at : ℕ)
+        → IsCommand words (Resume circuit partition trace snap capacity workers)
+        → loads.files circuit ≡ Holds c → length c ≤ circuit_limit
+        → loads.files partition ≡ Holds p → length p ≤ partition_limit → IsPartitionFor c p → IsPartition p one
+        → loads.files trace ≡ Holds t → length t ≤ trace_limit
+        → loads.files snap ≡ Holds s → length s ≤ snap_limit → IsSavedText c q at t s
+        → IsPartition q other → HaveSamePipes one other → HaveSameRatios one other → IsTextOf c q t whole
+        → ((status ≡ 0) × ((text : List ℕ) × (out.after ≡ append_known out.before text) × IsRestOf at whole text)) ⊎ (status ≡ 5)
+    resumed once accepted goes none wrote circuit partition trace snap capacity workers c p q t s whole one other at asks hc lc hp lp fits is ht lt hs ls saved own pipes ratios runs =
+        by (complete-status loads out.failed words status a.text a.line exact once a.outcome none wrote command asks due)
+      where
+        command : Cmd
+        command = Resume circuit partition trace snap capacity workers
+
+        can : CanBeResumed c p t s
+        can = accepted c p q t s one other at saved fits is own pipes
+
+        due : IsDueAccepted loads.files (order_of (Resume circuit partition trace snap capacity workers))
+        due =
+            let are = can.3 in
+            (c, hc, lc, are.means.means.text, (p, hp, lp, fits, (t, ht, lt, (can.0.design.circuit, are.means.means, (can.0.cycles, can.0.columns, are.feeds)), (s, hs, ls, can, tt))))
+
+        by : (status ≡ 0) ⊎ (status ≡ 5) → ((status ≡ 0) × ((text : List ℕ) × (out.after ≡ append_known out.before text) × IsRestOf at whole text)) ⊎ (status ≡ 5)
+        by (inr wanted) = inr wanted
+        by (inl done) =
+            let only = resume-known loads.files circuit partition trace snap capacity workers c p t s a.text hc hp ht hs (written-0 loads out.failed exact once words status a.text a.line a.outcome command asks done) in
+            inl (done, (a.text, a.written, goes c p q t s a.text whole one other at saved fits is own pipes ratios only.is runs))
 
     nothing_written : status ≢ 0 → status ≢ 4 → status ≢ 5 → out.after ≡ out.before
     nothing_written x y z =
@@ -187,6 +228,17 @@ module _ {words : List (List ℕ)} {loads : Loads} {out err : Puts} {status : �
           let command : Cmd = Replay circuit partition own steps capacity in
           tells-later command asked c p (trace_fault (fault_words fault)) asks files hc lc means.text hp lp fits
           (trace-only c t own _ flat fault (((exact command).1 c).1 p).0 ((unique command asked c).1 p).0 means (ap loads.files (same_Some own trace named) ∙ held) lt first)
+      tells-traced unique (Save circuit partition own at capacity workers) asked c p t trace flat fault asks files named hc lc means hp lp fits held lt first =
+          let command : Cmd = Save circuit partition own at capacity workers in
+          let said : Said = trace_fault (fault_words fault) in
+          let refuses : TellsTraceFor c t said = (flat, means, (fault, first, refl)) in
+          tells-later command asked c p said asks files hc lc means.text hp lp fits
+          (first-only loads.files (saved_file_for c p at own) _ t said (((exact command).1 c).1 p).0 (ap loads.files (same_Some own trace named) ∙ held) lt (inl refuses)
+          (λ other h. ((unique command asked c).1 p).0 t other said h (inl refuses)))
+      tells-traced unique (Resume circuit partition own snap capacity workers) asked c p t trace flat fault asks files named hc lc means hp lp fits held lt first =
+          let command : Cmd = Resume circuit partition own snap capacity workers in
+          tells-later command asked c p (trace_fault (fault_words fault)) asks files hc lc means.text hp lp fits
+          (trace-only c t own _ flat fault (((exact command).1 c).1 p).0 ((unique command asked c).1 p).0 means (ap loads.files (same_Some own trace named) ∙ held) lt first)
       tells-traced unique (Check circuit partition capacity) asked c p t trace flat fault asks files named hc lc means hp lp fits held lt first = absurd (cc)
       tells-traced unique (Demo seed size workers) asked c p t trace flat fault asks files named hc lc means hp lp fits held lt first = absurd (cc)
 
@@ -207,14 +259,15 @@ module _ {words : List (List ℕ)} {loads : Loads} {out err : Puts} {status : �
           (setting.design.circuit, is.means.means, (setting.cycles, setting.columns, is.feeds))
           (first-only loads.files (steps_file_for c p t capacity steps) _ s said ((((exact command).1 c).1 p).1 t).0 hs ls refuses (λ other h. (((unique command asked c).1 p).1 t).0 s other said h refuses)))
 
-    pub promised : OneMeaning → OneRequest → UniqueOrders → OneReading
+    pub promised : OneMeaning → OneRequest → UniqueOrders → OneReading → Accepted → GoesOn
         → ((circuit partition trace : List ℕ) (capacity workers : ℕ) → IsCommand words (Run circuit partition trace capacity workers false) → status ≡ 0 → RanNetwork loads out circuit partition trace capacity)
         → Promised words loads out err status
-    promised once request unique one network = record {
+    promised once request unique one accepted goes network = record {
       outcome = a;
       run_known = known once;
       run_plain = plain once request;
       by_network = network;
+      resumed = resumed once accepted goes;
       judged = judged;
       no_command = no_command;
       not_loaded = lost-3 loads out.failed words status a.text a.line caused;

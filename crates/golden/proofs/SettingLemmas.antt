@@ -1,5 +1,5 @@
 -- Two settings of the same bytes: the same steps may be done, and the same is reported for a step that isn't.
-use Rattle.std.proofs.Common.{◌≡◌, ℕ, List, refl, sym, ap, ◌∙◌, subst, inr}
+use Rattle.std.proofs.Common.{◌≡◌, ℕ, List, refl, sym, ap, ◌∙◌, subst, inl, inr}
 use Rattle.std.specs.Prelude.{Result, Ok, Err}
 use Rattle.gg_flat.specs.Order.{IsOrder}
 use Rattle.gg_order.specs.Design.{Ordered}
@@ -86,7 +86,7 @@ module _ (agree : DesignsAgree) (circuit partition trace : List ℕ) (capacity :
 
   -- nothing is reported for steps that may all be done, and all that is reported for others has the status 9
   pub steps_file-exact : (name : List ℕ) → IsExactFile (steps_file_for circuit partition trace capacity name)
-  steps_file-exact name = exact-by 9 (inr (inr (inr refl))) steps-apart steps-status
+  steps_file-exact name = exact-by 9 (inr (inr (inr (inl refl)))) steps-apart steps-status
 
   -- at most one thing is reported for steps
   pub steps_file-unique : (name : List ℕ) → IsUniqueFile (steps_file_for circuit partition trace capacity name)

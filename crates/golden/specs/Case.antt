@@ -11,7 +11,7 @@ use Rattle.gg_moved.specs.KeepsToTree.{KeepsToTree}
 use Rattle.gg_order.specs.Design.{IsDesign}
 use Rattle.gg_io.specs.declared.output.Sink
 use Rattle.gg_cut.specs.Held.{AreHeldOnce}
-use Rattle.gg_pipe.specs.Made.{plan_reference}
+use Rattle.gg_pipe.specs.Made.{AllHeld, plan_reference}
 use Rattle.gg_run.specs.Printed.{AreKept, out_columns}
 use Rattle.gg_told.specs.Endings.{PrintsOn}
 use Rattle.gg_told.specs.declared.endings.Ending.{Ending}
@@ -24,13 +24,14 @@ use Rattle.golden.specs.RunText.{FeedsOnly, IsRunBy, run_rows, run_text}
 use Rattle.golden.specs.declared.case.Case.{Case}
 use Rattle.golden.specs.declared.case.Fed.{Fed}
 
--- The bytes of a circuit and of a partition mean this design, which keeps to its tree and in which no two signals hold one register,
--- and this request. This is the plan of their cut, with this capacity of the channels that the request doesn't name.
+-- The bytes of a circuit and of a partition mean this design, which keeps to its tree and in which each register is held by exactly one
+-- signal, and this request. This is the plan of their cut, with this capacity of the channels that the request doesn't name.
 pub record IsCase (circuit partition : List ℕ) (capacity : ℕ) (case : Case) : Type 0 where
   pub means : MeansDesign circuit case.design
   pub designed : IsDesign case.design
   pub keeps : KeepsToTree case.design.circuit case.design.tree
   pub held : AreHeldOnce case.design.circuit
+  pub whole : AllHeld case.design.circuit
   pub cuts : Cuts case.design partition case.cut.request
   pub bounded : IsCapacity capacity
   pub planned : IsPlan case.design case.cut.request capacity case.cut.plan

@@ -2,12 +2,14 @@
 -- a partition.
 use Rattle.std.specs.Prelude.{ℕ, List, [], Option, Some, None}
 use Rattle.gg_words.specs.declared.command.Cmd.{Cmd}
-use Rattle.gg_words.specs.declared.command.Cmd.TheVariants.{Run, Replay, Check, Demo}
+use Rattle.gg_words.specs.declared.command.Cmd.TheVariants.{Run, Replay, Check, Demo, Save, Resume}
 use Rattle.golden.specs.Check.{IsCutTextOf}
 use Rattle.golden.specs.Demo.{IsDemoText}
 use Rattle.gg_told.specs.Order.{Order, Load, Write}
 use Rattle.golden.specs.Partition.{partition_file_for}
 use Rattle.golden.specs.Replay.{IsReplayOf, steps_file_for}
+use Rattle.golden.specs.Resumed.{IsResumedText, snap_file_for}
+use Rattle.golden.specs.Saved.{IsSavedText, saved_file_for}
 use Rattle.golden.specs.Run.{IsTextOf, circuit_file, trace_file_for}
 
 -- What a command asks of its first two files: their names, and the capacity of the channels that the partition doesn't
@@ -35,6 +37,8 @@ asked_by (Run circuit partition trace capacity workers mono) = Some (asking circ
 asked_by (Replay circuit partition trace steps capacity) = Some (asking circuit partition capacity)
 asked_by (Check circuit partition capacity) = Some (asking circuit partition capacity)
 asked_by (Demo seed size workers) = None
+asked_by (Save circuit partition trace at capacity workers) = Some (asking circuit partition capacity)
+asked_by (Resume circuit partition trace snap capacity workers) = Some (asking circuit partition capacity)
 
 -- the name of its trace, if it has one
 abbrev pub trace_of : Cmd → Option (List ℕ)
@@ -42,17 +46,22 @@ trace_of (Run circuit partition trace capacity workers mono) = Some trace
 trace_of (Replay circuit partition trace steps capacity) = Some trace
 trace_of (Check circuit partition capacity) = None
 trace_of (Demo seed size workers) = None
+trace_of (Save circuit partition trace at capacity workers) = Some trace
+trace_of (Resume circuit partition trace snap capacity workers) = Some trace
 
 -- What comes after a circuit and a partition with these bytes: `run` writes the text of the circuit's run on a trace, with the pipes
 -- that the partition asks for,
 -- `replay` that of the marking that the steps of a file lead to, `check` that of the cut. `demo` has no files before its
--- text, the summary of the demo.
+-- text, the summary of the demo. `save` writes the snapshot of the run before a cycle, `resume` the text of the run from a snapshot on.
 abbrev pub order_behind : Cmd → (circuit partition : List ℕ) → Order
 order_behind (Run circuit partition trace capacity workers mono) c p = Load (trace_file_for c trace) (λ t. Write (IsTextOf c p t))
 order_behind (Replay circuit partition trace steps capacity) c p =
     Load (trace_file_for c trace) (λ t. Load (steps_file_for c p t capacity steps) (λ s. Write (IsReplayOf c p t capacity s)))
 order_behind (Check circuit partition capacity) c p = Write (IsCutTextOf c p capacity)
 order_behind (Demo seed size workers) c p = Write (IsDemoText seed size)
+order_behind (Save circuit partition trace at capacity workers) c p = Load (saved_file_for c p at trace) (λ t. Write (IsSavedText c p at t))
+order_behind (Resume circuit partition trace snap capacity workers) c p =
+    Load (trace_file_for c trace) (λ t. Load (snap_file_for c p t snap) (λ s. Write (IsResumedText c p t s)))
 
 -- What a command asks of its first two files, and then what comes next. A command without files begins with what comes
 -- next, whatever bytes that is given.

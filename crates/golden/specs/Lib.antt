@@ -5,12 +5,16 @@ pub mod Commands
 pub mod Demo
 pub mod Limits
 pub mod Lines
+pub mod Meant
 pub mod Network
 pub mod Outcome
 pub mod Partition
 pub mod Promised
 pub mod Replay
 pub mod Replayed
+pub mod Resumed
 pub mod Run
+pub mod Runs
 pub mod RunText
+pub mod Saved
 pub mod Words

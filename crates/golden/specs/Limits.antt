@@ -12,3 +12,6 @@ trace_limit = 67108864
 
 abbrev pub steps_limit : ℕ
 steps_limit = 67108864
+
+abbrev pub snap_limit : ℕ
+snap_limit = 67108864

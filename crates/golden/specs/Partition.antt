@@ -1,6 +1,6 @@
 -- The partition of a command: what its file holds, and which fault it has for a circuit.
 -- Sources: RFC 8259 and ICCAD 2019, as named in the crates that read a partition and check it. The numbers of the
--- faults are this program's own: P1 is a fault of the file, P2 to P11 are faults, for a design, of the request that it
+-- faults are this program's own: P1 is a fault of the file, P2 to P13 are faults, for a design, of the request that it
 -- holds.
 use Rattle.std.specs.Prelude.{◌≡◌, ℕ, List, Some, None}
 use Rattle.gg_cut.specs.Fault as cut

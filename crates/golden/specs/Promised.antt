@@ -19,15 +19,17 @@ use Rattle.gg_trace.specs.Trace.{IsFirstFault}
 use Rattle.gg_trace.specs.declared.faults.TraceFault.{TraceFault}
 use Rattle.gg_words.specs.Meaning.{IsCommand}
 use Rattle.gg_words.specs.declared.command.Cmd.{Cmd}
-use Rattle.gg_words.specs.declared.command.Cmd.TheVariants.{Replay, Run}
+use Rattle.gg_words.specs.declared.command.Cmd.TheVariants.{Replay, Resume, Run}
 use Rattle.golden.specs.Commands.{Asked, asked_by, order_of, trace_of}
-use Rattle.golden.specs.Limits.{circuit_limit, partition_limit, steps_limit, trace_limit}
+use Rattle.golden.specs.Limits.{circuit_limit, partition_limit, snap_limit, steps_limit, trace_limit}
 use Rattle.golden.specs.Lines.{TellsUnread, partition_fault, trace_fault}
 use Rattle.golden.specs.Network.{RanNetwork}
 use Rattle.golden.specs.Outcome.{Answered}
 use Rattle.golden.specs.Partition.{HasFault, IsPartitionFor}
 use Rattle.golden.specs.Replay.{IsSetting, Setting, replayed, stopped_said}
 use Rattle.golden.specs.Run.{IsPlainText, IsTextOf}
+use Rattle.golden.specs.Resumed.{HaveSamePipes, HaveSameRatios, IsRestOf}
+use Rattle.golden.specs.Saved.{IsSavedText}
 use Rattle.golden.specs.Words.{AskForCommand, TellsUnasked}
 
 -- The bytes of a file, which it can have, are refused with this report, and each file before it is accepted. No load failed, and none was
@@ -57,6 +59,17 @@ pub record Promised (words : List (List ℕ)) (loads : Loads) (out err : Puts) (
   -- network has no other. It isn't claimed of a call with `--mono`.
   pub by_network : (circuit partition trace : List ℕ) (capacity workers : ℕ) → IsCommand words (Run circuit partition trace capacity workers false) → status ≡ 0
       → RanNetwork loads out circuit partition trace capacity
+  -- `resume` after `save`: of known files, of which the snapshot has the text that `save` writes under a partition that asks for the same
+  -- pipes and gives the clocks the same ratios, whatever its units, its memories, its direct channels and its capacities, it writes the
+  -- header and the rows from the saved cycle on of the text that `run` writes.
+  pub resumed : (loads.lost → ⊥) → (out.failed → ⊥) → (circuit partition trace snap : List ℕ) (capacity workers : ℕ) (c p q t s whole : List ℕ) (one other : Request) (at : ℕ)
+      → IsCommand words (Resume circuit partition trace snap capacity workers)
+      → loads.files circuit ≡ Holds c → length c ≤ circuit_limit
+      → loads.files partition ≡ Holds p → length p ≤ partition_limit → IsPartitionFor c p → IsPartition p one
+      → loads.files trace ≡ Holds t → length t ≤ trace_limit
+      → loads.files snap ≡ Holds s → length s ≤ snap_limit → IsSavedText c q at t s
+      → IsPartition q other → HaveSamePipes one other → HaveSameRatios one other → IsTextOf c q t whole
+      → ((status ≡ 0) × ((text : List ℕ) × (out.after ≡ append_known out.before text) × IsRestOf at whole text)) ⊎ (status ≡ 5)
   -- The cause of each status. For a fault of a file, and for words that aren't a command, it also gives the line.
   pub judged : IsJudgement status
       → (command : Cmd) × IsCommand words command × ((said : Said) × JudgedAt loads.files (order_of command) said × Tells err status said)

@@ -1,8 +1,8 @@
 //! The top call.
-ghost use Rattle.std.specs.Prelude.{◌≡◌, ℕ, List, false};
+ghost use Rattle.std.specs.Prelude.{◌≡◌, ℕ, List, Bool, false};
 ghost use Rattle.gg_words.specs.Meaning as command_line;
 ghost use Rattle.gg_words.specs.Meaning.{texts};
-ghost use Rattle.gg_words.specs.declared.command.Cmd.TheVariants.{Run};
+ghost use Rattle.gg_words.specs.declared.command.Cmd.TheVariants.{Replay, Resume, Run, Save};
 ghost use Rattle.golden.specs.Network.{RanNetwork};
 ghost use Rattle.golden.specs.Outcome.{CallEnded, Answered};
 ghost use Rattle.gg_told.specs.Endings.{said_by};
@@ -12,9 +12,11 @@ ghost use Rattle.gg_told.specs.WentOn.{ShelfWentOn, SinkWentOn};
 
 use crate::check::check;
 use crate::demo::demo;
-use crate::laws::refusals_are_exact;
+use crate::laws::{refusals_are_exact, resumed_runs_go_on};
 use crate::replay::replay;
+use crate::resume::resume;
 use crate::run::run;
+use crate::save::save;
 use crate::words::end_at_words;
 use gg_io::{Gate, Shelf, Sink};
 use gg_partfile::one_answer;
@@ -23,8 +25,8 @@ use gg_words::{Cmd, numbers_are_in_range, one_meaning, words};
 use std::alloc::Global;
 use std::thread::Threads;
 
-// Does a command of the command line.
-fn do_command<R: Threads + Sync, S: Shelf, K: Sink, G: Gate + Sync>(
+// Does the command `run`.
+fn do_run<R: Threads + Sync, S: Shelf, K: Sink, G: Gate + Sync>(
     rt: &R,
     alloc: Global,
     cmd: &Cmd,
@@ -32,7 +34,8 @@ fn do_command<R: Threads + Sync, S: Shelf, K: Sink, G: Gate + Sync>(
     out: &mut K,
     gate: &G,
 ) -> Result<(), Ending>
-    requires { (words : List (List ℕ)) × command_line.IsCommand words cmd.now }
+    requires is { (circuit partition trace : List ℕ) × (capacity workers : ℕ) × (mono : Bool) × (cmd.now ≡ Run circuit partition trace capacity workers mono) }
+    requires asked { (words : List (List ℕ)) × command_line.IsCommand words cmd.now }
     ensures ended { (words : List (List ℕ)) → command_line.IsCommand words cmd.now → CallEnded words (loads_of S.Shelf shelf.old shelf.new) (puts_of K.Sink out.old out.new) result }
     ensures network { (circuit partition trace : List ℕ) (capacity workers : ℕ) → cmd.now ≡ Run circuit partition trace capacity workers false → (said_by result).status ≡ 0
         → RanNetwork (loads_of S.Shelf shelf.old shelf.new) (puts_of K.Sink out.old out.new) circuit partition trace capacity }
@@ -61,6 +64,25 @@ fn do_command<R: Threads + Sync, S: Shelf, K: Sink, G: Gate + Sync>(
             out,
             gate,
         ),
+        _ => unreachable!(),
+    }
+}
+
+// Does the command `replay`.
+fn do_replay<S: Shelf, K: Sink>(
+    alloc: Global,
+    cmd: &Cmd,
+    shelf: &mut S,
+    out: &mut K,
+) -> Result<(), Ending>
+    requires is { (circuit partition trace steps : List ℕ) × (capacity : ℕ) × (cmd.now ≡ Replay circuit partition trace steps capacity) }
+    requires asked { (words : List (List ℕ)) × command_line.IsCommand words cmd.now }
+    ensures ended { (words : List (List ℕ)) → command_line.IsCommand words cmd.now → CallEnded words (loads_of S.Shelf shelf.old shelf.new) (puts_of K.Sink out.old out.new) result }
+    ensures shelf { ShelfWentOn S.Shelf shelf.old shelf.new }
+    ensures out { SinkWentOn K.Sink out.old out.new }
+{
+    numbers_are_in_range();
+    match cmd {
         Cmd::Replay {
             circuit,
             partition,
@@ -77,6 +99,112 @@ fn do_command<R: Threads + Sync, S: Shelf, K: Sink, G: Gate + Sync>(
             shelf,
             out,
         ),
+        _ => unreachable!(),
+    }
+}
+
+// Does the command `save`.
+fn do_save<R: Threads + Sync, S: Shelf, K: Sink, G: Gate + Sync>(
+    rt: &R,
+    alloc: Global,
+    cmd: &Cmd,
+    shelf: &mut S,
+    out: &mut K,
+    gate: &G,
+) -> Result<(), Ending>
+    requires is { (circuit partition trace : List ℕ) × (at capacity workers : ℕ) × (cmd.now ≡ Save circuit partition trace at capacity workers) }
+    requires asked { (words : List (List ℕ)) × command_line.IsCommand words cmd.now }
+    ensures ended { (words : List (List ℕ)) → command_line.IsCommand words cmd.now → CallEnded words (loads_of S.Shelf shelf.old shelf.new) (puts_of K.Sink out.old out.new) result }
+    ensures shelf { ShelfWentOn S.Shelf shelf.old shelf.new }
+    ensures out { SinkWentOn K.Sink out.old out.new }
+{
+    numbers_are_in_range();
+    match cmd {
+        Cmd::Save {
+            circuit,
+            partition,
+            trace,
+            at,
+            capacity,
+            workers,
+        } => save(
+            rt,
+            alloc,
+            circuit.as_str(),
+            partition.as_str(),
+            trace.as_str(),
+            *at,
+            *capacity,
+            *workers,
+            shelf,
+            out,
+            gate,
+        ),
+        _ => unreachable!(),
+    }
+}
+
+// Does the command `resume`.
+fn do_resume<R: Threads + Sync, S: Shelf, K: Sink, G: Gate + Sync>(
+    rt: &R,
+    alloc: Global,
+    cmd: &Cmd,
+    shelf: &mut S,
+    out: &mut K,
+    gate: &G,
+) -> Result<(), Ending>
+    requires is { (circuit partition trace snap : List ℕ) × (capacity workers : ℕ) × (cmd.now ≡ Resume circuit partition trace snap capacity workers) }
+    requires asked { (words : List (List ℕ)) × command_line.IsCommand words cmd.now }
+    ensures ended { (words : List (List ℕ)) → command_line.IsCommand words cmd.now → CallEnded words (loads_of S.Shelf shelf.old shelf.new) (puts_of K.Sink out.old out.new) result }
+    ensures shelf { ShelfWentOn S.Shelf shelf.old shelf.new }
+    ensures out { SinkWentOn K.Sink out.old out.new }
+{
+    numbers_are_in_range();
+    match cmd {
+        Cmd::Resume {
+            circuit,
+            partition,
+            trace,
+            snap,
+            capacity,
+            workers,
+        } => resume(
+            rt,
+            alloc,
+            circuit.as_str(),
+            partition.as_str(),
+            trace.as_str(),
+            snap.as_str(),
+            *capacity,
+            *workers,
+            shelf,
+            out,
+            gate,
+        ),
+        _ => unreachable!(),
+    }
+}
+
+// Does a command of the command line.
+fn do_command<R: Threads + Sync, S: Shelf, K: Sink, G: Gate + Sync>(
+    rt: &R,
+    alloc: Global,
+    cmd: &Cmd,
+    shelf: &mut S,
+    out: &mut K,
+    gate: &G,
+) -> Result<(), Ending>
+    requires { (words : List (List ℕ)) × command_line.IsCommand words cmd.now }
+    ensures ended { (words : List (List ℕ)) → command_line.IsCommand words cmd.now → CallEnded words (loads_of S.Shelf shelf.old shelf.new) (puts_of K.Sink out.old out.new) result }
+    ensures network { (circuit partition trace : List ℕ) (capacity workers : ℕ) → cmd.now ≡ Run circuit partition trace capacity workers false → (said_by result).status ≡ 0
+        → RanNetwork (loads_of S.Shelf shelf.old shelf.new) (puts_of K.Sink out.old out.new) circuit partition trace capacity }
+    ensures shelf { ShelfWentOn S.Shelf shelf.old shelf.new }
+    ensures out { SinkWentOn K.Sink out.old out.new }
+{
+    numbers_are_in_range();
+    match cmd {
+        Cmd::Run { .. } => do_run(rt, alloc, cmd, shelf, out, gate),
+        Cmd::Replay { .. } => do_replay(alloc, cmd, shelf, out),
         Cmd::Check {
             circuit,
             partition,
@@ -94,6 +222,8 @@ fn do_command<R: Threads + Sync, S: Shelf, K: Sink, G: Gate + Sync>(
             size,
             workers,
         } => demo(rt, alloc, *seed, *size, *workers, out, gate),
+        Cmd::Save { .. } => do_save(rt, alloc, cmd, shelf, out, gate),
+        Cmd::Resume { .. } => do_resume(rt, alloc, cmd, shelf, out, gate),
     }
 }
 
@@ -165,7 +295,10 @@ fn answer<R: Threads + Sync, S: Shelf, K: Sink, E: Sink, G: Gate + Sync>(
 /// another, on the network of the cut, beginning before its first cycle. It writes a line for each channel, with the number
 /// of tokens that were put, the number that were taken, and the tokens that it had so far. `check CIRCUIT PARTITION` writes a line for each machine
 /// of the cut, then one for each channel. `demo SEED SIZE` makes a circuit, a partition and a trace, runs their network and
-/// writes a summary. Statuses:
+/// writes a summary. `save CIRCUIT PARTITION TRACE AT` runs the network up to cycle AT, and writes the snapshot of the state that the circuit
+/// with the pipes is in before that cycle: it doesn't depend on the rest of the partition. `resume CIRCUIT PARTITION TRACE SNAP` runs the network
+/// from the cycle and the state of a snapshot on, and writes the header and the rows from that cycle on, again to the first in which a stop
+/// acts. Statuses:
 ///
 /// - 0: the text was written whole;
 /// - 1: the circuit has a fault; nothing was written;
@@ -177,7 +310,10 @@ fn answer<R: Threads + Sync, S: Shelf, K: Sink, E: Sink, G: Gate + Sync>(
 /// - 7: the trace has a fault, and the files before it have none; nothing was written;
 /// - 8: a file is longer than its limit; nothing was written;
 /// - 9: a step of the steps file may not be done after those before it, and the files before it have no fault; nothing
-///   was written.
+///   was written;
+/// - 10: the run of `save` has no state before the cycle that was asked for, since a stop ends it or the trace is too short; or
+///   the file for `resume` isn't the text of a snapshot of the circuit with the pipes, or is that of one before a later cycle than the trace
+///   has rows. The files before it have no fault; nothing was written.
 ///
 /// If the files are known and no load or put fails, the files and the words determine the status, unless it is 5.
 pub fn golden<R: Threads + Sync, S: Shelf, K: Sink, E: Sink, G: Gate + Sync>(
@@ -195,6 +331,7 @@ pub fn golden<R: Threads + Sync, S: Shelf, K: Sink, E: Sink, G: Gate + Sync>(
     ensures err { SinkWentOn E.Sink err.old err.new }
 {
     refusals_are_exact();
+    resumed_runs_go_on();
     one_meaning();
     one_answer();
     answer(rt, alloc, words, shelf, out, err, gate)

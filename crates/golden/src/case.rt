@@ -1,8 +1,9 @@
 //! What the first files of a command hold: a circuit and the cut that a partition asks for, and a trace.
-ghost use Rattle.std.specs.Prelude.{◌≤◌, IfOk, IfErr};
+ghost use Rattle.std.specs.Prelude.{◌≡◌, ◌≤◌, IfOk, IfErr};
 ghost use Rattle.gg_words.specs.Range.{IsCapacity};
 ghost use Rattle.golden.specs.Case.{CaseRead, FedRead, case_order, trace_order};
 ghost use Rattle.golden.specs.Commands.{asking};
+ghost use Rattle.golden.specs.Runs.{upto};
 ghost use Rattle.gg_told.specs.Endings.{IfRefused, StopsBy};
 ghost use Rattle.gg_told.specs.Ends.{loads_of};
 ghost use Rattle.gg_told.specs.WentOn.{ShelfWentOn};
@@ -44,6 +45,20 @@ impl Drop for Fed {
         let Self { case, trace } = self;
         drop(case);
         drop(trace);
+    }
+}
+
+impl Fed {
+    /// The same, with the first rows of the trace alone. Does not allocate.
+    pub(crate) fn upto(self, rows: u64) -> Fed
+        requires { rows ≤ self.trace.rows }
+        ensures { result ≡ upto rows self }
+    {
+        let Self { case, trace } = self;
+        Fed {
+            case,
+            trace: trace.first_rows(rows),
+        }
     }
 }
 

@@ -9,6 +9,7 @@ ghost use Rattle.gg_front.specs.Meaning.{MeansDesign};
 ghost use Rattle.gg_limits.specs.Limits.{cycle_limit};
 ghost use Rattle.gg_moved.specs.KeepsToTree.{KeepsToTree};
 ghost use Rattle.gg_cut.specs.Held.{AreHeldOnce};
+ghost use Rattle.gg_pipe.specs.Made.{AllHeld};
 ghost use Rattle.gg_run.specs.Sums.{AreSums};
 ghost use Rattle.gg_told.specs.Ends.{puts_of};
 ghost use Rattle.gg_told.specs.Endings.{PrintsOrStops};
@@ -46,6 +47,7 @@ fn demo_design(alloc: Global, size: u32) -> Result<Design, Ending>
     ensures means { IfOk result (MeansDesign (demo_circuit size)) }
     ensures keeps { IfOk result (λ design. KeepsToTree design.circuit design.tree) }
     ensures held { IfOk result (λ design. AreHeldOnce design.circuit) }
+    ensures whole { IfOk result (λ design. AllHeld design.circuit) }
 {
     let text = circuit_text(alloc, size)?;
     let bytes = text.as_bytes();

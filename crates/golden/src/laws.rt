@@ -1,5 +1,13 @@
-//! Laws: a fact about what is reported for files. It is the contract of a function.
-ghost use Rattle.std.specs.Prelude.{◌≡◌, ℕ, List};
+//! Laws: facts about what is reported for files, and about what a run writes that goes on. Each is the contract of a function.
+ghost use Rattle.std.specs.Prelude.{◌≡◌, ◌≤◌, ℕ, List, None};
+ghost use Rattle.gg_cut.specs.Fault.{first_fault};
+ghost use Rattle.gg_cut.specs.Held.{AreHeldOnce};
+ghost use Rattle.gg_cut.specs.Solves.{AreRows};
+ghost use Rattle.gg_moved.specs.KeepsToTree.{KeepsToTree};
+ghost use Rattle.gg_order.specs.Design.{IsDesign, Ordered};
+ghost use Rattle.gg_partfile.specs.Partition.{IsPartition};
+ghost use Rattle.gg_partfile.specs.declared.request.Request.{Request};
+ghost use Rattle.gg_pipe.specs.Made.{AllHeld, plan_reference};
 ghost use Rattle.gg_read.specs.Text.{HasReadFault};
 ghost use Rattle.gg_read.specs.declared.text.ReadFault.{ReadFault};
 ghost use Rattle.gg_told.specs.Said.{Said};
@@ -7,16 +15,22 @@ ghost use Rattle.golden.specs.Lines.{TellsUnread};
 ghost use Rattle.gg_words.specs.declared.command.Cmd.{Cmd};
 ghost use Rattle.golden.specs.Commands.{Asked, order_behind, order_of};
 ghost use Rattle.gg_told.specs.Order.{IsExact, IsUnique, Load};
-ghost use Rattle.golden.specs.Partition.{partition_file_for};
-ghost use Rattle.golden.specs.Run.{TellsCircuit};
+ghost use Rattle.golden.specs.Meant.{meaning};
+ghost use Rattle.golden.specs.Partition.{IsPartitionFor, partition_file_for};
+ghost use Rattle.golden.specs.Resumed.{CanBeResumed, HaveSamePipes, HaveSameRatios, IsRestOf, IsResumedText, rest_text, start_at};
+ghost use Rattle.golden.specs.Run.{IsTextOf, TellsCircuit};
+ghost use Rattle.golden.specs.RunText.{IsRunBy, run_text};
+ghost use Rattle.golden.specs.Saved.{IsSavedText, save_limit, state_before};
 
 use gg_front::{faults_apart, one_meaning};
 use gg_partfile::one_answer;
 use gg_read::one_fault_line;
+use gg_snap::plans_can_save;
+use gg_snap_text::one_snapshot;
 use gg_trace::one_first_fault;
 
 /// Nothing is reported for accepted bytes of a command's file, and all that is reported for other bytes has one status,
-/// which is a judgement. For a partition, a trace and steps at most one thing is reported. For a circuit with a fault of reading
+/// which is a judgement. For a partition, a trace, steps and a snapshot at most one thing is reported. For a circuit with a fault of reading
 /// only that fault is reported.
 pub fn refusals_are_exact()
     ensures exact { (command : Cmd) → IsExact (order_of command) }
@@ -28,4 +42,24 @@ pub fn refusals_are_exact()
     one_meaning();
     one_answer();
     one_first_fault();
+    plans_can_save();
+    one_snapshot();
+}
+
+/// `resume` goes on where `save` stopped, under any partition that asks for the same pipes and gives the clocks the same ratios, whatever
+/// its units, its memories, its direct channels and its capacities. A run that starts from the state of another run before a cycle prints
+/// the rest of what the other prints. So the text that `save` writes is accepted as a snapshot, and what `resume` writes is the rest of
+/// what `run` writes.
+pub fn resumed_runs_go_on()
+    ensures runs { (design : Ordered) (one other : Request) (columns : List (List ℕ)) (n at : ℕ) (rows rest : List (List ℕ)) → IsDesign design → KeepsToTree design.circuit design.tree → AreHeldOnce design.circuit → AllHeld design.circuit
+        → first_fault design one ≡ None → first_fault design other ≡ None → HaveSamePipes one other → HaveSameRatios one other
+        → IsRunBy design other columns n rows → at ≤ save_limit (meaning design other n columns) rows
+        → AreRows (plan_reference design one) (start_at (meaning design one n columns) at (state_before (meaning design other n columns) rows at)) columns n rest
+        → IsRestOf at (run_text design other rows n) (rest_text (meaning design one n columns) at rest) }
+    ensures accepted { (circuit partition cut trace snap : List ℕ) (one other : Request) (at : ℕ) → IsSavedText circuit cut at trace snap → IsPartitionFor circuit partition → IsPartition partition one → IsPartition cut other → HaveSamePipes one other
+        → CanBeResumed circuit partition trace snap }
+    ensures texts { (circuit partition cut trace snap text whole : List ℕ) (one other : Request) (at : ℕ) → IsSavedText circuit cut at trace snap → IsPartitionFor circuit partition → IsPartition partition one → IsPartition cut other → HaveSamePipes one other → HaveSameRatios one other
+        → IsResumedText circuit partition trace snap text → IsTextOf circuit cut trace whole → IsRestOf at whole text }
+{
+    one_meaning();
 }

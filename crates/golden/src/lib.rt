@@ -7,6 +7,8 @@
 //! `replay` does a list of steps on the network of the cut, and prints the tokens of each channel. `check` prints the
 //! machines, the channels and the needs of the cut that the partition asks for. A partition with a fault is refused.
 //! `demo` makes a circuit, a partition and a trace, runs their network, and prints a summary.
+//! `save` runs the network of the cut up to a cycle, and prints a snapshot: the state of the circuit with the pipes before that cycle. `resume`
+//! prints the run from a snapshot on, from the network of a cut with the same pipes.
 //!
 //! What the call promises (`Promised`), for every shelf and all outputs:
 //!
@@ -17,16 +19,19 @@
 //!   each pipe, and its own where there is none, whose clocks have the ratios that the partition gives them (`IsRunBy`). For any flat circuit that the bytes
 //!   mean, each such run on the trace has this text and no other (`IsOnly`). The same holds for the text of the cut
 //!   (`IsCutTextOf`), for the summary of a demo (`IsDemoText`), and for the text of the marking that the steps lead to
-//!   (`IsReplayOf`). The tokens of each
+//!   (`IsReplayOf`), for the snapshot of the run before a cycle (`IsSavedText`), and for the text of the run from a snapshot on
+//!   (`IsResumedText`). The tokens of each
 //!   channel are the first values of its signal in that run, behind the 0 of a pipe.
 //! - `by_network`: the text that `run` wrote without `--mono`, with status 0, is also that of the network of the cut (`IsNetworkText`). Host
 //!   steps bring its rows to the trays of the top's outputs, and bring no others there, in whatever order they are done. So the network
 //!   has no other text. This isn't claimed of `--mono`.
+//! - `resumed`: `resume` of a snapshot that `save` wrote, under any partition with the same pipes and ratios, writes the header and then the rows
+//!   from the saved cycle on of what `run` writes.
 //! - Causes (`judged`, `no_command`, `not_loaded`, `not_written`, `over`): each status except 0 and 5 has its reason. A
 //!   load or a put that failed is counted by its shelf or output. `nothing_written`: a refusal leaves `out` as it was.
 //! - Faults are reported (`unasked`, `due`, `unread`, `partitioned`, `traced`, `stepped`): words that aren't a command
 //!   give their status. If no load fails, a known file that has to be refused gives exactly its status and a line that
-//!   is right for it. For a fault of reading, of a partition, of a trace and of a step only one line is right.
+//!   is right for it. For a fault of reading, of a partition, of a trace, of a step and of a snapshot only one line is right.
 //! - `complete`: if no load and no put fails, files that are known, within their limits and accepted give status 0.
 //!
 //! The shelf's files stay the same, and no count falls.
@@ -35,7 +40,7 @@
 //! the texts of a demo have no fault is tested, not proved; if one had, the status would be 5.
 //! If a file's contents are unknown, like those of the system's files, `outcome` speaks of *some* bytes that it may
 //! have. A text that was written is then the run of a circuit on a trace that the files may have had, and no contract
-//! says which they were.
+//! says which they were. Of an output that tells nothing, like the system's, no clause says what was written.
 #![tactic(auto)]
 
 mod call;
@@ -51,9 +56,12 @@ mod partition;
 mod printing;
 mod reading;
 mod replay;
+mod resume;
 mod run;
+mod save;
+mod snaps;
 mod windows;
 mod words;
 
 pub use call::golden;
-pub use laws::refusals_are_exact;
+pub use laws::{refusals_are_exact, resumed_runs_go_on};

@@ -11,3 +11,6 @@ pub(crate) const TRACE_LIMIT: u64 = 67_108_864;
 
 /// Of a steps file.
 pub(crate) const STEPS_LIMIT: u64 = 67_108_864;
+
+/// Of a snapshot.
+pub(crate) const SNAP_LIMIT: u64 = 67_108_864;

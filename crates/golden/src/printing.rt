@@ -72,7 +72,7 @@ fn print_rows<K: Sink>(
     requires outs { length outs.old ≡ length mono.old.circuit.outs }
     requires ports { length printer.now.ports ≤ length mono.old.circuit.outs }
     ensures took { (rows : List (List ℕ)) → IsRunFrom mono.old.circuit (clocked_start mono.old.circuit mono.old.ratios) inputs.now.columns inputs.now.rows rows
-        → (count : ℕ) × Took (PrintsRow K.Sink printer.now.stops printer.now.ports) (outputs_in mono.old.circuit rows) inputs.now.rows count out.old out.new result }
+        → (count : ℕ) × Took (PrintsRow K.Sink printer.now.stops printer.now.ports) (outputs_in mono.old.circuit rows) 0 inputs.now.rows count out.old out.new result }
     ensures out { SinkWentOn K.Sink out.old out.new }
 {
     settled_once();
@@ -190,10 +190,11 @@ fn has_room(case: &Case) -> bool
     signals.saturating_add(channels) < 4_294_967_296
 }
 
-// The reference circuit of a case, with an order.
-fn reference_of(alloc: Global, case: &Case) -> Result<Design, AllocError>
+/// The reference circuit of a case, with an order and the design's tree.
+pub(crate) fn reference_of(alloc: Global, case: &Case) -> Result<Design, AllocError>
     requires { (circuit : List ℕ) × (partition : List ℕ) × (capacity : ℕ) × IsCase circuit partition capacity case.now }
-    ensures { IfOk result (λ made. made.circuit ≡ plan_reference case.now.design case.now.cut.request) }
+    ensures circuit { IfOk result (λ made. made.circuit ≡ plan_reference case.now.design case.now.cut.request) }
+    ensures tree { IfOk result (λ made. made.tree ≡ case.now.design.tree) }
 {
     if !has_room(case) {
         return Err(AllocError);

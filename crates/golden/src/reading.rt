@@ -6,6 +6,7 @@ ghost use Rattle.gg_front.specs.declared.fault.FrontFault.TheVariants as front;
 ghost use Rattle.gg_flat.specs.Run.{IsColumns};
 ghost use Rattle.gg_moved.specs.KeepsToTree.{KeepsToTree};
 ghost use Rattle.gg_cut.specs.Held.{AreHeldOnce};
+ghost use Rattle.gg_pipe.specs.Made.{AllHeld};
 ghost use Rattle.gg_trace.specs.declared.faults.TraceFault.TheVariants.{NoMemory};
 ghost use Rattle.gg_trace.specs.FaultText.{fault_words};
 ghost use Rattle.golden.specs.Lines.{circuit_fault, trace_fault};
@@ -53,6 +54,7 @@ pub(crate) fn read_circuit<S: Shelf>(
     ensures accepted { IfOk result (λ design. (bytes : List ℕ) × CanBe (S.files shelf.old) (circuit_file name.now) bytes × MeansDesign bytes design) }
     ensures keeps { IfOk result (λ design. KeepsToTree design.circuit design.tree) }
     ensures held { IfOk result (λ design. AreHeldOnce design.circuit) }
+    ensures whole { IfOk result (λ design. AllHeld design.circuit) }
     ensures refused { IfErr result (IfRefused (IsRefusedBy (loads_of S.Shelf shelf.old shelf.new) (circuit_file name.now))) }
     ensures shelf { ShelfWentOn S.Shelf shelf.old shelf.new }
 {

@@ -31,6 +31,7 @@ returns-clause-read g c =
         designed = record { formed = c.piece.ensures.formed; ordered = c.order.ensures.ordered };
         keeps = c.in_ok-design.ensures.keeps;
         held = c.in_ok-design.ensures.held;
+        whole = c.in_ok-design.ensures.whole;
         cuts = cut.2;
         bounded = c.requires;
         planned = c.in_ok-cut.ensures.planned;

@@ -8,6 +8,7 @@ returns-in-Ok c =
       designed = record { formed = c.piece.ensures.formed; ordered = c.order.ensures.ordered };
       keeps = c.in_ok-design.ensures.keeps;
       held = c.in_ok-design.ensures.held;
+      whole = c.in_ok-design.ensures.whole;
       cuts = c.in-Ok.ensures.cuts;
       bounded = (omega arith, omega arith);
       planned = c.in-Ok.ensures.planned;

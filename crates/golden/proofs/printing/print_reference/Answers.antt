@@ -31,14 +31,14 @@ print_simulated-requires-clause-fed g c =
     let fed = c.args.fed.now in
     let is = c.requires.fed.4 in
     let case = is.case in
-    subst (λ (f : FlatCircuit). IsColumns f fed.trace.rows fed.trace.columns) (sym c.in_ok-reference.ensures)
+    subst (λ (f : FlatCircuit). IsColumns f fed.trace.rows fed.trace.columns) (sym c.in_ok-reference.ensures.circuit)
     (plan-columns fed.case.design fed.case.cut.request case.designed case.keeps case.held case.cuts.faultless fed.trace.rows fed.trace.columns is.columns)
 
 pub print_simulated-requires-clause-ports : goal.print_simulated-requires-clause-ports
 print_simulated-requires-clause-ports g c =
     let design = c.args.fed.now.case.design in
     let request = c.args.fed.now.case.cut.request in
-    subst (λ (f : FlatCircuit). length c.args.ports.now ≤ length f.outs) (sym c.in_ok-reference.ensures)
+    subst (λ (f : FlatCircuit). length c.args.ports.now ≤ length f.outs) (sym c.in_ok-reference.ensures.circuit)
     (subst (λ k. length c.args.ports.now ≤ k) (sym (length-map design.circuit.outs (taken_as (plan_hub design.circuit design.tree request)))) c.requires.ports)
 
 pub returns-clause-prints : goal.returns-clause-prints
@@ -53,4 +53,4 @@ returns-clause-prints g c =
     (subst
     (λ (f : FlatCircuit). (rows : List (List ℕ)) × IsRunFrom f (clocked_start f c.as_slice-ratios.result.now) fed.trace.columns fed.trace.rows rows
     × PrintsOn g.K.Sink c.args.out.now c.print_simulated.new.out (text_of c.args.stops.now f c.args.ports.now rows fed.trace.rows) c.print_simulated.result)
-    c.in_ok-reference.ensures c.print_simulated.ensures.prints)
+    c.in_ok-reference.ensures.circuit c.print_simulated.ensures.prints)

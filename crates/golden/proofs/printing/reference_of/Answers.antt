@@ -12,5 +12,5 @@ can-pipe {capacity = capacity} {case = case} is few =
 pub pipe-requires : goal.pipe-requires
 pipe-requires c = can-pipe c.requires.3 (c.has_room.ensures (grind (arith, c.if-not-has_room.false)))
 
-pub returns : goal.returns
-returns c = c.in_ok-made.ensures.circuit (can-pipe c.requires.3 (c.has_room.ensures (grind (arith, c.if-not-has_room.false))))
+pub returns-clause-circuit : goal.returns-clause-circuit
+returns-clause-circuit c = c.in_ok-made.ensures.circuit (can-pipe c.requires.3 (c.has_room.ensures (grind (arith, c.if-not-has_room.false))))

@@ -1,0 +1,216 @@
+-- `resume`: the run of the reference circuit from a snapshot on, and what is reported for a snapshot.
+use Rattle.std.proofs.Common.{◌≡◌, ◌≢◌, ℕ, ◌+◌, ◌-◌, ◌<◌, ◌≤◌, List, [], drop, replicate, None, refl, sym, ap, ◌∙◌, subst, ◌⊎◌, inl, inr, arith}
+use Rattle.std.proofs.lemmas.List.{get_or-replicate, get_or_append_left, length-append, length-replicate}
+use Rattle.std.proofs.Math.Seq.{drop-append_seam}
+use Rattle.gg_flat.specs.Along.{rows_from}
+use Rattle.gg_flat.specs.Circuit.{FlatCircuit}
+use Rattle.gg_flat.specs.Line.{value_at}
+use Rattle.gg_flat.specs.Ports.{output_ports}
+use Rattle.gg_flat.specs.Run.{IsRunFrom, Start, inputs_at, later, row_at, since}
+use Rattle.gg_flat.specs.Scoped.{stop_signals}
+use Rattle.gg_flat.specs.Settled.{IsInputs}
+use Rattle.gg_flat.specs.State.{IsState, State}
+use Rattle.gg_flat.specs.Tree.{InstanceTree}
+use Rattle.gg_flat.specs.WellFormed.{IsWellFormed}
+use Rattle.gg_flat.specs.declared.ports.Port.{Port}
+use Rattle.gg_flat.proofs.AlongLemmas.{IsRunFrom-along}
+use Rattle.gg_flat.proofs.SinceLemmas.{later-since, since-add}
+use Rattle.gg_cut.specs.Fault.{first_fault}
+use Rattle.gg_cut.specs.Solves.{AreRows}
+use Rattle.gg_moved.specs.KeepsToTree.{KeepsToTree}
+use Rattle.gg_order.specs.Design.{IsDesign, Ordered}
+use Rattle.gg_partfile.specs.declared.request.Request.{Request}
+use Rattle.gg_pipe.specs.Made.{AllHeld, plan_reference}
+use Rattle.gg_pipe.proofs.PlanLemmas.{plan-columns, plan-formed}
+use Rattle.gg_build.specs.Build.{reference_order}
+use Rattle.gg_sound.specs.Built.{IsGiven}
+use Rattle.gg_run.specs.Printed.{plan_stops, rows_since, text_since}
+use Rattle.gg_snap.specs.Whole.{CanBegin}
+use Rattle.gg_snap_text.specs.Known.{AreKnown}
+use Rattle.gg_snap_text.specs.Standing.{IfFault, IsFirstFault, IsSnap}
+use Rattle.gg_snap_text.specs.Table.{rows_of}
+use Rattle.gg_snap_text.specs.Whole.{IsWhole}
+use Rattle.gg_snap_text.specs.FaultText.{fault_words}
+use Rattle.gg_snap_text.specs.declared.fault.SnapFault.{SnapFault}
+use Rattle.gg_snap_text.specs.declared.fault.SnapFault.TheVariants as snap
+use Rattle.gg_snap_text.specs.declared.fault.SnapFault.TheVariants.{S1}
+use Rattle.gg_told.specs.Order.{IsOnly}
+use Rattle.gg_told.specs.Said.{Said}
+use Rattle.gg_trace.specs.Last.{halts, row_count}
+use Rattle.gg_trace.specs.Printing.{text_from}
+use Rattle.golden.specs.Case.{IsFed}
+use Rattle.golden.specs.Lines.{few_rows, snap_fault}
+use Rattle.golden.specs.Resumed.{CanBeResumed, HasRest, IsResumedText, TellsLate, TellsNoSnap, rest_rows, rest_text, start_at}
+use Rattle.golden.specs.RunText.{columns_of, outputs_kept}
+use Rattle.golden.specs.Runs.{TellsSnapOf, meant_by, resumed_flow, resumed_rows}
+use Rattle.golden.specs.declared.case.Fed.{Fed}
+use Rattle.golden.proofs.CaseLemmas.{case-fresh, case-ordered}
+use Rattle.golden.proofs.FedLemmas.{fed-are, fed-count}
+use Rattle.golden.proofs.PartitionLemmas.{DesignsAgree}
+use Rattle.golden.proofs.PrintingLemmas.{shown-kept, stops-seen}
+use Rattle.golden.proofs.ResumedLemmas.{resumed-only}
+
+-- ---- cycles
+
+since-less : (c n : ℕ) → c ≤ n → n - c ≡ since c n
+since-less c n le = omega (arith, since-add c n le, le)
+
+later-is : (c t : ℕ) → c + t ≡ later c t
+later-is c t =
+    let there : c ≤ c + t = omega arith in
+    let same : since c (c + t) ≡ t = omega (arith, since-add c (c + t) there) in
+    sym (later-since c (c + t) there) ∙ ap (later c) same
+
+-- ---- laws
+
+-- a text has at most one cycle and one state
+abbrev pub OneSnapshot : Type 0
+OneSnapshot =
+    (circuit : FlatCircuit) (tree : InstanceTree) (text : List ℕ) (c d : ℕ) (s t : State) → IsWellFormed circuit → IsWhole circuit tree → AreKnown circuit (rows_of circuit tree) → IsSnap circuit tree text c s → IsSnap circuit tree text d t
+    → (c ≡ d) × (s ≡ t)
+
+-- a snapshot's text has all of the state of a reference circuit
+abbrev pub PlansAreWhole : Type 0
+PlansAreWhole =
+    (design : Ordered) (request : Request) → IsDesign design → KeepsToTree design.circuit design.tree → AllHeld design.circuit → first_fault design request ≡ None → IsWhole (plan_reference design request) design.tree
+
+-- ---- the run from a snapshot on
+
+module _ (circuit partition trace : List ℕ) (capacity : ℕ) (fed : Fed) (is : IsFed circuit partition trace capacity fed) (cycle : ℕ) (state : State) (within : cycle ≤ fed.trace.rows)
+    (typed : IsState (plan_reference fed.case.design fed.case.cut.request) state) where
+  abbrev design : Ordered
+  design = fed.case.design
+
+  abbrev request : Request
+  request = fed.case.cut.request
+
+  abbrev reference : FlatCircuit
+  reference = plan_reference design request
+
+  abbrev start : Start
+  start = start_at (meant_by fed) cycle state
+
+  abbrev n : ℕ
+  n = fed.trace.rows
+
+  -- the rows from the snapshot's cycle on, and those by cycle
+  abbrev behind : List (List ℕ)
+  behind = rows_from reference (reference_order design request) start fed.trace.columns (n - cycle)
+
+  abbrev rows : List (List ℕ)
+  rows = resumed_rows fed cycle state
+
+  formed : IsWellFormed reference
+  formed = plan-formed design request is.case.designed is.case.keeps is.case.held is.case.cuts.faultless (case-fresh is.case)
+
+  behind-run : IsRunFrom reference start fed.trace.columns (n - cycle) behind
+  behind-run =
+      IsRunFrom-along reference (reference_order design request) start fed.trace.columns (n - cycle) formed (case-ordered is.case) typed
+      (λ t lt.
+      subst (λ u. IsInputs reference (inputs_at fed.trace.columns u)) (later-is cycle t)
+      ((plan-columns design request is.case.designed is.case.keeps is.case.held is.case.cuts.faultless n fed.trace.columns is.columns).inputs (cycle + t) (omega (arith, lt, within))))
+
+  dropped : behind ≡ drop cycle rows
+  dropped = sym (ap (λ k. drop k rows) (sym (length-replicate {A = List ℕ} cycle [])) ∙ drop-append_seam (replicate cycle []) behind)
+
+  empty-before : (t s : ℕ) → t < cycle → value_at (row_at rows t) s ≡ 0
+  empty-before t s lt =
+      ap (λ (row : List ℕ). value_at row s)
+      (get_or_append_left (replicate cycle []) behind [] t (omega (arith, lt, length-replicate {A = List ℕ} cycle [])) ∙ get_or-replicate cycle t [] [] lt)
+
+  resumed-run : AreRows reference start fed.trace.columns n rows
+  resumed-run =
+      record {
+        begun = within;
+        count = omega (arith, length-append (replicate cycle []) behind, length-replicate {A = List ℕ} cycle [], behind-run.count, within);
+        before = empty-before;
+        run = subst (IsRunFrom reference start fed.trace.columns (since cycle n)) dropped (subst (λ k. IsRunFrom reference start fed.trace.columns k behind) (since-less cycle n within) behind-run);
+      }
+
+  pub resumed-given : IsGiven fed.case.design fed.case.cut.request capacity fed.case.cut.plan fed.trace.columns fed.trace.rows (start_at (meant_by fed) cycle state) (resumed_rows fed cycle state)
+  resumed-given =
+      record {
+        design_is = is.case.designed;
+        keeps = is.case.keeps;
+        held = is.case.held;
+        faultless = is.case.cuts.faultless;
+        some = is.case.bounded.0;
+        planned = is.case.planned;
+        most = is.most;
+        given = is.columns;
+        typed = typed;
+        clocked = refl;
+        run = resumed-run;
+      }
+
+  -- the network of the plan can begin with the snapshot
+  abbrev pub resumed-can : CanBegin fed.case.cut.plan fed.case.design cycle state (start_at (meant_by fed) cycle state) fed.trace.columns fed.trace.rows (resumed_flow fed cycle state)
+  resumed-can =
+      record {
+        run = record { design = design; request = request; default = capacity; rows = rows; given = resumed-given; room = is.case.bounded.1; flow_is = refl };
+        of_design = refl;
+        at_cycle = refl;
+        in_state = refl;
+      }
+
+  -- the text of the run for the ports of the top's outputs
+  pub resumed-text : (ports : List Port) → ports ≡ output_ports fed.case.design.circuit fed.case.design.tree
+      → text_since (plan_stops fed.case.design fed.case.cut.request) (plan_reference fed.case.design fed.case.cut.request) ports (resumed_rows fed cycle state) cycle (fed.trace.rows - cycle) ≡ rest_text (meant_by fed) cycle (resumed_rows fed cycle state)
+  resumed-text ports e =
+      let stops = plan_stops design request in
+      let count = fed-count circuit partition trace capacity fed is ports e in
+      let shown = shown-kept design request (stop_signals design.tree) ports is.case.keeps.scoped.outs refl count rows in
+      let seen = stops-seen design request (stop_signals design.tree) ports is.case.keeps.scoped.outs refl count rows in
+      ap (λ (columns : List (List ℕ)). text_from ports columns cycle (rows_since stops reference ports rows cycle (n - cycle))) shown
+      ∙ ap (λ (columns : List (List ℕ)). text_from ports (columns_of (outputs_kept design request) rows) cycle (row_count (λ k. halts stops columns (cycle + k)) (n - cycle))) seen
+      ∙ ap (λ (p : List Port). text_from p (columns_of (outputs_kept design request) rows) cycle (rest_rows (meant_by fed) cycle rows)) e
+
+  module _ (snap : List ℕ) (reads : IsSnap (plan_reference fed.case.design fed.case.cut.request) fed.case.design.tree snap cycle state)
+      (known : AreKnown (plan_reference fed.case.design fed.case.cut.request) (rows_of (plan_reference fed.case.design fed.case.cut.request) fed.case.design.tree)) where
+    resumed-rest : OneSnapshot → PlansAreWhole → HasRest circuit partition trace snap (meant_by fed) cycle state (resumed_rows fed cycle state)
+    resumed-rest once whole =
+        record {
+          are = fed-are circuit partition trace capacity fed is;
+          reads = reads;
+          only = λ c s other. once reference design.tree snap c cycle s state formed (whole design request is.case.designed is.case.keeps is.case.whole is.case.cuts.faultless) known other reads;
+          within = within;
+          run = resumed-run;
+        }
+
+    -- the snapshot can be resumed, and its text is the only one
+    pub resumed-so : DesignsAgree → OneSnapshot → PlansAreWhole
+        → CanBeResumed circuit partition trace snap × IsOnly (IsResumedText circuit partition trace snap) (rest_text (meant_by fed) cycle (resumed_rows fed cycle state))
+    resumed-so agree once whole = (
+      (meant_by fed, cycle, state, fed-are circuit partition trace capacity fed is, reads, within),
+      resumed-only agree (meant_by fed) cycle state (resumed_rows fed cycle state) (resumed-rest once whole),
+    )
+
+-- ---- what is reported
+
+-- what is reported for a fault of a text is reported for its line
+pub snap-fault : (made : Ordered) (count : ℕ) (bytes slice : List ℕ) (fault : SnapFault) (said : Said) → slice ≡ bytes → fault ≢ snap.NoMemory → IfFault (IsFirstFault made.circuit made.tree slice) fault
+    → said ≡ snap_fault (fault_words fault) → TellsSnapOf made count bytes said
+snap-fault made count bytes slice (S1 line) said e some first is = inl (line, subst (λ (b : List ℕ). IsFirstFault made.circuit made.tree b line) e first, is)
+snap-fault made count bytes slice snap.NoMemory said e some first is = absurd (some refl)
+
+-- what is reported for a snapshot of the reference circuit is reported for its file
+pub snap-tells : (circuit partition trace : List ℕ) (capacity : ℕ) (fed : Fed) → IsFed circuit partition trace capacity fed → (made : Ordered) (count : ℕ) (snap : List ℕ) → made.circuit ≡ plan_reference fed.case.design fed.case.cut.request
+    → made.tree ≡ fed.case.design.tree → count ≡ fed.trace.rows → (said : Said) → TellsSnapOf made count snap said → TellsNoSnap circuit partition trace snap said ⊎ TellsLate circuit partition trace snap said
+snap-tells circuit partition trace capacity fed is made count snap c t r said (inl (line, first, tells)) =
+    inl (
+      meant_by fed,
+      line,
+      fed-are circuit partition trace capacity fed is,
+      subst (λ (f : FlatCircuit). IsFirstFault f fed.case.design.tree snap line) c (subst (λ (x : InstanceTree). IsFirstFault made.circuit x snap line) t first),
+      tells,
+    )
+snap-tells circuit partition trace capacity fed is made count snap c t r said (inr (cycle, state, reads, late, tells)) =
+    inr (
+      meant_by fed,
+      cycle,
+      state,
+      fed-are circuit partition trace capacity fed is,
+      subst (λ (f : FlatCircuit). IsSnap f fed.case.design.tree snap cycle state) c (subst (λ (x : InstanceTree). IsSnap made.circuit x snap cycle state) t reads),
+      subst (λ k. k < cycle) r late,
+      subst (λ k. said ≡ few_rows cycle k) r tells,
+    )

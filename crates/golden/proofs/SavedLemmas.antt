@@ -1,0 +1,91 @@
+-- What `save` answers for the bytes of its files is one: the text, or what is reported for the trace.
+use Rattle.std.proofs.Common.{◌≡◌, ◌⊎◌, ℕ, List, ◌≤◌, refl, sym, ap, ◌∙◌, subst, inl, inr, arith}
+use Rattle.gg_flat.specs.Circuit.{FlatCircuit}
+use Rattle.gg_flat.specs.Ports.{in_ports}
+use Rattle.gg_flat.proofs.UniqueLemmas.{IsRunFrom-once}
+use Rattle.gg_pipe.specs.Follows.{plan_start}
+use Rattle.gg_build.specs.Build.{reference_order}
+use Rattle.gg_snap_text.specs.Lines.{snap_text}
+use Rattle.gg_told.specs.Order.{IsExactFile, IsJudgement, IsOnly, IsUniqueFile}
+use Rattle.gg_told.specs.Said.{Said}
+use Rattle.gg_trace.specs.Trace.{IsFirstFault}
+use Rattle.golden.specs.Lines.{few_rows}
+use Rattle.golden.specs.Meant.{Meant, meant_reference, meant_values}
+use Rattle.golden.specs.Run.{TellsTraceFor}
+use Rattle.golden.specs.Saved.{CanBeSaved, HasRun, IsSavedText, TellsFew, save_limit, saved_file_for, state_before}
+use Rattle.golden.proofs.MeantLemmas.{meant-is, meant-ordered, meant-run}
+use Rattle.golden.proofs.PartitionLemmas.{DesignsAgree}
+use Rattle.golden.proofs.TextLemmas.{OneFlat}
+use Rattle.golden.proofs.TraceLemmas.{NoFault, OneFirstFault, trace-once, trace-status}
+
+module _ (agree : DesignsAgree) where
+  -- two runs of the same bytes
+  module _ {circuit partition trace : List ℕ} (one other : Meant) (rows others : List (List ℕ)) (x : HasRun circuit partition trace one rows) (y : HasRun circuit partition trace other others) where
+    run-same : rows ≡ others
+    run-same =
+        IsRunFrom-once (meant_reference other) (reference_order other.design other.request) (plan_start other.design other.request) other.columns other.cycles rows others
+        (meant-ordered y.are) (meant-run agree one other x.are y.are rows x.run) y.run
+
+    limit-same : save_limit one rows ≡ save_limit other others
+    limit-same = ap (λ (m : Meant). save_limit m rows) (meant-is agree one other x.are y.are) ∙ ap (save_limit other) run-same
+
+    saved-same : (at : ℕ) → snap_text (meant_values one) at (state_before one rows at) ≡ snap_text (meant_values other) at (state_before other others at)
+    saved-same at =
+        ap (λ (m : Meant). snap_text (meant_values m) at (state_before m rows at)) (meant-is agree one other x.are y.are)
+        ∙ ap (λ (r : List (List ℕ)). snap_text (meant_values other) at (state_before other r at)) run-same
+
+  -- the text is the only one
+  pub saved-only : {circuit partition trace : List ℕ} (meant : Meant) (rows : List (List ℕ)) → HasRun circuit partition trace meant rows → (at : ℕ) → at ≤ save_limit meant rows
+      → IsOnly (IsSavedText circuit partition at trace) (snap_text (meant_values meant) at (state_before meant rows at))
+  saved-only {circuit} {partition} {trace} meant rows has at le = record { is = (meant, rows, has, le, refl); only = only }
+    where
+      only : (text : List ℕ) → IsSavedText circuit partition at trace text → text ≡ snap_text (meant_values meant) at (state_before meant rows at)
+      only text (other, others, y, within, is) = is ∙ saved-same other meant others rows y has at
+
+  -- ---- the trace
+
+  module _ (flat : OneFlat) (one-fault : OneFirstFault) (none : NoFault) (circuit partition : List ℕ) (at : ℕ) where
+    -- a trace with a run has no fault
+    run-apart : (trace : List ℕ) (meant : Meant) (rows : List (List ℕ)) (said : Said) → HasRun circuit partition trace meant rows → TellsTraceFor circuit trace said → ⊥
+    run-apart trace meant rows said has (other, means, (fault, first, is)) =
+        none (in_ports meant.design.circuit) trace meant.cycles meant.columns fault has.are.feeds
+        (subst (λ (f : FlatCircuit). IsFirstFault (in_ports f) trace fault) (flat circuit other meant.design.circuit means has.are.means.means) first)
+
+    few-apart : (trace : List ℕ) (said other : Said) → TellsFew circuit partition at trace said → TellsTraceFor circuit trace other → ⊥
+    few-apart trace said other (meant, rows, has, lt, is) told = run-apart trace meant rows other has told
+
+    few-status : (trace : List ℕ) (said : Said) → TellsFew circuit partition at trace said → said.status ≡ 10
+    few-status trace said (meant, rows, has, lt, is) = ap (λ (s : Said). s.status) is
+
+    few-once : (trace : List ℕ) (said other : Said) → TellsFew circuit partition at trace said → TellsFew circuit partition at trace other → said ≡ other
+    few-once trace said other (meant, rows, x, lt, is) (meant', rows', y, lt', is') = is ∙ ap (few_rows at) (limit-same meant meant' rows rows' x y) ∙ sym is'
+
+    saved-apart : (trace : List ℕ) (said : Said) → CanBeSaved circuit partition at trace → TellsTraceFor circuit trace said ⊎ TellsFew circuit partition at trace said → ⊥
+    saved-apart trace said (meant, rows, has, le) (inl told) = run-apart trace meant rows said has told
+    saved-apart trace said (meant, rows, x, le) (inr (other, others, y, lt, is)) = omega (arith, le, lt, limit-same meant other rows others x y)
+
+    saved-status : (trace : List ℕ) (said other : Said) → TellsTraceFor circuit trace said ⊎ TellsFew circuit partition at trace said → TellsTraceFor circuit trace other ⊎ TellsFew circuit partition at trace other
+        → said.status ≡ other.status
+    saved-status trace said other (inl a) (inl b) = trace-status flat one-fault none circuit trace said a ∙ sym (trace-status flat one-fault none circuit trace other b)
+    saved-status trace said other (inl a) (inr b) = absurd (few-apart trace other said b a)
+    saved-status trace said other (inr a) (inl b) = absurd (few-apart trace said other a b)
+    saved-status trace said other (inr a) (inr b) = few-status trace said a ∙ sym (few-status trace other b)
+
+    saved-judges : (trace : List ℕ) (said : Said) → TellsTraceFor circuit trace said ⊎ TellsFew circuit partition at trace said → IsJudgement said.status
+    saved-judges trace said (inl told) = subst IsJudgement (sym (trace-status flat one-fault none circuit trace said told)) (inr (inr (inl refl)))
+    saved-judges trace said (inr few) = subst IsJudgement (sym (few-status trace said few)) (inr (inr (inr (inr refl))))
+
+    -- nothing is reported for a trace whose run can be saved, and all that is reported for another has the status of its fault, or that of
+    -- a run that is too short
+    pub saved_file-exact : (name : List ℕ) → IsExactFile (saved_file_for circuit partition at name)
+    saved_file-exact name = record { apart = saved-apart; one_status = saved-status; judges = saved-judges }
+
+    -- at most one thing is reported for it
+    saved-once : (trace : List ℕ) (said other : Said) → TellsTraceFor circuit trace said ⊎ TellsFew circuit partition at trace said → TellsTraceFor circuit trace other ⊎ TellsFew circuit partition at trace other → said ≡ other
+    saved-once trace said other (inl a) (inl b) = trace-once flat one-fault none circuit trace said other a b
+    saved-once trace said other (inl a) (inr b) = absurd (few-apart trace other said b a)
+    saved-once trace said other (inr a) (inl b) = absurd (few-apart trace said other a b)
+    saved-once trace said other (inr a) (inr b) = few-once trace said other a b
+
+    pub saved_file-unique : (name : List ℕ) → IsUniqueFile (saved_file_for circuit partition at name)
+    saved_file-unique name = saved-once

@@ -1,0 +1,260 @@
+-- `save`: what the network of a trace's first rows tells of the whole run.
+use Rattle.std.proofs.Common.{◌≡◌, ℕ, ◌+◌, ◌-◌, ◌<◌, ◌≤◌, List, Bool, Option, None, Some, length, map, take, refl, sym, ap, ap₂, ◌∙◌, subst, inl, inr, ◌⊎◌, arith}
+use Rattle.std.specs.Prelude.{Result, Ok, Err, IfOk, ◌==◌, ◌&&◌, if◌then◌else◌, drop, min, nat_lt}
+use Rattle.std.proofs.lemmas.Bool.{cases_lt}
+use Rattle.gg_flat.specs.Circuit.{FlatCircuit}
+use Rattle.gg_flat.specs.Clock.{Ratio}
+use Rattle.gg_flat.specs.Run.{Start, state_at}
+use Rattle.gg_flat.specs.Ports.{output_ports}
+use Rattle.gg_flat.specs.declared.ports.Port.{Port}
+use Rattle.gg_flat.proofs.UniqueLemmas.{IsRunFrom-once}
+use Rattle.gg_order.specs.Design.{Ordered}
+use Rattle.gg_partfile.specs.declared.request.Request.{Request}
+use Rattle.gg_cut.specs.Clocks.{ratios_of}
+use Rattle.gg_pipe.specs.Follows.{plan_start}
+use Rattle.gg_pipe.specs.Made.{plan_reference}
+use Rattle.gg_cut.specs.declared.plan.Plan.{Plan}
+use Rattle.gg_measure.specs.Nets.{AllStandAt}
+use Rattle.gg_run.proofs.OpeningLemmas.{from-zeros}
+use Rattle.gg_run.proofs.OutputLemmas.{net-stays, opening-is-net}
+use Rattle.gg_build.specs.Build.{IsOpeningOf, IsToRun, reference_order, reference_rows, run_from_zeros, run_token}
+use Rattle.gg_build.proofs.AlongLemmas.{given-along}
+use Rattle.gg_sound.specs.Built.{IsGiven}
+use Rattle.gg_flat.specs.Streams.{Flow}
+use Rattle.gg_flat.specs.Tree.{InstanceTree}
+use Rattle.gg_net.specs.Network.{Network, frame_of}
+use Rattle.gg_run.specs.Rows.{StandsAt}
+use Rattle.gg_snap.specs.Whole.{HasEnded, last_state}
+use Rattle.gg_snap_text.specs.Snap.{Snapshot}
+use Rattle.gg_snap_text.specs.Standing.{IsSnap}
+use Rattle.gg_run.specs.Printed.{IsFirst, ends_run, is_halt, plan_stops}
+use Rattle.gg_snap_text.specs.Lines.{snap_text}
+use Rattle.gg_snap_text.specs.Table.{rows_of}
+use Rattle.gg_told.specs.Ends.{Loads, Puts}
+use Rattle.gg_told.specs.Endings.{EndedOn, IfRefused, PrintsOrStops, StopsBy}
+use Rattle.gg_told.specs.Order.{IsOnly, Load, Write}
+use Rattle.gg_told.specs.Said.{Said}
+use Rattle.gg_told.specs.declared.endings.Ending.{Ending}
+use Rattle.gg_told.specs.declared.endings.Ending.TheVariants.{NoMemory}
+use Rattle.gg_told.proofs.EndingLemmas.{judged-ends, judged-map, loads-same}
+use Rattle.gg_trace.specs.Last.{acts}
+use Rattle.golden.specs.Case.{FedRead, IsCase, IsFed, trace_order}
+use Rattle.golden.specs.Commands.{Asked, read_order}
+use Rattle.golden.specs.Lines.{few_rows}
+use Rattle.golden.specs.Replayed.{IsToReplay, fed_flow}
+use Rattle.golden.specs.Runs.{FindsStop, Halted, IsUpto, Short, TellsEarly, meant_by, text_after, upto}
+use Rattle.golden.specs.Saved.{CanBeSaved, HasRun, IsSavedText, TellsFew, save_limit, saved_file_for}
+use Rattle.golden.specs.declared.case.Fed.{Fed}
+use Rattle.golden.proofs.CaseLemmas.{case-ends, case-fresh, case-ordered}
+use Rattle.golden.proofs.FedLemmas.{fed-are, fed-rows, own-run}
+use Rattle.golden.proofs.FirstLemmas.{first-alike, first-columns, first-columns-row, first-run, first-states, limit_of, none-limit, stop-limit, whole-none}
+use Rattle.golden.proofs.PartitionLemmas.{DesignsAgree}
+use Rattle.golden.proofs.SavedLemmas.{saved-only}
+
+-- What is told of a network of the first rows, for the whole run.
+pub record UptoGives (circuit partition trace : List ℕ) (cycles at : ℕ) (fed : Fed) : Type 0 where
+  pub run : IsToReplay fed (fed_flow fed)
+  pub of_design : run.design ≡ fed.case.design
+  pub of_request : run.request ≡ fed.case.cut.request
+  pub saves : FindsStop fed run cycles None → at ≤ cycles → CanBeSaved circuit partition at trace × IsOnly (IsSavedText circuit partition at trace) (text_after fed run)
+  pub tells : (said : Said) → TellsEarly fed run cycles at said → TellsFew circuit partition at trace said
+
+module _ (agree : DesignsAgree) (circuit partition trace : List ℕ) (capacity : ℕ) (whole : Fed) (is : IsFed circuit partition trace capacity whole) (m : ℕ) (within : m ≤ whole.trace.rows) where
+  abbrev design : Ordered
+  design = whole.case.design
+
+  abbrev request : Request
+  request = whole.case.cut.request
+
+  abbrev reference : FlatCircuit
+  reference = plan_reference design request
+
+  abbrev start : Start
+  start = plan_start design request
+
+  abbrev stops : List Ratio
+  stops = plan_stops design request
+
+  abbrev ports : List Port
+  ports = output_ports design.circuit design.tree
+
+  abbrev n : ℕ
+  n = whole.trace.rows
+
+  -- the rows of the whole run, and those of the run of the first rows
+  abbrev rows : List (List ℕ)
+  rows = reference_rows design request whole.trace.columns n
+
+  abbrev front : List (List ℕ)
+  front = reference_rows design request (map (take m) whole.trace.columns) m
+
+  abbrev halt : ℕ → Bool
+  halt = is_halt stops reference ports rows
+
+  front-given : IsGiven design request capacity whole.case.cut.plan (map (take m) whole.trace.columns) m start front
+  front-given =
+      given-along design request capacity whole.case.cut.plan (map (take m) whole.trace.columns) m is.case.designed is.case.keeps is.case.held (case-fresh is.case) is.case.cuts.faultless is.case.planned
+      is.case.bounded.0 is.case.bounded.1 (omega (arith, within, is.most)) (first-columns design.circuit n m whole.trace.columns within is.columns)
+
+  -- the network of the first rows can be run
+  abbrev run-upto : IsToReplay (upto m whole) (fed_flow (upto m whole))
+  run-upto = record { design = design; request = request; default = capacity; rows = front; given = front-given; room = is.case.bounded.1; flow_is = refl }
+
+  has-run : HasRun circuit partition trace (meant_by whole) rows
+  has-run = record { are = fed-are circuit partition trace capacity whole is; run = own-run circuit partition trace capacity whole is }
+
+  -- its rows are the first of the whole run
+  front-is : front ≡ take m rows
+  front-is =
+      IsRunFrom-once reference (reference_order design request) start (map (take m) whole.trace.columns) m front (take m rows) (case-ordered is.case) front-given.run.run
+      (first-run reference (ratios_of design.tree request) whole.trace.columns n m rows within has-run.run)
+
+  halts-same : (t : ℕ) → t < m → is_halt stops reference ports front t ≡ halt t
+  halts-same t lt =
+      ap (λ (r : List (List ℕ)). is_halt stops reference ports r t) front-is ∙ ap (acts stops t) (first-columns-row rows m t (drop (length ports) reference.outs) lt)
+
+  first-so : (found : Option ℕ) → FindsStop (upto m whole) run-upto n found → IsFirst (ends_run stops reference ports rows n) m found
+  first-so found first =
+      first-alike (ends_run stops reference ports front n) (ends_run stops reference ports rows n) m found (λ t lt. ap (λ (b : Bool). b && nat_lt (t + 1) n) (halts-same t lt)) first
+
+  limit-is : save_limit (meant_by whole) rows ≡ limit_of halt n
+  limit-is = ap (λ (k : ℕ). if k == n then n else k - 1) (sym (fed-rows circuit partition trace capacity whole is ports rows refl))
+
+  saves-so : (at : ℕ) → at ≡ m → FindsStop (upto m whole) run-upto n None → CanBeSaved circuit partition at trace × IsOnly (IsSavedText circuit partition at trace) (text_after (upto m whole) run-upto)
+  saves-so at same none =
+      let meant = meant_by whole in
+      let low : m ≤ save_limit meant rows = omega (arith, limit-is, none-limit halt n m within (first-so None none)) in
+      let state : state_at reference start front m ≡ state_at reference start rows m =
+      ap (λ (r : List (List ℕ)). state_at reference start r m) front-is ∙ first-states reference start rows m m (omega arith) (omega (arith, within, has-run.run.count)) in
+      let only = saved-only agree meant rows has-run m low in
+      subst (λ k. CanBeSaved circuit partition k trace × IsOnly (IsSavedText circuit partition k trace) (text_after (upto m whole) run-upto)) (sym same)
+      ((meant, rows, has-run, low), subst (IsOnly (IsSavedText circuit partition m trace)) (ap (snap_text (rows_of reference design.tree) m) (sym state)) only)
+
+  tells-so : (at : ℕ) → (m ≡ at) ⊎ (m ≡ n) → m ≤ at → (said : Said) → TellsEarly (upto m whole) run-upto n at said → TellsFew circuit partition at trace said
+  tells-so at which low said (Halted stop first is) =
+      let limit : save_limit (meant_by whole) rows ≡ stop = limit-is ∙ stop-limit halt n m stop within (first-so (Some stop) first) in
+      (meant_by whole, rows, has-run, omega (arith, limit, low, first.0), is ∙ ap (few_rows at) (sym limit))
+  tells-so at (inl same) low said (Short none few is) = absurd (omega (arith, same, within, few))
+  tells-so at (inr all) low said (Short none few is) =
+      let limit : save_limit (meant_by whole) rows ≡ n = limit-is ∙ whole-none halt n (subst (λ k. IsFirst (ends_run stops reference ports rows n) k None) all (first-so None none)) in
+      (meant_by whole, rows, has-run, omega (arith, limit, few), is ∙ ap (few_rows at) (sym limit))
+
+  gives-so : (at : ℕ) → m ≤ at → (m ≡ at) ⊎ (m ≡ n) → UptoGives circuit partition trace n at (upto m whole)
+  gives-so at low which =
+      record {
+        run = run-upto;
+        of_design = refl;
+        of_request = refl;
+        saves = λ none le. saves-so at (same which le) none;
+        tells = tells-so at which low;
+      }
+    where
+      same : (m ≡ at) ⊎ (m ≡ n) → at ≤ n → at ≡ m
+      same (inl is) le = sym is
+      same (inr is) le = omega (arith, is, le, low)
+
+pub upto-gives : DesignsAgree → (circuit partition trace : List ℕ) (capacity : ℕ) (whole : Fed) → IsFed circuit partition trace capacity whole → (at : ℕ) (fed : Fed) → IsUpto whole at fed → (cycles : ℕ) → cycles ≡ whole.trace.rows
+    → UptoGives circuit partition trace cycles at fed
+upto-gives agree circuit partition trace capacity whole is at fed of cycles same =
+    subst (λ k. UptoGives circuit partition trace k at fed) (sym same)
+    (subst (UptoGives circuit partition trace whole.trace.rows at) (sym of.is) (gives-so agree circuit partition trace capacity whole is fed.trace.rows of.within at of.below of.most))
+
+-- ---- the snapshot
+
+-- a network that has the frame of a plan's network, and has done all of its cycles, stands at its end
+pub stands-end : (plan : Plan) (columns : List (List ℕ)) (n : ℕ) (flow : Flow) (run : IsToRun plan columns n flow) (opening net : Network) → IsOpeningOf plan columns n opening → frame_of net ≡ frame_of opening → AllStandAt opening.end net
+    → StandsAt plan (plan_start run.design run.request) (run_token (run_from_zeros run)) columns n n net
+stands-end plan columns n flow run opening net opens frame all =
+    let start = plan_start run.design run.request in
+    let token = run_token (run_from_zeros run) in
+    let end : opening.end ≡ n = ap (λ (x : Network). x.end) opens.is in
+    record {
+      of_plan = net-stays plan start token columns n opening net (opening-is-net plan start token columns n opening (from-zeros plan columns n flow run opening opens)) frame;
+      all = subst (λ k. AllStandAt k net) end all;
+      within = omega arith;
+    }
+
+module _ (fed : Fed) (flow : Flow) (run : IsToReplay fed flow) (design : run.design ≡ fed.case.design) (request : run.request ≡ fed.case.cut.request) (net : Network) (cycle : ℕ) (same : cycle ≡ fed.trace.rows)
+    (stands : StandsAt fed.case.cut.plan (plan_start run.design run.request) (run_token (run_from_zeros run)) fed.trace.columns fed.trace.rows fed.trace.rows net) where
+  abbrev Ended : (start : Start) (columns : List (List ℕ)) (cycle : ℕ) → Type 0
+  Ended start columns cycle = HasEnded fed.case.cut.plan fed.case.design start columns cycle flow net
+
+  abbrev ended : Ended (plan_start run.design run.request) fed.trace.columns fed.trace.rows
+  ended = record { run = run_from_zeros run; of_design = design; stands = stands }
+
+  reference-is : plan_reference fed.case.design fed.case.cut.request ≡ plan_reference run.design run.request
+  reference-is = ap₂ plan_reference (sym design) (sym request)
+
+  -- the network has ended, and the circuit is that of its run
+  pub has-ended : (circuit : FlatCircuit) → circuit ≡ plan_reference fed.case.design fed.case.cut.request
+      → (start : Start) × (columns : List (List ℕ)) × (ended : HasEnded fed.case.cut.plan fed.case.design start columns cycle flow net) × (circuit ≡ plan_reference ended.run.design ended.run.request)
+  has-ended circuit made =
+      subst (λ k. (start : Start) × (columns : List (List ℕ)) × (ended : Ended start columns k) × (circuit ≡ plan_reference ended.run.design ended.run.request)) (sym same)
+      (plan_start run.design run.request, fed.trace.columns, ended, made ∙ reference-is)
+
+  -- the text of the snapshot of the state in which it has ended
+  pub after-is : (snap : Snapshot) (made : Ordered) (text : List ℕ) → snap.design ≡ made → made.circuit ≡ plan_reference fed.case.design fed.case.cut.request → made.tree ≡ fed.case.design.tree → snap.cycle ≡ cycle
+      → ((start : Start) (columns : List (List ℕ)) (ended : HasEnded fed.case.cut.plan fed.case.design start columns cycle flow net) → snap.state ≡ last_state ended.run)
+      → IsSnap snap.design.circuit snap.design.tree text snap.cycle snap.state → text ≡ text_after fed run
+  after-is snap made text of circuit tree at told is =
+      let state : snap.state ≡ state_at (plan_reference run.design run.request) (plan_start run.design run.request) run.rows fed.trace.rows =
+      subst (λ k. (start : Start) (columns : List (List ℕ)) (ended : Ended start columns k) → snap.state ≡ last_state ended.run) same told (plan_start run.design run.request) fed.trace.columns ended in
+      is.is
+      ∙ ap (λ (d : Ordered). snap_text (rows_of d.circuit d.tree) snap.cycle snap.state) of
+      ∙ ap (λ (f : FlatCircuit). snap_text (rows_of f made.tree) snap.cycle snap.state) (circuit ∙ reference-is)
+      ∙ ap (λ (t : InstanceTree). snap_text (rows_of (plan_reference run.design run.request) t) snap.cycle snap.state) (tree ∙ ap (λ (d : Ordered). d.tree) (sym design))
+      ∙ ap (λ k. snap_text (rows_of (plan_reference run.design run.request) run.design.tree) k snap.state) (at ∙ same)
+      ∙ ap (snap_text (rows_of (plan_reference run.design run.request) run.design.tree) fed.trace.rows) state
+
+-- ---- ends
+
+-- what is reported for the first three files is reported for those of `save`
+pub saved-stops : (loads : Loads) {said : Said} (asked : Asked) (at : ℕ) (trace : List ℕ) → StopsBy loads (trace_order asked trace) said
+    → StopsBy loads (read_order asked (λ c p. Load (saved_file_for c p at trace) (λ t. Write (IsSavedText c p at t)))) said
+saved-stops loads asked at trace (inl h) = inl h
+saved-stops loads asked at trace (inr (c, can, accepts, inl h)) = inr (c, can, accepts, inl h)
+saved-stops loads asked at trace (inr (c, can, accepts, inr (p, can', accepts', inl (inl load)))) = inr (c, can, accepts, inr (p, can', accepts', inl (inl load)))
+saved-stops loads asked at trace (inr (c, can, accepts, inr (p, can', accepts', inl (inr (t, held, tells))))) =
+    inr (c, can, accepts, inr (p, can', accepts', inl (inr (t, record { held = held.held; within = held.within }, inl tells))))
+saved-stops loads asked at trace (inr (c, can, accepts, inr (p, can', accepts', inr (t, can'', accepts'', h)))) = absurd h
+
+-- the first three files were read, and the run was saved, or it couldn't be
+pub saved-ends : {loads : Loads} {T : Type 0} {out : Puts} {r : Result T Ending} {asked : Asked} (at k : ℕ) {trace : List ℕ} {fed : Fed} (read : FedRead loads.files asked trace fed) → k ≡ at
+    → PrintsOrStops out (λ text. CanBeSaved read.read.circuit read.read.partition k read.bytes × IsOnly (IsSavedText read.read.circuit read.read.partition k read.bytes) text) (TellsFew read.read.circuit read.read.partition k read.bytes) r
+    → EndedOn loads out (read_order asked (λ c p. Load (saved_file_for c p at trace) (λ t. Write (IsSavedText c p at t)))) r
+saved-ends {out = out} {r = r} at k {trace = trace} read same judged =
+    let c = read.read.circuit in
+    let p = read.read.partition in
+    let own = subst (λ j. PrintsOrStops out (λ text. CanBeSaved c p j read.bytes × IsOnly (IsSavedText c p j read.bytes) text) (TellsFew c p j read.bytes) r) same judged in
+    case-ends loads-same {next = λ c p. Load (saved_file_for c p at trace) (λ t. Write (IsSavedText c p at t))} read.read
+    (judged-ends {file = saved_file_for c p at trace} {IsText = IsSavedText c p at} (record { held = read.at_trace.held; within = read.at_trace.within }) (judged-map (λ text h. h) (λ said h. inr h) own))
+
+-- ---- what was read
+
+pub upto-case : {circuit partition trace : List ℕ} {capacity at : ℕ} {whole fed : Fed} → IsFed circuit partition trace capacity whole → IsUpto whole at fed → IsCase circuit partition capacity fed.case
+upto-case {circuit = circuit} {partition = partition} {capacity = capacity} is of = subst (λ (f : Fed). IsCase circuit partition capacity f.case) (sym of.is) is.case
+
+-- the first rows of a trace, as many as are wanted, or all
+pub cut-upto : (whole : Fed) (at cycles rows : ℕ) (fed : Fed) → cycles ≡ whole.trace.rows → rows ≡ min at cycles → fed ≡ upto rows whole → IsUpto whole at fed
+cut-upto whole at cycles rows fed all least is =
+    let counted : fed.trace.rows ≡ rows = ap (λ (f : Fed). f.trace.rows) is in
+    record {
+      is = is ∙ ap (λ k. upto k whole) (sym counted);
+      within = omega (arith, counted, least, all);
+      below = omega (arith, counted, least);
+      most = elim (cases_lt at cycles) [
+        | inl lt ↦ inl (omega (arith, counted, least, lt))
+        | inr le ↦ inr (omega (arith, counted, least, le, all))
+      ];
+    }
+
+-- ---- how a function has ended
+
+-- an ending for want of memory is one that a refusal may be
+pub wants-so : (P : Said → Type 0) (ending : Ending) → ending ≡ NoMemory → IfRefused P ending
+wants-so P ending is = subst (IfRefused P) (sym is) tt
+
+-- what two clauses tell of a value gives a third
+pub IfOk-both : {A E : Type 0} {P Q R : A → Type 0} (r : Result A E) → ((a : A) → P a → Q a → R a) → IfOk r P → IfOk r Q → IfOk r R
+IfOk-both (Ok a) f p q = f a p q
+IfOk-both (Err e) f p q = tt

@@ -1,0 +1,6 @@
+use Rattle.golden.specs.Replayed.{fed_flow}
+use Rattle.golden.proofs.save.save_upto.Given as goal
+
+-- what the plan's network computes on the first rows
+abbrev pub ghosts-text_upto : goal.ghosts-text_upto
+ghosts-text_upto g a = record { flow = fed_flow a.fed.now }

@@ -1,0 +1,204 @@
+//! The command `resume`.
+ghost use Rattle.std.specs.Prelude.{◌≡◌, ◌-◌, ◌<◌, ◌≤◌, ℕ, ◌⊎◌, List, IfErr, IfOk, length};
+ghost use Rattle.gg_flat.specs.Run.{Start};
+ghost use Rattle.gg_flat.specs.State.{IsState};
+ghost use Rattle.gg_pipe.specs.Made.{plan_reference};
+ghost use Rattle.gg_run.specs.Printed.{plan_stops, text_since};
+ghost use Rattle.gg_snap.specs.Whole.{CanBegin};
+ghost use Rattle.gg_snap_text.specs.Known.{AreKnown, CanSave};
+ghost use Rattle.gg_snap_text.specs.Standing.{IsSnap};
+ghost use Rattle.gg_snap_text.specs.Table.{rows_of};
+ghost use Rattle.gg_told.specs.Endings.{EndedOn, IfRefused, PrintsOn, PrintsOrStops};
+ghost use Rattle.gg_told.specs.Ends.{loads_of, puts_of};
+ghost use Rattle.gg_told.specs.Order.{IsOnly, Load, Write};
+ghost use Rattle.gg_told.specs.WentOn.{ShelfWentOn, SinkWentOn};
+ghost use Rattle.gg_words.specs.Range.{IsCapacity};
+ghost use Rattle.golden.specs.Case.{IsFed};
+ghost use Rattle.golden.specs.Commands.{asking, fed_order};
+ghost use Rattle.golden.specs.Lines.{few_rows};
+ghost use Rattle.golden.specs.Resumed.{CanBeResumed, IsResumedText, TellsLate, TellsNoSnap, rest_text, snap_file_for};
+ghost use Rattle.golden.specs.Runs.{TellsSnapOf, meant_by, resumed_rows};
+
+use crate::case::{Fed, read_fed};
+use crate::limits::SNAP_LIMIT;
+use crate::printing::{reference_of, top_ports};
+use crate::snaps::{end_at_snap, end_few};
+use gg_cut::stop_ratios;
+use gg_flat::Ports;
+use gg_front::one_meaning;
+use gg_io::{Gate, Shelf, Sink};
+use gg_net::Streams;
+use gg_order::Design;
+use gg_run::print_from;
+use gg_snap::{plans_are_whole, plans_can_save, restore};
+use gg_snap_text::{Snap, one_snapshot, read_snap};
+use gg_told::{Ending, load};
+use std::alloc::Global;
+use std::marker::Brand;
+use std::thread::Threads;
+
+// A snapshot, if its cycle is at most this number of rows.
+fn within<'a>(alloc: Global, snap: Snap<'a>, rows: u64) -> Result<Snap<'a>, Ending>
+    ensures same { IfOk result (λ same. same ≡ snap.entry) }
+    ensures within { IfOk result (λ same. same.cycle ≤ rows) }
+    ensures refused { IfErr result (IfRefused (λ said. (rows < snap.entry.cycle) × (said ≡ few_rows snap.entry.cycle rows))) }
+{
+    let cycle = snap.cycle();
+    if rows < cycle {
+        return Err(end_few(alloc, cycle, rows));
+    }
+    Ok(snap)
+}
+
+// The snapshot of a reference circuit whose text these bytes are, if its cycle is at most this number of rows.
+fn snap_in<'a>(
+    alloc: Global,
+    reference: &'a Design,
+    rows: u64,
+    bytes: Vec<u8>,
+) -> Result<Snap<'a>, Ending>
+    requires { CanSave reference.now.circuit reference.now.tree }
+    ensures read { IfOk result (λ snap. IsSnap reference.now.circuit reference.now.tree bytes.items snap.cycle snap.state) }
+    ensures known { IfOk result (λ _. AreKnown reference.now.circuit (rows_of reference.now.circuit reference.now.tree)) }
+    ensures within { IfOk result (λ snap. snap.cycle ≤ rows) }
+    ensures refused { IfErr result (IfRefused (TellsSnapOf reference.now rows bytes.items)) }
+{
+    match read_snap(alloc, reference, bytes.as_slice()) {
+        Ok(snap) => within(alloc, snap, rows),
+        Err(fault) => Err(end_at_snap(alloc, fault)),
+    }
+}
+
+// Prints the run from a snapshot on, from the network of the plan, whose channels carry the values of a flow.
+fn print_since<R: Threads + Sync, Z: Streams, K: Sink, G: Gate + Sync>(
+    rt: &R,
+    alloc: Global,
+    fed: &Fed,
+    ports: &Ports,
+    snap: Snap<'_>,
+    workers: u32,
+    out: &mut K,
+    gate: &G,
+) -> Result<(), Ending>
+    requires few { workers ≤ 64 }
+    requires run { (start : Start) × CanBegin fed.now.case.cut.plan fed.now.case.design snap.cycle snap.state start fed.now.trace.columns fed.now.trace.rows Z.flow }
+    requires within { snap.cycle ≤ fed.now.trace.rows }
+    requires ports { length ports.now ≤ length fed.now.case.design.circuit.outs }
+    ensures prints { (start : Start) (can : CanBegin fed.now.case.cut.plan fed.now.case.design snap.entry.cycle snap.entry.state start fed.now.trace.columns fed.now.trace.rows Z.flow)
+        → PrintsOn K.Sink out.old out.new (text_since (plan_stops can.run.design can.run.request) (plan_reference can.run.design can.run.request) ports.now can.run.rows snap.entry.cycle (fed.now.trace.rows - snap.entry.cycle)) result }
+    ensures out { SinkWentOn K.Sink out.old out.new }
+{
+    let design = &fed.case.design;
+    let plan = &fed.case.cut.plan;
+    let begin = snap.cycle();
+    let outs = design.piece().outs().len();
+    let stops = stop_ratios(alloc, design.tree(), plan.ratios.as_slice())?;
+    let net = restore::<Z>(alloc, plan, design, &fed.trace, snap)?;
+    net.kept();
+    print_from::<R, Z, K, G>(
+        rt,
+        alloc,
+        net,
+        begin,
+        outs,
+        stops.as_slice(),
+        ports,
+        workers,
+        out,
+        gate,
+    )
+}
+
+// Prints the run from a snapshot of the reference circuit on: a header, and the rows from the snapshot's cycle on.
+fn print_rest<R: Threads + Sync, K: Sink, G: Gate + Sync>(
+    rt: &R,
+    alloc: Global,
+    fed: &Fed,
+    snap: Snap<'_>,
+    workers: u32,
+    out: &mut K,
+    gate: &G,
+) -> Result<(), Ending>
+    requires few { workers ≤ 64 }
+    requires fed { (circuit : List ℕ) × (partition : List ℕ) × (trace : List ℕ) × (capacity : ℕ) × IsFed circuit partition trace capacity fed.now }
+    requires within { snap.cycle ≤ fed.now.trace.rows }
+    requires typed { IsState (plan_reference fed.now.case.design fed.now.case.cut.request) snap.state }
+    ensures prints { PrintsOn K.Sink out.old out.new (rest_text (meant_by fed.now) snap.entry.cycle (resumed_rows fed.now snap.entry.cycle snap.entry.state)) result }
+    ensures out { SinkWentOn K.Sink out.old out.new }
+{
+    let ports = top_ports(alloc, &fed.case.design)?;
+    print_since::<R, Brand, K, G>(rt, alloc, fed, &ports, snap, workers, out, gate)
+}
+
+// `resume`, after all files were loaded and those before the snapshot's were read.
+fn resume_bytes<R: Threads + Sync, K: Sink, G: Gate + Sync>(
+    rt: &R,
+    alloc: Global,
+    fed: &Fed,
+    bytes: Vec<u8>,
+    workers: u32,
+    out: &mut K,
+    gate: &G,
+) -> Result<(), Ending>
+    requires few { workers ≤ 64 }
+    requires fed { (circuit : List ℕ) × (partition : List ℕ) × (trace : List ℕ) × (capacity : ℕ) × IsFed circuit partition trace capacity fed.now }
+    ensures ended { (circuit partition trace : List ℕ) (capacity : ℕ) → IsFed circuit partition trace capacity fed.now
+        → PrintsOrStops (puts_of K.Sink out.old out.new) (λ text. CanBeResumed circuit partition trace bytes.items × IsOnly (IsResumedText circuit partition trace bytes.items) text)
+        (λ said. TellsNoSnap circuit partition trace bytes.items said ⊎ TellsLate circuit partition trace bytes.items said) result }
+    ensures out { SinkWentOn K.Sink out.old out.new }
+{
+    one_meaning();
+    one_snapshot();
+    plans_can_save();
+    plans_are_whole();
+    let reference = reference_of(alloc, &fed.case)?;
+    let snap = snap_in(alloc, &reference, fed.trace.rows(), bytes)?;
+    print_rest(rt, alloc, fed, snap, workers, out, gate)
+}
+
+// `resume`, after the circuit, the partition and the trace were read.
+fn resume_fed<R: Threads + Sync, S: Shelf, K: Sink, G: Gate + Sync>(
+    rt: &R,
+    alloc: Global,
+    fed: &Fed,
+    snap: &str,
+    workers: u32,
+    shelf: &mut S,
+    out: &mut K,
+    gate: &G,
+) -> Result<(), Ending>
+    requires few { workers ≤ 64 }
+    requires fed { (circuit : List ℕ) × (partition : List ℕ) × (trace : List ℕ) × (capacity : ℕ) × IsFed circuit partition trace capacity fed.now }
+    ensures ended { (circuit partition trace : List ℕ) (capacity : ℕ) → IsFed circuit partition trace capacity fed.now
+        → EndedOn (loads_of S.Shelf shelf.old shelf.new) (puts_of K.Sink out.old out.new) (Load (snap_file_for circuit partition trace snap.now) (λ s. Write (IsResumedText circuit partition trace s))) result }
+    ensures shelf { ShelfWentOn S.Shelf shelf.old shelf.new }
+    ensures out { SinkWentOn K.Sink out.old out.new }
+{
+    let bytes = load(alloc, shelf, snap, SNAP_LIMIT)?;
+    resume_bytes(rt, alloc, fed, bytes, workers, out, gate)
+}
+
+/// `resume`: reads the circuit, the partition, the trace and the snapshot, and writes the text of the run of the circuit with the pipes
+/// that the partition asks for, from the snapshot on.
+pub(crate) fn resume<R: Threads + Sync, S: Shelf, K: Sink, G: Gate + Sync>(
+    rt: &R,
+    alloc: Global,
+    circuit: &str,
+    partition: &str,
+    trace: &str,
+    snap: &str,
+    capacity: u32,
+    workers: u32,
+    shelf: &mut S,
+    out: &mut K,
+    gate: &G,
+) -> Result<(), Ending>
+    requires capacity { IsCapacity capacity }
+    requires few { workers ≤ 64 }
+    ensures ended { EndedOn (loads_of S.Shelf shelf.old shelf.new) (puts_of K.Sink out.old out.new) (fed_order (asking circuit.now partition.now capacity) trace.now (λ c p t. Load (snap_file_for c p t snap.now) (λ s. Write (IsResumedText c p t s)))) result }
+    ensures shelf { ShelfWentOn S.Shelf shelf.old shelf.new }
+    ensures out { SinkWentOn K.Sink out.old out.new }
+{
+    let fed = read_fed(alloc, shelf, circuit, partition, trace, capacity)?;
+    resume_fed(rt, alloc, &fed, snap, workers, shelf, out, gate)
+}
