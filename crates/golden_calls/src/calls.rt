@@ -72,6 +72,15 @@ impl Answer {
             && self.err.as_slice() == err.as_bytes()
     }
 
+    /// Whether the call put this snapshot on `out`, at once, after three loads.
+    pub fn is_snapshot(&self, text: &str) -> bool {
+        self.status == 0
+            && self.loads == 3
+            && self.puts == 1
+            && self.out.as_slice() == text.as_bytes()
+            && self.err.is_empty()
+    }
+
     // Whether another call answered the same.
     fn is_like(&self, other: &Answer) -> bool {
         self.status == other.status
@@ -232,5 +241,85 @@ pub fn run<R: Threads + Sync>(
         circuit,
         direct.as_str(),
         trace,
+    )
+}
+
+// The options with which `save` and `resume` are called, besides without any.
+static SNAP_WAYS: [&str; 2] = [" --workers 2", " --capacity 1 --workers 1"];
+
+// The same with direct channels.
+static DIRECT_SNAP_WAYS: [&str; 2] = ["", " --workers 2"];
+
+// A call with these words and options on a circuit, a partition, a trace and a snapshot, where nothing fails.
+fn ask_with<R: Threads + Sync>(
+    rt: &R,
+    alloc: Global,
+    words: &str,
+    options: &str,
+    circuit: &str,
+    partition: &str,
+    trace: &str,
+    snap: &str,
+) -> Result<Answer, AllocError> {
+    let mut line = String::from_str(alloc, words)?;
+    line.push_str(options)?;
+    let mut files = files_of(
+        alloc,
+        circuit.as_bytes(),
+        partition.as_bytes(),
+        trace.as_bytes(),
+    )?;
+    hold(&mut files, alloc, "k1.snap", snap.as_bytes())?;
+    ask(rt, alloc, line.as_str(), files)
+}
+
+// What a call answered, if it answers the same with each of these options; else the status is 255.
+fn same_with<R: Threads + Sync>(
+    rt: &R,
+    alloc: Global,
+    mut answer: Answer,
+    words: &str,
+    ways: &[&str],
+    circuit: &str,
+    partition: &str,
+    trace: &str,
+    snap: &str,
+) -> Result<Answer, AllocError> {
+    for options in ways {
+        let next = ask_with(rt, alloc, words, options, circuit, partition, trace, snap)?;
+        answer = alike(answer, next);
+    }
+    Ok(answer)
+}
+
+/// `save` or `resume` by these words, on a circuit, a partition, a trace and the snapshot `k1.snap`, where nothing fails: without workers, by
+/// one and by two, and where it ends with status 0, with direct channels too. If not all of them answer the same, the status is 255.
+pub fn ask_snap<R: Threads + Sync>(
+    rt: &R,
+    alloc: Global,
+    words: &str,
+    circuit: &str,
+    partition: &str,
+    trace: &str,
+    snap: &str,
+) -> Result<Answer, AllocError> {
+    let first = ask_with(rt, alloc, words, "", circuit, partition, trace, snap)?;
+    let answer = same_with(
+        rt, alloc, first, words, &SNAP_WAYS, circuit, partition, trace, snap,
+    )?;
+    if answer.status != 0 {
+        return Ok(answer);
+    }
+    let direct = with_direct(alloc, partition)?;
+    same_with(
+        rt,
+        alloc,
+        answer,
+        words,
+        &DIRECT_SNAP_WAYS,
+        circuit,
+        direct.as_str(),
+        trace,
+        snap,
     )
 }

@@ -2,14 +2,16 @@
 //!
 //! [`call`] is a call whose loads and puts fail where its lists say; [`ask`], [`ask_of`] and [`run`] are calls in which nothing fails.
 //! [`run`] runs a circuit by the simulator and from the network, with 0 to 3 workers, also with direct channels; all have to answer the
-//! same.
+//! same. [`ask_snap`] does so for `save` and `resume`.
 //! [`Answer::is`] compares what came of one with the status, the loads and the texts that were expected.
 #![tactic(auto)]
 
 mod calls;
 mod circuits;
 
-pub use calls::{Answer, CHECK, RUN, ask, ask_of, call, counter_files, files_of, run, words_of};
+pub use calls::{
+    Answer, CHECK, RUN, ask, ask_of, ask_snap, call, counter_files, files_of, run, words_of,
+};
 pub use circuits::{
     BANKS, BOTH, COUNTER, DUAL, FORK, KEPT, LATE, LOOP, MEMORY, PAIR, TEXT, TILES, TRACE, TWO,
     WIDE, counter, edited,

@@ -10,6 +10,7 @@ mod large;
 mod outputs;
 mod partitions;
 mod refusals;
+mod snaps;
 mod steps;
 mod stops;
 mod tables;

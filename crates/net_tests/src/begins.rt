@@ -212,10 +212,12 @@ fn is_right(alloc: Global, circuit: &str, partition: &str, trace: &str, outputs:
 }
 
 // Partitions of two instances, each with a register of one clock and a memory of the other, where one clock has an edge in two of three
-// ticks: both are units on one host, or one is a unit and the memory of the other is a machine of its own, so that the hub has its register.
-static PARTITIONS: [&str; 2] = [
+// ticks: both are units on one host; or one is a unit and the memory of the other is a machine of its own, so that the hub has its register: the
+// memory with the clock of each tick, and that with the other clock.
+static PARTITIONS: [&str; 3] = [
     "{\"units\":[\"u\",\"v\"],\"share\":[[\"u\",\"v\"]],\"clocks\":{\"c2\":[2,3]}}",
     "{\"units\":[\"v\"],\"memories\":[\"u.mid.leaf.m\"],\"clocks\":{\"c2\":[2,3]}}",
+    "{\"units\":[\"u\"],\"memories\":[\"v.mid.leaf.m\"],\"clocks\":{\"c2\":[2,3]}}",
 ];
 
 /// Checks that each network that begins at cycle 2 has the outputs of the whole run from there. A failure names the partition.

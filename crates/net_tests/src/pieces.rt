@@ -3,7 +3,7 @@ ghost use Rattle.std.specs.Prelude.{◌≡◌, [], length};
 ghost use Rattle.gg_flat.specs.WellFormed.{IsWellFormed};
 ghost use Rattle.gg_part.specs.InOrder.{IsInOrder};
 
-use gg_bits::Name;
+use gg_bits::{Kind, Name, Ty};
 use gg_fame1::{NoMemory, Unit};
 use gg_flat::{Piece, State};
 use gg_needs::needs_of;
@@ -66,6 +66,16 @@ fn needs_it(alloc: Global, piece: &Piece) -> Result<bool, AllocError>
     Ok(needs.len() == 1 && needs[0].as_slice() == [0].as_slice())
 }
 
+// Whether the only port that a piece gives to the outside is `o`, of eight bits.
+fn gives_it(alloc: Global, piece: &Piece) -> Result<bool, AllocError>
+    requires { IsWellFormed piece.now }
+{
+    let name = Name::from_str(alloc, "o")?;
+    let ports = piece.out_ports(alloc)?;
+    let ports = ports.as_slice();
+    Ok(ports.len() == 1 && ports[0].name == name && ports[0].ty == Ty::new(Kind::UInt, 8))
+}
+
 // Whether there are slots for the program of a piece.
 fn has_slots(alloc: Global, piece: &Piece) -> Result<bool, NoMemory>
     requires formed { IsWellFormed piece.now }
@@ -94,7 +104,9 @@ fn waits(alloc: Global, design: &Design) -> bool {
     if piece.outs().len() != 1 || design.order() != [0, 1].as_slice() {
         return false;
     }
-    matches!(needs_it(alloc, piece), Ok(true)) && matches!(first_missing(alloc, piece), Ok(Some(0)))
+    matches!(needs_it(alloc, piece), Ok(true))
+        && matches!(gives_it(alloc, piece), Ok(true))
+        && matches!(first_missing(alloc, piece), Ok(Some(0)))
 }
 
 /// Whether an output that is the input waits for it.

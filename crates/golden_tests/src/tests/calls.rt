@@ -3,7 +3,8 @@ use super::large::{Large, ask_large};
 use super::steps::{LISTED, MEMORY_TRACE, READ, REPLAY_1};
 use gg_io::{FailingPut, hold};
 use golden_calls::{
-    Answer, COUNTER, MEMORY, RUN, TRACE, ask, ask_of, call, counter, edited, files_of, run,
+    Answer, COUNTER, MEMORY, RUN, TRACE, ask, ask_of, ask_snap, call, counter, counter_files,
+    edited, files_of, run,
 };
 use std::alloc::{AllocError, Global};
 use std::collections::BTreeMap;
@@ -20,6 +21,8 @@ pub(crate) const NONE: u64 = u64::MAX;
 pub(crate) enum End {
     /// The loads, and what is on `out`; the status is 0, and nothing is on `err`.
     Prints(u64, &'static str),
+    /// The snapshot that is on `out`; the status is 0, and nothing is on `err`.
+    Saves(&'static str),
     /// The status, the loads, and what is on `err`; nothing is on `out`.
     Refuses(u8, u64, &'static str),
     /// The first line on `err`, without its end; the usage of each command follows it. The status is 2, nothing is loaded, and nothing is on
@@ -52,6 +55,12 @@ pub(crate) enum Call {
     Replay(&'static str, &'static str, &'static str, &'static str, &'static str),
     /// A replay on the memory that is listed, of its reads and these steps.
     ReplayRead(&'static str),
+    /// `save` in each way, on a circuit, a partition and a trace, before this cycle.
+    Save(&'static str, &'static str, &'static str, &'static str),
+    /// `resume` in each way, on a circuit, a partition, a trace and a snapshot.
+    Resume(&'static str, &'static str, &'static str, &'static str),
+    /// `resume` on the counter and a snapshot, where the put on `out` of this number takes three bytes and fails.
+    ResumeFailing(&'static str, u64),
     /// A call on large files.
     OnLarge(Large),
 }
@@ -73,6 +82,7 @@ pub(crate) fn check_rows<R: Threads + Sync + Abort>(
 fn ends_so(answer: &Answer, end: &End) -> bool {
     match end {
         End::Prints(loads, out) => answer.is(0, *loads, out, ""),
+        End::Saves(text) => answer.is_snapshot(text),
         End::Refuses(status, loads, err) => answer.is(*status, *loads, "", err),
         End::Unasked(line) => is_unasked(answer, line),
         End::Stops(status, loads, out, err) => answer.is(*status, *loads, out, err),
@@ -81,7 +91,7 @@ fn ends_so(answer: &Answer, end: &End) -> bool {
 
 /// What follows the first line of a call whose words aren't a command.
 const USAGE: &str =
-    "\nusage: golden run CIRCUIT PARTITION TRACE [--capacity K] [--workers W] [--mono]\nusage: golden replay CIRCUIT PARTITION TRACE STEPS [--capacity K]\nusage: golden check CIRCUIT PARTITION [--capacity K]\nusage: golden demo SEED SIZE [--workers W]\n";
+    "\nusage: golden run CIRCUIT PARTITION TRACE [--capacity K] [--workers W] [--mono]\nusage: golden replay CIRCUIT PARTITION TRACE STEPS [--capacity K]\nusage: golden check CIRCUIT PARTITION [--capacity K]\nusage: golden demo SEED SIZE [--workers W]\nusage: golden save CIRCUIT PARTITION TRACE AT [--capacity K] [--workers W]\nusage: golden resume CIRCUIT PARTITION TRACE SNAP [--capacity K] [--workers W]\n";
 
 /// Whether the words of a call weren't a command, with this first line.
 fn is_unasked(answer: &Answer, line: &str) -> bool {
@@ -120,6 +130,11 @@ fn answer_of<R: Threads + Sync>(rt: &R, alloc: Global, call: &Call) -> Result<An
             replay(rt, alloc, line, circuit, partition, trace, steps)
         }
         Call::ReplayRead(steps) => replay_read(rt, alloc, steps),
+        Call::Save(circuit, partition, trace, at) => save(rt, alloc, circuit, partition, trace, at),
+        Call::Resume(circuit, partition, trace, snap) => {
+            ask_snap(rt, alloc, RESUME, circuit, partition, trace, snap)
+        }
+        Call::ResumeFailing(snap, put) => resume_failing(rt, alloc, snap, *put),
         Call::OnLarge(large) => ask_large(rt, alloc, large),
     }
 }
@@ -224,5 +239,48 @@ fn replay_read<R: Threads + Sync>(rt: &R, alloc: Global, last: &str) -> Result<A
         LISTED,
         MEMORY_TRACE,
         steps.as_str(),
+    )
+}
+
+/// The words of `resume`.
+pub(crate) const RESUME: &str = "golden resume k1.fir p.json k1.trace k1.snap";
+
+/// `save` in each way, before this cycle.
+fn save<R: Threads + Sync>(
+    rt: &R,
+    alloc: Global,
+    circuit: &str,
+    partition: &str,
+    trace: &str,
+    at: &str,
+) -> Result<Answer, AllocError> {
+    let mut words = String::from_str(alloc, "golden save k1.fir p.json k1.trace ")?;
+    words.push_str(at)?;
+    ask_snap(rt, alloc, words.as_str(), circuit, partition, trace, "")
+}
+
+/// `resume` on the counter and a snapshot, where the put on `out` of this number fails.
+fn resume_failing<R: Threads + Sync>(
+    rt: &R,
+    alloc: Global,
+    snap: &str,
+    put: u64,
+) -> Result<Answer, AllocError> {
+    let puts = vec![in alloc;
+        FailingPut {
+            number: put,
+            takes: 3
+        },
+    ]?;
+    let mut files = counter_files(alloc)?;
+    hold(&mut files, alloc, "k1.snap", snap.as_bytes())?;
+    call(
+        rt,
+        alloc,
+        RESUME,
+        files,
+        Vec::new(alloc),
+        puts,
+        Vec::new(alloc),
     )
 }

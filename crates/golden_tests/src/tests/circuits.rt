@@ -66,7 +66,7 @@ pub(crate) static RUNS: [Row; 17] = [
     // the widest signals
     (
         Run(
-            "circuit Wide :\nmodule Wide :\ninput x : UInt<127>\ninput y : UInt<127>\noutput z : UInt<128>\nz <= add(x, y)\n",
+            WIDE,
             "{}\n",
             "cycle x y\n0 7fffffffffffffffffffffffffffffff 7fffffffffffffffffffffffffffffff\n",
         ),
@@ -260,30 +260,48 @@ pub(crate) static CIRCUIT_FAULTS: [Row; 21] = [
         Refuses(1, 1, "golden: circuit: F1 Count\n"),
     ),
     (
-        RunEdited(COUNTER, 10, "out <= c\nnode out = c", "{}", TRACE),
-        Refuses(1, 1, "golden: circuit: F2 line 11 out\n"),
+        RunEdited(
+            COUNTER,
+            11,
+            "c <= mux(reset, UInt<8>(\"h0\"), bits(n, 7, 0))\nnode out = c",
+            "{}",
+            TRACE,
+        ),
+        Refuses(1, 1, "golden: circuit: F2 line 12 out\n"),
     ),
     (
         RunEdited(COUNTER, 11, "c <= q", "{}", TRACE),
         Refuses(1, 1, "golden: circuit: F3 line 11 q\n"),
     ),
     (
-        RunEdited(COUNTER, 10, "out <= c\nout <= c", "{}", TRACE),
-        Refuses(1, 1, "golden: circuit: F4 line 11 out\n"),
+        RunEdited(
+            COUNTER,
+            11,
+            "c <= mux(reset, UInt<8>(\"h0\"), bits(n, 7, 0))\nout <= c",
+            "{}",
+            TRACE,
+        ),
+        Refuses(1, 1, "golden: circuit: F4 line 12 out\n"),
     ),
     (
         RunEdited(COUNTER, 10, "", "{}", TRACE),
         Refuses(1, 1, "golden: circuit: F5 line 5 out\n"),
     ),
     (
-        RunEdited(COUNTER, 10, "out <= c\nreset <= c", "{}", TRACE),
-        Refuses(1, 1, "golden: circuit: F6 line 11 reset\n"),
+        RunEdited(
+            COUNTER,
+            11,
+            "c <= mux(reset, UInt<8>(\"h0\"), bits(n, 7, 0))\nreset <= c",
+            "{}",
+            TRACE,
+        ),
+        Refuses(1, 1, "golden: circuit: F6 line 12 reset\n"),
     ),
     (
         RunEdited(
             COUNTER,
-            10,
-            "out <= c\ninst x of Counter\nx.clock <= clock\nx.reset <= reset",
+            11,
+            "c <= mux(reset, UInt<8>(\"h0\"), bits(n, 7, 0))\ninst x of Counter\nx.clock <= clock\nx.reset <= reset",
             "{}",
             TRACE,
         ),
@@ -302,7 +320,11 @@ pub(crate) static CIRCUIT_FAULTS: [Row; 21] = [
         Refuses(1, 1, "golden: circuit: F10 line 10 4294967295\n"),
     ),
     (
-        RunEdited(WIDE, 3, "input x : UInt<128>", "{}", TRACE),
+        Run(
+            "circuit Wide :\nmodule Wide :\ninput x : UInt<128>\ninput y : UInt<128>\noutput z : UInt<128>\nz <= add(x, y)\n",
+            "{}",
+            TRACE,
+        ),
         Refuses(1, 1, "golden: circuit: F10 line 6 129\n"),
     ),
     (

@@ -1,8 +1,10 @@
 //! The words of a call.
-use super::calls::Call::AskCounter;
-use super::calls::End::{Prints, Refuses, Unasked};
+use super::calls::Call::{Ask, AskCounter};
+use super::calls::End::{Prints, Refuses, Saves, Unasked};
 use super::calls::Row;
-use golden_calls::TEXT;
+use super::workers::UNITS;
+use golden_calls::{PAIR, TEXT};
+use net_calls::PAIR_TRACE;
 
 /// Words that run the counter.
 pub(crate) static ASKED: [Row; 12] = [
@@ -56,8 +58,28 @@ pub(crate) static ASKED: [Row; 12] = [
     ),
 ];
 
+/// Words that save the counter.
+pub(crate) static SAVING: [Row; 4] = [
+    (
+        AskCounter("golden save k1.fir p.json k1.trace 3"),
+        Saves("golden snapshot 1\ncycle 3\nreg c 02\n"),
+    ),
+    (
+        AskCounter("golden save --capacity 1 k1.fir p.json --workers=2 k1.trace 0000003"),
+        Saves("golden snapshot 1\ncycle 3\nreg c 02\n"),
+    ),
+    (
+        AskCounter("golden save k1.fir p.json -- k1.trace 0"),
+        Saves("golden snapshot 1\ncycle 0\n"),
+    ),
+    (
+        AskCounter("golden save k1.fir p.json k1.trace 1000000"),
+        Refuses(10, 3, "golden: snapshot: S2 1000000 4\n"),
+    ),
+];
+
 /// Words that `clap` refuses.
-pub(crate) static UNASKED: [Row; 13] = [
+pub(crate) static UNASKED: [Row; 18] = [
     (
         AskCounter("golden"),
         Unasked("golden: words: no command is given"),
@@ -107,35 +129,70 @@ pub(crate) static UNASKED: [Row; 13] = [
         Unasked("golden: words: a file or a number is missing"),
     ),
     (
+        AskCounter("golden save k1.fir p.json k1.trace"),
+        Unasked("golden: words: a file or a number is missing"),
+    ),
+    (
+        AskCounter("golden save k1.fir p.json k1.trace -3"),
+        Unasked("golden: words: '-3' is unexpected"),
+    ),
+    (
+        AskCounter("golden save k1.fir p.json k1.trace 3 --mono"),
+        Unasked("golden: words: '--mono' is unexpected"),
+    ),
+    (
+        AskCounter("golden resume k1.fir p.json k1.trace"),
+        Unasked("golden: words: a file or a number is missing"),
+    ),
+    (
+        AskCounter("golden resume k1.fir p.json k1.trace k1.snap 3"),
+        Unasked("golden: words: '3' is unexpected"),
+    ),
+    (
         AskCounter("golden --help"),
         Unasked("golden: words: '--help' is unexpected"),
     ),
 ];
 
-/// Words with a value that isn't a number in its range.
+/// Words with a value that isn't a number in its range: on the files of two units, and of the counter.
 pub(crate) static NO_NUMBERS: [Row; 8] = [
     (
-        AskCounter("golden run k1.fir p.json k1.trace --capacity 0"),
+        Ask(
+            "golden run k1.fir p.json k1.trace --capacity 0",
+            PAIR,
+            UNITS,
+            PAIR_TRACE,
+        ),
         Refuses(
             2,
             0,
-            "golden: words: '0' is not a number in its range: --capacity takes 1 to 4096, --workers 0 to 64, SEED 0 to 4294967295, SIZE 1 to 64\n",
+            "golden: words: '0' is not a number in its range: --capacity takes 1 to 4096, --workers 0 to 64, SEED 0 to 4294967295, SIZE 1 to 64, AT 0 to 1000000\n",
         ),
     ),
     (
-        AskCounter("golden run k1.fir p.json k1.trace --capacity 4097"),
+        Ask(
+            "golden run k1.fir p.json k1.trace --capacity 4097",
+            PAIR,
+            UNITS,
+            PAIR_TRACE,
+        ),
         Refuses(
             2,
             0,
-            "golden: words: '4097' is not a number in its range: --capacity takes 1 to 4096, --workers 0 to 64, SEED 0 to 4294967295, SIZE 1 to 64\n",
+            "golden: words: '4097' is not a number in its range: --capacity takes 1 to 4096, --workers 0 to 64, SEED 0 to 4294967295, SIZE 1 to 64, AT 0 to 1000000\n",
         ),
     ),
     (
-        AskCounter("golden run k1.fir p.json k1.trace --workers 65"),
+        Ask(
+            "golden run k1.fir p.json k1.trace --workers 65",
+            PAIR,
+            UNITS,
+            PAIR_TRACE,
+        ),
         Refuses(
             2,
             0,
-            "golden: words: '65' is not a number in its range: --capacity takes 1 to 4096, --workers 0 to 64, SEED 0 to 4294967295, SIZE 1 to 64\n",
+            "golden: words: '65' is not a number in its range: --capacity takes 1 to 4096, --workers 0 to 64, SEED 0 to 4294967295, SIZE 1 to 64, AT 0 to 1000000\n",
         ),
     ),
     (
@@ -143,7 +200,7 @@ pub(crate) static NO_NUMBERS: [Row; 8] = [
         Refuses(
             2,
             0,
-            "golden: words: '+7' is not a number in its range: --capacity takes 1 to 4096, --workers 0 to 64, SEED 0 to 4294967295, SIZE 1 to 64\n",
+            "golden: words: '+7' is not a number in its range: --capacity takes 1 to 4096, --workers 0 to 64, SEED 0 to 4294967295, SIZE 1 to 64, AT 0 to 1000000\n",
         ),
     ),
     (
@@ -151,7 +208,7 @@ pub(crate) static NO_NUMBERS: [Row; 8] = [
         Refuses(
             2,
             0,
-            "golden: words: '0' is not a number in its range: --capacity takes 1 to 4096, --workers 0 to 64, SEED 0 to 4294967295, SIZE 1 to 64\n",
+            "golden: words: '0' is not a number in its range: --capacity takes 1 to 4096, --workers 0 to 64, SEED 0 to 4294967295, SIZE 1 to 64, AT 0 to 1000000\n",
         ),
     ),
     (
@@ -159,7 +216,7 @@ pub(crate) static NO_NUMBERS: [Row; 8] = [
         Refuses(
             2,
             0,
-            "golden: words: '65' is not a number in its range: --capacity takes 1 to 4096, --workers 0 to 64, SEED 0 to 4294967295, SIZE 1 to 64\n",
+            "golden: words: '65' is not a number in its range: --capacity takes 1 to 4096, --workers 0 to 64, SEED 0 to 4294967295, SIZE 1 to 64, AT 0 to 1000000\n",
         ),
     ),
     (
@@ -167,7 +224,7 @@ pub(crate) static NO_NUMBERS: [Row; 8] = [
         Refuses(
             2,
             0,
-            "golden: words: '4294967296' is not a number in its range: --capacity takes 1 to 4096, --workers 0 to 64, SEED 0 to 4294967295, SIZE 1 to 64\n",
+            "golden: words: '4294967296' is not a number in its range: --capacity takes 1 to 4096, --workers 0 to 64, SEED 0 to 4294967295, SIZE 1 to 64, AT 0 to 1000000\n",
         ),
     ),
     (
@@ -175,7 +232,51 @@ pub(crate) static NO_NUMBERS: [Row; 8] = [
         Refuses(
             2,
             0,
-            "golden: words: '65' is not a number in its range: --capacity takes 1 to 4096, --workers 0 to 64, SEED 0 to 4294967295, SIZE 1 to 64\n",
+            "golden: words: '65' is not a number in its range: --capacity takes 1 to 4096, --workers 0 to 64, SEED 0 to 4294967295, SIZE 1 to 64, AT 0 to 1000000\n",
+        ),
+    ),
+];
+
+/// The same of `save` and `resume`. The cycle comes first, then the capacity.
+pub(crate) static NO_CYCLES: [Row; 5] = [
+    (
+        AskCounter("golden save k1.fir p.json k1.trace 1000001"),
+        Refuses(
+            2,
+            0,
+            "golden: words: '1000001' is not a number in its range: --capacity takes 1 to 4096, --workers 0 to 64, SEED 0 to 4294967295, SIZE 1 to 64, AT 0 to 1000000\n",
+        ),
+    ),
+    (
+        AskCounter("golden save k1.fir p.json k1.trace k1.snap --capacity 0"),
+        Refuses(
+            2,
+            0,
+            "golden: words: 'k1.snap' is not a number in its range: --capacity takes 1 to 4096, --workers 0 to 64, SEED 0 to 4294967295, SIZE 1 to 64, AT 0 to 1000000\n",
+        ),
+    ),
+    (
+        AskCounter("golden save k1.fir p.json k1.trace +3"),
+        Refuses(
+            2,
+            0,
+            "golden: words: '+3' is not a number in its range: --capacity takes 1 to 4096, --workers 0 to 64, SEED 0 to 4294967295, SIZE 1 to 64, AT 0 to 1000000\n",
+        ),
+    ),
+    (
+        AskCounter("golden save k1.fir p.json k1.trace 3 --workers 65 --capacity 4097"),
+        Refuses(
+            2,
+            0,
+            "golden: words: '4097' is not a number in its range: --capacity takes 1 to 4096, --workers 0 to 64, SEED 0 to 4294967295, SIZE 1 to 64, AT 0 to 1000000\n",
+        ),
+    ),
+    (
+        AskCounter("golden resume k1.fir p.json k1.trace k1.snap --workers 65"),
+        Refuses(
+            2,
+            0,
+            "golden: words: '65' is not a number in its range: --capacity takes 1 to 4096, --workers 0 to 64, SEED 0 to 4294967295, SIZE 1 to 64, AT 0 to 1000000\n",
         ),
     ),
 ];

@@ -1,7 +1,7 @@
 //! Calls on texts that are made: at the limits, and past them.
 use super::calls::Call::OnLarge;
 use super::calls::End::{Prints, Refuses};
-use super::calls::Row;
+use super::calls::{RESUME, Row};
 use super::large::Large::{Blanks, Clocks, Nested, Nodes, Outputs, Padded, Rows, Units};
 use super::steps::REPLAY;
 use gg_io::hold;
@@ -74,8 +74,8 @@ pub(crate) static LIMITS: [Row; 11] = [
     (OnLarge(Nodes(RUN)), Prints(3, "cycle y\n0 a\n")),
 ];
 
-/// Files of blanks, each one byte past its limit; a circuit of its limit; and a trace with a row too many.
-pub(crate) static LARGE_FILES: [Row; 6] = [
+/// Files of blanks, each one byte past its limit; a snapshot of its limit, which is one line without an end; a circuit of its limit; and a trace with a row too many.
+pub(crate) static LARGE_FILES: [Row; 8] = [
     (
         OnLarge(Blanks(RUN, "k1.fir", 4_194_305)),
         Refuses(8, 1, "golden: k1.fir is over 4194304 bytes\n"),
@@ -91,6 +91,14 @@ pub(crate) static LARGE_FILES: [Row; 6] = [
     (
         OnLarge(Blanks(REPLAY, "s.steps", 67_108_865)),
         Refuses(8, 4, "golden: s.steps is over 67108864 bytes\n"),
+    ),
+    (
+        OnLarge(Blanks(RESUME, "k1.snap", 67_108_865)),
+        Refuses(8, 4, "golden: k1.snap is over 67108864 bytes\n"),
+    ),
+    (
+        OnLarge(Blanks(RESUME, "k1.snap", 67_108_864)),
+        Refuses(10, 4, "golden: snapshot: S1 line 1\n"),
     ),
     (OnLarge(Padded(4_194_304)), Prints(3, TEXT)),
     (

@@ -3,8 +3,8 @@ ghost use Rattle.std.specs.Prelude.{None};
 
 use super::calls::Call::AskFailing;
 use super::calls::End::{Refuses, Stops};
-use super::calls::{NONE, Row};
-use gg_io::{NoGate, PutFail, Sink, SureShelf, SureSink};
+use super::calls::{NONE, RESUME, Row};
+use gg_io::{NoGate, PutFail, Sink, SureShelf, SureSink, hold};
 use golden::golden;
 use golden_calls::{COUNTER, RUN, TEXT, TRACE, counter_files, words_of};
 use std::alloc::{AllocError, Global};
@@ -70,17 +70,26 @@ impl Sink for FullSink {
     }
 }
 
-// Whether `run` on the counter, where `out` has memory for so many puts, answers this status and leaves these texts on `out` and `err`.
+// Whether a call with these words on the counter and a snapshot of it, where `out` has memory for so many puts, answers this status and leaves these
+// texts on `out` and `err`.
 fn ends_so<R: Threads + Sync>(
     rt: &R,
     alloc: Global,
+    call: &str,
     room: u64,
     status: u8,
     text: &str,
     line: &str,
 ) -> Result<bool, AllocError> {
-    let words = words_of(alloc, RUN)?;
-    let mut shelf = SureShelf::new(counter_files(alloc)?);
+    let words = words_of(alloc, call)?;
+    let mut files = counter_files(alloc)?;
+    hold(
+        &mut files,
+        alloc,
+        "k1.snap",
+        b"golden snapshot 1\ncycle 2\nreg c 01\n",
+    )?;
+    let mut shelf = SureShelf::new(files);
     let mut out = FullSink {
         bytes: Vec::new(alloc),
         room,
@@ -103,16 +112,24 @@ fn ends_so<R: Threads + Sync>(
     )
 }
 
+// The words of `save`.
+const SAVE: &str = "golden save k1.fir p.json k1.trace 3";
+
 // A put on `out` that is refused memory ends the call with what was written before, whole.
 #[test]
 fn puts_that_find_no_memory(rt: HostRuntime) -> Result<(), Fail> {
-    for (room, status, text, line) in [
-        (0, 5, "", "golden: out of memory\n"),
-        (2, 5, "cycle out\n0 00\n", "golden: out of memory\n"),
-        (5, 0, TEXT, ""),
+    for (call, room, status, text, line) in [
+        (RUN, 0, 5, "", "golden: out of memory\n"),
+        (RUN, 2, 5, "cycle out\n0 00\n", "golden: out of memory\n"),
+        (RUN, 5, 0, TEXT, ""),
+        (SAVE, 0, 5, "", "golden: out of memory\n"),
+        (SAVE, 1, 0, "golden snapshot 1\ncycle 3\nreg c 02\n", ""),
+        (RESUME, 0, 5, "", "golden: out of memory\n"),
+        (RESUME, 2, 5, "cycle out\n2 01\n", "golden: out of memory\n"),
+        (RESUME, 3, 0, "cycle out\n2 01\n3 02\n", ""),
     ] {
-        let is_right = ends_so(&rt, rt.alloc(), room, status, text, line)?;
-        assert!(rt; is_right, "with memory for {room} puts");
+        let is_right = ends_so(&rt, rt.alloc(), call, room, status, text, line)?;
+        assert!(rt; is_right, "{call}, with memory for {room} puts");
     }
     Ok(())
 }

@@ -7,11 +7,11 @@ use super::steps::REPLAY;
 use golden_calls::{CHECK, RUN, TRACE};
 
 // The counter with a stop at 1.
-const COUNTED: &str =
+pub(crate) const COUNTED: &str =
     "circuit Counter :\n  module Counter :\n    input clock : Clock\n    input reset : UInt<1>\n    output out : UInt<8>\n\n    reg c : UInt<8>, clock with :\n      reset => (UInt<1>(\"h0\"), c) @[Counter.scala 5:20]\n    node n = add(c, UInt<1>(\"h1\"))\n    out <= c\n    c <= mux(reset, UInt<8>(\"h0\"), bits(n, 7, 0))\n    stop(clock, eq(c, UInt<8>(1)), 1) : done\n";
 
 // A stop where the input is 3.
-const HALT: &str =
+pub(crate) const HALT: &str =
     "circuit Halt :\nmodule Halt :\ninput clock : Clock\ninput x : UInt<2>\noutput y : UInt<2>\ny <= x\nstop(clock, eq(x, UInt<2>(3)), 1) : done\n";
 
 // A stop where the input is 3, and one where it is odd.

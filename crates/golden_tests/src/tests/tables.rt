@@ -2,7 +2,7 @@
 use super::calls::check_rows;
 use super::circuits::{CIRCUIT_FAULTS, CUT, RUNS, WHOLE};
 use super::clocks::{CLOCK_CUTS, CLOCK_FAULTS, CLOCKED, HANDSHAKES, SERVED_WITHOUT_AN_EDGE};
-use super::commands::{ASKED, NO_NUMBERS, UNASKED};
+use super::commands::{ASKED, NO_CYCLES, NO_NUMBERS, SAVING, UNASKED};
 use super::cuts::{CUT_FAULTS, HOST_CUTS, ORDER_CUTS, ROUTED, UNIT_CUTS};
 use super::demos::SUMMARIES;
 use super::files::{FAILING, MISSING};
@@ -10,6 +10,9 @@ use super::large::{LARGE_FILES, LIMITS};
 use super::outputs::PUTS;
 use super::partitions::{ACCEPTED, PARTITION_FAULTS, PIPED};
 use super::refusals::REFUSALS;
+use super::snaps::{
+    MOVED, MOVED_CLOCKS, RESUMED, SAVED, SAVED_STOPS, SNAP_PUTS, UNREAD, UNREAD_PLACES,
+};
 use super::steps::{
     COUNTER_STEPS, FORK_REFUSED, NEVER_DUE, PIPE_REFUSED, SERVES_REFUSED, SHARED_REFUSED,
     STEPS_DONE, STEPS_REFUSED, STEPS_UNREAD,
@@ -53,7 +56,14 @@ fn words_are_read(rt: HostRuntime) {
     let alloc = rt.alloc();
     check_rows(&rt, alloc, "ASKED", &ASKED);
     check_rows(&rt, alloc, "UNASKED", &UNASKED);
+}
+
+#[test]
+fn numbers_are_read(rt: HostRuntime) {
+    let alloc = rt.alloc();
     check_rows(&rt, alloc, "NO_NUMBERS", &NO_NUMBERS);
+    check_rows(&rt, alloc, "SAVING", &SAVING);
+    check_rows(&rt, alloc, "NO_CYCLES", &NO_CYCLES);
 }
 
 #[test]
@@ -153,6 +163,37 @@ fn stops_have_channels(rt: HostRuntime) {
     let alloc = rt.alloc();
     check_rows(&rt, alloc, "STOP_CHANNELS", &STOP_CHANNELS);
     check_rows(&rt, alloc, "STEPS_BEHIND_A_STOP", &STEPS_BEHIND_A_STOP);
+}
+
+#[test]
+fn runs_are_saved(rt: HostRuntime) {
+    let alloc = rt.alloc();
+    check_rows(&rt, alloc, "SAVED", &SAVED);
+    check_rows(&rt, alloc, "SAVED_STOPS", &SAVED_STOPS);
+}
+
+#[test]
+fn runs_are_resumed(rt: HostRuntime) {
+    let alloc = rt.alloc();
+    check_rows(&rt, alloc, "RESUMED", &RESUMED);
+    check_rows(&rt, alloc, "SNAP_PUTS", &SNAP_PUTS);
+}
+
+#[test]
+fn snapshots_are_refused(rt: HostRuntime) {
+    let alloc = rt.alloc();
+    check_rows(&rt, alloc, "UNREAD", &UNREAD);
+    check_rows(&rt, alloc, "UNREAD_PLACES", &UNREAD_PLACES);
+}
+
+#[test]
+fn snapshots_move(rt: HostRuntime) {
+    check_rows(&rt, rt.alloc(), "MOVED", &MOVED);
+}
+
+#[test]
+fn snapshots_with_clocks_move(rt: HostRuntime) {
+    check_rows(&rt, rt.alloc(), "MOVED_CLOCKS", &MOVED_CLOCKS);
 }
 
 #[test]

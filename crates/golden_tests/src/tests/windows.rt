@@ -1,7 +1,8 @@
-//! Runs of more cycles than a tray keeps values, also with a slow clock, and stops about the end of the first window.
-use super::calls::NONE;
-use gg_io::FailingPut;
-use golden_calls::{Answer, call, files_of};
+//! Runs of more cycles than a tray keeps values, also with a slow clock and from a snapshot on; stops about the end of the first window, and
+//! snapshots there.
+use super::calls::{NONE, RESUME};
+use gg_io::{FailingPut, hold};
+use golden_calls::{Answer, ask, call, files_of};
 use itoa::Buffer;
 use std::alloc::{AllocError, Global};
 use std::process::Abort;
@@ -19,18 +20,20 @@ fn circuit_of(alloc: Global, stop: u64) -> Result<String, AllocError> {
     format!(in alloc; "{COUNTS}stop(clock, eq(r, UInt<11>({stop})), 1)\n")
 }
 
-// A header and so many rows, which end in turn with one text and with the other. If the clock is slow, three after another end alike.
+// A header and the rows of the cycles from `first` on and below `end`, which end in turn with one text and with the other. If the clock is slow,
+// three after another end alike.
 fn rows_of(
     alloc: Global,
     header: &str,
-    count: u64,
+    first: u64,
+    end: u64,
     is_slow: bool,
     even: &str,
     odd: &str,
 ) -> Result<String, AllocError> {
     let mut buffer = Buffer::new();
     let mut text = String::from_str(alloc, header)?;
-    for row in 0..count {
+    for row in first..end {
         text.push_str(buffer.format(row))?;
         let edges = if is_slow { row / 3 } else { row };
         text.push_str(if edges % 2 == 0 { even } else { odd })?;
@@ -51,7 +54,7 @@ fn run_long<R: Threads + Sync>(
     number: u64,
 ) -> Result<Answer, AllocError> {
     let circuit = circuit_of(alloc, stop)?;
-    let trace = rows_of(alloc, "cycle\n", 1_028, false, "\n", "\n")?;
+    let trace = rows_of(alloc, "cycle\n", 0, 1_028, false, "\n", "\n")?;
     let partition = if is_slow { SLOW_CLOCK } else { "{}" };
     let files = files_of(
         alloc,
@@ -80,7 +83,7 @@ fn ends_after(
     rows: u64,
     line: &str,
 ) -> Result<bool, AllocError> {
-    let text = rows_of(alloc, "cycle q\n", rows, is_slow, " 0\n", " 1\n")?;
+    let text = rows_of(alloc, "cycle q\n", 0, rows, is_slow, " 0\n", " 1\n")?;
     Ok(
         answer.status == status
             && answer.out.as_slice() == text.as_bytes()
@@ -267,4 +270,140 @@ fn stops_about_a_window(rt: HostRuntime) {
 #[test]
 fn a_slow_clock_over_two_windows(rt: HostRuntime) {
     check_long(&rt, rt.alloc(), true, &SLOW);
+}
+
+// A call with these words on the circuit with this stop, 1,028 rows, and a snapshot before cycle 2.
+fn ask_snapped<R: Threads + Sync>(
+    rt: &R,
+    alloc: Global,
+    line: &str,
+    stop: u64,
+) -> Result<Answer, AllocError> {
+    let circuit = circuit_of(alloc, stop)?;
+    let trace = rows_of(alloc, "cycle\n", 0, 1_028, false, "\n", "\n")?;
+    let mut files = files_of(alloc, circuit.as_bytes(), b"{}", trace.as_bytes())?;
+    hold(
+        &mut files,
+        alloc,
+        "k1.snap",
+        b"golden snapshot 1\ncycle 2\nreg r 002\n",
+    )?;
+    ask(rt, alloc, line, files)
+}
+
+// The words, the cycle of the stop, and the cycle behind the last row.
+type Rest = (&'static str, u64, u64);
+
+// From cycle 2 on, so that the first window ends with cycle 1,025: all rows, and stops in its last cycle and behind it.
+static RESTS: [Rest; 4] = [
+    (RESUME, NONE, 1_028),
+    (
+        "golden resume k1.fir p.json k1.trace k1.snap --workers 2",
+        NONE,
+        1_028,
+    ),
+    (RESUME, 1_025, 1_026),
+    (
+        "golden resume k1.fir p.json k1.trace k1.snap --workers 2",
+        1_026,
+        1_027,
+    ),
+];
+
+#[test]
+fn rests_of_two_windows(rt: HostRuntime) {
+    let alloc = rt.alloc();
+    for (words, stop, end) in &RESTS {
+        let answer = ask_snapped(&rt, alloc, words, *stop).expect(&rt, "there is memory");
+        let text = rows_of(alloc, "cycle q\n", 2, *end, false, " 0\n", " 1\n").expect(
+            &rt,
+            "there is memory",
+        );
+        assert!(rt; answer.is(0, 4, text.as_str(), ""), "{words}: up to {end}");
+    }
+}
+
+// The words, the cycle of the stop, the status, and what is on `out` and on `err`.
+type Saved = (&'static str, u64, u8, &'static str, &'static str);
+
+// A snapshot in the second window, at its beginning, and behind the last cycle; with a stop in the last cycle of the first window, in the first of the
+// second, and in the last of all.
+static SAVED: [Saved; 8] = [
+    (
+        "golden save k1.fir p.json k1.trace 1026",
+        NONE,
+        0,
+        "golden snapshot 1\ncycle 1026\nreg r 402\n",
+        "",
+    ),
+    (
+        "golden save k1.fir p.json k1.trace 1026 --workers 2",
+        NONE,
+        0,
+        "golden snapshot 1\ncycle 1026\nreg r 402\n",
+        "",
+    ),
+    (
+        "golden save k1.fir p.json k1.trace 1024",
+        1_024,
+        0,
+        "golden snapshot 1\ncycle 1024\nreg r 400\n",
+        "",
+    ),
+    (
+        "golden save k1.fir p.json k1.trace 1024",
+        1_023,
+        10,
+        "",
+        "golden: snapshot: S2 1024 1023\n",
+    ),
+    (
+        "golden save k1.fir p.json k1.trace 1026 --workers 2",
+        1_024,
+        10,
+        "",
+        "golden: snapshot: S2 1026 1024\n",
+    ),
+    (
+        "golden save k1.fir p.json k1.trace 1028",
+        1_027,
+        0,
+        "golden snapshot 1\ncycle 1028\nreg r 404\n",
+        "",
+    ),
+    (
+        "golden save k1.fir p.json k1.trace 1029",
+        NONE,
+        10,
+        "",
+        "golden: snapshot: S2 1029 1028\n",
+    ),
+    (
+        "golden save k1.fir p.json k1.trace 1029",
+        1_026,
+        10,
+        "",
+        "golden: snapshot: S2 1029 1026\n",
+    ),
+];
+
+// Whether the call answered so, and put its text at once.
+fn ends_at_once(answer: &Answer, status: u8, text: &str, line: &str) -> bool {
+    if status == 0 {
+        answer.is_snapshot(text)
+    } else {
+        answer.is(status, 3, text, line)
+    }
+}
+
+#[test]
+fn snapshots_about_a_window(rt: HostRuntime) {
+    let alloc = rt.alloc();
+    for (words, stop, status, text, line) in &SAVED {
+        let answer = ask_snapped(&rt, alloc, words, *stop).expect(&rt, "there is memory");
+        assert!(rt;
+            ends_at_once(&answer, *status, text, line),
+            "{words}: {answer:?}"
+        );
+    }
 }

@@ -12,23 +12,26 @@ use std::alloc::{AllocError, Global};
 use std::test::Fail;
 use std::thread::Threads;
 
-// Two units that feed each other in one cycle.
-const UNITS: &str = "{\"units\":[\"a\",\"b\"]}";
+/// Two units that feed each other in one cycle.
+pub(crate) const UNITS: &str = "{\"units\":[\"a\",\"b\"]}";
 
 const ROWS: &str = "cycle q\n0 11\n1 83\n";
 
-/// Channels of one token, by no worker, one and three, and by the simulator. As many workers as there may be, and channels as large as they may be. Two
+// The same without the hub between them, with a pipe from the one to the other, and with a pipe before the output.
+const DIRECT: &str = "{\"units\":[\"a\",\"b\"],\"direct\":true}";
+
+const LATE_INPUT: &str = "{\"units\":[\"a\",\"b\"],\"pipe\":[\"a.k\"]}";
+
+const LATE_OUTPUT: &str = "{\"units\":[\"a\",\"b\"],\"pipe\":[\"q\"]}";
+
+const ALONE: &str = "golden run k1.fir p.json k1.trace --capacity 1 --workers 0";
+
+const WITH_TWO: &str = "golden run k1.fir p.json k1.trace --capacity 1 --workers 2";
+
+/// Channels of one token, by no worker, one and three, and by the simulator; with direct channels and with pipes, by none and two. As many workers as there may be, and channels as large as they may be. Two
 /// workers, where the second put on `out` takes three bytes and fails.
-pub(crate) static BY_WORKERS: [Row; 6] = [
-    (
-        Ask(
-            "golden run k1.fir p.json k1.trace --capacity 1 --workers 0",
-            PAIR,
-            UNITS,
-            PAIR_TRACE,
-        ),
-        Prints(3, ROWS),
-    ),
+pub(crate) static BY_WORKERS: [Row; 12] = [
+    (Ask(ALONE, PAIR, UNITS, PAIR_TRACE), Prints(3, ROWS)),
     (
         Ask(
             "golden run k1.fir p.json k1.trace --capacity 1 --workers 1",
@@ -56,6 +59,24 @@ pub(crate) static BY_WORKERS: [Row; 6] = [
         ),
         Prints(3, ROWS),
     ),
+    (Ask(ALONE, PAIR, DIRECT, PAIR_TRACE), Prints(3, ROWS)),
+    (Ask(WITH_TWO, PAIR, DIRECT, PAIR_TRACE), Prints(3, ROWS)),
+    (
+        Ask(ALONE, PAIR, LATE_INPUT, PAIR_TRACE),
+        Prints(3, "cycle q\n0 0f\n1 9f\n"),
+    ),
+    (
+        Ask(WITH_TWO, PAIR, LATE_INPUT, PAIR_TRACE),
+        Prints(3, "cycle q\n0 0f\n1 9f\n"),
+    ),
+    (
+        Ask(ALONE, PAIR, LATE_OUTPUT, PAIR_TRACE),
+        Prints(3, "cycle q\n0 00\n1 11\n"),
+    ),
+    (
+        Ask(WITH_TWO, PAIR, LATE_OUTPUT, PAIR_TRACE),
+        Prints(3, "cycle q\n0 00\n1 11\n"),
+    ),
     (
         Ask(
             "golden run k1.fir p.json k1.trace --capacity 4096 --workers 64",
@@ -66,15 +87,7 @@ pub(crate) static BY_WORKERS: [Row; 6] = [
         Prints(3, ROWS),
     ),
     (
-        AskFailing(
-            "golden run k1.fir p.json k1.trace --capacity 1 --workers 2",
-            PAIR,
-            UNITS,
-            PAIR_TRACE,
-            NONE,
-            1,
-            NONE,
-        ),
+        AskFailing(WITH_TWO, PAIR, UNITS, PAIR_TRACE, NONE, 1, NONE),
         Stops(4, 3, "cycle q\n0 1", "golden: cannot write\n"),
     ),
 ];
@@ -112,10 +125,7 @@ impl<'a> Sink for WatchingSink<'a> {
 
 // Whether two workers meet before the first row is put, and the run has its rows.
 fn meets<R: Threads + Sync>(rt: &R, alloc: Global, gate: &Meeting) -> Result<bool, AllocError> {
-    let words = words_of(
-        alloc,
-        "golden run k1.fir p.json k1.trace --capacity 1 --workers 2",
-    )?;
+    let words = words_of(alloc, WITH_TWO)?;
     let mut shelf = SureShelf::new(files_of(
         alloc,
         PAIR.as_bytes(),
