@@ -1,0 +1,4 @@
+pub mod EchoLemmas
+pub mod HostedLemmas
+pub mod PortLemmas
+pub mod WorkedEcho

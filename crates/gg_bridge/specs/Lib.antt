@@ -1,0 +1,3 @@
+pub mod Echo
+pub mod Hosted
+pub mod Ports

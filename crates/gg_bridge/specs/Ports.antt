@@ -1,0 +1,46 @@
+-- The ports at which a bridge stands, by their names.
+-- Source: FIRRTL Specification, "Modules" (a port is known by its name); the paths of pipes and of models are this program's own.
+use Rattle.std.specs.Prelude.{◌≡◌, ℕ, List, [], ◌∷◌, ◌++◌, Bool, true, false, ◌||◌, if◌then◌else◌, Option, Some, None, map, slice_get, codes, All, bytes_eq}
+use Rattle.std.specs.List.{list_any}
+use Rattle.gg_flat.specs.Circuit.{FlatCircuit}
+use Rattle.gg_joined.specs.Joined.{CanJoin, joined}
+
+-- what the paths of a bridge's model begin with
+abbrev pub front_of : List ℕ → List ℕ
+front_of name = codes "bridge:" ++ name ++ codes "."
+
+-- a port's path is its name; behind a pipe it is that of the pipe
+abbrev pub is_path_of : List ℕ → Option (List ℕ) → Bool
+is_path_of name None = false
+is_path_of name (Some path) = bytes_eq path name || bytes_eq path (codes "pipe:" ++ name)
+
+-- whether a signal is the port with this name
+abbrev pub is_called : FlatCircuit → List ℕ → ℕ → Bool
+is_called circuit name s = is_path_of name (slice_get circuit.paths s)
+
+-- the first of these signals that is called so; 0 if none is
+abbrev pub first_called : FlatCircuit → List ℕ → List ℕ → ℕ
+first_called circuit name [] = 0
+first_called circuit name (s ∷ signals) = if is_called circuit name s then s else first_called circuit name signals
+
+-- one of these signals is called so
+abbrev pub IsAmong : FlatCircuit → List ℕ → List ℕ → Type 0
+IsAmong circuit signals name = list_any (is_called circuit name) signals ≡ true
+
+-- the signals that a bridge sees at the outputs with these names, and those that it drives at the inputs with these names
+abbrev pub seen_at : FlatCircuit → List (List ℕ) → List ℕ
+seen_at circuit sees = map (λ name. first_called circuit name circuit.outs) sees
+
+abbrev pub driven_at : FlatCircuit → List (List ℕ) → List ℕ
+driven_at circuit drives = map (λ name. first_called circuit name circuit.ins) drives
+
+-- A bridge of this name can stand at the ports with these names: they are outputs and inputs of the circuit, and the circuit can be
+-- joined with the model there.
+pub record CanStand (circuit : FlatCircuit) (name : List ℕ) (model : FlatCircuit) (sees drives : List (List ℕ)) : Type 0 where
+  pub outputs : All (IsAmong circuit circuit.outs) sees
+  pub inputs : All (IsAmong circuit circuit.ins) drives
+  pub can : CanJoin circuit (front_of name) model (seen_at circuit sees) (driven_at circuit drives)
+
+-- the circuit with the bridge's model in it
+abbrev pub joined_at : FlatCircuit → List ℕ → FlatCircuit → (sees drives : List (List ℕ)) → FlatCircuit
+joined_at circuit name model sees drives = joined circuit (front_of name) model (seen_at circuit sees) (driven_at circuit drives)

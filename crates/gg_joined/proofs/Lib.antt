@@ -1,0 +1,15 @@
+pub mod NumberLemmas
+pub mod ClockLemmas
+pub mod SameLemmas
+pub mod KnownLemmas
+pub mod AtLemmas
+pub mod PartLemmas
+pub mod LiftLemmas
+pub mod FormedLemmas
+pub mod PairLemmas
+pub mod MarkLemmas
+pub mod OrderedLemmas
+pub mod RunLemmas
+pub mod JoinLemmas
+pub mod AllLemmas
+pub mod EachLemmas

@@ -1,0 +1,122 @@
+-- A circuit with a bridge's model in it. The circuit's signals, registers and memories keep their numbers, and the model's stand
+-- behind them. Each in-signal of the model is a copy of the signal that the bridge sees there, and each input of the circuit that
+-- the bridge drives is a copy of the model's out-signal. What is driven is no input any more, and what is seen no output.
+-- Source: ICCAD 2019 (bridges: models in the host's own code that stand at a target's ports); FIRRTL Specification, "Connects".
+use Rattle.std.specs.Prelude.{◌≡◌, ◌≢◌, ℕ, suc, ◌<◌, List, [], ◌∷◌, ◌++◌, not, ◌==◌, if◌then◌else◌, Option, Some, None, option_map, unwrap_or, length, map, filter, Contains, AllPairs}
+use Rattle.std.specs.List.{list_any, range_with_len}
+use Rattle.gg_bits.specs.declared.types.Ty.{Ty}
+use Rattle.gg_flat.specs.declared.line.Node.{Node}
+use Rattle.gg_flat.specs.declared.line.Op.TheVariants.{Ref}
+use Rattle.gg_flat.specs.declared.piece.Signal.{Signal}
+use Rattle.gg_flat.specs.declared.piece.Driver.{Driver}
+use Rattle.gg_flat.specs.declared.piece.Driver.TheVariants.{Input, Held, MemoryWord, ReadRegister, Computed}
+use Rattle.gg_flat.specs.Line.{value_at, shape_at}
+use Rattle.gg_flat.specs.Circuit.{FlatCircuit, signal_shapes}
+use Rattle.gg_flat.specs.Order.{IsOrder}
+use Rattle.gg_flat.specs.Tree.{path_at}
+use Rattle.gg_part.specs.Part.{renamed_line, renamed_register, renamed_memory}
+
+-- ---- lists of numbers
+
+-- the first place of a number
+abbrev pub place_among : List ℕ → ℕ → Option ℕ
+place_among [] s = None
+place_among (x ∷ xs) s = if x == s then Some 0 else option_map suc (place_among xs s)
+
+-- these without those
+abbrev pub without : List ℕ → List ℕ → List ℕ
+without gone list = filter (λ s. not (list_any (λ t. t == s) gone)) list
+
+-- the items of a list, each with its number; the first number is n
+abbrev pub by_number : {A B : Type 0} → (ℕ → A → B) → ℕ → List A → List B
+by_number f n [] = []
+by_number f n (x ∷ xs) = f n x ∷ by_number f (suc n) xs
+
+-- ---- the numbers of what stands behind
+
+abbrev pub globals_behind : (one model : FlatCircuit) → List ℕ
+globals_behind one model = range_with_len (length one.signals) (length model.signals)
+
+abbrev pub held_behind : (one model : FlatCircuit) → List ℕ
+held_behind one model = range_with_len (length one.registers) (length model.registers)
+
+abbrev pub memories_behind : (one model : FlatCircuit) → List ℕ
+memories_behind one model = range_with_len (length one.memories) (length model.memories)
+
+-- ---- drivers
+
+-- a bare reference to signal t
+abbrev pub copy_line : Ty → ℕ → List Node
+copy_line ty t = record { ty = ty; op = Ref t } ∷ []
+
+-- the driver of a signal that isn't driven by the bridge: an input has its place among those that are left
+abbrev pub left_driver : (left : List ℕ) → ℕ → Driver → Driver
+left_driver left s (Input place) = Input (unwrap_or (place_among left s) 0)
+left_driver left s (Held register) = Held register
+left_driver left s (MemoryWord memory reader addr en) = MemoryWord memory reader addr en
+left_driver left s (ReadRegister memory reader) = ReadRegister memory reader
+left_driver left s (Computed line) = Computed line
+
+-- the driver of signal s of the circuit, by its place among the signals that the bridge drives; `outs` are the model's
+-- out-signals
+abbrev pub linked_driver : (outs left : List ℕ) → ℕ → Ty → Driver → Option ℕ → Driver
+linked_driver outs left s ty driver None = left_driver left s driver
+linked_driver outs left s ty driver (Some i) = Computed (copy_line ty (value_at outs i))
+
+abbrev pub linked : (outs drives left : List ℕ) → ℕ → Signal → Signal
+linked outs drives left s signal = record { ty = signal.ty; driver = linked_driver outs left s signal.ty signal.driver (place_among drives s) }
+
+-- the driver of a signal of the model, behind the circuit
+abbrev pub driver_behind : (globals held memories sees : List ℕ) → Ty → Driver → Driver
+driver_behind globals held memories sees ty (Input place) = Computed (copy_line ty (value_at sees place))
+driver_behind globals held memories sees ty (Held register) = Held (value_at held register)
+driver_behind globals held memories sees ty (MemoryWord memory reader addr en) = MemoryWord (value_at memories memory) reader (value_at globals addr) (value_at globals en)
+driver_behind globals held memories sees ty (ReadRegister memory reader) = ReadRegister (value_at memories memory) reader
+driver_behind globals held memories sees ty (Computed line) = Computed (renamed_line globals line)
+
+abbrev pub signal_behind : (globals held memories sees : List ℕ) → Signal → Signal
+signal_behind globals held memories sees signal = record { ty = signal.ty; driver = driver_behind globals held memories sees signal.ty signal.driver }
+
+-- ---- the circuit
+
+-- The circuit with a model in it, by numbers: those of the model's signals, registers and memories, what the bridge sees and drives,
+-- the model's out-signals, and the ports that are left.
+abbrev pub with_model : (one : FlatCircuit) (front : List ℕ) (model : FlatCircuit) (globals held memories sees drives said ins outs : List ℕ) → FlatCircuit
+with_model one front model globals held memories sees drives said ins outs =
+    record {
+      paths = one.paths ++ map (λ path. front ++ path) model.paths;
+      signals = by_number (linked said drives ins) 0 one.signals ++ map (signal_behind globals held memories sees) model.signals;
+      registers = one.registers ++ map (λ register. renamed_register globals [] register) model.registers;
+      memories = one.memories ++ map (λ memory. renamed_memory globals [] memory) model.memories;
+      ins = ins;
+      outs = outs;
+      clocks = one.clocks;
+    }
+
+-- The circuit with a model in it, whose signals have paths with this front. The bridge sees the signals `sees`, one for each
+-- in-signal of the model, and drives the in-signals `drives`, one for each out-signal.
+abbrev pub joined : (one : FlatCircuit) (front : List ℕ) (model : FlatCircuit) (sees drives : List ℕ) → FlatCircuit
+joined one front model sees drives =
+    with_model one front model (globals_behind one model) (held_behind one model) (memories_behind one model) sees drives
+    (map (value_at (globals_behind one model)) model.outs) (without drives one.ins) (without sees one.outs)
+
+-- the model with the paths that its signals have in the circuit
+abbrev pub placed : List ℕ → FlatCircuit → FlatCircuit
+placed front model = record model { paths = map (λ path. front ++ path) model.paths }
+
+-- The bridge's ports are the circuit's and fit the model: as many, with the model's types, and what it drives are inputs, each once.
+-- No path of the circuit is one of the model's.
+pub record CanJoin (one : FlatCircuit) (front : List ℕ) (model : FlatCircuit) (sees drives : List ℕ) : Type 0 where
+  pub seen_count : length sees ≡ length model.ins
+  pub seen : (i : ℕ) → i < length sees → value_at sees i < length one.signals
+  pub seen_type : (i : ℕ) → i < length sees → shape_at (signal_shapes one) (value_at sees i) ≡ shape_at (signal_shapes model) (value_at model.ins i)
+  pub driven_count : length drives ≡ length model.outs
+  pub driven : (i : ℕ) → i < length drives → Contains one.ins (value_at drives i)
+  pub driven_type : (i : ℕ) → i < length drives → shape_at (signal_shapes one) (value_at drives i) ≡ shape_at (signal_shapes model) (value_at model.outs i)
+  pub once : AllPairs (λ a b. a ≢ b) drives
+  pub fresh : (s i : ℕ) → s < length one.signals → i < length model.signals → path_at one.paths s ≢ front ++ path_at model.paths i
+
+-- a circuit has an order of evaluation
+pub record HasOrder (circuit : FlatCircuit) : Type 0 where
+  pub order : List ℕ
+  pub is : IsOrder circuit order

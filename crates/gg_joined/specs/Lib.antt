@@ -1,0 +1,4 @@
+pub mod Model
+pub mod Joined
+pub mod Turned
+pub mod All
