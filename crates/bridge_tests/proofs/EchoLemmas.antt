@@ -1,9 +1,11 @@
 -- An echo can stand at the ports of an echo's own circuit, and be the machine of a host.
-use Rattle.std.proofs.Common.{◌≡◌, ◌≢◌, ℕ, zero, suc, ◌<◌, List, [], ◌∷◌, ◌++◌, codes, refl, ap, arith}
+use Rattle.std.proofs.Common.{◌≡◌, ◌≢◌, ℕ, zero, suc, ◌^◌, ◌<◌, List, [], ◌∷◌, ◌++◌, codes, refl, ap, arith}
 use Rattle.std.specs.Prelude.{All, Contains}
+use Rattle.gg_bits.specs.Shape.{Fits}
 use Rattle.gg_bits.specs.declared.types.Ty.{Ty}
 use Rattle.gg_flat.specs.Circuit.{signal_shapes}
 use Rattle.gg_flat.specs.Line.{value_at, shape_at}
+use Rattle.gg_flat.specs.Settled.{IsInputs, in_shapes}
 use Rattle.gg_flat.specs.Tree.{path_at}
 use Rattle.gg_joined.specs.Joined.{CanJoin}
 use Rattle.gg_bridge.specs.Echo.{echo_piece}
@@ -66,3 +68,10 @@ module _ (ty : Ty) where
       every : (place : ℕ) → place < 1 → Contains {X = ℕ} (0 ∷ []) place
       every zero lt = (0, omega arith, refl)
       every (suc place) lt = absurd (omega (arith, lt))
+
+  pub hears : (value : ℕ) → value < 2 ^ ty.width → IsInputs (echo_piece ty) (value ∷ [])
+  hears value fits = record { count = refl; fits = each }
+    where
+      each : (i : ℕ) → i < 1 → Fits (shape_at (in_shapes (echo_piece ty)) i) (value_at (value ∷ []) i)
+      each zero lt = fits
+      each (suc i) lt = absurd (omega (arith, lt))

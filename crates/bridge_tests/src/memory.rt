@@ -1,5 +1,5 @@
 //! With ample memory each call that allocates has an answer.
-ghost use Rattle.std.specs.Prelude.{◌≡◌, [], ◌∷◌, IfOk};
+ghost use Rattle.std.specs.Prelude.{◌≡◌, ◌<◌, ◌^◌, [], ◌∷◌, length, IfOk};
 ghost use Rattle.gg_bridge.specs.Echo.{echo_piece};
 
 use gg_bits::{Ids, Name, Names};
@@ -53,16 +53,42 @@ fn joins(alloc: Global) -> Result<bool, AllocError> {
     Ok(piece.signal_count() == 4 && piece.ins().is_empty() && piece.outs().is_empty())
 }
 
-// Whether an echo is the machine of a host.
+// Whether an echo of 128 bits is the machine of a host, in the cycle that it is given.
 fn hosts(alloc: Global) -> Result<bool, AllocError> {
     let echo = Echo::new(alloc, 128)?;
-    let host = Hosted::new(alloc, echo, zero(alloc)?, zero(alloc)?)?;
-    Ok(host.threads() == 1)
+    let host = Hosted::new(alloc, echo, zero(alloc)?, zero(alloc)?, 7)?;
+    Ok(host.threads() == 1 && host.cycle(0) == 7)
+}
+
+// What an echo says.
+fn said_by(alloc: Global, echo: &Echo) -> Result<Vec<u128>, AllocError>
+    ensures { IfOk result (λ said. length said.items ≡ 1) }
+{
+    let mut said = vec![in alloc; 0; 1]?;
+    echo.says(&mut said);
+    Ok(said)
+}
+
+// Shows an echo this value.
+fn show(echo: &mut Echo, value: u128)
+    requires { value < 2 ^ echo.old.ty.width }
+{
+    echo.answer(&[value]);
+}
+
+// Whether an echo of 128 bits says 0, and then what it saw.
+fn echoes(alloc: Global) -> Result<bool, AllocError> {
+    let mut echo = Echo::new(alloc, 128)?;
+    let first = said_by(alloc, &echo)?;
+    show(&mut echo, 340282366920938463463374607431768211455);
+    let second = said_by(alloc, &echo)?;
+    Ok(first[0] == 0 && second[0] == 340282366920938463463374607431768211455)
 }
 
 #[test]
 fn answers(rt: HostRuntime) {
     let alloc = rt.alloc();
     assert!(rt; joins(alloc) == Ok(true), "a circuit is joined");
+    assert!(rt; echoes(alloc) == Ok(true), "an echo says what it saw");
     assert!(rt; hosts(alloc) == Ok(true), "a bridge is a machine");
 }

@@ -33,10 +33,10 @@ module _ (model : FlatCircuit) (ins outs : List ℕ) where
   same-shapes [] = refl
   same-shapes (signal ∷ signals) = ap (λ (l : List Shape). shape signal.ty ∷ l) (same-shapes signals)
 
-  shapes : signal_shapes (turned model ins outs) ≡ signal_shapes model
+  pub shapes : signal_shapes (turned model ins outs) ≡ signal_shapes model
   shapes = same-shapes model.signals
 
-  driver-turned : (s : ℕ) → s < length model.signals → driver_at (turned model ins outs) s ≡ turned_driver ins (driver_at model s)
+  pub driver-turned : (s : ℕ) → s < length model.signals → driver_at (turned model ins outs) s ≡ turned_driver ins (driver_at model s)
   driver-turned s lt =
       let any = some-item model.signals s lt in
       get_or-map (λ (signal : Signal). signal.driver) (map (turned_signal ins) model.signals) s (turned_signal ins any) (Input 0) (omega (arith, lt, length-map model.signals (turned_signal ins)))

@@ -20,11 +20,11 @@ use Rattle.gg_bridge.specs.Echo.{echo_piece}
 use Rattle.gg_bridge.specs.Ports.{CanStand, IsAmong, joined_at, seen_at}
 
 -- `bits(add(r, a), 7, 0)`
-abbrev sum : ℕ → ℕ → List Node
+abbrev pub sum : ℕ → ℕ → List Node
 sum r a = node eight (Ref r) ∷ node eight (Ref a) ∷ node nine (Two Add 0 1) ∷ node eight (Fix Bits 2 7 0) ∷ []
 
 -- Two sums, of the input `x` and of its complement. Signals: 0 `x`, 1 `p`, 2 `q`, 3 `u.a`, 4 `u.s`, 5 `v.a`, 6 `v.s`.
-abbrev two : FlatCircuit
+abbrev pub two : FlatCircuit
 two =
     record {
       paths = codes "x" ∷ codes "p" ∷ codes "q" ∷ codes "u.a" ∷ codes "u.s" ∷ codes "v.a" ∷ codes "v.s" ∷ [];

@@ -29,9 +29,9 @@ bridge_machine piece cycle state latches flags =
       kept = [];
     }
 
--- the machine before its first cycle
-abbrev pub opening_bridge : FlatCircuit → State → Machine
-opening_bridge piece state = bridge_machine piece 0 state (replicate (length piece.ins) None) (replicate (length piece.outs) false)
+-- the machine before its first step, in this cycle and this state
+abbrev pub started_bridge : FlatCircuit → ℕ → State → Machine
+started_bridge piece cycle state = bridge_machine piece cycle state (replicate (length piece.ins) None) (replicate (length piece.outs) false)
 
 -- A machine's ins are all places of the model's in-signals, in some order, and its outs are places of the model's out-signals.
 pub record ArePorts (model : FlatCircuit) (ins outs : List ℕ) : Type 0 where

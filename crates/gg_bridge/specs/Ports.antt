@@ -1,9 +1,10 @@
 -- The ports at which a bridge stands, by their names.
 -- Source: FIRRTL Specification, "Modules" (a port is known by its name); the paths of pipes and of models are this program's own.
-use Rattle.std.specs.Prelude.{◌≡◌, ℕ, List, [], ◌∷◌, ◌++◌, Bool, true, false, ◌||◌, if◌then◌else◌, Option, Some, None, map, slice_get, codes, All, bytes_eq}
+use Rattle.std.specs.Prelude.{◌≡◌, ℕ, List, [], ◌∷◌, ◌++◌, Bool, true, false, nat_lt, ◌||◌, if◌then◌else◌, Option, Some, None, map, slice_get, codes, All, bytes_eq}
 use Rattle.std.specs.List.{list_any}
 use Rattle.gg_flat.specs.Circuit.{FlatCircuit}
-use Rattle.gg_joined.specs.Joined.{CanJoin, joined}
+use Rattle.gg_flat.specs.Line.{value_at}
+use Rattle.gg_joined.specs.Joined.{CanJoin, joined, place_at}
 
 -- what the paths of a bridge's model begin with
 abbrev pub front_of : List ℕ → List ℕ
@@ -22,6 +23,25 @@ is_called circuit name s = is_path_of name (slice_get circuit.paths s)
 abbrev pub first_called : FlatCircuit → List ℕ → List ℕ → ℕ
 first_called circuit name [] = 0
 first_called circuit name (s ∷ signals) = if is_called circuit name s then s else first_called circuit name signals
+
+-- ---- by a table of places
+
+abbrev pub place_by : List (Option ℕ) → Option ℕ → Option ℕ
+place_by places None = None
+place_by places (Some s) = place_at places s
+
+-- the earlier of two places
+abbrev pub earlier : Option ℕ → Option ℕ → Option ℕ
+earlier None other = other
+earlier (Some i) None = Some i
+earlier (Some i) (Some j) = if nat_lt j i then Some j else Some i
+
+-- the number at a place; 0 if there is none
+abbrev pub picked : List ℕ → Option ℕ → ℕ
+picked list None = 0
+picked list (Some place) = value_at list place
+
+-- ---- where a bridge can stand
 
 -- one of these signals is called so
 abbrev pub IsAmong : FlatCircuit → List ℕ → List ℕ → Type 0

@@ -5,7 +5,7 @@ ghost use Rattle.gg_node.specs.Machine.{IsTray, Machine, machine_at, latch_at, f
 ghost use Rattle.gg_node.specs.Token.{IsToken, IsNextState};
 ghost use Rattle.gg_node.specs.Step.{MayLatch, MayFire, MayServe, MayFinish, with_latch, with_flag, with_served, finished};
 ghost use Rattle.gg_joined.specs.Turned.{turned, AreAllPlaces};
-ghost use Rattle.gg_bridge.specs.Hosted.{opening_bridge, ArePorts};
+ghost use Rattle.gg_bridge.specs.Hosted.{started_bridge, ArePorts};
 
 use crate::bridge::Bridge;
 use gg_bits::Ids;
@@ -55,15 +55,21 @@ fn gather(ins: &[u32], latches: &[Option<u128>], seen: &mut Vec<u128>)
 }
 
 impl<B: Bridge + Drop> Hosted<B> {
-    /// The machine of a bridge before its first cycle, in the bridge's state. Its ins and outs are these places of the model's
+    /// The machine of a bridge before its first step, in this cycle and in the bridge's state. Its ins and outs are these places of the model's
     /// in-signals and out-signals: each of the in-signals is one of the ins.
     ///
     /// # Errors
     ///
     /// Returns `AllocError` if an allocation fails.
-    pub fn new(alloc: Global, bridge: B, ins: Ids, outs: Ids) -> Result<Hosted<B>, AllocError>
+    pub fn new(
+        alloc: Global,
+        bridge: B,
+        ins: Ids,
+        outs: Ids,
+        cycle: u64,
+    ) -> Result<Hosted<B>, AllocError>
         requires { ArePorts (B.piece bridge) ins outs }
-        ensures { IfOk result (λ host. host ≡ opening_bridge (turned (B.piece bridge) ins outs) (B.state bridge)) }
+        ensures { IfOk result (λ host. host ≡ started_bridge (turned (B.piece bridge) ins outs) cycle (B.state bridge)) }
     {
         let model = bridge.model();
         let seen = vec![in alloc; 0; model.ins().len()]?;
@@ -79,7 +85,7 @@ impl<B: Bridge + Drop> Hosted<B> {
             seen,
             latches,
             flags,
-            cycle: 0,
+            cycle,
         })
     }
 

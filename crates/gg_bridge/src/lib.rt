@@ -7,9 +7,8 @@
 //! - an [`Echo`] is a bridge that says what it saw in the cycle before;
 //! - a [`Hosted`] bridge is a machine, the only one of its host, whose piece is the model with its ports in another order. Each of its outs
 //!   may give its token before any in has one;
-//! - [`join`] makes a design with a bridge's model at its ports, which are given by their names.
-//!
-//! No command uses bridges yet.
+//! - [`join`] makes a design with a bridge's model at its ports, which are given by their names. It takes
+//!   memory and time in proportion to the design, the model and the names.
 #![tactic(auto)]
 
 mod bridge;

@@ -1,10 +1,12 @@
 //! `join`: a design with a bridge's model at its ports.
-ghost use Rattle.std.specs.Prelude.{◌≡◌, ◌++◌, codes, map, string_bytes, IfOk};
+ghost use Rattle.std.specs.Prelude.{◌≡◌, ◌≢◌, ◌++◌, AllPairs, codes, length, map, string_bytes, IfOk};
+ghost use Rattle.gg_joined.specs.Joined.{HasPlaces};
 ghost use Rattle.gg_joined.specs.Model.{IsModel};
-ghost use Rattle.gg_bridge.specs.Ports.{CanStand, first_called, front_of, is_called, joined_at};
+ghost use Rattle.gg_bridge.specs.Ports.{CanStand, earlier, first_called, front_of, joined_at, picked, place_by};
 
 use gg_bits::{Name, Names};
 use gg_flat::Piece;
+use gg_joined::{place_at, places_of};
 use gg_order::Design;
 use std::alloc::{AllocError, Global};
 
@@ -17,28 +19,59 @@ fn behind(alloc: Global, word: &str, name: &str) -> Result<String, AllocError>
     Ok(text)
 }
 
-// Whether a signal is called so: its path is the name, or that of a pipe with this name.
-fn is_called(piece: &Piece, name: &str, pipe: &str, signal: u32) -> bool
-    requires { pipe.now ≡ codes "pipe:" ++ name.now }
-    ensures { result ≡ is_called piece.now name.now signal }
+// The place of a signal by a table of places, if there is a signal.
+fn place_by(places: &[Option<u32>], signal: Option<u32>) -> Option<u32>
+    ensures { result ≡ place_by places.now signal }
 {
-    match piece.path(signal) {
-        Some(path) => path.as_str() == name || path.as_str() == pipe,
-        None => false,
+    match signal {
+        Some(signal) => place_at(places, signal),
+        None => None,
     }
 }
 
-// The first of these signals that is called so; 0 if none is.
-fn first_called(piece: &Piece, name: &str, pipe: &str, signals: &[u32]) -> u32
-    requires { pipe.now ≡ codes "pipe:" ++ name.now }
+// The earlier of two places.
+fn earlier(one: Option<u32>, other: Option<u32>) -> Option<u32>
+    ensures { result ≡ earlier one other }
+{
+    match one {
+        None => other,
+        Some(i) => match other {
+            None => Some(i),
+            Some(j) => { if j < i { Some(j) } else { Some(i) } }
+        },
+    }
+}
+
+// The number at a place of a list; 0 if there is none.
+fn picked(list: &[u32], place: Option<u32>) -> u32
+    ensures { result ≡ picked list.now place }
+{
+    match place {
+        Some(place) => match list.get(place as usize) {
+            Some(number) => *number,
+            None => 0,
+        },
+        None => 0,
+    }
+}
+
+// The first of these signals that is called so, by the table of their places: its path is the name, or that of a pipe with this name; 0 if
+// none is.
+fn first_called(
+    piece: &Piece,
+    name: &Name,
+    pipe: &Name,
+    places: &[Option<u32>],
+    signals: &[u32],
+) -> u32
+    requires pipe { pipe.now ≡ codes "pipe:" ++ name.now }
+    requires distinct { AllPairs (λ a b. a ≢ b) piece.now.paths }
+    requires places { HasPlaces signals.now (length piece.now.paths) places.now }
     ensures { result ≡ first_called piece.now name.now signals.now }
 {
-    for signal in signals {
-        if is_called(piece, name, pipe, *signal) {
-            return *signal;
-        }
-    }
-    0
+    let own = place_by(places, piece.find(name));
+    let piped = place_by(places, piece.find(pipe));
+    picked(signals, earlier(own, piped))
 }
 
 // For each name the first of these signals that is called so.
@@ -50,10 +83,14 @@ fn all_called(
 ) -> Result<Vec<u32>, AllocError>
     ensures { IfOk result (λ called. called.items ≡ map (λ name. first_called piece.now name signals.now) names.now) }
 {
+    if signals.len() > 4294967296 {
+        return Err(AllocError);
+    }
+    let places = places_of(alloc, piece.signal_count(), signals)?;
     let mut called = Vec::new(alloc);
     for name in names {
-        let pipe = behind(alloc, "pipe:", name.as_str())?;
-        called.push(first_called(piece, name.as_str(), pipe.as_str(), signals))?;
+        let pipe = Name::from(behind(alloc, "pipe:", name.as_str())?);
+        called.push(first_called(piece, name, &pipe, &places, signals))?;
     }
     Ok(called)
 }
@@ -66,7 +103,7 @@ fn all_called(
 ///
 /// # Errors
 ///
-/// Returns `AllocError` if an allocation fails, or if there are 4,294,967,296 signals, registers, memories or in-signals, or more.
+/// Returns `AllocError` if an allocation fails, or if there are 4,294,967,296 signals, registers, memories or ports, or more.
 pub fn join(
     alloc: Global,
     design: &Design,

@@ -14,7 +14,7 @@ use Rattle.gg_flat.specs.Line.{value_at}
 use Rattle.gg_flat.specs.Memory.{Bank, found_word, next_word, next_words_from, next_words, words_read, late_reads, next_reads, next_bank, next_banks}
 use Rattle.gg_flat.specs.State.{State, taken_value, next_registers, next_state}
 use Rattle.gg_flat.specs.Settled.{Settled}
-use Rattle.gg_flat.specs.Run.{IsRunFrom, clocked_start, row_at, inputs_at, state_at}
+use Rattle.gg_flat.specs.Run.{Start, IsRunFrom, row_at, inputs_at, later, state_at}
 use Rattle.gg_flat.specs.WellFormed.{IsWellFormed, IsClock, IsClockedMemory}
 use Rattle.gg_part.specs.PartRun.{part_ratios}
 use Rattle.gg_part.proofs.RenameLemmas.{ticks-part}
@@ -97,28 +97,31 @@ module _ (n : ℕ) (edges others : List Bool) (same : (clock : Option ℕ) → I
       ap₂ (λ (one : Bank) rest. one ∷ rest) (bank-alike memory bank (are 0 memory (omega arith))) (banks-alike memories banks (λ k d lt. are (suc k) d (omega (arith, lt))))
 
 -- A run depends on the ratios of the circuit's own clocks alone.
-module _ (circuit : FlatCircuit) (formed : IsWellFormed circuit) (ratios : List Ratio) where
+module _ (circuit : FlatCircuit) (formed : IsWellFormed circuit) (start : Start) where
   abbrev own : List Ratio
-  own = part_ratios (clocks_from 0 circuit.clocks) ratios
+  own = part_ratios (clocks_from 0 circuit.clocks) start.ratios
 
-  ticks-own : (b : ℕ) (clock : Option ℕ) → IsClock circuit.clocks clock → ticks (edges_at (part_ratios (clocks_from 0 circuit.clocks) ratios) b) clock ≡ ticks (edges_at ratios b) clock
-  ticks-own b clock is = sym (ticks-part (clocks_from 0 circuit.clocks) ratios b clock) ∙ ap (ticks (edges_at ratios b)) (clock-same circuit.clocks clock is)
+  abbrev own_start : Start
+  own_start = record { cycle = start.cycle; state = start.state; ratios = part_ratios (clocks_from 0 circuit.clocks) start.ratios }
 
-  next-own : (b : ℕ) (state : State) (row : List ℕ) → next_state (edges_at (part_ratios (clocks_from 0 circuit.clocks) ratios) b) circuit state row ≡ next_state (edges_at ratios b) circuit state row
+  ticks-own : (b : ℕ) (clock : Option ℕ) → IsClock circuit.clocks clock → ticks (edges_at (part_ratios (clocks_from 0 circuit.clocks) start.ratios) b) clock ≡ ticks (edges_at start.ratios b) clock
+  ticks-own b clock is = sym (ticks-part (clocks_from 0 circuit.clocks) start.ratios b clock) ∙ ap (ticks (edges_at start.ratios b)) (clock-same circuit.clocks clock is)
+
+  next-own : (b : ℕ) (state : State) (row : List ℕ) → next_state (edges_at (part_ratios (clocks_from 0 circuit.clocks) start.ratios) b) circuit state row ≡ next_state (edges_at start.ratios b) circuit state row
   next-own b state row =
       let make : List ℕ → List Bank → State = λ registers banks. record { registers = registers; banks = banks } in
-      ap₂ make (registers-alike circuit.clocks (edges_at own b) (edges_at ratios b) (ticks-own b) row circuit.registers state.registers formed.register_clocks)
-      (banks-alike circuit.clocks (edges_at own b) (edges_at ratios b) (ticks-own b) row circuit.memories state.banks formed.memory_clocks)
+      ap₂ make (registers-alike circuit.clocks (edges_at own b) (edges_at start.ratios b) (ticks-own b) row circuit.registers state.registers formed.register_clocks)
+      (banks-alike circuit.clocks (edges_at own b) (edges_at start.ratios b) (ticks-own b) row circuit.memories state.banks formed.memory_clocks)
 
-  state-own : (rows : List (List ℕ)) (t : ℕ) → state_at circuit (clocked_start circuit (part_ratios (clocks_from 0 circuit.clocks) ratios)) rows t ≡ state_at circuit (clocked_start circuit ratios) rows t
+  state-own : (rows : List (List ℕ)) (t : ℕ) → state_at circuit (record { cycle = start.cycle; state = start.state; ratios = part_ratios (clocks_from 0 circuit.clocks) start.ratios }) rows t ≡ state_at circuit start rows t
   state-own rows zero = refl
-  state-own rows (suc t) = ap (λ state. next_state (edges_at own t) circuit state (row_at rows t)) (state-own rows t) ∙ next-own t (state_at circuit (clocked_start circuit ratios) rows t) (row_at rows t)
+  state-own rows (suc t) = ap (λ state. next_state (edges_at own (later start.cycle t)) circuit state (row_at rows t)) (state-own rows t) ∙ next-own (later start.cycle t) (state_at circuit start rows t) (row_at rows t)
 
-  pub run-own : (columns : List (List ℕ)) (n : ℕ) (rows : List (List ℕ)) → IsRunFrom circuit (clocked_start circuit (part_ratios (clocks_from 0 circuit.clocks) ratios)) columns n rows → IsRunFrom circuit (clocked_start circuit ratios) columns n rows
+  pub run-own : (columns : List (List ℕ)) (n : ℕ) (rows : List (List ℕ)) → IsRunFrom circuit (record { cycle = start.cycle; state = start.state; ratios = part_ratios (clocks_from 0 circuit.clocks) start.ratios }) columns n rows → IsRunFrom circuit start columns n rows
   run-own columns n rows run =
       record {
         count = run.count;
-        settled = λ t lt. subst (λ state. Settled circuit state (inputs_at columns t) (row_at rows t)) (state-own rows t) (run.settled t lt);
+        settled = λ t lt. subst (λ state. Settled circuit state (inputs_at columns (later start.cycle t)) (row_at rows t)) (state-own rows t) (run.settled t lt);
       }
 
 -- without clocks there are no ratios

@@ -1,9 +1,11 @@
 pub mod NumberLemmas
+pub mod PlaceLemmas
 pub mod ClockLemmas
 pub mod SameLemmas
 pub mod KnownLemmas
 pub mod AtLemmas
 pub mod PartLemmas
+pub mod StateLemmas
 pub mod LiftLemmas
 pub mod FormedLemmas
 pub mod PairLemmas

@@ -21,7 +21,7 @@ use Rattle.gg_flat.proofs.OrderLemmas.{stands-before, read-before, place-of}
 use Rattle.gg_order.proofs.ReadLemmas.{names_within}
 use Rattle.gg_part.specs.Part.{renamed_op, renamed_line}
 use Rattle.gg_joined.specs.Model.{IsModel}
-use Rattle.gg_joined.specs.Joined.{place_among, without, globals_behind, held_behind, memories_behind, copy_line, left_driver, linked_driver, driver_behind, joined, CanJoin}
+use Rattle.gg_joined.specs.Joined.{place_among, without, globals_behind, held_behind, memories_behind, copy_line, left_at, linked_driver, driver_behind, joined, CanJoin}
 use Rattle.gg_joined.proofs.NumberLemmas.{Tells, place-tells, behind}
 use Rattle.gg_joined.proofs.PairLemmas.{AllPairs-append, moved-once, moved-cases, in-take, filter-before}
 use Rattle.gg_joined.proofs.AtLemmas.{long, driver-old, driver-new}
@@ -95,12 +95,12 @@ named-behind globals held memories sees ty (MemoryWord memory reader addr en) t 
 named-behind globals held memories sees ty (ReadRegister memory reader) t named = absurd named
 named-behind globals held memories sees ty (Computed line) t named = let n = line-named globals line t named in OfOwn n.0 n.1 n.2
 
-left-named : (left : List ℕ) (s : ℕ) (driver : Driver) (t : ℕ) → NamesSignal (left_driver left s driver) t → NamesSignal driver t
-left-named left s (Input place) t named = named
-left-named left s (Held register) t named = named
-left-named left s (MemoryWord memory reader addr en) t named = named
-left-named left s (ReadRegister memory reader) t named = named
-left-named left s (Computed line) t named = named
+left-named : (left : Option ℕ) (driver : Driver) (t : ℕ) → NamesSignal (left_at left driver) t → NamesSignal driver t
+left-named left (Input place) t named = named
+left-named left (Held register) t named = named
+left-named left (MemoryWord memory reader addr en) t named = named
+left-named left (ReadRegister memory reader) t named = named
+left-named left (Computed line) t named = named
 
 module _ (one : FlatCircuit) (front : List ℕ) (model : FlatCircuit) (sees drives order : List ℕ) (can : CanJoin one front model sees drives) (formed : IsWellFormed one) (ordered : IsOrder one order) (is_model : IsModel model) where
   abbrev all : FlatCircuit
@@ -191,7 +191,7 @@ module _ (one : FlatCircuit) (front : List ℕ) (model : FlatCircuit) (sees driv
     where
       by : (o : Option ℕ) → Tells drives (value_at order i) o → (ty : Ty) → NamesSignal (linked_driver (map (value_at (globals_behind one model)) model.outs) (without drives one.ins) (value_at order i) ty (driver_at one (value_at order i)) o) t → Contains early t ⊎ Contains (take i order) t
       by None tells ty named =
-          inr (ordered.after i t lt (record { signal = ordered.signals i lt; names = left-named (without drives one.ins) (value_at order i) (driver_at one (value_at order i)) t named }))
+          inr (ordered.after i t lt (record { signal = ordered.signals i lt; names = left-named (place_among (without drives one.ins) (value_at order i)) (driver_at one (value_at order i)) t named }))
       by (Some k) tells ty named =
           let low : k < length model.outs = (let lo = tells.0 in omega (arith, lo, can.driven_count)) in
           let out = value_at model.outs k in

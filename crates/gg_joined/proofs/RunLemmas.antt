@@ -1,6 +1,6 @@
 -- A run of the circuit with a model is a run of the circuit and a run of the model, which give each other what is seen and driven.
 use Rattle.std.proofs.Common.{◌≡◌, ℕ, zero, suc, ◌+◌, ◌-◌, ◌^◌, ◌<◌, List, [], ◌∷◌, Bool, true, false, length, map, get_or, refl, sym, ◌∙◌, ap, ap₂, subst, arith}
-use Rattle.std.specs.Prelude.{Option, pos, negsuc, ◌-ℤ◌, ◌%◌, nat_lt, if◌then◌else◌}
+use Rattle.std.specs.Prelude.{pos, negsuc, ◌-ℤ◌, ◌%◌, nat_lt, if◌then◌else◌}
 use Rattle.std.specs.List.{range_with_len}
 use Rattle.std.proofs.Math.Nat.{mod-eq_of_lt}
 use Rattle.std.proofs.lemmas.Int.{ints}
@@ -19,23 +19,23 @@ use Rattle.gg_flat.specs.Clocked.{clocks_from}
 use Rattle.gg_flat.specs.Line.{value_at, shape_at, connected_value, HasType}
 use Rattle.gg_flat.specs.Circuit.{FlatCircuit, signal_shapes, driver_at}
 use Rattle.gg_flat.specs.Clock.{Ratio, edges_at}
-use Rattle.gg_flat.specs.State.{State, next_state}
+use Rattle.gg_flat.specs.State.{State, IsState, next_state}
 use Rattle.gg_flat.specs.Settled.{Settled, driver_value}
-use Rattle.gg_flat.specs.Run.{Start, IsRunFrom, IsRun, clocked_start, opening_start, state_at, row_at, inputs_at, column, later}
+use Rattle.gg_flat.specs.Run.{Start, IsRunFrom, state_at, row_at, inputs_at, column, later}
 use Rattle.gg_flat.specs.WellFormed.{IsWellFormed}
-use Rattle.gg_flat.proofs.AlongLemmas.{IsState-opening}
 use Rattle.gg_flat.proofs.ListLemmas.{some-item}
-use Rattle.gg_part.specs.Part.{IsPart}
-use Rattle.gg_part.specs.PartRun.{part_rows, part_ratios, part_columns}
+use Rattle.gg_part.specs.PartRun.{part_rows, part_ratios}
 use Rattle.gg_part.proofs.RenameLemmas.{part_row-at}
-use Rattle.gg_part.proofs.RunLemmas.{IsRunFrom-part, opening-part, column-at}
+use Rattle.gg_part.proofs.RunLemmas.{IsRunFrom-part}
 use Rattle.gg_joined.specs.Model.{IsModel}
+use Rattle.gg_joined.specs.All.{HasInputs, joined_state}
 use Rattle.gg_joined.specs.Joined.{without, globals_behind, held_behind, memories_behind, copy_line, linked_driver, driver_behind, joined, placed, CanJoin}
 use Rattle.gg_joined.proofs.ClockLemmas.{run-own, no-ratios}
 use Rattle.gg_joined.proofs.NumberLemmas.{place-is, behind, behind-first}
 use Rattle.gg_joined.proofs.AtLemmas.{long, shape-old, shape-new, driver-old, driver-new}
 use Rattle.gg_joined.proofs.PartLemmas.{front-part, model-part}
 use Rattle.gg_joined.proofs.FormedLemmas.{driven-typed, seen-typed}
+use Rattle.gg_joined.proofs.StateLemmas.{front-state, model-state, state-joined}
 
 -- the pattern of the number that a pattern stands for is that pattern (now in gg_types and gg_cut; it belongs into gg_bits)
 pattern_of-number : (kind : Kind) (w p : ℕ) → p < 2 ^ w → pattern_of w (number_of kind w p) ≡ p
@@ -63,14 +63,6 @@ copied circuit state inputs row s t ty settled lt is same typed =
     ∙ ap (λ sink. connected_value row sink (copy_line ty t)) (sym same)
     ∙ copy-value row ty t (subst (λ sh. Fits sh (value_at row t)) typed.1 (settled.typed.fits t typed.0))
 
--- from the opening, a part of a run is a run of the part
-clocked-part : (whole part : FlatCircuit) (globals held memories : List ℕ) (clocks : List (Option ℕ)) → IsPart whole part globals held memories clocks → (ratios : List Ratio) (columns : List (List ℕ)) (n : ℕ) (rows : List (List ℕ)) → IsRunFrom whole (clocked_start whole ratios) columns n rows → IsRunFrom part (clocked_start part (part_ratios clocks ratios)) (part_columns globals part rows) n (part_rows globals rows)
-clocked-part whole part globals held memories clocks is ratios columns n rows run =
-    let from : State → Start = λ state. record { cycle = 0; state = state; ratios = part_ratios clocks ratios } in
-    subst (λ state. IsRunFrom part (from state) (part_columns globals part rows) n (part_rows globals rows)) (opening-part whole part globals held memories clocks is)
-    (IsRunFrom-part whole part globals held memories clocks is (clocked_start whole ratios) columns (part_columns globals part rows) n rows (IsState-opening whole) run
-    (λ t place lt known. column-at whole part globals held memories clocks is rows t place (omega (arith, lt, run.count)) known))
-
 -- a run doesn't depend on paths
 module _ (front : List ℕ) (model : FlatCircuit) where
   state-placed : (start : Start) (rows : List (List ℕ)) (t : ℕ) → state_at (placed front model) start rows t ≡ state_at model start rows t
@@ -86,7 +78,15 @@ module _ (front : List ℕ) (model : FlatCircuit) where
             record { typed = s.typed; driven = s.driven };
       }
 
-module _ (one : FlatCircuit) (front : List ℕ) (model : FlatCircuit) (sees drives : List ℕ) (can : CanJoin one front model sees drives) (formed : IsWellFormed one) (is_model : IsModel model) (ratios : List Ratio) (columns : List (List ℕ)) (n : ℕ) (rows : List (List ℕ)) (run : IsRunFrom (joined one front model sees drives) (clocked_start (joined one front model sees drives) ratios) columns n rows) where
+-- the start of the circuit with the model
+abbrev pub both_start : Start → State → Start
+both_start start begin = record { cycle = start.cycle; state = joined_state start.state begin; ratios = start.ratios }
+
+-- the start of the model
+abbrev pub model_begin : Start → State → Start
+model_begin start begin = record { cycle = start.cycle; state = begin; ratios = [] }
+
+module _ (one : FlatCircuit) (front : List ℕ) (model : FlatCircuit) (sees drives : List ℕ) (can : CanJoin one front model sees drives) (formed : IsWellFormed one) (is_model : IsModel model) (start : Start) (begin : State) (first : IsState one start.state) (second : IsState model begin) (columns : List (List ℕ)) (n : ℕ) (rows : List (List ℕ)) (run : IsRunFrom (joined one front model sees drives) (both_start start begin) columns n rows) where
   abbrev all : FlatCircuit
   all = joined one front model sees drives
 
@@ -105,8 +105,8 @@ module _ (one : FlatCircuit) (front : List ℕ) (model : FlatCircuit) (sees driv
 
   -- ---- what is seen and driven
 
-  seen : (place : ℕ) → place < length model.ins → column rows (value_at (globals_behind one model) (value_at model.ins place)) ≡ column rows (value_at sees place)
-  seen place lt =
+  seen : (place k : ℕ) → place < length model.ins → k < n → value_at (row_at rows k) (value_at (globals_behind one model) (value_at model.ins place)) ≡ value_at (row_at rows k) (value_at sees place)
+  seen place k lt inside =
       let i = value_at model.ins place in
       let at = is_model.formed.ins place lt in
       let low = at.0 in
@@ -114,12 +114,11 @@ module _ (one : FlatCircuit) (front : List ℕ) (model : FlatCircuit) (sees driv
       let ty = (get_or model.signals i any).ty in
       let to : value_at (globals_behind one model) i ≡ length one.signals + i = behind (length one.signals) (length model.signals) i low in
       let known : length one.signals + i < length all.signals = omega (arith, low, long one front model sees drives) in
-      ap (column rows) to
-      ∙ same-column (length one.signals + i) (value_at sees place) (λ k inside.
-      copied all (state_at all (clocked_start all ratios) rows k) (inputs_at columns k) (row_at rows k) (length one.signals + i) (value_at sees place) ty (run.settled k inside) known
+      ap (value_at (row_at rows k)) to
+      ∙ copied all (state_at all (both_start start begin) rows k) (inputs_at columns (later start.cycle k)) (row_at rows k) (length one.signals + i) (value_at sees place) ty (run.settled k inside) known
       (driver-new one front model sees drives i any low ∙ ap (driver_behind (globals_behind one model) (held_behind one model) (memories_behind one model) sees ty) at.1)
       (type-of model i any low ∙ sym (shape-new one front model sees drives i low))
-      (seen-typed one front model sees drives can formed is_model.formed is_model.clocks i place any low lt refl))
+      (seen-typed one front model sees drives can formed is_model.formed is_model.clocks i place any low lt refl)
 
   pub driven : (i : ℕ) → i < length drives → column rows (value_at drives i) ≡ column (part_rows (globals_behind one model) rows) (value_at model.outs i)
   driven i lt =
@@ -135,7 +134,7 @@ module _ (one : FlatCircuit) (front : List ℕ) (model : FlatCircuit) (sees driv
       let out = value_at model.outs i in
       let known = is_model.formed.outs i inside in
       same-column s (value_at outs i) (λ k fits.
-      copied all (state_at all (clocked_start all ratios) rows k) (inputs_at columns k) (row_at rows k) s (value_at outs i) ty (run.settled k fits) (omega (arith, low, long one front model sees drives))
+      copied all (state_at all (both_start start begin) rows k) (inputs_at columns (later start.cycle k)) (row_at rows k) s (value_at outs i) ty (run.settled k fits) (omega (arith, low, long one front model sees drives))
       (driver-old one front model sees drives s any low ∙ ap (linked_driver outs (without drives one.ins) s ty (driver_at one s)) (place-is drives i can.once lt))
       (type-of one s any low ∙ sym (shape-old one front model sees drives s low))
       (driven-typed one front model sees drives can formed is_model.formed is_model.clocks s i any low lt refl))
@@ -153,26 +152,20 @@ module _ (one : FlatCircuit) (front : List ℕ) (model : FlatCircuit) (sees driv
 
   -- ---- the runs
 
-  pub front-run : IsRunFrom one (clocked_start one ratios) (map (column rows) one.ins) n (part_rows (range_with_len 0 (length one.signals)) rows)
-  front-run =
-      run-own one formed ratios (map (column rows) one.ins) n (part_rows (range_with_len 0 (length one.signals)) rows)
-      (subst (λ (given : List (List ℕ)). IsRunFrom one (clocked_start one (part_ratios (clocks_from 0 one.clocks) ratios)) given n (part_rows (range_with_len 0 (length one.signals)) rows)) (each one.ins (λ place lt. (formed.ins place lt).0))
-      (clocked-part all one (range_with_len 0 (length one.signals)) (range_with_len 0 (length one.registers)) (range_with_len 0 (length one.memories)) (clocks_from 0 one.clocks) (front-part one front model sees drives can formed) ratios columns n rows run))
-    where
-      each : (list : List ℕ) → ((place : ℕ) → place < length list → value_at list place < length one.signals) → map (λ s. column rows (value_at (range_with_len 0 (length one.signals)) s)) list ≡ map (column rows) list
-      each [] low = refl
-      each (s ∷ list) low = ap₂ (λ (c : List ℕ) (l : List (List ℕ)). c ∷ l) (ap (column rows) (behind-first (length one.signals) s (low 0 (omega arith)))) (each list (λ place lt. low (suc place) (omega (arith, lt))))
+  pub front-run : (inputs : List (List ℕ)) → HasInputs rows inputs start.cycle n one.ins → IsRunFrom one start inputs n (part_rows (range_with_len 0 (length one.signals)) rows)
+  front-run inputs given =
+      let from : State → Start = λ state. record { cycle = start.cycle; state = state; ratios = part_ratios (clocks_from 0 one.clocks) start.ratios } in
+      run-own one formed start inputs n (part_rows (range_with_len 0 (length one.signals)) rows)
+      (subst (λ state. IsRunFrom one (from state) inputs n (part_rows (range_with_len 0 (length one.signals)) rows)) (front-state one front model sees drives start.state begin first second)
+      (IsRunFrom-part all one (range_with_len 0 (length one.signals)) (range_with_len 0 (length one.registers)) (range_with_len 0 (length one.memories)) (clocks_from 0 one.clocks) (front-part one front model sees drives can formed) (both_start start begin) columns inputs n rows (state-joined one front model sees drives start.state begin first second) run
+      (λ t place lt known. given t place lt known ∙ ap (value_at (row_at rows t)) (sym (behind-first (length one.signals) (value_at one.ins place) (formed.ins place known).0)))))
 
-  pub model-run : IsRun model (map (column rows) sees) n (part_rows (globals_behind one model) rows)
-  model-run =
-      let base = clocked-part all (placed front model) (globals_behind one model) (held_behind one model) (memories_behind one model) [] (model-part one front model sees drives formed.named is_model.formed is_model.clocks) ratios columns n rows run in
-      let plain = subst (λ own. IsRunFrom (placed front model) (clocked_start (placed front model) own) (part_columns (globals_behind one model) (placed front model) rows) n (part_rows (globals_behind one model) rows)) (no-ratios ratios) base in
-      let moved = subst (λ (given : List (List ℕ)). IsRun (placed front model) given n (part_rows (globals_behind one model) rows)) (each model.ins sees (sym can.seen_count) (λ place lt. seen place lt)) plain in
-      run-placed front model (opening_start model) (map (column rows) sees) n (part_rows (globals_behind one model) rows) moved
-    where
-      each : (ins others : List ℕ) → length ins ≡ length others → ((place : ℕ) → place < length ins → column rows (value_at (globals_behind one model) (value_at ins place)) ≡ column rows (value_at others place)) → map (λ s. column rows (value_at (globals_behind one model) s)) ins ≡ map (column rows) others
-      each [] [] same at = refl
-      each [] (t ∷ others) same at = absurd (omega (arith, same))
-      each (s ∷ ins) [] same at = absurd (omega (arith, same))
-      each (s ∷ ins) (t ∷ others) same at =
-          ap₂ (λ (c : List ℕ) (l : List (List ℕ)). c ∷ l) (at 0 (omega arith)) (each ins others (omega (arith, same)) (λ place lt. at (suc place) (omega (arith, lt))))
+  pub model-run : (inputs : List (List ℕ)) → HasInputs rows inputs start.cycle n sees → IsRunFrom model (model_begin start begin) inputs n (part_rows (globals_behind one model) rows)
+  model-run inputs given =
+      let from : State → List Ratio → Start = λ state ratios. record { cycle = start.cycle; state = state; ratios = ratios } in
+      let base =
+      IsRunFrom-part all (placed front model) (globals_behind one model) (held_behind one model) (memories_behind one model) [] (model-part one front model sees drives formed.named is_model.formed is_model.clocks) (both_start start begin) columns inputs n rows (state-joined one front model sees drives start.state begin first second) run
+      (λ t place lt known. given t place lt (omega (arith, known, can.seen_count)) ∙ sym (seen place t known lt)) in
+      run-placed front model (model_begin start begin) inputs n (part_rows (globals_behind one model) rows)
+      (subst (λ ratios. IsRunFrom (placed front model) (from begin ratios) inputs n (part_rows (globals_behind one model) rows)) (no-ratios start.ratios)
+      (subst (λ state. IsRunFrom (placed front model) (from state (part_ratios [] start.ratios)) inputs n (part_rows (globals_behind one model) rows)) (model-state one front model sees drives start.state begin first second) base))

@@ -2,7 +2,7 @@
 -- behind them. Each in-signal of the model is a copy of the signal that the bridge sees there, and each input of the circuit that
 -- the bridge drives is a copy of the model's out-signal. What is driven is no input any more, and what is seen no output.
 -- Source: ICCAD 2019 (bridges: models in the host's own code that stand at a target's ports); FIRRTL Specification, "Connects".
-use Rattle.std.specs.Prelude.{◌≡◌, ◌≢◌, ℕ, suc, ◌<◌, List, [], ◌∷◌, ◌++◌, not, ◌==◌, if◌then◌else◌, Option, Some, None, option_map, unwrap_or, length, map, filter, Contains, AllPairs}
+use Rattle.std.specs.Prelude.{◌≡◌, ◌≢◌, ℕ, suc, ◌<◌, List, [], ◌∷◌, ◌++◌, not, ◌==◌, if◌then◌else◌, Bool, nat_lt, ◌&&◌, Option, Some, None, is_none, option_map, unwrap_or, slice_index_or, length, map, filter, Contains, AllPairs}
 use Rattle.std.specs.List.{list_any, range_with_len}
 use Rattle.gg_bits.specs.declared.types.Ty.{Ty}
 use Rattle.gg_flat.specs.declared.line.Node.{Node}
@@ -22,6 +22,19 @@ use Rattle.gg_part.specs.Part.{renamed_line, renamed_register, renamed_memory}
 abbrev pub place_among : List ℕ → ℕ → Option ℕ
 place_among [] s = None
 place_among (x ∷ xs) s = if x == s then Some 0 else option_map suc (place_among xs s)
+
+-- the entry of a number in a table of places; none past its end
+abbrev pub place_at : List (Option ℕ) → ℕ → Option ℕ
+place_at places s = slice_index_or places s None
+
+-- whether the table has an entry for a number, and that has no place yet
+abbrev pub is_free : List (Option ℕ) → ℕ → Bool
+is_free places s = nat_lt s (length places) && is_none (place_at places s)
+
+-- a table with the place of each of the first `count` numbers in a list
+pub record HasPlaces (list : List ℕ) (count : ℕ) (places : List (Option ℕ)) : Type 0 where
+  pub many : length places ≡ count
+  pub each : (s : ℕ) → s < count → place_at places s ≡ place_among list s
 
 -- these without those
 abbrev pub without : List ℕ → List ℕ → List ℕ
@@ -50,21 +63,28 @@ abbrev pub copy_line : Ty → ℕ → List Node
 copy_line ty t = record { ty = ty; op = Ref t } ∷ []
 
 -- the driver of a signal that isn't driven by the bridge: an input has its place among those that are left
-abbrev pub left_driver : (left : List ℕ) → ℕ → Driver → Driver
-left_driver left s (Input place) = Input (unwrap_or (place_among left s) 0)
-left_driver left s (Held register) = Held register
-left_driver left s (MemoryWord memory reader addr en) = MemoryWord memory reader addr en
-left_driver left s (ReadRegister memory reader) = ReadRegister memory reader
-left_driver left s (Computed line) = Computed line
+abbrev pub left_at : (left : Option ℕ) → Driver → Driver
+left_at left (Input place) = Input (unwrap_or left 0)
+left_at left (Held register) = Held register
+left_at left (MemoryWord memory reader addr en) = MemoryWord memory reader addr en
+left_at left (ReadRegister memory reader) = ReadRegister memory reader
+left_at left (Computed line) = Computed line
 
--- the driver of signal s of the circuit, by its place among the signals that the bridge drives; `outs` are the model's
--- out-signals
+-- the driver of a signal of the circuit, by its place among the inputs that are left and among the signals that the bridge drives; `outs`
+-- are the model's out-signals
+abbrev pub linked_at : (outs : List ℕ) (left : Option ℕ) → Ty → Driver → Option ℕ → Driver
+linked_at outs left ty driver None = left_at left driver
+linked_at outs left ty driver (Some i) = Computed (copy_line ty (value_at outs i))
+
+abbrev pub linked_signal : (outs : List ℕ) (driven left : Option ℕ) → Signal → Signal
+linked_signal outs driven left signal = record { ty = signal.ty; driver = linked_at outs left signal.ty signal.driver driven }
+
+-- the driver of signal s of the circuit, by its place among the signals that the bridge drives
 abbrev pub linked_driver : (outs left : List ℕ) → ℕ → Ty → Driver → Option ℕ → Driver
-linked_driver outs left s ty driver None = left_driver left s driver
-linked_driver outs left s ty driver (Some i) = Computed (copy_line ty (value_at outs i))
+linked_driver outs left s ty driver place = linked_at outs (place_among left s) ty driver place
 
 abbrev pub linked : (outs drives left : List ℕ) → ℕ → Signal → Signal
-linked outs drives left s signal = record { ty = signal.ty; driver = linked_driver outs left s signal.ty signal.driver (place_among drives s) }
+linked outs drives left s signal = linked_signal outs (place_among drives s) (place_among left s) signal
 
 -- the driver of a signal of the model, behind the circuit
 abbrev pub driver_behind : (globals held memories sees : List ℕ) → Ty → Driver → Driver

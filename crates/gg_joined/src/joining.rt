@@ -9,9 +9,9 @@ ghost use Rattle.gg_flat.specs.Tree.{path_at};
 ghost use Rattle.gg_part.specs.Part.{renamed_register, renamed_memory};
 ghost use Rattle.gg_flat.specs.WellFormed.{IsWellFormed};
 ghost use Rattle.gg_joined.specs.Model.{IsModel};
-ghost use Rattle.gg_joined.specs.Joined.{CanJoin, joined, by_number, copy_line, left_driver, linked_driver, linked, with_model, driver_behind, signal_behind, globals_behind, held_behind, memories_behind, without};
+ghost use Rattle.gg_joined.specs.Joined.{CanJoin, joined, by_number, copy_line, left_at, linked, linked_signal, place_at, with_model, driver_behind, signal_behind, globals_behind, held_behind, memories_behind, without};
 
-use crate::numbers::{left_of, number_at, numbers_at, numbers_from, place_in};
+use crate::numbers::{left_of, number_at, numbers_at, numbers_from, place_at, places_of};
 use crate::renaming::{renamed_line, renamed_memory, renamed_register};
 use gg_bits::{Name, Ty};
 use gg_flat::{AddError, Driver, Line, Node, Op, Piece, Signal};
@@ -31,50 +31,38 @@ fn copy_line(alloc: Global, ty: Ty, signal: u32) -> Result<Line, AllocError>
     Ok(line)
 }
 
-// The driver of a signal that isn't driven by the bridge.
-fn left_driver(left: &[u32], number: u32, driver: &Driver) -> Result<Driver, AllocError>
-    requires { length left.now ≤ 2 ^ 32 }
-    ensures { IfOk result (λ own. own ≡ left_driver left.now number driver.now) }
+// The driver of a signal that isn't driven by the bridge, by its place among the inputs that are left.
+fn left_driver(left: Option<u32>, driver: &Driver) -> Result<Driver, AllocError>
+    ensures { IfOk result (λ own. own ≡ left_at left driver.now) }
 {
     match driver {
-        Driver::Input(_) => match place_in(left, number) {
-            Some(place) => Ok(Driver::Input(place as u32)),
+        Driver::Input(_) => match left {
+            Some(place) => Ok(Driver::Input(place)),
             None => Ok(Driver::Input(0)),
         },
         other => Ok(other.clone()?),
     }
 }
 
-// A signal of the circuit, by its number.
+// A signal of the circuit, by the places among those that are driven and among the inputs that are left.
 fn linked(
     alloc: Global,
     outs: &[u32],
-    drives: &[u32],
-    left: &[u32],
+    driven: &[Option<u32>],
+    left: &[Option<u32>],
     number: u32,
     signal: &Signal,
 ) -> Result<Signal, AllocError>
-    requires { length left.now ≤ 2 ^ 32 }
-    ensures { IfOk result (λ own. own ≡ linked outs.now drives.now left.now number signal.now) }
+    ensures { IfOk result (λ own. own ≡ linked_signal outs.now (place_at driven.now number) (place_at left.now number) signal.now) }
 {
-    let driver = match place_in(drives, number) {
-        Some(place) => Driver::Computed(copy_line(alloc, signal.ty, out_at(outs, place))?),
-        None => left_driver(left, number, &signal.driver)?,
+    let driver = match place_at(driven, number) {
+        Some(place) => Driver::Computed(copy_line(alloc, signal.ty, number_at(outs, place))?),
+        None => left_driver(place_at(left, number), &signal.driver)?,
     };
     Ok(Signal {
         ty: signal.ty,
         driver,
     })
-}
-
-// The number at a place of a list; 0 past its end.
-fn out_at(list: &[u32], place: usize) -> u32
-    ensures { result ≡ value_at list.now place }
-{
-    match list.get(place) {
-        Some(number) => *number,
-        None => 0,
-    }
 }
 
 /// The numbers of what stands behind a circuit.
@@ -189,12 +177,15 @@ fn add_front(
     piece: &mut Piece,
 ) -> Result<(), AllocError>
     requires empty { piece.old ≡ no_circuit }
+    requires driven { length drives.now ≤ 2 ^ 32 }
     requires left { length left.now ≤ 2 ^ 32 }
     ensures { OnOk result (piece.new ≡ record no_circuit { paths = one.now.paths; signals = by_number (linked outs.now drives.now left.now) 0 one.now.signals }) }
 {
+    let driven = places_of(alloc, one.signal_count(), drives)?;
+    let kept = places_of(alloc, one.signal_count(), left)?;
     for place in 0..one.signal_count() {
         let number = place as u32;
-        let signal = linked(alloc, outs, drives, left, number, &one.signals()[place])?;
+        let signal = linked(alloc, outs, &driven, &kept, number, &one.signals()[place])?;
         add_as(alloc, "", one, number, signal, piece)?;
     }
     Ok(())
@@ -341,6 +332,7 @@ fn made(
     behind: &Behind,
     links: &Links<'_>,
 ) -> Result<Piece, AllocError>
+    requires driven { length links.now.drives.now ≤ 2 ^ 32 }
     requires ins { length links.now.ins.now ≤ 2 ^ 32 }
     requires few { length one.now.signals + length model.now.signals < 2 ^ 32 }
     requires distinct { AllPairs (λ a b. a ≢ b) (one.now.paths ++ map (λ path. front.now ++ path) model.now.paths) }
@@ -381,13 +373,16 @@ pub(crate) fn join_circuit(
     if !fit(one.signals().len(), model.signals().len())
         || !fit(one.registers().len(), model.registers().len())
         || !fit(one.memories().len(), model.memories().len())
+        || !fit(sees.len(), 0)
+        || !fit(drives.len(), 0)
     {
         return Err(AllocError);
     }
     let behind = behind_of(alloc, one, model)?;
     let said = numbers_at(alloc, &behind.globals, model.outs())?;
-    let ins = left_of(alloc, drives, one.ins())?;
-    let outs = left_of(alloc, sees, one.outs())?;
+    let count = one.signals().len();
+    let ins = left_of(alloc, count, drives, one.ins())?;
+    let outs = left_of(alloc, count, sees, one.outs())?;
     if !fit(ins.len(), 0) {
         return Err(AllocError);
     }

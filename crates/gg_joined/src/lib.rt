@@ -9,10 +9,12 @@
 //!   ([`joined_all_ordered`]), and a run of it is a run of the circuit, and one of each model on what its bridge sees
 //!   ([`joined_all_runs`]). It is enough to judge each bridge at the circuit's own ports ([`bridges_join`]);
 //! - the same of one model, and that circuit and model are parts of the circuit with the model ([`joined_parts`], [`joined_formed`],
-//!   [`joined_ordered`], [`joined_runs`]).
+//!   [`joined_ordered`], [`joined_runs`]);
+//! - a state of the circuit and states of the models make a state of the circuit with the models, and zeros its zeros
+//!   ([`joined_is_state`], [`joined_all_states`]);
+//! - [`places_of`] makes a table of the first place of each number in a list, which [`place_at`] reads.
 //!
-//! `join` takes memory for the circuit and the model, and time proportional to the circuit's signals times those that are driven, to
-//! its outputs times those that are seen, and to the square of its inputs.
+//! `join` takes memory and time in proportion to the circuit and the model.
 #![tactic(auto)]
 
 mod designs;
@@ -23,6 +25,7 @@ mod renaming;
 
 pub use designs::join;
 pub use laws::{
-    bridges_join, joined_all_formed, joined_all_ordered, joined_all_runs, joined_formed,
-    joined_ordered, joined_parts, joined_runs,
+    bridges_join, joined_all_formed, joined_all_ordered, joined_all_runs, joined_all_states,
+    joined_formed, joined_is_state, joined_ordered, joined_parts, joined_runs,
 };
+pub use numbers::{place_at, places_of};

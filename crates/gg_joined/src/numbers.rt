@@ -1,8 +1,8 @@
 //! Lists of numbers.
-ghost use Rattle.std.specs.Prelude.{◌≡◌, ℕ, ◌≤◌, ◌+◌, ◌^◌, ◌==◌, map, length, ◌<◌, IfOk, IfSome};
-ghost use Rattle.std.specs.List.{list_any, range_with_len};
+ghost use Rattle.std.specs.Prelude.{◌≡◌, ℕ, ◌≤◌, ◌<◌, ◌+◌, ◌^◌, [], map, length, IfOk};
+ghost use Rattle.std.specs.List.{range_with_len};
 ghost use Rattle.gg_flat.specs.Line.{value_at};
-ghost use Rattle.gg_joined.specs.Joined.{place_among, without};
+ghost use Rattle.gg_joined.specs.Joined.{HasPlaces, is_free, place_at, without};
 
 use std::alloc::{AllocError, Global};
 
@@ -16,42 +16,69 @@ pub(crate) fn number_at(list: &[u32], place: u32) -> u32
     }
 }
 
-/// The first place of a number in a list.
-pub(crate) fn place_in(list: &[u32], number: u32) -> Option<usize>
-    ensures place { result ≡ place_among list.now number }
-    ensures known { IfSome result (λ place. place < length list.now) }
-{
-    for place in 0..list.len() {
-        if list[place] == number {
-            return Some(place);
-        }
-    }
-    None
-}
-
-// Whether a number is in a list.
-fn is_in(list: &[u32], number: u32) -> bool
-    ensures { result ≡ list_any (λ t. t == number) list.now }
-{
-    for item in list {
-        if *item == number {
-            return true;
-        }
-    }
-    false
-}
-
-/// A list without the numbers of another.
+/// For each of the first `count` numbers its first place in a list, if it is there.
 ///
 /// # Errors
 ///
 /// Returns `AllocError` if an allocation fails.
-pub(crate) fn left_of(alloc: Global, gone: &[u32], list: &[u32]) -> Result<Vec<u32>, AllocError>
+pub fn places_of(alloc: Global, count: usize, list: &[u32]) -> Result<Vec<Option<u32>>, AllocError>
+    requires { length list.now ≤ 2 ^ 32 }
+    ensures { IfOk result (λ places. HasPlaces list.now count places.items) }
+{
+    let mut places = vec![in alloc; None; count]?;
+    fill_places(list, &mut places);
+    Ok(places)
+}
+
+/// The entry of a number in a table of places; none past its end.
+pub fn place_at(places: &[Option<u32>], number: u32) -> Option<u32>
+    ensures { result ≡ place_at places.now number }
+{
+    match places.get(number as usize) {
+        Some(place) => *place,
+        None => None,
+    }
+}
+
+// Whether a table has an entry for a number, and that has no place yet.
+fn is_free(places: &[Option<u32>], number: u32) -> bool
+    ensures { result ≡ is_free places.now number }
+{
+    (number as usize) < places.len() && place_at(places, number).is_none()
+}
+
+// Gives each number below the table's length the first place where the list has it.
+fn fill_places(list: &[u32], places: &mut [Option<u32>])
+    requires few { length list.now ≤ 2 ^ 32 }
+    requires none { HasPlaces [] (length places.old) places.old }
+    ensures { HasPlaces list.now (length places.old) places.new }
+{
+    for place in 0..list.len() {
+        if is_free(places, list[place]) {
+            places[list[place] as usize] = Some(place as u32);
+        }
+    }
+}
+
+/// A list of some of the first `count` numbers without those of another list.
+///
+/// # Errors
+///
+/// Returns `AllocError` if an allocation fails.
+pub(crate) fn left_of(
+    alloc: Global,
+    count: usize,
+    gone: &[u32],
+    list: &[u32],
+) -> Result<Vec<u32>, AllocError>
+    requires few { length gone.now ≤ 2 ^ 32 }
+    requires below { (i : ℕ) → i < length list.now → value_at list.now i < count }
     ensures { IfOk result (λ left. left.items ≡ without gone.now list.now) }
 {
+    let places = places_of(alloc, count, gone)?;
     let mut left = Vec::new(alloc);
     for number in list {
-        if !is_in(gone, *number) {
+        if place_at(&places, *number).is_none() {
             left.push(*number)?;
         }
     }
