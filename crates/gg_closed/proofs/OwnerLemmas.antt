@@ -7,7 +7,7 @@ use Rattle.gg_moved.specs.KeepsToTree.{KeepsToTree}
 use Rattle.gg_order.specs.Design.{Ordered}
 use Rattle.gg_partfile.specs.declared.request.Request.{Request}
 use Rattle.gg_cut.specs.Fault.{first_fault}
-use Rattle.gg_cut.specs.Plan.{machine_names, tray_names}
+use Rattle.gg_cut.specs.Plan.{cut_names, tray_names}
 use Rattle.gg_cut.specs.Listed.{is_among, listed_of, owner_of, owner_of_instance, memory_owner}
 use Rattle.gg_closed.specs.Apart.{AreApart}
 use Rattle.gg_closed.specs.Longest.{HoldsPath, Covers, IsOfLongest, listed_paths, IsLongestHolder, IsLongestCover}
@@ -44,9 +44,9 @@ module _ (design : Ordered) (request : Request) (keeps : KeepsToTree design.circ
       (memory-longest design.circuit design.tree (listed_of design.tree request) keeps.fitting keeps.scoped apart (listed_paths design.tree request) are j lt)
 
 -- the name of a listed path's machine is that path
-pub machine-name : (design : Ordered) (request : Request) (k : ℕ) → KeepsToTree design.circuit design.tree → k < length (listed_paths design.tree request) → path_at (machine_names design request (listed_of design.tree request)) (k + 1) ≡ path_at (listed_paths design.tree request) k
+pub machine-name : (design : Ordered) (request : Request) (k : ℕ) → KeepsToTree design.circuit design.tree → k < length (listed_paths design.tree request) → path_at (cut_names design request (listed_of design.tree request)) (k + 1) ≡ path_at (listed_paths design.tree request) k
 machine-name design request k keeps lt =
-    ap (path_at (machine_names design request (listed_of design.tree request))) (let next : k + 1 ≡ suc k = omega arith in next)
+    ap (path_at (cut_names design request (listed_of design.tree request))) (let next : k + 1 ≡ suc k = omega arith in next)
     ∙ ap (λ l. path_at (((request.units ++ l) ++ sources) ++ trays) k) (memory-paths design.tree request keeps.fitting.memory_named)
     ∙ get_or_append_left ((request.units ++ kept) ++ sources) trays [] k (omega (arith, lt, length-append (request.units ++ kept) sources))
     ∙ get_or_append_left (request.units ++ kept) sources [] k lt

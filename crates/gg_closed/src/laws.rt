@@ -14,7 +14,7 @@ ghost use Rattle.gg_cut.specs.Fault.{first_of, entry_faults, first_fault};
 ghost use Rattle.gg_cut.specs.Machines.{first_source, machine_count};
 ghost use Rattle.gg_cut.specs.Channels.{wires_of};
 ghost use Rattle.gg_part.specs.Choice.{IsChoice};
-ghost use Rattle.gg_cut.specs.Plan.{channels_to, channels_from, signals_of, givens_of, machine_names, Makes, Takes, HasMemory};
+ghost use Rattle.gg_cut.specs.Plan.{channels_to, channels_from, signals_of, givens_of, cut_names, Makes, Takes, HasMemory};
 ghost use Rattle.gg_closed.specs.Apart.{AreApart, AreFew, AreEnds, IsOwnerAtEnd};
 ghost use Rattle.gg_closed.specs.Longest.{listed_paths, IsLongestHolder, IsLongestCover};
 
@@ -33,7 +33,7 @@ pub fn owner_by_path()
     ensures signals { (design : Ordered) (request : Request) (s m : ℕ) → IsDesign design → KeepsToTree design.circuit design.tree → first_fault design request ≡ None → s < length design.circuit.signals → IsLongestHolder design request s m ↔ (owner_of design.circuit design.tree (listed_of design.tree request) s ≡ m) }
     ensures instances { (design : Ordered) (request : Request) (k m : ℕ) → IsDesign design → KeepsToTree design.circuit design.tree → first_fault design request ≡ None → k < length design.tree.instances → IsLongestCover design request (path_at design.tree.paths k) m ↔ (owner_of_instance design.tree (listed_of design.tree request).units k ≡ m) }
     ensures memories { (design : Ordered) (request : Request) (j m : ℕ) → IsDesign design → KeepsToTree design.circuit design.tree → first_fault design request ≡ None → j < length design.tree.memories → IsLongestCover design request (path_at design.tree.memory_paths j) m ↔ (memory_owner design.tree (listed_of design.tree request) j ≡ m) }
-    ensures names { (design : Ordered) (request : Request) (k : ℕ) → IsDesign design → KeepsToTree design.circuit design.tree → k < length (listed_paths design.tree request) → path_at (machine_names design request (listed_of design.tree request)) (k + 1) ≡ path_at (listed_paths design.tree request) k }
+    ensures names { (design : Ordered) (request : Request) (k : ℕ) → IsDesign design → KeepsToTree design.circuit design.tree → k < length (listed_paths design.tree request) → path_at (cut_names design request (listed_of design.tree request)) (k + 1) ≡ path_at (listed_paths design.tree request) k }
 {}
 
 /// If what is listed is apart, each channel has the machine that its signal belongs to at one of its ends. A port of

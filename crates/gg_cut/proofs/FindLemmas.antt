@@ -42,11 +42,11 @@ told-same a b cause same (inr is) = inr (sym same ∙ is)
 
 -- ---- lists of faults
 
-none-first : {A : Type 0} (a b : Option A) → or_else a b ≡ None → a ≡ None
+pub none-first : {A : Type 0} (a b : Option A) → or_else a b ≡ None → a ≡ None
 none-first None b e = refl
 none-first (Some x) b e = absurd (cc)
 
-none-second : {A : Type 0} (a b : Option A) → or_else a b ≡ None → b ≡ None
+pub none-second : {A : Type 0} (a b : Option A) → or_else a b ≡ None → b ≡ None
 none-second None b e = e
 none-second (Some x) b e = absurd (cc)
 

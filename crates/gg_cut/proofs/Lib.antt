@@ -1,6 +1,7 @@
 pub mod WorkedPair
 pub mod WorkedCells
 pub mod WorkedDirect
+pub mod WorkedSeats
 pub mod PathLemmas
 pub mod FindLemmas
 pub mod NamedLemmas
@@ -16,3 +17,5 @@ pub mod WireLemmas
 pub mod OriginLemmas
 pub mod DirectLemmas
 pub mod SameLemmas
+pub mod BridgeLemmas
+pub mod WholeFaultLemmas

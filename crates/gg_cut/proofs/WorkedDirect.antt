@@ -24,7 +24,7 @@ channel signal given producer consumer = record { signal = signal; given = given
 -- ---- two units that feed each other
 
 abbrev hub : Hub
-hub = hub_of circuit tree listed none true
+hub = hub_of circuit tree listed none none true
 
 -- signals: 0 x, 1 q, 2 a.x, 3 a.k, 4 a.p, 5 a.q, 6 b.m, 7 b.n
 pair-origins : map (origin hub) (0 ∷ 1 ∷ 2 ∷ 4 ∷ 7 ∷ []) ≡ Some 0 ∷ None ∷ None ∷ Some 4 ∷ Some 7 ∷ []
@@ -41,12 +41,16 @@ pair : routes hub ≡ channel 2 0 3 1 ∷ channel 3 7 2 1 ∷ channel 6 4 1 2 �
 pair = refl
 
 -- not asked for: all channels are as they were
-pair-plain : routes (hub_of circuit tree listed none false) ≡ channel 0 0 3 0 ∷ channel 2 2 0 1 ∷ channel 3 3 0 1 ∷ channel 4 4 1 0 ∷ channel 5 5 1 0 ∷ channel 6 6 0 2 ∷ channel 7 7 2 0 ∷ channel 1 1 0 4 ∷ []
+pair-plain : routes (hub_of circuit tree listed none none false) ≡ channel 0 0 3 0 ∷ channel 2 2 0 1 ∷ channel 3 3 0 1 ∷ channel 4 4 1 0 ∷ channel 5 5 1 0 ∷ channel 6 6 0 2 ∷ channel 7 7 2 0 ∷ channel 1 1 0 4 ∷ []
 pair-plain = refl
 
 -- `b.n` is piped: it is no origin, so `a.k` is not direct and `b.n` stays
-pair-piped : routes (hub_of circuit tree listed (λ s. s == 7) true) ≡ channel 2 0 3 1 ∷ channel 3 3 0 1 ∷ channel 6 4 1 2 ∷ channel 7 7 2 0 ∷ channel 1 5 1 4 ∷ []
+pair-piped : routes (hub_of circuit tree listed (λ s. s == 7) none true) ≡ channel 2 0 3 1 ∷ channel 3 3 0 1 ∷ channel 6 4 1 2 ∷ channel 7 7 2 0 ∷ channel 1 5 1 4 ∷ []
 pair-piped = refl
+
+-- a bridge drives `x`: it is no origin, so `a.x` is not direct and `x` stays
+pair-driven : routes (hub_of circuit tree listed none (λ s. s == 0) true) ≡ channel 0 0 3 0 ∷ channel 2 2 0 1 ∷ channel 3 7 2 1 ∷ channel 6 4 1 2 ∷ channel 1 5 1 4 ∷ []
+pair-driven = refl
 
 -- ---- hubs by their lists
 
@@ -62,6 +66,7 @@ made_of signals owners base held =
       stops = [];
       memory = λ m. m == 2;
       piped = none;
+      driven = none;
       direct = true;
     }
 

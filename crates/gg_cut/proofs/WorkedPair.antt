@@ -23,7 +23,8 @@ use Rattle.gg_cut.specs.declared.numbering.Role.TheVariants.{Source, Tray}
 use Rattle.gg_cut.specs.Machines.{IsRole, first_unit, first_memory, first_source, first_tray, machine_count, numbering_of}
 use Rattle.gg_cut.specs.Clocks.{ratios_of}
 use Rattle.gg_cut.specs.Channels.{wire, wires_of, channel_signals, channel_names, capacity_of}
-use Rattle.gg_cut.specs.Direct.{plan_wires, plan_signals}
+use Rattle.gg_cut.specs.Direct.{plan_signals}
+use Rattle.gg_cut.specs.Seated.{plan_wires}
 use Rattle.gg_cut.specs.Fault.{fault_in, too_many_units}
 
 abbrev pub input : ℕ → InstancePort

@@ -4,7 +4,7 @@
 use Rattle.std.specs.Prelude.{◌≡◌, ◌↔◌, ℕ, Contains}
 use Rattle.gg_flat.specs.Circuit.{FlatCircuit}
 use Rattle.gg_cut.specs.declared.plan.Body.{Body}
-use Rattle.gg_cut.specs.declared.plan.Body.TheVariants.{Cut, Memory, Source, Tray}
+use Rattle.gg_cut.specs.declared.plan.Body.TheVariants.{Cut, Memory, Source, Tray, Bridge}
 
 -- Two pieces are one, but for their paths and for how their out-signals are listed: both list the same signals, but maybe in another
 -- order, or a signal more often.
@@ -22,6 +22,7 @@ IsLike one (Cut part) = IsAlike one part.piece
 IsLike one (Memory part) = ⊥
 IsLike one (Source place) = ⊥
 IsLike one Tray = ⊥
+IsLike one (Bridge bridge) = ⊥
 
 -- two bodies are units whose pieces are alike
 abbrev pub AreAlike : Body → Body → Type 0
@@ -29,3 +30,4 @@ AreAlike (Cut part) other = IsLike part.piece other
 AreAlike (Memory part) other = ⊥
 AreAlike (Source place) other = ⊥
 AreAlike Tray other = ⊥
+AreAlike (Bridge bridge) other = ⊥

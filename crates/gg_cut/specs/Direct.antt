@@ -4,7 +4,7 @@
 -- in-channel leaves, with its copies, if a direct channel has it as its origin and the hub needs it for nothing else.
 -- Source: MEMOCODE 2009 (a fork: one out-signal of a node on several channels); this program's profile for which
 -- channels are direct.
-use Rattle.std.specs.Prelude.{◌≡◌, ℕ, zero, suc, List, [], ◌∷◌, ◌++◌, Bool, false, not, ◌||◌, ◌&&◌, ◌==◌, if◌then◌else◌, Option, Some, None, length, map, filter, flat_map, find, option_and_then, is_some, slice_get}
+use Rattle.std.specs.Prelude.{◌≡◌, ℕ, zero, suc, List, [], ◌∷◌, ◌++◌, Bool, true, false, not, ◌||◌, ◌&&◌, ◌==◌, if◌then◌else◌, Option, Some, None, length, map, filter, flat_map, find, option_and_then, is_some, slice_get}
 use Rattle.std.specs.List.{list_any, range_with_len}
 use Rattle.gg_flat.specs.declared.line.Node.{Node}
 use Rattle.gg_flat.specs.declared.line.Op.{Op}
@@ -20,6 +20,7 @@ use Rattle.gg_flat.specs.Scoped.{memory_fields, stop_signals}
 use Rattle.gg_flat.specs.State.{State}
 use Rattle.gg_flat.specs.Settled.{Settled}
 use Rattle.gg_partfile.specs.declared.request.Request.{Request}
+use Rattle.gg_partfile.specs.Size.{all_driven}
 use Rattle.gg_cut.specs.declared.wires.Wire.{Wire}
 use Rattle.gg_cut.specs.declared.listed.Listed.{Listed}
 use Rattle.gg_cut.specs.Listed.{is_among, listed_of, owner_of, memory_owner}
@@ -97,7 +98,8 @@ copied circuit s = if_wide circuit s (bare_of (driver_at circuit s))
 -- What the routing looks at: the circuit, the machine that each signal belongs to, the channels before, the fields of the
 -- hub's memories, the signals of the stops, and which machines are listed memories. `piped` tells the signals whose channels
 -- have a token in them at the start: the hub takes such a signal a cycle later than its producer gives it, so it is no
--- origin. `direct` tells whether channels are to be direct at all.
+-- origin. `driven` tells the inputs that a bridge drives: a bridge is no producer of an origin. `direct` tells whether channels are to
+-- be direct at all.
 pub record Hub : Type 0 where
   pub circuit : FlatCircuit
   pub owner : ℕ → ℕ
@@ -106,6 +108,7 @@ pub record Hub : Type 0 where
   pub stops : List ℕ
   pub memory : ℕ → Bool
   pub piped : ℕ → Bool
+  pub driven : ℕ → Bool
   pub direct : Bool
 
 -- the hub takes signal s
@@ -129,11 +132,11 @@ abbrev pub named_by : Hub → List ℕ → List ℕ
 named_by hub signals = flat_map (λ s. driver_names hub.circuit (driver_at hub.circuit s)) signals ++ hub.held
 
 -- The in-channel of the hub at the end of a chain of copies from signal s, if the chain has at most this many signals. An
--- in-channel that isn't piped is its own end.
+-- in-channel that isn't piped and that no bridge drives is its own end.
 abbrev pub origin_within : Hub → ℕ → ℕ → Option ℕ
 origin_within hub zero s = None
 origin_within hub (suc more) s =
-    if is_taken hub s then (if hub.piped s then None else Some s)
+    if is_taken hub s then (if hub.piped s || hub.driven s then None else Some s)
     else (if is_own hub s then option_and_then (origin_within hub more) (copied hub.circuit s) else None)
 
 -- The origin of an in-channel or a copy. Each signal of the chain reads the next, so the chain has at most as many signals as
@@ -205,8 +208,8 @@ hub_fields circuit tree listed =
     (filter (λ j. memory_owner tree listed j == 0) (range_with_len 0 (length tree.memories)))
 
 -- the hub of a cut
-abbrev pub hub_of : FlatCircuit → InstanceTree → Listed → (ℕ → Bool) → Bool → Hub
-hub_of circuit tree listed piped direct =
+abbrev pub hub_of : FlatCircuit → InstanceTree → Listed → (piped driven : ℕ → Bool) → Bool → Hub
+hub_of circuit tree listed piped driven direct =
     record {
       circuit = circuit;
       owner = owner_of circuit tree listed;
@@ -215,6 +218,7 @@ hub_of circuit tree listed piped direct =
       stops = stop_signals tree;
       memory = is_memory listed;
       piped = piped;
+      driven = driven;
       direct = direct;
     }
 
@@ -224,17 +228,29 @@ hub_of circuit tree listed piped direct =
 abbrev pub is_piped : FlatCircuit → Request → ℕ → Bool
 is_piped circuit request s = is_among request.pipe (path_at circuit.paths s)
 
+abbrev pub is_input : Driver → Bool
+is_input (Input place) = true
+is_input (Held register) = false
+is_input (MemoryWord memory reader addr en) = false
+is_input (ReadRegister memory reader) = false
+is_input (Computed line) = false
+
+-- A bridge of the request drives signal s, which is a top input.
+abbrev pub is_driven : FlatCircuit → Request → ℕ → Bool
+is_driven circuit request s = is_input (driver_at circuit s) && is_among (all_driven request.bridges) (path_at circuit.paths s)
+
 -- the hub of a request's cut
 abbrev pub plan_hub : FlatCircuit → InstanceTree → Request → Hub
-plan_hub circuit tree request = hub_of circuit tree (listed_of tree request) (is_piped circuit request) request.direct
+plan_hub circuit tree request = hub_of circuit tree (listed_of tree request) (is_piped circuit request) (is_driven circuit request) request.direct
 
--- the channels of the plan: those of the cut, routed if the request asks for direct channels
-abbrev pub plan_wires : FlatCircuit → InstanceTree → Request → List Wire
-plan_wires circuit tree request = routes (plan_hub circuit tree request)
+-- The channels of the plan, between the machines of the cut: those of the cut, routed if the request asks for direct channels. The
+-- machines have the numbers that they have without bridges.
+abbrev pub plan_routes : FlatCircuit → InstanceTree → Request → List Wire
+plan_routes circuit tree request = routes (plan_hub circuit tree request)
 
 -- the signals that the consumers of the plan's channels take
 abbrev pub plan_signals : FlatCircuit → InstanceTree → Request → List ℕ
-plan_signals circuit tree request = map (λ w. w.signal) (plan_wires circuit tree request)
+plan_signals circuit tree request = map (λ w. w.signal) (plan_routes circuit tree request)
 
 -- in each settled row both signals of the channel have one value
 abbrev pub IsSame : FlatCircuit → Wire → Type 0

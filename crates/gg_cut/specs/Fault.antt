@@ -8,6 +8,7 @@ use Rattle.gg_flat.specs.Circuit.{FlatCircuit}
 use Rattle.gg_flat.specs.Tree.{InstanceTree, path_at, instance_at}
 use Rattle.gg_order.specs.Design.{Ordered}
 use Rattle.gg_partfile.specs.declared.request.Request.{Request}
+use Rattle.gg_partfile.specs.Size.{all_driven, all_seen}
 use Rattle.gg_cut.specs.declared.fault.CutFault.{CutFault}
 use Rattle.gg_cut.specs.declared.fault.CutFault.TheVariants.{UnknownUnit, Doubled, OtherModule, UnknownMemory, Unmatched, UnknownChannel, OutOfRange, TooManyUnits, TooManyChannels, UnknownPipe, DoubledPipe, UnknownClock, WrongRatio, UnknownBridge, WrongPort, UnfitBridge, NoMemory}
 use Rattle.gg_cut.specs.Listed.{is_among, is_instance_path, is_memory_path, instance_of, lies, listed_of}
@@ -15,6 +16,7 @@ use Rattle.gg_cut.specs.declared.listed.Listed.{Listed}
 use Rattle.gg_cut.specs.Channels.{channel_names}
 use Rattle.gg_cut.specs.Clocks.{is_ratio}
 use Rattle.gg_cut.specs.Direct.{plan_signals}
+use Rattle.gg_cut.specs.Bridges.{Models, bridge_faults}
 
 -- the most units and listed memories, and the most channels
 abbrev pub most_units : ℕ
@@ -191,11 +193,16 @@ faults_in circuit tree request = entry_faults tree request ++ later_faults circu
 abbrev pub fault_in : FlatCircuit → InstanceTree → Request → Option CutFault
 fault_in circuit tree request = first_of (faults_in circuit tree request)
 
--- The fault of a request for a design: the one with the least number. Among faults with the same number it is the
+-- The fault of a request for a design, its bridges aside: the one with the least number. Among faults with the same number it is the
 -- first in `units`, then in `share`, then in `memories`. For capacities and clocks it is the one with the least name, for pipes the
 -- first.
 abbrev pub first_fault : Ordered → Request → Option CutFault
 first_fault design request = fault_in design.circuit design.tree request
+
+-- The same, and behind it the faults of the bridges, where these models are known: the first entry's first, which is the one with the
+-- least number.
+abbrev pub first_fault_with : Ordered → Models → Request → Option CutFault
+first_fault_with design models request = or_else (first_fault design request) (first_of (bridge_faults design.circuit (length design.tree.stops) models request.bridges))
 
 -- the fault in words
 abbrev pub fault_text : CutFault → List ℕ
@@ -230,9 +237,12 @@ Tells fault (Err cause) = IsTold fault cause
 
 -- ---- requests
 
--- A request has fewer than 2 ^ 32 entries of each kind.
+-- A request has fewer than 2 ^ 32 entries of each kind, and fewer than 2 ^ 31 bridges, so that its machines have numbers of 32 bits.
 pub record IsSmall (request : Request) : Type 0 where
   pub units : length request.units < 2 ^ 32
   pub share : length (entries request.share) < 2 ^ 32
   pub memories : length request.memories < 2 ^ 32
   pub pipe : length request.pipe < 2 ^ 32
+  pub bridges : length request.bridges < 2 ^ 31
+  pub seen : length (all_seen request.bridges) < 2 ^ 32
+  pub driven : length (all_driven request.bridges) < 2 ^ 32

@@ -8,6 +8,8 @@ pub mod Hosts
 pub mod Alike
 pub mod Owners
 pub mod Direct
+pub mod Bridges
+pub mod Seated
 pub mod Plan
 pub mod Solves
 pub mod Held

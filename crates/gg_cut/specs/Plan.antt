@@ -1,7 +1,7 @@
 -- The plan of a cut: its machines with their pieces, its channels, and what each channel needs.
 -- Source: MEMOCODE 2009 (a network of machines that are latency-insensitive: an output depends only on the inputs
 -- that it is computed from); ICCAD 2019 (instances and memories of a target as models of their own).
-use Rattle.std.specs.Prelude.{◌≡◌, ◌≢◌, ◌↔◌, ◌⊎◌, ℕ, ◌<◌, ◌≤◌, ◌+◌, ◌-◌, List, [], ◌∷◌, Bool, Option, false, ◌++◌, ◌==◌, length, map, take, drop, filter, codes, slice_index_or, Contains, AllPairs}
+use Rattle.std.specs.Prelude.{◌≡◌, ◌≢◌, ◌↔◌, ◌⊎◌, ℕ, ◌<◌, ◌≤◌, ◌+◌, ◌-◌, ◌^◌, List, [], ◌∷◌, Bool, Option, Some, unwrap_or, false, ◌++◌, ◌==◌, length, map, take, drop, filter, codes, slice_index_or, Contains, AllPairs}
 use Rattle.std.specs.List.{range_with_len}
 use Rattle.gg_bits.specs.Shape.{shape}
 use Rattle.gg_flat.specs.Line.{value_at, shape_at}
@@ -14,19 +14,23 @@ use Rattle.gg_part.specs.Part.{IsPart}
 use Rattle.gg_part.specs.Building.{AreHeld}
 use Rattle.gg_part.specs.InOrder.{IsInOrder}
 use Rattle.gg_part.specs.declared.part.Part.{Part}
+use Rattle.gg_partfile.specs.declared.request.BridgeEntry.{BridgeEntry}
 use Rattle.gg_partfile.specs.declared.request.Request.{Request}
 use Rattle.gg_cut.specs.declared.plan.Body.{Body}
-use Rattle.gg_cut.specs.declared.plan.Body.TheVariants.{Cut, Memory, Source, Tray}
+use Rattle.gg_cut.specs.declared.plan.Body.TheVariants.{Cut, Memory, Source, Tray, Bridge}
+use Rattle.gg_cut.specs.declared.plan.BridgeBody.{BridgeBody}
 use Rattle.gg_cut.specs.declared.plan.Machine.{Machine}
 use Rattle.gg_cut.specs.declared.plan.Channel.{Channel}
 use Rattle.gg_cut.specs.declared.plan.Plan.{Plan}
 use Rattle.gg_cut.specs.declared.listed.Listed.{Listed}
-use Rattle.gg_cut.specs.Listed.{listed_of, owner_of, memory_owner}
+use Rattle.gg_cut.specs.Listed.{listed_of, owner_of, memory_owner, place_of}
 use Rattle.gg_cut.specs.declared.wires.Wire.{Wire}
-use Rattle.gg_cut.specs.Machines.{first_memory, first_source, first_tray, machine_count}
+use Rattle.gg_cut.specs.Machines.{first_memory, first_source, first_tray}
 use Rattle.gg_cut.specs.Channels.{wire, capacity_of}
 use Rattle.gg_cut.specs.Clocks.{ratios_of}
-use Rattle.gg_cut.specs.Direct.{Hub, routes, is_gone, is_piped, plan_hub, plan_wires}
+use Rattle.gg_cut.specs.Direct.{Hub, routes, is_gone, is_piped, plan_hub}
+use Rattle.gg_cut.specs.Bridges.{Models, model_named}
+use Rattle.gg_cut.specs.Seated.{first_bridge, first_kept_tray, machine_end, open_ins, open_outs, output_count, plan_bridges, plan_wires}
 use Rattle.gg_cut.specs.Hosts.{host_of}
 use Rattle.gg_cut.specs.Alike.{AreAlike}
 
@@ -99,40 +103,88 @@ pub record IsCutPart (design : Ordered) (listed : Listed) (hub : Hub) (m : ℕ) 
   pub memories : (k : ℕ) → Contains part.memories k ↔ HasMemory design.tree listed m k
   pub ordered : IsInOrder part.piece
 
--- what machine m is, by its number: the hub or a unit, a listed memory, the source of the top input at a place, or a tray
-abbrev pub IsBody : Ordered → Listed → Hub → ℕ → Body → Type 0
-IsBody design listed hub m (Cut part) = (m < first_memory listed) × IsCutPart design listed hub m part
-IsBody design listed hub m (Memory part) = (first_memory listed ≤ m) × (m < first_source listed) × IsCutPart design listed hub m part
-IsBody design listed hub m (Source place) = (place < length design.circuit.ins) × (m ≡ first_source listed + place)
-IsBody design listed hub m Tray = first_tray design.circuit listed ≤ m
+-- What machine m of the cut without bridges is, by its number: the hub or a unit, a listed memory, the source of the top input at a
+-- place, or a tray.
+abbrev pub IsCutBody : Ordered → Listed → Hub → ℕ → Body → Type 0
+IsCutBody design listed hub m (Cut part) = (m < first_memory listed) × IsCutPart design listed hub m part
+IsCutBody design listed hub m (Memory part) = (first_memory listed ≤ m) × (m < first_source listed) × IsCutPart design listed hub m part
+IsCutBody design listed hub m (Source place) = (place < length design.circuit.ins) × (m ≡ first_source listed + place)
+IsCutBody design listed hub m Tray = first_tray design.circuit listed ≤ m
+IsCutBody design listed hub m (Bridge bridge) = ⊥
+
+-- the place of a port among those that an entry lists
+abbrev pub port_place : List (List ℕ) → List ℕ → ℕ
+port_place ports name = unwrap_or (place_of ports name) 0
+
+-- the entry at a place
+abbrev pub entry_at : List BridgeEntry → ℕ → BridgeEntry
+entry_at entries k = slice_index_or entries k (record { name = []; sees = []; drives = [] })
+
+-- Machine m, which takes and gives these channels, is the bridge of entry k. It has the entry's name and its model, and for each channel
+-- the place in the entry of the port that the channel is named by.
+pub record IsBridgeBody (design : Ordered) (request : Request) (models : Models) (wires : List Wire) (m k : ℕ) (bridge : BridgeBody) : Type 0 where
+  pub known : k < length request.bridges
+  pub name : bridge.name ≡ (entry_at request.bridges k).name
+  pub model : model_named models bridge.name ≡ Some bridge.model
+  pub ins : bridge.ins ≡ map (λ c. port_place (entry_at request.bridges k).sees (path_at design.circuit.paths (wire_at wires c).signal)) (channels_to wires m)
+  pub outs : bridge.outs ≡ map (λ c. port_place (entry_at request.bridges k).drives (path_at design.circuit.paths (wire_at wires c).signal)) (channels_from wires m)
+
+-- What machine m of the plan is, by its number: the hub, a unit or a listed memory of the cut; the source of a column of the trace, which is
+-- that of the top input at a place among those that no bridge drives; a tray; or a bridge.
+abbrev pub IsBody : Ordered → Request → Models → Listed → Hub → ℕ → Body → Type 0
+IsBody design request models listed hub m (Cut part) = IsCutBody design listed hub m (Cut part)
+IsBody design request models listed hub m (Memory part) = IsCutBody design listed hub m (Memory part)
+IsBody design request models listed hub m (Source place) = (place < length (open_ins design.circuit request)) × (m ≡ first_source listed + place)
+IsBody design request models listed hub m Tray = (first_kept_tray (plan_bridges design.circuit design.tree request) ≤ m) × (m < first_bridge (plan_bridges design.circuit design.tree request))
+IsBody design request models listed hub m (Bridge bridge) =
+    (first_bridge (plan_bridges design.circuit design.tree request) ≤ m)
+    × IsBridgeBody design request models (plan_wires design.circuit design.tree request) m (m - first_bridge (plan_bridges design.circuit design.tree request)) bridge
 
 -- ---- machines
 
--- how many out-signals of the circuit are outputs: the stops are behind them
-abbrev pub output_count : Ordered → ℕ
-output_count design = length design.circuit.outs - length design.tree.stops
-
--- the names of the trays: of the outputs, and then of the stops
+-- the names of the trays of the cut: of the outputs, and then of the stops
 abbrev pub tray_names : Ordered → List (List ℕ)
 tray_names design =
     map (λ s. codes "out:" ++ path_at design.circuit.paths s) (take (output_count design) design.circuit.outs)
     ++ map (λ s. codes "halt:" ++ path_at design.circuit.paths s) (drop (output_count design) design.circuit.outs)
 
--- the names of the machines, in their order
-abbrev pub machine_names : Ordered → Request → Listed → List (List ℕ)
-machine_names design request listed =
+-- the names of the machines of the cut without bridges, in their order
+abbrev pub cut_names : Ordered → Request → Listed → List (List ℕ)
+cut_names design request listed =
     codes "hub:" ∷ (request.units
     ++ map (path_at design.tree.memory_paths) listed.memories
     ++ map (λ s. codes "in:" ++ path_at design.circuit.paths s) design.circuit.ins
     ++ tray_names design)
 
--- machine m of the plan
-pub record IsMachine (design : Ordered) (request : Request) (listed : Listed) (hub : Hub) (m : ℕ) (machine : Machine) : Type 0 where
-  pub name : machine.name ≡ path_at (machine_names design request listed) m
+-- the names of the plan's trays, and of its machines, in their order
+abbrev pub open_tray_names : Ordered → Request → List (List ℕ)
+open_tray_names design request =
+    map (λ s. codes "out:" ++ path_at design.circuit.paths s) (open_outs design.circuit (output_count design) request)
+    ++ map (λ s. codes "halt:" ++ path_at design.circuit.paths s) (drop (output_count design) design.circuit.outs)
+
+abbrev pub machine_names : Ordered → Request → Listed → List (List ℕ)
+machine_names design request listed =
+    codes "hub:" ∷ (request.units
+    ++ map (path_at design.tree.memory_paths) listed.memories
+    ++ map (λ s. codes "in:" ++ path_at design.circuit.paths s) (open_ins design.circuit request)
+    ++ open_tray_names design request
+    ++ map (λ entry. codes "bridge:" ++ entry.name) request.bridges)
+
+-- machine m of the cut without bridges
+pub record IsCutMachine (design : Ordered) (request : Request) (listed : Listed) (hub : Hub) (m : ℕ) (machine : Machine) : Type 0 where
+  pub name : machine.name ≡ path_at (cut_names design request listed) m
   pub host : machine.host ≡ host_of request.units request.share m
-  pub body : IsBody design listed hub m machine.body
+  pub body : IsCutBody design listed hub m machine.body
   pub ins : machine.ins ≡ channels_to (routes hub) m
   pub outs : machine.outs ≡ channels_from (routes hub) m
+
+-- machine m of the plan
+pub record IsMachine (design : Ordered) (request : Request) (models : Models) (listed : Listed) (hub : Hub) (m : ℕ) (machine : Machine) : Type 0 where
+  pub name : machine.name ≡ path_at (machine_names design request listed) m
+  pub host : machine.host ≡ host_of request.units request.share m
+  pub body : IsBody design request models listed hub m machine.body
+  pub ins : machine.ins ≡ channels_to (plan_wires design.circuit design.tree request) m
+  pub outs : machine.outs ≡ channels_from (plan_wires design.circuit design.tree request) m
 
 -- ---- channels
 
@@ -147,12 +199,13 @@ pub record IsNeed (part : Part) (channels : List ℕ) (out c : ℕ) : Type 0 whe
 abbrev pub AreNeedsOf : Part → List ℕ → ℕ → List ℕ → Type 0
 AreNeedsOf part channels out needs = (c : ℕ) → Contains needs c ↔ IsNeed part channels out c
 
--- The needs of a channel that this machine gives by signal s: those of that out-signal. A source's channel needs none.
+-- The needs of a channel that this machine gives by signal s: those of that out-signal. A source's channel and a bridge's need none.
 abbrev pub NeedsIn : Body → List ℕ → ℕ → List ℕ → Type 0
 NeedsIn (Cut part) channels s needs = (out : ℕ) → out < length part.globals → value_at part.globals out ≡ s → AreNeedsOf part channels out needs
 NeedsIn (Memory part) channels s needs = (out : ℕ) → out < length part.globals → value_at part.globals out ≡ s → AreNeedsOf part channels out needs
 NeedsIn (Source place) channels s needs = needs ≡ []
 NeedsIn Tray channels s needs = needs ≡ []
+NeedsIn (Bridge bridge) channels s needs = needs ≡ []
 
 -- channel c of the plan; `piped` tells the signals whose channels have a token in them at the start
 pub record IsChannel (design : Ordered) (capacity : List ℕ → ℕ) (piped : ℕ → Bool) (machines : List Machine) (w : Wire) (channel : Channel) : Type 0 where
@@ -168,14 +221,16 @@ pub record IsChannel (design : Ordered) (capacity : List ℕ → ℕ) (piped : �
 
 -- ---- the plan
 
--- The plan of a design, a request and the capacity of the channels that the request doesn't name. Its ratios are those of the circuit's
--- clocks. Two machines have one host only if they are units with one piece, whose clocks may follow different clocks of the circuit.
-pub record IsPlan (design : Ordered) (request : Request) (default : ℕ) (plan : Plan) : Type 0 where
+-- The plan of a design, a request, the models that are handed in, and the capacity of the channels that the request doesn't name. Its
+-- ratios are those of the circuit's clocks. Two machines have one host only if they are units with one piece, whose clocks may follow
+-- different clocks of the circuit. All machines have numbers of 32 bits.
+pub record IsPlan (design : Ordered) (request : Request) (models : Models) (default : ℕ) (plan : Plan) : Type 0 where
   pub listed : plan.listed ≡ listed_of design.tree request
   pub ratios : plan.ratios ≡ ratios_of design.tree request
-  pub machine_total : length plan.machines ≡ machine_count design.circuit (listed_of design.tree request)
+  pub machine_total : length plan.machines ≡ machine_end (plan_bridges design.circuit design.tree request)
+  pub few : length plan.machines < 2 ^ 32
   pub channel_total : length plan.channels ≡ length (plan_wires design.circuit design.tree request)
-  pub machine : (m : ℕ) (any : Machine) → m < length plan.machines → IsMachine design request (listed_of design.tree request) (plan_hub design.circuit design.tree request) m (slice_index_or plan.machines m any)
+  pub machine : (m : ℕ) (any : Machine) → m < length plan.machines → IsMachine design request models (listed_of design.tree request) (plan_hub design.circuit design.tree request) m (slice_index_or plan.machines m any)
   pub channel : (c : ℕ) (any : Channel) → c < length plan.channels → IsChannel design (capacity_of request.capacity default) (is_piped design.circuit request) plan.machines (wire_at (plan_wires design.circuit design.tree request) c) (slice_index_or plan.channels c any)
   pub shared : (m n : ℕ) (any other : Machine) → m < length plan.machines → n < length plan.machines → m ≢ n
       → (slice_index_or plan.machines m any).host ≡ (slice_index_or plan.machines n other).host

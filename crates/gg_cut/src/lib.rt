@@ -16,7 +16,8 @@
 //! - `judge_entries` returns what a request lists exactly if its entries have no fault, and else their first fault. With the
 //!   signals of the plan's channels, `judge_channels` tells the first fault of the capacities and of the numbers of units and of
 //!   channels, and `judge_pipes` the first of the pipes. `judge_clocks` tells the first of the clocks. The four together tell
-//!   `first_fault`;
+//!   `first_fault`. With the models that are known, `judge_bridges` tells the first of the bridges, and the five together tell
+//!   `first_fault_with`;
 //! - `clock_ratios` returns the ratios of the circuit's clocks, `part_ratios` those of clocks that follow them, and `stop_ratios`
 //!   those of the clocks that stops follow;
 //! - a [`Numbering`] tells the number of each machine, and what the machine with a number is;
@@ -24,6 +25,7 @@
 //! - the channels carry exactly the signals by which they are counted and named (`channels_agree`).
 #![tactic(auto)]
 
+mod bridges;
 mod capacities;
 mod clocks;
 mod counterparts;
@@ -43,6 +45,7 @@ mod signals;
 mod verdict;
 mod wires;
 
+pub use bridges::judge_bridges;
 pub use clocks::clock_ratios;
 pub use fault::CutFault;
 pub use laws::channels_agree;
@@ -50,7 +53,7 @@ pub use listed::Listed;
 pub use marks::{marks_of, unmarked};
 pub use numbering::{Numbering, Role};
 pub use owners::owners_of;
-pub use plan::{Body, Channel, Machine, Plan};
+pub use plan::{Body, BridgeBody, Channel, Machine, Plan};
 pub use ratios::{part_ratios, stop_ratios};
 pub use verdict::{judge_channels, judge_clocks, judge_entries, judge_pipes};
 pub use wires::Wire;

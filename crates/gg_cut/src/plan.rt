@@ -2,7 +2,35 @@
 use crate::listed::Listed;
 use gg_bits::{Ids, Items, Name, Ty};
 use gg_clocks::Ratios;
+use gg_flat::Piece;
 use gg_part::Part;
+
+/// What the machine of a bridge does: it answers what it takes as its model does.
+pub struct BridgeBody {
+    /// The bridge's name.
+    pub name: Name,
+    /// Its model.
+    pub model: Piece,
+    /// For each channel that it takes the place of the port among those that it sees.
+    pub ins: Ids,
+    /// For each channel that it gives the place of the port among those that it drives.
+    pub outs: Ids,
+}
+
+impl Drop for BridgeBody {
+    fn drop(self) {
+        let Self {
+            name,
+            model,
+            ins,
+            outs,
+        } = self;
+        drop(name);
+        drop(model);
+        drop(ins);
+        drop(outs);
+    }
+}
 
 /// What a machine does.
 #[derive(Drop)]
@@ -11,15 +39,18 @@ pub enum Body {
     Cut(Part),
     /// A listed memory: a part of the circuit that has just this memory. Its ports are served one by one.
     Memory(Part),
-    /// Gives the column of a top input, which has this place among the top's inputs.
+    /// Gives the column of a top input, which has this place among the top's inputs that no bridge drives.
     Source(u32),
     /// Keeps the values of a top output or of a stop.
     Tray,
+    /// A model in the host's own code.
+    Bridge(BridgeBody),
 }
 
 /// A machine. Channels are named by their numbers.
 pub struct Machine {
-    /// `hub:`, a unit's or a memory's path, `in:` or `out:` and the name of a top port, or `halt:` and the path of a stop.
+    /// `hub:`, a unit's or a memory's path, `in:` or `out:` and the name of a top port, `halt:` and the path of a stop, or `bridge:` and
+    /// the name of a bridge.
     pub name: Name,
     /// The number of its host.
     pub host: u32,
@@ -84,7 +115,7 @@ impl Drop for Channel {
     }
 }
 
-/// The plan of a cut: the hub, the units, the listed memories, the sources and the trays; the channels between them; what the
+/// The plan of a cut: the hub, the units, the listed memories, the sources, the trays and the bridges; the channels between them; what the
 /// request lists; and how often the circuit's clocks have an edge.
 pub struct Plan {
     /// The machines, by number.

@@ -52,10 +52,10 @@ asks-nothing =
 not-direct : Asks (object no_members) (record no_request { direct = true }) → ⊥
 not-direct h = true≢false (sym (same_Some false true h.direct))
 
--- a key whose feature isn't there is unknown, whatever its value
-later_key : told (codes "{\"bridges\": [], \"clocks\": {\"c\": [1, 2]}}") ≡ Some (codes "bridges")
+-- a key that isn't in the list is unknown, whatever its value
+another_key : told (codes "{\"bridge\": [], \"clocks\": {\"c\": [1, 2]}}") ≡ Some (codes "bridge")
 unfolding serde_json_on_literals
-later_key = refl
+another_key = refl
 
 direct : option_and_then (under false as_bool (codes "direct")) (read (codes "{\"direct\": true}")) ≡ Some true
 unfolding serde_json_on_literals
@@ -110,6 +110,18 @@ clock_as_a_text = refl
 clocks_after_pipe : told (codes "{\"clocks\": 1, \"pipe\": 1}") ≡ Some (codes "pipe")
 unfolding serde_json_on_literals
 clocks_after_pipe = refl
+
+no_bridges : told (codes "{\"bridges\": []}") ≡ None
+unfolding serde_json_on_literals
+no_bridges = refl
+
+bridge_as_a_text : told (codes "{\"bridges\": [\"echo8\"]}") ≡ Some (codes "bridges")
+unfolding serde_json_on_literals
+bridge_as_a_text = refl
+
+bridges_after_clocks : told (codes "{\"bridges\": 1, \"clocks\": 1}") ≡ Some (codes "clocks")
+unfolding serde_json_on_literals
+bridges_after_clocks = refl
 
 nothing : told [] ≡ Some (codes "-")
 unfolding serde_json_on_literals

@@ -99,7 +99,7 @@ one-without-a-list = refl
 
 -- ---- keys
 
-the-keys : key_names ≡ codes "units" ∷ codes "share" ∷ codes "memories" ∷ codes "capacity" ∷ codes "direct" ∷ codes "pipe" ∷ codes "clocks" ∷ []
+the-keys : key_names ≡ codes "units" ∷ codes "share" ∷ codes "memories" ∷ codes "capacity" ∷ codes "direct" ∷ codes "pipe" ∷ codes "clocks" ∷ codes "bridges" ∷ []
 the-keys = refl
 
 -- the first of the list's keys whose value has another shape, and not the first in the file

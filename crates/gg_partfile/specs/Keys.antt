@@ -2,7 +2,7 @@
 use Rattle.std.specs.Prelude.{ℕ, List, [], ◌∷◌, Bool, true, if◌then◌else◌, Option, Some, None, is_some, map, codes}
 use Rattle.serde_json.specs.Data.{Data}
 use Rattle.serde_json.specs.Find.{get, as_bool}
-use Rattle.gg_partfile.specs.Shapes.{texts, groups, numbers, ratios, is_one_of, other_key}
+use Rattle.gg_partfile.specs.Shapes.{texts, groups, numbers, ratios, bridges, is_one_of, other_key}
 
 -- a key, and whether a value has its shape
 pub record Key : Type 0 where
@@ -19,6 +19,7 @@ keys =
     ∷ record { name = codes "direct"; fits = λ d. is_some (as_bool d) }
     ∷ record { name = codes "pipe"; fits = λ d. is_some (texts d) }
     ∷ record { name = codes "clocks"; fits = λ d. is_some (ratios d) }
+    ∷ record { name = codes "bridges"; fits = λ d. is_some (bridges d) }
     ∷ []
 
 abbrev pub key_names : List (List ℕ)

@@ -33,8 +33,6 @@ impl Drop for BridgeEntry {
 pub type Bridges = Items<BridgeEntry>;
 
 /// What a partition asks for.
-///
-/// No file may have the key `bridges` yet, so that list is empty.
 pub struct Request {
     /// The paths of the instances that become units.
     pub units: Names,
