@@ -17,9 +17,9 @@ use Rattle.gg_routes.proofs.ChoiceLemmas.{Made, Taken, inner-none, wire-made, in
 use Rattle.gg_pipe.specs.Links.{maker_of, seen_by}
 use Rattle.gg_pipe.proofs.SeenLemmas.{maker-inner, maker-wire, seen-own}
 
-module _ (circuit : FlatCircuit) (tree : InstanceTree) (listed : Listed) (formed : IsWellFormed circuit) (fits : IsTree circuit tree) (scoped : IsScoped circuit tree) (apart : AreApart tree listed) (piped : ℕ → Bool) (direct : Bool) (base : IsBase (hub_of circuit tree listed piped direct)) where
+module _ (circuit : FlatCircuit) (tree : InstanceTree) (listed : Listed) (formed : IsWellFormed circuit) (fits : IsTree circuit tree) (scoped : IsScoped circuit tree) (apart : AreApart tree listed) (piped driven : ℕ → Bool) (direct : Bool) (base : IsBase (hub_of circuit tree listed piped driven direct)) where
   abbrev the_hub : Hub
-  the_hub = hub_of circuit tree listed piped direct
+  the_hub = hub_of circuit tree listed piped driven direct
 
   abbrev word_of : ℕ → ℕ → ℕ
   word_of k r = (reader_at (readers_at circuit k) r).word
@@ -27,10 +27,10 @@ module _ (circuit : FlatCircuit) (tree : InstanceTree) (listed : Listed) (formed
   word-free : (m k r : ℕ) → HasMemory tree listed m k → r < length (readers_at circuit k) → ¬ Taken the_hub base m (word_of k r)
   word-free m k r has lt taken = words-made circuit tree listed formed fits scoped apart m k r has lt taken
 
-  pub word-plain : (m k r : ℕ) → HasMemory tree listed m k → r < length (readers_at circuit k) → seen_by (hub_of circuit tree listed piped direct) m (reader_at (readers_at circuit k) r).word ≡ (reader_at (readers_at circuit k) r).word
+  pub word-plain : (m k r : ℕ) → HasMemory tree listed m k → r < length (readers_at circuit k) → seen_by (hub_of circuit tree listed piped driven direct) m (reader_at (readers_at circuit k) r).word ≡ (reader_at (readers_at circuit k) r).word
   word-plain m k r has lt = seen-own the_hub base m (word_of k r) (λ taken. word-free m k r has lt (ins-before the_hub base m (word_of k r) taken))
 
-  pub word-maker : (m k r : ℕ) → HasMemory tree listed m k → r < length (readers_at circuit k) → maker_of (hub_of circuit tree listed piped direct) (reader_at (readers_at circuit k) r).word ≡ m
+  pub word-maker : (m k r : ℕ) → HasMemory tree listed m k → r < length (readers_at circuit k) → maker_of (hub_of circuit tree listed piped driven direct) (reader_at (readers_at circuit k) r).word ≡ m
   word-maker m k r has lt = by (fields-closed circuit tree listed formed fits scoped apart m k (word_of k r) has field known)
     where
       field : Contains (memory_fields circuit k) (word_of k r)

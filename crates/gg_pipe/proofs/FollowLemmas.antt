@@ -51,7 +51,7 @@ input-column circuit s p known low driver start columns end rows given run t le 
 
 -- ---- two lists of rows of one run
 
-column-before : (circuit : FlatCircuit) (start : Start) (columns : List (List ℕ)) (end : ℕ) (rows others : List (List ℕ)) → AreRows circuit start columns end rows → AreRows circuit start columns end others → drop start.cycle rows ≡ drop start.cycle others → (s : ℕ) → column rows s ≡ column others s
+pub column-before : (circuit : FlatCircuit) (start : Start) (columns : List (List ℕ)) (end : ℕ) (rows others : List (List ℕ)) → AreRows circuit start columns end rows → AreRows circuit start columns end others → drop start.cycle rows ≡ drop start.cycle others → (s : ℕ) → column rows s ≡ column others s
 column-before circuit start columns end rows others one other same s =
     same_number_lists (column rows s) (column others s) (long rows one.count ∙ sym (long others other.count)) (λ t below.
     let lt : t < end = omega (arith, below, long rows one.count) in

@@ -1,6 +1,6 @@
 -- Each register is held in one machine, and each memory kept in one.
 use Rattle.std.proofs.Common.{◌≡◌, ◌≢◌, ℕ, ◌+◌, ◌<◌, List, [], Bool, true, false, Option, Some, None, length, map, get_or, refl, sym, ◌∙◌, ap, subst, eq-eqb, arith}
-use Rattle.std.specs.Prelude.{◌==◌, unwrap_or, Contains}
+use Rattle.std.specs.Prelude.{◌==◌, option_map, unwrap_or, Contains}
 use Rattle.std.specs.List.{list_any, range_with_len}
 use Rattle.std.proofs.lemmas.Bool.{eqb-true}
 use Rattle.std.proofs.lemmas.List.{get_or-map, length-map}
@@ -52,8 +52,24 @@ holder-found circuit s r lt e =
     let is : get_or numbers place 0 ≡ place = get_or-range_with_len 0 (length circuit.signals) place 0 low ∙ (let same : 0 + place ≡ place = omega arith in same) in
     (low, holds-is r (driver_at circuit place) (subst (λ t. holds r (driver_at circuit t) ≡ true) is (at.passes 0)))
 
+-- a register that a signal holds has the machine of the first that holds it
+pub holder-first : (hub : Hub) (s r : ℕ) → s < length hub.circuit.signals → driver_at hub.circuit s ≡ Held r → holder_of hub r ≡ maker_of hub (first_holder hub.circuit r)
+holder-first hub s r lt e = by (first_place test numbers) refl
+  where
+    numbers : List ℕ
+    numbers = range_with_len 0 (length hub.circuit.signals)
+
+    test : ℕ → Bool
+    test t = holds r (driver_at hub.circuit t)
+
+    by : (o : Option ℕ) → first_place test numbers ≡ o → unwrap_or (option_map (maker_of hub) (first_place test numbers)) 0 ≡ maker_of hub (unwrap_or (first_place test numbers) 0)
+    by None f = absurd (clash (list_any test numbers) (finds-any test numbers s (in-range (length hub.circuit.signals) s lt) (ap (holds r) e ∙ eq-eqb r r refl)) (first_place-None test numbers f))
+    by (Some k) f = ap (λ o. unwrap_or (option_map (maker_of hub) o) 0) f ∙ sym (ap (λ o. maker_of hub (unwrap_or o 0)) f)
+
 pub holder-is : (hub : Hub) → AreHeldOnce hub.circuit → (s r : ℕ) → s < length hub.circuit.signals → driver_at hub.circuit s ≡ Held r → holder_of hub r ≡ maker_of hub s
-holder-is hub once s r lt e = let found = holder-found hub.circuit s r lt e in ap (maker_of hub) (once (first_holder hub.circuit r) s r found.0 lt found.1 e)
+holder-is hub once s r lt e =
+    let found = holder-found hub.circuit s r lt e in
+    holder-first hub s r lt e ∙ ap (maker_of hub) (once (first_holder hub.circuit r) s r found.0 lt found.1 e)
 
 pub keeper-is : (circuit : FlatCircuit) (tree : InstanceTree) (listed : Listed) → IsTree circuit tree → (m k : ℕ) → HasMemory tree listed m k → keeper_of tree listed k ≡ m
 keeper-is circuit tree listed fits m k has =

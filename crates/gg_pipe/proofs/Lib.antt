@@ -21,4 +21,3 @@ pub mod OneLemmas
 pub mod OneReference
 pub mod StartLemmas
 pub mod PlanLemmas
-pub mod SolveLemmas

@@ -52,8 +52,8 @@ pub record IsRoutedPart (hub : Hub) (m : ℕ) (part : Part) : Type 0 where
   pub ordered : IsInOrder part.piece
 
 -- a part of a cut is a machine's piece
-pub cut-part : (design : Ordered) (listed : Listed) (piped : ℕ → Bool) (direct : Bool) (m : ℕ) (part : Part) → IsCutPart design listed (hub_of design.circuit design.tree listed piped direct) m part → IsRoutedPart (hub_of design.circuit design.tree listed piped direct) m part
-cut-part design listed piped direct m part cut = record { is = cut.is; signals = cut.signals; ins = cut.ins; outs = cut.outs; held = cut.held; ordered = cut.ordered }
+pub cut-part : (design : Ordered) (listed : Listed) (piped driven : ℕ → Bool) (direct : Bool) (m : ℕ) (part : Part) → IsCutPart design listed (hub_of design.circuit design.tree listed piped driven direct) m part → IsRoutedPart (hub_of design.circuit design.tree listed piped driven direct) m part
+cut-part design listed piped driven direct m part cut = record { is = cut.is; signals = cut.signals; ins = cut.ins; outs = cut.outs; held = cut.held; ordered = cut.ordered }
 
 module _ (hub : Hub) (base : IsBase hub) (all : FlatCircuit) (holder keeper : ℕ → ℕ) (reference : IsReference hub.circuit all (views_of hub holder keeper) (pipes_of hub)) (formed : IsWellFormed hub.circuit) (m : ℕ) (part : Part) (cut : IsRoutedPart hub m part) (holders : AreHolders hub holder keeper m part.memories) where
   -- a signal of the part that isn't an input isn't taken

@@ -4,9 +4,11 @@ use Rattle.std.specs.Prelude.{◌&&◌, ◌==◌, if◌then◌else◌, flat_map,
 use Rattle.std.specs.List.{list_any}
 use Rattle.std.proofs.lemmas.Bool.{cases_Bool, and_parts, and_from, eqb-true}
 use Rattle.std.proofs.lemmas.List.Elements.{Contains-append_left}
+use Rattle.gg_flat.specs.declared.piece.Driver.{Driver}
 use Rattle.gg_flat.specs.declared.piece.Driver.TheVariants.{Input}
 use Rattle.gg_flat.specs.declared.memory.Reader.{Reader}
 use Rattle.gg_flat.specs.Line.{value_at}
+use Rattle.gg_flat.specs.Reads.{NamesSignal}
 use Rattle.gg_flat.specs.Circuit.{FlatCircuit, driver_at, readers_at, reader_at}
 use Rattle.gg_flat.specs.WellFormed.{IsWellFormed}
 use Rattle.gg_flat.specs.Tree.{InstanceTree, IsTree, instance_at, memory_at, parent_place}
@@ -36,11 +38,15 @@ use Rattle.gg_pipe.proofs.SideLemmas.{IsDatum, Comes, datum-field, comes-taken, 
 abbrev pub takes : Hub → ℕ → ℕ → Bool
 takes hub m t = list_any (λ (r : Wire). (r.consumer == m) && (r.signal == t)) (routes hub)
 
+-- an input names nothing
+pub not-input : (driver : Driver) (t : ℕ) → NamesSignal driver t → (place : ℕ) → driver ≢ Input place
+not-input driver t named place e = subst (λ d. NamesSignal d t) e named
+
 -- ---- in a cut
 
-module _ (circuit : FlatCircuit) (tree : InstanceTree) (listed : Listed) (formed : IsWellFormed circuit) (fits : IsTree circuit tree) (scoped : IsScoped circuit tree) (apart : AreApart tree listed) (piped : ℕ → Bool) (direct : Bool) (base : IsBase (hub_of circuit tree listed piped direct)) where
+module _ (circuit : FlatCircuit) (tree : InstanceTree) (listed : Listed) (formed : IsWellFormed circuit) (fits : IsTree circuit tree) (scoped : IsScoped circuit tree) (apart : AreApart tree listed) (piped driven : ℕ → Bool) (direct : Bool) (base : IsBase (hub_of circuit tree listed piped driven direct)) where
   abbrev hub : Hub
-  hub = hub_of circuit tree listed piped direct
+  hub = hub_of circuit tree listed piped driven direct
 
   abbrev home : ℕ → ℕ
   home k = owner_of_instance tree listed.units k
@@ -50,9 +56,9 @@ module _ (circuit : FlatCircuit) (tree : InstanceTree) (listed : Listed) (formed
     pub wire : Wire
     pub among : Contains (wires_of circuit tree listed) wire
     pub is : wire.signal ≡ t
-    pub taking : (m : ℕ) → takes (hub_of circuit tree listed piped direct) m t ≡ (wire.consumer == m)
+    pub taking : (m : ℕ) → takes (hub_of circuit tree listed piped driven direct) m t ≡ (wire.consumer == m)
 
-  on : (t : ℕ) → HasPipe (hub_of circuit tree listed piped direct) base t → IsOn t
+  on : (t : ℕ) → HasPipe (hub_of circuit tree listed piped driven direct) base t → IsOn t
   on t h = record { wire = w.wire; among = w.among; is = of; taking = each }
     where
       w : IsRoute hub base h.wire
@@ -84,7 +90,7 @@ module _ (circuit : FlatCircuit) (tree : InstanceTree) (listed : Listed) (formed
 
   -- a driver that isn't an input's is written in an instance of the machine in which it stands, or it is that of a memory's data
   pub data Stands (s : ℕ) : Type 0 where
-    Written : (k : ℕ) → IsWritten tree k s → maker_of (hub_of circuit tree listed piped direct) s ≡ owner_of_instance tree listed.units k → Stands s
+    Written : (k : ℕ) → IsWritten tree k s → maker_of (hub_of circuit tree listed piped driven direct) s ≡ owner_of_instance tree listed.units k → Stands s
     Datum : (j : ℕ) → j < length tree.memories → IsDatum circuit tree j s → Stands s
 
   producer-low : (w : Wire) → Kind circuit tree listed w → ((place : ℕ) → place < length circuit.ins → w.signal ≢ value_at circuit.ins place) → w.producer < first_source listed
@@ -107,6 +113,19 @@ module _ (circuit : FlatCircuit) (tree : InstanceTree) (listed : Listed) (formed
           ⊎ IsWordWire (readers_at circuit (memory_at tree (value_at listed.memories f.place)).memory) (outside_memory tree listed f.place) (first_memory listed + f.place) w → w.producer < first_source listed
       by (inl into) = let from = into.producer in omega (arith, low, from)
       by (inr word) = let from = ap (λ (v : Wire). v.producer) word.is in let known = f.known in omega (arith, known, from)
+
+  -- a driver that isn't an input's stands in the hub, a unit or a listed memory
+  pub maker-low : (s : ℕ) → ((place : ℕ) → driver_at circuit s ≢ Input place) → maker_of (hub_of circuit tree listed piped driven direct) s < first_source listed
+  maker-low s plain = by (cases_Bool (list_any (λ (w : Wire). w.signal == s) hub.base))
+    where
+      by : (list_any (λ (w : Wire). w.signal == s) hub.base ≡ true) ⊎ (list_any (λ (w : Wire). w.signal == s) hub.base ≡ false) → maker_of hub s < first_source listed
+      by (inl e) =
+          let found = any-finds (λ (w : Wire). w.signal == s) hub.base e in
+          let w = found.item in
+          let of : w.signal ≡ s = eqb-true w.signal s found.passes in
+          subst (λ m. m < first_source listed) (sym (maker-wire hub base w.producer s (record { wire = w; among = found.among; producer = refl; is = of })))
+          (producer-low w (kind-of circuit tree listed w found.among) (λ place known same. plain place (ap (driver_at circuit) (sym of ∙ same) ∙ (formed.ins place known).1)))
+      by (inr none) = subst (λ m. m < first_source listed) (sym (maker-inner hub base s none)) (owner-below circuit tree listed s)
 
   pub stands : (s : ℕ) → s < length circuit.signals → ((place : ℕ) → driver_at circuit s ≢ Input place) → Stands s
   stands s lt plain = by (cases_Bool (list_any (λ (w : Wire). w.signal == s) hub.base))
@@ -137,14 +156,14 @@ module _ (circuit : FlatCircuit) (tree : InstanceTree) (listed : Listed) (formed
   -- ---- who takes a pipe
 
   -- the machine of an instance takes a pipe that is visible there exactly if it comes into the instance
-  pub comes : (k t : ℕ) → HasPipe (hub_of circuit tree listed piped direct) base t → Comes circuit tree k t → takes (hub_of circuit tree listed piped direct) (owner_of_instance tree listed.units k) t ≡ true
+  pub comes : (k t : ℕ) → HasPipe (hub_of circuit tree listed piped driven direct) base t → Comes circuit tree k t → takes (hub_of circuit tree listed piped driven direct) (owner_of_instance tree listed.units k) t ≡ true
   comes k t h c = let o = on t h in o.taking (home k) ∙ eq-eqb o.wire.consumer (home k) (sym (comes-taken circuit tree listed formed fits scoped apart k t o.wire o.among o.is c))
 
-  pub taken : (k t : ℕ) → HasPipe (hub_of circuit tree listed piped direct) base t → IsVisible tree k t → takes (hub_of circuit tree listed piped direct) (owner_of_instance tree listed.units k) t ≡ true → Comes circuit tree k t
+  pub taken : (k t : ℕ) → HasPipe (hub_of circuit tree listed piped driven direct) base t → IsVisible tree k t → takes (hub_of circuit tree listed piped driven direct) (owner_of_instance tree listed.units k) t ≡ true → Comes circuit tree k t
   taken k t h seen e = let o = on t h in taken-comes circuit tree listed formed fits scoped apart k t o.wire seen o.among o.is (sym (eqb-true o.wire.consumer (home k) (sym (o.taking (home k)) ∙ e)))
 
   -- the machine of a memory takes a pipe in a field of the memory, unless it is its data
-  pub field-taken : (j t : ℕ) → j < length tree.memories → IsFieldOf circuit tree j t → HasPipe (hub_of circuit tree listed piped direct) base t → (takes (hub_of circuit tree listed piped direct) (memory_owner tree listed j) t ≡ true) ⊎ IsDatum circuit tree j t
+  pub field-taken : (j t : ℕ) → j < length tree.memories → IsFieldOf circuit tree j t → HasPipe (hub_of circuit tree listed piped driven direct) base t → (takes (hub_of circuit tree listed piped driven direct) (memory_owner tree listed j) t ≡ true) ⊎ IsDatum circuit tree j t
   field-taken j t lt field h = by f.side
     where
       o : IsOn t
@@ -157,7 +176,7 @@ module _ (circuit : FlatCircuit) (tree : InstanceTree) (listed : Listed) (formed
       by (inl e) = inl (o.taking (memory_owner tree listed j) ∙ eq-eqb o.wire.consumer (memory_owner tree listed j) (e ∙ sym f.owner))
       by (inr d) = inr d.0
 
-  pub data-free : (j t : ℕ) → j < length tree.memories → HasPipe (hub_of circuit tree listed piped direct) base t → IsDatum circuit tree j t → takes (hub_of circuit tree listed piped direct) (memory_owner tree listed j) t ≡ true → ⊥
+  pub data-free : (j t : ℕ) → j < length tree.memories → HasPipe (hub_of circuit tree listed piped driven direct) base t → IsDatum circuit tree j t → takes (hub_of circuit tree listed piped driven direct) (memory_owner tree listed j) t ≡ true → ⊥
   data-free j t lt h d e = by f.is
     where
       o : IsOn t
@@ -192,7 +211,7 @@ module _ (circuit : FlatCircuit) (tree : InstanceTree) (listed : Listed) (formed
       by (inl e) = (0, omega arith, e)
       by (inr e) = (1, omega arith, e)
 
-  listed-given : (i s t : ℕ) → i < length listed.memories → Given (value_at listed.memories i) s t → HasPipe (hub_of circuit tree listed piped direct) base t → takes (hub_of circuit tree listed piped direct) (maker_of (hub_of circuit tree listed piped direct) s) t ≡ true
+  listed-given : (i s t : ℕ) → i < length listed.memories → Given (value_at listed.memories i) s t → HasPipe (hub_of circuit tree listed piped driven direct) base t → takes (hub_of circuit tree listed piped driven direct) (maker_of (hub_of circuit tree listed piped driven direct) s) t ≡ true
   listed-given i s t lt (d, which) h = o.taking (maker_of hub s) ∙ eq-eqb o.wire.consumer (maker_of hub s) (to which ∙ sym maker)
     where
       o : IsOn t
@@ -208,7 +227,7 @@ module _ (circuit : FlatCircuit) (tree : InstanceTree) (listed : Listed) (formed
       to (inl e) = ap (λ (v : Wire). v.consumer) (channel-one circuit tree listed fits scoped apart o.wire (wire (reader_at readers d.reader).addr (outside_memory tree listed i) (first_memory listed + i)) o.among (addr-wire circuit tree listed i d.reader lt d.there) (o.is ∙ sym e))
       to (inr e) = ap (λ (v : Wire). v.consumer) (channel-one circuit tree listed fits scoped apart o.wire (wire (reader_at readers d.reader).en (outside_memory tree listed i) (first_memory listed + i)) o.among (en-wire circuit tree listed i d.reader lt d.there) (o.is ∙ sym e))
 
-  pub given-taken : (j s t : ℕ) → j < length tree.memories → Given j s t → HasPipe (hub_of circuit tree listed piped direct) base t → takes (hub_of circuit tree listed piped direct) (maker_of (hub_of circuit tree listed piped direct) s) t ≡ true
+  pub given-taken : (j s t : ℕ) → j < length tree.memories → Given j s t → HasPipe (hub_of circuit tree listed piped driven direct) base t → takes (hub_of circuit tree listed piped driven direct) (maker_of (hub_of circuit tree listed piped driven direct) s) t ≡ true
   given-taken j s t lt g h =
       let o = on t h in
       let f = field-channel circuit tree listed formed fits scoped apart j t o.wire lt (given-field j s t g) o.among o.is in

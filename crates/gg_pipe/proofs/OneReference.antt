@@ -1,11 +1,10 @@
 -- Two requests without a fault that ask for the same pipes have one reference circuit.
-use Rattle.std.proofs.Common.{◌≡◌, ◌≢◌, ℕ, ◌<◌, List, [], Bool, true, false, Option, Some, None, length, map, get_or, slice_get, refl, sym, ◌∙◌, ap, ap₂, subst, inl, inr, ◌⊎◌, eq-eqb, arith}
+use Rattle.std.proofs.Common.{◌≡◌, ◌≢◌, ℕ, ◌<◌, List, [], Bool, true, false, Option, Some, None, length, get_or, slice_get, refl, sym, ◌∙◌, ap, ap₂, subst, inl, inr, ◌⊎◌, eq-eqb, arith}
 use Rattle.std.specs.Prelude.{◌↔◌, ◌&&◌, ◌==◌, if◌then◌else◌, filter, Contains, All}
 use Rattle.std.specs.List.{range_with_len}
 use Rattle.std.proofs.lemmas.Bool.{eqb-true}
 use Rattle.std.proofs.lemmas.List.Elements.{All-contains, All-map, Contains-get_or}
 use Rattle.std.proofs.lemmas.Option.{slice_get-get_or}
-use Rattle.gg_flat.specs.declared.piece.Driver.{Driver}
 use Rattle.gg_flat.specs.declared.piece.Driver.TheVariants.{Input, Held}
 use Rattle.gg_flat.specs.declared.piece.Register.{Register}
 use Rattle.gg_flat.specs.declared.memory.Latency.{Latency}
@@ -28,7 +27,7 @@ use Rattle.gg_cut.specs.declared.listed.Listed.{Listed}
 use Rattle.gg_cut.specs.Listed.{first_place, is_among, listed_of, owner_of_instance, memory_owner}
 use Rattle.gg_cut.specs.Channels.{channel_names}
 use Rattle.gg_cut.specs.Clocks.{ratio_of}
-use Rattle.gg_cut.specs.Direct.{Hub, is_piped, plan_hub, plan_signals, routes}
+use Rattle.gg_cut.specs.Direct.{Hub, is_driven, is_piped, plan_hub, plan_signals, routes}
 use Rattle.gg_cut.specs.Fault.{first_fault}
 use Rattle.gg_cut.proofs.ChannelLemmas.{named-channel}
 use Rattle.gg_cut.proofs.OriginLemmas.{Finds, any-finds, finds-any}
@@ -41,14 +40,14 @@ use Rattle.gg_closed.proofs.PlaceLemmas.{same-bool}
 use Rattle.gg_routes.proofs.ChoiceLemmas.{any-wire}
 use Rattle.gg_routes.proofs.RouteLemmas.{IsBase, routes-known}
 use Rattle.gg_routes.proofs.RoutedLemmas.{routed-base}
-use Rattle.gg_pipe.specs.Made.{keeper_of, plan_reference, reference_of, views_in, AllHeld}
+use Rattle.gg_pipe.specs.Made.{holder_of, keeper_of, plan_reference, reference_of, views_in, AllHeld}
 use Rattle.gg_pipe.specs.Follows.{plan_start}
 use Rattle.gg_pipe.specs.Links.{is_carried, pipes_of, pipe_or, taken_as, seen_by, maker_of}
 use Rattle.gg_pipe.proofs.AgreeLemmas.{AreAgreed, filter-agree, reference-agree}
-use Rattle.gg_pipe.proofs.HolderLemmas.{keeper-is, first_holder, holder-found}
+use Rattle.gg_pipe.proofs.HolderLemmas.{keeper-is, first_holder, holder-first, holder-found}
 use Rattle.gg_pipe.proofs.SeenLemmas.{HasPipe, pipe-out}
 use Rattle.gg_pipe.proofs.SideLemmas.{IsDatum, written-one}
-use Rattle.gg_pipe.proofs.OneLemmas.{takes, Stands, Written, Datum, stands, comes, taken, field-taken, data-free, given-taken}
+use Rattle.gg_pipe.proofs.OneLemmas.{not-input, takes, Stands, Written, Datum, stands, comes, taken, field-taken, data-free, given-taken}
 
 if-same : (b : Bool) (x y : ℕ) → x ≡ y → (if b then x else y) ≡ y
 if-same true x y e = e
@@ -184,31 +183,28 @@ module _ (design : Ordered) (request other : Request) (is : IsDesign design) (ke
 
   made-alike : (s t : ℕ) → s < length design.circuit.signals → ((place : ℕ) → driver_at design.circuit s ≢ Input place) → AreNames s t → seen_by (plan_hub design.circuit design.tree request) (maker_of (plan_hub design.circuit design.tree request) s) t ≡ seen_by (plan_hub design.circuit design.tree other) (maker_of (plan_hub design.circuit design.tree other) s) t
   made-alike s t lt plain names = seen-alike (maker_of mine s) (maker_of theirs s) t (λ h k. by h k
-      (stands circuit tree my-listed is.formed keeps.fitting keeps.scoped my-apart mine.piped mine.direct my-base s lt plain) (stands circuit tree their-listed is.formed keeps.fitting keeps.scoped their-apart theirs.piped theirs.direct their-base s lt plain))
+      (stands circuit tree my-listed is.formed keeps.fitting keeps.scoped my-apart mine.piped mine.driven mine.direct my-base s lt plain) (stands circuit tree their-listed is.formed keeps.fitting keeps.scoped their-apart theirs.piped theirs.driven theirs.direct their-base s lt plain))
     where
       datum : HasPipe mine my-base t → HasPipe theirs their-base t → (j : ℕ) → j < length tree.memories → IsDatum circuit tree j s → takes mine (maker_of mine s) t ≡ takes theirs (maker_of theirs s) t
       datum h k j below d =
-          given-taken circuit tree my-listed is.formed keeps.fitting keeps.scoped my-apart mine.piped mine.direct my-base j s t below (d, names.datum j d) h
-          ∙ sym (given-taken circuit tree their-listed is.formed keeps.fitting keeps.scoped their-apart theirs.piped theirs.direct their-base j s t below (d, names.datum j d) k)
+          given-taken circuit tree my-listed is.formed keeps.fitting keeps.scoped my-apart mine.piped mine.driven mine.direct my-base j s t below (d, names.datum j d) h
+          ∙ sym (given-taken circuit tree their-listed is.formed keeps.fitting keeps.scoped their-apart theirs.piped theirs.driven theirs.direct their-base j s t below (d, names.datum j d) k)
 
       homes : HasPipe mine my-base t → HasPipe theirs their-base t → (i : ℕ) → IsVisible tree i t → takes mine (owner_of_instance tree my-listed.units i) t ≡ takes theirs (owner_of_instance tree their-listed.units i) t
       homes h k i seen =
           same-bool (takes mine (owner_of_instance tree my-listed.units i) t) (takes theirs (owner_of_instance tree their-listed.units i) t)
-          (λ e. comes circuit tree their-listed is.formed keeps.fitting keeps.scoped their-apart theirs.piped theirs.direct their-base i t k (taken circuit tree my-listed is.formed keeps.fitting keeps.scoped my-apart mine.piped mine.direct my-base i t h seen e))
-          (λ e. comes circuit tree my-listed is.formed keeps.fitting keeps.scoped my-apart mine.piped mine.direct my-base i t h (taken circuit tree their-listed is.formed keeps.fitting keeps.scoped their-apart theirs.piped theirs.direct their-base i t k seen e))
+          (λ e. comes circuit tree their-listed is.formed keeps.fitting keeps.scoped their-apart theirs.piped theirs.driven theirs.direct their-base i t k (taken circuit tree my-listed is.formed keeps.fitting keeps.scoped my-apart mine.piped mine.driven mine.direct my-base i t h seen e))
+          (λ e. comes circuit tree my-listed is.formed keeps.fitting keeps.scoped my-apart mine.piped mine.driven mine.direct my-base i t h (taken circuit tree their-listed is.formed keeps.fitting keeps.scoped their-apart theirs.piped theirs.driven theirs.direct their-base i t k seen e))
 
       by : HasPipe mine my-base t → HasPipe theirs their-base t
-          → Stands circuit tree my-listed is.formed keeps.fitting keeps.scoped my-apart mine.piped mine.direct my-base s
-          → Stands circuit tree their-listed is.formed keeps.fitting keeps.scoped their-apart theirs.piped theirs.direct their-base s
+          → Stands circuit tree my-listed is.formed keeps.fitting keeps.scoped my-apart mine.piped mine.driven mine.direct my-base s
+          → Stands circuit tree their-listed is.formed keeps.fitting keeps.scoped their-apart theirs.piped theirs.driven theirs.direct their-base s
           → takes mine (maker_of mine s) t ≡ takes theirs (maker_of theirs s) t
       by h k (Datum j below d) there = datum h k j below d
       by h k (Written i written at) (Datum j below d) = datum h k j below d
       by h k (Written i written at) (Written j there to) =
           let one = written-one circuit tree my-listed is.formed keeps.fitting keeps.scoped my-apart j i s there written in
           ap (λ m. takes mine m t) at ∙ homes h k i (names.visible i written) ∙ ap (λ m. takes theirs m t) (sym (to ∙ ap (owner_of_instance tree their-listed.units) one))
-
-  not-input : (driver : Driver) (t : ℕ) → NamesSignal driver t → (place : ℕ) → driver ≢ Input place
-  not-input driver t named place e = subst (λ d. NamesSignal d t) e named
 
   data-driver : (j s : ℕ) → (d : IsDatum design.circuit design.tree j s) → driver_at design.circuit s ≡ reader_driver (latency_at design.circuit (memory_at design.tree j).memory) (memory_at design.tree j).memory d.reader (reader_at (readers_at design.circuit (memory_at design.tree j).memory) d.reader)
   data-driver j s d =
@@ -234,12 +230,14 @@ module _ (design : Ordered) (request other : Request) (is : IsDesign design) (ke
       }
 
   held-alike : (r t : ℕ) (register : Register) → r < length design.circuit.registers → slice_get design.circuit.registers r ≡ Some register → RegisterNames register t
-      → seen_by (plan_hub design.circuit design.tree request) (maker_of (plan_hub design.circuit design.tree request) (first_holder design.circuit r)) t ≡ seen_by (plan_hub design.circuit design.tree other) (maker_of (plan_hub design.circuit design.tree other) (first_holder design.circuit r)) t
+      → seen_by (plan_hub design.circuit design.tree request) (holder_of (plan_hub design.circuit design.tree request) r) t ≡ seen_by (plan_hub design.circuit design.tree other) (holder_of (plan_hub design.circuit design.tree other) r) t
   held-alike r t register lt found named =
       let some = held r lt in
       let first = holder-found circuit some.signal r some.within some.holds in
       let s = first_holder circuit r in
-      made-alike s t first.0 (λ place e. no-held r place (sym first.1 ∙ e)) (register-names s r t register first.1 found named)
+      ap (λ m. seen_by mine m t) (holder-first mine some.signal r some.within some.holds)
+      ∙ made-alike s t first.0 (λ place e. no-held r place (sym first.1 ∙ e)) (register-names s r t register first.1 found named)
+      ∙ sym (ap (λ m. seen_by theirs m t) (holder-first theirs some.signal r some.within some.holds))
     where
       no-held : (n place : ℕ) → Held n ≡ Input place → ⊥
       no-held n place e = absurd (cc)
@@ -266,22 +264,22 @@ module _ (design : Ordered) (request other : Request) (is : IsDesign design) (ke
       sides h k = same-bool (takes mine (memory_owner tree my-listed m) t) (takes theirs (memory_owner tree their-listed m) t) on back
         where
           on : takes mine (memory_owner tree my-listed m) t ≡ true → takes theirs (memory_owner tree their-listed m) t ≡ true
-          on e = by (field-taken circuit tree their-listed is.formed keeps.fitting keeps.scoped their-apart theirs.piped theirs.direct their-base m t known own k)
+          on e = by (field-taken circuit tree their-listed is.formed keeps.fitting keeps.scoped their-apart theirs.piped theirs.driven theirs.direct their-base m t known own k)
             where
               by : (takes theirs (memory_owner tree their-listed m) t ≡ true) ⊎ IsDatum circuit tree m t → takes theirs (memory_owner tree their-listed m) t ≡ true
               by (inl f) = f
-              by (inr d) = absurd (data-free circuit tree my-listed is.formed keeps.fitting keeps.scoped my-apart mine.piped mine.direct my-base m t known h d e)
+              by (inr d) = absurd (data-free circuit tree my-listed is.formed keeps.fitting keeps.scoped my-apart mine.piped mine.driven mine.direct my-base m t known h d e)
 
           back : takes theirs (memory_owner tree their-listed m) t ≡ true → takes mine (memory_owner tree my-listed m) t ≡ true
-          back e = by (field-taken circuit tree my-listed is.formed keeps.fitting keeps.scoped my-apart mine.piped mine.direct my-base m t known own h)
+          back e = by (field-taken circuit tree my-listed is.formed keeps.fitting keeps.scoped my-apart mine.piped mine.driven mine.direct my-base m t known own h)
             where
               by : (takes mine (memory_owner tree my-listed m) t ≡ true) ⊎ IsDatum circuit tree m t → takes mine (memory_owner tree my-listed m) t ≡ true
               by (inl f) = f
-              by (inr d) = absurd (data-free circuit tree their-listed is.formed keeps.fitting keeps.scoped their-apart theirs.piped theirs.direct their-base m t known k d e)
+              by (inr d) = absurd (data-free circuit tree their-listed is.formed keeps.fitting keeps.scoped their-apart theirs.piped theirs.driven theirs.direct their-base m t known k d e)
 
   -- ---- the circuit
 
-  agreed : AreAgreed design.circuit (views_in design.circuit design.tree (listed_of design.tree request) (is_piped design.circuit request) request.direct) (views_in design.circuit design.tree (listed_of design.tree other) (is_piped design.circuit other) other.direct)
+  agreed : AreAgreed design.circuit (views_in design.circuit design.tree (listed_of design.tree request) (is_piped design.circuit request) (is_driven design.circuit request) request.direct) (views_in design.circuit design.tree (listed_of design.tree other) (is_piped design.circuit other) (is_driven design.circuit other) other.direct)
   agreed =
       record {
         maker = λ s t lt named. made-alike s t lt (not-input (driver_at circuit s) t named) (driver-names s t named);
@@ -292,8 +290,8 @@ module _ (design : Ordered) (request other : Request) (is : IsDesign design) (ke
 
   pub one-reference : plan_reference design request ≡ plan_reference design other
   one-reference =
-      reference-agree circuit (views_in circuit tree my-listed (is_piped circuit request) request.direct) (views_in circuit tree their-listed (is_piped circuit other) other.direct) (pipes_of mine) agreed
-      ∙ ap (reference_of circuit (views_in circuit tree their-listed (is_piped circuit other) other.direct)) pipes-alike
+      reference-agree circuit (views_in circuit tree my-listed (is_piped circuit request) (is_driven circuit request) request.direct) (views_in circuit tree their-listed (is_piped circuit other) (is_driven circuit other) other.direct) (pipes_of mine) agreed
+      ∙ ap (reference_of circuit (views_in circuit tree their-listed (is_piped circuit other) (is_driven circuit other) other.direct)) pipes-alike
 
   -- and their runs start alike, if their clocks have the same ratios
   pub one-start : ((clock : List ℕ) → ratio_of request.clocks clock ≡ ratio_of other.clocks clock) → plan_start design request ≡ plan_start design other

@@ -186,12 +186,12 @@ module _ (part : FlatCircuit) (paths : List (List ℕ)) where
 
 -- ---- a run of a part, from any start
 
-part-zero : (globals : List ℕ) (row : List ℕ) → ((s : ℕ) → value_at row s ≡ 0) → (s : ℕ) → value_at (part_row globals row) s ≡ 0
+pub part-zero : (globals : List ℕ) (row : List ℕ) → ((s : ℕ) → value_at row s ≡ 0) → (s : ℕ) → value_at (part_row globals row) s ≡ 0
 part-zero [] row zeros s = refl
 part-zero (g ∷ globals) row zeros zero = zeros g
 part-zero (g ∷ globals) row zeros (suc s) = part-zero globals row zeros s
 
-row-part : (globals : List ℕ) (rows : List (List ℕ)) (t : ℕ) → t < length rows → row_at (part_rows globals rows) t ≡ part_row globals (row_at rows t)
+pub row-part : (globals : List ℕ) (rows : List (List ℕ)) (t : ℕ) → t < length rows → row_at (part_rows globals rows) t ≡ part_row globals (row_at rows t)
 row-part globals rows t lt = get_or-map (part_row globals) rows t [] [] lt
 
 pub drop-part : (globals : List ℕ) (rows : List (List ℕ)) (n : ℕ) → drop n (part_rows globals rows) ≡ part_rows globals (drop n rows)
@@ -199,12 +199,12 @@ drop-part globals rows zero = refl
 drop-part globals [] (suc n) = refl
 drop-part globals (row ∷ rows) (suc n) = drop-part globals rows n
 
-later-row : (c t : ℕ) (rows : List (List ℕ)) → row_at (drop c rows) t ≡ row_at rows (later c t)
+pub later-row : (c t : ℕ) (rows : List (List ℕ)) → row_at (drop c rows) t ≡ row_at rows (later c t)
 later-row zero t rows = refl
 later-row (suc c) t [] = refl
 later-row (suc c) t (row ∷ rows) = later-row c t rows
 
-later-less : (c t e : ℕ) → c ≤ e → t < since c e → later c t < e
+pub later-less : (c t e : ℕ) → c ≤ e → t < since c e → later c t < e
 later-less zero t e le lt = lt
 later-less (suc c) t zero le lt = absurd (omega (arith, le))
 later-less (suc c) t (suc e) le lt = omega (arith, later-less c t e (omega (arith, le)) lt)

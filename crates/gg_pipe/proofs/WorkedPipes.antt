@@ -118,6 +118,7 @@ forked c =
       stops = [];
       memory = λ m. false;
       piped = λ s. s == c;
+      driven = λ s. false;
       direct = true;
     }
 

@@ -21,10 +21,10 @@ use Rattle.gg_pipe.specs.Made.{holder_of, reference, reference_circuit}
 -- ---- two units that feed each other, with a pipe
 
 abbrev hub : ℕ → Bool → Hub
-hub c direct = hub_of circuit tree listed (λ s. s == c) direct
+hub c direct = hub_of circuit tree listed (λ s. s == c) (λ s. false) direct
 
 abbrev all : ℕ → Bool → FlatCircuit
-all c direct = reference_circuit circuit tree listed (λ s. s == c) direct
+all c direct = reference_circuit circuit tree listed (λ s. s == c) (λ s. false) direct
 
 pipes : map (λ c. pipes_of (hub c false)) (3 ∷ 0 ∷ 1 ∷ []) ≡ (3 ∷ []) ∷ (0 ∷ []) ∷ (1 ∷ []) ∷ []
 pipes = refl
@@ -81,6 +81,7 @@ cut circuit owners base c =
       stops = [];
       memory = λ m. m == 2;
       piped = λ s. s == c;
+      driven = λ s. false;
       direct = false;
     }
 

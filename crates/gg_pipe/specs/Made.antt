@@ -11,7 +11,7 @@ use Rattle.gg_flat.specs.Circuit.{FlatCircuit, driver_at}
 use Rattle.gg_flat.specs.Tree.{InstanceTree, path_at}
 use Rattle.gg_cut.specs.declared.listed.Listed.{Listed}
 use Rattle.gg_cut.specs.Listed.{first_place, listed_of, memory_owner}
-use Rattle.gg_cut.specs.Direct.{Hub, hub_of, is_piped, plan_hub}
+use Rattle.gg_cut.specs.Direct.{Hub, hub_of, is_driven, is_piped, plan_hub}
 use Rattle.gg_order.specs.Design.{Ordered}
 use Rattle.gg_partfile.specs.declared.request.Request.{Request}
 use Rattle.gg_pipe.specs.Reference.{Views, driver_by, register_by, memory_by}
@@ -80,26 +80,26 @@ holds r (MemoryWord memory reader addr en) = false
 holds r (ReadRegister memory reader) = false
 holds r (Computed line) = false
 
--- the machine in which the signal's driver stands that holds the register
+-- The machine in which the signal's driver stands that holds the register. A register that no signal holds is the hub's.
 abbrev pub holder_of : Hub → ℕ → ℕ
-holder_of hub r = maker_of hub (unwrap_or (first_place (λ s. holds r (driver_at hub.circuit s)) (range_with_len 0 (length hub.circuit.signals))) 0)
+holder_of hub r = unwrap_or (option_map (maker_of hub) (first_place (λ s. holds r (driver_at hub.circuit s)) (range_with_len 0 (length hub.circuit.signals)))) 0
 
 -- the machine of a memory of the circuit
 abbrev pub keeper_of : InstanceTree → Listed → ℕ → ℕ
 keeper_of tree listed m = memory_owner tree listed (unwrap_or (first_place (λ memory. memory.memory == m) tree.memories) 0)
 
--- who names what in a cut: of a circuit with its tree, what is listed, the signals whose channels are piped, and whether channels
--- are to be direct
-abbrev pub views_in : FlatCircuit → InstanceTree → Listed → (ℕ → Bool) → Bool → Views
-views_in circuit tree listed piped direct = let hub = hub_of circuit tree listed piped direct in views_of hub (holder_of hub) (keeper_of tree listed)
+-- who names what in a cut: of a circuit with its tree, what is listed, the signals whose channels are piped, the inputs that a
+-- bridge drives, and whether channels are to be direct
+abbrev pub views_in : FlatCircuit → InstanceTree → Listed → (piped driven : ℕ → Bool) → Bool → Views
+views_in circuit tree listed piped driven direct = let hub = hub_of circuit tree listed piped driven direct in views_of hub (holder_of hub) (keeper_of tree listed)
 
 -- the reference circuit of the cut
-abbrev pub reference_circuit : FlatCircuit → InstanceTree → Listed → (ℕ → Bool) → Bool → FlatCircuit
-reference_circuit circuit tree listed piped direct = reference (hub_of circuit tree listed piped direct) (holder_of (hub_of circuit tree listed piped direct)) (keeper_of tree listed)
+abbrev pub reference_circuit : FlatCircuit → InstanceTree → Listed → (piped driven : ℕ → Bool) → Bool → FlatCircuit
+reference_circuit circuit tree listed piped driven direct = reference (hub_of circuit tree listed piped driven direct) (holder_of (hub_of circuit tree listed piped driven direct)) (keeper_of tree listed)
 
 -- The circuit that a request's network computes: the design's, with the registers of the pipes that the request asks for.
 abbrev pub plan_reference : Ordered → Request → FlatCircuit
-plan_reference design request = reference_circuit design.circuit design.tree (listed_of design.tree request) (is_piped design.circuit request) request.direct
+plan_reference design request = reference_circuit design.circuit design.tree (listed_of design.tree request) (is_piped design.circuit request) (is_driven design.circuit request) request.direct
 
 -- the signal of the reference circuit by which the machines of a request's cut see signal t of the design: machine m, and the outputs
 abbrev pub plan_seen : Ordered → Request → ℕ → ℕ → ℕ

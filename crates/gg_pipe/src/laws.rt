@@ -12,20 +12,19 @@ ghost use Rattle.gg_moved.specs.KeepsToTree.{KeepsToTree};
 ghost use Rattle.gg_part.specs.declared.part.Part.{Part};
 ghost use Rattle.gg_order.specs.Design.{Ordered, IsDesign};
 ghost use Rattle.gg_partfile.specs.declared.request.Request.{Request};
-ghost use Rattle.gg_cut.specs.declared.plan.Plan.{Plan};
 ghost use Rattle.gg_cut.specs.declared.listed.Listed.{Listed};
 ghost use Rattle.gg_cut.specs.Clocks.{ratio_of};
 ghost use Rattle.gg_cut.specs.Machines.{first_source};
 ghost use Rattle.gg_cut.specs.Fault.{first_fault};
 ghost use Rattle.gg_cut.specs.Held.{AreHeldOnce};
-ghost use Rattle.gg_cut.specs.Plan.{wire_at, channels_from, IsCutPart, IsPlan};
-ghost use Rattle.gg_cut.specs.Solves.{AreRows, Solves, columns_of};
+ghost use Rattle.gg_cut.specs.Plan.{wire_at, channels_from, IsCutPart};
+ghost use Rattle.gg_cut.specs.Solves.{AreRows};
 ghost use Rattle.gg_closed.specs.Apart.{AreApart};
 ghost use Rattle.gg_cut.specs.Direct.{hub_of, plan_hub, routes};
 ghost use Rattle.gg_pipe.specs.Reference.{IsReference};
 ghost use Rattle.gg_pipe.specs.Links.{pipes_of, taken_as};
 ghost use Rattle.gg_pipe.specs.Made.{plan_reference, reference_circuit, views_in, AllHeld, IsFresh};
-ghost use Rattle.gg_pipe.specs.Follows.{Follows, given_column, plan_start, plan_token, taken_column};
+ghost use Rattle.gg_pipe.specs.Follows.{Follows, given_column, plan_start, taken_column};
 
 use gg_closed::channels_once;
 
@@ -34,7 +33,7 @@ use gg_closed::channels_once;
 /// part of the start, and in each such run it gives the values of the channels that it gives. No register of the circuit may
 /// be held by two signals.
 pub fn parts_follow()
-    ensures { (design : Ordered) (listed : Listed) (piped : ℕ → Bool) (direct : Bool) (m : ℕ) (part : Part) (start : Start) (columns : List (List ℕ)) (end : ℕ) (rows : List (List ℕ)) → IsDesign design → KeepsToTree design.circuit design.tree → AreApart design.tree listed → AreHeldOnce design.circuit → IsCutPart design listed (hub_of design.circuit design.tree listed piped direct) m part → IsState (reference_circuit design.circuit design.tree listed piped direct) start.state → AreRows (reference_circuit design.circuit design.tree listed piped direct) start columns end rows → Follows (hub_of design.circuit design.tree listed piped direct) m start end part rows }
+    ensures { (design : Ordered) (listed : Listed) (piped driven : ℕ → Bool) (direct : Bool) (m : ℕ) (part : Part) (start : Start) (columns : List (List ℕ)) (end : ℕ) (rows : List (List ℕ)) → IsDesign design → KeepsToTree design.circuit design.tree → AreApart design.tree listed → AreHeldOnce design.circuit → IsCutPart design listed (hub_of design.circuit design.tree listed piped driven direct) m part → IsState (reference_circuit design.circuit design.tree listed piped driven direct) start.state → AreRows (reference_circuit design.circuit design.tree listed piped driven direct) start columns end rows → Follows (hub_of design.circuit design.tree listed piped driven direct) m start end part rows }
 {
     channels_once();
 }
@@ -42,31 +41,25 @@ pub fn parts_follow()
 /// In a run of the reference circuit, the signal by which the consumer of a channel gets it has the values by which the
 /// producer gives it, a cycle later and behind the pipe's token where the channel is piped.
 pub fn channels_follow()
-    ensures { (design : Ordered) (listed : Listed) (piped : ℕ → Bool) (direct : Bool) (start : Start) (columns : List (List ℕ)) (end : ℕ) (rows : List (List ℕ)) (c : ℕ) → IsDesign design → KeepsToTree design.circuit design.tree → AreApart design.tree listed → IsState (reference_circuit design.circuit design.tree listed piped direct) start.state → AreRows (reference_circuit design.circuit design.tree listed piped direct) start columns end rows → c < length (routes (hub_of design.circuit design.tree listed piped direct)) → column rows (taken_as (hub_of design.circuit design.tree listed piped direct) (wire_at (routes (hub_of design.circuit design.tree listed piped direct)) c).signal) ≡ taken_column (hub_of design.circuit design.tree listed piped direct) start end rows c }
+    ensures { (design : Ordered) (listed : Listed) (piped driven : ℕ → Bool) (direct : Bool) (start : Start) (columns : List (List ℕ)) (end : ℕ) (rows : List (List ℕ)) (c : ℕ) → IsDesign design → KeepsToTree design.circuit design.tree → AreApart design.tree listed → IsState (reference_circuit design.circuit design.tree listed piped driven direct) start.state → AreRows (reference_circuit design.circuit design.tree listed piped driven direct) start columns end rows → c < length (routes (hub_of design.circuit design.tree listed piped driven direct)) → column rows (taken_as (hub_of design.circuit design.tree listed piped driven direct) (wire_at (routes (hub_of design.circuit design.tree listed piped driven direct)) c).signal) ≡ taken_column (hub_of design.circuit design.tree listed piped driven direct) start end rows c }
 {
     channels_once();
 }
 
 /// In a run of the reference circuit, each channel of the source of a top input is given the input's values.
 pub fn sources_follow()
-    ensures { (design : Ordered) (listed : Listed) (piped : ℕ → Bool) (direct : Bool) (start : Start) (columns : List (List ℕ)) (end : ℕ) (rows : List (List ℕ)) (p c : ℕ) → IsDesign design → KeepsToTree design.circuit design.tree → AreApart design.tree listed → IsColumns (reference_circuit design.circuit design.tree listed piped direct) end columns → IsState (reference_circuit design.circuit design.tree listed piped direct) start.state → AreRows (reference_circuit design.circuit design.tree listed piped direct) start columns end rows → p < length design.circuit.ins → Contains (channels_from (routes (hub_of design.circuit design.tree listed piped direct)) (first_source listed + p)) c → (t : ℕ) → start.cycle ≤ t → t < end → value_at (given_column (hub_of design.circuit design.tree listed piped direct) rows c) t ≡ value_at (slice_index_or columns p []) t }
+    ensures { (design : Ordered) (listed : Listed) (piped driven : ℕ → Bool) (direct : Bool) (start : Start) (columns : List (List ℕ)) (end : ℕ) (rows : List (List ℕ)) (p c : ℕ) → IsDesign design → KeepsToTree design.circuit design.tree → AreApart design.tree listed → IsColumns (reference_circuit design.circuit design.tree listed piped driven direct) end columns → IsState (reference_circuit design.circuit design.tree listed piped driven direct) start.state → AreRows (reference_circuit design.circuit design.tree listed piped driven direct) start columns end rows → p < length design.circuit.ins → Contains (channels_from (routes (hub_of design.circuit design.tree listed piped driven direct)) (first_source listed + p)) c → (t : ℕ) → start.cycle ≤ t → t < end → value_at (given_column (hub_of design.circuit design.tree listed piped driven direct) rows c) t ≡ value_at (slice_index_or columns p []) t }
 {
     channels_once();
 }
-
-/// The columns of a run of the reference circuit, from any start, solve the plan of a request without a fault, if the run was
-/// given the columns of the top inputs. Each pipe's token is what its register has at the start.
-pub fn columns_solve()
-    ensures { (design : Ordered) (request : Request) (default : ℕ) (plan : Plan) (start : Start) (columns : List (List ℕ)) (end : ℕ) (rows : List (List ℕ)) → IsDesign design → KeepsToTree design.circuit design.tree → AreHeldOnce design.circuit → first_fault design request ≡ None → IsPlan design request default plan → IsColumns design.circuit end columns → IsState (plan_reference design request) start.state → AreRows (plan_reference design request) start columns end rows → Solves plan start (plan_token design request start.state) columns end (columns_of plan rows) }
-{}
 
 /// The reference circuit has the signals, the registers and the memories of the design, with the names by which their
 /// machines see signals, and behind them a register for each piped channel, which takes the channel's value in each tick. It
 /// is well formed if no path of the design begins with `pipe:`. The order of the design, behind the pipes, is an order of it.
 pub fn reference_formed()
-    ensures made { (design : Ordered) (listed : Listed) (piped : ℕ → Bool) (direct : Bool) → IsDesign design → KeepsToTree design.circuit design.tree → AreApart design.tree listed → IsReference design.circuit (reference_circuit design.circuit design.tree listed piped direct) (views_in design.circuit design.tree listed piped direct) (pipes_of (hub_of design.circuit design.tree listed piped direct)) }
-    ensures formed { (design : Ordered) (listed : Listed) (piped : ℕ → Bool) (direct : Bool) → IsDesign design → KeepsToTree design.circuit design.tree → AreApart design.tree listed → IsFresh design.circuit → IsWellFormed (reference_circuit design.circuit design.tree listed piped direct) }
-    ensures ordered { (design : Ordered) (listed : Listed) (piped : ℕ → Bool) (direct : Bool) → IsDesign design → KeepsToTree design.circuit design.tree → AreApart design.tree listed → IsOrder (reference_circuit design.circuit design.tree listed piped direct) (range_with_len (length design.circuit.signals) (length (pipes_of (hub_of design.circuit design.tree listed piped direct))) ++ design.order) }
+    ensures made { (design : Ordered) (listed : Listed) (piped driven : ℕ → Bool) (direct : Bool) → IsDesign design → KeepsToTree design.circuit design.tree → AreApart design.tree listed → IsReference design.circuit (reference_circuit design.circuit design.tree listed piped driven direct) (views_in design.circuit design.tree listed piped driven direct) (pipes_of (hub_of design.circuit design.tree listed piped driven direct)) }
+    ensures formed { (design : Ordered) (listed : Listed) (piped driven : ℕ → Bool) (direct : Bool) → IsDesign design → KeepsToTree design.circuit design.tree → AreApart design.tree listed → IsFresh design.circuit → IsWellFormed (reference_circuit design.circuit design.tree listed piped driven direct) }
+    ensures ordered { (design : Ordered) (listed : Listed) (piped driven : ℕ → Bool) (direct : Bool) → IsDesign design → KeepsToTree design.circuit design.tree → AreApart design.tree listed → IsOrder (reference_circuit design.circuit design.tree listed piped driven direct) (range_with_len (length design.circuit.signals) (length (pipes_of (hub_of design.circuit design.tree listed piped driven direct))) ++ design.order) }
 {
     channels_once();
 }
@@ -78,7 +71,7 @@ pub fn outputs_kept()
 
 /// Where no channel is piped, the reference circuit is the circuit itself. So it is for a request that asks for no pipe.
 pub fn nothing_piped()
-    ensures cut { (circuit : FlatCircuit) (tree : InstanceTree) (listed : Listed) (piped : ℕ → Bool) (direct : Bool) → pipes_of (hub_of circuit tree listed piped direct) ≡ [] → reference_circuit circuit tree listed piped direct ≡ circuit }
+    ensures cut { (circuit : FlatCircuit) (tree : InstanceTree) (listed : Listed) (piped driven : ℕ → Bool) (direct : Bool) → pipes_of (hub_of circuit tree listed piped driven direct) ≡ [] → reference_circuit circuit tree listed piped driven direct ≡ circuit }
     ensures request { (design : Ordered) (request : Request) → request.pipe ≡ [] → plan_reference design request ≡ design.circuit }
 {}
 

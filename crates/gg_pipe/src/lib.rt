@@ -4,6 +4,6 @@
 mod laws;
 
 pub use laws::{
-    channels_follow, columns_solve, nothing_piped, one_reference, outputs_kept, parts_follow,
-    reference_formed, sources_follow,
+    channels_follow, nothing_piped, one_reference, outputs_kept, parts_follow, reference_formed,
+    sources_follow,
 };

@@ -1,17 +1,18 @@
 -- The tables of a plan make its reference circuit.
-use Rattle.std.proofs.Common.{◌≡◌, ◌≢◌, ℕ, zero, suc, ◌+◌, ◌<◌, ◌≤◌, ◌⊎◌, List, ◌++◌, Bool, true, false, Option, Some, None, codes, length, map, get_or, refl, sym, ◌∙◌, ap, subst, inl, inr, eq-eqb, arith}
-use Rattle.std.specs.Prelude.{◌&&◌, ◌==◌, ◌^◌, All, AllPairs, Contains, filter, unwrap_or, replicate}
+use Rattle.std.proofs.Common.{◌≡◌, ◌≢◌, ℕ, zero, suc, ◌+◌, ◌<◌, ◌⊎◌, List, ◌++◌, Bool, true, false, Option, Some, None, codes, length, map, get_or, refl, sym, ◌∙◌, ap, subst, inl, inr, eq-eqb, arith}
+use Rattle.std.specs.Prelude.{◌&&◌, ◌==◌, ◌^◌, All, AllPairs, Contains, filter, option_map, unwrap_or, replicate}
 use Rattle.std.specs.List.{list_any, range_with_len}
-use Rattle.std.proofs.lemmas.Bool.{and_from, and_parts, cases_Bool, cases_lt, eqb-true}
-use Rattle.std.proofs.lemmas.List.{length-map, get_or_default}
+use Rattle.std.proofs.lemmas.Bool.{and_from, and_parts, cases_Bool, eqb-true}
+use Rattle.std.proofs.lemmas.List.{length-map, get_or_default, get_or-map}
 use Rattle.std.proofs.lemmas.List.Elements.{All-filter, All-map, Contains-get_or}
 use Rattle.std.proofs.lemmas.List.Kept.{AllPairs-filter}
 use Rattle.std.proofs.lemmas.List.FromFn.{get_or-range_with_len, length-range_with_len}
 use Rattle.std.proofs.lemmas.List.Sums.{length-filter, count_by-le-length}
-use Rattle.gg_flat.specs.declared.piece.Driver.TheVariants.{Held}
+use Rattle.gg_flat.specs.declared.piece.Driver.TheVariants.{Input, Held}
 use Rattle.gg_flat.specs.Circuit.{FlatCircuit, driver_at}
 use Rattle.gg_flat.specs.Line.{value_at}
-use Rattle.gg_flat.specs.Tree.{path_at}
+use Rattle.gg_flat.specs.declared.tree.MemoryInstance.{MemoryInstance}
+use Rattle.gg_flat.specs.Tree.{InstanceTree, memory_at, path_at}
 use Rattle.gg_flat.specs.WellFormed.{MayDrive}
 use Rattle.gg_flat.proofs.ListLemmas.{Contains-filter, Contains-map, filter-cases, in-range}
 use Rattle.gg_order.specs.Design.{Ordered, IsDesign}
@@ -19,12 +20,18 @@ use Rattle.gg_cut.specs.declared.listed.Listed.{Listed}
 use Rattle.gg_cut.specs.declared.plan.Channel.{Channel}
 use Rattle.gg_cut.specs.declared.plan.Plan.{Plan}
 use Rattle.gg_cut.specs.declared.wires.Wire.{Wire}
-use Rattle.gg_cut.specs.Channels.{wires_of}
-use Rattle.gg_cut.specs.Listed.{first_place, listed_of, owner_of, memory_owner}
+use Rattle.gg_cut.specs.Channels.{wire, wires_of}
+use Rattle.gg_cut.specs.Listed.{first_place, listed_of, owner_of, owner_of_instance, memory_or, memory_owner}
+use Rattle.gg_cut.specs.Machines.{first_source}
+use Rattle.gg_cut.specs.Seated.{Bridges, seat_of, seated_wire, plan_bridges, plan_wires}
 use Rattle.gg_cut.specs.Plan.{wire_at, IsInner}
-use Rattle.gg_cut.specs.Direct.{Hub, routes, plan_hub, is_piped}
+use Rattle.gg_cut.specs.Direct.{Hub, routes, plan_hub, is_piped, is_driven}
 use Rattle.gg_cut.proofs.PathLemmas.{first_place-Some}
 use Rattle.gg_cut.proofs.OriginLemmas.{any-finds, finds-any, clash}
+use Rattle.gg_cut.proofs.WireLemmas.{unit_or_hub-below}
+use Rattle.gg_cut_seats.proofs.LowLemmas.{seat-back}
+use Rattle.gg_cut_seats.proofs.SeatedLemmas.{seat-low}
+use Rattle.gg_cut_seats.proofs.WireLemmas.{same-test}
 use Rattle.gg_closed.specs.Apart.{AreApart}
 use Rattle.gg_closed.proofs.FaultlessLemmas.{faultless-apart}
 use Rattle.gg_closed.proofs.ListLemmas.{AllPairs-map, map-cases}
@@ -39,15 +46,28 @@ use Rattle.gg_pipe.specs.Made.{plan_reference, reference_of, views_in, holder_of
 use Rattle.gg_piped.specs.CanPipe.{CanPipe}
 use Rattle.gg_piped.specs.Tables.{views_by, seen_in, AreOwned, AreTables, CanFill, IsFilled, piped_places, piped_signals, piped_takers}
 use Rattle.gg_pipe.proofs.HolderLemmas.{holder-is, holds-is, keeper-is}
+use Rattle.gg_pipe.proofs.OneLemmas.{not-input, maker-low}
 use Rattle.gg_pipe.proofs.SeenLemmas.{pipes-known, pipes-once}
 use Rattle.gg_pipe.proofs.PlanLemmas.{plan-formed}
-use Rattle.gg_piped.proofs.TableLemmas.{chosen-agree, few-among, piped_routes, kept-is, seen-is, seen-empty, makers-are}
+use Rattle.gg_piped.proofs.TableLemmas.{chosen-agree, few-among, piped_routes, kept-is, seen-is, makers-are}
 use Rattle.gg_pipe.proofs.AgreeLemmas.{AreAgreed, filter-agree, reference-agree}
 
 repeated : (n x r : ℕ) → r < n → value_at (replicate n x) r ≡ x
 repeated zero x r lt = absurd (omega (arith, lt))
 repeated (suc n) x zero lt = refl
 repeated (suc n) x (suc r) lt = repeated n x r (omega (arith, lt))
+
+-- a listed memory's machine, or that of the instance that has the memory, is before the first source
+memory-low : (tree : InstanceTree) (listed : Listed) (place : ℕ) → memory_owner tree listed place < first_source listed
+memory-low tree listed place = by (first_place (λ j. j == place) listed.memories) refl
+  where
+    by : (found : Option ℕ) → first_place (λ j. j == place) listed.memories ≡ found → memory_or (length listed.units) (owner_of_instance tree listed.units (memory_at tree place).instance) found < first_source listed
+    by None e = let low = unit_or_hub-below tree listed.units (memory_at tree place).instance in omega (arith, low)
+    by (Some i) e = let at = first_place-Some (λ j. j == place) listed.memories i e in omega (arith, at.within)
+
+-- a machine before the first source has its own number in the plan, and no other has that
+seat-low-is : (b : Bridges) (m n : ℕ) → m < b.first → (seat_of b n == m) ≡ (n == m)
+seat-low-is b m n low = same-test (seat_of b n) m n m (seat-back b m n low) (λ e. ap (seat_of b) e ∙ seat-low b m low)
 
 -- the signals and the pipes are few
 pub few-pipes : (design : Ordered) (plan : Plan) (can : CanPipe design plan) → length design.circuit.signals + length (piped_signals (length design.circuit.signals) plan.channels) < 2 ^ 32
@@ -69,29 +89,35 @@ module _ (design : Ordered) (plan : Plan) (is : IsDesign design) (can : CanPipe 
   abbrev listed : Listed
   listed = listed_of design.tree can.request
 
+  abbrev bridges : Bridges
+  bridges = plan_bridges design.circuit design.tree can.request
+
   base : IsBase (plan_hub design.circuit design.tree can.request)
   base = routed-base design can.request is can.keeps can.none
 
   pub plan-apart : AreApart design.tree plan.listed
   plan-apart = subst (AreApart design.tree) (sym can.is.listed) (faultless-apart design can.request can.none can.keeps.fitting)
 
+  -- ---- channels
+
+  total : length plan.channels ≡ length (routes hub)
+  total = can.is.channel_total ∙ length-map (routes hub) (seated_wire bridges)
+
+  -- a channel of the plan is one of the cut, between the machines' numbers in the plan
+  wires-at : (c : ℕ) (w : Wire) → c < length plan.channels → wire_at (plan_wires circuit design.tree can.request) c ≡ seated_wire bridges (get_or (routes hub) c w)
+  wires-at c w lt = get_or-map (seated_wire bridges) (routes hub) c w (wire 0 0 0) (omega (arith, lt, total))
+
   -- ---- pipes
 
   places-are : piped_places plan.channels ≡ map (λ (w : Wire). w.signal) (piped_routes (plan_hub design.circuit design.tree can.request))
   places-are =
-      chosen-agree (λ (channel : Channel). channel.signal) (λ (w : Wire). w.signal) (λ (channel : Channel). channel.pipe) (λ (w : Wire). hub.piped w.signal) plan.channels (routes hub) can.is.channel_total
+      chosen-agree (λ (channel : Channel). channel.signal) (λ (w : Wire). w.signal) (λ (channel : Channel). channel.pipe) (λ (w : Wire). hub.piped w.signal) plan.channels (routes hub) total
       (λ c x w lt. let at = can.is.channel c x lt in let same = wires-at c w lt in (at.signal ∙ ap (λ (v : Wire). v.signal) same, at.pipe ∙ ap (λ (v : Wire). hub.piped v.signal) same))
-    where
-      wires-at : (c : ℕ) (w : Wire) → c < length plan.channels → wire_at (routes hub) c ≡ get_or (routes hub) c w
-      wires-at c w lt = get_or_default (routes hub) c any-wire w (let total = can.is.channel_total in omega (arith, lt, total))
 
-  pub takers-are : piped_takers plan.channels ≡ map (λ (w : Wire). w.consumer) (piped_routes (plan_hub design.circuit design.tree can.request))
+  pub takers-are : piped_takers plan.channels ≡ map (λ (w : Wire). seat_of (plan_bridges design.circuit design.tree can.request) w.consumer) (piped_routes (plan_hub design.circuit design.tree can.request))
   takers-are =
-      chosen-agree (λ (channel : Channel). channel.consumer) (λ (w : Wire). w.consumer) (λ (channel : Channel). channel.pipe) (λ (w : Wire). hub.piped w.signal) plan.channels (routes hub) can.is.channel_total
+      chosen-agree (λ (channel : Channel). channel.consumer) (λ (w : Wire). seat_of bridges w.consumer) (λ (channel : Channel). channel.pipe) (λ (w : Wire). hub.piped w.signal) plan.channels (routes hub) total
       (λ c x w lt. let at = can.is.channel c x lt in let same = wires-at c w lt in (at.consumer ∙ ap (λ (v : Wire). v.consumer) same, at.pipe ∙ ap (λ (v : Wire). hub.piped v.signal) same))
-    where
-      wires-at : (c : ℕ) (w : Wire) → c < length plan.channels → wire_at (routes hub) c ≡ get_or (routes hub) c w
-      wires-at c w lt = get_or_default (routes hub) c any-wire w (let total = can.is.channel_total in omega (arith, lt, total))
 
   pub pipes-are : piped_signals (length design.circuit.signals) plan.channels ≡ pipes_of (plan_hub design.circuit design.tree can.request)
   pipes-are =
@@ -162,9 +188,9 @@ module _ (design : Ordered) (plan : Plan) (is : IsDesign design) (can : CanPipe 
       pipes : IsFilled (pipes_of hub) (range_with_len (length circuit.signals) (length (pipes_of hub))) (length (pipes_of hub)) (replicate (length circuit.signals) 0) tables.pipes
       pipes = subst (λ (l : List ℕ). IsFilled l (range_with_len (length circuit.signals) (length l)) (length l) (replicate (length circuit.signals) 0) tables.pipes) pipes-are are.pipes
 
-      takers : IsFilled (map (λ (r : Wire). r.signal) (piped_routes hub)) (map (λ (r : Wire). r.consumer) (piped_routes hub)) (length (map (λ (r : Wire). r.signal) (piped_routes hub))) (replicate (length circuit.signals) 0) tables.takers
+      takers : IsFilled (map (λ (r : Wire). r.signal) (piped_routes hub)) (map (λ (r : Wire). seat_of bridges r.consumer) (piped_routes hub)) (length (map (λ (r : Wire). r.signal) (piped_routes hub))) (replicate (length circuit.signals) 0) tables.takers
       takers =
-          subst (λ (l : List ℕ). IsFilled l (map (λ (r : Wire). r.consumer) (piped_routes hub)) (length l) (replicate (length circuit.signals) 0) tables.takers) places-are
+          subst (λ (l : List ℕ). IsFilled l (map (λ (r : Wire). seat_of bridges r.consumer) (piped_routes hub)) (length l) (replicate (length circuit.signals) 0) tables.takers) places-are
           (subst (λ (l : List ℕ). IsFilled (piped_places plan.channels) l (length (piped_places plan.channels)) (replicate (length circuit.signals) 0) tables.takers) takers-are are.takers)
 
       makers : (s : ℕ) → s < length circuit.signals → value_at tables.makers s ≡ maker_of hub s
@@ -173,10 +199,14 @@ module _ (design : Ordered) (plan : Plan) (is : IsDesign design) (can : CanPipe 
           (subst (λ (l : List Wire). IsFilled (map (λ (w : Wire). w.signal) l) (map (λ (w : Wire). w.producer) l) (length l) owned.signals tables.makers) wires-are are.makers)
           (λ s lt inner. owns.signals s lt (subst (λ (l : List Wire). IsInner l s) (sym wires-are) inner) ∙ ap (λ l. owner_of circuit design.tree l s) can.is.listed)
 
-      seen : (m s : ℕ) → seen_in tables m s ≡ seen_by hub m s
-      seen = seen-is hub base tables pipes takers
+      -- the hub, a unit or a listed memory sees a signal as it should
+      seen : (m s : ℕ) → m < first_source listed → seen_in tables m s ≡ seen_by hub m s
+      seen m s low = seen-is hub base tables pipes (seat_of bridges) takers m s (λ n. seat-low-is bridges m n low)
 
-      -- the machine of the signal that holds a register, or any where it makes no difference
+      maker : (s t : ℕ) → s < length circuit.signals → ((place : ℕ) → driver_at circuit s ≢ Input place) → seen_in tables (maker_of hub s) t ≡ seen_by hub (maker_of hub s) t
+      maker s t lt plain = seen (maker_of hub s) t (maker-low circuit design.tree listed is.formed can.keeps.fitting can.keeps.scoped (faultless-apart design can.request can.none can.keeps.fitting) hub.piped hub.driven hub.direct base s plain)
+
+      -- the machine of the signal that holds a register, or the hub
       holder : (r t : ℕ) → r < length circuit.registers → seen_in tables (value_at tables.holders r) t ≡ seen_by hub (holder_of hub r) t
       holder r t lt = by (cases_Bool (list_any test numbers))
         where
@@ -192,8 +222,11 @@ module _ (design : Ordered) (plan : Plan) (is : IsDesign design) (can : CanPipe 
               let s = found.item in
               let low : s < length circuit.signals = below s found.among in
               let held = holds-is r (driver_at circuit s) found.passes in
-              ap (λ m. seen_in tables m t) (are.holders.held s r low held ∙ makers s low ∙ sym (holder-is hub can.held s r low held)) ∙ seen (holder_of hub r) t
+              ap (λ m. seen_in tables m t) (are.holders.held s r low held ∙ makers s low) ∙ maker s t low (λ place e. no-held r place (sym held ∙ e)) ∙ sym (ap (λ m. seen_by hub m t) (holder-is hub can.held s r low held))
             where
+              no-held : (n place : ℕ) → Held n ≡ Input place → ⊥
+              no-held n place e = absurd (cc)
+
               below : (s : ℕ) → Contains numbers s → s < length circuit.signals
               below s h =
                   let inside = h.1 in
@@ -202,24 +235,17 @@ module _ (design : Ordered) (plan : Plan) (is : IsDesign design) (can : CanPipe 
                   let read = get_or-range_with_len 0 (length circuit.signals) h.0 s low in
                   let same = h.2 in
                   omega (arith, low, read, same)
-          by (inr none) = plain (cases_lt 0 (length circuit.signals))
+          by (inr none) = ap (λ m. seen_in tables m t) first ∙ seen 0 t (omega arith) ∙ sym (ap (λ m. seen_by hub m t) (zeroth (first_place test numbers) refl))
             where
               free : (s : ℕ) → s < length circuit.signals → ¬ (driver_at circuit s ≡ Held r)
               free s low held = clash (list_any test numbers) (finds-any test numbers s (in-range (length circuit.signals) s low) (ap (holds r) held ∙ eq-eqb r r refl)) none
 
-              first : value_at tables.holders r ≡ value_at tables.makers 0
-              first = are.holders.rest r free ∙ repeated (length circuit.registers) (value_at tables.makers 0) r lt
+              first : value_at tables.holders r ≡ 0
+              first = are.holders.rest r free ∙ repeated (length circuit.registers) 0 r lt
 
-              zeroth : holder_of hub r ≡ maker_of hub 0
-              zeroth = by-place (first_place test numbers) refl
-                where
-                  by-place : (o : Option ℕ) → first_place test numbers ≡ o → holder_of hub r ≡ maker_of hub 0
-                  by-place None e = ap (λ o. maker_of hub (unwrap_or o 0)) e
-                  by-place (Some k) e = let at = first_place-Some test numbers k e in absurd (clash (list_any test numbers) (finds-any test numbers (value_at numbers k) (Contains-get_or numbers k 0 at.within) (at.passes 0)) none)
-
-              plain : (0 < length circuit.signals) ⊎ (length circuit.signals ≤ 0) → seen_in tables (value_at tables.holders r) t ≡ seen_by hub (holder_of hub r) t
-              plain (inl some) = ap (λ m. seen_in tables m t) (first ∙ makers 0 some ∙ sym zeroth) ∙ seen (holder_of hub r) t
-              plain (inr empty) = seen-empty hub base tables pipes empty (value_at tables.holders r) t ∙ sym (seen-empty hub base tables pipes empty (holder_of hub r) t) ∙ seen (holder_of hub r) t
+              zeroth : (o : Option ℕ) → first_place test numbers ≡ o → holder_of hub r ≡ 0
+              zeroth None e = ap (λ o. unwrap_or (option_map (maker_of hub) o) 0) e
+              zeroth (Some k) e = let at = first_place-Some test numbers k e in absurd (clash (list_any test numbers) (finds-any test numbers (value_at numbers k) (Contains-get_or numbers k 0 at.within) (at.passes 0)) none)
 
       keeper : (k : ℕ) → k < length circuit.memories → value_at tables.keepers k ≡ keeper_of design.tree listed k
       keeper k lt =
@@ -230,16 +256,19 @@ module _ (design : Ordered) (plan : Plan) (is : IsDesign design) (can : CanPipe 
           ∙ ap (λ l. memory_owner design.tree l k) can.is.listed
           ∙ sym (keeper-is circuit design.tree listed can.keeps.fitting (memory_owner design.tree listed k) k (record { place = k; known = known; is = can.keeps.copies.number k known; owner = refl }))
 
-      agreed : AreAgreed circuit (views_by tables) (views_in circuit design.tree listed (is_piped circuit can.request) can.request.direct)
+      keeper-low : (k : ℕ) → keeper_of design.tree listed k < first_source listed
+      keeper-low k = memory-low design.tree listed (unwrap_or (first_place (λ (memory : MemoryInstance). memory.memory == k) design.tree.memories) 0)
+
+      agreed : AreAgreed circuit (views_by tables) (views_in circuit design.tree listed (is_piped circuit can.request) (is_driven circuit can.request) can.request.direct)
       agreed =
           record {
-            maker = λ s t lt named. ap (λ m. seen_in tables m t) (makers s lt) ∙ seen (maker_of hub s) t;
+            maker = λ s t lt named. ap (λ m. seen_in tables m t) (makers s lt) ∙ maker s t lt (not-input (driver_at circuit s) t named);
             holder = λ r t register lt found named. holder r t lt;
-            keeper = λ k t lt field. ap (λ m. seen_in tables m t) (keeper k lt) ∙ seen (keeper_of design.tree listed k) t;
+            keeper = λ k t lt field. ap (λ m. seen_in tables m t) (keeper k lt) ∙ seen (keeper_of design.tree listed k) t (keeper-low k);
             kept = kept-is hub base tables pipes;
           }
 
       pub reference-is : reference_of design.circuit (views_by tables) (piped_signals (length design.circuit.signals) plan.channels) ≡ plan_reference design can.request
       reference-is =
           ap (reference_of circuit (views_by tables)) pipes-are
-          ∙ reference-agree circuit (views_by tables) (views_in circuit design.tree listed (is_piped circuit can.request) can.request.direct) (pipes_of hub) agreed
+          ∙ reference-agree circuit (views_by tables) (views_in circuit design.tree listed (is_piped circuit can.request) (is_driven circuit can.request) can.request.direct) (pipes_of hub) agreed

@@ -125,17 +125,10 @@ module _ (hub : Hub) (base : IsBase hub) where
         by None e = kept-plain s e ∙ sym (ap (pipe_or (length hub.circuit.signals) s) e)
         by (Some k) e = kept-pipe s k e ∙ sym (ap (pipe_or (length hub.circuit.signals) s) e)
 
-    -- a circuit without signals has no pipes
-    pub seen-empty : length hub.circuit.signals ≤ 0 → (m s : ℕ) → seen_in tables m s ≡ s
-    seen-empty empty m s = if-same (value_at tables.takers s == m) (kept_in tables s) s (by (first_place (λ p. p == s) (pipes_of hub)) refl)
-      where
-        by : (o : Option ℕ) → first_place (λ p. p == s) (pipes_of hub) ≡ o → kept_in tables s ≡ s
-        by None e = kept-plain s e
-        by (Some k) e = let known = pipes-known hub base k (first_place-Some (λ p. p == s) (pipes_of hub) k e).within in absurd (omega (arith, known, empty))
-
-    module _ (takers : IsFilled (map (λ (r : Wire). r.signal) (piped_routes hub)) (map (λ (r : Wire). r.consumer) (piped_routes hub)) (length (map (λ (r : Wire). r.signal) (piped_routes hub))) (replicate (length hub.circuit.signals) 0) tables.takers) where
-      taker-is : (s k m : ℕ) → first_place (λ p. p == s) (pipes_of hub) ≡ Some k → (value_at tables.takers s == m) ≡ list_any (λ (r : Wire). (r.consumer == m) && (r.signal == s)) (routes hub)
-      taker-is s k m e = ap (λ v. v == m) reads ∙ by (cases_Bool (r.consumer == m)) (cases_Bool (list_any test (routes hub)))
+    -- the machines that take the piped channels, at numbers of their own
+    module _ (seat : ℕ → ℕ) (takers : IsFilled (map (λ (r : Wire). r.signal) (piped_routes hub)) (map (λ (r : Wire). seat r.consumer) (piped_routes hub)) (length (map (λ (r : Wire). r.signal) (piped_routes hub))) (replicate (length hub.circuit.signals) 0) tables.takers) where
+      taker-is : (s k m : ℕ) → ((n : ℕ) → (seat n == m) ≡ (n == m)) → first_place (λ p. p == s) (pipes_of hub) ≡ Some k → (value_at tables.takers s == m) ≡ list_any (λ (r : Wire). (r.consumer == m) && (r.signal == s)) (routes hub)
+      taker-is s k m same_seat e = ap (λ v. v == m) reads ∙ same_seat r.consumer ∙ by (cases_Bool (r.consumer == m)) (cases_Bool (list_any test (routes hub)))
         where
           at : IsPlace (λ p. p == s) (pipes_of hub) k
           at = first_place-Some (λ p. p == s) (pipes_of hub) k e
@@ -164,8 +157,8 @@ module _ (hub : Hub) (base : IsBase hub) where
           place : value_at (map (λ (v : Wire). v.signal) (piped_routes hub)) q.0 ≡ s
           place = get_or-map (λ (v : Wire). v.signal) (piped_routes hub) q.0 pipe.wire 0 q.1 ∙ ap (λ (v : Wire). v.signal) q.2 ∙ pipe.is
 
-          reads : value_at tables.takers s ≡ pipe.wire.consumer
-          reads = subst (λ t. value_at tables.takers t ≡ pipe.wire.consumer) place (takers.put q.0 inside ∙ get_or-map (λ (v : Wire). v.consumer) (piped_routes hub) q.0 pipe.wire 0 q.1 ∙ ap (λ (v : Wire). v.consumer) q.2)
+          reads : value_at tables.takers s ≡ seat pipe.wire.consumer
+          reads = subst (λ t. value_at tables.takers t ≡ seat pipe.wire.consumer) place (takers.put q.0 inside ∙ get_or-map (λ (v : Wire). seat v.consumer) (piped_routes hub) q.0 pipe.wire 0 q.1 ∙ ap (λ (v : Wire). seat v.consumer) q.2)
 
           by : ((r.consumer == m) ≡ true) ⊎ ((r.consumer == m) ≡ false) → (list_any test (routes hub) ≡ true) ⊎ (list_any test (routes hub) ≡ false) → (r.consumer == m) ≡ list_any test (routes hub)
           by (inl p) (inl q) = p ∙ sym q
@@ -177,14 +170,14 @@ module _ (hub : Hub) (base : IsBase hub) where
               let same = same-route found.item r found.among among (eqb-true found.item.signal s parts.1 ∙ sym of) in
               absurd (clash (r.consumer == m) (subst (λ (v : Wire). (v.consumer == m) ≡ true) same parts.0) p)
 
-      pub seen-is : (m s : ℕ) → seen_in tables m s ≡ seen_by hub m s
-      seen-is m s = by (first_place (λ p. p == s) (pipes_of hub)) refl
+      pub seen-is : (m s : ℕ) → ((n : ℕ) → (seat n == m) ≡ (n == m)) → seen_in tables m s ≡ seen_by hub m s
+      seen-is m s same_seat = by (first_place (λ p. p == s) (pipes_of hub)) refl
         where
           by : (o : Option ℕ) → first_place (λ p. p == s) (pipes_of hub) ≡ o → seen_in tables m s ≡ seen_by hub m s
           by None e =
               if-same (value_at tables.takers s == m) (kept_in tables s) s (kept-plain s e)
               ∙ sym (if-same (list_any (λ (r : Wire). (r.consumer == m) && (r.signal == s)) (routes hub)) (taken_as hub s) s (ap (pipe_or (length hub.circuit.signals) s) e))
-          by (Some k) e = ap₂ (λ (b : Bool) v. if b then v else s) (taker-is s k m e) (kept-is s)
+          by (Some k) e = ap₂ (λ (b : Bool) v. if b then v else s) (taker-is s k m same_seat e) (kept-is s)
 
   -- ---- makers
 
@@ -323,7 +316,7 @@ few-among places count =
             let equal = first ∙ ap (value_at places) same ∙ sym second in
             absurd (omega (arith, up, equal))
 
-pub tables-made : (one : FlatCircuit) (channels : List Channel) (signals : List ℕ) (owned : Owned) (count : ℕ) (places takers numbers taker_table number_table makers makers_now holders : List ℕ) (tables : Tables) → count ≡ length one.signals → places ≡ piped_places channels → takers ≡ piped_takers channels → numbers ≡ range_with_len count (length signals) → IsFilled places takers (length places) (replicate count 0) taker_table → IsFilled signals numbers (length signals) (replicate count 0) number_table → IsFilled (map (λ (w : Wire). w.signal) owned.wires) (map (λ (w : Wire). w.producer) owned.wires) (length owned.wires) owned.signals makers → makers_now ≡ makers → AreHolding one makers_now (length one.signals) (replicate (length one.registers) (value_at makers_now 0)) holders → tables.makers ≡ makers → tables.holders ≡ holders → tables.keepers ≡ owned.memories → tables.takers ≡ taker_table → tables.pipes ≡ number_table → AreTables one channels signals owned tables
+pub tables-made : (one : FlatCircuit) (channels : List Channel) (signals : List ℕ) (owned : Owned) (count : ℕ) (places takers numbers taker_table number_table makers makers_now holders : List ℕ) (tables : Tables) → count ≡ length one.signals → places ≡ piped_places channels → takers ≡ piped_takers channels → numbers ≡ range_with_len count (length signals) → IsFilled places takers (length places) (replicate count 0) taker_table → IsFilled signals numbers (length signals) (replicate count 0) number_table → IsFilled (map (λ (w : Wire). w.signal) owned.wires) (map (λ (w : Wire). w.producer) owned.wires) (length owned.wires) owned.signals makers → makers_now ≡ makers → AreHolding one makers_now (length one.signals) (replicate (length one.registers) 0) holders → tables.makers ≡ makers → tables.holders ≡ holders → tables.keepers ≡ owned.memories → tables.takers ≡ taker_table → tables.pipes ≡ number_table → AreTables one channels signals owned tables
 tables-made one channels signals owned count places takers numbers taker_table number_table makers makers_now holders tables many are_places are_takers are_numbers by_taker by_number by_maker now by_holder m h k t p =
     record {
       pipes =
@@ -337,7 +330,7 @@ tables-made one channels signals owned count places takers numbers taker_table n
           (subst (λ (l : List ℕ). IsFilled places l (length places) (replicate count 0) taker_table) are_takers by_taker)));
       makers = subst (IsFilled (map (λ (w : Wire). w.signal) owned.wires) (map (λ (w : Wire). w.producer) owned.wires) (length owned.wires) owned.signals) (sym m) by_maker;
       holders =
-          subst (λ (l : List ℕ). AreHolding one l (length one.signals) (replicate (length one.registers) (value_at l 0)) tables.holders) (now ∙ sym m)
-          (subst (AreHolding one makers_now (length one.signals) (replicate (length one.registers) (value_at makers_now 0))) (sym h) by_holder);
+          subst (λ (l : List ℕ). AreHolding one l (length one.signals) (replicate (length one.registers) 0) tables.holders) (now ∙ sym m)
+          (subst (AreHolding one makers_now (length one.signals) (replicate (length one.registers) 0)) (sym h) by_holder);
       keepers = k;
     }

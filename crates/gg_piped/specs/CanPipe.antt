@@ -5,6 +5,7 @@ use Rattle.gg_moved.specs.KeepsToTree.{KeepsToTree}
 use Rattle.gg_order.specs.Design.{Ordered}
 use Rattle.gg_partfile.specs.declared.request.Request.{Request}
 use Rattle.gg_cut.specs.declared.plan.Plan.{Plan}
+use Rattle.gg_cut.specs.Bridges.{Models}
 use Rattle.gg_cut.specs.Fault.{first_fault}
 use Rattle.gg_cut.specs.Plan.{IsPlan}
 use Rattle.gg_cut.specs.Held.{AreHeldOnce}
@@ -14,10 +15,11 @@ use Rattle.gg_pipe.specs.Made.{IsFresh}
 -- `pipe:`. The design's signals and the plan's channels are together fewer than 2^32.
 pub record CanPipe (design : Ordered) (plan : Plan) : Type 0 where
   pub request : Request
+  pub models : Models
   pub default : ℕ
   pub keeps : KeepsToTree design.circuit design.tree
   pub held : AreHeldOnce design.circuit
   pub fresh : IsFresh design.circuit
   pub none : first_fault design request ≡ None
-  pub is : IsPlan design request default plan
+  pub is : IsPlan design request models default plan
   pub few : length design.circuit.signals + length plan.channels < 2 ^ 32

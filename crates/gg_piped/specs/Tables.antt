@@ -92,5 +92,5 @@ pub record AreTables (one : FlatCircuit) (channels : List Channel) (signals : Li
   pub pipes : IsFilled signals (range_with_len (length one.signals) (length signals)) (length signals) (replicate (length one.signals) 0) tables.pipes
   pub takers : IsFilled (piped_places channels) (piped_takers channels) (length (piped_places channels)) (replicate (length one.signals) 0) tables.takers
   pub makers : IsFilled (map (λ w. w.signal) owned.wires) (map (λ w. w.producer) owned.wires) (length owned.wires) owned.signals tables.makers
-  pub holders : AreHolding one tables.makers (length one.signals) (replicate (length one.registers) (value_at tables.makers 0)) tables.holders
+  pub holders : AreHolding one tables.makers (length one.signals) (replicate (length one.registers) 0) tables.holders
   pub keepers : tables.keepers ≡ owned.memories

@@ -3,7 +3,6 @@ ghost use Rattle.std.specs.Prelude.{◌≡◌, ◌≢◌, ℕ, ◌<◌, ◌≤�
 ghost use Rattle.std.specs.List.{range_with_len};
 ghost use Rattle.gg_flat.specs.declared.piece.Driver.TheVariants.{Held};
 ghost use Rattle.gg_flat.specs.Circuit.{driver_at};
-ghost use Rattle.gg_flat.specs.Line.{value_at};
 ghost use Rattle.gg_order.specs.Marks.{is_marked};
 ghost use Rattle.gg_cut.specs.Held.{AreHeldOnce};
 ghost use Rattle.gg_piped.specs.Tables.{IsFilled, AreHolding, held_by, piped_places, piped_signals, piped_takers, CanFill, AreTables};
@@ -206,14 +205,14 @@ fn mark_makers(makers: &mut [u32], wires: &[Wire])
     }
 }
 
-// The machine that holds each register, by the machine in which each signal's driver stands.
+// The machine that holds each register, by the machine in which each signal's driver stands: the hub, if no signal holds it.
 fn holders_of(alloc: Global, one: &Piece, makers: &[u32]) -> Result<Vec<u32>, AllocError>
     requires known { (s r : ℕ) → s < length one.now.signals → driver_at one.now s ≡ Held r → r < length one.now.registers }
     requires few { length one.now.signals < 2 ^ 32 }
     requires once { AreHeldOnce one.now }
-    ensures { IfOk result (λ holders. AreHolding one.now makers.now (length one.now.signals) (replicate (length one.now.registers) (value_at makers.now 0)) holders.items) }
+    ensures { IfOk result (λ holders. AreHolding one.now makers.now (length one.now.signals) (replicate (length one.now.registers) 0) holders.items) }
 {
-    let mut holders = filled_with(alloc, number_at(makers, 0), one.registers().len())?;
+    let mut holders = filled_with(alloc, 0, one.registers().len())?;
     mark_holders(one, makers, &mut holders);
     Ok(holders)
 }

@@ -23,9 +23,9 @@ pub record IsPlainCut (circuit : FlatCircuit) (tree : InstanceTree) (listed : Li
   pub choice : (globals memories : List ℕ) → ((s : ℕ) → Contains globals s ↔ (Makes circuit tree listed (wires_of circuit tree listed) m s ⊎ Takes (wires_of circuit tree listed) m s)) → AllPairs (λ a b. a ≢ b) globals → ((k : ℕ) → Contains memories k ↔ HasMemory tree listed m k) → AllPairs (λ a b. a ≢ b) memories
       → IsChoice circuit globals (signals_of (wires_of circuit tree listed) (channels_to (wires_of circuit tree listed) m)) (givens_of (wires_of circuit tree listed) (channels_from (wires_of circuit tree listed) m)) memories
 
-module _ (circuit : FlatCircuit) (tree : InstanceTree) (listed : Listed) (piped : ℕ → Bool) (direct : Bool) (base : IsBase (hub_of circuit tree listed piped direct)) where
+module _ (circuit : FlatCircuit) (tree : InstanceTree) (listed : Listed) (piped driven : ℕ → Bool) (direct : Bool) (base : IsBase (hub_of circuit tree listed piped driven direct)) where
   abbrev pub the_hub : Hub
-  the_hub = hub_of circuit tree listed piped direct
+  the_hub = hub_of circuit tree listed piped driven direct
 
   -- a field of a memory that the hub has
   pub field-held : (k s : ℕ) → HasMemory tree listed 0 k → Contains (memory_fields circuit k) s → Contains (hub_fields circuit tree listed) s

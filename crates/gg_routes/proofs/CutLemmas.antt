@@ -25,8 +25,8 @@ use Rattle.gg_routes.proofs.SideLemmas.{source-routes, tray-routes}
 use Rattle.gg_cut.proofs.SameLemmas.{routes-same, kept-own}
 
 -- the channels before, of a cut whose units lie apart
-pub base-of : (circuit : FlatCircuit) (tree : InstanceTree) (listed : Listed) (piped : ℕ → Bool) (direct : Bool) → IsWellFormed circuit → IsTree circuit tree → IsScoped circuit tree → AreApart tree listed → AllPairs (λ (v w : Wire). v.signal ≢ w.signal) (wires_of circuit tree listed) → All (AreEnds (machine_count circuit listed)) (wires_of circuit tree listed) → IsBase (hub_of circuit tree listed piped direct)
-base-of circuit tree listed piped direct formed fits scoped apart once ends =
+pub base-of : (circuit : FlatCircuit) (tree : InstanceTree) (listed : Listed) (piped driven : ℕ → Bool) (direct : Bool) → IsWellFormed circuit → IsTree circuit tree → IsScoped circuit tree → AreApart tree listed → AllPairs (λ (v w : Wire). v.signal ≢ w.signal) (wires_of circuit tree listed) → All (AreEnds (machine_count circuit listed)) (wires_of circuit tree listed) → IsBase (hub_of circuit tree listed piped driven direct)
+base-of circuit tree listed piped driven direct formed fits scoped apart once ends =
     record {
       once = once;
       apart = λ i d lt. (ends i d lt).apart;
@@ -34,12 +34,12 @@ base-of circuit tree listed piped direct formed fits scoped apart once ends =
       plain = all-plain circuit tree listed;
     }
 
-module _ (design : Ordered) (listed : Listed) (piped : ℕ → Bool) (direct : Bool) (is : IsDesign design) (keeps : KeepsToTree design.circuit design.tree) (apart : AreApart design.tree listed) (once : AllPairs (λ (v w : Wire). v.signal ≢ w.signal) (wires_of design.circuit design.tree listed)) (ends : All (AreEnds (machine_count design.circuit listed)) (wires_of design.circuit design.tree listed)) where
+module _ (design : Ordered) (listed : Listed) (piped driven : ℕ → Bool) (direct : Bool) (is : IsDesign design) (keeps : KeepsToTree design.circuit design.tree) (apart : AreApart design.tree listed) (once : AllPairs (λ (v w : Wire). v.signal ≢ w.signal) (wires_of design.circuit design.tree listed)) (ends : All (AreEnds (machine_count design.circuit listed)) (wires_of design.circuit design.tree listed)) where
   abbrev hub : Hub
-  hub = hub_of design.circuit design.tree listed piped direct
+  hub = hub_of design.circuit design.tree listed piped driven direct
 
-  pub cut-base : IsBase (hub_of design.circuit design.tree listed piped direct)
-  cut-base = base-of design.circuit design.tree listed piped direct is.formed keeps.fitting keeps.scoped apart once ends
+  pub cut-base : IsBase (hub_of design.circuit design.tree listed piped driven direct)
+  cut-base = base-of design.circuit design.tree listed piped driven direct is.formed keeps.fitting keeps.scoped apart once ends
 
   ends-at : (w : Wire) → Contains (wires_of design.circuit design.tree listed) w → AreEnds (machine_count design.circuit listed) w
   ends-at w h = All-contains (AreEnds (machine_count design.circuit listed)) (wires_of design.circuit design.tree listed) w ends h
@@ -52,7 +52,7 @@ module _ (design : Ordered) (listed : Listed) (piped : ℕ → Bool) (direct : B
       by (Direct x e d v) = subst (λ m. m < machine_count design.circuit listed) (sym (direct-producer hub cut-base w x e v)) (ends-at v.wire v.among).producer
 
   pub are-routes : ((m : ℕ) (globals memories : List ℕ) → m < first_source listed → ((s : ℕ) → Contains globals s ↔ (Makes design.circuit design.tree listed (wires_of design.circuit design.tree listed) m s ⊎ Takes (wires_of design.circuit design.tree listed) m s)) → AllPairs (λ a b. a ≢ b) globals → ((k : ℕ) → Contains memories k ↔ HasMemory design.tree listed m k) → AllPairs (λ a b. a ≢ b) memories → IsChoice design.circuit globals (signals_of (wires_of design.circuit design.tree listed) (channels_to (wires_of design.circuit design.tree listed) m)) (givens_of (wires_of design.circuit design.tree listed) (channels_from (wires_of design.circuit design.tree listed) m)) memories)
-      → AreRoutes design listed (hub_of design.circuit design.tree listed piped direct)
+      → AreRoutes design listed (hub_of design.circuit design.tree listed piped driven direct)
   are-routes plain =
       record {
         once = routes-once hub cut-base;
@@ -63,7 +63,7 @@ module _ (design : Ordered) (listed : Listed) (piped : ℕ → Bool) (direct : B
         no_echo = no-echo hub cut-base;
         same = routes-same hub design.circuit (kept-own hub is.formed) (all-plain design.circuit design.tree listed);
         choice = λ m globals memories low signals once banks memories-once.
-            choice design.circuit design.tree listed piped direct cut-base m globals memories (record { choice = λ all banks'. plain m all banks' low }) signals once banks memories-once;
-        sources = source-routes design.circuit design.tree listed piped direct cut-base;
-        trays = tray-routes design.circuit design.tree listed piped direct cut-base;
+            choice design.circuit design.tree listed piped driven direct cut-base m globals memories (record { choice = λ all banks'. plain m all banks' low }) signals once banks memories-once;
+        sources = source-routes design.circuit design.tree listed piped driven direct cut-base;
+        trays = tray-routes design.circuit design.tree listed piped driven direct cut-base;
       }

@@ -11,7 +11,7 @@ use Rattle.gg_partfile.specs.declared.request.Request.{Request}
 use Rattle.gg_cut.specs.declared.wires.Wire.{Wire}
 use Rattle.gg_cut.specs.Listed.{listed_of}
 use Rattle.gg_cut.specs.Machines.{first_source, first_tray, machine_count}
-use Rattle.gg_cut.specs.Direct.{plan_hub, plan_wires}
+use Rattle.gg_cut.specs.Direct.{plan_hub, plan_routes}
 use Rattle.gg_closed.specs.Apart.{AreFew}
 use Rattle.gg_routes.specs.Routes.{AreRoutes}
 use Rattle.gg_routes.proofs.RouteLemmas.{chosen-out}
@@ -77,7 +77,7 @@ module _ (xs : List ℕ) (a : ℕ) where
 
 module _ (design : Ordered) (request : Request) (are : AreRoutes design (listed_of design.tree request) (plan_hub design.circuit design.tree request)) where
   abbrev wires : List Wire
-  wires = plan_wires design.circuit design.tree request
+  wires = plan_routes design.circuit design.tree request
 
   sources : length design.circuit.ins ≤ length wires
   sources =

@@ -23,4 +23,4 @@ pub mod UnitLemmas
 pub mod NothingLemmas
 pub mod RoutedLemmas
 pub mod AgreeLemmas
-pub mod PipedTables
+pub mod BarredTables

@@ -11,9 +11,9 @@ use Rattle.gg_cut.specs.declared.wires.Wire.{Wire}
 use Rattle.gg_cut.specs.Channels.{wires_of}
 use Rattle.gg_cut.specs.Direct.{Hub, hub_of, named_by, kept, origin, is_number, direct_of, left_by, is_gone, route, routes}
 
-module _ (circuit : FlatCircuit) (tree : InstanceTree) (listed : Listed) (piped : ℕ → Bool) where
+module _ (circuit : FlatCircuit) (tree : InstanceTree) (listed : Listed) (piped driven : ℕ → Bool) where
   abbrev hub : Hub
-  hub = hub_of circuit tree listed piped false
+  hub = hub_of circuit tree listed piped driven false
 
   abbrev wires : List Wire
   wires = wires_of circuit tree listed
@@ -22,7 +22,7 @@ module _ (circuit : FlatCircuit) (tree : InstanceTree) (listed : Listed) (piped 
   none-direct x [] = refl
   none-direct x (w ∷ ws) = none-direct x ws
 
-  pub nothing-gone : (s : ℕ) → is_gone (hub_of circuit tree listed piped false) s ≡ false
+  pub nothing-gone : (s : ℕ) → is_gone (hub_of circuit tree listed piped driven false) s ≡ false
   nothing-gone s = by (origin hub s)
     where
       by : (o : Option ℕ) → left_by hub o ≡ false
@@ -36,5 +36,5 @@ module _ (circuit : FlatCircuit) (tree : InstanceTree) (listed : Listed) (piped 
       by : (b : Bool) → b ≡ false → filter (λ (v : Wire). not (is_gone hub v.signal)) ws ≡ ws → cond (not b) (w ∷ filter (λ (v : Wire). not (is_gone hub v.signal)) ws) (filter (λ (v : Wire). not (is_gone hub v.signal)) ws) ≡ w ∷ ws
       by b e rest = ap (λ c. cond (not c) (w ∷ filter (λ (v : Wire). not (is_gone hub v.signal)) ws) (filter (λ (v : Wire). not (is_gone hub v.signal)) ws)) e ∙ ap (λ l. w ∷ l) rest
 
-  pub plain-routes : routes (hub_of circuit tree listed piped false) ≡ wires_of circuit tree listed
+  pub plain-routes : routes (hub_of circuit tree listed piped driven false) ≡ wires_of circuit tree listed
   plain-routes = ap (map (route hub)) (all-stay wires) ∙ map-same (route hub) (λ w. w) wires (λ w. refl) ∙ map-id wires

@@ -140,16 +140,16 @@ module _ (hub : Hub) (base : IsBase hub) where
 -- ---- what machines have
 
 -- the channels before, of a cut whose units lie apart
-pub plan-base : (design : Ordered) (listed : Listed) (piped : ℕ → Bool) (direct : Bool) → IsDesign design → KeepsToTree design.circuit design.tree → AreApart design.tree listed → IsBase (hub_of design.circuit design.tree listed piped direct)
-plan-base design listed piped direct is keeps apart =
-    base-of design.circuit design.tree listed piped direct is.formed keeps.fitting keeps.scoped apart (pairs-once design.circuit design.tree listed is.formed keeps.fitting keeps.scoped apart) (ends design.circuit design.tree listed keeps.fitting apart)
+pub plan-base : (design : Ordered) (listed : Listed) (piped driven : ℕ → Bool) (direct : Bool) → IsDesign design → KeepsToTree design.circuit design.tree → AreApart design.tree listed → IsBase (hub_of design.circuit design.tree listed piped driven direct)
+plan-base design listed piped driven direct is keeps apart =
+    base-of design.circuit design.tree listed piped driven direct is.formed keeps.fitting keeps.scoped apart (pairs-once design.circuit design.tree listed is.formed keeps.fitting keeps.scoped apart) (ends design.circuit design.tree listed keeps.fitting apart)
 
-module _ (design : Ordered) (listed : Listed) (piped : ℕ → Bool) (direct : Bool) (is : IsDesign design) (keeps : KeepsToTree design.circuit design.tree) (apart : AreApart design.tree listed) (are : AreRoutes design listed (hub_of design.circuit design.tree listed piped direct)) where
+module _ (design : Ordered) (listed : Listed) (piped driven : ℕ → Bool) (direct : Bool) (is : IsDesign design) (keeps : KeepsToTree design.circuit design.tree) (apart : AreApart design.tree listed) (are : AreRoutes design listed (hub_of design.circuit design.tree listed piped driven direct)) where
   abbrev hub : Hub
-  hub = hub_of design.circuit design.tree listed piped direct
+  hub = hub_of design.circuit design.tree listed piped driven direct
 
-  abbrev base : IsBase (hub_of design.circuit design.tree listed piped direct)
-  base = plan-base design listed piped direct is keeps apart
+  abbrev base : IsBase (hub_of design.circuit design.tree listed piped driven direct)
+  base = plan-base design listed piped driven direct is keeps apart
 
   plan-share : (m : ℕ) (globals memories : List ℕ) → ((s : ℕ) → Contains globals s ↔ (MakesBy hub m s ⊎ Takes (routes hub) m s)) → IsAlong design.order globals → ((k : ℕ) → Contains memories k ↔ HasMemory design.tree listed m k) → AllPairs (λ a b. a < b) memories
       → IsPlanShare design listed hub m (channels_to (routes hub) m) (channels_from (routes hub) m) globals memories

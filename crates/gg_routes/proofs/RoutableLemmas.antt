@@ -49,6 +49,6 @@ module _ (design : Ordered) (listed : Listed) (is : IsDesign design) (keeps : Ke
       (can-route wires (slice_index_or shares 0 any) base (are.each 0 any (omega arith)))))))
 
 -- a routing of a design's circuit and tree
-pub routing-at : (design : Ordered) (circuit : FlatCircuit) (tree : InstanceTree) (listed : Listed) (piped : ℕ → Bool) (direct : Bool) (left : List Wire) (gone : List Bool) → circuit ≡ design.circuit → tree ≡ design.tree → IsRouting (hub_of circuit tree listed piped direct) left gone → IsRouting (hub_of design.circuit design.tree listed piped direct) left gone
-routing-at design circuit tree listed piped direct left gone is fits routed =
-    subst (λ (t : InstanceTree). IsRouting (hub_of design.circuit t listed piped direct) left gone) fits (subst (λ (k : FlatCircuit). IsRouting (hub_of k tree listed piped direct) left gone) is routed)
+pub routing-at : (design : Ordered) (circuit : FlatCircuit) (tree : InstanceTree) (listed : Listed) (piped driven : ℕ → Bool) (direct : Bool) (left : List Wire) (gone : List Bool) → circuit ≡ design.circuit → tree ≡ design.tree → IsRouting (hub_of circuit tree listed piped driven direct) left gone → IsRouting (hub_of design.circuit design.tree listed piped driven direct) left gone
+routing-at design circuit tree listed piped driven direct left gone is fits routed =
+    subst (λ (t : InstanceTree). IsRouting (hub_of design.circuit t listed piped driven direct) left gone) fits (subst (λ (k : FlatCircuit). IsRouting (hub_of k tree listed piped driven direct) left gone) is routed)

@@ -103,13 +103,13 @@ module _ (circuit : FlatCircuit) (tree : InstanceTree) (listed : Listed) where
       let low = owner-below circuit tree listed (value_at circuit.outs f.place) in
       omega (arith, is, e, low)
 
-  module _ (piped : ℕ → Bool) (direct : Bool) (base : IsBase (hub_of circuit tree listed piped direct)) where
-    pub source-routes : (p : ℕ) → p < length circuit.ins → GivesInput (routes (hub_of circuit tree listed piped direct)) (first_source listed + p) (value_at circuit.ins p)
+  module _ (piped driven : ℕ → Bool) (direct : Bool) (base : IsBase (hub_of circuit tree listed piped driven direct)) where
+    pub source-routes : (p : ℕ) → p < length circuit.ins → GivesInput (routes (hub_of circuit tree listed piped driven direct)) (first_source listed + p) (value_at circuit.ins p)
     source-routes p lt =
-        source-still (hub_of circuit tree listed piped direct) base (first_source listed + p) (λ e. omega (arith, e)) (wire (value_at circuit.ins p) (first_source listed + p) 0) (source-wire circuit tree listed p lt) refl
+        source-still (hub_of circuit tree listed piped driven direct) base (first_source listed + p) (λ e. omega (arith, e)) (wire (value_at circuit.ins p) (first_source listed + p) 0) (source-wire circuit tree listed p lt) refl
         (λ v h e. source-one p v (ends-of v (kind-of circuit tree listed v h)) e) (λ v h e. source-none p v lt (ends-of v (kind-of circuit tree listed v h)) e)
 
-    pub tray-routes : (p : ℕ) → p < length circuit.outs → TakesOutput (routes (hub_of circuit tree listed piped direct)) (first_tray circuit listed + p) (value_at circuit.outs p)
+    pub tray-routes : (p : ℕ) → p < length circuit.outs → TakesOutput (routes (hub_of circuit tree listed piped driven direct)) (first_tray circuit listed + p) (value_at circuit.outs p)
     tray-routes p lt =
-        tray-still (hub_of circuit tree listed piped direct) base (first_tray circuit listed + p) (λ e. omega (arith, e)) (wire (value_at circuit.outs p) (owner_of circuit tree listed (value_at circuit.outs p)) (first_tray circuit listed + p)) (tray-wire circuit tree listed p lt) refl
+        tray-still (hub_of circuit tree listed piped driven direct) base (first_tray circuit listed + p) (λ e. omega (arith, e)) (wire (value_at circuit.outs p) (owner_of circuit tree listed (value_at circuit.outs p)) (first_tray circuit listed + p)) (tray-wire circuit tree listed p lt) refl
         (λ v h e. tray-one p v (ends-of v (kind-of circuit tree listed v h)) e) (λ v h e. tray-none p v (ends-of v (kind-of circuit tree listed v h)) e)

@@ -87,12 +87,12 @@ AreKnown count table = (s x : ℕ) → entry_at table s ≡ Some x → x < count
 abbrev pub origin_beyond : FlatCircuit → List (Option ℕ) → ℕ → Option ℕ
 origin_beyond circuit origins s = option_and_then (entry_at origins) (copied circuit s)
 
--- the origin of a signal, from those of the signals before it
+-- the origin of a signal, from those of the signals before it; an in-channel that is barred is none
 abbrev pub origin_by : Side → Bool → ℕ → Option ℕ → Option ℕ
-origin_by Other piped s beyond = None
-origin_by Own piped s beyond = beyond
-origin_by Out piped s beyond = None
-origin_by (In producer) piped s beyond = if piped then None else Some s
+origin_by Other barred s beyond = None
+origin_by Own barred s beyond = beyond
+origin_by Out barred s beyond = None
+origin_by (In producer) barred s beyond = if barred then None else Some s
 
 -- the table has the origin of each signal
 pub record AreOrigins (hub : Hub) (origins : List (Option ℕ)) : Type 0 where
@@ -103,7 +103,7 @@ pub record IsSeen (hub : Hub) (circuit : FlatCircuit) (sides : List Side) (marks
   pub is : hub.circuit ≡ circuit
   pub taken : (s : ℕ) → is_taken hub s ≡ is_in (side_at sides s)
   pub own : (s : ℕ) → s < length circuit.signals → is_own hub s ≡ is_inner (side_at sides s)
-  pub piped : (s : ℕ) → hub.piped s ≡ is_marked marks s
+  pub barred : (s : ℕ) → (hub.piped s || hub.driven s) ≡ is_marked marks s
 
 -- ---- direct channels
 

@@ -6,7 +6,8 @@
 //!
 //! - [`routes`] gives the channels that are left, in their order, and tells which signals leave the plan, just as the
 //!   definitions say (`routes`, `is_gone`); [`plan_routes`] gives those of a request;
-//! - [`piped_of`] marks the signals with some names, and [`staying`] gives what stays of the hub's signals;
+//! - [`piped_of`] marks the signals with some names, [`barred_of`] those that are no origins, and [`staying`] gives what stays of
+//!   the hub's signals;
 //! - these channels are good for a network as the channels before are (`channels_routed`, `AreRoutes` in
 //!   `specs/Routes`): no two carry one signal; both signals of a channel have one value in every settled cycle; a machine
 //!   doesn't take what it gives; the hub, a unit and a listed memory make parts of the circuit; a source gives its input on
@@ -16,21 +17,21 @@
 //! what the hub names, and one look at each channel.
 #![tactic(auto)]
 
+mod barred;
 mod gone;
 mod laws;
 mod lists;
 mod names;
 mod origins;
-mod piped;
 mod plan;
 mod routed;
 mod routing;
 mod sides;
 mod straight;
 
+pub use barred::{barred_of, piped_of};
 pub use laws::{
     channels_routed, machines_few, nothing_direct, plan_is_routed, shares_routed, units_still,
 };
-pub use piped::piped_of;
 pub use plan::{plan_routes, staying};
 pub use routing::{Channels, routes};

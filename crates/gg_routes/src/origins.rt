@@ -11,7 +11,7 @@ use gg_flat::{Driver, Node, Op, Piece};
 use std::alloc::{AllocError, Global};
 
 /// The origin of each signal that is an in-channel of the hub or a copy of one. `sides` has what each signal is to the hub, and
-/// `piped` marks the signals whose channels are piped.
+/// `barred` marks the signals that are no origins.
 ///
 /// # Errors
 ///
@@ -21,18 +21,18 @@ pub(crate) fn origins_of(
     piece: &Piece,
     order: &[u32],
     sides: &[Side],
-    piped: &[bool],
+    barred: &[bool],
 ) -> Result<Vec<Option<u32>>, AllocError>
     requires formed { IsWellFormed piece.now }
     requires ordered { IsOrder piece.now order.now }
     requires sides { length sides.now ≡ length piece.now.signals }
-    requires piped { length piped.now ≡ length piece.now.signals }
+    requires barred { length barred.now ≡ length piece.now.signals }
     ensures count { IfOk result (λ origins. length origins.items ≡ length piece.now.signals) }
     ensures known { IfOk result (λ origins. AreKnown (length piece.now.signals) origins.items) }
-    ensures origins { IfOk result (λ origins. (hub : Hub) → IsSeen hub piece.now sides.now piped.now → AreOrigins hub origins.items) }
+    ensures origins { IfOk result (λ origins. (hub : Hub) → IsSeen hub piece.now sides.now barred.now → AreOrigins hub origins.items) }
 {
     let mut origins = nones(alloc, piece.signal_count())?;
-    fill_origins(piece, order, sides, piped, &mut origins);
+    fill_origins(piece, order, sides, barred, &mut origins);
     Ok(origins)
 }
 
@@ -57,22 +57,22 @@ fn fill_origins(
     piece: &Piece,
     order: &[u32],
     sides: &[Side],
-    piped: &[bool],
+    barred: &[bool],
     origins: &mut Vec<Option<u32>>,
 )
     requires formed { IsWellFormed piece.now }
     requires ordered { IsOrder piece.now order.now }
     requires sides { length sides.now ≡ length piece.now.signals }
-    requires piped { length piped.now ≡ length piece.now.signals }
+    requires barred { length barred.now ≡ length piece.now.signals }
     requires count { length origins.old.items ≡ length piece.now.signals }
     requires none { (s : ℕ) → entry_at origins.old.items s ≡ None }
     ensures count { length origins.new.items ≡ length origins.old.items }
     ensures known { AreKnown (length piece.now.signals) origins.new.items }
-    ensures origins { (hub : Hub) → IsSeen hub piece.now sides.now piped.now → AreOrigins hub origins.new.items }
+    ensures origins { (hub : Hub) → IsSeen hub piece.now sides.now barred.now → AreOrigins hub origins.new.items }
 {
     for place in 0..order.len() {
         let signal = order[place];
-        let origin = origin_of(piece, sides, piped, origins, signal);
+        let origin = origin_of(piece, sides, barred, origins, signal);
         origins[signal as usize] = origin;
     }
 }
@@ -81,20 +81,20 @@ fn fill_origins(
 fn origin_of(
     piece: &Piece,
     sides: &[Side],
-    piped: &[bool],
+    barred: &[bool],
     origins: &Vec<Option<u32>>,
     signal: u32,
 ) -> Option<u32>
     requires formed { IsWellFormed piece.now }
     requires known { signal < length piece.now.signals }
     requires sides { length sides.now ≡ length piece.now.signals }
-    requires piped { length piped.now ≡ length piece.now.signals }
+    requires barred { length barred.now ≡ length piece.now.signals }
     requires count { length origins.now.items ≡ length piece.now.signals }
-    ensures { result ≡ origin_by (side_at sides.now signal) (is_marked piped.now signal) signal (origin_beyond piece.now origins.now.items signal) }
+    ensures { result ≡ origin_by (side_at sides.now signal) (is_marked barred.now signal) signal (origin_beyond piece.now origins.now.items signal) }
 {
     match sides[signal as usize] {
         Side::In(_) => {
-            if piped[signal as usize] {
+            if barred[signal as usize] {
                 None
             } else {
                 Some(signal)

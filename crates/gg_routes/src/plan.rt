@@ -3,16 +3,16 @@ ghost use Rattle.std.specs.Prelude.{◌≡◌, ℕ, ◌<◌, ◌&&◌, not, leng
 ghost use Rattle.gg_moved.specs.KeepsToTree.{KeepsToTree};
 ghost use Rattle.gg_order.specs.Marks.{is_marked};
 ghost use Rattle.gg_cut.specs.Channels.{wires_of};
-ghost use Rattle.gg_cut.specs.Direct.{plan_hub, plan_wires, is_gone};
+ghost use Rattle.gg_cut.specs.Direct.{plan_hub, plan_routes, is_gone};
 ghost use Rattle.gg_cut.specs.Listed.{listed_of};
 ghost use Rattle.gg_closed.specs.Apart.{AreApart};
 ghost use Rattle.gg_split.specs.IsShare.{AreShares};
 ghost use Rattle.gg_routes.specs.Routes.{AreRoutes};
 ghost use Rattle.gg_routes.specs.Share.{is_past_hub, past_hub, stays_by};
 
+use crate::barred::barred_of;
 use crate::laws::channels_routed;
 use crate::lists::push_if;
-use crate::piped::piped_of;
 use crate::routing::{Channels, routes};
 use gg_cut::{Listed, Wire, marks_of};
 use gg_order::Design;
@@ -38,14 +38,14 @@ pub fn plan_routes(
     requires apart { AreApart design.now.tree listed.now }
     requires wires { split.now.wires ≡ wires_of design.now.circuit design.now.tree listed.now }
     requires shares { AreShares design.now listed.now split.now.shares }
-    ensures wires { IfOk result (λ found. found.wires ≡ plan_wires design.now.circuit design.now.tree request.now) }
+    ensures wires { IfOk result (λ found. found.wires ≡ plan_routes design.now.circuit design.now.tree request.now) }
     ensures gone { IfOk result (λ found. (s : ℕ) → s < length design.now.circuit.signals → is_marked found.gone s ≡ is_gone (plan_hub design.now.circuit design.now.tree request.now) s) }
     ensures sound { IfOk result (λ found. AreRoutes design.now listed.now (plan_hub design.now.circuit design.now.tree request.now)) }
 {
     channels_routed();
     let _ = design.order();
-    let piped = piped_of(alloc, design.piece(), request.pipe.as_slice())?;
-    let channels = routes(alloc, design, listed, split, &piped, request.direct)?;
+    let barred = barred_of(alloc, design.piece(), request)?;
+    let channels = routes(alloc, design, listed, split, &barred, request.direct)?;
     Ok(channels)
 }
 

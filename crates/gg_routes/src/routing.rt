@@ -1,5 +1,5 @@
 //! The channels of a cut with direct channels.
-ghost use Rattle.std.specs.Prelude.{◌≡◌, ℕ, ◌<◌, length, IfOk};
+ghost use Rattle.std.specs.Prelude.{◌≡◌, ℕ, ◌<◌, false, length, IfOk};
 ghost use Rattle.gg_moved.specs.KeepsToTree.{KeepsToTree};
 ghost use Rattle.gg_order.specs.Marks.{is_marked};
 ghost use Rattle.gg_cut.specs.Channels.{wires_of};
@@ -40,8 +40,8 @@ impl Drop for Channels {
     }
 }
 
-/// The channels of a cut and what leaves. `split` has the channels before and what each machine has; `piped` marks the signals whose
-/// channels have a token in them at the start. If `direct` is false, all channels stay as they are.
+/// The channels of a cut and what leaves. `split` has the channels before and what each machine has; `barred` marks the signals that
+/// are no origins, whatever gives them. If `direct` is false, all channels stay as they are.
 ///
 /// # Errors
 ///
@@ -51,17 +51,17 @@ pub fn routes(
     design: &Design,
     listed: &Listed,
     split: &Split,
-    piped: &[bool],
+    barred: &[bool],
     direct: bool,
 ) -> Result<Channels, AllocError>
     requires keeps { KeepsToTree design.now.circuit design.now.tree }
     requires apart { AreApart design.now.tree listed.now }
     requires wires { split.now.wires ≡ wires_of design.now.circuit design.now.tree listed.now }
     requires shares { AreShares design.now listed.now split.now.shares }
-    requires piped { length piped.now ≡ length design.now.circuit.signals }
-    ensures wires { IfOk result (λ found. found.wires ≡ routes (hub_of design.now.circuit design.now.tree listed.now (is_marked piped.now) direct)) }
-    ensures gone { IfOk result (λ found. (s : ℕ) → s < length design.now.circuit.signals → is_marked found.gone s ≡ is_gone (hub_of design.now.circuit design.now.tree listed.now (is_marked piped.now) direct) s) }
-    ensures sound { AreRoutes design.now listed.now (hub_of design.now.circuit design.now.tree listed.now (is_marked piped.now) direct) }
+    requires barred { length barred.now ≡ length design.now.circuit.signals }
+    ensures wires { IfOk result (λ found. found.wires ≡ routes (hub_of design.now.circuit design.now.tree listed.now (is_marked barred.now) (λ s. false) direct)) }
+    ensures gone { IfOk result (λ found. (s : ℕ) → s < length design.now.circuit.signals → is_marked found.gone s ≡ is_gone (hub_of design.now.circuit design.now.tree listed.now (is_marked barred.now) (λ s. false) direct) s) }
+    ensures sound { AreRoutes design.now listed.now (hub_of design.now.circuit design.now.tree listed.now (is_marked barred.now) (λ s. false) direct) }
 {
     channels_routed();
     channels_once();
@@ -75,7 +75,7 @@ pub fn routes(
         split.wires.as_slice(),
         hub.globals.as_slice(),
         hub.memories.as_slice(),
-        piped,
+        barred,
         direct,
     )?;
     Ok(channels)
@@ -91,17 +91,17 @@ fn routes_of(
     wires: &[Wire],
     globals: &[u32],
     memories: &[u32],
-    piped: &[bool],
+    barred: &[bool],
     direct: bool,
 ) -> Result<Channels, AllocError>
     requires can { CanRoute piece.now tree.now order.now listed.now wires.now globals.now memories.now }
-    requires piped { length piped.now ≡ length piece.now.signals }
-    ensures { IfOk result (λ found. IsRouting (hub_of piece.now tree.now listed.now (is_marked piped.now) direct) found.wires found.gone) }
+    requires barred { length barred.now ≡ length piece.now.signals }
+    ensures { IfOk result (λ found. IsRouting (hub_of piece.now tree.now listed.now (is_marked barred.now) (λ s. false) direct) found.wires found.gone) }
 {
     let count = piece.signal_count();
     let sides = sides_of(alloc, count, wires, globals)?;
     let made = made_of(alloc, &sides, globals)?;
-    let origins = origins_of(alloc, piece, order, &sides, piped)?;
+    let origins = origins_of(alloc, piece, order, &sides, barred)?;
     let mut names = names_of(alloc, piece, &made, memories)?;
     push_stops(&mut names, tree)?;
     let named = marks_of(alloc, count, &names)?;

@@ -1,6 +1,6 @@
 use Rattle.std.proofs.Common.{◌<◌, sym, ◌∙◌, subst}
-use Rattle.gg_routes.proofs.PipedTables.{mark-found, mark-missing}
-use Rattle.gg_routes.proofs.piped.mark_named.Goals as goal
+use Rattle.gg_routes.proofs.BarredTables.{mark-found, mark-missing}
+use Rattle.gg_routes.proofs.barred.mark_named.Goals as goal
 
 pub returns-in-Some-clause-marks : goal.returns-in-Some-clause-marks
 returns-in-Some-clause-marks c = λ s lt.
