@@ -14,18 +14,21 @@ use Rattle.gg_order.specs.Design.{Ordered}
 use Rattle.gg_part.specs.Part.{IsPart, IsFrom}
 use Rattle.gg_part.specs.declared.part.Part.{Part}
 use Rattle.gg_partfile.specs.declared.request.Request.{Request}
-use Rattle.gg_cut.specs.Machines.{first_source, machine_count}
+use Rattle.gg_cut.specs.Machines.{first_source}
+use Rattle.gg_cut.specs.Bridges.{Models}
 use Rattle.gg_cut.specs.Channels.{capacity_of}
-use Rattle.gg_cut.specs.Direct.{Hub, routes, is_piped, plan_hub, plan_wires}
+use Rattle.gg_cut.specs.Direct.{Hub, is_piped, plan_hub, plan_routes}
+use Rattle.gg_cut.specs.Seated.{machine_end, plan_bridges, plan_wires}
 use Rattle.gg_cut.specs.Listed.{listed_of}
-use Rattle.gg_cut.specs.Plan.{AreNeedsOf, IsBody, IsChannel, IsCutPart, IsMachine, IsNeed, IsPlan, NeedsIn, channels_from, channels_to, signals_of, wire_at}
+use Rattle.gg_cut.specs.Plan.{AreNeedsOf, IsBody, IsChannel, IsCutPart, IsMachine, IsNeed, IsPlan, NeedsIn, channels_from, channels_to, givens_of, signals_of, wire_at}
 use Rattle.gg_cut.specs.declared.listed.Listed.{Listed}
 use Rattle.gg_cut.specs.declared.plan.Body.{Body}
-use Rattle.gg_cut.specs.declared.plan.Body.TheVariants.{Cut, Memory, Source, Tray}
+use Rattle.gg_cut.specs.declared.plan.Body.TheVariants.{Cut, Memory, Source, Tray, Bridge}
 use Rattle.gg_cut.specs.declared.plan.Channel.{Channel}
 use Rattle.gg_cut.specs.declared.plan.Machine.{Machine}
 use Rattle.gg_cut.specs.declared.plan.Plan.{Plan}
 use Rattle.gg_cut.specs.declared.wires.Wire.{Wire}
+use Rattle.gg_cut_seats.proofs.LowLemmas.{givens-alike, low-from, low-to, signals-alike}
 use Rattle.gg_check.specs.CheckText.{AreChannelNeeds, IsPathInside, NeedsChannel}
 use Rattle.gg_check.proofs.NeedLemmas.{Gets, path-back, path-out}
 
@@ -73,10 +76,25 @@ piece-gets whole piece globals held memories taken clocks is ins = record {
       (found.place, subst (λ x. driver_at piece x ≡ Input found.place) (once-apart globals 0 is.once (value_at piece.ins found.place) a at.0 lt found.is) at.1);
 }
 
-module _ (design : Ordered) (listed : Listed) (hub : Hub) (m : ℕ) (part : Part) (cut : IsCutPart design listed hub m part) where
-  abbrev wires : List Wire
-  wires = routes hub
+-- a machine's part takes and gives signals by these channels
+record IsPartOn (design : Ordered) (wires : List Wire) (m : ℕ) (part : Part) : Type 0 where
+  pub is : IsPart design.circuit part.piece part.globals part.held part.memories part.clocks
+  pub ins : map (value_at part.globals) part.piece.ins ≡ signals_of wires (channels_to wires m)
+  pub outs : map (value_at part.globals) part.piece.outs ≡ givens_of wires (channels_from wires m)
 
+-- a part of the cut does by the plan's channels, since its machine is before those whose places bridges take
+part-on : (design : Ordered) (request : Request) (m : ℕ) (part : Part) → m < first_source (listed_of design.tree request) → IsCutPart design (listed_of design.tree request) (plan_hub design.circuit design.tree request) m part → IsPartOn design (plan_wires design.circuit design.tree request) m part
+part-on design request m part low cut =
+    let b = plan_bridges design.circuit design.tree request in
+    let base = plan_routes design.circuit design.tree request in
+    let wires = plan_wires design.circuit design.tree request in
+    record {
+      is = cut.is;
+      ins = cut.ins ∙ sym (signals-alike b base (channels_to base m)) ∙ ap (signals_of wires) (sym (low-to b base m low));
+      outs = cut.outs ∙ sym (givens-alike b base (channels_from base m)) ∙ ap (givens_of wires) (sym (low-from b base m low));
+    }
+
+module _ (design : Ordered) (listed : Listed) (wires : List Wire) (m : ℕ) (part : Part) (cut : IsPartOn design wires m part) where
   -- the in-signal at a place is the signal of the channel at that place
   in-signal : (place : ℕ) → place < length part.piece.ins → value_at part.globals (value_at part.piece.ins place) ≡ (wire_at wires (value_at (channels_to wires m) place)).signal
   in-signal place lt =
@@ -158,42 +176,57 @@ none-needed : (circuit : FlatCircuit) (listed : Listed) (wires : List Wire) (c :
 none-needed circuit listed wires c needs none past d =
     (λ h. let e = ap (λ (l : List ℕ). length l) none in absurd (omega (arith, h.1, e)), λ h. absurd (omega (arith, h.made, past)))
 
-body-needs : (design : Ordered) (listed : Listed) (hub : Hub) (body : Body) (channels : List ℕ) (c : ℕ) (needs : List ℕ)
-    → IsBody design listed hub (wire_at (routes hub) c).producer body → channels ≡ channels_to (routes hub) (wire_at (routes hub) c).producer → c < length (routes hub)
-    → NeedsIn body channels (wire_at (routes hub) c).given needs → (d : ℕ) → Contains needs d ↔ NeedsChannel design.circuit listed (routes hub) c d
-body-needs design listed hub (Cut part) channels c needs is same lt are =
-    part-needs design listed hub (wire_at (routes hub) c).producer part is.1 channels c needs same (omega (arith, is.0)) lt refl are
-body-needs design listed hub (Memory part) channels c needs is same lt are =
-    part-needs design listed hub (wire_at (routes hub) c).producer part is.2 channels c needs same is.1 lt refl are
-body-needs design listed hub (Source place) channels c needs is same lt are = none-needed design.circuit listed (routes hub) c needs are (omega (arith, is.1))
-body-needs design listed hub Tray channels c needs is same lt are = none-needed design.circuit listed (routes hub) c needs are (omega (arith, is))
+module _ (design : Ordered) (request : Request) (models : Models) where
+  abbrev the_listed : Listed
+  the_listed = listed_of design.tree request
+
+  abbrev the_hub : Hub
+  the_hub = plan_hub design.circuit design.tree request
+
+  abbrev the_wires : List Wire
+  the_wires = plan_wires design.circuit design.tree request
+
+  abbrev giver : ℕ → ℕ
+  giver c = (wire_at the_wires c).producer
+
+  body-needs : (body : Body) (channels : List ℕ) (c : ℕ) (needs : List ℕ) → IsBody design request models the_listed the_hub (giver c) body → channels ≡ channels_to the_wires (giver c) → c < length the_wires
+      → NeedsIn body channels (wire_at the_wires c).given needs → (d : ℕ) → Contains needs d ↔ NeedsChannel design.circuit the_listed the_wires c d
+  body-needs (Cut part) channels c needs is same lt are =
+      let low : giver c < first_source the_listed = let first = is.0 in omega (arith, first) in
+      part-needs design the_listed the_wires (giver c) part (part-on design request (giver c) part low is.1) channels c needs same low lt refl are
+  body-needs (Memory part) channels c needs is same lt are = part-needs design the_listed the_wires (giver c) part (part-on design request (giver c) part is.1 is.2) channels c needs same is.1 lt refl are
+  body-needs (Source place) channels c needs is same lt are = none-needed design.circuit the_listed the_wires c needs are (let at = is.1 in omega (arith, at))
+  body-needs Tray channels c needs is same lt are = none-needed design.circuit the_listed the_wires c needs are (let past = is.0 in omega (arith, past))
+  body-needs (Bridge bridge) channels c needs is same lt are = none-needed design.circuit the_listed the_wires c needs are (let past = is.0 in omega (arith, past))
 
 abbrev pub no_machine : Machine
 no_machine = record { name = []; host = 0; body = Tray; ins = []; outs = [] }
 
-needs-by : (design : Ordered) (request : Request) (listed : Listed) (hub : Hub) (plan : Plan) (c : ℕ) (needs : List ℕ) → length plan.machines ≡ machine_count design.circuit listed
-    → ((m : ℕ) → m < length plan.machines → IsMachine design request listed hub m (slice_index_or plan.machines m no_machine))
-    → c < length (routes hub) → NeedsIn (slice_index_or plan.machines (wire_at (routes hub) c).producer no_machine).body (slice_index_or plan.machines (wire_at (routes hub) c).producer no_machine).ins (wire_at (routes hub) c).given needs
-    → ((wire_at (routes hub) c).producer < length plan.machines) ⊎ (length plan.machines ≤ (wire_at (routes hub) c).producer)
-    → (d : ℕ) → Contains needs d ↔ NeedsChannel design.circuit listed (routes hub) c d
-needs-by design request listed hub plan c needs total machines lt are (inl below) =
-    let machine = machines (wire_at (routes hub) c).producer below in
-    body-needs design listed hub (slice_index_or plan.machines (wire_at (routes hub) c).producer no_machine).body (slice_index_or plan.machines (wire_at (routes hub) c).producer no_machine).ins c needs machine.body machine.ins lt are
-needs-by design request listed hub plan c needs total machines lt are (inr past) =
-    none-needed design.circuit listed (routes hub) c needs
-    (subst (λ (x : Machine). NeedsIn x.body x.ins (wire_at (routes hub) c).given needs) (get_or_past plan.machines (wire_at (routes hub) c).producer no_machine past) are)
+needs-by : (design : Ordered) (request : Request) (models : Models) (plan : Plan) (c : ℕ) (needs : List ℕ) → length plan.machines ≡ machine_end (plan_bridges design.circuit design.tree request)
+    → ((m : ℕ) → m < length plan.machines → IsMachine design request models (listed_of design.tree request) (plan_hub design.circuit design.tree request) m (slice_index_or plan.machines m no_machine))
+    → c < length (plan_wires design.circuit design.tree request)
+    → NeedsIn (slice_index_or plan.machines (wire_at (plan_wires design.circuit design.tree request) c).producer no_machine).body (slice_index_or plan.machines (wire_at (plan_wires design.circuit design.tree request) c).producer no_machine).ins (wire_at (plan_wires design.circuit design.tree request) c).given needs
+    → ((wire_at (plan_wires design.circuit design.tree request) c).producer < length plan.machines) ⊎ (length plan.machines ≤ (wire_at (plan_wires design.circuit design.tree request) c).producer)
+    → (d : ℕ) → Contains needs d ↔ NeedsChannel design.circuit (listed_of design.tree request) (plan_wires design.circuit design.tree request) c d
+needs-by design request models plan c needs total machines lt are (inl below) =
+    let m = (wire_at (plan_wires design.circuit design.tree request) c).producer in
+    let machine = machines m below in
+    body-needs design request models (slice_index_or plan.machines m no_machine).body (slice_index_or plan.machines m no_machine).ins c needs machine.body machine.ins lt are
+needs-by design request models plan c needs total machines lt are (inr past) =
+    let wires = plan_wires design.circuit design.tree request in
+    none-needed design.circuit (listed_of design.tree request) wires c needs
+    (subst (λ (x : Machine). NeedsIn x.body x.ins (wire_at wires c).given needs) (get_or_past plan.machines (wire_at wires c).producer no_machine past) are)
     (omega (arith, past, total))
 
 -- the needs of a channel of the plan are its needs in the circuit
-pub channel-needs : (design : Ordered) (request : Request) (default : ℕ) (plan : Plan) → IsPlan design request default plan → (c : ℕ) (any : Channel)
+pub channel-needs : (design : Ordered) (request : Request) (models : Models) (default : ℕ) (plan : Plan) → IsPlan design request models default plan → (c : ℕ) (any : Channel)
     → c < length (plan_wires design.circuit design.tree request)
     → AreChannelNeeds design.circuit (listed_of design.tree request) (plan_wires design.circuit design.tree request) c (slice_index_or plan.channels c any).needs
-channel-needs design request default plan is c any lt =
-    let listed = listed_of design.tree request in
+channel-needs design request models default plan is c any lt =
     let wires = plan_wires design.circuit design.tree request in
     let channel : IsChannel design (capacity_of request.capacity default) (is_piped design.circuit request) plan.machines (wire_at wires c) (slice_index_or plan.channels c any) = is.channel c any (omega (arith, lt, is.channel_total)) in
     let m = (wire_at wires c).producer in
     record {
       ascending = channel.ascending;
-      each = needs-by design request listed (plan_hub design.circuit design.tree request) plan c (slice_index_or plan.channels c any).needs is.machine_total (λ k lt. is.machine k no_machine lt) lt (channel.needs no_machine) (cases_lt m (length plan.machines));
+      each = needs-by design request models plan c (slice_index_or plan.channels c any).needs is.machine_total (λ k lt. is.machine k no_machine lt) lt (channel.needs no_machine) (cases_lt m (length plan.machines));
     }

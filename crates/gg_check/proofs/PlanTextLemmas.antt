@@ -1,8 +1,8 @@
 -- The text of a plan is the text of the cut.
 use Rattle.std.proofs.Common.{◌≡◌, ℕ, suc, ◌+◌, ◌<◌, List, [], ◌∷◌, ◌++◌, length, map, refl, sym, ap, ◌∙◌, subst, arith}
-use Rattle.std.specs.Prelude.{codes, flat_map, Contains, slice_index_or}
+use Rattle.std.specs.Prelude.{flat_map, Contains, slice_index_or}
 use Rattle.std.specs.List.{range_with_len}
-use Rattle.std.proofs.lemmas.List.{get_or-map, length-append, length-map}
+use Rattle.std.proofs.lemmas.List.{get_or-map, length-map}
 use Rattle.gg_bits.specs.Shape.{Shape, shape}
 use Rattle.gg_flat.specs.Circuit.{signal_shapes}
 use Rattle.gg_flat.specs.Line.{shape_at}
@@ -10,17 +10,18 @@ use Rattle.gg_flat.specs.Tree.{path_at}
 use Rattle.gg_flat.proofs.ListLemmas.{some-item}
 use Rattle.gg_order.specs.Design.{Ordered}
 use Rattle.gg_partfile.specs.declared.request.Request.{Request}
-use Rattle.gg_cut.specs.Machines.{machine_count}
+use Rattle.gg_cut.specs.Bridges.{Models}
 use Rattle.gg_cut.specs.Channels.{capacity_of}
-use Rattle.gg_cut.specs.Direct.{is_piped, plan_wires}
-use Rattle.gg_cut.specs.Listed.{listed_of, instance_of}
-use Rattle.gg_cut.specs.Plan.{IsChannel, IsPlan, machine_names, tray_names, wire_at}
+use Rattle.gg_cut.specs.Direct.{is_piped}
+use Rattle.gg_cut.specs.Seated.{machine_end, plan_bridges, plan_wires}
+use Rattle.gg_cut.specs.Listed.{listed_of}
+use Rattle.gg_cut.specs.Plan.{IsChannel, IsPlan, machine_names, wire_at}
 use Rattle.gg_cut.specs.declared.listed.Listed.{Listed}
 use Rattle.gg_cut.specs.declared.plan.Channel.{Channel}
 use Rattle.gg_cut.specs.declared.plan.Machine.{Machine}
 use Rattle.gg_cut.specs.declared.plan.Plan.{Plan}
 use Rattle.gg_cut.specs.declared.wires.Wire.{Wire}
-use Rattle.gg_cut.proofs.TrayLemmas.{trays-count}
+use Rattle.gg_cut_seats.proofs.NameLemmas.{names-count}
 use Rattle.gg_check.specs.CheckText.{AreChannelNeeds, IsTextOfCut, channel_line, channel_name, channel_text, machine_line, machine_text}
 use Rattle.gg_check.specs.PlanText.{channel_names, line_of_channel, line_of_machine, plan_text}
 use Rattle.gg_check.specs.PlanText as plans
@@ -51,38 +52,20 @@ map-on f g (x ∷ xs) h =
     let head : f x ≡ g x = h x (0, omega arith, refl) in
     let rest : map f xs ≡ map g xs = map-on f g xs (λ d has. h d (suc has.0, omega (arith, has.1), has.2)) in cc
 
-module _ (design : Ordered) (request : Request) (default : ℕ) (plan : Plan) (is : IsPlan design request default plan) where
+module _ (design : Ordered) (request : Request) (models : Models) (default : ℕ) (plan : Plan) (is : IsPlan design request models default plan) where
   abbrev pub the_listed : Listed
   the_listed = listed_of design.tree request
 
   abbrev pub the_wires : List Wire
   the_wires = plan_wires design.circuit design.tree request
 
-  names-count : length plan.machines ≡ length (machine_names design request the_listed)
-  names-count =
-      let units = length-map request.units (instance_of design.tree) in
-      let memories = map (path_at design.tree.memory_paths) the_listed.memories in
-      let ins = map (λ s. codes "in:" ++ path_at design.circuit.paths s) design.circuit.ins in
-      let outs = tray_names design in
-      let a = length-append (request.units ++ memories ++ ins) outs in
-      let b = length-append (request.units ++ memories) ins in
-      let d = length-append request.units memories in
-      omega (
-        arith,
-        is.machine_total,
-        units,
-        a,
-        b,
-        d,
-        length-map the_listed.memories (path_at design.tree.memory_paths),
-        length-map design.circuit.ins (λ s. codes "in:" ++ path_at design.circuit.paths s),
-        trays-count design,
-      )
+  names-all : length plan.machines ≡ length (machine_names design request the_listed)
+  names-all = is.machine_total ∙ sym (names-count design request)
 
   names-are : plans.machine_names plan.machines ≡ machine_names design request the_listed
   names-are =
       let count = length-map plan.machines (λ (x : Machine). x.name) in
-      list-same (plans.machine_names plan.machines) (machine_names design request the_listed) (count ∙ names-count)
+      list-same (plans.machine_names plan.machines) (machine_names design request the_listed) (count ∙ names-all)
       (λ k lt. let below : k < length plan.machines = omega (arith, lt, count) in get_or-map (λ (x : Machine). x.name) plan.machines k no_machine [] below ∙ (is.machine k no_machine below).name)
 
   abbrev pub the_needs : List (List ℕ)
@@ -108,7 +91,7 @@ module _ (design : Ordered) (request : Request) (default : ℕ) (plan : Plan) (i
       let channel = slice_index_or plan.channels c any in
       let w = wire_at the_wires c in
       let at : IsChannel design (capacity_of request.capacity default) (is_piped design.circuit request) plan.machines w channel = is.channel c any lt in
-      let needs = channel-needs design request default plan is c any (omega (arith, lt, is.channel_total)) in
+      let needs = channel-needs design request models default plan is c any (omega (arith, lt, is.channel_total)) in
       let mine = plans.machine_names plan.machines in
       let names = machine_names design request the_listed in
       let name = channel_name design.circuit the_wires c in
@@ -131,14 +114,14 @@ module _ (design : Ordered) (request : Request) (default : ℕ) (plan : Plan) (i
     are = λ c lt.
         let below : c < length plan.channels = omega (arith, lt, is.channel_total) in
         let any = some-item plan.channels c below in
-        let needs = channel-needs design request default plan is c any lt in
+        let needs = channel-needs design request models default plan is c any lt in
         let e = needs-at c any below in
         subst (λ l. AreChannelNeeds design.circuit the_listed the_wires c l) (sym e) needs;
     is =
         ap (λ l. l ++ flat_map (line_of_channel (plans.machine_names plan.machines) (channel_names plan.channels)) plan.channels)
         (flat-range line_of_machine (machine_text design request the_listed) plan.machines 0 (λ k any lt. machine-line-is k any lt ∙ ap (machine_text design request the_listed) (let e : k ≡ 0 + k = omega arith in e))
         ∙ ap (λ n. flat_map (machine_text design request the_listed) (range_with_len 0 n)) is.machine_total)
-        ∙ ap (λ l. flat_map (machine_text design request the_listed) (range_with_len 0 (machine_count design.circuit the_listed)) ++ l)
+        ∙ ap (λ l. flat_map (machine_text design request the_listed) (range_with_len 0 (machine_end (plan_bridges design.circuit design.tree request))) ++ l)
         (flat-range (line_of_channel (plans.machine_names plan.machines) (channel_names plan.channels)) (λ c. channel_text design request default the_listed the_wires c (slice_index_or the_needs c [])) plan.channels 0
         (λ k any lt. channel-line-is k any lt ∙ ap (λ c. channel_text design request default the_listed the_wires c (slice_index_or the_needs c [])) (let e : k ≡ 0 + k = omega arith in e))
         ∙ ap (λ n. flat_map (λ c. channel_text design request default the_listed the_wires c (slice_index_or the_needs c [])) (range_with_len 0 n)) is.channel_total);

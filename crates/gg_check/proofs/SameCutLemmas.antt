@@ -7,12 +7,12 @@ use Rattle.gg_flat.specs.Tree.{InstanceTree}
 use Rattle.gg_flat.proofs.ListLemmas.{Contains-cases}
 use Rattle.gg_order.specs.Design.{Ordered}
 use Rattle.gg_partfile.specs.declared.request.Request.{Request}
-use Rattle.gg_cut.specs.Machines.{machine_count}
-use Rattle.gg_cut.specs.Direct.{plan_wires}
+use Rattle.gg_cut.specs.Bridges.{Models}
+use Rattle.gg_cut.specs.Seated.{machine_end, plan_bridges, plan_wires}
 use Rattle.gg_cut.specs.Listed.{listed_of}
 use Rattle.gg_cut.specs.declared.listed.Listed.{Listed}
 use Rattle.gg_cut.specs.declared.wires.Wire.{Wire}
-use Rattle.gg_cut.specs.Fault.{first_fault}
+use Rattle.gg_cut.specs.Fault.{first_fault, first_fault_with}
 use Rattle.gg_check.specs.Alike.{AreAlike}
 use Rattle.gg_check.specs.CheckText.{AreChannelNeeds, IsCutText, IsTextOfCut, channel_text, machine_text}
 
@@ -62,7 +62,7 @@ lines-same f g a (suc n) h =
 cut-text-once : (design : Ordered) (request : Request) (default : ℕ) (listed : Listed) (wires : List Wire) (text other : List ℕ)
     → IsCutText design request default listed wires text → IsCutText design request default listed wires other → text ≡ other
 cut-text-once design request default listed wires text other a b =
-    let machines = flat_map (machine_text design request listed) (range_with_len 0 (machine_count design.circuit listed)) in
+    let machines = flat_map (machine_text design request listed) (range_with_len 0 (machine_end (plan_bridges design.circuit design.tree request))) in
     a.is
     ∙ ap (λ l. machines ++ l)
     (lines-same (λ c. channel_text design request default listed wires c (slice_index_or a.needs c [])) (λ c. channel_text design request default listed wires c (slice_index_or b.needs c [])) 0 (length wires)
@@ -91,3 +91,6 @@ text-once one other request default text others s a b =
 -- for all designs that are alike, a request has the same first fault
 pub fault-same : (one other : Ordered) → AreAlike one other → (request : Request) → first_fault one request ≡ first_fault other request
 fault-same one other s request = ap (λ (design : Ordered). first_fault design request) (alike-is one other s)
+
+pub whole-fault-same : (one other : Ordered) → AreAlike one other → (models : Models) (request : Request) → first_fault_with one models request ≡ first_fault_with other models request
+whole-fault-same one other s models request = ap (λ (design : Ordered). first_fault_with design models request) (alike-is one other s)

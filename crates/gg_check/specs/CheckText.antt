@@ -12,9 +12,10 @@ use Rattle.gg_flat.specs.Reads.{Reads}
 use Rattle.gg_flat.specs.Tree.{path_at}
 use Rattle.gg_order.specs.Design.{Ordered}
 use Rattle.gg_partfile.specs.declared.request.Request.{Request}
-use Rattle.gg_cut.specs.Machines.{first_source, machine_count}
+use Rattle.gg_cut.specs.Machines.{first_source}
 use Rattle.gg_cut.specs.Channels.{capacity_of}
-use Rattle.gg_cut.specs.Direct.{is_piped, plan_wires}
+use Rattle.gg_cut.specs.Direct.{is_piped}
+use Rattle.gg_cut.specs.Seated.{machine_end, plan_bridges, plan_wires}
 use Rattle.gg_cut.specs.Hosts.{host_of}
 use Rattle.gg_cut.specs.Listed.{listed_of}
 use Rattle.gg_cut.specs.Plan.{channels_to, machine_names, signals_of, wire_at}
@@ -29,7 +30,7 @@ abbrev pub IsPathInside : FlatCircuit → List ℕ → ℕ → List ℕ → ℕ 
 IsPathInside circuit taken a [] b = a ≡ b
 IsPathInside circuit taken a (next ∷ path) b = (¬ Contains taken a) × Reads circuit a next × IsPathInside circuit taken next path b
 
--- Channel c needs channel d: the machine that gives c isn't a source and takes d, and the signal by which it gives c reaches d's
+-- Channel c needs channel d: the machine that gives c is no source and no bridge, it takes d, and the signal by which it gives c reaches d's
 -- signal by reads inside that machine.
 pub record NeedsChannel (circuit : FlatCircuit) (listed : Listed) (wires : List Wire) (c d : ℕ) : Type 0 where
   pub made : (wire_at wires c).producer < first_source listed
@@ -100,7 +101,7 @@ pub record IsCutText (design : Ordered) (request : Request) (default : ℕ) (lis
   pub needs : List (List ℕ)
   pub count : length needs ≡ length wires
   pub are : (c : ℕ) → c < length wires → AreChannelNeeds design.circuit listed wires c (slice_index_or needs c [])
-  pub is : text ≡ flat_map (machine_text design request listed) (range_with_len 0 (machine_count design.circuit listed))
+  pub is : text ≡ flat_map (machine_text design request listed) (range_with_len 0 (machine_end (plan_bridges design.circuit design.tree request)))
       ++ flat_map (λ c. channel_text design request default listed wires c (slice_index_or needs c [])) (range_with_len 0 (length wires))
 
 -- the text of a request's cut

@@ -1,5 +1,5 @@
 -- The network of a plan has the layout of its cut.
-use Rattle.std.proofs.Common.{◌≡◌, ℕ, ◌+◌, ◌<◌, ◌≤◌, List, [], length, map, get_or, Bool, true, false, refl, sym, ◌∙◌, ap, subst, inl, inr, ◌⊎◌, arith}
+use Rattle.std.proofs.Common.{◌≡◌, ℕ, ◌+◌, ◌<◌, ◌≤◌, List, [], length, map, get_or, Bool, true, false, None, refl, sym, ◌∙◌, ap, subst, inl, inr, ◌⊎◌, arith}
 use Rattle.std.specs.Prelude.{Contains, ◌&&◌, if◌then◌else◌, is_some, nat_le, nat_lt}
 use Rattle.std.specs.List.{range_with_len}
 use Rattle.std.proofs.lemmas.Bool.{lt-leb, le-ltb, le-leb, lt-ltb}
@@ -13,18 +13,20 @@ use Rattle.gg_order.specs.Design.{Ordered}
 use Rattle.gg_partfile.specs.declared.request.Request.{Request}
 use Rattle.gg_cut.specs.declared.listed.Listed.{Listed}
 use Rattle.gg_cut.specs.declared.plan.Body.{Body}
-use Rattle.gg_cut.specs.declared.plan.Body.TheVariants.{Cut, Memory, Source, Tray}
+use Rattle.gg_cut.specs.declared.plan.Body.TheVariants.{Cut, Memory, Source, Tray, Bridge}
 use Rattle.gg_cut.specs.declared.plan.Channel.{Channel}
 use Rattle.gg_cut.specs.declared.plan.Plan.{Plan}
 use Rattle.gg_cut.specs.declared.wires.Wire.{Wire}
 use Rattle.gg_cut.specs.Listed.{listed_of}
-use Rattle.gg_cut.specs.Machines.{first_memory, first_source, machine_count}
-use Rattle.gg_cut.specs.Direct.{Hub, plan_hub, plan_wires}
+use Rattle.gg_cut.specs.Machines.{first_memory, first_source}
+use Rattle.gg_cut.specs.Bridges.{Models}
+use Rattle.gg_cut.specs.Fault.{first_fault}
+use Rattle.gg_cut.specs.Direct.{Hub, plan_hub}
+use Rattle.gg_cut.specs.Seated.{machine_end, plan_bridges, plan_wires}
 use Rattle.gg_cut.specs.Plan.{wire_at, channels_to, channels_from, IsBody}
 use Rattle.gg_closed.specs.Apart.{AreApart, AreFew}
 use Rattle.gg_closed.proofs.FaultlessLemmas.{faultless-apart, faultless-few}
 use Rattle.gg_routes.specs.Routes.{AreRoutes}
-use Rattle.gg_routes.proofs.RoutedLemmas.{plan-routed}
 use Rattle.gg_check.specs.CheckText.{AreChannelNeeds}
 use Rattle.gg_check.proofs.PlanLemmas.{channel-needs}
 use Rattle.gg_node.specs.Machine.{Machine, machine_at, needs_at}
@@ -34,6 +36,7 @@ use Rattle.gg_net.specs.Network.{Frame, Kind, kind_of, kind_at, no_kind, wire_at
 use Rattle.gg_marking.specs.Marking.{Link, Turn, Layout, link_at, turns_at}
 use Rattle.gg_marking.specs.Fits.{AreTaken, AreTurnsOf, HasLayout, IsInOrder, IsLinkOf, places_of}
 use Rattle.gg_sound.specs.Built.{machine_in, nameless, place_in, first_token, wires_of_plan, AreBuilt, IsBuilt, IsGiven, plan_frame}
+use Rattle.gg_sound.proofs.GivenLemmas.{faultless, routed}
 use Rattle.gg_sound.proofs.LinkLemmas.{AreLinks, length-wires, linked}
 use Rattle.gg_sound.proofs.PlanLemmas.{links}
 use Rattle.gg_sound.proofs.FitLemmas.{kind-is}
@@ -66,7 +69,7 @@ has-token false token = refl
 no-turns : (frame : Frame) (m : ℕ) (turns : List Turn) → turns ≡ [] → AreTurnsOf frame m [] turns
 no-turns frame m turns none = record { count = ap length none; each = λ i port turn lt. absurd (omega (arith, lt)) }
 
-module _ (design : Ordered) (request : Request) (default : ℕ) (plan : Plan) (columns : List (List ℕ)) (n : ℕ) (start : Start) (rows : List (List ℕ)) (token : ℕ → ℕ) (starts : Body → Start) (machines : List Machine) (given : IsGiven design request default plan columns n start rows) (built : AreBuilt plan starts columns machines) where
+module _ (design : Ordered) (request : Request) (models : Models) (default : ℕ) (plan : Plan) (columns : List (List ℕ)) (n : ℕ) (start : Start) (rows : List (List ℕ)) (token : ℕ → ℕ) (starts : Body → Start) (machines : List Machine) (given : IsGiven design request models default plan columns n start rows) (built : AreBuilt plan starts columns machines) where
   abbrev listed : Listed
   listed = listed_of design.tree request
 
@@ -79,17 +82,24 @@ module _ (design : Ordered) (request : Request) (default : ℕ) (plan : Plan) (c
   abbrev frame : Frame
   frame = plan_frame token plan machines n
 
+  -- how many machines there are
+  abbrev total : ℕ
+  total = machine_end (plan_bridges design.circuit design.tree request)
+
+  none : first_fault design request ≡ None
+  none = faultless design request models given.can
+
   apart : AreApart design.tree listed
-  apart = faultless-apart design request given.faultless given.keeps.fitting
+  apart = faultless-apart design request none given.can.keeps.fitting
 
   few : AreFew design.circuit design.tree request
-  few = faultless-few design request given.faultless
+  few = faultless-few design request none
 
-  routed : AreRoutes design listed hub
-  routed = plan-routed design request given.design_is given.keeps given.faultless
+  is-routed : AreRoutes design listed hub
+  is-routed = routed design request models given.can
 
   are : AreLinks plan wires
-  are = links design request default plan columns n start rows token starts machines given built
+  are = links design request models default plan columns n start rows token starts machines given built
 
   -- ---- the layout
 
@@ -106,17 +116,17 @@ module _ (design : Ordered) (request : Request) (default : ℕ) (plan : Plan) (c
   layout =
       record {
         links = map link_of plan.channels;
-        port_counts = map ports_at (range_with_len 0 (machine_count design.circuit (listed_of design.tree request)));
-        turns = map turns_of (range_with_len 0 (machine_count design.circuit (listed_of design.tree request)));
+        port_counts = map ports_at (range_with_len 0 (machine_end (plan_bridges design.circuit design.tree request)));
+        turns = map turns_of (range_with_len 0 (machine_end (plan_bridges design.circuit design.tree request)));
         end = n;
       }
 
   link-is : (c : ℕ) (any : Channel) → c < length plan.channels → link_at layout c ≡ link_of (get_or plan.channels c any)
   link-is c any lt = get_or-map link_of plan.channels c any (record { producer = 0; consumer = 0; capacity = 0; needs = []; piped = false }) lt
 
-  turns-are : (m : ℕ) → m < machine_count design.circuit listed → turns_at layout m ≡ turns_of m
+  turns-are : (m : ℕ) → m < total → turns_at layout m ≡ turns_of m
   turns-are m lt =
-      let count = machine_count design.circuit listed in
+      let count = total in
       get_or-map turns_of (range_with_len 0 count) m 0 [] (omega (arith, lt, length-range_with_len 0 count))
       ∙ ap turns_of (get_or-range_with_len 0 count m 0 lt ∙ (let same : 0 + m ≡ m = omega arith in same))
 
@@ -126,7 +136,7 @@ module _ (design : Ordered) (request : Request) (default : ℕ) (plan : Plan) (c
   link-needs c lt =
       let known : c < length plan.channels = omega (arith, lt, given.planned.channel_total) in
       let any = some-item plan.channels c known in
-      subst (λ (link : Link). AreChannelNeeds design.circuit listed wires c link.needs) (sym (link-is c any known)) (channel-needs design request default plan given.planned c any lt)
+      subst (λ (link : Link). AreChannelNeeds design.circuit listed wires c link.needs) (sym (link-is c any known)) (channel-needs design request models default plan given.planned c any lt)
 
   cut-link : (c : ℕ) → c < length wires → IsChannelLink design request default listed wires c (link_at layout c)
   cut-link c lt =
@@ -166,7 +176,7 @@ module _ (design : Ordered) (request : Request) (default : ℕ) (plan : Plan) (c
         let any = some-item plan.channels c known in
         let machine = given.planned.machine p nameless below in
         subst (λ (link : Link). HasOutNeeds wires p c link.needs (kind_of (machine_at machines p))) (sym (link-is c any known))
-        (out-needs design request given.design_is given.keeps given.faultless p c (record { known = lt; producer = refl }) columns (length (machine_in plan p).outs) (starts (machine_in plan p).body) (machine_in plan p).body (machine_at machines p) (machine_in plan p).ins (get_or plan.channels c any).needs machine.body (built.each p below) machine.ins ((given.planned.channel c any known).needs nameless))
+        (out-needs design request models given.can p c (record { known = lt; producer = refl }) columns (length (machine_in plan p).outs) (starts (machine_in plan p).body) (machine_in plan p).body (machine_at machines p) (machine_in plan p).ins (get_or plan.channels c any).needs machine.body (built.each p below) machine.ins ((given.planned.channel c any known).needs nameless))
 
     -- the place of a needed channel is its place among the channels that the machine takes
     place-is : (d : ℕ) → Contains needs d → place d ≡ place_in (channels_to wires p) d
@@ -218,7 +228,7 @@ module _ (design : Ordered) (request : Request) (default : ℕ) (plan : Plan) (c
 
   -- ---- ports and turns
 
-  module _ (m : ℕ) (lt : m < machine_count design.circuit listed) where
+  module _ (m : ℕ) (lt : m < total) where
     otherwise : {A : Type 0} (x y : A) → (m < first_memory listed) ⊎ (first_source listed ≤ m) → (if is_memory listed m then x else y) ≡ y
     otherwise x y (inl low) = either-false (nat_le (first_memory listed) m) (nat_lt m (first_source listed)) x y (inl (lt-leb (first_memory listed) m low))
     otherwise x y (inr high) = either-false (nat_le (first_memory listed) m) (nat_lt m (first_source listed)) x y (inr (le-ltb m (first_source listed) high))
@@ -232,17 +242,20 @@ module _ (design : Ordered) (request : Request) (default : ℕ) (plan : Plan) (c
     no-ports : (m < first_memory listed) ⊎ (first_source listed ≤ m) → ports_at m ≡ 0
     no-ports = otherwise (port_count design.circuit (memory_of design.tree listed m)) 0
 
-    body-ports : (outs : ℕ) (own : Start) (body : Body) (machine : Machine) → IsBody design listed hub m body → IsBuilt columns outs own body machine → ports_at m ≡ (kind_of machine).port_count
+    body-ports : (outs : ℕ) (own : Start) (body : Body) (machine : Machine) → IsBody design request models listed hub m body → IsBuilt columns outs own body machine → ports_at m ≡ (kind_of machine).port_count
     body-ports outs own (Cut part) machine body unit = subst (λ (t : Machine). ports_at m ≡ (kind_of t).port_count) (sym unit.is) (no-ports (inl body.0))
     body-ports outs own (Memory part) machine body stands =
-        let outer = memory-part design request m part given.design_is given.keeps apart routed body.0 body.1 body.2 few in
+        let outer = memory-part design request m part given.can.design_is given.can.keeps apart is-routed body.0 body.1 body.2 few in
         let inner = sole stands.alone.piece.memories stands.is_memory.one in
         subst (λ (t : Machine). ports_at m ≡ (kind_of t).port_count) (sym stands.is)
         (of-memory (port_count design.circuit (memory_of design.tree listed m)) 0 body.0 body.1
-        ∙ memory-ports design request m part given.design_is given.keeps given.faultless body.0 body.1 body.2 own machine stands outer.0 inner.0 outer.1 inner.1)
+        ∙ memory-ports design request m part given.can.design_is given.can.keeps none body.0 body.1 body.2 own machine stands outer.0 inner.0 outer.1 inner.1)
     body-ports outs own (Source place) machine body is = subst (λ (t : Machine). ports_at m ≡ (kind_of t).port_count) (sym is) (no-ports (inr (omega (arith, body.1))))
     body-ports outs own Tray machine body is =
-        let low : first_source listed ≤ m = omega (arith, body) in
+        let low : first_source listed ≤ m = omega (arith, body.0) in
+        subst (λ (t : Machine). ports_at m ≡ (kind_of t).port_count) (sym is) (no-ports (inr low))
+    body-ports outs own (Bridge bridge) machine body is =
+        let low : first_source listed ≤ m = omega (arith, body.0) in
         subst (λ (t : Machine). ports_at m ≡ (kind_of t).port_count) (sym is) (no-ports (inr low))
 
     port-count : ports_at m ≡ (kind_at frame.kinds m).port_count
@@ -251,18 +264,21 @@ module _ (design : Ordered) (request : Request) (default : ℕ) (plan : Plan) (c
         subst (λ k. ports_at m ≡ k.port_count) (sym (kind-is machines m (omega (arith, below, built.count))))
         (body-ports (length (machine_in plan m).outs) (starts (machine_in plan m).body) (machine_in plan m).body (machine_at machines m) (given.planned.machine m nameless below).body (built.each m below))
 
-    body-turns : (outs : ℕ) (own : Start) (body : Body) (machine : Machine) → IsBody design listed hub m body → IsBuilt columns outs own body machine → AreTurnsOf frame m (kind_of machine).ports (turns_of m)
+    body-turns : (outs : ℕ) (own : Start) (body : Body) (machine : Machine) → IsBody design request models listed hub m body → IsBuilt columns outs own body machine → AreTurnsOf frame m (kind_of machine).ports (turns_of m)
     body-turns outs own (Cut part) machine body unit = subst (λ (t : Machine). AreTurnsOf frame m (kind_of t).ports (turns_of m)) (sym unit.is) (no-turns frame m (turns_of m) (not-memory (inl body.0)))
     body-turns outs own (Memory part) machine body stands =
-        let outer = memory-part design request m part given.design_is given.keeps apart routed body.0 body.1 body.2 few in
+        let outer = memory-part design request m part given.can.design_is given.can.keeps apart is-routed body.0 body.1 body.2 few in
         let inner = sole stands.alone.piece.memories stands.is_memory.one in
-        let are_turns = memory-turns design request m part given.design_is given.keeps given.faultless body.0 body.1 body.2 own machine stands outer.0 inner.0 outer.1 inner.1 token plan are frame refl in
+        let are_turns = memory-turns design request m part given.can.design_is given.can.keeps none body.0 body.1 body.2 own machine stands outer.0 inner.0 outer.1 inner.1 token plan are frame refl in
         let same = of-memory (memory_turns design.circuit wires (memory_of design.tree listed m)) [] body.0 body.1 in
         subst (λ (t : Machine). AreTurnsOf frame m (kind_of t).ports (turns_of m)) (sym stands.is)
         (subst (λ (l : List Turn). AreTurnsOf frame m (ports_of stands.alone.piece.memories) l) (sym same) are_turns)
     body-turns outs own (Source place) machine body is = subst (λ (t : Machine). AreTurnsOf frame m (kind_of t).ports (turns_of m)) (sym is) (no-turns frame m (turns_of m) (not-memory (inr (omega (arith, body.1)))))
     body-turns outs own Tray machine body is =
-        let low : first_source listed ≤ m = omega (arith, body) in
+        let low : first_source listed ≤ m = omega (arith, body.0) in
+        subst (λ (t : Machine). AreTurnsOf frame m (kind_of t).ports (turns_of m)) (sym is) (no-turns frame m (turns_of m) (not-memory (inr low)))
+    body-turns outs own (Bridge bridge) machine body is =
+        let low : first_source listed ≤ m = omega (arith, body.0) in
         subst (λ (t : Machine). AreTurnsOf frame m (kind_of t).ports (turns_of m)) (sym is) (no-turns frame m (turns_of m) (not-memory (inr low)))
 
     net-turns : AreTurnsOf frame m (kind_at frame.kinds m).ports (turns_at layout m)
@@ -274,7 +290,7 @@ module _ (design : Ordered) (request : Request) (default : ℕ) (plan : Plan) (c
 
   net-ports : layout.port_counts ≡ map (λ (kind : Kind). kind.port_count) frame.kinds
   net-ports =
-      let count = machine_count design.circuit listed in
+      let count = total in
       let numbers = length-map (range_with_len 0 count) ports_at in
       let range = length-range_with_len 0 count in
       let kinds = length-map machines kind_of in
@@ -289,7 +305,7 @@ module _ (design : Ordered) (request : Request) (default : ℕ) (plan : Plan) (c
 
   pub of-network : HasLayout frame layout
   of-network =
-      let count = machine_count design.circuit listed in
+      let count = total in
       let kinds = length-map machines kind_of in
       let joints = length-wires token plan wires are in
       record {
@@ -304,11 +320,11 @@ module _ (design : Ordered) (request : Request) (default : ℕ) (plan : Plan) (c
   pub in-order : IsInOrder frame
   in-order = record { ins = joints-in-order token plan wires are; outs = outs-in-order token plan wires are }
 
-pub plan-layout : (design : Ordered) (request : Request) (default : ℕ) (plan : Plan) (columns : List (List ℕ)) (n : ℕ) (start : Start) (rows : List (List ℕ)) (token : ℕ → ℕ) (starts : Body → Start) (machines : List Machine) → IsGiven design request default plan columns n start rows → AreBuilt plan starts columns machines
+pub plan-layout : (design : Ordered) (request : Request) (models : Models) (default : ℕ) (plan : Plan) (columns : List (List ℕ)) (n : ℕ) (start : Start) (rows : List (List ℕ)) (token : ℕ → ℕ) (starts : Body → Start) (machines : List Machine) → IsGiven design request models default plan columns n start rows → AreBuilt plan starts columns machines
     → (layout : Layout) × (IsLayoutOf design request default n layout × HasLayout (plan_frame token plan machines n) layout)
-plan-layout design request default plan columns n start rows token starts machines given built =
-    (layout design request default plan columns n start rows token starts machines given built, (of-cut design request default plan columns n start rows token starts machines given built, of-network design request default plan columns n start rows token starts machines given built))
+plan-layout design request models default plan columns n start rows token starts machines given built =
+    (layout design request models default plan columns n start rows token starts machines given built, (of-cut design request models default plan columns n start rows token starts machines given built, of-network design request models default plan columns n start rows token starts machines given built))
 
-pub plan-in-order : (design : Ordered) (request : Request) (default : ℕ) (plan : Plan) (columns : List (List ℕ)) (n : ℕ) (start : Start) (rows : List (List ℕ)) (token : ℕ → ℕ) (starts : Body → Start) (machines : List Machine) → IsGiven design request default plan columns n start rows → AreBuilt plan starts columns machines
+pub plan-in-order : (design : Ordered) (request : Request) (models : Models) (default : ℕ) (plan : Plan) (columns : List (List ℕ)) (n : ℕ) (start : Start) (rows : List (List ℕ)) (token : ℕ → ℕ) (starts : Body → Start) (machines : List Machine) → IsGiven design request models default plan columns n start rows → AreBuilt plan starts columns machines
     → IsInOrder (plan_frame token plan machines n)
-plan-in-order design request default plan columns n start rows token starts machines given built = in-order design request default plan columns n start rows token starts machines given built
+plan-in-order design request models default plan columns n start rows token starts machines given built = in-order design request models default plan columns n start rows token starts machines given built

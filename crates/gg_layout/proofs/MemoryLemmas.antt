@@ -29,8 +29,11 @@ use Rattle.gg_cut.specs.Machines.{first_memory, first_source, first_tray}
 use Rattle.gg_cut.specs.Channels.{wire, flattened, numbered, field_wires, port_wires, reader_wires, source_wires, tray_wires, wires_of, writer_wires}
 use Rattle.gg_cut.specs.Listed.{listed_of}
 use Rattle.gg_cut.specs.Fault.{first_fault}
-use Rattle.gg_cut.specs.Direct.{Hub, is_gone, route, plan_hub, plan_wires}
-use Rattle.gg_cut.specs.Plan.{wire_at, channels_to, IsCutPart}
+use Rattle.gg_cut.specs.Direct.{Hub, is_gone, route, plan_hub, plan_routes}
+use Rattle.gg_cut.specs.Seated.{Bridges, plan_bridges, plan_wires, seat_of, seated_wire}
+use Rattle.gg_cut.specs.Plan.{wire_at, channels_to, signals_of, IsCutPart}
+use Rattle.gg_cut_seats.proofs.LowLemmas.{signals-alike}
+use Rattle.gg_closed.proofs.ListLemmas.{AllPairs-map}
 use Rattle.gg_closed.specs.Apart.{AreApart}
 use Rattle.gg_closed.proofs.KindLemmas.{outside_memory}
 use Rattle.gg_closed.proofs.FaultlessLemmas.{faultless-apart}
@@ -46,6 +49,7 @@ use Rattle.gg_sound.specs.Built.{IsMemoryOf, place_in, wires_of_plan}
 use Rattle.gg_sound.proofs.NumberLemmas.{numbers-once, place-back}
 use Rattle.gg_sound.proofs.LinkLemmas.{AreLinks}
 use Rattle.gg_sound.proofs.ListedLemmas.{at-in, taken-at}
+use Rattle.gg_sound.proofs.SeatLemmas.{IsSeatOf, low-seat}
 use Rattle.gg_sound.proofs.SideLemmas.{link-one}
 use Rattle.gg_sound.proofs.PortLemmas.{IsFitPort, ports-fit}
 use Rattle.gg_sound.proofs.FitLemmas.{ins-count}
@@ -88,8 +92,21 @@ module _ (design : Ordered) (request : Request) (m : ℕ) (part : Part) (is : Is
   base : IsBase hub
   base = routed-base design request is keeps faultless
 
+  -- the channels between the machines of the cut, and the machine among them
+  abbrev cut_wires : List Wire
+  cut_wires = plan_routes design.circuit design.tree request
+
+  abbrev bridges : Bridges
+  bridges = plan_bridges design.circuit design.tree request
+
+  seat : IsSeatOf design request m m
+  seat = low-seat design request routed m high
+
   wires-once : AllPairs (λ (v w : Wire). v.signal ≢ w.signal) wires
-  wires-once = routed.once
+  wires-once = AllPairs-map (λ (v w : Wire). v.signal ≢ w.signal) (seated_wire bridges) cut_wires routed.once
+
+  cut-ins : map (value_at part.globals) part.piece.ins ≡ map (λ c. (wire_at wires c).signal) (channels_to wires m)
+  cut-ins = cut.ins ∙ sym (ap (signals_of wires) seat.into ∙ signals-alike bridges cut_wires (channels_to cut_wires m))
 
   -- ---- fields
 
@@ -97,7 +114,7 @@ module _ (design : Ordered) (request : Request) (m : ℕ) (part : Part) (is : Is
   in-count = sym (length-map piece.ins (value_at stands.alone.globals)) ∙ ap length stands.ins
 
   channel-count : length part.piece.ins ≡ length (channels_to wires m)
-  channel-count = ins-count design listed hub m part cut
+  channel-count = ins-count design listed hub m part cut ∙ sym (ap length seat.into)
 
   -- field x of the memory is in-signal x of the part
   in-at : (x : ℕ) → x < length piece.ins → value_at stands.alone.globals x ≡ value_at part.piece.ins x
@@ -111,7 +128,7 @@ module _ (design : Ordered) (request : Request) (m : ℕ) (part : Part) (is : Is
       let inside : x < length part.piece.ins = omega (arith, lt, in-count) in
       ap (value_at part.globals) (in-at x lt)
       ∙ sym (get_or-map (value_at part.globals) part.piece.ins x 0 0 inside)
-      ∙ ap (λ (l : List ℕ). value_at l x) cut.ins
+      ∙ ap (λ (l : List ℕ). value_at l x) cut-ins
       ∙ get_or-map (λ c. (wire_at wires c).signal) (channels_to wires m) x 0 0 (omega (arith, inside, channel-count))
 
   -- the channel of a field is at the in with the field's number
@@ -264,8 +281,8 @@ module _ (design : Ordered) (request : Request) (m : ℕ) (part : Part) (is : Is
       abbrev to_enable : Wire
       to_enable = route (plan_hub design.circuit design.tree request) enable
 
-      before : IsBefore to_address to_enable wires
-      before =
+      cut-before : IsBefore to_address to_enable cut_wires
+      cut-before =
           let all = wires_of circuit tree listed in
           let b = at-base in
           let inside = b.within in
@@ -273,6 +290,9 @@ module _ (design : Ordered) (request : Request) (m : ℕ) (part : Part) (is : Is
           let one = stays address (b.first, lower, b.is_first address) refl in
           let other = stays enable (b.second, inside, b.is_second enable) refl in
           map-before address enable (route hub) (filter (λ w. not (is_gone hub w.signal)) all) (filter-before address enable (λ w. not (is_gone hub w.signal)) all one other b)
+
+      before : IsBefore (seated_wire bridges to_address) (seated_wire bridges to_enable) wires
+      before = map-before to_address to_enable (seated_wire bridges) cut_wires cut-before
 
       less : reader.addr < reader.en
       less =
@@ -283,7 +303,8 @@ module _ (design : Ordered) (request : Request) (m : ℕ) (part : Part) (is : Is
           let inside = before.within in
           let apart = before.less in
           let lower : c < length wires = omega (arith, apart, inside) in
-          let up = places-up wires m c d apart inside (ap (λ (w : Wire). w.consumer) one ∙ route-consumer hub base address ∙ self-is) (ap (λ (w : Wire). w.consumer) other ∙ route-consumer hub base enable ∙ self-is) in
+          let up = places-up wires m c d apart inside (ap (λ (w : Wire). w.consumer) one ∙ ap (seat_of bridges) (route-consumer hub base address ∙ self-is) ∙ seat.seat)
+          (ap (λ (w : Wire). w.consumer) other ∙ ap (seat_of bridges) (route-consumer hub base enable ∙ self-is) ∙ seat.seat) in
           let first = field-place reader.addr c looks.0 lower (ap (λ (w : Wire). w.signal) one ∙ route-signal hub base address) in
           let second = field-place reader.en d looks.1 inside (ap (λ (w : Wire). w.signal) other ∙ route-signal hub base enable) in
           omega (arith, up, first, second)

@@ -27,7 +27,7 @@ use Rattle.gg_cut.specs.declared.listed.Listed.{Listed}
 use Rattle.gg_cut.specs.declared.wires.Wire.{Wire}
 use Rattle.gg_cut.specs.Listed.{listed_of}
 use Rattle.gg_cut.specs.Channels.{wire, wires_of}
-use Rattle.gg_cut.specs.Direct.{plan_wires}
+use Rattle.gg_cut.specs.Seated.{plan_wires}
 use Rattle.gg_cut.proofs.WorkedPair.{input, output}
 use Rattle.gg_check.specs.CheckText.{AreChannelNeeds, IsPathInside, NeedsChannel}
 use Rattle.gg_marking.specs.Marking.{Link, Turn, Layout, link_at}

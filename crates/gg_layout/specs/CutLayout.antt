@@ -13,9 +13,10 @@ use Rattle.gg_partfile.specs.declared.request.Request.{Request}
 use Rattle.gg_cut.specs.declared.listed.Listed.{Listed}
 use Rattle.gg_cut.specs.declared.wires.Wire.{Wire}
 use Rattle.gg_cut.specs.Listed.{first_place, listed_of}
-use Rattle.gg_cut.specs.Machines.{first_memory, is_memory, machine_count}
+use Rattle.gg_cut.specs.Machines.{first_memory, is_memory}
 use Rattle.gg_cut.specs.Channels.{capacity_of}
-use Rattle.gg_cut.specs.Direct.{is_piped, plan_wires}
+use Rattle.gg_cut.specs.Direct.{is_piped}
+use Rattle.gg_cut.specs.Seated.{machine_end, plan_bridges, plan_wires}
 use Rattle.gg_cut.specs.Plan.{wire_at}
 use Rattle.gg_check.specs.CheckText.{AreChannelNeeds, channel_name}
 use Rattle.gg_node.specs.Machine.{Port}
@@ -67,8 +68,8 @@ machine_ports circuit tree listed m = if is_memory listed m then port_count circ
 pub record IsLayoutBy (design : Ordered) (request : Request) (default n : ℕ) (listed : Listed) (wires : List Wire) (layout : Layout) : Type 0 where
   pub channels : length layout.links ≡ length wires
   pub link : (c : ℕ) → c < length wires → IsChannelLink design request default listed wires c (link_at layout c)
-  pub ports : layout.port_counts ≡ map (machine_ports design.circuit design.tree listed) (range_with_len 0 (machine_count design.circuit listed))
-  pub turns : layout.turns ≡ map (machine_turns design.circuit design.tree listed wires) (range_with_len 0 (machine_count design.circuit listed))
+  pub ports : layout.port_counts ≡ map (machine_ports design.circuit design.tree listed) (range_with_len 0 (machine_end (plan_bridges design.circuit design.tree request)))
+  pub turns : layout.turns ≡ map (machine_turns design.circuit design.tree listed wires) (range_with_len 0 (machine_end (plan_bridges design.circuit design.tree request)))
   pub end : layout.end ≡ n
 
 -- the layout of the cut of a design and a request for n cycles; channels that the request doesn't name have the default

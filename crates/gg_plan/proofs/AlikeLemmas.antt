@@ -9,14 +9,14 @@ use Rattle.gg_part.specs.declared.part.Clocking.{Clocking}
 use Rattle.gg_partfile.specs.declared.request.Request.{Request}
 use Rattle.gg_cut.specs.declared.listed.Listed.{Listed}
 use Rattle.gg_cut.specs.declared.plan.Body.{Body}
-use Rattle.gg_cut.specs.declared.plan.Body.TheVariants.{Cut, Memory, Source, Tray}
+use Rattle.gg_cut.specs.declared.plan.Body.TheVariants.{Cut, Memory, Source, Tray, Bridge}
 use Rattle.gg_cut.specs.declared.plan.Machine.{Machine}
 use Rattle.gg_cut.specs.Direct.{Hub}
 use Rattle.gg_cut.specs.Alike.{IsAlike, AreAlike}
 use Rattle.gg_cut.specs.Fault.{first_fault}
 use Rattle.gg_cut.specs.Hosts.{leader}
 use Rattle.gg_cut.specs.Machines.{machine_count}
-use Rattle.gg_cut.specs.Plan.{IsBody, IsMachine}
+use Rattle.gg_cut.specs.Plan.{IsCutBody, IsCutMachine}
 use Rattle.gg_plan.specs.Made.{HasAscending, IsTimedUnit, IsMadeBody, AreMachinesTo, AreMachines}
 use Rattle.gg_plan.proofs.HostLemmas.{leader-below}
 use Rattle.gg_plan.proofs.LeaderLemmas.{leaders-first, one-host}
@@ -42,21 +42,26 @@ bodies-back (Cut part) (Cut other) is = alike-back part.piece other.piece is
 bodies-back (Cut part) (Memory other) is = absurd is
 bodies-back (Cut part) (Source place) is = absurd is
 bodies-back (Cut part) Tray is = absurd is
+bodies-back (Cut part) (Bridge other) is = absurd is
 bodies-back (Memory part) other is = absurd is
 bodies-back (Source place) other is = absurd is
 bodies-back Tray other is = absurd is
+bodies-back (Bridge bridge) other is = absurd is
 
 bodies-on : (one two three : Body) → AreAlike one two → AreAlike two three → AreAlike one three
 bodies-on (Cut a) (Cut b) (Cut c) x y = alike-on a.piece b.piece c.piece x y
 bodies-on (Cut a) (Cut b) (Memory c) x y = absurd y
 bodies-on (Cut a) (Cut b) (Source place) x y = absurd y
 bodies-on (Cut a) (Cut b) Tray x y = absurd y
+bodies-on (Cut a) (Cut b) (Bridge c) x y = absurd y
 bodies-on (Cut a) (Memory b) three x y = absurd x
 bodies-on (Cut a) (Source place) three x y = absurd x
 bodies-on (Cut a) Tray three x y = absurd x
+bodies-on (Cut a) (Bridge b) three x y = absurd x
 bodies-on (Memory a) two three x y = absurd x
 bodies-on (Source place) two three x y = absurd x
 bodies-on Tray two three x y = absurd x
+bodies-on (Bridge a) two three x y = absurd x
 
 -- ---- one machine more
 
@@ -64,11 +69,11 @@ module _ (design : Ordered) (request : Request) (listed : Listed) (hub : Hub) (c
   pub machines-none : (machines : List Machine) → machines ≡ [] → AreMachinesTo design request listed hub clocking 0 machines
   machines-none machines is = record { counted = ap length is; each = λ m any lt. absurd (omega (arith, lt)); ascend = λ m any lt. absurd (omega (arith, lt)); timed = λ m any lt. absurd (omega (arith, lt)); alike = λ m any other lt. absurd (omega (arith, lt)) }
 
-  pub machines-more : (old new : List Machine) (n : ℕ) (machine : Machine) (body : Body) → AreMachinesTo design request listed hub clocking n old → IsMachine design request listed hub n machine → machine.body ≡ body → IsMadeBody design request listed hub clocking old n body → new ≡ old ++ machine ∷ [] → AreMachinesTo design request listed hub clocking (n + 1) new
+  pub machines-more : (old new : List Machine) (n : ℕ) (machine : Machine) (body : Body) → AreMachinesTo design request listed hub clocking n old → IsCutMachine design request listed hub n machine → machine.body ≡ body → IsMadeBody design request listed hub clocking old n body → new ≡ old ++ machine ∷ [] → AreMachinesTo design request listed hub clocking (n + 1) new
   machines-more old new n machine body are here same made is =
       record {
         counted = ap length is ∙ length_push old machine ∙ ap (λ k. k + 1) are.counted;
-        each = λ m any lt. below_more (λ k. IsMachine design request listed hub k (get_or new k any)) n (λ k low. subst (IsMachine design request listed hub k) (sym (kept k any low)) (are.each k any low)) (subst (IsMachine design request listed hub n) (sym (last any)) here) m lt;
+        each = λ m any lt. below_more (λ k. IsCutMachine design request listed hub k (get_or new k any)) n (λ k low. subst (IsCutMachine design request listed hub k) (sym (kept k any low)) (are.each k any low)) (subst (IsCutMachine design request listed hub n) (sym (last any)) here) m lt;
         ascend = λ m any lt. below_more (λ k. HasAscending (get_or new k any).body) n (λ k low. subst (λ (x : Machine). HasAscending x.body) (sym (kept k any low)) (are.ascend k any low)) (subst (λ (x : Machine). HasAscending x.body) (sym (last any)) (subst HasAscending (sym same) made.ascend)) m lt;
         timed = λ m any lt. below_more (λ k. IsTimedUnit listed clocking k (get_or new k any).body) n (λ k low. subst (λ (x : Machine). IsTimedUnit listed clocking k x.body) (sym (kept k any low)) (are.timed k any low)) (subst (λ (x : Machine). IsTimedUnit listed clocking n x.body) (sym (last any)) (subst (IsTimedUnit listed clocking n) (sym same) made.timed)) m lt;
         alike = λ m any other lt. below_more (λ k. leader request.units request.share k ≢ k → AreAlike (get_or new (leader request.units request.share k) any).body (get_or new k other).body) n (before any other) (at-last any other) m lt;
@@ -95,7 +100,7 @@ module _ (design : Ordered) (request : Request) (listed : Listed) (hub : Hub) (c
           (subst (AreAlike (get_or old (leader request.units request.share n) any).body) (sym same) (made.alike any differ)))
 
   -- what a machine does that is the first of its host
-  pub own-made : {E : Type 0} (machines : List Machine) (m : ℕ) (result : Result Body E) → leader request.units request.share m ≡ m → IfOk result (λ body. IsBody design listed hub m body) → IfOk result (λ body. HasAscending body) → IfOk result (λ body. IsTimedUnit listed clocking m body) → IfOk result (λ body. IsMadeBody design request listed hub clocking machines m body)
+  pub own-made : {E : Type 0} (machines : List Machine) (m : ℕ) (result : Result Body E) → leader request.units request.share m ≡ m → IfOk result (λ body. IsCutBody design listed hub m body) → IfOk result (λ body. HasAscending body) → IfOk result (λ body. IsTimedUnit listed clocking m body) → IfOk result (λ body. IsMadeBody design request listed hub clocking machines m body)
   own-made machines m (Ok body) first is ascend timed = record { is = is; ascend = ascend; timed = timed; alike = λ any differ. absurd (differ first) }
   own-made machines m (Err cause) first is ascend timed = tt
 

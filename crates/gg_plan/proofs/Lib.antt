@@ -26,3 +26,7 @@ pub mod WorkedFork
 pub mod WorkedDirect
 pub mod WorkedPipe
 pub mod WorkedCore
+pub mod PortLemmas
+pub mod SeatLemmas
+pub mod PlacedLemmas
+pub mod WorkedBridge

@@ -8,7 +8,8 @@ use Rattle.gg_order.specs.Design.{Ordered}
 use Rattle.gg_partfile.specs.declared.request.Request.{Request}
 use Rattle.gg_cut.specs.declared.listed.Listed.{Listed}
 use Rattle.gg_cut.specs.Machines.{Counts, memory_after, source_after, tray_after, numbering_of}
-use Rattle.gg_cut.specs.Plan.{machine_names, output_count, tray_names}
+use Rattle.gg_cut.specs.Plan.{cut_names, tray_names}
+use Rattle.gg_cut.specs.Seated.{output_count}
 use Rattle.gg_cut.proofs.TrayLemmas.{halt-tray, out-tray}
 
 -- where there is no path at a place, the path read there is empty
@@ -57,7 +58,7 @@ module _ (design : Ordered) (request : Request) (listed : Listed) where
   given = map (λ s. codes "in:" ++ path_at paths s) design.circuit.ins
 
   pub memory-name : (tree : InstanceTree) (memories : List ℕ) (counts : Counts) (n place : ℕ) → tree ≡ design.tree → memories ≡ listed.memories → counts ≡ numbering_of design.circuit listed → length listed.units ≡ length request.units → place < counts.memories → n ≡ memory_after counts.units + place
-      → path_at tree.memory_paths (get_or memories place 0) ≡ path_at (machine_names design request listed) n
+      → path_at tree.memory_paths (get_or memories place 0) ≡ path_at (cut_names design request listed) n
   memory-name tree memories counts n place t m c u lt is =
       let inside : place < length listed.memories = omega (arith, lt, ap (λ (k : Counts). k.memories) c) in
       ap (λ (all : InstanceTree). path_at all.memory_paths (get_or memories place 0)) t
@@ -66,7 +67,7 @@ module _ (design : Ordered) (request : Request) (listed : Listed) where
       ∙ sym (at-memory (codes "hub:") request.units held given (tray_names design) n place (omega (arith, is, u, ap (λ (k : Counts). k.units) c)) (omega (arith, inside, length-map listed.memories (path_at design.tree.memory_paths))))
 
   pub source-name : (circuit : FlatCircuit) (ins : List ℕ) (counts : Counts) (n place : ℕ) → circuit ≡ design.circuit → ins ≡ circuit.ins → counts ≡ numbering_of design.circuit listed → length listed.units ≡ length request.units → place < counts.ins → n ≡ source_after counts.units counts.memories + place
-      → codes "in:" ++ path_at circuit.paths (get_or ins place 0) ≡ path_at (machine_names design request listed) n
+      → codes "in:" ++ path_at circuit.paths (get_or ins place 0) ≡ path_at (cut_names design request listed) n
   source-name circuit ins counts n place f i c u lt is =
       let inside : place < length design.circuit.ins = omega (arith, lt, ap (λ (k : Counts). k.ins) c) in
       ap (λ l. codes "in:" ++ path_at circuit.paths (get_or l place 0)) i
@@ -81,7 +82,7 @@ module _ (design : Ordered) (request : Request) (listed : Listed) where
       → length listed.units ≡ length request.units → place < counts.outs → n ≡ tray_after counts.units counts.memories counts.ins + place
       → (place < length circuit.outs - length tree.stops → name ≡ codes "out:" ++ path_at circuit.paths (get_or circuit.outs place 0))
       → (length circuit.outs - length tree.stops ≤ place → name ≡ codes "halt:" ++ path_at circuit.paths (get_or circuit.outs place 0))
-      → name ≡ path_at (machine_names design request listed) n
+      → name ≡ path_at (cut_names design request listed) n
   tray-name circuit tree counts n place name f t c u lt is output stop =
       let inside : place < length design.circuit.outs = omega (arith, lt, ap (λ (k : Counts). k.outs) c) in
       named inside ∙ sym (at-tray (codes "hub:") request.units held given (tray_names design) n place

@@ -1,7 +1,8 @@
 -- A plan from its machines and channels.
-use Rattle.std.proofs.Common.{◌≡◌, ℕ, ◌<◌, None, List, [], ◌∷◌, Option, length, get_or, sym, ◌∙◌, ap, subst, arith}
+use Rattle.std.proofs.Common.{◌≡◌, ℕ, ◌+◌, ◌<◌, None, List, [], ◌∷◌, Option, length, map, get_or, refl, sym, ◌∙◌, ap, subst, arith}
 use Rattle.std.specs.Prelude.{All, AllPairs}
 use Rattle.std.proofs.lemmas.List.{length-map}
+use Rattle.std.proofs.lemmas.List.Elements.{All-map}
 use Rattle.gg_flat.specs.Circuit.{FlatCircuit}
 use Rattle.gg_flat.specs.WellFormed.{IsWellFormed}
 use Rattle.gg_order.specs.Design.{Ordered}
@@ -9,53 +10,83 @@ use Rattle.gg_part.specs.declared.part.Part.{Part}
 use Rattle.gg_part.specs.Part.{IsPart}
 use Rattle.gg_partfile.specs.declared.request.Request.{Request}
 use Rattle.gg_cut.specs.declared.plan.Body.{Body}
-use Rattle.gg_cut.specs.declared.plan.Body.TheVariants.{Cut, Memory, Source, Tray}
+use Rattle.gg_cut.specs.declared.plan.Body.TheVariants.{Cut, Memory, Source, Tray, Bridge}
 use Rattle.gg_cut.specs.declared.plan.Machine.{Machine}
 use Rattle.gg_cut.specs.declared.plan.Channel.{Channel}
 use Rattle.gg_cut.specs.declared.listed.Listed.{Listed}
 use Rattle.gg_cut.specs.declared.wires.Wire.{Wire}
 use Rattle.gg_cut.specs.Listed.{listed_of, instance_of}
-use Rattle.gg_cut.specs.Fault.{range_fault}
-use Rattle.gg_cut.specs.Machines.{machine_count}
+use Rattle.gg_cut.specs.Fault.{first_of, range_fault}
+use Rattle.gg_cut.specs.Machines.{first_source, machine_count}
 use Rattle.gg_cut.specs.Channels.{wire, capacity_of}
-use Rattle.gg_cut.specs.Direct.{Hub, routes, is_piped}
-use Rattle.gg_cut.specs.Plan.{wire_at, channels_to, channels_from, signals_of, givens_of, IsCutPart, IsBody, IsMachine, NeedsIn}
-use Rattle.gg_flat.specs.Tree.{path_at}
+use Rattle.gg_cut.specs.Bridges.{Models, bridge_faults}
+use Rattle.gg_cut.specs.Direct.{Hub, is_piped, plan_hub, plan_routes}
+use Rattle.gg_cut.specs.Plan.{wire_at, channels_to, channels_from, signals_of, givens_of, IsBody, IsCutPart, IsMachine, NeedsIn}
+use Rattle.gg_cut.specs.Seated.{Bridges, machine_end, plan_bridges, plan_wires, seat_of, seated_wire}
+use Rattle.gg_cut_seats.proofs.LowLemmas.{givens-alike, low-from, low-to, signals-alike}
+use Rattle.gg_cut_seats.proofs.SeatedLemmas.{seat-known}
+use Rattle.gg_plan.proofs.SeatLemmas.{plan-are, wires-as}
+use Rattle.gg_flat.specs.Tree.{InstanceTree, path_at}
 use Rattle.gg_routes.specs.Routes.{AreRoutes}
 use Rattle.gg_plan.proofs.FaultlessLemmas.{capacity-sound}
-use Rattle.gg_plan.specs.Made.{IsCapacity, AreMachines, IsServed, IsServedBody, IsFit, AreTold, IsWired, AreWired, AreChannels}
+use Rattle.gg_flat.specs.Line.{value_at}
+use Rattle.gg_plan.specs.Seats.{wire_by}
+use Rattle.gg_plan.specs.Made.{IsCapacity, IsServed, IsServedBody, IsFit, AreTold, IsWired, AreWired, AreChannels}
 
 -- ---- machines
 
 abbrev FormsParts : Type 0
 FormsParts = (whole part : FlatCircuit) (globals held memories : List ℕ) (clocks : List (Option ℕ)) → IsWellFormed whole → IsPart whole part globals held memories clocks → IsWellFormed part
 
-module _ (design : Ordered) (listed : Listed) (hub : Hub) (formed : IsWellFormed design.circuit) (law : FormsParts) (m : ℕ) (taken given : List ℕ) (to : taken ≡ channels_to (routes hub) m) (from : given ≡ channels_from (routes hub) m) where
-  served : (part : Part) → IsCutPart design listed hub m part → IsServed (routes hub) part taken given
-  served part cut =
+-- the machines of the plan run pieces whose needs can be computed
+module _ (design : Ordered) (request : Request) (models : Models) (formed : IsWellFormed design.circuit) (law : FormsParts) (m : ℕ) where
+  abbrev bridges : Bridges
+  bridges = plan_bridges design.circuit design.tree request
+
+  abbrev base : List Wire
+  base = plan_routes design.circuit design.tree request
+
+  abbrev joined : List Wire
+  joined = plan_wires design.circuit design.tree request
+
+  abbrev hub : Hub
+  hub = plan_hub design.circuit design.tree request
+
+  abbrev all_listed : Listed
+  all_listed = listed_of design.tree request
+
+  module _ (taken given : List ℕ) (to : taken ≡ channels_to joined m) (from : given ≡ channels_from joined m) where
+    served : (part : Part) → m < first_source all_listed → IsCutPart design all_listed hub m part → IsServed joined part taken given
+    served part low cut =
+        record {
+          formed = law design.circuit part.piece part.globals part.held part.memories part.clocks formed cut.is;
+          ordered = cut.ordered;
+          once = cut.is.once;
+          known = cut.is.outs;
+          ins = cut.ins ∙ sym (signals-alike bridges base (channels_to base m)) ∙ ap (signals_of joined) (sym (to ∙ low-to bridges base m low));
+          outs = cut.outs ∙ sym (givens-alike bridges base (channels_from base m)) ∙ ap (givens_of joined) (sym (from ∙ low-from bridges base m low));
+        }
+
+    served-body : (body : Body) → IsBody design request models all_listed hub m body → IsServedBody joined body taken given
+    served-body (Cut part) is = served part (let low = is.0 in omega (arith, low)) is.1
+    served-body (Memory part) is = served part is.1 is.2
+    served-body (Source place) is = tt
+    served-body Tray is = tt
+    served-body (Bridge bridge) is = tt
+
+  -- the needs of each machine can be computed
+  machine-served : (machine : Machine) → IsMachine design request models all_listed hub m machine → IsFit joined m machine
+  machine-served machine is =
       record {
-        formed = law design.circuit part.piece part.globals part.held part.memories part.clocks formed cut.is;
-        ordered = cut.ordered;
-        once = cut.is.once;
-        known = cut.is.outs;
-        ins = cut.ins ∙ ap (signals_of (routes hub)) (sym to);
-        outs = cut.outs ∙ ap (givens_of (routes hub)) (sym from);
+        ins = is.ins;
+        outs = is.outs;
+        body = served-body machine.ins machine.outs is.ins is.outs machine.body is.body;
       }
 
-  served-body : (body : Body) → IsBody design listed hub m body → IsServedBody (routes hub) body taken given
-  served-body (Cut part) is = served part is.1
-  served-body (Memory part) is = served part is.2
-  served-body (Source place) is = tt
-  served-body Tray is = tt
-
--- the needs of each machine can be computed
-pub machine-fit : (design : Ordered) (request : Request) (listed : Listed) (hub : Hub) (m : ℕ) (machine : Machine) → IsWellFormed design.circuit → FormsParts → IsMachine design request listed hub m machine → IsFit (routes hub) m machine
-machine-fit design request listed hub m machine formed law is =
-    record {
-      ins = is.ins;
-      outs = is.outs;
-      body = served-body design listed hub formed law m machine.ins machine.outs is.ins is.outs machine.body is.body;
-    }
+pub machine-fit : (design : Ordered) (request : Request) (models : Models) (listed : Listed) (m : ℕ) (machine : Machine) → listed ≡ listed_of design.tree request → IsWellFormed design.circuit → FormsParts
+    → IsMachine design request models listed (plan_hub design.circuit design.tree request) m machine → IsFit (plan_wires design.circuit design.tree request) m machine
+machine-fit design request models listed m machine same formed law is =
+    machine-served design request models formed law m machine (subst (λ (l : Listed). IsMachine design request models l (plan_hub design.circuit design.tree request) m machine) same is)
 
 pub units-count : (design : Ordered) (request : Request) (listed : Listed) → listed ≡ listed_of design.tree request → length listed.units ≡ length request.units
 units-count design request listed is = ap (λ (l : Listed). length l.units) is ∙ length-map request.units (instance_of design.tree)
@@ -90,25 +121,64 @@ channels-made design request whole capacity wires machines table channels same g
           };
     }
 
--- ---- what the routed channels have
+-- ---- what the plan's channels have
 
--- each channel is given by a machine
-pub given-below : (design : Ordered) (request : Request) (listed : Listed) (hub : Hub) (wires : List Wire) (machines : List Machine) → wires ≡ routes hub → AreRoutes design listed hub → AreMachines design request listed hub machines → (c : ℕ) → c < length wires → (wire_at wires c).producer < length machines
-given-below design request listed hub wires machines same sound are c lt =
-    let ends = subst (λ (l : List Wire). All (λ r. (r.producer < machine_count design.circuit listed) × (r.consumer < machine_count design.circuit listed)) l) (sym same) sound.ends in
-    let below = (ends c (wire 0 0 0) lt).0 in
-    omega (arith, below, are.total)
+module _ (design : Ordered) (request : Request) (listed : Listed) (same : listed ≡ listed_of design.tree request) (sound : AreRoutes design listed (plan_hub design.circuit design.tree request)) where
+  abbrev own_bridges : Bridges
+  own_bridges = plan_bridges design.circuit design.tree request
 
--- each channel carries a signal of the circuit
-pub known-below : (design : Ordered) (listed : Listed) (hub : Hub) (wires : List Wire) (whole : FlatCircuit) → wires ≡ routes hub → AreRoutes design listed hub → whole ≡ design.circuit → (c : ℕ) → c < length wires → (wire_at wires c).signal < length whole.signals
-known-below design listed hub wires whole same sound all c lt =
-    let known = subst (λ (l : List Wire). All (λ r. r.signal < length design.circuit.signals) l) (sym same) sound.known in
-    let below = known c (wire 0 0 0) lt in
-    let count = ap (λ (circuit : FlatCircuit). length circuit.signals) all in
-    omega (arith, below, count)
+  abbrev routed : List Wire
+  routed = plan_routes design.circuit design.tree request
+
+  -- each channel is between machines, by the numbers that they have without bridges
+  pub routed-ends : All (λ r. (r.producer < own_bridges.first + own_bridges.ins + own_bridges.outs) × (r.consumer < own_bridges.first + own_bridges.ins + own_bridges.outs)) routed
+  routed-ends = subst (λ (l : Listed). All (λ r. (r.producer < machine_count design.circuit l) × (r.consumer < machine_count design.circuit l)) routed) same sound.ends
+
+  -- and by those that they have in the plan
+  pub seated-ends : All (λ r. (r.producer < machine_end own_bridges) × (r.consumer < machine_end own_bridges)) (plan_wires design.circuit design.tree request)
+  seated-ends = All-map (λ r. (r.producer < machine_end own_bridges) × (r.consumer < machine_end own_bridges)) (seated_wire own_bridges) routed (λ k d lt.
+      let ends = routed-ends k d lt in
+      let w = get_or routed k d in
+      (seat-known own_bridges (plan-are design request) w.producer ends.0, seat-known own_bridges (plan-are design request) w.consumer ends.1))
+
+  -- each carries a signal of the circuit
+  pub seated-known : All (λ r. r.signal < length design.circuit.signals) (plan_wires design.circuit design.tree request)
+  seated-known = All-map (λ r. r.signal < length design.circuit.signals) (seated_wire own_bridges) routed sound.known
+
+  -- each channel is given by a machine
+  pub given-below : (wires : List Wire) (machines : List Machine) → wires ≡ plan_wires design.circuit design.tree request → length machines ≡ machine_end own_bridges → (c : ℕ) → c < length wires → (wire_at wires c).producer < length machines
+  given-below wires machines all total c lt =
+      let ends = subst (λ (l : List Wire). All (λ r. (r.producer < machine_end own_bridges) × (r.consumer < machine_end own_bridges)) l) (sym all) seated-ends in
+      let below = (ends c (wire 0 0 0) lt).0 in
+      omega (arith, below, total)
+
+  pub known-below : (wires : List Wire) (whole : FlatCircuit) → wires ≡ plan_wires design.circuit design.tree request → whole ≡ design.circuit → (c : ℕ) → c < length wires → (wire_at wires c).signal < length whole.signals
+  known-below wires whole all is c lt =
+      let known = subst (λ (l : List Wire). All (λ r. r.signal < length design.circuit.signals) l) (sym all) seated-known in
+      let below = known c (wire 0 0 0) lt in
+      let count = ap (λ (circuit : FlatCircuit). length circuit.signals) is in
+      omega (arith, below, count)
+
+  -- the channels at the numbers of a table are the plan's
+  module _ (numbers : List ℕ) (count : length numbers ≡ own_bridges.first + own_bridges.ins + own_bridges.outs) where
+    pub ends-within : (given : List ℕ) (wires : List Wire) → given ≡ numbers → wires ≡ routed → All (λ w. (w.producer < length given) × (w.consumer < length given)) wires
+    ends-within given wires same all = subst (λ (l : List ℕ). All (λ w. (w.producer < length l) × (w.consumer < length l)) wires) (sym same)
+        (subst (λ (l : List Wire). All (λ w. (w.producer < length numbers) × (w.consumer < length numbers)) l) (sym all)
+        (λ k d lt. let ends = routed-ends k d lt in let a = ends.0 in let b = ends.1 in (omega (arith, a, count), omega (arith, b, count))))
+
+    pub wires-planned : (given : List ℕ) (wires made : List Wire) → given ≡ numbers → wires ≡ routed → ((m : ℕ) → m < length numbers → value_at numbers m ≡ seat_of own_bridges m) → made ≡ map (wire_by given) wires → made ≡ plan_wires design.circuit design.tree request
+    wires-planned given wires made same all each is =
+        is ∙ ap (λ (l : List Wire). map (wire_by given) l) all ∙ ap (λ (l : List ℕ). map (wire_by l) routed) same ∙ wires-as own_bridges numbers routed each (ends-within numbers routed refl refl)
 
 -- each channel's capacity is one that a channel may have
 pub bounds-sound : (design : Ordered) (request : Request) (default : ℕ) (wires : List Wire) (machines : List Machine) (channels : List Channel) → IsCapacity default → range_fault request.capacity ≡ None → AreChannels design (capacity_of request.capacity default) (is_piped design.circuit request) wires machines channels → All (λ channel. IsCapacity channel.capacity) channels
 bounds-sound design request default wires machines channels own none are = λ c any lt.
     let is = are.each c any lt in
     subst IsCapacity (sym is.bound) (capacity-sound request.capacity default (path_at design.circuit.paths (wire_at wires c).signal) none own)
+
+-- ---- faults
+
+pub bridges-at : (design : Ordered) (models : Models) (request : Request) (circuit : FlatCircuit) (tree : InstanceTree) → circuit ≡ design.circuit → tree ≡ design.tree
+    → first_of (bridge_faults circuit (length tree.stops) models request.bridges) ≡ first_of (bridge_faults design.circuit (length design.tree.stops) models request.bridges)
+bridges-at design models request circuit tree f t =
+    ap (λ (k : FlatCircuit). first_of (bridge_faults k (length tree.stops) models request.bridges)) f ∙ ap (λ (k : InstanceTree). first_of (bridge_faults design.circuit (length k.stops) models request.bridges)) t

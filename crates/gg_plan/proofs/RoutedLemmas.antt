@@ -11,7 +11,7 @@ use Rattle.gg_partfile.specs.declared.request.Request.{Request}
 use Rattle.gg_cut.specs.declared.listed.Listed.{Listed}
 use Rattle.gg_cut.specs.Listed.{listed_of}
 use Rattle.gg_cut.specs.Machines.{first_source}
-use Rattle.gg_cut.specs.Direct.{Hub, hub_of, is_piped, plan_hub, routes}
+use Rattle.gg_cut.specs.Direct.{Hub, hub_of, is_piped, plan_hub, routes, is_driven}
 use Rattle.gg_cut.specs.Plan.{channels_from, givens_of, IsCutPart}
 use Rattle.gg_closed.specs.Apart.{AreApart}
 use Rattle.gg_routes.specs.Share.{IsPlanShare}
@@ -20,10 +20,10 @@ use Rattle.gg_routes.proofs.UnitLemmas.{ins-still, givens-still}
 use Rattle.gg_routes.proofs.ChoiceLemmas.{had, has-still}
 use Rattle.gg_plan.specs.MovedPart.{IsUnitPart, IsUnitRouted, IsUnitShare}
 
-pub unit-routed : (design : Ordered) (listed : Listed) (piped : ℕ → Bool) (direct : Bool) (m : ℕ) → IsDesign design → KeepsToTree design.circuit design.tree → AreApart design.tree listed → m ≢ 0 → IsUnitRouted design listed (hub_of design.circuit design.tree listed piped direct) m
-unit-routed design listed piped direct m is keeps apart other =
-    let hub = hub_of design.circuit design.tree listed piped direct in
-    let base = plan-base design listed piped direct is keeps apart in
+pub unit-routed : (design : Ordered) (listed : Listed) (piped driven : ℕ → Bool) (direct : Bool) (m : ℕ) → IsDesign design → KeepsToTree design.circuit design.tree → AreApart design.tree listed → m ≢ 0 → IsUnitRouted design listed (hub_of design.circuit design.tree listed piped driven direct) m
+unit-routed design listed piped driven direct m is keeps apart other =
+    let hub = hub_of design.circuit design.tree listed piped driven direct in
+    let base = plan-base design listed piped driven direct is keeps apart in
     record {
       signals = λ s. (had hub base m s, has-still hub base m s other);
       ins = ins-still hub base m other;
@@ -34,7 +34,7 @@ unit-routed design listed piped direct m is keeps apart other =
 pub plan-unit-routed : (design : Ordered) (request : Request) (listed : Listed) → listed ≡ listed_of design.tree request → IsDesign design → KeepsToTree design.circuit design.tree → AreApart design.tree listed → (m : ℕ) → m ≢ 0 → IsUnitRouted design listed (plan_hub design.circuit design.tree request) m
 plan-unit-routed design request listed same is keeps apart m other =
     subst (λ (l : Listed). IsUnitRouted design l (plan_hub design.circuit design.tree request) m) (sym same)
-    (unit-routed design (listed_of design.tree request) (is_piped design.circuit request) request.direct m is keeps (subst (AreApart design.tree) same apart) other)
+    (unit-routed design (listed_of design.tree request) (is_piped design.circuit request) (is_driven design.circuit request) request.direct m is keeps (subst (AreApart design.tree) same apart) other)
 
 module _ (design : Ordered) (listed : Listed) (hub : Hub) (clocking : Clocking) (m : ℕ) (part : Part) (routed : IsUnitRouted design listed hub m) where
   pub to-unit : IsCutPart design listed hub m part → IsTimed part.piece part.held part.memories clocking.registers clocking.ports → IsUnitPart design listed clocking m (givens_of (routes hub) (channels_from (routes hub) m)) part

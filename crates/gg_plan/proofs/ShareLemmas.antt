@@ -1,5 +1,5 @@
 -- What machines have by the routed channels.
-use Rattle.std.proofs.Common.{◌≡◌, ℕ, ◌<◌, List, length, get_or, Bool, false, sym, ◌∙◌, ap, subst, inl, inr, ◌⊎◌, eq-eqb, arith}
+use Rattle.std.proofs.Common.{◌≡◌, ℕ, ◌<◌, List, length, get_or, Bool, sym, ◌∙◌, ap, subst, inl, inr, ◌⊎◌, eq-eqb, arith}
 use Rattle.std.specs.Prelude.{All, if◌then◌else◌, filter}
 use Rattle.std.proofs.lemmas.Bool.{cases_eq, ne_eqb}
 use Rattle.std.proofs.lemmas.List.{get_or_default}
@@ -10,7 +10,7 @@ use Rattle.gg_partfile.specs.declared.request.Request.{Request}
 use Rattle.gg_cut.specs.declared.listed.Listed.{Listed}
 use Rattle.gg_cut.specs.Listed.{listed_of}
 use Rattle.gg_cut.specs.Machines.{machine_count}
-use Rattle.gg_cut.specs.Direct.{Hub, hub_of, plan_hub, routes, is_gone, is_piped}
+use Rattle.gg_cut.specs.Direct.{Hub, hub_of, plan_hub, routes, is_gone, is_piped, is_driven}
 use Rattle.gg_cut.specs.Plan.{channels_to, channels_from}
 use Rattle.gg_closed.specs.Apart.{AreApart}
 use Rattle.gg_split.specs.declared.share.Share.{Share}
@@ -32,9 +32,9 @@ pub hub-known : (design : Ordered) (listed : Listed) (shares : List Share) (firs
 hub-known design listed shares first are is = ((subst (IsShare design listed 0) (sym is) (are.each 0 first (omega arith))).choice (omega arith)).within
 
 -- the share of a machine by the routed channels
-module _ (design : Ordered) (listed : Listed) (piped : ℕ → Bool) (direct : Bool) (is : IsDesign design) (keeps : KeepsToTree design.circuit design.tree) (apart : AreApart design.tree listed) (are : AreRoutes design listed (hub_of design.circuit design.tree listed piped direct)) where
+module _ (design : Ordered) (listed : Listed) (piped driven : ℕ → Bool) (direct : Bool) (is : IsDesign design) (keeps : KeepsToTree design.circuit design.tree) (apart : AreApart design.tree listed) (are : AreRoutes design listed (hub_of design.circuit design.tree listed piped driven direct)) where
   abbrev hub : Hub
-  hub = hub_of design.circuit design.tree listed piped direct
+  hub = hub_of design.circuit design.tree listed piped driven direct
 
   pub routed-share : (gone : List Bool) (ins outs : List (List ℕ)) (kept : List ℕ) (shares : List Share) (first before share : Share) (m count : ℕ) → ((s : ℕ) → s < length design.circuit.signals → is_marked gone s ≡ is_gone hub s) → AreShares design listed shares
       → AreLists (channels_to (routes hub)) count ins → AreLists (channels_from (routes hub)) count outs → m < count → count ≡ machine_count design.circuit listed
@@ -55,7 +55,7 @@ module _ (design : Ordered) (listed : Listed) (piped : ℕ → Bool) (direct : B
       by : (m ≡ 0) ⊎ (m ≡ 0 → ⊥) → IsPlanShare design listed hub m share.ins share.outs share.globals share.memories
       by (inl zero) =
           let own = subst (IsShare design listed 0) (sym start) (all.each 0 first (omega (arith, low, zero))) in
-          let made = hub-plan-share design listed piped direct is keeps apart are gone first.ins first.outs first.globals first.memories marks own in
+          let made = hub-plan-share design listed piped driven direct is keeps apart are gone first.ins first.outs first.globals first.memories marks own in
           let chosen : share.globals ≡ kept = routed.signals ∙ ap (λ b. if b then kept else before.globals) (eq-eqb m 0 zero) in
           let same : before ≡ first = at ∙ ap (λ k. get_or shares k before) zero ∙ get_or_default shares 0 before first (omega (arith, low, zero, all.many)) ∙ sym start in
           as-made (filter (stays_by (routes hub) gone) first.globals) first.memories (chosen ∙ stay) (routed.banks ∙ ap (λ (s : Share). s.memories) same)
@@ -63,7 +63,7 @@ module _ (design : Ordered) (listed : Listed) (piped : ℕ → Bool) (direct : B
       by (inr other) =
           let own = all.each m before low in
           let there = get_or shares m before in
-          let made = other-plan-share design listed piped direct is keeps apart are m there.ins there.outs there.globals there.memories other own in
+          let made = other-plan-share design listed piped driven direct is keeps apart are m there.ins there.outs there.globals there.memories other own in
           let chosen : share.globals ≡ before.globals = routed.signals ∙ ap (λ b. if b then kept else before.globals) (ne_eqb m 0 other) in
           as-made there.globals there.memories (chosen ∙ ap (λ (s : Share). s.globals) at) (routed.banks ∙ ap (λ (s : Share). s.memories) at) made
 
@@ -77,5 +77,5 @@ module _ (design : Ordered) (request : Request) (listed : Listed) (same : listed
       → kept ≡ filter (stays_by (routes the_hub) gone) first.globals → first ≡ get_or shares 0 first → before ≡ get_or shares m before → IsRoutedShare ins outs kept before m share → IsPlanShare design listed the_hub m share.ins share.outs share.globals share.memories
   plan-share-of are gone ins outs kept shares first before share m count marks all takes gives lt many stay start at routed =
       subst (λ (l : Listed). AreRoutes design l the_hub → AreShares design l shares → count ≡ machine_count design.circuit l → IsPlanShare design l the_hub m share.ins share.outs share.globals share.memories) (sym same)
-      (λ are all many. routed-share design (listed_of design.tree request) (is_piped design.circuit request) request.direct is keeps apart are gone ins outs kept shares first before share m count marks all takes gives lt many stay start at routed)
+      (λ are all many. routed-share design (listed_of design.tree request) (is_piped design.circuit request) (is_driven design.circuit request) request.direct is keeps apart are gone ins outs kept shares first before share m count marks all takes gives lt many stay start at routed)
       are all many

@@ -24,7 +24,7 @@ use Rattle.gg_cut.specs.declared.plan.Machine.{Machine}
 use Rattle.gg_cut.specs.declared.plan.Channel.{Channel}
 use Rattle.gg_cut.specs.declared.listed.Listed.{Listed}
 use Rattle.gg_cut.specs.declared.wires.Wire.{Wire}
-use Rattle.gg_cut.specs.Direct.{Hub, hub_of}
+use Rattle.gg_cut.specs.Direct.{Hub, plan_hub}
 use Rattle.gg_cut.specs.Listed.{listed_of}
 use Rattle.gg_cut.specs.Channels.{wires_of, capacity_of}
 use Rattle.gg_cut.specs.Clocks.{every_tick}
@@ -78,7 +78,7 @@ abbrev pub wires : List Wire
 wires = wires_of circuit tree listed
 
 abbrev pub routed : Hub
-routed = hub_of circuit tree listed (λ s. false) false
+routed = plan_hub circuit tree request
 
 -- ---- the plan
 
@@ -152,12 +152,12 @@ channels =
     record { signal = 2; name = codes "tile.core.o"; ty = nibble; producer = 1; consumer = 0; capacity = 2; pipe = false; needs = [] }
     ∷ record { signal = 0; name = codes "o"; ty = nibble; producer = 0; consumer = 2; capacity = 2; pipe = false; needs = 0 ∷ [] } ∷ []
 
-is-machine : (m : ℕ) (any : Machine) → m < 3 → IsMachine design request listed routed m (slice_index_or machines m any)
+is-machine : (m : ℕ) (any : Machine) → m < 3 → IsMachine design request [] listed routed m (slice_index_or machines m any)
 is-machine m any =
-    three (λ k. IsMachine design request listed routed k (slice_index_or machines k any))
+    three (λ k. IsMachine design request [] listed routed k (slice_index_or machines k any))
     (record { name = refl; host = refl; body = (lit< tt, hub-cut); ins = refl; outs = refl })
     (record { name = refl; host = refl; body = (lit< tt, core-cut); ins = refl; outs = refl })
-    (record { name = refl; host = refl; body = lit≤ tt; ins = refl; outs = refl })
+    (record { name = refl; host = refl; body = (lit≤ tt, lit< tt); ins = refl; outs = refl })
     m
 
 is-channel : (c : ℕ) (any : Channel) → c < 2 → IsChannel design (capacity_of [] 2) (λ s. false) machines (wire_at wires c) (slice_index_or channels c any)
@@ -167,15 +167,15 @@ is-channel c any =
     (record { signal = refl; name = refl; type = refl; producer = refl; consumer = refl; bound = refl; pipe = refl; ascending = ascending (0 ∷ []) refl; needs = λ other. has-needs hub (0 ∷ []) 0 (0 ∷ []) refl })
     c
 
-pub is-plan : IsPlan design request 2 (record { machines = machines; channels = channels; listed = listed; ratios = [] })
-is-plan = record { listed = refl; ratios = refl; machine_total = refl; channel_total = refl; machine = is-machine; channel = is-channel; shared = unshared machines refl }
+pub is-plan : IsPlan design request [] 2 (record { machines = machines; channels = channels; listed = listed; ratios = [] })
+is-plan = record { listed = refl; ratios = refl; machine_total = refl; few = lit< tt; channel_total = refl; machine = is-machine; channel = is-channel; shared = unshared machines refl }
 
 -- the plan for another default is another
-other-default : ¬ IsPlan design request 3 (record { machines = machines; channels = channels; listed = listed; ratios = [] })
+other-default : ¬ IsPlan design request [] 3 (record { machines = machines; channels = channels; listed = listed; ratios = [] })
 other-default is = let bound : 2 ≡ 3 = (is.channel 0 (record { signal = 0; name = []; ty = nibble; producer = 0; consumer = 0; capacity = 0; pipe = false; needs = [] }) (lit< tt)).bound in absurd (omega (arith, bound))
 
 -- a circuit without clocks has no ratios
-with-ratio : ¬ IsPlan design request 2 (record { machines = machines; channels = channels; listed = listed; ratios = every_tick ∷ [] })
+with-ratio : ¬ IsPlan design request [] 2 (record { machines = machines; channels = channels; listed = listed; ratios = every_tick ∷ [] })
 with-ratio is = let one : 1 ≡ 0 = ap length is.ratios in absurd (omega (arith, one))
 
 -- ---- requests that are refused

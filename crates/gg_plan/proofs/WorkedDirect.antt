@@ -15,7 +15,7 @@ use Rattle.gg_cut.specs.declared.plan.Body.TheVariants.{Cut, Source, Tray}
 use Rattle.gg_cut.specs.declared.plan.Machine.{Machine}
 use Rattle.gg_cut.specs.declared.plan.Channel.{Channel}
 use Rattle.gg_cut.specs.declared.wires.Wire.{Wire}
-use Rattle.gg_cut.specs.Direct.{Hub, plan_hub, plan_wires}
+use Rattle.gg_cut.specs.Direct.{Hub, plan_hub, plan_routes}
 use Rattle.gg_cut.specs.Channels.{capacity_of}
 use Rattle.gg_cut.specs.Plan.{IsPlan, IsMachine, IsChannel, IsCutPart, wire_at}
 use Rattle.gg_plan.proofs.WorkedTests.{each-below, ascending, names-below, has-needs}
@@ -28,7 +28,7 @@ abbrev request : Request
 request = record share.request { direct = true }
 
 abbrev wires : List Wire
-wires = plan_wires circuit tree request
+wires = plan_routes circuit tree request
 
 abbrev routed : Hub
 routed = plan_hub circuit tree request
@@ -95,9 +95,9 @@ channels =
     ∷ channel 1 (codes "p") 1 4 []
     ∷ channel 2 (codes "q") 2 5 [] ∷ []
 
-is-machine : (m : ℕ) (any : Machine) → m < 6 → IsMachine design request listed routed m (slice_index_or machines m any)
+is-machine : (m : ℕ) (any : Machine) → m < 6 → IsMachine design request [] listed routed m (slice_index_or machines m any)
 is-machine m any =
-    each-below (λ k. IsMachine design request listed routed k (slice_index_or machines k any)) 6 (
+    each-below (λ k. IsMachine design request [] listed routed k (slice_index_or machines k any)) 6 (
       record { name = refl; host = refl; body = (lit< tt, hub-cut); ins = refl; outs = refl },
       (
         record { name = refl; host = refl; body = (lit< tt, u-cut); ins = refl; outs = refl },
@@ -106,8 +106,8 @@ is-machine m any =
           (
             record { name = refl; host = refl; body = (lit< tt, refl); ins = refl; outs = refl },
             (
-              record { name = refl; host = refl; body = lit≤ tt; ins = refl; outs = refl },
-              (record { name = refl; host = refl; body = lit≤ tt; ins = refl; outs = refl }, tt),
+              record { name = refl; host = refl; body = (lit≤ tt, lit< tt); ins = refl; outs = refl },
+              (record { name = refl; host = refl; body = (lit≤ tt, lit< tt); ins = refl; outs = refl }, tt),
             ),
           ),
         ),
@@ -130,12 +130,13 @@ is-channel c any =
       ),
     ) c
 
-pub is-plan : IsPlan design request 2 (record { machines = machines; channels = channels; listed = listed; ratios = [] })
+pub is-plan : IsPlan design request [] 2 (record { machines = machines; channels = channels; listed = listed; ratios = [] })
 is-plan =
     record {
       listed = refl;
       ratios = refl;
       machine_total = refl;
+      few = lit< tt;
       channel_total = refl;
       machine = is-machine;
       channel = is-channel;
@@ -154,13 +155,13 @@ abbrev any_channel : Channel
 any_channel = channel 0 [] 0 0 []
 
 -- the plan that was right without direct channels
-passed-on : ¬ IsPlan design request 2 (record { machines = share.machines; channels = share.channels; listed = listed; ratios = [] })
+passed-on : ¬ IsPlan design request [] 2 (record { machines = share.machines; channels = share.channels; listed = listed; ratios = [] })
 passed-on is = let count : 7 ≡ 5 = is.channel_total in absurd (omega (arith, count))
 
 -- a direct channel that still comes from the hub
-from-hub : ¬ IsPlan design request 2 (record { machines = machines; channels = set channels 1 (channel 3 (codes "u.a") 0 1 []); listed = listed; ratios = [] })
+from-hub : ¬ IsPlan design request [] 2 (record { machines = machines; channels = set channels 1 (channel 3 (codes "u.a") 0 1 []); listed = listed; ratios = [] })
 from-hub is = let giver : 0 ≡ 3 = (is.channel 1 any_channel (lit< tt)).producer in absurd (omega (arith, giver))
 
 -- a direct channel under the name of its origin
-renamed : ¬ IsPlan design request 2 (record { machines = machines; channels = set channels 1 (channel 0 (codes "x") 3 1 []); listed = listed; ratios = [] })
+renamed : ¬ IsPlan design request [] 2 (record { machines = machines; channels = set channels 1 (channel 0 (codes "x") 3 1 []); listed = listed; ratios = [] })
 renamed is = let signal : 0 ≡ 3 = (is.channel 1 any_channel (lit< tt)).signal in absurd (omega (arith, signal))

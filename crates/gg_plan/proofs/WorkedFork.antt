@@ -22,7 +22,7 @@ use Rattle.gg_cut.specs.declared.plan.Channel.{Channel}
 use Rattle.gg_cut.specs.declared.plan.Plan.{Plan}
 use Rattle.gg_cut.specs.declared.listed.Listed.{Listed}
 use Rattle.gg_cut.specs.declared.wires.Wire.{Wire}
-use Rattle.gg_cut.specs.Direct.{Hub, plan_hub, plan_wires}
+use Rattle.gg_cut.specs.Direct.{Hub, plan_hub, plan_routes}
 use Rattle.gg_cut.specs.Listed.{listed_of}
 use Rattle.gg_cut.specs.Channels.{capacity_of}
 use Rattle.gg_cut.specs.Plan.{IsPlan, IsMachine, IsChannel, IsCutPart, wire_at}
@@ -74,7 +74,7 @@ abbrev listed : Listed
 listed = listed_of tree request
 
 abbrev wires : List Wire
-wires = plan_wires circuit tree request
+wires = plan_routes circuit tree request
 
 abbrev routed : Hub
 routed = plan_hub circuit tree request
@@ -157,9 +157,9 @@ channels =
 abbrev plan : Plan
 plan = record { machines = machines; channels = channels; listed = listed; ratios = [] }
 
-is-machine : (m : ℕ) (any : Machine) → m < 7 → IsMachine design request listed routed m (slice_index_or machines m any)
+is-machine : (m : ℕ) (any : Machine) → m < 7 → IsMachine design request [] listed routed m (slice_index_or machines m any)
 is-machine m any =
-    each-below (λ k. IsMachine design request listed routed k (slice_index_or machines k any)) 7 (
+    each-below (λ k. IsMachine design request [] listed routed k (slice_index_or machines k any)) 7 (
       record { name = refl; host = refl; body = (lit< tt, hub-cut); ins = refl; outs = refl },
       (
         record { name = refl; host = refl; body = (lit< tt, u-cut); ins = refl; outs = refl },
@@ -168,10 +168,10 @@ is-machine m any =
           (
             record { name = refl; host = refl; body = (lit< tt, refl); ins = refl; outs = refl },
             (
-              record { name = refl; host = refl; body = lit≤ tt; ins = refl; outs = refl },
+              record { name = refl; host = refl; body = (lit≤ tt, lit< tt); ins = refl; outs = refl },
               (
-                record { name = refl; host = refl; body = lit≤ tt; ins = refl; outs = refl },
-                (record { name = refl; host = refl; body = lit≤ tt; ins = refl; outs = refl }, tt),
+                record { name = refl; host = refl; body = (lit≤ tt, lit< tt); ins = refl; outs = refl },
+                (record { name = refl; host = refl; body = (lit≤ tt, lit< tt); ins = refl; outs = refl }, tt),
               ),
             ),
           ),
@@ -205,12 +205,13 @@ more : (s : ℕ) → Contains (1 ∷ []) s → Contains (1 ∷ 1 ∷ []) s
 more s (zero, lt, is) = (0, omega arith, is)
 more s (suc k, lt, is) = absurd (omega arith)
 
-pub is-plan : IsPlan design request 2 plan
+pub is-plan : IsPlan design request [] 2 plan
 is-plan =
     record {
       listed = refl;
       ratios = refl;
       machine_total = refl;
+      few = lit< tt;
       channel_total = refl;
       machine = is-machine;
       channel = is-channel;
@@ -226,16 +227,16 @@ abbrev any_machine : Machine
 any_machine = record { name = []; host = 0; body = Tray; ins = []; outs = [] }
 
 -- direct channels that weren't asked for
-unasked : ¬ IsPlan design plain 2 plan
+unasked : ¬ IsPlan design plain [] 2 plan
 unasked is = let count : 5 ≡ 8 = is.channel_total in absurd (omega (arith, count))
 
 -- `u` with its out-signal listed once, though two channels carry it
 abbrev once : Part
 once = record { piece = piece_with (codes "u.a" ∷ codes "u.s" ∷ []) (1 ∷ []); globals = 4 ∷ 5 ∷ []; held = []; memories = []; clocks = [] }
 
-listed-once : ¬ IsPlan design request 2 (record { machines = set machines 1 (record { name = codes "u"; host = 1; body = Cut once; ins = 0 ∷ []; outs = 2 ∷ 3 ∷ [] }); channels = channels; listed = listed; ratios = [] })
+listed-once : ¬ IsPlan design request [] 2 (record { machines = set machines 1 (record { name = codes "u"; host = 1; body = Cut once; ins = 0 ∷ []; outs = 2 ∷ 3 ∷ [] }); channels = channels; listed = listed; ratios = [] })
 listed-once is = let body = (is.machine 1 any_machine (lit< tt)).body in let count : 1 ≡ 2 = ap (λ (l : List ℕ). length l) body.1.outs in absurd (omega (arith, count))
 
 -- the source without the second of its channels
-no-fork : ¬ IsPlan design request 2 (record { machines = set machines 3 (record { name = codes "in:x"; host = 2; body = Source 0; ins = []; outs = 0 ∷ [] }); channels = channels; listed = listed; ratios = [] })
+no-fork : ¬ IsPlan design request [] 2 (record { machines = set machines 3 (record { name = codes "in:x"; host = 2; body = Source 0; ins = []; outs = 0 ∷ [] }); channels = channels; listed = listed; ratios = [] })
 no-fork is = let count : 1 ≡ 2 = ap (λ (l : List ℕ). length l) (is.machine 3 any_machine (lit< tt)).outs in absurd (omega (arith, count))

@@ -29,7 +29,7 @@ use Rattle.gg_cut.specs.declared.plan.Channel.{Channel}
 use Rattle.gg_cut.specs.declared.plan.Plan.{Plan}
 use Rattle.gg_cut.specs.declared.listed.Listed.{Listed}
 use Rattle.gg_cut.specs.declared.wires.Wire.{Wire}
-use Rattle.gg_cut.specs.Direct.{Hub, hub_of}
+use Rattle.gg_cut.specs.Direct.{Hub, plan_hub}
 use Rattle.gg_cut.specs.Listed.{listed_of, memory_owner}
 use Rattle.gg_cut.specs.Channels.{wires_of, capacity_of}
 use Rattle.gg_cut.specs.Plan.{IsPlan, IsMachine, IsChannel, IsCutPart, HasMemory, wire_at}
@@ -73,7 +73,7 @@ abbrev pub wires : List Wire
 wires = wires_of circuit tree listed
 
 abbrev pub routed : Hub
-routed = hub_of circuit tree listed (λ s. false) false
+routed = plan_hub circuit tree request
 
 -- ---- the parts
 
@@ -231,9 +231,9 @@ channels =
 abbrev pub plan : Plan
 plan = record { machines = machines; channels = channels; listed = listed; ratios = [] }
 
-is-machine : (m : ℕ) (any : Machine) → m < 6 → IsMachine design request listed routed m (slice_index_or machines m any)
+is-machine : (m : ℕ) (any : Machine) → m < 6 → IsMachine design request [] listed routed m (slice_index_or machines m any)
 is-machine m any =
-    each-below (λ k. IsMachine design request listed routed k (slice_index_or machines k any)) 6 (
+    each-below (λ k. IsMachine design request [] listed routed k (slice_index_or machines k any)) 6 (
       record { name = refl; host = refl; body = (lit< tt, hub-cut); ins = refl; outs = refl },
       (
         record { name = refl; host = refl; body = (lit≤ tt, lit< tt, memory-cut); ins = refl; outs = refl },
@@ -242,8 +242,8 @@ is-machine m any =
           (
             record { name = refl; host = refl; body = (lit< tt, refl); ins = refl; outs = refl },
             (
-              record { name = refl; host = refl; body = lit≤ tt; ins = refl; outs = refl },
-              (record { name = refl; host = refl; body = lit≤ tt; ins = refl; outs = refl }, tt),
+              record { name = refl; host = refl; body = (lit≤ tt, lit< tt); ins = refl; outs = refl },
+              (record { name = refl; host = refl; body = (lit≤ tt, lit< tt); ins = refl; outs = refl }, tt),
             ),
           ),
         ),
@@ -305,8 +305,8 @@ is-channel c any =
       ),
     ) c
 
-pub is-plan : IsPlan design request 2 plan
-is-plan = record { listed = refl; ratios = refl; machine_total = refl; channel_total = refl; machine = is-machine; channel = is-channel; shared = unshared machines refl }
+pub is-plan : IsPlan design request [] 2 plan
+is-plan = record { listed = refl; ratios = refl; machine_total = refl; few = lit< tt; channel_total = refl; machine = is-machine; channel = is-channel; shared = unshared machines refl }
 
 -- ---- what is no plan of the cut
 
@@ -317,19 +317,19 @@ abbrev any_channel : Channel
 any_channel = channel 0 [] eight 0 0 []
 
 -- a reader's data needs its enable too, and nothing of the other reader or of a writer
-without-enable : ¬ IsPlan design request 2 (record { machines = machines; channels = set channels 4 (channel 6 (codes "m.r.data") eight 1 0 (2 ∷ [])); listed = listed; ratios = [] })
+without-enable : ¬ IsPlan design request [] 2 (record { machines = machines; channels = set channels 4 (channel 6 (codes "m.r.data") eight 1 0 (2 ∷ [])); listed = listed; ratios = [] })
 without-enable is = lacks-need memory memory_ins 2 (2 ∷ []) 3 refl refl refl ((is.channel 4 any_channel (lit< tt)).needs any_machine 2 (lit< tt) refl)
 
-with-writer : ¬ IsPlan design request 2 (record { machines = machines; channels = set channels 4 (channel 6 (codes "m.r.data") eight 1 0 (2 ∷ 3 ∷ 8 ∷ [])); listed = listed; ratios = [] })
+with-writer : ¬ IsPlan design request [] 2 (record { machines = machines; channels = set channels 4 (channel 6 (codes "m.r.data") eight 1 0 (2 ∷ 3 ∷ 8 ∷ [])); listed = listed; ratios = [] })
 with-writer is = extra-need memory memory_ins 2 (2 ∷ 3 ∷ 8 ∷ []) 8 refl refl refl ((is.channel 4 any_channel (lit< tt)).needs any_machine 2 (lit< tt) refl)
 
 -- a listed memory's machine isn't a `Cut`, as the hub's is
-as-cut : ¬ IsPlan design request 2 (record { machines = set machines 1 (record { name = codes "m"; host = 1; body = Cut memory; ins = memory_ins; outs = 4 ∷ 7 ∷ [] }); channels = channels; listed = listed; ratios = [] })
+as-cut : ¬ IsPlan design request [] 2 (record { machines = set machines 1 (record { name = codes "m"; host = 1; body = Cut memory; ins = memory_ins; outs = 4 ∷ 7 ∷ [] }); channels = channels; listed = listed; ratios = [] })
 as-cut is = let body = (is.machine 1 any_machine (lit< tt)).body in absurd (omega (arith, body.0))
 
 -- the hub doesn't have the memory
 abbrev keeping : Part
 keeping = record { piece = record hub.piece { memories = memory.piece.memories }; globals = hub.globals; held = []; memories = 0 ∷ []; clocks = [] }
 
-hub-keeps : ¬ IsPlan design request 2 (record { machines = set machines 0 (record { name = codes "hub:"; host = 0; body = Cut keeping; ins = hub_ins; outs = 2 ∷ 3 ∷ 5 ∷ 6 ∷ 8 ∷ 9 ∷ 10 ∷ 11 ∷ 12 ∷ 13 ∷ 14 ∷ 15 ∷ 16 ∷ 17 ∷ [] }); channels = channels; listed = listed; ratios = [] })
+hub-keeps : ¬ IsPlan design request [] 2 (record { machines = set machines 0 (record { name = codes "hub:"; host = 0; body = Cut keeping; ins = hub_ins; outs = 2 ∷ 3 ∷ 5 ∷ 6 ∷ 8 ∷ 9 ∷ 10 ∷ 11 ∷ 12 ∷ 13 ∷ 14 ∷ 15 ∷ 16 ∷ 17 ∷ [] }); channels = channels; listed = listed; ratios = [] })
 hub-keeps is = let body = (is.machine 0 any_machine (lit< tt)).body in let at = (hub-memories 0).1 ((body.1.memories 0).0 (0, lit< tt, refl)) in absurd (omega (arith, at.1))

@@ -21,7 +21,7 @@ use Rattle.gg_cut.specs.declared.plan.Machine.{Machine}
 use Rattle.gg_cut.specs.declared.plan.Channel.{Channel}
 use Rattle.gg_cut.specs.declared.listed.Listed.{Listed}
 use Rattle.gg_cut.specs.declared.wires.Wire.{Wire}
-use Rattle.gg_cut.specs.Direct.{Hub, hub_of}
+use Rattle.gg_cut.specs.Direct.{Hub, plan_hub}
 use Rattle.gg_cut.specs.Listed.{listed_of}
 use Rattle.gg_cut.specs.Channels.{wires_of, capacity_of}
 use Rattle.gg_cut.specs.Plan.{IsPlan, IsMachine, IsChannel, IsCutPart, wire_at}
@@ -77,7 +77,7 @@ abbrev wires : List Wire
 wires = wires_of circuit tree listed
 
 abbrev routed : Hub
-routed = hub_of circuit tree listed (λ s. false) false
+routed = plan_hub circuit tree outer
 
 abbrev pub hub : Part
 hub =
@@ -152,13 +152,13 @@ channels =
     ∷ channel 3 (codes "u.q") 1 0 (1 ∷ [])
     ∷ channel 1 (codes "q") 0 3 (2 ∷ []) ∷ []
 
-is-machine : (m : ℕ) (any : Machine) → m < 4 → IsMachine design outer listed routed m (slice_index_or machines m any)
+is-machine : (m : ℕ) (any : Machine) → m < 4 → IsMachine design outer [] listed routed m (slice_index_or machines m any)
 is-machine m any =
-    four (λ k. IsMachine design outer listed routed k (slice_index_or machines k any))
+    four (λ k. IsMachine design outer [] listed routed k (slice_index_or machines k any))
     (record { name = refl; host = refl; body = (lit< tt, hub-cut); ins = refl; outs = refl })
     (record { name = refl; host = refl; body = (lit< tt, unit-cut); ins = refl; outs = refl })
     (record { name = refl; host = refl; body = (lit< tt, refl); ins = refl; outs = refl })
-    (record { name = refl; host = refl; body = lit≤ tt; ins = refl; outs = refl })
+    (record { name = refl; host = refl; body = (lit≤ tt, lit< tt); ins = refl; outs = refl })
     m
 
 is-channel : (c : ℕ) (any : Channel) → c < 4 → IsChannel design (capacity_of [] 2) (λ s. false) machines (wire_at wires c) (slice_index_or channels c any)
@@ -170,8 +170,8 @@ is-channel c any =
     (record { signal = refl; name = refl; type = refl; producer = refl; consumer = refl; bound = refl; pipe = refl; ascending = ascending (2 ∷ []) refl; needs = λ other. has-needs hub (0 ∷ 2 ∷ []) 1 (2 ∷ []) refl })
     c
 
-pub is-plan : IsPlan design outer 2 (record { machines = machines; channels = channels; listed = listed; ratios = [] })
-is-plan = record { listed = refl; ratios = refl; machine_total = refl; channel_total = refl; machine = is-machine; channel = is-channel; shared = unshared machines refl }
+pub is-plan : IsPlan design outer [] 2 (record { machines = machines; channels = channels; listed = listed; ratios = [] })
+is-plan = record { listed = refl; ratios = refl; machine_total = refl; few = lit< tt; channel_total = refl; machine = is-machine; channel = is-channel; shared = unshared machines refl }
 
 -- ---- what is no plan of the cut
 
@@ -182,7 +182,7 @@ abbrev any_channel : Channel
 any_channel = channel 0 [] 0 0 []
 
 -- the path from `u.q` to `u.x` goes through `in`
-missed-path : ¬ IsPlan design outer 2 (record { machines = machines; channels = set channels 2 (channel 3 (codes "u.q") 1 0 []); listed = listed; ratios = [] })
+missed-path : ¬ IsPlan design outer [] 2 (record { machines = machines; channels = set channels 2 (channel 3 (codes "u.q") 1 0 []); listed = listed; ratios = [] })
 missed-path is = lacks-need unit (1 ∷ []) 3 [] 1 refl refl refl ((is.channel 2 any_channel (lit< tt)).needs any_machine 3 (lit< tt) refl)
 
 -- A hub that has `in.a` besides, with its driver.
@@ -215,7 +215,7 @@ greedy-part =
     ((lit< tt, refl), ((lit< tt, refl), tt)) refl refl refl
 
 -- it is a part, but no part of this cut: `in.a` belongs to `u`
-inner-owned : ¬ IsPlan design outer 2 (record { machines = set machines 0 (record { name = codes "hub:"; host = 0; body = Cut greedy; ins = 0 ∷ 2 ∷ []; outs = 1 ∷ 3 ∷ [] }); channels = channels; listed = listed; ratios = [] })
+inner-owned : ¬ IsPlan design outer [] 2 (record { machines = set machines 0 (record { name = codes "hub:"; host = 0; body = Cut greedy; ins = 0 ∷ 2 ∷ []; outs = 1 ∷ 3 ∷ [] }); channels = channels; listed = listed; ratios = [] })
 inner-owned is = foreign-signal routed 0 greedy.globals 4 refl refl (is.machine 0 any_machine (lit< tt)).body.1.signals
 
 -- a unit without `in.a`, which gets `in.b` from outside
@@ -245,7 +245,7 @@ hollow-part =
     ((lit< tt, refl), ((lit< tt, refl), ((names-below 3 (node eight (Ref 1) ∷ []) refl, refl), tt)))
     ((lit< tt, refl), ((lit< tt, refl), tt)) refl refl refl
 
-inner-lost : ¬ IsPlan design outer 2 (record { machines = set machines 1 (record { name = codes "u"; host = 1; body = Cut hollow; ins = 1 ∷ []; outs = 2 ∷ [] }); channels = channels; listed = listed; ratios = [] })
+inner-lost : ¬ IsPlan design outer [] 2 (record { machines = set machines 1 (record { name = codes "u"; host = 1; body = Cut hollow; ins = 1 ∷ []; outs = 2 ∷ [] }); channels = channels; listed = listed; ratios = [] })
 inner-lost is = lost-signal routed 1 hollow.globals 4 (lit< tt) refl refl (is.machine 1 any_machine (lit< tt)).body.1.signals
 
 -- ---- `in` as a unit: the signals of `u` belong to the hub
@@ -260,7 +260,7 @@ abbrev lower_wires : List Wire
 lower_wires = wires_of circuit tree lower_listed
 
 abbrev lower_routed : Hub
-lower_routed = hub_of circuit tree lower_listed (λ s. false) false
+lower_routed = plan_hub circuit tree lower
 
 abbrev pub around : Part
 around =
@@ -335,13 +335,13 @@ lower_channels =
     ∷ channel 5 (codes "u.in.b") 1 0 (1 ∷ [])
     ∷ channel 1 (codes "q") 0 3 (2 ∷ []) ∷ []
 
-is-lower-machine : (m : ℕ) (any : Machine) → m < 4 → IsMachine design lower lower_listed lower_routed m (slice_index_or lower_machines m any)
+is-lower-machine : (m : ℕ) (any : Machine) → m < 4 → IsMachine design lower [] lower_listed lower_routed m (slice_index_or lower_machines m any)
 is-lower-machine m any =
-    four (λ k. IsMachine design lower lower_listed lower_routed k (slice_index_or lower_machines k any))
+    four (λ k. IsMachine design lower [] lower_listed lower_routed k (slice_index_or lower_machines k any))
     (record { name = refl; host = refl; body = (lit< tt, around-cut); ins = refl; outs = refl })
     (record { name = refl; host = refl; body = (lit< tt, within-cut); ins = refl; outs = refl })
     (record { name = refl; host = refl; body = (lit< tt, refl); ins = refl; outs = refl })
-    (record { name = refl; host = refl; body = lit≤ tt; ins = refl; outs = refl })
+    (record { name = refl; host = refl; body = (lit≤ tt, lit< tt); ins = refl; outs = refl })
     m
 
 -- the needs of the hub's channels go through the ports of `u`
@@ -354,5 +354,5 @@ is-lower-channel c any =
     (record { signal = refl; name = refl; type = refl; producer = refl; consumer = refl; bound = refl; pipe = refl; ascending = ascending (2 ∷ []) refl; needs = λ other. has-needs around (0 ∷ 2 ∷ []) 1 (2 ∷ []) refl })
     c
 
-pub is-lower-plan : IsPlan design lower 2 (record { machines = lower_machines; channels = lower_channels; listed = lower_listed; ratios = [] })
-is-lower-plan = record { listed = refl; ratios = refl; machine_total = refl; channel_total = refl; machine = is-lower-machine; channel = is-lower-channel; shared = unshared lower_machines refl }
+pub is-lower-plan : IsPlan design lower [] 2 (record { machines = lower_machines; channels = lower_channels; listed = lower_listed; ratios = [] })
+is-lower-plan = record { listed = refl; ratios = refl; machine_total = refl; few = lit< tt; channel_total = refl; machine = is-lower-machine; channel = is-lower-channel; shared = unshared lower_machines refl }

@@ -23,7 +23,7 @@ use Rattle.gg_cut.specs.declared.plan.Channel.{Channel}
 use Rattle.gg_cut.specs.declared.plan.Plan.{Plan}
 use Rattle.gg_cut.specs.Channels.{wires_of, capacity_of}
 use Rattle.gg_cut.specs.declared.wires.Wire.{Wire}
-use Rattle.gg_cut.specs.Direct.{Hub, hub_of}
+use Rattle.gg_cut.specs.Direct.{Hub, plan_hub}
 use Rattle.gg_cut.specs.Hosts.{host_of}
 use Rattle.gg_cut.specs.Fault.{Tells, first_fault}
 use Rattle.gg_cut.specs.Plan.{IsPlan, IsMachine, IsChannel, IsCutPart, wire_at}
@@ -156,7 +156,7 @@ abbrev pub wires : List Wire
 wires = wires_of circuit tree listed
 
 abbrev pub routed : Hub
-routed = hub_of circuit tree listed (λ s. false) false
+routed = plan_hub circuit tree both_units
 
 hub-cut : IsCutPart design listed routed 0 hub
 hub-cut = is-cut-part design listed routed 0 hub hub-part refl refl refl refl refl refl refl refl (no-memories tree listed 0 refl) refl
@@ -176,14 +176,14 @@ module _ (share : List (List (List ℕ))) (hosts : Upto (λ m. host_of (codes "a
   host : (m : ℕ) → m < 5 → m ≡ host_of (codes "a" ∷ codes "b" ∷ []) share m
   host m lt = sym (each-below (λ k. host_of (codes "a" ∷ codes "b" ∷ []) share k ≡ k) 5 hosts m lt)
 
-  is-machine : (m : ℕ) (any : Machine) → m < 5 → IsMachine design (asked share capacity) listed routed m (slice_index_or machines m any)
+  is-machine : (m : ℕ) (any : Machine) → m < 5 → IsMachine design (asked share capacity) [] listed routed m (slice_index_or machines m any)
   is-machine m any =
-      five (λ k. IsMachine design (asked share capacity) listed routed k (slice_index_or machines k any))
+      five (λ k. IsMachine design (asked share capacity) [] listed routed k (slice_index_or machines k any))
       (record { name = refl; host = host 0 (lit< tt); body = (lit< tt, hub-cut); ins = refl; outs = refl })
       (record { name = refl; host = host 1 (lit< tt); body = (lit< tt, a-cut); ins = refl; outs = refl })
       (record { name = refl; host = host 2 (lit< tt); body = (lit< tt, b-cut); ins = refl; outs = refl })
       (record { name = refl; host = host 3 (lit< tt); body = (lit< tt, refl); ins = refl; outs = refl })
-      (record { name = refl; host = host 4 (lit< tt); body = lit≤ tt; ins = refl; outs = refl })
+      (record { name = refl; host = host 4 (lit< tt); body = (lit≤ tt, lit< tt); ins = refl; outs = refl })
       m
 
 -- what the capacities are
@@ -217,16 +217,17 @@ is-channel capacity n b c any =
       ),
     ) c
 
-pub is-plan : IsPlan design both_units 1 plan
-is-plan = record { listed = refl; ratios = refl; machine_total = refl; channel_total = refl; machine = is-machine [] (refl, (refl, (refl, (refl, (refl, tt))))) []; channel = is-channel (capacity_of [] 1) 1 (refl, refl, refl, refl, refl, refl, refl, refl); shared = unshared machines refl }
+pub is-plan : IsPlan design both_units [] 1 plan
+is-plan = record { listed = refl; ratios = refl; machine_total = refl; few = lit< tt; channel_total = refl; machine = is-machine [] (refl, (refl, (refl, (refl, (refl, tt))))) []; channel = is-channel (capacity_of [] 1) 1 (refl, refl, refl, refl, refl, refl, refl, refl); shared = unshared machines refl }
 
 -- a capacity of the file takes the place of the default
-of-the-file : IsPlan design (asked [] ((codes "a.x", 7) ∷ [])) 1 (record { machines = machines; channels = channels 7; listed = listed; ratios = [] })
+of-the-file : IsPlan design (asked [] ((codes "a.x", 7) ∷ [])) [] 1 (record { machines = machines; channels = channels 7; listed = listed; ratios = [] })
 of-the-file =
     record {
       listed = refl;
       ratios = refl;
       machine_total = refl;
+      few = lit< tt;
       channel_total = refl;
       machine = is-machine [] (refl, (refl, (refl, (refl, (refl, tt))))) ((codes "a.x", 7) ∷ []);
       channel = is-channel (capacity_of ((codes "a.x", 7) ∷ []) 1) 7 (refl, refl, refl, refl, refl, refl, refl, refl);
@@ -237,8 +238,8 @@ of-the-file =
 abbrev b_first : List (List (List ℕ))
 b_first = (codes "b" ∷ []) ∷ (codes "a" ∷ []) ∷ []
 
-by-machines : IsPlan design (asked b_first []) 1 plan
-by-machines = record { listed = refl; ratios = refl; machine_total = refl; channel_total = refl; machine = is-machine b_first (refl, (refl, (refl, (refl, (refl, tt))))) []; channel = is-channel (capacity_of [] 1) 1 (refl, refl, refl, refl, refl, refl, refl, refl); shared = unshared machines refl }
+by-machines : IsPlan design (asked b_first []) [] 1 plan
+by-machines = record { listed = refl; ratios = refl; machine_total = refl; few = lit< tt; channel_total = refl; machine = is-machine b_first (refl, (refl, (refl, (refl, (refl, tt))))) []; channel = is-channel (capacity_of [] 1) 1 (refl, refl, refl, refl, refl, refl, refl, refl); shared = unshared machines refl }
 
 -- ---- what is no plan of the cut
 
@@ -249,7 +250,7 @@ abbrev any_channel : Channel
 any_channel = channel 0 [] 0 0 0 []
 
 -- the default doesn't take the place of a capacity of the file
-overridden : ¬ IsPlan design (asked [] ((codes "a.x", 7) ∷ [])) 1 plan
+overridden : ¬ IsPlan design (asked [] ((codes "a.x", 7) ∷ [])) [] 1 plan
 overridden is = let bound : 1 ≡ 7 = (is.channel 1 any_channel (lit< tt)).bound in absurd (omega (arith, bound))
 
 -- hosts numbered in the order of `share`
@@ -264,7 +265,7 @@ in_share_order =
       ratios = [];
     }
 
-share-order : ¬ IsPlan design (asked b_first []) 1 in_share_order
+share-order : ¬ IsPlan design (asked b_first []) [] 1 in_share_order
 share-order is = let host : 2 ≡ 1 = (is.machine 1 any_machine (lit< tt)).host in absurd (omega (arith, host))
 
 -- a plan in which a channel has other needs
@@ -272,19 +273,19 @@ abbrev with_needs : ℕ → Channel → Plan
 with_needs c other = record { machines = machines; channels = set (channels 1) c other; listed = listed; ratios = [] }
 
 -- `a.p` needs just one of the two inputs of `a`
-all-inputs : ¬ IsPlan design both_units 1 (with_needs 3 (channel 4 (codes "a.p") 1 0 1 (1 ∷ 2 ∷ [])))
+all-inputs : ¬ IsPlan design both_units [] 1 (with_needs 3 (channel 4 (codes "a.p") 1 0 1 (1 ∷ 2 ∷ [])))
 all-inputs is = extra-need part_a (1 ∷ 2 ∷ []) 2 (1 ∷ 2 ∷ []) 2 refl refl refl ((is.channel 3 any_channel (lit< tt)).needs any_machine 2 (lit< tt) refl)
 
 -- `a.q` needs both
-one-input : ¬ IsPlan design both_units 1 (with_needs 4 (channel 5 (codes "a.q") 1 0 1 (1 ∷ [])))
+one-input : ¬ IsPlan design both_units [] 1 (with_needs 4 (channel 5 (codes "a.q") 1 0 1 (1 ∷ [])))
 one-input is = lacks-need part_a (1 ∷ 2 ∷ []) 3 (1 ∷ []) 2 refl refl refl ((is.channel 4 any_channel (lit< tt)).needs any_machine 3 (lit< tt) refl)
 
 -- needs stand in ascending order
-reversed : ¬ IsPlan design both_units 1 (with_needs 4 (channel 5 (codes "a.q") 1 0 1 (2 ∷ 1 ∷ [])))
+reversed : ¬ IsPlan design both_units [] 1 (with_needs 4 (channel 5 (codes "a.q") 1 0 1 (2 ∷ 1 ∷ [])))
 reversed is = let less : 2 < 1 = (is.channel 4 any_channel (lit< tt)).ascending 0 1 0 (lit< tt) (lit< tt) in absurd (omega (arith, less))
 
 -- what the hub takes from `a` needs nothing of `b`: the hub's needs don't go on in the units
-through-a-unit : ¬ IsPlan design both_units 1 (with_needs 7 (channel 1 (codes "q") 0 4 1 (4 ∷ 6 ∷ [])))
+through-a-unit : ¬ IsPlan design both_units [] 1 (with_needs 7 (channel 1 (codes "q") 0 4 1 (4 ∷ 6 ∷ [])))
 through-a-unit is = extra-need hub (0 ∷ 3 ∷ 4 ∷ 6 ∷ []) 7 (4 ∷ 6 ∷ []) 6 refl refl refl ((is.channel 7 any_channel (lit< tt)).needs any_machine 7 (lit< tt) refl)
 
 -- `a` with its output `p` as an in-signal
@@ -316,11 +317,11 @@ given-part =
     ((lit< tt, refl), ((lit< tt, refl), ((lit< tt, refl), ((names-below 4 (node eight (Ref 0) ∷ node eight (Ref 1) ∷ node eight (Two Xor 0 1) ∷ []) refl, refl), tt))))
     ((lit< tt, refl), ((lit< tt, refl), ((lit< tt, refl), tt))) refl refl refl
 
-out-taken : ¬ IsPlan design both_units 1 (record { machines = set machines 1 (record { name = codes "a"; host = 1; body = Cut given_p; ins = 1 ∷ 2 ∷ []; outs = 3 ∷ 4 ∷ [] }); channels = channels 1; listed = listed; ratios = [] })
+out-taken : ¬ IsPlan design both_units [] 1 (record { machines = set machines 1 (record { name = codes "a"; host = 1; body = Cut given_p; ins = 1 ∷ 2 ∷ []; outs = 3 ∷ 4 ∷ [] }); channels = channels 1; listed = listed; ratios = [] })
 out-taken is = let body = (is.machine 1 any_machine (lit< tt)).body in let count : 3 ≡ 2 = ap (λ (l : List ℕ). length l) body.1.ins in absurd (omega (arith, count))
 
 -- nor with the out-channel among the in-channels
-out-channel-taken : ¬ IsPlan design both_units 1 (record { machines = set machines 1 (record { name = codes "a"; host = 1; body = Cut given_p; ins = 1 ∷ 2 ∷ 3 ∷ []; outs = 3 ∷ 4 ∷ [] }); channels = channels 1; listed = listed; ratios = [] })
+out-channel-taken : ¬ IsPlan design both_units [] 1 (record { machines = set machines 1 (record { name = codes "a"; host = 1; body = Cut given_p; ins = 1 ∷ 2 ∷ 3 ∷ []; outs = 3 ∷ 4 ∷ [] }); channels = channels 1; listed = listed; ratios = [] })
 out-channel-taken is = let count : 3 ≡ 2 = ap (λ (l : List ℕ). length l) (is.machine 1 any_machine (lit< tt)).ins in absurd (omega (arith, count))
 
 -- ---- an entry that names nothing is reported before one that stands twice

@@ -27,7 +27,7 @@ use Rattle.gg_cut.specs.declared.plan.Machine.{Machine}
 use Rattle.gg_cut.specs.declared.plan.Channel.{Channel}
 use Rattle.gg_cut.specs.declared.listed.Listed.{Listed}
 use Rattle.gg_cut.specs.declared.wires.Wire.{Wire}
-use Rattle.gg_cut.specs.Direct.{Hub, hub_of}
+use Rattle.gg_cut.specs.Direct.{Hub, plan_hub}
 use Rattle.gg_cut.specs.Listed.{listed_of}
 use Rattle.gg_cut.specs.Channels.{wires_of, capacity_of}
 use Rattle.gg_cut.specs.Plan.{IsPlan, IsMachine, IsChannel, IsCutPart, wire_at}
@@ -86,7 +86,7 @@ abbrev pub wires : List Wire
 wires = wires_of circuit tree listed
 
 abbrev pub routed : Hub
-routed = hub_of circuit tree listed (λ s. false) false
+routed = plan_hub circuit tree request
 
 -- ---- the parts
 
@@ -225,9 +225,9 @@ channels =
     ∷ channel 1 (codes "p") 0 4 (2 ∷ [])
     ∷ channel 2 (codes "q") 0 5 (4 ∷ []) ∷ []
 
-is-machine : (m : ℕ) (any : Machine) → m < 6 → IsMachine design request listed routed m (slice_index_or machines m any)
+is-machine : (m : ℕ) (any : Machine) → m < 6 → IsMachine design request [] listed routed m (slice_index_or machines m any)
 is-machine m any =
-    each-below (λ k. IsMachine design request listed routed k (slice_index_or machines k any)) 6 (
+    each-below (λ k. IsMachine design request [] listed routed k (slice_index_or machines k any)) 6 (
       record { name = refl; host = refl; body = (lit< tt, hub-cut); ins = refl; outs = refl },
       (
         record { name = refl; host = refl; body = (lit< tt, u-cut); ins = refl; outs = refl },
@@ -236,8 +236,8 @@ is-machine m any =
           (
             record { name = refl; host = refl; body = (lit< tt, refl); ins = refl; outs = refl },
             (
-              record { name = refl; host = refl; body = lit≤ tt; ins = refl; outs = refl },
-              (record { name = refl; host = refl; body = lit≤ tt; ins = refl; outs = refl }, tt),
+              record { name = refl; host = refl; body = (lit≤ tt, lit< tt); ins = refl; outs = refl },
+              (record { name = refl; host = refl; body = (lit≤ tt, lit< tt); ins = refl; outs = refl }, tt),
             ),
           ),
         ),
@@ -266,12 +266,13 @@ is-channel c any =
       ),
     ) c
 
-pub is-plan : IsPlan design request 2 (record { machines = machines; channels = channels; listed = listed; ratios = [] })
+pub is-plan : IsPlan design request [] 2 (record { machines = machines; channels = channels; listed = listed; ratios = [] })
 is-plan =
     record {
       listed = refl;
       ratios = refl;
       machine_total = refl;
+      few = lit< tt;
       channel_total = refl;
       machine = is-machine;
       channel = is-channel;
@@ -290,22 +291,22 @@ abbrev any_channel : Channel
 any_channel = channel 0 [] 0 0 []
 
 -- needs that go on through a register
-through-register : ¬ IsPlan design request 2 (record { machines = machines; channels = set channels 2 (channel 4 (codes "u.s") 1 0 (1 ∷ [])); listed = listed; ratios = [] })
+through-register : ¬ IsPlan design request [] 2 (record { machines = machines; channels = set channels 2 (channel 4 (codes "u.s") 1 0 (1 ∷ [])); listed = listed; ratios = [] })
 through-register is = extra-need part_u (1 ∷ []) 1 (1 ∷ []) 1 refl refl refl ((is.channel 2 any_channel (lit< tt)).needs any_machine 1 (lit< tt) refl)
 
 -- a host of its own for the second unit
-apart : ¬ IsPlan design request 2 (record { machines = set machines 2 (record { name = codes "v"; host = 2; body = Cut part_v; ins = 3 ∷ []; outs = 4 ∷ [] }); channels = channels; listed = listed; ratios = [] })
+apart : ¬ IsPlan design request [] 2 (record { machines = set machines 2 (record { name = codes "v"; host = 2; body = Cut part_v; ins = 3 ∷ []; outs = 4 ∷ [] }); channels = channels; listed = listed; ratios = [] })
 apart is = let host : 2 ≡ 1 = (is.machine 2 any_machine (lit< tt)).host in absurd (omega (arith, host))
 
 -- a host number left out before the machines that follow
-skipped : ¬ IsPlan design request 2 (record { machines = set machines 3 (record { name = codes "in:x"; host = 3; body = Source 0; ins = []; outs = 0 ∷ [] }); channels = channels; listed = listed; ratios = [] })
+skipped : ¬ IsPlan design request [] 2 (record { machines = set machines 3 (record { name = codes "in:x"; host = 3; body = Source 0; ins = []; outs = 0 ∷ [] }); channels = channels; listed = listed; ratios = [] })
 skipped is = let host : 3 ≡ 2 = (is.machine 3 any_machine (lit< tt)).host in absurd (omega (arith, host))
 
 -- `v` with the register of `u`
 abbrev mixed : Part
 mixed = record { piece = part_v.piece; globals = part_v.globals; held = 0 ∷ []; memories = []; clocks = [] }
 
-register-mixed : ¬ IsPlan design request 2 (record { machines = set machines 2 (record { name = codes "v"; host = 1; body = Cut mixed; ins = 3 ∷ []; outs = 4 ∷ [] }); channels = channels; listed = listed; ratios = [] })
+register-mixed : ¬ IsPlan design request [] 2 (record { machines = set machines 2 (record { name = codes "v"; host = 1; body = Cut mixed; ins = 3 ∷ []; outs = 4 ∷ [] }); channels = channels; listed = listed; ratios = [] })
 register-mixed is = let body = (is.machine 2 any_machine (lit< tt)).body in let from = body.1.is.drivers 0 (lit< tt) in let wrong : Held 1 ≡ Held 0 = from.1 in cc
 
 -- the registers of both units, of which the signals of `u` hold one
@@ -313,7 +314,7 @@ register-idle : ¬ AreHeld circuit part_u.globals (3 ∷ []) (0 ∷ 1 ∷ [])
 register-idle = idle-register circuit part_u.globals (3 ∷ []) (0 ∷ 1 ∷ []) 1 refl refl
 
 -- both units with the part of `u`
-twice-u : ¬ IsPlan design request 2 (record { machines = set machines 2 (record { name = codes "v"; host = 1; body = Cut part_u; ins = 3 ∷ []; outs = 4 ∷ [] }); channels = channels; listed = listed; ratios = [] })
+twice-u : ¬ IsPlan design request [] 2 (record { machines = set machines 2 (record { name = codes "v"; host = 1; body = Cut part_u; ins = 3 ∷ []; outs = 4 ∷ [] }); channels = channels; listed = listed; ratios = [] })
 twice-u is = let body = (is.machine 2 any_machine (lit< tt)).body in let wrong : 3 ≡ 6 = ap (λ (l : List ℕ). value_at l 0) body.1.ins in absurd (omega (arith, wrong))
 
 -- a part of `v` whose signals are listed in another order: it runs as well, but not as the part of `u`
@@ -356,7 +357,7 @@ turned-cut : IsCutPart design listed routed 2 turned
 turned-cut = is-cut-part design listed routed 2 turned turned-part refl refl refl refl refl refl refl refl (no-memories tree listed 2 refl) refl
 
 -- one host, but two programs
-two-programs : ¬ IsPlan design request 2 (record { machines = set machines 2 (record { name = codes "v"; host = 1; body = Cut turned; ins = 3 ∷ []; outs = 4 ∷ [] }); channels = channels; listed = listed; ratios = [] })
+two-programs : ¬ IsPlan design request [] 2 (record { machines = set machines 2 (record { name = codes "v"; host = 1; body = Cut turned; ins = 3 ∷ []; outs = 4 ∷ [] }); channels = channels; listed = listed; ratios = [] })
 two-programs is =
     let alike = is.shared 1 2 any_machine any_machine (lit< tt) (lit< tt) (λ e. absurd (omega (arith, e))) refl in
     let wrong : 2 ≡ 1 = ap (λ (l : List ℕ). value_at l 0) alike.ins in absurd (omega (arith, wrong))

@@ -16,7 +16,7 @@ use Rattle.gg_part.specs.Clocking.{IsTimed}
 use Rattle.gg_part.specs.InOrder.{IsInOrder}
 use Rattle.gg_partfile.specs.declared.request.Request.{Request}
 use Rattle.gg_cut.specs.declared.plan.Body.{Body}
-use Rattle.gg_cut.specs.declared.plan.Body.TheVariants.{Cut, Memory, Source, Tray}
+use Rattle.gg_cut.specs.declared.plan.Body.TheVariants.{Cut, Memory, Source, Tray, Bridge}
 use Rattle.gg_cut.specs.declared.plan.Machine.{Machine}
 use Rattle.gg_cut.specs.declared.plan.Channel.{Channel}
 use Rattle.gg_cut.specs.declared.listed.Listed.{Listed}
@@ -27,7 +27,7 @@ use Rattle.gg_routes.specs.Share.{IsPlanShare}
 use Rattle.gg_cut.specs.Alike.{AreAlike}
 use Rattle.gg_cut.specs.Hosts.{leader}
 use Rattle.gg_cut.specs.Machines.{first_unit, first_memory, machine_count}
-use Rattle.gg_cut.specs.Plan.{wire_at, channels_to, channels_from, signals_of, givens_of, IsBody, IsMachine, AreNeedsOf, NeedsIn, IsChannel}
+use Rattle.gg_cut.specs.Plan.{wire_at, channels_to, channels_from, signals_of, givens_of, IsCutBody, IsCutMachine, AreNeedsOf, NeedsIn, IsChannel}
 
 -- how many tokens a channel may hold
 abbrev pub IsCapacity : ℕ → Type 0
@@ -39,6 +39,7 @@ HasAscending (Cut part) = AllPairs (λ a b. a < b) part.memories
 HasAscending (Memory part) = AllPairs (λ a b. a < b) part.memories
 HasAscending (Source place) = Unit {0}
 HasAscending Tray = Unit {0}
+HasAscending (Bridge bridge) = Unit {0}
 
 -- the registers and ports of a part follow what `clocking` has for the units
 abbrev pub IsTimedBody : Clocking → Body → Type 0
@@ -46,6 +47,7 @@ IsTimedBody clocking (Cut part) = IsTimed part.piece part.held part.memories clo
 IsTimedBody clocking (Memory part) = Unit {0}
 IsTimedBody clocking (Source place) = Unit {0}
 IsTimedBody clocking Tray = Unit {0}
+IsTimedBody clocking (Bridge bridge) = Unit {0}
 
 -- if machine m is a unit, its registers and ports follow what `clocking` has for the units
 abbrev pub IsTimedUnit : Listed → Clocking → ℕ → Body → Type 0
@@ -53,7 +55,7 @@ IsTimedUnit listed clocking m body = first_unit ≤ m → m < first_memory liste
 
 -- What machine m does, after the machines before it. If one of them is the first of its host, its part is like that one's.
 pub record IsMadeBody (design : Ordered) (request : Request) (listed : Listed) (hub : Hub) (clocking : Clocking) (machines : List Machine) (m : ℕ) (body : Body) : Type 0 where
-  pub is : IsBody design listed hub m body
+  pub is : IsCutBody design listed hub m body
   pub ascend : HasAscending body
   pub timed : IsTimedUnit listed clocking m body
   pub alike : (any : Machine) → leader request.units request.share m ≢ m → AreAlike (slice_index_or machines (leader request.units request.share m) any).body body
@@ -61,7 +63,7 @@ pub record IsMadeBody (design : Ordered) (request : Request) (listed : Listed) (
 -- the first `count` machines of a plan
 pub record AreMachinesTo (design : Ordered) (request : Request) (listed : Listed) (hub : Hub) (clocking : Clocking) (count : ℕ) (machines : List Machine) : Type 0 where
   pub counted : length machines ≡ count
-  pub each : (m : ℕ) (any : Machine) → m < count → IsMachine design request listed hub m (slice_index_or machines m any)
+  pub each : (m : ℕ) (any : Machine) → m < count → IsCutMachine design request listed hub m (slice_index_or machines m any)
   pub ascend : (m : ℕ) (any : Machine) → m < count → HasAscending (slice_index_or machines m any).body
   pub timed : (m : ℕ) (any : Machine) → m < count → IsTimedUnit listed clocking m (slice_index_or machines m any).body
   pub alike : (m : ℕ) (any other : Machine) → m < count → leader request.units request.share m ≢ m
@@ -70,7 +72,7 @@ pub record AreMachinesTo (design : Ordered) (request : Request) (listed : Listed
 -- the machines of a plan
 pub record AreMachines (design : Ordered) (request : Request) (listed : Listed) (hub : Hub) (machines : List Machine) : Type 0 where
   pub total : length machines ≡ machine_count design.circuit listed
-  pub each : (m : ℕ) (any : Machine) → m < length machines → IsMachine design request listed hub m (slice_index_or machines m any)
+  pub each : (m : ℕ) (any : Machine) → m < length machines → IsCutMachine design request listed hub m (slice_index_or machines m any)
   pub shared : (m n : ℕ) (any other : Machine) → m < length machines → n < length machines → m ≢ n → (slice_index_or machines m any).host ≡ (slice_index_or machines n other).host
       → AreAlike (slice_index_or machines m any).body (slice_index_or machines n other).body
 
@@ -89,6 +91,7 @@ IsServedBody wires (Cut part) taken given = IsServed wires part taken given
 IsServedBody wires (Memory part) taken given = IsServed wires part taken given
 IsServedBody wires (Source place) taken given = Unit {0}
 IsServedBody wires Tray taken given = Unit {0}
+IsServedBody wires (Bridge bridge) taken given = Unit {0}
 
 -- machine m has its channels, and its needs can be computed
 pub record IsFit (wires : List Wire) (m : ℕ) (machine : Machine) : Type 0 where

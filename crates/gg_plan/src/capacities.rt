@@ -1,10 +1,10 @@
 //! The capacities of channels, by their signals.
-ghost use Rattle.std.specs.Prelude.{◌≡◌, ℕ, List, ◌<◌, ◌≤◌, ◌^◌, if◌then◌else◌, bytes_eq, length, All, IfOk};
+ghost use Rattle.std.specs.Prelude.{◌≡◌, ℕ, ◌<◌, ◌^◌, length, All, IfOk};
 ghost use Rattle.gg_flat.specs.Line.{value_at};
 ghost use Rattle.gg_flat.specs.Tree.{path_at};
 ghost use Rattle.gg_cut.specs.Channels.{capacity_of};
 
-use crate::lists::filled;
+use crate::lists::{filled, set_named};
 use gg_bits::Name;
 use gg_flat::Piece;
 use std::alloc::{AllocError, Global};
@@ -27,20 +27,7 @@ pub(crate) fn capacity_table(
     let mut table = filled(alloc, piece.signal_count(), default)?;
     for step in 0..capacities.len() {
         let pair = &capacities[capacities.len() - 1 - step];
-        set_capacity(piece, &pair.0, pair.1 as u32, &mut table);
+        set_named(piece, &pair.0, pair.1 as u32, &mut table);
     }
     Ok(table)
-}
-
-// Gives a signal the capacity, if there is a signal with this path.
-fn set_capacity(piece: &Piece, path: &Name, capacity: u32, table: &mut Vec<u32>)
-    requires { length table.old.items ≡ length piece.now.signals }
-    ensures count { length table.new.items ≡ length table.old.items }
-    ensures set { (s : ℕ) → s < length piece.now.signals → value_at table.new.items s ≡ (if bytes_eq path.now (path_at piece.now.paths s) then capacity else value_at table.old.items s) }
-{
-    let _ = piece.signal_count();
-    match piece.find(path) {
-        Some(signal) => table[signal as usize] = capacity,
-        None => {}
-    }
 }

@@ -4,7 +4,7 @@ ghost use Rattle.std.specs.List.{list_any, range_with_len};
 ghost use Rattle.gg_flat.specs.Line.{value_at};
 ghost use Rattle.gg_cut.specs.Hosts.{machine_of, least_machine, leader, host_of};
 
-use crate::lists::picked;
+use crate::lists::{numbers, picked};
 use gg_bits::{Name, Names};
 use gg_cut::Numbering;
 use std::alloc::{AllocError, Global};
@@ -37,19 +37,6 @@ pub(crate) fn leaders_of(
         );
     }
     Ok(leaders)
-}
-
-// The numbers below a count.
-fn numbers(alloc: Global, count: usize) -> Result<Vec<u32>, AllocError>
-    requires { count < 2 ^ 32 }
-    ensures count { IfOk result (λ numbers. length numbers.items ≡ count) }
-    ensures same { IfOk result (λ numbers. (m : ℕ) → m < count → value_at numbers.items m ≡ m) }
-{
-    let mut numbers = Vec::new(alloc);
-    for number in 0..count {
-        numbers.push(number as u32)?;
-    }
-    Ok(numbers)
 }
 
 // Gives each machine of a list the least of these machines.
@@ -147,8 +134,8 @@ fn firsts_before(alloc: Global, leaders: &[u32]) -> Result<Vec<u32>, AllocError>
     Ok(before)
 }
 
-// 1 if a fact holds, else 0.
-fn one_if(holds: bool) -> u32
+/// 1 if a fact holds, else 0.
+pub(crate) fn one_if(holds: bool) -> u32
     ensures one { result ≡ (if holds then 1 else 0) }
     ensures small { result ≤ 1 }
 {

@@ -3,13 +3,13 @@ ghost use Rattle.std.specs.Prelude.{◌≡◌, ◌≢◌, ℕ, ◌+◌, ◌<◌,
 ghost use Rattle.gg_moved.specs.KeepsToTree.{KeepsToTree};
 ghost use Rattle.gg_cut.specs.Alike.{AreAlike};
 ghost use Rattle.gg_order.specs.Marks.{is_marked};
-ghost use Rattle.gg_cut.specs.Direct.{plan_hub, plan_wires, is_gone};
+ghost use Rattle.gg_cut.specs.Direct.{plan_hub, plan_routes, is_gone};
 ghost use Rattle.gg_cut.specs.Fault.{first_fault};
 ghost use Rattle.gg_cut.specs.Held.{AreHeldOnce};
 ghost use Rattle.gg_cut.specs.Hosts.{leader, host_of};
 ghost use Rattle.gg_cut.specs.Listed.{listed_of};
 ghost use Rattle.gg_cut.specs.Machines.{first_unit, first_memory, machine_count, numbering_of};
-ghost use Rattle.gg_cut.specs.Plan.{IsMachine, IsBody, machine_names};
+ghost use Rattle.gg_cut.specs.Plan.{IsCutMachine, IsCutBody, cut_names};
 ghost use Rattle.gg_flat.specs.Tree.{path_at};
 ghost use Rattle.gg_cut.specs.declared.plan.Machine.{Machine};
 ghost use Rattle.gg_closed.specs.Apart.{AreApart};
@@ -54,7 +54,7 @@ pub(crate) fn machines_of(
     requires faultless { first_fault design.now request.now ≡ None }
     requires listed { listed.now ≡ listed_of design.now.tree request.now }
     requires shares { AreShares design.now listed.now split.now.shares }
-    requires wires { routed.now.wires ≡ plan_wires design.now.circuit design.now.tree request.now }
+    requires wires { routed.now.wires ≡ plan_routes design.now.circuit design.now.tree request.now }
     requires gone { (s : ℕ) → s < length design.now.circuit.signals → is_marked routed.now.gone s ≡ is_gone (plan_hub design.now.circuit design.now.tree request.now) s }
     requires sound { AreRoutes design.now listed.now (plan_hub design.now.circuit design.now.tree request.now) }
     requires units { length listed.now.units ≡ length request.now.units }
@@ -115,9 +115,9 @@ fn machine_at(
     requires share { IsPlanShare design.now listed.now (plan_hub design.now.circuit design.now.tree request.now) number share.now.ins share.now.outs share.now.globals share.now.memories }
     requires units { length listed.now.units ≡ length request.now.units }
     requires known { number < machine_count design.now.circuit listed.now }
-    requires body { IsBody design.now listed.now (plan_hub design.now.circuit design.now.tree request.now) number body }
+    requires body { IsCutBody design.now listed.now (plan_hub design.now.circuit design.now.tree request.now) number body }
     requires host { host ≡ host_of request.now.units request.now.share number }
-    ensures machine { IfOk result (λ machine. IsMachine design.now request.now listed.now (plan_hub design.now.circuit design.now.tree request.now) number machine) }
+    ensures machine { IfOk result (λ machine. IsCutMachine design.now request.now listed.now (plan_hub design.now.circuit design.now.tree request.now) number machine) }
     ensures body { IfOk result (λ machine. machine.body ≡ body) }
 {
     match heading_of(alloc, design, request, listed, numbering, share, number) {
@@ -159,7 +159,7 @@ fn heading_of(
     requires numbering { numbering.now ≡ numbering_of design.now.circuit listed.now }
     requires units { length listed.now.units ≡ length request.now.units }
     requires known { number < machine_count design.now.circuit listed.now }
-    ensures name { IfOk result (λ h. h.name ≡ path_at (machine_names design.now request.now listed.now) number) }
+    ensures name { IfOk result (λ h. h.name ≡ path_at (cut_names design.now request.now listed.now) number) }
     ensures ins { IfOk result (λ h. h.ins ≡ share.now.ins) }
     ensures outs { IfOk result (λ h. h.outs ≡ share.now.outs) }
 {
@@ -188,7 +188,7 @@ fn body_at(
     requires domains { AreDomains design.now listed.now domains.now }
     requires faultless { first_fault design.now request.now ≡ None }
     requires listed { listed.now ≡ listed_of design.now.tree request.now }
-    requires wires { wires.now ≡ plan_wires design.now.circuit design.now.tree request.now }
+    requires wires { wires.now ≡ plan_routes design.now.circuit design.now.tree request.now }
     requires numbering { numbering.now ≡ numbering_of design.now.circuit listed.now }
     requires known { number < machine_count design.now.circuit listed.now }
     requires share { IsPlanShare design.now listed.now (plan_hub design.now.circuit design.now.tree request.now) number share.now.ins share.now.outs share.now.globals share.now.memories }
@@ -241,13 +241,13 @@ fn moved_body(
     requires routed { IsUnitRouted design.now listed.now (plan_hub design.now.circuit design.now.tree request.now) first }
     requires there { IsUnitRouted design.now listed.now (plan_hub design.now.circuit design.now.tree request.now) number }
     requires has { IsUnitShare design.now listed.now number share.now.globals share.now.memories }
-    requires leader { IsBody design.now listed.now (plan_hub design.now.circuit design.now.tree request.now) first leader.now }
+    requires leader { IsCutBody design.now listed.now (plan_hub design.now.circuit design.now.tree request.now) first leader.now }
     requires ascend { HasAscending leader.now }
     requires timed { IsTimedBody domains.now.units leader.now }
     requires share { IsPlanShare design.now listed.now (plan_hub design.now.circuit design.now.tree request.now) number share.now.ins share.now.outs share.now.globals share.now.memories }
-    requires wires { wires.now ≡ plan_wires design.now.circuit design.now.tree request.now }
+    requires wires { wires.now ≡ plan_routes design.now.circuit design.now.tree request.now }
     requires units { All (λ k. k < length design.now.tree.instances) listed.now.units }
-    ensures body { IfOk result (λ body. IsBody design.now listed.now (plan_hub design.now.circuit design.now.tree request.now) number body) }
+    ensures body { IfOk result (λ body. IsCutBody design.now listed.now (plan_hub design.now.circuit design.now.tree request.now) number body) }
     ensures ascend { IfOk result (λ body. HasAscending body) }
     ensures timed { IfOk result (λ body. IsTimedBody domains.now.units body) }
     ensures alike { IfOk result (λ body. AreAlike leader.now body) }
@@ -262,6 +262,7 @@ fn moved_body(
         Body::Memory(_) => unreachable!(),
         Body::Source(_) => unreachable!(),
         Body::Tray => unreachable!(),
+        Body::Bridge(_) => unreachable!(),
     }
 }
 
@@ -281,11 +282,11 @@ fn own_body(
     requires apart { AreApart design.now.tree listed.now }
     requires domains { AreDomains design.now listed.now domains.now }
     requires routed { first_unit ≤ number → number < first_memory listed.now → IsUnitRouted design.now listed.now (plan_hub design.now.circuit design.now.tree request.now) number }
-    requires wires { wires.now ≡ plan_wires design.now.circuit design.now.tree request.now }
+    requires wires { wires.now ≡ plan_routes design.now.circuit design.now.tree request.now }
     requires numbering { numbering.now ≡ numbering_of design.now.circuit listed.now }
     requires known { number < machine_count design.now.circuit listed.now }
     requires share { IsPlanShare design.now listed.now (plan_hub design.now.circuit design.now.tree request.now) number share.now.ins share.now.outs share.now.globals share.now.memories }
-    ensures body { IfOk result (λ body. IsBody design.now listed.now (plan_hub design.now.circuit design.now.tree request.now) number body) }
+    ensures body { IfOk result (λ body. IsCutBody design.now listed.now (plan_hub design.now.circuit design.now.tree request.now) number body) }
     ensures ascend { IfOk result (λ body. HasAscending body) }
     ensures timed { IfOk result (λ body. IsTimedUnit listed.now domains.now.units number body) }
 {

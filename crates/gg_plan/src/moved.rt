@@ -7,7 +7,7 @@ ghost use Rattle.gg_moved.specs.Moved.{shifted};
 ghost use Rattle.gg_part.specs.Building.{AreHeld};
 ghost use Rattle.gg_part.specs.Clocking.{IsTimed};
 ghost use Rattle.gg_part.specs.Part.{IsPart};
-ghost use Rattle.gg_cut.specs.Direct.{plan_hub, plan_wires};
+ghost use Rattle.gg_cut.specs.Direct.{plan_hub, plan_routes};
 ghost use Rattle.gg_cut_clocks.specs.Domains.{AreDomains};
 ghost use Rattle.gg_cut.specs.Machines.{first_unit, first_memory};
 ghost use Rattle.gg_cut.specs.Plan.{IsCutPart};
@@ -59,7 +59,7 @@ pub(crate) fn moved_part(
     requires timed { IsTimed leader.now.piece leader.now.held leader.now.memories domains.now.units.registers domains.now.units.ports }
     requires share { IsPlanShare design.now listed.now (plan_hub design.now.circuit design.now.tree request.now) number share.now.ins share.now.outs share.now.globals share.now.memories }
     requires has { IsUnitShare design.now listed.now number share.now.globals share.now.memories }
-    requires wires { wires.now ≡ plan_wires design.now.circuit design.now.tree request.now }
+    requires wires { wires.now ≡ plan_routes design.now.circuit design.now.tree request.now }
     requires units { All (λ k. k < length design.now.tree.instances) listed.now.units }
     ensures { IfOk result (λ part. IsFollower design.now listed.now (plan_hub design.now.circuit design.now.tree request.now) domains.now.units number leader.now part) }
 {

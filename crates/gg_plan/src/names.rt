@@ -3,7 +3,7 @@ ghost use Rattle.std.specs.Prelude.{◌≡◌, ◌<◌, ◌≤◌, ◌-◌, leng
 ghost use Rattle.gg_flat.specs.Line.{value_at};
 ghost use Rattle.gg_flat.specs.Tree.{path_at};
 ghost use Rattle.gg_cut.specs.Machines.{machine_count, numbering_of};
-ghost use Rattle.gg_cut.specs.Plan.{machine_names};
+ghost use Rattle.gg_cut.specs.Plan.{cut_names};
 
 use gg_bits::Name;
 use gg_cut::{Listed, Numbering, Role};
@@ -28,7 +28,7 @@ pub(crate) fn machine_name(
     requires numbering { numbering.now ≡ numbering_of design.now.circuit listed.now }
     requires units { length listed.now.units ≡ length request.now.units }
     requires known { number < machine_count design.now.circuit listed.now }
-    ensures { IfOk result (λ name. name ≡ path_at (machine_names design.now request.now listed.now) number) }
+    ensures { IfOk result (λ name. name ≡ path_at (cut_names design.now request.now listed.now) number) }
 {
     let piece = design.piece();
     match numbering.role(number) {
@@ -56,8 +56,17 @@ fn memory_name(alloc: Global, tree: &Tree, place: u32) -> Result<Name, AllocErro
     }
 }
 
-// The name of the tray of the out-signal at a place. The stops are behind the outputs.
-fn tray_name(alloc: Global, piece: &Piece, tree: &Tree, place: usize) -> Result<Name, AllocError>
+/// The name of the tray of the out-signal at a place. The stops are behind the outputs.
+///
+/// # Errors
+///
+/// Returns `AllocError` if an allocation fails.
+pub(crate) fn tray_name(
+    alloc: Global,
+    piece: &Piece,
+    tree: &Tree,
+    place: usize,
+) -> Result<Name, AllocError>
     requires { place < length piece.now.outs }
     ensures { IfOk result (λ name.
         (place < length piece.now.outs - length tree.now.stops → name ≡ codes "out:" ++ path_at piece.now.paths (value_at piece.now.outs place))
@@ -69,13 +78,33 @@ fn tray_name(alloc: Global, piece: &Piece, tree: &Tree, place: usize) -> Result<
     port_name(alloc, word, piece, outs[place])
 }
 
-// A word followed by the path of a signal.
-fn port_name(alloc: Global, word: &str, piece: &Piece, signal: u32) -> Result<Name, AllocError>
+/// A word followed by the path of a signal.
+///
+/// # Errors
+///
+/// Returns `AllocError` if an allocation fails.
+pub(crate) fn port_name(
+    alloc: Global,
+    word: &str,
+    piece: &Piece,
+    signal: u32,
+) -> Result<Name, AllocError>
     ensures { IfOk result (λ name. name ≡ word.now ++ path_at piece.now.paths signal) }
 {
     let path = signal_name(alloc, piece, signal)?;
+    worded(alloc, word, &path)
+}
+
+/// A word followed by a name.
+///
+/// # Errors
+///
+/// Returns `AllocError` if an allocation fails.
+pub(crate) fn worded(alloc: Global, word: &str, name: &Name) -> Result<Name, AllocError>
+    ensures { IfOk result (λ worded. worded ≡ word.now ++ name.now) }
+{
     let mut text = String::from_str(alloc, word)?;
-    text.push_str(path.as_str())?;
+    text.push_str(name.as_str())?;
     Ok(Name::from(text))
 }
 

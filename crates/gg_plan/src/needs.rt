@@ -64,7 +64,7 @@ fn tell_machine(
     match &machine.body {
         Body::Cut(part) => tell_part(alloc, wires, part, ins, outs, number, table),
         Body::Memory(part) => tell_part(alloc, wires, part, ins, outs, number, table),
-        Body::Source(_) | Body::Tray => Ok(()),
+        Body::Source(_) | Body::Tray | Body::Bridge(_) => Ok(()),
     }
 }
 

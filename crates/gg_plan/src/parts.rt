@@ -4,7 +4,7 @@ ghost use Rattle.gg_moved.specs.KeepsToTree.{KeepsToTree};
 ghost use Rattle.gg_part.specs.Clocking.{IsTimed};
 ghost use Rattle.gg_cut.specs.Machines.{first_unit, first_memory, first_source};
 ghost use Rattle.gg_cut.specs.Plan.{signals_of, givens_of, IsCutPart};
-ghost use Rattle.gg_cut.specs.Direct.{plan_hub, plan_wires};
+ghost use Rattle.gg_cut.specs.Direct.{plan_hub, plan_routes};
 ghost use Rattle.gg_closed.specs.Apart.{AreApart};
 ghost use Rattle.gg_cut_clocks.specs.Domains.{AreDomains};
 ghost use Rattle.gg_routes.specs.Share.{IsPlanShare};
@@ -38,7 +38,7 @@ pub(crate) fn cut_part(
     requires apart { AreApart design.now.tree listed.now }
     requires domains { AreDomains design.now listed.now domains.now }
     requires routed { first_unit ≤ number → number < first_memory listed.now → IsUnitRouted design.now listed.now (plan_hub design.now.circuit design.now.tree request.now) number }
-    requires wires { wires.now ≡ plan_wires design.now.circuit design.now.tree request.now }
+    requires wires { wires.now ≡ plan_routes design.now.circuit design.now.tree request.now }
     requires share { IsPlanShare design.now listed.now (plan_hub design.now.circuit design.now.tree request.now) number share.now.ins share.now.outs share.now.globals share.now.memories }
     requires inside { number < first_source listed.now }
     ensures part { IfOk result (λ part. IsCutPart design.now listed.now (plan_hub design.now.circuit design.now.tree request.now) number part) }

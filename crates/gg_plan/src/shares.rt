@@ -2,7 +2,7 @@
 ghost use Rattle.std.specs.Prelude.{◌≡◌, ◌==◌, ℕ, ◌<◌, if◌then◌else◌, None, [], length, slice_index_or, IfOk};
 ghost use Rattle.gg_moved.specs.KeepsToTree.{KeepsToTree};
 ghost use Rattle.gg_order.specs.Marks.{is_marked};
-ghost use Rattle.gg_cut.specs.Direct.{plan_hub, plan_wires, is_gone};
+ghost use Rattle.gg_cut.specs.Direct.{plan_hub, plan_routes, is_gone};
 ghost use Rattle.gg_cut.specs.Listed.{listed_of};
 ghost use Rattle.gg_cut.specs.Fault.{first_fault};
 ghost use Rattle.gg_split.specs.IsShare.{AreShares};
@@ -34,7 +34,7 @@ pub(crate) fn plan_shares(
     requires listed { listed.now ≡ listed_of design.now.tree request.now }
     requires faultless { first_fault design.now request.now ≡ None }
     requires shares { AreShares design.now listed.now split.now.shares }
-    requires wires { routed.now.wires ≡ plan_wires design.now.circuit design.now.tree request.now }
+    requires wires { routed.now.wires ≡ plan_routes design.now.circuit design.now.tree request.now }
     requires gone { (s : ℕ) → s < length design.now.circuit.signals → is_marked routed.now.gone s ≡ is_gone (plan_hub design.now.circuit design.now.tree request.now) s }
     requires sound { AreRoutes design.now listed.now (plan_hub design.now.circuit design.now.tree request.now) }
     ensures { IfOk result (λ shares. ArePlanShares design.now listed.now (plan_hub design.now.circuit design.now.tree request.now) shares.items) }

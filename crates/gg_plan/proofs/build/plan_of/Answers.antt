@@ -1,8 +1,15 @@
 use Rattle.std.proofs.Common.{◌<◌, List, length, sym, ◌∙◌, subst}
-use Rattle.std.specs.Prelude.{All}
+use Rattle.std.specs.Prelude.{All, Option}
 use Rattle.gg_cut.specs.declared.listed.Listed.{Listed}
 use Rattle.gg_cut.specs.declared.wires.Wire.{Wire}
+use Rattle.std.proofs.lemmas.Result.{err_from_is_err_and}
+use Rattle.gg_flat.specs.Circuit.{FlatCircuit}
+use Rattle.gg_flat.specs.WellFormed.{IsWellFormed}
+use Rattle.gg_cut.specs.declared.fault.CutFault.{CutFault}
+use Rattle.gg_cut.specs.Fault.{IsTold}
+use Rattle.gg_cut.proofs.WholeFaultLemmas.{bridges-first, others-told}
 use Rattle.gg_closed.specs.Apart.{AreApart}
+use Rattle.gg_plan.proofs.PlanLemmas.{bridges-at}
 use Rattle.gg_plan.proofs.build.plan_of.Goals as goal
 
 pub split-requires-clause-apart : goal.split-requires-clause-apart
@@ -16,3 +23,32 @@ plan_routes-requires-clause-apart c =
 pub judge_routed-requires-clause-known : goal.judge_routed-requires-clause-known
 judge_routed-requires-clause-known c =
     subst (λ (l : List Wire). All (λ w. w.signal < length c.args.design.now.circuit.signals) l) (sym (c.as_slice.ensures ∙ c.in_ok-routed.ensures.wires)) c.in_ok-routed.ensures.sound.known
+
+pub judge_bridges-requires-clause-formed : goal.judge_bridges-requires-clause-formed
+judge_bridges-requires-clause-formed c = subst (λ (k : FlatCircuit). IsWellFormed k) (sym c.piece.ensures.circuit) c.piece.ensures.formed
+
+pub returns-in_err-judge_routed-clause-told : goal.returns-in_err-judge_routed-clause-told
+returns-in_err-judge_routed-clause-told c =
+    let p = err_from_is_err_and c.from_residual-in_err-judge_routed.result c.from_residual-in_err-judge_routed.ensures.1 in
+    rw (p.1, p.2) (others-told c.args.design.now c.args.models.now c.args.request.now c.in_err-judge_routed.field-0.0 c.in_err-judge_routed.ensures)
+
+pub returns-in_err-judge_bridges-clause-told : goal.returns-in_err-judge_bridges-clause-told
+returns-in_err-judge_bridges-clause-told c =
+    let p = err_from_is_err_and c.from_residual-in_err-judge_bridges.result c.from_residual-in_err-judge_bridges.ensures.1 in
+    let design = c.args.design.now in
+    let models = c.args.models.now in
+    let request = c.args.request.now in
+    let cause = c.in_err-judge_bridges.field-0.0 in
+    rw (p.1, p.2) (subst (λ (fault : Option CutFault). IsTold fault cause) (bridges-at design models request c.piece.result.now c.tree.result.now c.piece.ensures.circuit c.tree.ensures.tree ∙ bridges-first design models request c.in_ok-judge_routed.ensures) c.in_err-judge_bridges.ensures)
+
+pub plan_by-requires-clause-bridges : goal.plan_by-requires-clause-bridges
+plan_by-requires-clause-bridges c =
+    sym (bridges-at c.args.design.now c.args.models.now c.args.request.now c.piece.result.now c.tree.result.now c.piece.ensures.circuit c.tree.ensures.tree) ∙ c.in_ok-judge_bridges.ensures
+
+pub returns-clause-told : goal.returns-clause-told
+returns-clause-told c =
+    let design = c.args.design.now in
+    let models = c.args.models.now in
+    let request = c.args.request.now in
+    sym (bridges-first design models request c.in_ok-judge_routed.ensures)
+    ∙ sym (bridges-at design models request c.piece.result.now c.tree.result.now c.piece.ensures.circuit c.tree.ensures.tree) ∙ c.in_ok-judge_bridges.ensures

@@ -1,7 +1,7 @@
 use Rattle.std.proofs.Common.{◌≡◌, ◌∙◌, ◌<◌, ◌≤◌, ◌-◌, get_or, length, codes, ◌++◌}
 use Rattle.std.proofs.lemmas.Result.{IfOk-weaker}
 use Rattle.gg_flat.specs.Tree.{path_at}
-use Rattle.gg_cut.specs.Plan.{machine_names}
+use Rattle.gg_cut.specs.Plan.{cut_names}
 use Rattle.gg_plan.proofs.NameLemmas.{memory-name, source-name, tray-name}
 use Rattle.gg_plan.proofs.names.machine_name.Goals as goal
 
@@ -9,7 +9,7 @@ pub returns-in-Memory : goal.returns-in-Memory
 returns-in-Memory c =
     let memories = c.as_slice-in-Memory.result.now in
     let is = c.in-Memory.ensures {u = tt} in
-    IfOk-weaker c.memory_name.result (λ name. name ≡ path_at c.tree.result.now.memory_paths (get_or memories c.in-Memory.place 0)) (λ name. name ≡ path_at (machine_names c.args.design.now c.args.request.now c.args.listed.now) c.args.number)
+    IfOk-weaker c.memory_name.result (λ name. name ≡ path_at c.tree.result.now.memory_paths (get_or memories c.in-Memory.place 0)) (λ name. name ≡ path_at (cut_names c.args.design.now c.args.request.now c.args.listed.now) c.args.number)
     (λ name e. e ∙ memory-name c.args.design.now c.args.request.now c.args.listed.now c.tree.result.now memories c.args.numbering.now c.args.number c.in-Memory.place c.tree.ensures.tree c.as_slice-in-Memory.ensures c.requires.numbering c.requires.units is.0 is.1)
     c.memory_name.ensures
 
@@ -18,7 +18,7 @@ returns-in-Source c =
     let circuit = c.piece-piece.result.now in
     let ins = c.ins.result.now in
     let is = c.in-Source.ensures {u = tt} in
-    IfOk-weaker c.port_name.result (λ name. name ≡ codes "in:" ++ path_at circuit.paths (get_or ins c.in-Source.place 0)) (λ name. name ≡ path_at (machine_names c.args.design.now c.args.request.now c.args.listed.now) c.args.number)
+    IfOk-weaker c.port_name.result (λ name. name ≡ codes "in:" ++ path_at circuit.paths (get_or ins c.in-Source.place 0)) (λ name. name ≡ path_at (cut_names c.args.design.now c.args.request.now c.args.listed.now) c.args.number)
     (λ name e. e ∙ source-name c.args.design.now c.args.request.now c.args.listed.now circuit ins c.args.numbering.now c.args.number c.in-Source.place c.piece-piece.ensures.circuit c.ins.ensures c.requires.numbering c.requires.units is.0 is.1)
     c.port_name.ensures
 
@@ -30,6 +30,6 @@ returns-in-Tray c =
     IfOk-weaker c.tray_name.result
     (λ name. (c.in-Tray.place < length circuit.outs - length tree.stops → name ≡ codes "out:" ++ path_at circuit.paths (get_or circuit.outs c.in-Tray.place 0))
     × (length circuit.outs - length tree.stops ≤ c.in-Tray.place → name ≡ codes "halt:" ++ path_at circuit.paths (get_or circuit.outs c.in-Tray.place 0)))
-    (λ name. name ≡ path_at (machine_names c.args.design.now c.args.request.now c.args.listed.now) c.args.number)
+    (λ name. name ≡ path_at (cut_names c.args.design.now c.args.request.now c.args.listed.now) c.args.number)
     (λ name e. tray-name c.args.design.now c.args.request.now c.args.listed.now circuit tree c.args.numbering.now c.args.number c.in-Tray.place name c.piece-piece.ensures.circuit c.tree-in-Tray.ensures.tree c.requires.numbering c.requires.units is.0 is.1 e.0 e.1)
     c.tray_name.ensures
