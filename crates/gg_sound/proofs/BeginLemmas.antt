@@ -10,7 +10,7 @@ use Rattle.gg_part.specs.PartRun.{part_state}
 use Rattle.gg_part.specs.declared.part.Part.{Part}
 use Rattle.gg_memunit.proofs.DependLemmas.{IsOutOf}
 
-one-number : (numbers : List ℕ) → length numbers ≡ 1 → numbers ≡ value_at numbers 0 ∷ []
+pub one-number : (numbers : List ℕ) → length numbers ≡ 1 → numbers ≡ value_at numbers 0 ∷ []
 one-number [] one = absurd (omega arith)
 one-number (x ∷ []) one = refl
 one-number (x ∷ y ∷ numbers) one = absurd (omega arith)

@@ -34,3 +34,11 @@ pub mod AloneLemmas
 pub mod StandLemmas
 pub mod BodyLemmas
 mod WorkedAlone
+pub mod TurnedLemmas
+pub mod PlaceLemmas
+pub mod SeatLemmas
+pub mod BridgeLemmas
+pub mod RowLemmas
+pub mod BridgeDoLemmas
+pub mod SolveLemmas
+mod WorkedBridge

@@ -22,7 +22,7 @@ use Rattle.gg_cut.specs.declared.wires.Wire.{Wire as Link}
 use Rattle.gg_cut.specs.Listed.{listed_of, first_place, unit_or_hub, memory_or, has_signal, owner_of, owner_of_instance}
 use Rattle.gg_cut.specs.Machines.{first_memory, first_source, is_memory}
 use Rattle.gg_cut.specs.Channels.{wire, flattened, reader_wires, writer_wires, wires_of}
-use Rattle.gg_cut.specs.Direct.{Hub, is_piped, plan_hub, plan_wires}
+use Rattle.gg_cut.specs.Direct.{Hub, is_driven, is_piped, plan_hub, plan_routes}
 use Rattle.gg_cut.specs.Plan.{wire_at as link_at, channels_to, channels_from, signals_of, givens_of, IsInner, MakesBy, Takes, HasMemory, IsCutPart}
 use Rattle.gg_cut.proofs.WireLemmas.{unit-below, unit_or_hub-below}
 use Rattle.gg_closed.specs.Apart.{AreApart, AreFew}
@@ -82,9 +82,9 @@ module _ (design : Ordered) (request : Request) (m : ℕ) (part : Part) (is : Is
   abbrev plain : List Link
   plain = wires_of design.circuit design.tree (listed_of design.tree request)
 
-  -- the channels of the plan
+  -- the channels of the cut
   abbrev links : List Link
-  links = plan_wires design.circuit design.tree request
+  links = plan_routes design.circuit design.tree request
 
   abbrev i : ℕ
   i = m - first_memory (listed_of design.tree request)
@@ -93,7 +93,7 @@ module _ (design : Ordered) (request : Request) (m : ℕ) (part : Part) (is : Is
   own = (memory_at design.tree (value_at (listed_of design.tree request).memories (m - first_memory (listed_of design.tree request)))).memory
 
   base : IsBase hub
-  base = plan-base design listed (is_piped design.circuit request) request.direct is keeps apart
+  base = plan-base design listed (is_piped design.circuit request) (is_driven design.circuit request) request.direct is keeps apart
 
   -- it is a listed memory, and not the hub
   number-is-memory : is_memory listed m ≡ true
@@ -284,7 +284,7 @@ module _ (design : Ordered) (request : Request) (m : ℕ) (part : Part) (is : Is
     few : AreFew circuit tree request → length memory.readers + length memory.writers ≤ 16384
     few are =
         let channels = are.channels in
-        let ports = memory-few circuit tree listed (is_piped circuit request) request.direct base i there in
+        let ports = memory-few circuit tree listed (is_piped circuit request) (is_driven circuit request) request.direct base i there in
         let reads : length (readers_at circuit own) ≡ length memory.readers = ap length readers ∙ length-map memory.readers (renamed_reader part.globals part.clocks) in
         let writes : length (writers_at circuit own) ≡ length memory.writers = ap length writers ∙ length-map memory.writers (renamed_writer part.globals part.clocks) in
         omega (arith, channels, ports, reads, writes)

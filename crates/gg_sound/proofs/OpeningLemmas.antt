@@ -8,17 +8,19 @@ use Rattle.gg_order.specs.Design.{Ordered}
 use Rattle.gg_partfile.specs.declared.request.Request.{Request}
 use Rattle.gg_cut.specs.declared.listed.Listed.{Listed}
 use Rattle.gg_cut.specs.declared.plan.Body.{Body}
-use Rattle.gg_cut.specs.declared.plan.Body.TheVariants.{Cut, Memory, Source, Tray}
+use Rattle.gg_cut.specs.declared.plan.Body.TheVariants.{Cut, Memory, Source, Tray, Bridge}
 use Rattle.gg_cut.specs.declared.plan.Machine as planned
 use Rattle.gg_cut.specs.declared.plan.Plan.{Plan}
+use Rattle.gg_cut.specs.Bridges.{Models}
 use Rattle.gg_cut.specs.Listed.{listed_of}
 use Rattle.gg_cut.specs.Direct.{Hub, plan_hub}
 use Rattle.gg_cut.specs.Plan.{IsBody}
 use Rattle.gg_closed.proofs.FaultlessLemmas.{faultless-apart, faultless-few}
-use Rattle.gg_routes.proofs.RoutedLemmas.{plan-routed}
+use Rattle.gg_joined.specs.Turned.{turned}
 use Rattle.gg_node.specs.Machine.{Machine, machine_at, no_state}
 use Rattle.gg_net.specs.Net.{IsOpening}
 use Rattle.gg_sound.specs.Built.{machine_in, nameless, IsBuilt, AreBuilt, IsGiven, body_start, body_state, states_of, flow_of}
+use Rattle.gg_sound.proofs.GivenLemmas.{faultless, routed}
 use Rattle.gg_sound.proofs.MemoryPartLemmas.{memory-part}
 use Rattle.gg_sound.proofs.BeginLemmas.{memory-begins}
 
@@ -29,7 +31,7 @@ latches-of n = let none : Option ℕ = None in ap (λ (k : ℕ). replicate k non
 flags-of : (n : ℕ) → replicate n false ≡ replicate (length (replicate n false)) false
 flags-of n = ap (λ (k : ℕ). replicate k false) (sym (length-replicate n false))
 
-module _ (design : Ordered) (request : Request) (default : ℕ) (plan : Plan) (columns : List (List ℕ)) (n : ℕ) (start : Start) (rows : List (List ℕ)) (machines : List Machine) (given : IsGiven design request default plan columns n start rows) (built : AreBuilt plan (body_start start) columns machines) where
+module _ (design : Ordered) (request : Request) (models : Models) (default : ℕ) (plan : Plan) (columns : List (List ℕ)) (n : ℕ) (start : Start) (rows : List (List ℕ)) (machines : List Machine) (given : IsGiven design request models default plan columns n start rows) (built : AreBuilt plan (body_start start) columns machines) where
   abbrev listed : Listed
   listed = listed_of design.tree request
 
@@ -37,7 +39,7 @@ module _ (design : Ordered) (request : Request) (default : ℕ) (plan : Plan) (c
   hub = plan_hub design.circuit design.tree request
 
   -- a machine with this body begins in its part of the start
-  opens : (m outs : ℕ) (body : Body) (machine : Machine) → IsBody design listed hub m body → state_in (states_of plan start.state) m ≡ body_state body start.state → IsBuilt columns outs (body_start start body) body machine → IsOpening (flow_of design request plan start rows) m machine
+  opens : (m outs : ℕ) (body : Body) (machine : Machine) → IsBody design request models listed hub m body → state_in (states_of plan start.state) m ≡ body_state body start.state → IsBuilt columns outs (body_start start body) body machine → IsOpening (flow_of design request plan start rows) m machine
   opens m outs (Cut part) machine body begins unit =
       subst (IsOpening (flow_of design request plan start rows) m) (sym unit.is)
       (record {
@@ -49,7 +51,7 @@ module _ (design : Ordered) (request : Request) (default : ℕ) (plan : Plan) (c
         kept = refl;
       })
   opens m outs (Memory part) machine body begins memory =
-      let own = memory-part design request m part given.design_is given.keeps (faultless-apart design request given.faultless given.keeps.fitting) (plan-routed design request given.design_is given.keeps given.faultless) body.0 body.1 body.2 (faultless-few design request given.faultless) in
+      let own = memory-part design request m part given.can.design_is given.can.keeps (faultless-apart design request (faultless design request models given.can) given.can.keeps.fitting) (routed design request models given.can) body.0 body.1 body.2 (faultless-few design request (faultless design request models given.can)) in
       subst (IsOpening (flow_of design request plan start rows) m) (sym memory.is)
       (record {
         cycle = refl;
@@ -61,6 +63,9 @@ module _ (design : Ordered) (request : Request) (default : ℕ) (plan : Plan) (c
       })
   opens m outs (Source place) machine body begins is = subst (IsOpening (flow_of design request plan start rows) m) (sym is) (record { cycle = refl; state = refl; served = refl; latches = refl; flags = flags-of outs; kept = refl })
   opens m outs Tray machine body begins is = subst (IsOpening (flow_of design request plan start rows) m) (sym is) (record { cycle = refl; state = refl; served = refl; latches = refl; flags = refl; kept = refl })
+  opens m outs (Bridge bridge) machine body begins is =
+      let piece = turned bridge.model bridge.ins bridge.outs in
+      subst (IsOpening (flow_of design request plan start rows) m) (sym is) (record { cycle = refl; state = sym begins; served = refl; latches = latches-of (length piece.ins); flags = flags-of (length piece.outs); kept = refl })
 
   pub built-opening : (m : ℕ) → m < length machines → IsOpening (flow_of design request plan start rows) m (machine_at machines m)
   built-opening m lt =

@@ -1,26 +1,31 @@
 -- The network of a plan: its channels are listed, it is wired, and it has no ring.
-use Rattle.std.proofs.Common.{ℕ, ◌<◌, List, length, map, sym, ◌∙◌, ap, subst, arith}
+use Rattle.std.proofs.Common.{ℕ, ◌<◌, ◌≤◌, List, length, map, sym, ◌∙◌, ap, subst, arith}
 use Rattle.std.specs.Prelude.{◌==◌}
 use Rattle.gg_flat.specs.Line.{value_at}
 use Rattle.gg_flat.specs.Run.{Start}
 use Rattle.gg_order.specs.Design.{Ordered}
 use Rattle.gg_partfile.specs.declared.request.Request.{Request}
 use Rattle.gg_cut.specs.declared.plan.Plan.{Plan}
+use Rattle.gg_cut.specs.Bridges.{Models}
 use Rattle.gg_cut.specs.Listed.{listed_of}
-use Rattle.gg_cut.specs.Direct.{plan_hub, plan_wires}
+use Rattle.gg_cut.specs.declared.wires.Wire.{Wire as Link}
+use Rattle.gg_cut.specs.Direct.{plan_hub, plan_routes}
+use Rattle.gg_cut.specs.Seated.{plan_bridges, plan_wires, seated_wire}
+use Rattle.gg_flat.specs.Reads.{Reaches}
+use Rattle.std.proofs.lemmas.List.Elements.{All-map}
 use Rattle.gg_cut.specs.Plan.{wire_at as link_at}
 use Rattle.gg_cut.proofs.WireLemmas.{all-plain}
 use Rattle.gg_cut.proofs.RangeLemmas.{filter-few}
 use Rattle.gg_cut.specs.declared.plan.Body.{Body}
 use Rattle.gg_closed.proofs.FaultlessLemmas.{faultless-few}
 use Rattle.gg_routes.specs.Routes.{AreRoutes}
-use Rattle.gg_routes.proofs.RoutedLemmas.{plan-routed}
 use Rattle.gg_node.specs.Machine.{Machine, machine_at}
 use Rattle.gg_net.specs.Network.{IsAtIn, IsAtOut, kind_of, kind_at}
 use Rattle.gg_net.specs.Kept.{IsWired, HasNoRing}
 use Rattle.gg_sound.specs.Built.{machine_in, nameless, wires_of_plan, AreBuilt, IsGiven, IsListedAt, plan_frame}
 use Rattle.gg_sound.proofs.LinkLemmas.{AreLinks}
-use Rattle.gg_sound.proofs.GivenLemmas.{links-of}
+use Rattle.gg_sound.proofs.GivenLemmas.{faultless, links-of, routed}
+use Rattle.gg_sound.proofs.SeatLemmas.{seated-many}
 use Rattle.gg_sound.proofs.ListedLemmas.{at-in, at-out}
 use Rattle.gg_sound.proofs.WiredLemmas.{AreFitting, wired}
 use Rattle.gg_sound.proofs.FitLemmas.{kind-is, fitting}
@@ -28,18 +33,23 @@ use Rattle.gg_sound.proofs.NeedLemmas.{HasNeeds, has-needs}
 use Rattle.gg_sound.proofs.CopyLemmas.{routes-reach}
 use Rattle.gg_sound.proofs.RingLemmas.{no-ring}
 
-module _ (design : Ordered) (request : Request) (default : ℕ) (plan : Plan) (columns : List (List ℕ)) (n : ℕ) (start : Start) (rows : List (List ℕ)) (token : ℕ → ℕ) (starts : Body → Start) (machines : List Machine) (given : IsGiven design request default plan columns n start rows) (built : AreBuilt plan starts columns machines) where
-  pub routed : AreRoutes design (listed_of design.tree request) (plan_hub design.circuit design.tree request)
-  routed = plan-routed design request given.design_is given.keeps given.faultless
+module _ (design : Ordered) (request : Request) (models : Models) (default : ℕ) (plan : Plan) (columns : List (List ℕ)) (n : ℕ) (start : Start) (rows : List (List ℕ)) (token : ℕ → ℕ) (starts : Body → Start) (machines : List Machine) (given : IsGiven design request models default plan columns n start rows) (built : AreBuilt plan starts columns machines) where
+  pub is-routed : AreRoutes design (listed_of design.tree request) (plan_hub design.circuit design.tree request)
+  is-routed = routed design request models given.can
 
   pub links : AreLinks plan (plan_wires design.circuit design.tree request)
-  links = links-of design request default plan given.design_is given.keeps given.faultless given.some given.planned
+  links = links-of design request models given.can default plan given.some given.planned
 
   pub fit : AreFitting (plan_wires design.circuit design.tree request) (length plan.machines) (map kind_of machines)
-  fit = fitting design request default plan starts columns machines given.planned routed built
+  fit = fitting design request models default plan starts columns machines given.can given.planned built
 
   pub plan-wired : IsWired (plan_frame token plan machines n)
   plan-wired = wired token plan (plan_wires design.circuit design.tree request) (map kind_of machines) n links fit
+
+  pub few : length (plan_wires design.circuit design.tree request) ≤ 16384
+  few =
+      let channels = (faultless-few design request (faultless design request models given.can)).channels in
+      omega (arith, channels, seated-many (plan_bridges design.circuit design.tree request) (plan_routes design.circuit design.tree request))
 
   pub plan-listed : (m : ℕ) → m < length plan.machines → IsListedAt token plan m (kind_at (map kind_of machines) m)
   plan-listed m lt =
@@ -47,24 +57,25 @@ module _ (design : Ordered) (request : Request) (default : ℕ) (plan : Plan) (c
       let own = fit.each m lt in
       let ins = links.ins m lt in
       let outs = links.outs m lt in
-      let channels = (faultless-few design request given.faultless).channels in
       record {
         ins = ap length ins ∙ sym own.ins;
         into = λ i low. subst (λ (l : List ℕ). IsAtIn (wires_of_plan token plan) m i (value_at l i)) (sym ins) (at-in token plan all links m i (omega (arith, low, own.ins)));
         outs = ap length outs ∙ sym own.outs;
         from = λ o low. subst (λ (l : List ℕ). IsAtOut (wires_of_plan token plan) m o (value_at l o)) (sym outs) (at-out token plan all links m o (omega (arith, low, own.outs)));
         few = (
-          omega (arith, own.ins, channels, filter-few (λ c. (link_at all c).consumer == m) 0 (length all)),
-          omega (arith, own.outs, channels, filter-few (λ c. (link_at all c).producer == m) 0 (length all)),
+          omega (arith, own.ins, few, filter-few (λ c. (link_at all c).consumer == m) 0 (length all)),
+          omega (arith, own.outs, few, filter-few (λ c. (link_at all c).producer == m) 0 (length all)),
         );
       }
 
   needs : (m : ℕ) → m < length plan.machines → HasNeeds design.circuit (plan_wires design.circuit design.tree request) m (kind_at (map kind_of machines) m)
   needs m lt =
       subst (HasNeeds design.circuit (plan_wires design.circuit design.tree request) m) (sym (kind-is machines m (omega (arith, lt, built.count))))
-      (has-needs design (listed_of design.tree request) (plan_hub design.circuit design.tree request) columns (length (machine_in plan m).outs) m (starts (machine_in plan m).body) (machine_in plan m).body (machine_at machines m) (given.planned.machine m nameless lt).body (built.each m lt))
+      (has-needs design request models is-routed columns (length (machine_in plan m).outs) m (starts (machine_in plan m).body) (machine_in plan m).body (machine_at machines m) (given.planned.machine m nameless lt).body (built.each m lt))
 
   pub plan-no-ring : HasNoRing (plan_frame token plan machines n)
   plan-no-ring =
-      let reached = routes-reach (plan_hub design.circuit design.tree request) design.order given.design_is.ordered (all-plain design.circuit design.tree (listed_of design.tree request)) in
-      no-ring token plan (plan_wires design.circuit design.tree request) (map kind_of machines) n design.circuit design.order given.design_is.ordered links reached routed.no_echo needs
+      let base = plan_routes design.circuit design.tree request in
+      let ordered = given.can.design_is.ordered in
+      let reached = All-map (λ (w : Link). Reaches design.circuit w.signal w.given) (seated_wire (plan_bridges design.circuit design.tree request)) base (routes-reach (plan_hub design.circuit design.tree request) design.order ordered (all-plain design.circuit design.tree (listed_of design.tree request))) in
+      no-ring token plan (plan_wires design.circuit design.tree request) (map kind_of machines) n design.circuit design.order ordered links reached needs

@@ -2,7 +2,6 @@
 use Rattle.std.proofs.Common.{◌≡◌, ◌≢◌, ℕ, ◌<◌, List, length, map, refl, sym, ◌∙◌, ap, subst, inl, inr, ◌⊎◌, arith}
 use Rattle.std.specs.Prelude.{All, Contains}
 use Rattle.std.proofs.lemmas.List.{get_or-map}
-use Rattle.std.proofs.lemmas.List.Elements.{Contains-get_or}
 use Rattle.gg_flat.specs.Line.{value_at}
 use Rattle.gg_flat.specs.Circuit.{FlatCircuit}
 use Rattle.gg_flat.specs.Reads.{Reaches}
@@ -21,7 +20,7 @@ use Rattle.gg_sound.proofs.RankLemmas.{reach-lower}
 use Rattle.gg_sound.proofs.NeedLemmas.{HasNeeds}
 
 module _ (token : ℕ → ℕ) (plan : Plan) (links : List Link) (kinds : List Kind) (end : ℕ) (circuit : FlatCircuit) (order : List ℕ) (ordered : IsOrder circuit order) (are : AreLinks plan links) (reached : All (λ (w : Link). Reaches circuit w.signal w.given) links)
-    (no-echo : (v w : Link) → Contains links v → Contains links w → v.producer ≡ w.consumer → v.given ≢ w.signal) (needs : (m : ℕ) → m < length plan.machines → HasNeeds circuit links m (kind_at kinds m)) where
+    (needs : (m : ℕ) → m < length plan.machines → HasNeeds circuit links m (kind_at kinds m)) where
   -- the place in the order of the signal by which each link is given
   abbrev ranks : List ℕ
   ranks = map (λ (w : Link). place_in order w.given) links
@@ -35,6 +34,7 @@ module _ (token : ℕ → ℕ) (plan : Plan) (links : List Link) (kinds : List K
     taker : d < length links
     joined : (link_at links d).consumer ≡ (link_at links c).producer
     behind : Reaches circuit (link_at links c).given (link_at links d).signal
+    apart : (link_at links c).given ≢ (link_at links d).signal
 
   behind : (c d : ℕ) → NeedsChannel (record { kinds = kinds; wires = wires_of_plan token plan; end = end }) c d → IsBehind c d
   behind c d need =
@@ -60,6 +60,7 @@ module _ (token : ℕ → ℕ) (plan : Plan) (links : List Link) (kinds : List K
         taker = ld;
         joined = joined;
         behind = subst (λ (s : ℕ). Reaches circuit s (link_at links d).signal) out (subst (λ (s : ℕ). Reaches circuit (value_at (givens_of links (channels_from links p)) o) s) in_signal to);
+        apart = λ same. (needs p (are.ends c lc).0).apart o i needed (out ∙ same ∙ sym in_signal);
       }
 
   lower : (c d : ℕ) → NeedsChannel (record { kinds = kinds; wires = wires_of_plan token plan; end = end }) c d → value_at ranks d < value_at ranks c
@@ -69,7 +70,7 @@ module _ (token : ℕ → ℕ) (plan : Plan) (links : List Link) (kinds : List K
       is = behind c d need
 
       by : IsBehind c d → ((link_at links c).given ≡ (link_at links d).signal) ⊎ (place_in order (link_at links d).signal < place_in order (link_at links c).given) → ((link_at links d).signal ≡ (link_at links d).given) ⊎ (place_in order (link_at links d).given < place_in order (link_at links d).signal) → value_at ranks d < value_at ranks c
-      by b (inl same) copy = absurd (no-echo (link_at links c) (link_at links d) (Contains-get_or links c (wire 0 0 0) b.giver) (Contains-get_or links d (wire 0 0 0) b.taker) (sym b.joined) same)
+      by b (inl same) copy = absurd (b.apart same)
       by b (inr less) (inl same) = omega (arith, less, ap (place_in order) same, rank-at c b.giver, rank-at d b.taker)
       by b (inr less) (inr copy) = omega (arith, less, copy, rank-at c b.giver, rank-at d b.taker)
 

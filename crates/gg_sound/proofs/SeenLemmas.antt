@@ -31,7 +31,7 @@ module _ (design : Ordered) (request : Request) (is : IsDesign design) (keeps : 
   abbrev mine : List ℕ
   mine = map (plan_seen design request m) part.globals
 
-  seen-part : IsPart all (with_paths all part.piece mine) mine part.held part.memories part.clocks
+  pub seen-part : IsPart (plan_reference design request) (with_paths (plan_reference design request) part.piece (map (plan_seen design request m) part.globals)) (map (plan_seen design request m) part.globals) part.held part.memories part.clocks
   seen-part = plan-part design request is keeps held none m part cut
 
   -- a machine begins in a state of its piece

@@ -45,7 +45,7 @@ rows-twice globals own (row ∷ rows) below = ap₂ (λ (head : List ℕ) (rest 
 length-column : (rows : List (List ℕ)) (s : ℕ) → length (column rows s) ≡ length rows
 length-column rows s = length-map rows (λ (row : List ℕ). value_at row s)
 
-column-shown : (globals : List ℕ) (rows : List (List ℕ)) (s : ℕ) → s < length globals → column rows (value_at globals s) ≡ column (part_rows globals rows) s
+pub column-shown : (globals : List ℕ) (rows : List (List ℕ)) (s : ℕ) → s < length globals → column rows (value_at globals s) ≡ column (part_rows globals rows) s
 column-shown globals rows s low =
     let high = length-column rows (value_at globals s) in
     same_number_lists (column rows (value_at globals s)) (column (part_rows globals rows) s) (high ∙ sym (length-column (part_rows globals rows) s ∙ length-map rows (part_row globals)))

@@ -197,10 +197,10 @@ module _ (circuit : FlatCircuit) (tree : InstanceTree) (listed : Listed) (m i : 
       ∙ map-map (λ (w : Link). w.signal) (λ (reader : Reader). wire reader.word m outer) (readers_at circuit own)
 
 -- a listed memory has no more ports than there are routed channels
-pub memory-few : (circuit : FlatCircuit) (tree : InstanceTree) (listed : Listed) (piped : ℕ → Bool) (direct : Bool) → IsBase (hub_of circuit tree listed piped direct) → (i : ℕ) → i < length listed.memories
-    → length (readers_at circuit (memory_at tree (value_at listed.memories i)).memory) + length (writers_at circuit (memory_at tree (value_at listed.memories i)).memory) ≤ length (routes (hub_of circuit tree listed piped direct))
-memory-few circuit tree listed piped direct base i lt =
-    let hub = hub_of circuit tree listed piped direct in
+pub memory-few : (circuit : FlatCircuit) (tree : InstanceTree) (listed : Listed) (piped driven : ℕ → Bool) (direct : Bool) → IsBase (hub_of circuit tree listed piped driven direct) → (i : ℕ) → i < length listed.memories
+    → length (readers_at circuit (memory_at tree (value_at listed.memories i)).memory) + length (writers_at circuit (memory_at tree (value_at listed.memories i)).memory) ≤ length (routes (hub_of circuit tree listed piped driven direct))
+memory-few circuit tree listed piped driven direct base i lt =
+    let hub = hub_of circuit tree listed piped driven direct in
     let own = (memory_at tree (value_at listed.memories i)).memory in
     let outside = owner_of_instance tree listed.units (memory_at tree (value_at listed.memories i)).instance in
     let m = first_memory listed + i in

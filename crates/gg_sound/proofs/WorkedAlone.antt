@@ -127,5 +127,5 @@ unturned piece is = let head : List ℕ → ℕ = λ l. value_at l 0 in apart 0 
 -- ---- the rows of a memory that stands alone
 
 -- of a row of six signals, a memory alone has the values of the address, the enable and the data
-its-rows : body_rows (λ s. s) (Standing part) ((10 ∷ 11 ∷ 12 ∷ 13 ∷ 14 ∷ 15 ∷ []) ∷ []) ≡ (13 ∷ 14 ∷ 15 ∷ []) ∷ []
+its-rows : body_rows (λ s. s) 6 (Standing part) ((10 ∷ 11 ∷ 12 ∷ 13 ∷ 14 ∷ 15 ∷ []) ∷ []) ≡ (13 ∷ 14 ∷ 15 ∷ []) ∷ []
 its-rows = refl

@@ -95,11 +95,11 @@ abbrev part : List ℕ → Part
 part globals = record { piece = pair.circuit; globals = globals; held = []; memories = []; clocks = [] }
 
 -- unit `a` sees the pipe in place of `a.k`
-unit-rows : body_rows (plan_seen design request 1) (Cut (part (2 ∷ 3 ∷ 4 ∷ 5 ∷ []))) rows ≡ (15 ∷ 0 ∷ 15 ∷ 15 ∷ []) ∷ (129 ∷ 30 ∷ 129 ∷ 159 ∷ []) ∷ []
+unit-rows : body_rows (plan_seen design request 1) 8 (Cut (part (2 ∷ 3 ∷ 4 ∷ 5 ∷ []))) rows ≡ (15 ∷ 0 ∷ 15 ∷ 15 ∷ []) ∷ (129 ∷ 30 ∷ 129 ∷ 159 ∷ []) ∷ []
 unit-rows = refl
 
 -- the hub, which gives `a.k`, sees `a.k` itself
-hub-rows : body_rows (plan_seen design request 0) (Cut (part (3 ∷ 7 ∷ []))) rows ≡ (30 ∷ 30 ∷ []) ∷ (2 ∷ 2 ∷ []) ∷ []
+hub-rows : body_rows (plan_seen design request 0) 8 (Cut (part (3 ∷ 7 ∷ []))) rows ≡ (30 ∷ 30 ∷ []) ∷ (2 ∷ 2 ∷ []) ∷ []
 hub-rows = refl
 
 -- ---- near misses: the same with other lists for `a.k`

@@ -5,9 +5,10 @@ use Rattle.gg_flat.specs.Run.{Start}
 use Rattle.gg_order.specs.Design.{Ordered}
 use Rattle.gg_partfile.specs.declared.request.Request.{Request}
 use Rattle.gg_cut.specs.declared.plan.Body.{Body}
-use Rattle.gg_cut.specs.declared.plan.Body.TheVariants.{Cut, Memory, Source, Tray}
+use Rattle.gg_cut.specs.declared.plan.Body.TheVariants.{Cut, Memory, Source, Tray, Bridge}
 use Rattle.gg_cut.specs.declared.plan.Channel.{Channel}
 use Rattle.gg_cut.specs.declared.plan.Plan.{Plan}
+use Rattle.gg_cut.specs.Bridges.{Models}
 use Rattle.gg_cut.specs.Clocks.{ratios_of}
 use Rattle.gg_cut.specs.Direct.{plan_hub}
 use Rattle.gg_cut.specs.Listed.{listed_of}
@@ -19,20 +20,21 @@ use Rattle.gg_net.specs.declared.shape.Wire.{Wire}
 use Rattle.gg_sound.specs.Built.{AreBuilt, IsBuilt, body_start, first_token, machine_in, nameless, no_token, opening_of, place_in, wires_from, wires_of_plan}
 
 -- a body begins there with zeros, and with the ratios of its clocks
-pub begins-there : (design : Ordered) (request : Request) (m : ℕ) (body : Body) → IsBody design (listed_of design.tree request) (plan_hub design.circuit design.tree request) m body → opening_of (ratios_of design.tree request) body ≡ body_start (plan_start design request) body
-begins-there design request m (Cut part) is = sym (part-start design request m part is.1)
-begins-there design request m (Memory part) is = sym (part-start design request m part is.2)
-begins-there design request m (Source place) is = refl
-begins-there design request m Tray is = refl
+pub begins-there : (design : Ordered) (request : Request) (models : Models) (m : ℕ) (body : Body) → IsBody design request models (listed_of design.tree request) (plan_hub design.circuit design.tree request) m body → opening_of (ratios_of design.tree request) body ≡ body_start (plan_start design request) body
+begins-there design request models m (Cut part) is = sym (part-start design request m part is.1)
+begins-there design request models m (Memory part) is = sym (part-start design request m part is.2)
+begins-there design request models m (Source place) is = refl
+begins-there design request models m Tray is = refl
+begins-there design request models m (Bridge bridge) is = refl
 
-pub built-with-zeros : (design : Ordered) (request : Request) (default : ℕ) (plan : Plan) (columns : List (List ℕ)) (machines : List Machine) → IsPlan design request default plan → AreBuilt plan (opening_of plan.ratios) columns machines → AreBuilt plan (body_start (plan_start design request)) columns machines
-built-with-zeros design request default plan columns machines planned built =
+pub built-with-zeros : (design : Ordered) (request : Request) (models : Models) (default : ℕ) (plan : Plan) (columns : List (List ℕ)) (machines : List Machine) → IsPlan design request models default plan → AreBuilt plan (opening_of plan.ratios) columns machines → AreBuilt plan (body_start (plan_start design request)) columns machines
+built-with-zeros design request models default plan columns machines planned built =
     record {
       count = built.count;
       each = λ m lt.
           let body = (machine_in plan m).body in
           subst (λ (own : Start). IsBuilt columns (length (machine_in plan m).outs) own body (machine_at machines m))
-          (ap (λ (ratios : List Ratio). opening_of ratios body) planned.ratios ∙ begins-there design request m body (planned.machine m nameless lt).body) (built.each m lt);
+          (ap (λ (ratios : List Ratio). opening_of ratios body) planned.ratios ∙ begins-there design request models m body (planned.machine m nameless lt).body) (built.each m lt);
     }
 
 -- equal tokens make equal channels

@@ -2,18 +2,18 @@
 -- that its channels carry are gg_cut's `columns_of`, those of a pipe a cycle later and behind its token. `flow_of` has all that it computes.
 -- Source: MEMOCODE 2009 (a synchronous circuit as a network of its parts, whose streams are the circuit's own); ICCAD
 -- 2019 (units and memories of a target as models of their own, with sources for its inputs and sinks for its outputs).
-use Rattle.std.specs.Prelude.{◌≡◌, ℕ, suc, ◌^◌, ◌<◌, ◌≤◌, ◌==◌, ◌++◌, List, [], ◌∷◌, Bool, false, if◌then◌else◌, Option, None, Some, length, map, replicate, slice_index_or, unwrap_or}
+use Rattle.std.specs.List.{range_with_len}
+use Rattle.std.specs.Prelude.{◌≡◌, ℕ, suc, ◌+◌, ◌^◌, ◌<◌, ◌≤◌, ◌==◌, ◌++◌, List, [], ◌∷◌, Bool, false, if◌then◌else◌, Option, None, Some, length, map, replicate, slice_index_or, unwrap_or}
 use Rattle.gg_limits.specs.Limits.{cycle_limit}
 use Rattle.gg_flat.specs.Circuit.{FlatCircuit}
 use Rattle.gg_flat.specs.Clocked.{clocks_from}
 use Rattle.gg_flat.specs.Line.{value_at}
 use Rattle.gg_flat.specs.Clock.{Ratio}
-use Rattle.gg_flat.specs.Run.{IsColumns, Start, clocked_start}
-use Rattle.gg_flat.specs.State.{State, IsState}
+use Rattle.gg_flat.specs.Run.{IsColumns, Start, clocked_start, opening_start}
+use Rattle.gg_flat.specs.State.{State, IsState, opening}
 use Rattle.gg_flat.specs.Streams.{Flow}
 use Rattle.gg_flat.specs.WellFormed.{IsWellFormed}
-use Rattle.gg_moved.specs.KeepsToTree.{KeepsToTree}
-use Rattle.gg_order.specs.Design.{Ordered, IsDesign}
+use Rattle.gg_order.specs.Design.{Ordered}
 use Rattle.gg_partfile.specs.declared.request.Request.{Request}
 use Rattle.gg_needs.specs.Needs.{AreNeedsOfOuts}
 use Rattle.gg_part.specs.Part.{IsPart}
@@ -21,18 +21,21 @@ use Rattle.gg_part.specs.PartRun.{part_ratios, part_rows, part_start, part_state
 use Rattle.gg_part.specs.declared.part.Part.{Part}
 use Rattle.gg_cut.specs.Alike.{IsAlike}
 use Rattle.gg_cut.specs.declared.plan.Body.{Body}
-use Rattle.gg_cut.specs.declared.plan.Body.TheVariants.{Cut, Memory, Source, Tray}
+use Rattle.gg_cut.specs.declared.plan.Body.TheVariants.{Cut, Memory, Source, Tray, Bridge}
 use Rattle.gg_cut.specs.declared.plan.Machine as planned
 use Rattle.gg_cut.specs.declared.plan.Channel.{Channel}
 use Rattle.gg_cut.specs.declared.plan.Plan.{Plan}
 use Rattle.gg_cut.specs.Clocks.{ratios_of}
-use Rattle.gg_cut.specs.Fault.{first_fault}
+use Rattle.gg_cut.specs.Bridges.{Models}
 use Rattle.gg_cut.specs.Listed.{first_place}
 use Rattle.gg_cut.specs.Plan.{IsPlan}
-use Rattle.gg_cut.specs.Solves.{AreRows, columns_of, streams}
+use Rattle.gg_cut.specs.Solves.{AreRows, columns_of, model_start, streams}
 use Rattle.gg_cut.specs.Held.{AreHeldOnce}
 use Rattle.gg_pipe.specs.Follows.{plan_token}
 use Rattle.gg_pipe.specs.Made.{plan_reference, plan_seen}
+use Rattle.gg_joined.specs.Turned.{turned}
+use Rattle.gg_bridge.specs.Hosted.{started_bridge}
+use Rattle.gg_bridged.specs.Whole.{CanBridge, plan_begin, plan_circuit}
 use Rattle.gg_node.specs.Machine.{Machine, machine_at, no_state, source_machine, tray_machine}
 use Rattle.gg_fame5.specs.Machine as dataflow
 use Rattle.gg_memunit.specs.MemoryUnit as memory
@@ -85,12 +88,14 @@ wires_of_plan token plan = wires_from token plan 0 plan.channels
 
 -- ---- where machines begin
 
--- where a machine begins, if the circuit begins with this start: a unit or a listed memory with its part of it
+-- where a machine begins, if the circuit begins with this start: a unit or a listed memory with its part of it,
+-- and a bridge with zeros at its cycle
 abbrev pub body_start : Start → Body → Start
 body_start start (Cut part) = part_start part.held part.memories part.clocks start
 body_start start (Memory part) = part_start part.held part.memories part.clocks start
 body_start start (Source place) = record { cycle = start.cycle; state = no_state; ratios = [] }
 body_start start Tray = record { cycle = start.cycle; state = no_state; ratios = [] }
+body_start start (Bridge bridge) = model_start bridge.model start
 
 -- where a machine begins at cycle 0, with zeros, if the circuit's clocks have these ratios
 abbrev pub opening_of : List Ratio → Body → Start
@@ -98,6 +103,7 @@ opening_of ratios (Cut part) = clocked_start part.piece (part_ratios part.clocks
 opening_of ratios (Memory part) = clocked_start part.piece (part_ratios part.clocks ratios)
 opening_of ratios (Source place) = record { cycle = 0; state = no_state; ratios = [] }
 opening_of ratios Tray = record { cycle = 0; state = no_state; ratios = [] }
+opening_of ratios (Bridge bridge) = opening_start bridge.model
 
 -- ---- machines before their first step
 
@@ -131,12 +137,14 @@ abbrev pub tray_rows : ℕ
 tray_rows = 1024
 
 -- The machine of the network for a machine of the plan that gives this many channels and begins with this start. `columns` are the
--- columns of the top's inputs, by their places. A source has an out for each channel.
+-- columns of the top's inputs that no bridge drives, by their places. A source has an out for each channel. A bridge's machine runs its
+-- model, whose ports have the order of the machine's channels.
 abbrev pub IsBuilt : List (List ℕ) → ℕ → Start → Body → Machine → Type 0
 IsBuilt columns outs own (Cut part) machine = IsUnitOf own part machine
 IsBuilt columns outs own (Memory part) machine = IsMemoryOf own part machine
 IsBuilt columns outs own (Source place) machine = machine ≡ source_machine (slice_index_or columns place []) own.cycle (replicate outs false)
 IsBuilt columns outs own Tray machine = machine ≡ tray_machine tray_rows cycle_limit own.cycle [] None
+IsBuilt columns outs own (Bridge bridge) machine = machine ≡ started_bridge (turned bridge.model bridge.ins bridge.outs) own.cycle own.state
 
 -- the machines of the network of a plan, by number; `starts` tells where a machine begins
 pub record AreBuilt (plan : Plan) (starts : Body → Start) (columns : List (List ℕ)) (machines : List Machine) : Type 0 where
@@ -162,34 +170,46 @@ pub record IsListedAt (token : ℕ → ℕ) (plan : Plan) (m : ℕ) (kind : Kind
 
 -- ---- what the network has to do
 
--- the rows of a machine, from the rows of the reference circuit, by whose signals it sees those of the design
-abbrev pub body_rows : (ℕ → ℕ) → Body → List (List ℕ) → List (List ℕ)
-body_rows seen (Cut part) rows = part_rows (map seen part.globals) rows
-body_rows seen (Memory part) rows = part_rows (map seen (map (value_at part.globals) (part.piece.ins ++ part.piece.outs))) rows
-body_rows seen (Source place) rows = []
-body_rows seen Tray rows = []
+-- The rows of a machine, from the rows of the circuit that the network computes. `seen` tells by which of its signals the machine sees a
+-- signal of the design, and `behind` is the number of the first signal of a bridge's model.
+abbrev pub body_rows : (seen : ℕ → ℕ) → (behind : ℕ) → Body → List (List ℕ) → List (List ℕ)
+body_rows seen behind (Cut part) rows = part_rows (map seen part.globals) rows
+body_rows seen behind (Memory part) rows = part_rows (map seen (map (value_at part.globals) (part.piece.ins ++ part.piece.outs))) rows
+body_rows seen behind (Source place) rows = []
+body_rows seen behind Tray rows = []
+body_rows seen behind (Bridge bridge) rows = part_rows (range_with_len behind (length bridge.model.signals)) rows
 
--- the rows of these machines, of which the first has number m; `seen` tells by which signal a machine sees a signal
-abbrev pub rows_from : (ℕ → ℕ → ℕ) → ℕ → List planned.Machine → List (List ℕ) → List (List (List ℕ))
-rows_from seen m [] rows = []
-rows_from seen m (machine ∷ machines) rows = body_rows (seen m) machine.body rows ∷ rows_from seen (suc m) machines rows
+-- how many signals a machine's model has behind the circuit, if it is a bridge
+abbrev pub own_signals : Body → ℕ
+own_signals (Cut part) = 0
+own_signals (Memory part) = 0
+own_signals (Source place) = 0
+own_signals Tray = 0
+own_signals (Bridge bridge) = length bridge.model.signals
+
+-- The rows of these machines, of which the first has number m; `seen` tells by which signal a machine sees a signal. The models' signals
+-- stand one model behind another.
+abbrev pub rows_from : (ℕ → ℕ → ℕ) → (m behind : ℕ) → List planned.Machine → List (List ℕ) → List (List (List ℕ))
+rows_from seen m behind [] rows = []
+rows_from seen m behind (machine ∷ machines) rows = body_rows (seen m) behind machine.body rows ∷ rows_from seen (suc m) (behind + own_signals machine.body) machines rows
 
 -- the rows of the machines of a plan
 abbrev pub rows_of : Ordered → Request → Plan → List (List ℕ) → List (List (List ℕ))
-rows_of design request plan rows = rows_from (plan_seen design request) 0 plan.machines rows
+rows_of design request plan rows = rows_from (plan_seen design request) 0 (length (plan_reference design request).signals) plan.machines rows
 
--- the state in which a machine begins, if the circuit begins in this state: its part of it
+-- the state in which a machine begins, if the reference circuit begins in this state: its part of it, and zeros for a bridge
 abbrev pub body_state : Body → State → State
 body_state (Cut part) state = part_state part.held part.memories state
 body_state (Memory part) state = part_state [] part.memories state
 body_state (Source place) state = no_state
 body_state Tray state = no_state
+body_state (Bridge bridge) state = opening bridge.model
 
 -- the states in which the machines of a plan begin
 abbrev pub states_of : Plan → State → List State
 states_of plan state = map (λ machine. body_state machine.body state) plan.machines
 
--- What the network of a plan computes, from the rows of the reference circuit, by cycle, and where all begins.
+-- What the network of a plan computes, from the rows of its circuit, by cycle, and where all begins.
 abbrev pub flow_of : Ordered → Request → Plan → Start → List (List ℕ) → Flow
 flow_of design request plan start rows =
     record {
@@ -199,18 +219,18 @@ flow_of design request plan start rows =
       states = states_of plan start.state;
     }
 
--- A design whose circuit keeps to its tree, in which no two signals hold one register; a request that
--- has no fault for it; their plan, whose channels may hold at least one token each; a start, with a state of the reference circuit and
--- the ratios that the request gives its clocks; and the reference circuit's run from there, up to cycle n, on the columns of the inputs.
-pub record IsGiven (design : Ordered) (request : Request) (default : ℕ) (plan : Plan) (columns : List (List ℕ)) (n : ℕ) (start : Start) (rows : List (List ℕ)) : Type 0 where
-  pub design_is : IsDesign design
-  pub keeps : KeepsToTree design.circuit design.tree
+-- A design whose circuit keeps to its tree, in which no two signals hold one register, and whose paths leave the fronts of pipes and bridges
+-- free; models that bridges may have; a request that has no fault for the design and these models; their plan, whose channels may hold at
+-- least one token each; a start, with a state of the reference circuit and the ratios that the request gives its clocks; and the run from
+-- there, up to cycle n, of the reference circuit with the models of the bridges in it, which start with zeros, on the columns of the inputs
+-- that no bridge drives.
+pub record IsGiven (design : Ordered) (request : Request) (models : Models) (default : ℕ) (plan : Plan) (columns : List (List ℕ)) (n : ℕ) (start : Start) (rows : List (List ℕ)) : Type 0 where
+  pub can : CanBridge design request models
   pub held : AreHeldOnce design.circuit
-  pub faultless : first_fault design request ≡ None
   pub some : 0 < default
-  pub planned : IsPlan design request default plan
+  pub planned : IsPlan design request models default plan
   pub most : n ≤ cycle_limit
-  pub given : IsColumns design.circuit n columns
+  pub given : IsColumns (plan_circuit design request models) n columns
   pub typed : IsState (plan_reference design request) start.state
   pub clocked : start.ratios ≡ ratios_of design.tree request
-  pub run : AreRows (plan_reference design request) start columns n rows
+  pub run : AreRows (plan_circuit design request models) (plan_begin design request models start) columns n rows

@@ -1,0 +1,33 @@
+-- An order of evaluation, found from the circuit alone.
+-- Source: A. B. Kahn, Topological sorting of large networks, CACM 1962: whatever needs only what is placed is placed next.
+use Rattle.std.specs.Prelude.{ℕ, zero, suc, List, [], ◌∷◌, ◌++◌, Bool, not, ◌&&◌, ◌==◌, filter, length}
+use Rattle.std.specs.List.{list_all, list_any, range_with_len}
+use Rattle.gg_flat.specs.Circuit.{FlatCircuit, driver_at}
+use Rattle.gg_flat.specs.declared.piece.Driver.{Driver}
+use Rattle.gg_flat.specs.declared.piece.Driver.TheVariants.{Input, Held, MemoryWord, ReadRegister, Computed}
+use Rattle.gg_cut.specs.Direct.{line_names}
+
+-- the signals that a driver reads in the same tick
+abbrev pub reads_of : Driver → List ℕ
+reads_of (Input place) = []
+reads_of (Held register) = []
+reads_of (MemoryWord memory reader addr en) = addr ∷ en ∷ []
+reads_of (ReadRegister memory reader) = []
+reads_of (Computed line) = line_names line
+
+-- whether a number is among these
+abbrev pub is_placed : List ℕ → ℕ → Bool
+is_placed placed s = list_any (λ t. t == s) placed
+
+-- Signal s isn't placed, and all that it reads in a tick is.
+abbrev pub is_ready : FlatCircuit → List ℕ → ℕ → Bool
+is_ready circuit placed s = not (is_placed placed s) && list_all (is_placed placed) (reads_of (driver_at circuit s))
+
+-- the placed signals after so many rounds, in each of which all that are ready are placed
+abbrev pub placed_after : FlatCircuit → (rounds : ℕ) → List ℕ
+placed_after circuit zero = []
+placed_after circuit (suc rounds) = placed_after circuit rounds ++ filter (is_ready circuit (placed_after circuit rounds)) (range_with_len 0 (length circuit.signals))
+
+-- after as many rounds as there are signals
+abbrev pub found_order : FlatCircuit → List ℕ
+found_order circuit = placed_after circuit (length circuit.signals)
