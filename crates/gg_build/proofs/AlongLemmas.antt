@@ -1,41 +1,57 @@
--- The network of a plan can be built for the run of the reference circuit, which is computed along its order.
-use Rattle.std.proofs.Common.{◌≡◌, ℕ, ◌<◌, ◌≤◌, List, None, refl}
+-- The network of a plan can be built for the run of the plan's circuit, which is computed along an order.
+use Rattle.std.proofs.Common.{ℕ, ◌<◌, ◌≤◌, List, refl, arith}
 use Rattle.gg_limits.specs.Limits.{capacity_limit, cycle_limit}
-use Rattle.gg_flat.specs.Run.{IsColumns}
+use Rattle.gg_flat.specs.Circuit.{FlatCircuit}
+use Rattle.gg_flat.specs.Order.{IsOrder}
+use Rattle.gg_flat.specs.Run.{IsColumns, IsRunFrom, Start}
 use Rattle.gg_flat.proofs.AlongLemmas.{IsRunFrom-along}
-use Rattle.gg_moved.specs.KeepsToTree.{KeepsToTree}
-use Rattle.gg_order.specs.Design.{IsDesign, Ordered}
+use Rattle.gg_order.specs.Design.{Ordered}
 use Rattle.gg_partfile.specs.declared.request.Request.{Request}
-use Rattle.gg_cut.specs.Clocks.{ratios_of}
-use Rattle.gg_cut.specs.Fault.{first_fault}
+use Rattle.gg_cut.specs.Bridges.{Models}
 use Rattle.gg_cut.specs.Plan.{IsPlan}
 use Rattle.gg_cut.specs.declared.plan.Plan.{Plan}
 use Rattle.gg_cut.specs.Held.{AreHeldOnce}
+use Rattle.gg_cut.specs.Solves.{AreRows}
 use Rattle.gg_pipe.specs.Follows.{plan_start}
-use Rattle.gg_pipe.specs.Made.{plan_reference, IsFresh}
-use Rattle.gg_pipe.proofs.PlanLemmas.{plan-columns, plan-formed, plan-ordered}
-use Rattle.gg_pipe.proofs.StartLemmas.{opening-rows, plan-typed}
+use Rattle.gg_pipe.specs.Made.{plan_reference}
+use Rattle.gg_pipe.proofs.StartLemmas.{plan-typed}
+use Rattle.gg_bridged.specs.Whole.{CanBridge, plan_begin, plan_circuit}
+use Rattle.gg_bridged.proofs.FoundLemmas.{found-is}
+use Rattle.gg_bridged.proofs.PlanLemmas.{circuit-formed, circuit-ordered}
+use Rattle.gg_bridged.proofs.StateLemmas.{states-with}
 use Rattle.gg_sound.specs.Built.{IsGiven}
-use Rattle.gg_build.specs.Build.{IsToRun, reference_order, reference_rows, flow_along}
+use Rattle.gg_build.specs.Build.{IsToRun, circuit_order, circuit_rows, flow_along}
 
-module _ (design : Ordered) (request : Request) (default : ℕ) (plan : Plan) (columns : List (List ℕ)) (n : ℕ) (is : IsDesign design) (keeps : KeepsToTree design.circuit design.tree) (held : AreHeldOnce design.circuit) (fresh : IsFresh design.circuit) (faultless : first_fault design request ≡ None) (planned : IsPlan design request default plan)
-    (some : 0 < default) (room : default ≤ capacity_limit) (most : n ≤ cycle_limit) (fed : IsColumns design.circuit n columns) where
-  pub given-along : IsGiven design request default plan columns n (plan_start design request) (reference_rows design request columns n)
+module _ (design : Ordered) (request : Request) (models : Models) (default : ℕ) (plan : Plan) (columns : List (List ℕ)) (n : ℕ) (can : CanBridge design request models) (held : AreHeldOnce design.circuit) (planned : IsPlan design request models default plan)
+    (some : 0 < default) (room : default ≤ capacity_limit) (most : n ≤ cycle_limit) (fed : IsColumns (plan_circuit design request models) n columns) where
+  abbrev circuit : FlatCircuit
+  circuit = plan_circuit design request models
+
+  abbrev begin : Start
+  begin = plan_begin design request models (plan_start design request)
+
+  order : IsOrder circuit (circuit_order design request models)
+  order = let any = circuit-ordered design request models can in found-is circuit any.order any.is
+
+  run-along : IsRunFrom circuit begin columns n (circuit_rows design request models columns n)
+  run-along = IsRunFrom-along circuit (circuit_order design request models) begin columns n (circuit-formed design request models can) order (states-with models (plan_reference design request) (plan_start design request).state request.bridges (plan-typed design request)) fed.inputs
+
+  rows-along : AreRows circuit begin columns n (circuit_rows design request models columns n)
+  rows-along = record { begun = omega arith; count = run-along.count; before = λ t s lt. absurd (omega (arith, lt)); run = run-along }
+
+  pub given-along : IsGiven design request models default plan columns n (plan_start design request) (circuit_rows design request models columns n)
   given-along =
       record {
-        design_is = is;
-        keeps = keeps;
+        can = can;
         held = held;
-        faultless = faultless;
         some = some;
         planned = planned;
         most = most;
         given = fed;
         typed = plan-typed design request;
         clocked = refl;
-        run = opening-rows (plan_reference design request) (ratios_of design.tree request) columns n (reference_rows design request columns n)
-            (IsRunFrom-along (plan_reference design request) (reference_order design request) (plan_start design request) columns n (plan-formed design request is keeps held faultless fresh) (plan-ordered design request is keeps held faultless) (plan-typed design request) (plan-columns design request is keeps held faultless n columns fed).inputs);
+        run = rows-along;
       }
 
-  pub to-run : IsToRun plan columns n (flow_along design request plan columns n)
-  to-run = record { design = design; request = request; default = default; rows = reference_rows design request columns n; given = given-along; room = room; flow_is = refl }
+  pub to-run : IsToRun plan columns n (flow_along design request models plan columns n)
+  to-run = record { design = design; request = request; models = models; default = default; rows = circuit_rows design request models columns n; given = given-along; room = room; flow_is = refl }

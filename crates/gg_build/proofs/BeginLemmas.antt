@@ -4,7 +4,7 @@ use Rattle.std.specs.Prelude.{Option}
 use Rattle.gg_flat.specs.Clock.{Ratio}
 use Rattle.gg_flat.specs.Line.{value_at}
 use Rattle.gg_flat.specs.Run.{Start}
-use Rattle.gg_flat.specs.State.{State}
+use Rattle.gg_flat.specs.State.{State, opening}
 use Rattle.gg_flat.specs.Streams.{Flow}
 use Rattle.gg_limits.specs.Limits.{cycle_limit}
 use Rattle.gg_order.specs.Design.{Ordered}
@@ -12,7 +12,7 @@ use Rattle.gg_partfile.specs.declared.request.Request.{Request}
 use Rattle.gg_part.specs.PartRun.{part_ratios, part_start}
 use Rattle.gg_part.specs.declared.part.Part.{Part}
 use Rattle.gg_cut.specs.declared.plan.Body.{Body}
-use Rattle.gg_cut.specs.declared.plan.Body.TheVariants.{Cut, Memory, Source, Tray}
+use Rattle.gg_cut.specs.declared.plan.Body.TheVariants.{Cut, Memory, Source, Tray, Bridge}
 use Rattle.gg_cut.specs.declared.plan.Plan.{Plan}
 use Rattle.gg_pipe.specs.Follows.{plan_start, plan_token}
 use Rattle.gg_pipe.proofs.StartLemmas.{start-token}
@@ -40,6 +40,7 @@ module _ (plan : Plan) (columns : List (List ℕ)) (n : ℕ) (begin : Begin) (cy
   zeros ratios (Memory part) = ap₂ (λ (c : ℕ) (s : Option State). record { cycle = c; state = state_from part s; ratios = part_ratios part.clocks ratios }) cycle state
   zeros ratios (Source place) = ap (λ (c : ℕ). record { cycle = c; state = no_state; ratios = [] }) cycle
   zeros ratios Tray = ap (λ (c : ℕ). record { cycle = c; state = no_state; ratios = [] }) cycle
+  zeros ratios (Bridge bridge) = ap (λ (c : ℕ). record { cycle = c; state = opening bridge.model; ratios = [] }) cycle
 
   tokens-zero : (token : ℕ → ℕ) → ((s : ℕ) → token s ≡ 0) → AreTokens plan.channels token begin.tokens.items
   tokens-zero token zero = λ c any lt piped. ap (λ (l : List ℕ). value_at l c) none ∙ sym (zero (get_or plan.channels c any).signal)
@@ -49,6 +50,7 @@ module _ (plan : Plan) (columns : List (List ℕ)) (n : ℕ) (begin : Begin) (cy
       record {
         design = is.design;
         request = is.request;
+        models = is.models;
         default = is.default;
         start = plan_start is.design is.request;
         rows = is.rows;
@@ -58,7 +60,7 @@ module _ (plan : Plan) (columns : List (List ℕ)) (n : ℕ) (begin : Begin) (cy
         cycle = cycle;
         starts = λ m lt.
             let body = (machine_in plan m).body in
-            zeros plan.ratios body ∙ ap (λ (ratios : List Ratio). opening_of ratios body) is.given.planned.ratios ∙ begins-there is.design is.request m body (is.given.planned.machine m nameless lt).body;
+            zeros plan.ratios body ∙ ap (λ (ratios : List Ratio). opening_of ratios body) is.given.planned.ratios ∙ begins-there is.design is.request is.models m body (is.given.planned.machine m nameless lt).body;
         tokens = tokens-zero (plan_token is.design is.request (plan_start is.design is.request).state) (start-token is.design is.request);
       }
 
@@ -84,12 +86,14 @@ module _ (plan : Plan) (columns : List (List ℕ)) (n : ℕ) (begin : Begin) whe
       by (Memory part) = of-part part
       by (Source place) = ap (λ (c : ℕ). record { cycle = c; state = no_state; ratios = [] }) cycle
       by Tray = ap (λ (c : ℕ). record { cycle = c; state = no_state; ratios = [] }) cycle
+      by (Bridge bridge) = ap (λ (c : ℕ). record { cycle = c; state = opening bridge.model; ratios = [] }) cycle
 
   pub from-starts : (flow : Flow) → IsToBegin plan begin columns n flow → IsToStart plan begin columns n flow
   from-starts flow is =
       record {
         design = is.design;
         request = is.request;
+        models = is.models;
         default = is.default;
         start = is.start;
         rows = is.rows;
@@ -113,4 +117,4 @@ module _ (plan : Plan) (columns : List (List ℕ)) (n : ℕ) (begin : Begin) whe
 
 -- no run begins past the limit
 pub begins-within : (plan : Plan) (begin : Begin) (columns : List (List ℕ)) (n : ℕ) (flow : Flow) → IsToStart plan begin columns n flow → begin.cycle ≤ cycle_limit
-begins-within plan begin columns n flow is = let begun = is.given.run.begun in let most = is.given.most in omega (arith, is.cycle, begun, most)
+begins-within plan begin columns n flow is = let begun : is.start.cycle ≤ n = is.given.run.begun in let most = is.given.most in omega (arith, is.cycle, begun, most)

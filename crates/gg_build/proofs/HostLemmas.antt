@@ -9,7 +9,8 @@ use Rattle.gg_flat.specs.Run.{Start}
 use Rattle.gg_flat.specs.WellFormed.{IsWellFormed}
 use Rattle.gg_cut.specs.Alike.{AreAlike, IsAlike, IsLike}
 use Rattle.gg_cut.specs.declared.plan.Body.{Body}
-use Rattle.gg_cut.specs.declared.plan.Body.TheVariants.{Cut, Memory, Source, Tray}
+use Rattle.gg_cut.specs.declared.plan.Body.TheVariants.{Cut, Memory, Source, Tray, Bridge}
+use Rattle.gg_cut.specs.declared.plan.BridgeBody.{BridgeBody}
 use Rattle.gg_cut.specs.declared.plan.Machine as planned
 use Rattle.gg_part.specs.declared.part.Part.{Part}
 use Rattle.gg_needs.specs.Needs.{AreNeedsOfOuts}
@@ -88,7 +89,7 @@ one-alone starts columns machines group is none = by (cases_eq (length group) 1)
     by (inl one) = one
     by (inr more) = absurd (none (body_at machines (value_at group 1)) (is.alike 0 1 is.some (omega (arith, is.some, more)) (λ same. absurd (omega (arith, same)))))
 
-module _ (starts : Body → Start) (columns : List (List ℕ)) (machines : List planned.Machine) (group : List ℕ) (node : Node) where
+module _ {B : Type 0} (starts : Body → Start) (columns : List (List ℕ)) (machines : List planned.Machine) (group : List ℕ) (node : Node B) where
   abbrev outs : ℕ
   outs = outs_at machines (value_at group 0)
 
@@ -112,6 +113,9 @@ module _ (starts : Body → Start) (columns : List (List ℕ)) (machines : List 
   pub tray-hosts : IsGroup starts columns machines group → body_at machines (value_at group 0) ≡ Tray → IsHost (IsBuiltWith starts columns outs Tray) node → IsHostOf starts columns machines group node
   tray-hosts can is host = alone-host Tray (one-alone starts columns machines group can (λ other alike. subst (λ (b : Body). AreAlike b other) is alike)) is host
 
+  pub bridge-hosts : (bridge : BridgeBody) → IsGroup starts columns machines group → body_at machines (value_at group 0) ≡ Bridge bridge → IsHost (IsBuiltWith starts columns outs (Bridge bridge)) node → IsHostOf starts columns machines group node
+  bridge-hosts bridge can is host = alone-host (Bridge bridge) (one-alone starts columns machines group can (λ other alike. subst (λ (b : Body). AreAlike b other) is alike)) is host
+
 -- the units of a group are like the first
 pub group-units : (starts : Body → Start) (columns : List (List ℕ)) (machines : List planned.Machine) (group : List ℕ) (part : Part) → IsGroup starts columns machines group → body_at machines (value_at group 0) ≡ Cut part → AreUnits part.piece machines group
 group-units starts columns machines group part is first =
@@ -122,7 +126,7 @@ group-units starts columns machines group part is first =
     by t lt (inr other) = subst (λ (b : Body). AreAlike b (body_at machines (value_at group t))) first (is.alike 0 t is.some lt other)
 
 -- one host more
-pub hosts-more : (starts : Body → Start) (columns : List (List ℕ)) (machines : List planned.Machine) (members : List (List ℕ)) (count : ℕ) (old new : List Node) (own : Node) → new ≡ old ++ own ∷ [] → AreHosts starts columns machines members count old → IsHostOf starts columns machines (group_at members count) own → AreHosts starts columns machines members (count + 1) new
+pub hosts-more : {B : Type 0} (starts : Body → Start) (columns : List (List ℕ)) (machines : List planned.Machine) (members : List (List ℕ)) (count : ℕ) (old new : List (Node B)) (own : Node B) → new ≡ old ++ own ∷ [] → AreHosts starts columns machines members count old → IsHostOf starts columns machines (group_at members count) own → AreHosts starts columns machines members (count + 1) new
 hosts-more starts columns machines members count old new own is was one =
     subst (AreHosts starts columns machines members (count + 1)) (sym is)
     (record {

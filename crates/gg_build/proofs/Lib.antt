@@ -1,6 +1,7 @@
 pub mod BeginLemmas
 pub mod GroupLemmas
 pub mod UnitLemmas
+pub mod BridgeLemmas
 pub mod HostLemmas
 pub mod PortLemmas
 pub mod PlaceLemmas
@@ -9,3 +10,4 @@ pub mod SeatLemmas
 pub mod ReadyLemmas
 pub mod OpenLemmas
 pub mod AlongLemmas
+pub mod AloneLemmas

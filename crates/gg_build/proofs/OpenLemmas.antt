@@ -14,6 +14,8 @@ use Rattle.gg_net.specs.Network.{Network, Kind, kind_of, kind_at, IsAtIn, IsAtOu
 use Rattle.gg_net.specs.Seats.{seated, machines_by}
 use Rattle.gg_net.specs.Kept.{IsSound}
 use Rattle.gg_net.specs.Net.{entry_of, IsListed, opening_net, Opens}
+use Rattle.gg_bridged.proofs.PortLemmas.{plan-ins}
+use Rattle.gg_bridged.proofs.RunLemmas.{whole-runs}
 use Rattle.gg_sound.specs.Built.{machine_in, wires_of_plan, AreBuilt, IsBuilt, body_start, flow_of, plan_frame}
 use Rattle.gg_sound.proofs.PlanLemmas.{plan-listed, plan-wired, plan-no-ring}
 use Rattle.gg_sound.proofs.FitLemmas.{kind-is}
@@ -28,7 +30,7 @@ use Rattle.gg_build.specs.Build.{IsStarted, IsToStart}
 use Rattle.gg_build.specs.Hosts.{AreSeats, IsBuiltWith}
 use Rattle.gg_build.proofs.SeatLemmas.{no_station}
 
-module _ (plan : Plan) (begin : Begin) (columns : List (List ℕ)) (n : ℕ) (hosts : List Node) (stations : List Station) (are : AreSeats plan (starts_of plan.ratios begin) columns hosts stations) where
+module _ {B : Type 0} (plan : Plan) (begin : Begin) (columns : List (List ℕ)) (n : ℕ) (hosts : List (Node B)) (stations : List Station) (are : AreSeats plan (starts_of plan.ratios begin) columns hosts stations) where
   abbrev pub lists_of : List (List Machine)
   lists_of = map machines_of hosts
 
@@ -59,7 +61,7 @@ module _ (plan : Plan) (begin : Begin) (columns : List (List ℕ)) (n : ℕ) (ho
     is-listed : (m : ℕ) (s : Station) → m < length plan.machines → IsListed (wires_of_plan token plan) m (kind_at (map kind_of machines) m) (get_or stations m s)
     is-listed m s lt =
         let seat = are.each m s lt in
-        let at = plan-listed is.design is.request is.default plan columns n is.start is.rows token starts machines is.given are-built m lt in
+        let at = plan-listed is.design is.request is.models is.default plan columns n is.start is.rows token starts machines is.given are-built m lt in
         let kind : kind_at (map kind_of machines) m ≡ kind_of (seated lists_of (get_or stations m s)) = kind-is machines m (omega (arith, lt, are-built.count)) ∙ ap kind_of (machine-is m s lt) in
         record {
           ins = ap length seat.ins ∙ at.ins;
@@ -81,18 +83,18 @@ module _ (plan : Plan) (begin : Begin) (columns : List (List ℕ)) (n : ℕ) (ho
     is-sound : IsSound (flow_of is.design is.request plan is.start is.rows) (plan_frame token plan machines n)
     is-sound =
         record {
-          wired = plan-wired is.design is.request is.default plan columns n is.start is.rows token starts machines is.given are-built;
-          no_ring = plan-no-ring is.design is.request is.default plan columns n is.start is.rows token starts machines is.given are-built;
-          solves = plan-solved is.design is.request is.default plan columns n is.start is.rows machines is.given begins;
+          wired = plan-wired is.design is.request is.models is.default plan columns n is.start is.rows token starts machines is.given are-built;
+          no_ring = plan-no-ring is.design is.request is.models is.default plan columns n is.start is.rows token starts machines is.given are-built;
+          solves = plan-solved is.design is.request is.models is.default plan columns n is.start is.rows machines is.given begins (whole-runs is.design is.request is.models is.start columns n is.rows is.given.can is.given.typed is.given.given is.given.run) (plan-ins is.design is.request is.models is.given.can);
         }
 
     opens-plan : Opens (flow_of is.design is.request plan is.start is.rows) lists_of stations (wires_of_plan token plan) n
     opens-plan =
         record {
           seated = are.threads;
-          opening = λ m lt. built-opening is.design is.request is.default plan columns n is.start is.rows machines is.given begins m (omega (arith, lt, length-map stations (seated lists_of)));
+          opening = λ m lt. built-opening is.design is.request is.models is.default plan columns n is.start is.rows machines is.given begins m (omega (arith, lt, length-map stations (seated lists_of)));
           listed = λ m s lt. is-listed m s (omega (arith, lt, are.total));
-          limits = plan-within is.design is.request is.default plan columns n is.start is.rows token starts machines is.given are-built is.room;
+          limits = plan-within is.design is.request is.models is.default plan columns n is.start is.rows token starts machines is.given are-built is.room;
           sound = is-sound;
         }
 

@@ -1,5 +1,5 @@
 -- The machines of a plan can be built.
-use Rattle.std.proofs.Common.{◌≡◌, ℕ, ◌^◌, ◌<◌, ◌≤◌, List, [], ◌∷◌, length, refl, sym, subst, arith}
+use Rattle.std.proofs.Common.{◌≡◌, ◌≢◌, ℕ, ◌<◌, ◌≤◌, List, [], ◌∷◌, length, refl, sym, subst, arith}
 use Rattle.std.specs.Prelude.{Option, Some, None, min, ◌==◌}
 use Rattle.gg_flat.specs.Run.{Start}
 use Rattle.gg_flat.specs.State.{IsState}
@@ -7,8 +7,10 @@ use Rattle.gg_flat.specs.Streams.{Flow}
 use Rattle.gg_order.specs.Design.{Ordered}
 use Rattle.gg_partfile.specs.declared.request.Request.{Request}
 use Rattle.gg_cut.specs.declared.plan.Body.{Body}
-use Rattle.gg_cut.specs.declared.plan.Body.TheVariants.{Cut, Memory, Source, Tray}
+use Rattle.gg_cut.specs.declared.plan.BridgeBody.{BridgeBody}
+use Rattle.gg_cut.specs.declared.plan.Body.TheVariants.{Cut, Memory, Source, Tray, Bridge}
 use Rattle.gg_cut.specs.declared.plan.Plan.{Plan}
+use Rattle.gg_cut.specs.Bridges.{Models}
 use Rattle.gg_cut.specs.Direct.{Hub, routes, plan_hub}
 use Rattle.gg_cut.specs.Hosts.{machine_of, least_machine, group_of, leader_in, leader, host_of}
 use Rattle.gg_cut.specs.Listed.{listed_of}
@@ -16,17 +18,18 @@ use Rattle.gg_cut.specs.Plan.{wire_at, IsBody}
 use Rattle.gg_cut.proofs.RangeLemmas.{filter-few}
 use Rattle.gg_closed.proofs.FaultlessLemmas.{faultless-few}
 use Rattle.gg_pipe.specs.Made.{plan_reference}
-use Rattle.gg_routes.proofs.FewLemmas.{few-machines}
-use Rattle.gg_routes.proofs.RoutedLemmas.{plan-routed}
+use Rattle.gg_bridged.proofs.PlanLemmas.{faultless as no-fault}
+use Rattle.gg_bridged.proofs.PortLemmas.{plan-ins}
 use Rattle.gg_sound.specs.Built.{IsGiven, body_start, machine_in, nameless}
-use Rattle.gg_sound.proofs.BodyLemmas.{unit-formed, unit-ordered, source-known, source-some, source-few}
+use Rattle.gg_sound.proofs.BodyLemmas.{attached-once, attached-ports, unit-formed, unit-ordered, source-known, source-some, source-few}
 use Rattle.gg_sound.proofs.FitLemmas.{outs-count}
 use Rattle.gg_sound.proofs.StandLemmas.{memory-formed, memory-chosen, memory-alone}
 use Rattle.gg_sound.proofs.SeenLemmas.{seen-typed}
 use Rattle.gg_build.specs.declared.begin.Begin.{Begin}
 use Rattle.gg_build.specs.Begin.{starts_of}
 use Rattle.gg_build.specs.Build.{IsFaultless, IsToStart}
-use Rattle.gg_build.specs.Hosts.{CanBegin, CanBuild, CanBuildAll, outs_at}
+use Rattle.gg_build.specs.Bridges.{IsOther}
+use Rattle.gg_build.specs.Hosts.{CanBegin, CanBuild, CanBuildAll, HaveNames, outs_at}
 
 -- ---- hosts
 
@@ -53,64 +56,76 @@ begin-by starts others (Cut part) same can = subst (λ (own : Start). IsState pa
 begin-by starts others (Memory part) same can = subst (λ (own : Start). IsState part.piece own.state) (sym same) can
 begin-by starts others (Source place) same can = tt
 begin-by starts others Tray same can = tt
+begin-by starts others (Bridge bridge) same can = tt
 
-module _ (design : Ordered) (request : Request) (default : ℕ) (plan : Plan) (columns : List (List ℕ)) (n : ℕ) (start : Start) (rows : List (List ℕ)) (given : IsGiven design request default plan columns n start rows) where
+module _ (design : Ordered) (request : Request) (models : Models) (default : ℕ) (plan : Plan) (columns : List (List ℕ)) (n : ℕ) (start : Start) (rows : List (List ℕ)) (given : IsGiven design request models default plan columns n start rows) where
   abbrev hub : Hub
   hub = plan_hub design.circuit design.tree request
 
-  can-build : (m : ℕ) → m < length plan.machines → (body : Body) → (machine_in plan m).body ≡ body → IsBody design (listed_of design.tree request) hub m body → CanBuild columns (outs_at plan.machines m) body
+  can-build : (m : ℕ) → m < length plan.machines → (body : Body) → (machine_in plan m).body ≡ body → IsBody design request models (listed_of design.tree request) hub m body → CanBuild columns (outs_at plan.machines m) body
   can-build m lt (Cut part) is at =
       let count = outs-count design (listed_of design.tree request) hub m part at.1 in
-      let most = faultless-few design request given.faultless in
+      let most = faultless-few design request (no-fault design request models given.can) in
       let few = filter-few (λ c. (wire_at (routes hub) c).producer == m) 0 (length (routes hub)) in
       record {
-        formed = unit-formed design request default plan columns n start rows given m lt part is;
-        ordered = unit-ordered design request default plan columns n start rows given m lt part is;
+        formed = unit-formed design request models default plan columns n start rows given m lt part is;
+        ordered = unit-ordered design request models default plan columns n start rows given m lt part is;
         few = omega (arith, count, few, most.channels);
       }
   can-build m lt (Memory part) is at =
       record {
-        formed = memory-formed design request default plan columns n start rows given m part lt is;
-        chosen = memory-chosen design request default plan columns n start rows given m part lt is;
-        alone = λ alone cut. memory-alone design request default plan columns n start rows given m part lt is alone cut;
+        formed = memory-formed design request models default plan columns n start rows given m part lt is;
+        chosen = memory-chosen design request models default plan columns n start rows given m part lt is;
+        alone = λ alone cut. memory-alone design request models default plan columns n start rows given m part lt is alone cut;
       }
   can-build m lt (Source place) is at =
       record {
-        known = source-known design request default plan columns n start rows given m lt place is;
-        some = source-some design request default plan columns n start rows given m lt place is;
-        few = source-few design request default plan columns n start rows given m lt place is;
+        known = source-known design request models default plan columns n start rows given m lt (plan-ins design request models given.can) place is;
+        some = source-some design request models default plan columns n start rows given m lt place is;
+        few = source-few design request models default plan columns n start rows given m lt place is;
       }
   can-build m lt Tray is at = tt
+  can-build m lt (Bridge bridge) is at = attached-ports design request models default plan columns n start rows given m lt bridge is
 
   -- a unit or a listed memory begins in its part of the start's state
-  can-begin : (m : ℕ) (body : Body) → IsState (plan_reference design request) start.state → IsBody design (listed_of design.tree request) hub m body → CanBegin (body_start start) body
-  can-begin m (Cut part) typed at = seen-typed design request given.design_is given.keeps given.held given.faultless m part at.1 start.state typed
-  can-begin m (Memory part) typed at = seen-typed design request given.design_is given.keeps given.held given.faultless m part at.2 start.state typed
+  can-begin : (m : ℕ) (body : Body) → IsState (plan_reference design request) start.state → IsBody design request models (listed_of design.tree request) hub m body → CanBegin (body_start start) body
+  can-begin m (Cut part) typed at = seen-typed design request given.can.design_is given.can.keeps given.held (no-fault design request models given.can) m part at.1 start.state typed
+  can-begin m (Memory part) typed at = seen-typed design request given.can.design_is given.can.keeps given.held (no-fault design request models given.can) m part at.2 start.state typed
   can-begin m (Source place) typed at = tt
   can-begin m Tray typed at = tt
-
-  few-machines-of : length plan.machines < 2 ^ 32
-  few-machines-of =
-      let routed = plan-routed design request given.design_is given.keeps given.faultless in
-      let most = few-machines design request routed (faultless-few design request given.faultless) in
-      omega (arith, most, given.planned.machine_total)
+  can-begin m (Bridge bridge) typed at = tt
 
   can-build-all : (starts : Body → Start) → ((m : ℕ) → m < length plan.machines → starts (machine_in plan m).body ≡ body_start start (machine_in plan m).body) → CanBuildAll starts columns plan.machines
   can-build-all starts same =
       record {
-        few = few-machines-of;
+        few = given.planned.few;
         known = λ m d lt. let low = host-below request.units request.share m in omega (arith, lt, low, (given.planned.machine m d lt).host);
         ready = λ m lt. can-build m lt (machine_in plan m).body refl (given.planned.machine m nameless lt).body;
         begin = λ m lt. begin-by starts (body_start start) (machine_in plan m).body (same m lt) (can-begin m (machine_in plan m).body given.typed (given.planned.machine m nameless lt).body);
         alike = λ m k lt less other same. given.planned.shared m k nameless nameless lt less other same;
       }
 
+  -- a machine isn't that of a bridge with this name, if no such bridge has the name
+  is-other : (one : Body) (name : List ℕ) → ((body : BridgeBody) → one ≡ Bridge body → body.name ≢ name) → IsOther one name
+  is-other (Cut part) name apart = tt
+  is-other (Memory part) name apart = tt
+  is-other (Source place) name apart = tt
+  is-other Tray name apart = tt
+  is-other (Bridge body) name apart = apart body refl
+
+  have-names : HaveNames plan.machines
+  have-names =
+      λ m k lt less other body is. is-other (machine_in plan m).body body.name (λ one first same. other (attached-once design request models default plan columns n start rows given m k one body lt less first is same))
+
 -- ---- the machines of a plan that is to run
 
 module _ (plan : Plan) (begin : Begin) (columns : List (List ℕ)) (n : ℕ) (flow : Flow) (is : IsToStart plan begin columns n flow) where
   pub all-ready : CanBuildAll (starts_of plan.ratios begin) columns plan.machines
-  all-ready = can-build-all is.design is.request is.default plan columns n is.start is.rows is.given (starts_of plan.ratios begin) is.starts
+  all-ready = can-build-all is.design is.request is.models is.default plan columns n is.start is.rows is.given (starts_of plan.ratios begin) is.starts
+
+  pub all-named : HaveNames plan.machines
+  all-named = have-names is.design is.request is.models is.default plan columns n is.start is.rows is.given
 
   pub faultless : IsFaultless plan
   faultless =
-      record { design = is.design; request = is.request; default = is.default; design_is = is.given.design_is; keeps = is.given.keeps; faultless = is.given.faultless; some = is.given.some; planned = is.given.planned }
+      record { design = is.design; request = is.request; models = is.models; default = is.default; can = is.given.can; some = is.given.some; planned = is.given.planned }

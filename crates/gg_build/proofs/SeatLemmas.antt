@@ -1,8 +1,10 @@
 -- The stations of a plan's machines at their hosts.
-use Rattle.std.proofs.Common.{◌≡◌, ℕ, ◌+◌, ◌<◌, List, [], ◌∷◌, ◌++◌, length, map, get_or, sym, ap, subst, ◌∙◌, below_more, arith}
+use Rattle.std.proofs.Common.{◌≡◌, ℕ, ◌+◌, ◌<◌, List, [], ◌∷◌, ◌++◌, length, map, get_or, refl, sym, ap, subst, ◌∙◌, below_more, arith}
 use Rattle.std.proofs.lemmas.List.{get_or-map, get_or_default, get_or_push, get_or_append_left, length-append, length-map}
+use Rattle.gg_flat.specs.Circuit.{FlatCircuit}
 use Rattle.gg_flat.specs.Line.{value_at}
 use Rattle.gg_flat.specs.Run.{Start}
+use Rattle.gg_flat.specs.State.{State}
 use Rattle.gg_cut.specs.declared.plan.Body.{Body}
 use Rattle.gg_cut.specs.declared.plan.Machine as planned
 use Rattle.gg_cut.specs.declared.plan.Plan.{Plan}
@@ -14,14 +16,15 @@ use Rattle.gg_sound.specs.Built.{machine_in, nameless}
 use Rattle.gg_build.specs.declared.node.Node.{Node}
 use Rattle.gg_build.specs.declared.node.Node.TheVariants as node
 use Rattle.gg_build.specs.Groups.{group_at, IsMember, AreGroups}
-use Rattle.gg_build.specs.Hosts.{CanBuildAll, IsBuiltWith, IsGroup, IsHostOf, AreHosts, IsStation, AreStations, IsSeat, AreSeats, body_at, outs_at}
+use Rattle.gg_build.specs.Bridges.{Table, HasOwn}
+use Rattle.gg_build.specs.Hosts.{AreAllApart, HaveBridges, HaveNames, first_body, CanBuildAll, IsBuiltWith, IsGroup, IsHostOf, AreHosts, IsStation, AreStations, IsSeat, AreSeats, body_at, outs_at}
 use Rattle.gg_build.specs.Node.{machines_of}
 
 -- the plan's numbers of the hosts of these machines
 abbrev pub numbers_of : List planned.Machine → List ℕ
 numbers_of machines = map (λ (machine : planned.Machine). machine.host) machines
 
-abbrev no_node : Node
+abbrev no_node : {B : Type 0} → Node B
 no_node = node.Tray no_machine
 
 abbrev pub no_station : Station
@@ -60,14 +63,35 @@ module _ (starts : Body → Start) (columns : List (List ℕ)) (machines : List 
             (sym (number-at machines m (member-low h t lt)) ∙ together ∙ number-at machines k (member-low h u less));
       }
 
+  -- ---- bridges
+
+  first-low : (h : ℕ) → h < length members → value_at (group_at members h) 0 < length machines
+  first-low h low = member-low h 0 (groups.some h low)
+
+  pub bridges-there : {B : Type 0} (piece : B → FlatCircuit) (state : B → State) (table : Table B) → ((m : ℕ) (body : Body) → m < length machines → body_at machines m ≡ body → HasOwn piece state table body) → HaveBridges piece state table machines members 0
+  bridges-there piece state table told = λ h from lt. told (value_at (group_at members h) 0) (first_body machines members h) (first-low h lt) refl
+
+  pub bridges-apart : HaveNames machines → AreAllApart machines members
+  bridges-apart names =
+      λ h k less lt.
+      let low : h < length members = omega (arith, less, lt) in
+      let m = value_at (group_at members h) 0 in
+      let other = value_at (group_at members k) 0 in
+      let one = groups.grouped.back h 0 (groups.some h low) in
+      let two = groups.grouped.back k 0 (groups.some k lt) in
+      let same : m ≡ other → h ≡ k = λ e. sym one.0 ∙ ap (value_at hosts) e ∙ two.0 in
+      names m other (first-low h low) (first-low k lt) (λ e. absurd (omega (arith, less, same e)))
+
+  -- ---- machines
+
   at : (m : ℕ) → m < length machines → IsMember members (value_at hosts m) (value_at threads m) m
   at m lt = groups.grouped.at m (omega (arith, lt, number-count machines))
 
-  module _ (nodes : List Node) (are : AreHosts starts columns machines members (length members) nodes) where
+  module _ {B : Type 0} (nodes : List (Node B)) (are : AreHosts starts columns machines members (length members) nodes) where
     pub host-known : (m : ℕ) → m < length machines → value_at hosts m < length nodes
     host-known m lt = let low = (at m lt).host in omega (arith, low, are.total)
 
-    pub thread-there : (m : ℕ) (any : Node) → m < length machines → value_at threads m < length (machines_of (get_or nodes (value_at hosts m) any))
+    pub thread-there : (m : ℕ) (any : Node B) → m < length machines → value_at threads m < length (machines_of (get_or nodes (value_at hosts m) any))
     thread-there m any lt =
         let is = at m lt in
         omega (arith, is.thread, (are.each (value_at hosts m) any is.host).count)
@@ -161,8 +185,8 @@ module _ (starts : Body → Start) (columns : List (List ℕ)) (machines : List 
           }
 
 -- one station more
-pub stations-more : (machines : List planned.Machine) (hosts threads : List ℕ) (nodes : List Node) (count : ℕ) (old new : List Station) (own : Station) → new ≡ old ++ own ∷ [] → AreStations machines hosts threads nodes count old
-    → ((any : Node) → IsStation (get_or machines count nameless) (value_at hosts count) (value_at threads count) (machine_at (machines_of (get_or nodes (value_at hosts count) any)) (value_at threads count)) own) → AreStations machines hosts threads nodes (count + 1) new
+pub stations-more : {B : Type 0} (machines : List planned.Machine) (hosts threads : List ℕ) (nodes : List (Node B)) (count : ℕ) (old new : List Station) (own : Station) → new ≡ old ++ own ∷ [] → AreStations machines hosts threads nodes count old
+    → ((any : Node B) → IsStation (get_or machines count nameless) (value_at hosts count) (value_at threads count) (machine_at (machines_of (get_or nodes (value_at hosts count) any)) (value_at threads count)) own) → AreStations machines hosts threads nodes (count + 1) new
 stations-more machines hosts threads nodes count old new own is was one =
     subst (AreStations machines hosts threads nodes (count + 1)) (sym is)
     (record {

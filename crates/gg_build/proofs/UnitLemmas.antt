@@ -19,7 +19,7 @@ use Rattle.gg_flat.specs.Streams.{state_in}
 use Rattle.gg_flat.specs.WellFormed.{IsWellFormed, MayDrive}
 use Rattle.gg_cut.specs.Alike.{IsAlike, IsLike}
 use Rattle.gg_cut.specs.declared.plan.Body.{Body}
-use Rattle.gg_cut.specs.declared.plan.Body.TheVariants.{Cut, Memory, Source, Tray}
+use Rattle.gg_cut.specs.declared.plan.Body.TheVariants.{Cut, Memory, Source, Tray, Bridge}
 use Rattle.gg_cut.specs.declared.plan.Machine as planned
 use Rattle.gg_needs.specs.Needs.{AreNeeds, AreNeedsOfOuts}
 use Rattle.gg_part.specs.declared.part.Part.{Part}
@@ -73,6 +73,7 @@ picked-known all outs (Cut part) picked = picked.known
 picked-known all outs (Memory part) picked = absurd picked
 picked-known all outs (Source place) picked = absurd picked
 picked-known all outs Tray picked = absurd picked
+picked-known all outs (Bridge bridge) picked = absurd picked
 
 pub outs-within : (all : List ℕ) (machines : List planned.Machine) (group : List ℕ) (outs : List (List ℕ)) → ArePlaced all machines group (length group) outs → All (All (λ place. place < length all)) outs
 outs-within all machines group outs placed = λ t d lt.
@@ -178,6 +179,7 @@ forked-body starts program (Cut part) outs formed needed like picked = forked-un
 forked-body starts program (Memory part) outs formed needed like picked = absurd like
 forked-body starts program (Source place) outs formed needed like picked = absurd like
 forked-body starts program Tray outs formed needed like picked = absurd like
+forked-body starts program (Bridge bridge) outs formed needed like picked = absurd like
 
 -- ---- where all begin
 
@@ -187,6 +189,7 @@ at-cycle ratios begin (Cut part) = refl
 at-cycle ratios begin (Memory part) = refl
 at-cycle ratios begin (Source place) = refl
 at-cycle ratios begin Tray = refl
+at-cycle ratios begin (Bridge bridge) = refl
 
 -- one machine more
 pub grown-by : {A : Type 0} (f : ℕ → A) (group : List ℕ) (k : ℕ) (old new : List A) (next : A) → k < length group → new ≡ old ++ next ∷ [] → next ≡ f (value_at group k) → old ≡ map f (take k group) → new ≡ map f (take (k + 1) group)
@@ -203,6 +206,7 @@ state-like starts circuit (Cut part) like can =
 state-like starts circuit (Memory part) like can = absurd like
 state-like starts circuit (Source place) like can = absurd like
 state-like starts circuit Tray like can = absurd like
+state-like starts circuit (Bridge bridge) like can = absurd like
 
 -- so the states of like units are states of their program's piece
 pub states-like : (starts : Body → Start) (piece : FlatCircuit) (machines : List planned.Machine) (group : List ℕ) (states : List State) → AreUnits piece machines group → CanAllBegin starts machines group → states ≡ states_for starts machines group → All (IsState piece) states

@@ -8,10 +8,12 @@ use Rattle.gg_cut.specs.declared.plan.Plan.{Plan}
 use Rattle.gg_cut.specs.declared.plan.Machine as planned
 use Rattle.gg_cut.specs.declared.plan.Channel.{Channel}
 use Rattle.gg_cut.specs.declared.wires.Wire.{Wire as Link}
-use Rattle.gg_cut.specs.Direct.{plan_wires}
+use Rattle.gg_cut.specs.Direct.{plan_routes}
+use Rattle.gg_cut.specs.Seated.{plan_bridges, plan_wires, seated_wire}
 use Rattle.gg_cut.specs.Plan.{wire_at as link_at, channels_to, channels_from}
 use Rattle.gg_cut.proofs.RangeLemmas.{filter-few}
 use Rattle.gg_closed.proofs.FaultlessLemmas.{faultless-few}
+use Rattle.gg_bridged.proofs.PlanLemmas.{faultless as no-fault}
 use Rattle.gg_net.specs.declared.shape.Wire.{Wire}
 use Rattle.gg_net.specs.Network.{wire_at}
 use Rattle.gg_sound.specs.Built.{nameless, first_token, wire_of, wires_of_plan}
@@ -127,7 +129,11 @@ module _ (plan : Plan) (links : List Link) (are : AreLinks plan links) where
 -- ---- the links of a request without a fault
 
 pub links-in : (plan : Plan) (is : IsFaultless plan) → AreLinks plan (plan_wires is.design.circuit is.design.tree is.request)
-links-in plan is = links-of is.design is.request is.default plan is.design_is is.keeps is.faultless is.some is.planned
+links-in plan is = links-of is.design is.request is.models is.can is.default plan is.some is.planned
 
 pub few-links : (plan : Plan) (is : IsFaultless plan) → length (plan_wires is.design.circuit is.design.tree is.request) < 2 ^ 32
-few-links plan is = let most = (faultless-few is.design is.request is.faultless).channels in omega (arith, most)
+few-links plan is =
+    let bridges = plan_bridges is.design.circuit is.design.tree is.request in
+    let most = (faultless-few is.design is.request (no-fault is.design is.request is.models is.can)).channels in
+    let count = length-map (plan_routes is.design.circuit is.design.tree is.request) (seated_wire bridges) in
+    omega (arith, most, count)

@@ -8,7 +8,7 @@ use Rattle.gg_flat.specs.State.{State, opening}
 use Rattle.gg_part.specs.PartRun.{part_ratios, part_state}
 use Rattle.gg_part.specs.declared.part.Part.{Part}
 use Rattle.gg_cut.specs.declared.plan.Body.{Body}
-use Rattle.gg_cut.specs.declared.plan.Body.TheVariants.{Cut, Memory, Source, Tray}
+use Rattle.gg_cut.specs.declared.plan.Body.TheVariants.{Cut, Memory, Source, Tray, Bridge}
 use Rattle.gg_cut.specs.declared.plan.Channel.{Channel}
 use Rattle.gg_node.specs.Machine.{no_state}
 use Rattle.gg_build.specs.declared.begin.Begin.{Begin}
@@ -28,6 +28,7 @@ starts_of ratios begin (Cut part) = part_begin ratios begin part
 starts_of ratios begin (Memory part) = part_begin ratios begin part
 starts_of ratios begin (Source place) = record { cycle = begin.cycle; state = no_state; ratios = [] }
 starts_of ratios begin Tray = record { cycle = begin.cycle; state = no_state; ratios = [] }
+starts_of ratios begin (Bridge bridge) = record { cycle = begin.cycle; state = opening bridge.model; ratios = [] }
 
 -- The list has the tokens of the channels that have a pipe; `token` has the token of each signal's pipe.
 abbrev pub AreTokens : List Channel → (token : ℕ → ℕ) → List ℕ → Type 0

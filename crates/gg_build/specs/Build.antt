@@ -1,22 +1,23 @@
 -- The network of a plan before its first cycle.
 -- Source: MEMOCODE 2009 (a synchronous circuit as a network of its parts, whose streams are the circuit's own); ICCAD
 -- 2019 (units and memories of a target as models of their own).
-use Rattle.std.specs.Prelude.{◌≡◌, ℕ, ◌<◌, ◌≤◌, List, None, Some, ◌++◌, length}
-use Rattle.std.specs.List.{range_with_len}
+use Rattle.std.specs.Prelude.{◌≡◌, ◌≢◌, ℕ, ◌<◌, ◌≤◌, List, Some, AllPairs, Contains, length, map}
+use Rattle.gg_flat.specs.Circuit.{FlatCircuit}
+use Rattle.gg_flat.specs.State.{State, opening}
 use Rattle.gg_limits.specs.Limits.{capacity_limit}
 use Rattle.gg_flat.specs.Along.{rows_from}
 use Rattle.gg_flat.specs.Run.{Start}
 use Rattle.gg_flat.specs.Streams.{Flow}
-use Rattle.gg_moved.specs.KeepsToTree.{KeepsToTree}
-use Rattle.gg_order.specs.Design.{Ordered, IsDesign}
+use Rattle.gg_order.specs.Design.{Ordered}
 use Rattle.gg_partfile.specs.declared.request.Request.{Request}
 use Rattle.gg_cut.specs.declared.plan.Plan.{Plan}
-use Rattle.gg_cut.specs.Direct.{plan_hub}
-use Rattle.gg_cut.specs.Fault.{first_fault}
+use Rattle.gg_cut.specs.Bridges.{Models}
+use Rattle.gg_cut.specs.declared.plan.Body.TheVariants.{Bridge}
+use Rattle.gg_cut.specs.declared.plan.BridgeBody.{BridgeBody}
 use Rattle.gg_cut.specs.Plan.{IsPlan}
 use Rattle.gg_pipe.specs.Follows.{plan_start, plan_token}
-use Rattle.gg_pipe.specs.Links.{pipes_of}
-use Rattle.gg_pipe.specs.Made.{plan_reference}
+use Rattle.gg_bridged.specs.Found.{found_order}
+use Rattle.gg_bridged.specs.Whole.{CanBridge, plan_begin, plan_circuit}
 use Rattle.gg_node.specs.Machine.{Machine}
 use Rattle.gg_net.specs.Network.{Network}
 use Rattle.gg_net.specs.Net.{opening_net}
@@ -24,41 +25,41 @@ use Rattle.gg_sound.specs.Built.{AreBuilt, IsGiven, body_start, flow_of, machine
 use Rattle.gg_build.specs.declared.begin.Begin.{Begin}
 use Rattle.gg_build.specs.Begin.{AreTokens, starts_of}
 
--- The plan is that of a design whose circuit keeps to its tree, and of a request without a fault for it. Its channels may hold at
--- least one token each.
+-- The plan is that of a design whose circuit keeps to its tree, and of a request without a fault for it and for these models. Its channels
+-- may hold at least one token each.
 pub record IsFaultless (plan : Plan) : Type 0 where
   pub design : Ordered
   pub request : Request
+  pub models : Models
   pub default : ℕ
-  pub design_is : IsDesign design
-  pub keeps : KeepsToTree design.circuit design.tree
-  pub faultless : first_fault design request ≡ None
+  pub can : CanBridge design request models
   pub some : 0 < default
-  pub planned : IsPlan design request default plan
+  pub planned : IsPlan design request models default plan
 
 -- The plan is that of a design and of a request without a fault for it. A channel that the request doesn't name may
--- hold at most as many tokens as a queue. The flow is what the plan's network computes in the run of n cycles of the reference
--- circuit on these columns of its inputs.
+-- hold at most as many tokens as a queue. The flow is what the plan's network computes in the run of n cycles of the plan's circuit, which
+-- is the reference circuit with the models of the bridges, on these columns of its inputs.
 pub record IsToRun (plan : Plan) (columns : List (List ℕ)) (n : ℕ) (flow : Flow) : Type 0 where
   pub design : Ordered
   pub request : Request
+  pub models : Models
   pub default : ℕ
   pub rows : List (List ℕ)
-  pub given : IsGiven design request default plan columns n (plan_start design request) rows
+  pub given : IsGiven design request models default plan columns n (plan_start design request) rows
   pub room : default ≤ capacity_limit
   pub flow_is : flow ≡ flow_of design request plan (plan_start design request) rows
 
--- an order of the reference circuit: its pipes, and behind them the design's order
-abbrev pub reference_order : Ordered → Request → List ℕ
-reference_order design request = range_with_len (length design.circuit.signals) (length (pipes_of (plan_hub design.circuit design.tree request))) ++ design.order
+-- an order of the plan's circuit
+abbrev pub circuit_order : Ordered → Request → Models → List ℕ
+circuit_order design request models = found_order (plan_circuit design request models)
 
--- the rows of the reference circuit's run on these columns, computed along its order
-abbrev pub reference_rows : Ordered → Request → List (List ℕ) → ℕ → List (List ℕ)
-reference_rows design request columns n = rows_from (plan_reference design request) (reference_order design request) (plan_start design request) columns n
+-- the rows of the plan's circuit from a start on, on these columns, computed along its order
+abbrev pub circuit_rows : Ordered → Request → Models → List (List ℕ) → ℕ → List (List ℕ)
+circuit_rows design request models columns n = rows_from (plan_circuit design request models) (circuit_order design request models) (plan_begin design request models (plan_start design request)) columns n
 
--- What the plan's network computes in the reference circuit's run on these columns.
-abbrev pub flow_along : Ordered → Request → Plan → List (List ℕ) → ℕ → Flow
-flow_along design request plan columns n = flow_of design request plan (plan_start design request) (reference_rows design request columns n)
+-- What the plan's network computes in its circuit's run on these columns.
+abbrev pub flow_along : Ordered → Request → Models → Plan → List (List ℕ) → ℕ → Flow
+flow_along design request models plan columns n = flow_of design request plan (plan_start design request) (circuit_rows design request models columns n)
 
 -- A network is that of the plan before its first cycle. It has the plan's machines, the plan's channels, each with the token that it
 -- opens with, and n cycles to do.
@@ -70,19 +71,20 @@ pub record IsOpeningOf (plan : Plan) (columns : List (List ℕ)) (n : ℕ) (net 
 -- ---- from any start
 
 -- The network of a plan can be run from a start for its sources' columns, up to cycle n: the flow is what the plan's network computes
--- from there in the reference circuit's run. `IsToRun` is the case of cycle 0 and zeros (`run_from_zeros`), `IsToBegin` that of a
+-- from there in the run of the plan's circuit. `IsToRun` is the case of cycle 0 and zeros (`run_from_zeros`), `IsToBegin` that of a
 -- start that is told (`run_from_begin`).
 pub record IsToRunFrom (plan : Plan) (start : Start) (columns : List (List ℕ)) (n : ℕ) (flow : Flow) : Type 0 where
   pub design : Ordered
   pub request : Request
+  pub models : Models
   pub default : ℕ
   pub rows : List (List ℕ)
-  pub given : IsGiven design request default plan columns n start rows
+  pub given : IsGiven design request models default plan columns n start rows
   pub room : default ≤ capacity_limit
   pub flow_is : flow ≡ flow_of design request plan start rows
 
 abbrev pub run_from_zeros : {plan : Plan} {columns : List (List ℕ)} {n : ℕ} {flow : Flow} (run : IsToRun plan columns n flow) → IsToRunFrom plan (plan_start run.design run.request) columns n flow
-run_from_zeros run = record { design = run.design; request = run.request; default = run.default; rows = run.rows; given = run.given; room = run.room; flow_is = run.flow_is }
+run_from_zeros run = record { design = run.design; request = run.request; models = run.models; default = run.default; rows = run.rows; given = run.given; room = run.room; flow_is = run.flow_is }
 
 -- `begin` tells this start: its cycle, its state of the reference circuit, and the token of each channel that has a pipe. The start's
 -- ratios are the plan's.
@@ -93,20 +95,21 @@ pub record Begins (design : Ordered) (request : Request) (plan : Plan) (start : 
   pub ratios : plan.ratios ≡ start.ratios
 
 -- The network of a plan can be built from a start for its sources' columns, as in `IsToRun`: the flow is what the plan's network computes
--- from there in the reference circuit's run.
+-- from there in the run of the plan's circuit.
 pub record IsToBegin (plan : Plan) (begin : Begin) (columns : List (List ℕ)) (n : ℕ) (flow : Flow) : Type 0 where
   pub design : Ordered
   pub request : Request
+  pub models : Models
   pub default : ℕ
   pub start : Start
   pub rows : List (List ℕ)
-  pub given : IsGiven design request default plan columns n start rows
+  pub given : IsGiven design request models default plan columns n start rows
   pub room : default ≤ capacity_limit
   pub begins : Begins design request plan start begin
   pub flow_is : flow ≡ flow_of design request plan start rows
 
 abbrev pub run_from_begin : {plan : Plan} {begin : Begin} {columns : List (List ℕ)} {n : ℕ} {flow : Flow} (run : IsToBegin plan begin columns n flow) → IsToRunFrom plan run.start columns n flow
-run_from_begin run = record { design = run.design; request = run.request; default = run.default; rows = run.rows; given = run.given; room = run.room; flow_is = run.flow_is }
+run_from_begin run = record { design = run.design; request = run.request; models = run.models; default = run.default; rows = run.rows; given = run.given; room = run.room; flow_is = run.flow_is }
 
 -- the token of each signal's pipe, in the network that is run from a start
 abbrev pub run_token : {plan : Plan} {start : Start} {columns : List (List ℕ)} {n : ℕ} {flow : Flow} → IsToRunFrom plan start columns n flow → ℕ → ℕ
@@ -122,10 +125,11 @@ pub record IsOpeningFrom (plan : Plan) (start : Start) (token : ℕ → ℕ) (co
 pub record IsToStart (plan : Plan) (begin : Begin) (columns : List (List ℕ)) (n : ℕ) (flow : Flow) : Type 0 where
   pub design : Ordered
   pub request : Request
+  pub models : Models
   pub default : ℕ
   pub start : Start
   pub rows : List (List ℕ)
-  pub given : IsGiven design request default plan columns n start rows
+  pub given : IsGiven design request models default plan columns n start rows
   pub room : default ≤ capacity_limit
   pub flow_is : flow ≡ flow_of design request plan start rows
   pub cycle : begin.cycle ≡ start.cycle
@@ -137,3 +141,21 @@ pub record IsStarted (plan : Plan) (begin : Begin) (columns : List (List ℕ)) (
   pub machines : List Machine
   pub built : AreBuilt plan (starts_of plan.ratios begin) columns machines
   pub is : (token : ℕ → ℕ) → AreTokens plan.channels token begin.tokens.items → net ≡ opening_net machines (wires_of_plan token plan) n
+
+-- ---- bridges
+
+-- One of these bridges has this name, the model and the state of zeros.
+pub record HasBridge {B : Type 0} (piece : B → FlatCircuit) (state : B → State) (bridges : List (List ℕ × B)) (body : BridgeBody) : Type 0 where
+  pub bridge : B
+  pub known : Contains bridges (body.name, bridge)
+  pub model : piece bridge ≡ body.model
+  pub opens : state bridge ≡ opening body.model
+
+-- The bridges have different names, and among them is each one of the plan, with its model and with zeros.
+pub record HasBridges {B : Type 0} (piece : B → FlatCircuit) (state : B → State) (plan : Plan) (bridges : List (List ℕ × B)) : Type 0 where
+  pub names : AllPairs (λ a b. a ≢ b) (map (λ pair. pair.0) bridges)
+  pub each : (m : ℕ) (body : BridgeBody) → m < length plan.machines → (machine_in plan m).body ≡ Bridge body → HasBridge piece state bridges body
+
+-- No machine of the plan is that of a bridge.
+abbrev pub NeedsNone : Plan → Type 0
+NeedsNone plan = (m : ℕ) (body : BridgeBody) → m < length plan.machines → (machine_in plan m).body ≢ Bridge body

@@ -11,9 +11,10 @@ use Rattle.gg_flat.specs.WellFormed.{IsWellFormed}
 use Rattle.gg_part.specs.Choice.{IsChoice}
 use Rattle.gg_part.specs.InOrder.{IsInOrder}
 use Rattle.gg_part.specs.declared.part.Part.{Part}
+use Rattle.gg_bridge.specs.Hosted.{ArePorts}
 use Rattle.gg_cut.specs.Alike.{AreAlike, IsLike}
 use Rattle.gg_cut.specs.declared.plan.Body.{Body}
-use Rattle.gg_cut.specs.declared.plan.Body.TheVariants.{Cut, Memory, Source, Tray}
+use Rattle.gg_cut.specs.declared.plan.Body.TheVariants.{Cut, Memory, Source, Tray, Bridge}
 use Rattle.gg_cut.specs.declared.plan.Machine as planned
 use Rattle.gg_cut.specs.declared.plan.Plan.{Plan}
 use Rattle.gg_memunit.specs.MemoryUnit.{IsMemoryPiece, started_unit}
@@ -25,6 +26,7 @@ use Rattle.gg_sound.specs.Alone.{IsCutAgain}
 use Rattle.gg_sound.specs.Built.{IsBuilt, IsUnitOf, machine_in, nameless}
 use Rattle.gg_build.specs.declared.node.Node.{Node}
 use Rattle.gg_build.specs.declared.node.Node.TheVariants as node
+use Rattle.gg_build.specs.Bridges.{Table, AreApart, HasOwn}
 use Rattle.gg_build.specs.Groups.{group_at}
 use Rattle.gg_build.specs.Node.{machines_of}
 
@@ -54,6 +56,7 @@ CanBuild columns outs (Cut part) = IsUnitPart part
 CanBuild columns outs (Memory part) = IsMemoryPart part
 CanBuild columns outs (Source place) = IsSourceAt columns outs place
 CanBuild columns outs Tray = ⊤
+CanBuild columns outs (Bridge bridge) = ArePorts bridge.model bridge.ins bridge.outs
 
 -- A unit or a listed memory begins in a state of its piece.
 abbrev pub CanBegin : (Body → Start) → Body → Type 0
@@ -61,6 +64,7 @@ CanBegin starts (Cut part) = IsState part.piece (starts (Cut part)).state
 CanBegin starts (Memory part) = IsState part.piece (starts (Memory part)).state
 CanBegin starts (Source place) = ⊤
 CanBegin starts Tray = ⊤
+CanBegin starts (Bridge bridge) = ⊤
 
 -- what machine m of these is
 abbrev pub body_at : List planned.Machine → ℕ → Body
@@ -91,6 +95,24 @@ pub record IsGroup (starts : Body → Start) (columns : List (List ℕ)) (machin
   pub begin : CanAllBegin starts machines group
   pub alike : (t u : ℕ) → t < length group → u < length group → t ≢ u → AreAlike (body_at machines (value_at group t)) (body_at machines (value_at group u))
 
+-- ---- bridges
+
+-- what the first machine of a host is
+abbrev pub first_body : List planned.Machine → List (List ℕ) → ℕ → Body
+first_body machines members h = body_at machines (value_at (group_at members h) 0)
+
+-- The table has the bridges of all hosts from this one on.
+abbrev pub HaveBridges : {B : Type 0} → (B → FlatCircuit) → (B → State) → Table B → List planned.Machine → List (List ℕ) → ℕ → Type 0
+HaveBridges piece state table machines members first = (h : ℕ) → first ≤ h → h < length members → HasOwn piece state table (first_body machines members h)
+
+-- No two hosts have bridges with one name.
+abbrev pub AreAllApart : List planned.Machine → List (List ℕ) → Type 0
+AreAllApart machines members = (h k : ℕ) → h < k → k < length members → AreApart (first_body machines members h) (first_body machines members k)
+
+-- No two machines have bridges with one name.
+abbrev pub HaveNames : List planned.Machine → Type 0
+HaveNames machines = (m k : ℕ) → m < length machines → k < length machines → m ≢ k → AreApart (body_at machines m) (body_at machines k)
+
 -- ---- hosts
 
 -- The machine for a machine of the plan that gives this many channels. `starts` tells where a machine begins.
@@ -110,28 +132,29 @@ pub record IsServed (machine : Machine) : Type 0 where
   pub is : machine ≡ started_unit piece own.ratios own.state own.cycle
 
 -- A host serves the ports of a memory, or none.
-abbrev pub HasPorts : Node → Type 0
+abbrev pub HasPorts : {B : Type 0} → Node B → Type 0
 HasPorts (node.Unit unit) = ⊤
 HasPorts (node.Shared units) = ⊤
 HasPorts (node.Memory machine) = IsServed machine
 HasPorts (node.Source machine) = machine.ports ≡ []
 HasPorts (node.Tray machine) = machine.ports ≡ []
+HasPorts (node.Bridge machine) = machine.ports ≡ []
 
 -- A node has a single machine, which has the property `Is`.
-pub record IsHost (Is : Machine → Type 0) (node : Node) : Type 0 where
+pub record IsHost {B : Type 0} (Is : Machine → Type 0) (node : Node B) : Type 0 where
   pub own : IsAlone Is (machines_of node)
   pub ports : HasPorts node
 
 -- A node has these machines of a plan, a thread each.
-pub record IsHostOf (starts : Body → Start) (columns : List (List ℕ)) (machines : List planned.Machine) (group : List ℕ) (node : Node) : Type 0 where
+pub record IsHostOf {B : Type 0} (starts : Body → Start) (columns : List (List ℕ)) (machines : List planned.Machine) (group : List ℕ) (node : Node B) : Type 0 where
   pub count : length (machines_of node) ≡ length group
   pub each : (t : ℕ) → t < length group → IsBuiltWith starts columns (outs_at machines (value_at group t)) (body_at machines (value_at group t)) (machine_at (machines_of node) t)
   pub ports : HasPorts node
 
 -- the hosts of these groups of machines
-pub record AreHosts (starts : Body → Start) (columns : List (List ℕ)) (machines : List planned.Machine) (members : List (List ℕ)) (count : ℕ) (nodes : List Node) : Type 0 where
+pub record AreHosts {B : Type 0} (starts : Body → Start) (columns : List (List ℕ)) (machines : List planned.Machine) (members : List (List ℕ)) (count : ℕ) (nodes : List (Node B)) : Type 0 where
   pub total : length nodes ≡ count
-  pub each : (h : ℕ) (any : Node) → h < count → IsHostOf starts columns machines (group_at members h) (slice_index_or nodes h any)
+  pub each : (h : ℕ) (any : Node B) → h < count → IsHostOf starts columns machines (group_at members h) (slice_index_or nodes h any)
 
 -- ---- units that share a host
 
@@ -146,6 +169,7 @@ ArePickedFor all (Cut part) places = ArePicked all part.piece.outs places
 ArePickedFor all (Memory part) places = ⊥
 ArePickedFor all (Source place) places = ⊥
 ArePickedFor all Tray places = ⊥
+ArePickedFor all (Bridge bridge) places = ⊥
 
 -- this machine is a unit that runs the part, from where it begins
 abbrev pub IsUnitBody : (Body → Start) → Body → Machine → Type 0
@@ -153,6 +177,7 @@ IsUnitBody starts (Cut part) machine = IsUnitOf (starts (Cut part)) part machine
 IsUnitBody starts (Memory part) machine = ⊥
 IsUnitBody starts (Source place) machine = ⊥
 IsUnitBody starts Tray machine = ⊥
+IsUnitBody starts (Bridge bridge) machine = ⊥
 
 -- for each of these machines the ratios of its own clocks
 abbrev pub ratios_for : (Body → Start) → List planned.Machine → List ℕ → List (List Ratio)
@@ -190,9 +215,9 @@ pub record IsStation (own : planned.Machine) (host thread : ℕ) (machine : Mach
   pub ports : station.ports ≡ map entry_of machine.ports
 
 -- the stations of the first `count` machines of a plan, at these threads of these hosts
-pub record AreStations (machines : List planned.Machine) (hosts threads : List ℕ) (nodes : List Node) (count : ℕ) (stations : List Station) : Type 0 where
+pub record AreStations {B : Type 0} (machines : List planned.Machine) (hosts threads : List ℕ) (nodes : List (Node B)) (count : ℕ) (stations : List Station) : Type 0 where
   pub total : length stations ≡ count
-  pub each : (m : ℕ) (any : Node) (other : Station) → m < count
+  pub each : (m : ℕ) (any : Node B) (other : Station) → m < count
       → IsStation (slice_index_or machines m nameless) (value_at hosts m) (value_at threads m) (machine_at (machines_of (slice_index_or nodes (value_at hosts m) any)) (value_at threads m)) (slice_index_or stations m other)
 
 -- The station of a machine of a plan. The machine that is seated there is built from it.
@@ -203,7 +228,7 @@ pub record IsSeat (starts : Body → Start) (columns : List (List ℕ)) (own : p
   pub ports : station.ports ≡ map entry_of (seated lists station).ports
 
 -- The hosts and the stations of a plan's machines. Two machines have one host exactly if they have one in the plan.
-pub record AreSeats (plan : Plan) (starts : Body → Start) (columns : List (List ℕ)) (nodes : List Node) (stations : List Station) : Type 0 where
+pub record AreSeats {B : Type 0} (plan : Plan) (starts : Body → Start) (columns : List (List ℕ)) (nodes : List (Node B)) (stations : List Station) : Type 0 where
   pub total : length stations ≡ length plan.machines
   pub each : (m : ℕ) (any : Station) → m < length plan.machines → IsSeat starts columns (machine_in plan m) (map machines_of nodes) (slice_index_or stations m any)
   pub threads : AreSeated (map machines_of nodes) stations

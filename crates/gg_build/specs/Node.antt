@@ -7,13 +7,14 @@ use Rattle.gg_build.specs.declared.node.Node.{Node}
 use Rattle.gg_build.specs.declared.node.Node.TheVariants as node
 
 -- the machines of a node of any kind
-abbrev pub machines_of : Node → List Machine
+abbrev pub machines_of : {B : Type 0} → Node B → List Machine
 machines_of (node.Unit unit) = shared.machines_of unit
 machines_of (node.Shared units) = shared.machines_of units
 machines_of (node.Memory machine) = machine ∷ []
 machines_of (node.Source machine) = machine ∷ []
 machines_of (node.Tray machine) = machine ∷ []
+machines_of (node.Bridge machine) = machine ∷ []
 
 -- the first machine of a node, which for most is the only one
-abbrev pub machine_of : Node → Machine
+abbrev pub machine_of : {B : Type 0} → Node B → Machine
 machine_of node = machine_at (machines_of node) 0

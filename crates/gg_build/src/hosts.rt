@@ -1,5 +1,5 @@
 //! The hosts of a plan's machines.
-ghost use Rattle.std.specs.Prelude.{◌≡◌, ℕ, ◌<◌, ◌≤◌, [], None, false, IfOk, length, replicate, slice_index_or, map};
+ghost use Rattle.std.specs.Prelude.{◌≡◌, ℕ, ◌<◌, ◌≤◌, [], None, false, IfOk, OnOk, length, replicate, slice_index_or, map};
 ghost use Rattle.gg_limits.specs.Limits.{cycle_limit};
 ghost use Rattle.gg_flat.specs.Line.{value_at};
 ghost use Rattle.gg_cut.specs.declared.plan.Body.TheVariants.{Cut, Memory};
@@ -8,14 +8,18 @@ ghost use Rattle.gg_fame5.specs.Shared as units;
 ghost use Rattle.gg_sound.specs.Alone.{IsCutAgain};
 ghost use Rattle.gg_sound.specs.Built.{IsUnitOf, IsMemoryOf, tray_rows};
 ghost use Rattle.gg_build.specs.Begin.{starts_of};
+ghost use Rattle.gg_build.specs.Bridges.{HasOwn, KeepsOthers};
 ghost use Rattle.gg_build.specs.Groups.{group_at};
-ghost use Rattle.gg_build.specs.Hosts.{CanAllBegin, CanBegin, IsUnitPart, IsMemoryPart, IsSourceAt, IsGroup, IsAlone, IsHost, IsHostOf, HasPorts, AreHosts, AreUnits, RunUnits, body_at};
+ghost use Rattle.gg_build.specs.Hosts.{CanAllBegin, CanBegin, IsUnitPart, IsMemoryPart, IsSourceAt, IsGroup, IsAlone, IsHost, IsHostOf, HasPorts, HaveBridges, AreAllApart, AreHosts, AreUnits, RunUnits, body_at};
 ghost use Rattle.gg_build.specs.Node.{machines_of};
 
 use crate::begin::{Begin, own_state, part_of_state};
+use crate::bridges::bridge_host;
 use crate::node::Node;
 use crate::starts::own_ratios;
 use crate::units::units_of;
+use gg_bits::Name;
+use gg_bridge::Bridge;
 use gg_clocks::Ratio;
 use gg_cut::{Body, Machine};
 use gg_cut_clocks::{own_clocks, whole_clocking};
@@ -26,6 +30,7 @@ use gg_part::{Part, part_of};
 use gg_program::Program;
 use gg_trace::Trace;
 use std::alloc::{AllocError, Global};
+use std::collections::HashMap;
 
 /// The greatest number of values that a tray keeps: the last ones.
 pub const TRAY_ROWS: u64 = 1024;
@@ -50,12 +55,12 @@ fn unit_of<'a>(
 }
 
 // The host of the hub, or of a unit that is alone.
-fn unit_host<'a>(
+fn unit_host<'a, B: Bridge + Drop>(
     alloc: Global,
     part: &'a Part,
     ratios: &[Ratio],
     begin: &Begin,
-) -> Result<Node<'a>, AllocError>
+) -> Result<Node<'a, B>, AllocError>
     requires part { IsUnitPart part.now }
     requires begin { CanBegin (starts_of ratios.now begin.now) (Cut part.now) }
     requires cycle { begin.now.cycle ≤ cycle_limit }
@@ -68,14 +73,14 @@ fn unit_host<'a>(
 }
 
 // The host of units with one piece. The first has this part.
-fn shared_host<'a>(
+fn shared_host<'a, B: Bridge + Drop>(
     alloc: Global,
     part: &'a Part,
     machines: &[Machine],
     group: &[u32],
     ratios: &[Ratio],
     begin: &Begin,
-) -> Result<Node<'a>, AllocError>
+) -> Result<Node<'a, B>, AllocError>
     requires part { IsUnitPart part.now }
     requires units { AreUnits part.now.piece machines.now group.now }
     requires begin { CanAllBegin (starts_of ratios.now begin.now) machines.now group.now }
@@ -90,14 +95,14 @@ fn shared_host<'a>(
 }
 
 // The host of the hub or of units.
-fn cut_host<'a>(
+fn cut_host<'a, B: Bridge + Drop>(
     alloc: Global,
     part: &'a Part,
     machines: &[Machine],
     group: &[u32],
     ratios: &[Ratio],
     begin: &Begin,
-) -> Result<Node<'a>, AllocError>
+) -> Result<Node<'a, B>, AllocError>
     requires part { IsUnitPart part.now }
     requires first { body_at machines.now (value_at group.now 0) ≡ Cut part.now }
     requires units { AreUnits part.now.piece machines.now group.now }
@@ -140,12 +145,12 @@ fn alone_of(alloc: Global, part: &Part) -> Result<Part, AllocError>
 }
 
 // The host of a listed memory.
-fn memory_host<'a>(
+fn memory_host<'a, B: Bridge + Drop>(
     alloc: Global,
     part: &Part,
     ratios: &[Ratio],
     begin: &Begin,
-) -> Result<Node<'a>, AllocError>
+) -> Result<Node<'a, B>, AllocError>
     requires part { IsMemoryPart part.now }
     requires begin { CanBegin (starts_of ratios.now begin.now) (Memory part.now) }
     requires cycle { begin.now.cycle ≤ cycle_limit }
@@ -166,13 +171,13 @@ fn memory_host<'a>(
 }
 
 // The host of a source with this many outs, by its place among the top's inputs.
-fn source_host<'a>(
+fn source_host<'a, B: Bridge + Drop>(
     alloc: Global,
     trace: &Trace,
     place: u32,
     outs: usize,
     cycle: u64,
-) -> Result<Node<'a>, AllocError>
+) -> Result<Node<'a, B>, AllocError>
     requires { IsSourceAt trace.now.columns outs place }
     ensures { IfOk result (λ node. IsHost (λ machine. machine ≡ source_machine (slice_index_or trace.now.columns place []) cycle (replicate outs false)) node) }
 {
@@ -182,7 +187,7 @@ fn source_host<'a>(
 }
 
 // The host of a tray.
-fn tray_host<'a>(alloc: Global, cycle: u64) -> Result<Node<'a>, AllocError>
+fn tray_host<'a, B: Bridge + Drop>(alloc: Global, cycle: u64) -> Result<Node<'a, B>, AllocError>
     ensures { IfOk result (λ node. IsHost (λ machine. machine ≡ tray_machine tray_rows cycle_limit cycle [] None) node) }
 {
     let tray = Tray::from_cycle(alloc, TRAY_ROWS, cycle)?;
@@ -190,17 +195,20 @@ fn tray_host<'a>(alloc: Global, cycle: u64) -> Result<Node<'a>, AllocError>
 }
 
 // The host of these machines of a plan, a thread each, where the circuit's clocks have these ratios.
-fn host_of<'a>(
+fn host_of<'a, B: Bridge + Drop>(
     alloc: Global,
     trace: &Trace,
     machines: &'a [Machine],
     group: &[u32],
     ratios: &[Ratio],
     begin: &Begin,
-) -> Result<Node<'a>, AllocError>
+    bridges: &mut HashMap<Name, B>,
+) -> Result<Node<'a, B>, AllocError>
     requires group { IsGroup (starts_of ratios.now begin.now) trace.now.columns machines.now group.now }
     requires cycle { begin.now.cycle ≤ cycle_limit }
-    ensures { IfOk result (λ node. IsHostOf (starts_of ratios.now begin.now) trace.now.columns machines.now group.now node) }
+    requires told { HasOwn B.piece B.state bridges.old (body_at machines.now (value_at group.now 0)) }
+    ensures host { IfOk result (λ node. IsHostOf (starts_of ratios.now begin.now) trace.now.columns machines.now group.now node) }
+    ensures others { OnOk result (KeepsOthers (body_at machines.now (value_at group.now 0)) bridges.old bridges.new) }
 {
     let number = group[0] as usize;
     let machine = &machines[number];
@@ -227,30 +235,38 @@ fn host_of<'a>(
             let node = tray_host(alloc, begin.cycle)?;
             Ok(node)
         }
+        Body::Bridge(body) => {
+            let node = bridge_host(alloc, body, bridges, begin.cycle)?;
+            Ok(node)
+        }
     }
 }
 
-/// The hosts of these groups of a plan's machines, where the circuit's clocks have these ratios.
+/// The hosts of these groups of a plan's machines, where the circuit's clocks have these ratios. The plan's bridges are taken out of the
+/// table.
 ///
 /// # Errors
 ///
 /// Returns `AllocError` if an allocation fails.
-pub(crate) fn hosts_of<'a>(
+pub(crate) fn hosts_of<'a, B: Bridge + Drop>(
     alloc: Global,
     trace: &Trace,
     machines: &'a [Machine],
     members: &[Vec<u32>],
     ratios: &[Ratio],
     begin: &Begin,
-) -> Result<Vec<Node<'a>>, AllocError>
+    bridges: &mut HashMap<Name, B>,
+) -> Result<Vec<Node<'a, B>>, AllocError>
     requires cycle { begin.now.cycle ≤ cycle_limit }
     requires groups { (h : ℕ) → h < length members.now → IsGroup (starts_of ratios.now begin.now) trace.now.columns machines.now (group_at (map (λ list. list.items) members.now) h) }
+    requires bridges { HaveBridges B.piece B.state bridges.old machines.now (map (λ list. list.items) members.now) 0 }
+    requires apart { AreAllApart machines.now (map (λ list. list.items) members.now) }
     ensures { IfOk result (λ nodes. AreHosts (starts_of ratios.now begin.now) trace.now.columns machines.now (map (λ list. list.items) members.now) (length members.now) nodes.items) }
 {
     let mut nodes = Vec::new(alloc);
     for host in 0..members.len() {
         let group = &members[host];
-        let node = host_of(alloc, trace, machines, group, ratios, begin)?;
+        let node = host_of(alloc, trace, machines, group, ratios, begin, bridges)?;
         nodes.push(node)?;
     }
     Ok(nodes)

@@ -9,18 +9,20 @@
 //!   run their parts of the circuit, and need exactly what they depend on. Each listed memory is a machine of its own,
 //!   and its ports are served one by one. Each clock of a unit or of a listed memory has the ratio of the circuit's clock
 //!   that it follows. A source gives the column of its top input. A tray keeps the last 1,024 values ([`TRAY_ROWS`]). A
-//!   source or a unit has an out for each channel that it gives, also where it gives one signal on several channels.
+//!   source or a unit has an out for each channel that it gives, also where it gives one signal on several channels. The machine of a
+//!   bridge has the bridge with its name among those that are handed in, with its ports in the order of the machine's channels.
 //! - [`build_from`] builds the network that begins with any cycle, with any state of the reference circuit (`IsOpeningFrom`): each unit
-//!   and each listed memory with its part of the state, and each piped channel with the token that a [`Begin`] tells.
+//!   and each listed memory with its part of the state, each bridge with zeros, and each piped channel with the token that a [`Begin`] tells.
 //! - A [`Node`] is a host of such machines, of any kind. It passes each call on to that host. [`Node::value`] returns
 //!   the value of a cycle that a tray keeps.
 //!
 //! Units that the plan puts onto one host share it: they have one piece, so it has one program, and a thread for each of
 //! them, with the ratios of its own clocks. Each other machine has a host of its own. Except for the programs of units
-//! (gg_program), time and memory are linear in the plan, its pieces and the trace.
+//! (gg_program), time and memory are linear in the plan, its pieces and the trace, and for bridges in what is handed in.
 #![tactic(auto)]
 
 mod begin;
+mod bridges;
 mod groups;
 mod hosts;
 mod node;

@@ -5,6 +5,7 @@ ghost use Rattle.gg_node.specs.Token.{IsToken, IsNextState};
 ghost use Rattle.gg_node.specs.Step.{MayLatch, MayFire, MayServe, MayFinish, with_latch, with_flag, with_served, finished};
 ghost use Rattle.gg_build.specs.Node.{machine_of, machines_of};
 
+use gg_bridge::{Bridge, Hosted};
 use gg_fame1::Unit;
 use gg_fame5::Shared;
 use gg_memunit::MemUnit;
@@ -12,7 +13,7 @@ use gg_node::{Host, Source, Tray};
 
 /// A host of machines of a plan, by their kind.
 #[derive(Drop)]
-pub enum Node<'a> {
+pub enum Node<'a, B: Bridge + Drop> {
     /// The hub, or a unit that is alone.
     Unit(Unit<'a>),
     /// Units with one piece, a thread each.
@@ -23,9 +24,11 @@ pub enum Node<'a> {
     Source(Source),
     /// Keeps the values of a top output.
     Tray(Tray),
+    /// A bridge, at ports of the top.
+    Bridge(Hosted<B>),
 }
 
-impl<'a> Node<'a> {
+impl<'a, B: Bridge + Drop> Node<'a, B> {
     /// The value of a cycle that a tray keeps. `None` if the tray doesn't keep it, or if it isn't the host of a tray.
     pub fn value(&self, cycle: u64) -> Option<u128>
         ensures tray { IsTray (machine_of self.now).behaviour → result ≡ kept_value (machine_of self.now) cycle }
@@ -49,11 +52,15 @@ impl<'a> Node<'a> {
                 None
             }
             Node::Tray(host) => host.value(cycle),
+            Node::Bridge(host) => {
+                let _ = host.ins();
+                None
+            }
         }
     }
 }
 
-impl<'a> Host for Node<'a> {
+impl<'a, B: Bridge + Send + Drop> Host for Node<'a, B> {
     ghost machines = { machines_of };
 
     fn threads(&self) -> u32 {
@@ -63,6 +70,7 @@ impl<'a> Host for Node<'a> {
             Node::Memory(host) => host.threads(),
             Node::Source(host) => host.threads(),
             Node::Tray(host) => host.threads(),
+            Node::Bridge(host) => host.threads(),
         }
     }
 
@@ -73,6 +81,7 @@ impl<'a> Host for Node<'a> {
             Node::Memory(host) => host.cycle(thread),
             Node::Source(host) => host.cycle(thread),
             Node::Tray(host) => host.cycle(thread),
+            Node::Bridge(host) => host.cycle(thread),
         }
     }
 
@@ -83,6 +92,7 @@ impl<'a> Host for Node<'a> {
             Node::Memory(host) => host.latched(thread, place),
             Node::Source(host) => host.latched(thread, place),
             Node::Tray(host) => host.latched(thread, place),
+            Node::Bridge(host) => host.latched(thread, place),
         }
     }
 
@@ -93,6 +103,7 @@ impl<'a> Host for Node<'a> {
             Node::Memory(host) => host.fired(thread, place),
             Node::Source(host) => host.fired(thread, place),
             Node::Tray(host) => host.fired(thread, place),
+            Node::Bridge(host) => host.fired(thread, place),
         }
     }
 
@@ -103,6 +114,7 @@ impl<'a> Host for Node<'a> {
             Node::Memory(host) => host.missing(thread, place),
             Node::Source(host) => host.missing(thread, place),
             Node::Tray(host) => host.missing(thread, place),
+            Node::Bridge(host) => host.missing(thread, place),
         }
     }
 
@@ -113,6 +125,7 @@ impl<'a> Host for Node<'a> {
             Node::Memory(host) => host.due(thread),
             Node::Source(host) => host.due(thread),
             Node::Tray(host) => host.due(thread),
+            Node::Bridge(host) => host.due(thread),
         }
     }
 
@@ -123,6 +136,7 @@ impl<'a> Host for Node<'a> {
             Node::Memory(host) => host.served(thread),
             Node::Source(host) => host.served(thread),
             Node::Tray(host) => host.served(thread),
+            Node::Bridge(host) => host.served(thread),
         }
     }
 
@@ -133,6 +147,7 @@ impl<'a> Host for Node<'a> {
             Node::Memory(host) => host.dues(thread),
             Node::Source(host) => host.dues(thread),
             Node::Tray(host) => host.dues(thread),
+            Node::Bridge(host) => host.dues(thread),
         }
     }
 
@@ -143,6 +158,7 @@ impl<'a> Host for Node<'a> {
             Node::Memory(host) => host.port_count(thread),
             Node::Source(host) => host.port_count(thread),
             Node::Tray(host) => host.port_count(thread),
+            Node::Bridge(host) => host.port_count(thread),
         }
     }
 
@@ -153,6 +169,7 @@ impl<'a> Host for Node<'a> {
             Node::Memory(host) => host.token(thread, place),
             Node::Source(host) => host.token(thread, place),
             Node::Tray(host) => host.token(thread, place),
+            Node::Bridge(host) => host.token(thread, place),
         }
     }
 
@@ -163,6 +180,7 @@ impl<'a> Host for Node<'a> {
             Node::Memory(host) => host.latch(thread, place, value),
             Node::Source(host) => host.latch(thread, place, value),
             Node::Tray(host) => host.latch(thread, place, value),
+            Node::Bridge(host) => host.latch(thread, place, value),
         }
     }
 
@@ -173,6 +191,7 @@ impl<'a> Host for Node<'a> {
             Node::Memory(host) => host.fire(thread, place),
             Node::Source(host) => host.fire(thread, place),
             Node::Tray(host) => host.fire(thread, place),
+            Node::Bridge(host) => host.fire(thread, place),
         }
     }
 
@@ -183,6 +202,7 @@ impl<'a> Host for Node<'a> {
             Node::Memory(host) => host.serve(thread, port),
             Node::Source(host) => host.serve(thread, port),
             Node::Tray(host) => host.serve(thread, port),
+            Node::Bridge(host) => host.serve(thread, port),
         }
     }
 
@@ -193,6 +213,7 @@ impl<'a> Host for Node<'a> {
             Node::Memory(host) => host.finish(thread),
             Node::Source(host) => host.finish(thread),
             Node::Tray(host) => host.finish(thread),
+            Node::Bridge(host) => host.finish(thread),
         }
     }
 }

@@ -4,28 +4,32 @@ ghost use Rattle.gg_flat.specs.Run.{Start};
 ghost use Rattle.gg_order.specs.Design.{Ordered};
 ghost use Rattle.gg_partfile.specs.declared.request.Request.{Request};
 ghost use Rattle.gg_pipe.specs.Follows.{plan_token};
-ghost use Rattle.gg_build.specs.Build.{Begins, IsOpeningFrom, IsOpeningOf, IsStarted, IsToBegin, IsToRun, IsToStart};
+ghost use Rattle.gg_build.specs.Build.{Begins, HasBridges, IsOpeningFrom, IsOpeningOf, IsStarted, IsToBegin, IsToRun, IsToStart};
 
 use crate::begin::Begin;
 use crate::node::Node;
 use crate::seats::{Seats, seats_of};
 use crate::wires::wires_of;
+use gg_bits::Name;
+use gg_bridge::Bridge;
 use gg_cut::Plan;
 use gg_net::{Net, Shape, Streams};
 use gg_trace::Trace;
 use std::alloc::{AllocError, Global};
 
 // The network of a plan before its first step, with machines and pipes that begin there.
-fn started<'a, Z: Streams>(
+fn started<'a, B: Bridge + Send + Drop, Z: Streams>(
     alloc: Global,
     plan: &'a Plan,
     trace: &Trace,
     begin: &Begin,
-) -> Result<Net<Node<'a>, Z>, AllocError>
-    requires { IsToStart plan.now begin.now trace.now.columns trace.now.rows Z.flow }
+    bridges: Vec<(Name, B)>,
+) -> Result<Net<Node<'a, B>, Z>, AllocError>
+    requires run { IsToStart plan.now begin.now trace.now.columns trace.now.rows Z.flow }
+    requires bridges { HasBridges B.piece B.state plan.now bridges.items }
     ensures { IfOk result (λ net. IsStarted plan.now begin.now trace.now.columns trace.now.rows net) }
 {
-    let Seats { hosts, stations } = seats_of(alloc, plan, trace, begin)?;
+    let Seats { hosts, stations } = seats_of(alloc, plan, trace, begin, bridges)?;
     let wires = wires_of(alloc, plan, &begin.tokens)?;
     let end = trace.rows();
     let net = Net::new(
@@ -41,19 +45,22 @@ fn started<'a, Z: Streams>(
 }
 
 /// The network of a plan before its first cycle. Its sources give the columns of a trace, and it has as many cycles to
-/// do as the trace has rows. Units that the plan puts onto one host share it, a thread each.
+/// do as the trace has rows. Units that the plan puts onto one host share it, a thread each. The plan's bridges are taken out of
+/// those that are handed in, by their names; the others, and all of them if an allocation fails, are given up.
 ///
 /// Allocates all the memory that the network will use.
 ///
 /// # Errors
 ///
 /// Returns `AllocError` if an allocation fails.
-pub fn build<'a, Z: Streams>(
+pub fn build<'a, B: Bridge + Send + Drop, Z: Streams>(
     alloc: Global,
     plan: &'a Plan,
     trace: &Trace,
-) -> Result<Net<Node<'a>, Z>, AllocError>
-    requires { IsToRun plan.now trace.now.columns trace.now.rows Z.flow }
+    bridges: Vec<(Name, B)>,
+) -> Result<Net<Node<'a, B>, Z>, AllocError>
+    requires run { IsToRun plan.now trace.now.columns trace.now.rows Z.flow }
+    requires bridges { HasBridges B.piece B.state plan.now bridges.items }
     ensures { IfOk result (λ net. IsOpeningOf plan.now trace.now.columns trace.now.rows net) }
 {
     let begin = Begin {
@@ -61,7 +68,7 @@ pub fn build<'a, Z: Streams>(
         state: None,
         tokens: Vec::new(alloc),
     };
-    let net = started::<Z>(alloc, plan, trace, &begin)?;
+    let net = started::<B, Z>(alloc, plan, trace, &begin, bridges)?;
     Ok(net)
 }
 
@@ -73,15 +80,17 @@ pub fn build<'a, Z: Streams>(
 /// # Errors
 ///
 /// Returns `AllocError` if an allocation fails.
-pub fn build_from<'a, Z: Streams>(
+pub fn build_from<'a, B: Bridge + Send + Drop, Z: Streams>(
     alloc: Global,
     plan: &'a Plan,
     trace: &Trace,
     begin: &Begin,
-) -> Result<Net<Node<'a>, Z>, AllocError>
-    requires { IsToBegin plan.now begin.now trace.now.columns trace.now.rows Z.flow }
+    bridges: Vec<(Name, B)>,
+) -> Result<Net<Node<'a, B>, Z>, AllocError>
+    requires run { IsToBegin plan.now begin.now trace.now.columns trace.now.rows Z.flow }
+    requires bridges { HasBridges B.piece B.state plan.now bridges.items }
     ensures { IfOk result (λ net. (design : Ordered) (request : Request) (start : Start) → Begins design request plan.now start begin.now → IsOpeningFrom plan.now start (plan_token design request start.state) trace.now.columns trace.now.rows net) }
 {
-    let net = started::<Z>(alloc, plan, trace, begin)?;
+    let net = started::<B, Z>(alloc, plan, trace, begin, bridges)?;
     Ok(net)
 }

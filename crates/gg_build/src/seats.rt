@@ -6,15 +6,18 @@ ghost use Rattle.gg_node.specs.Machine.{machine_at};
 ghost use Rattle.gg_net.specs.Net.{entry_of};
 ghost use Rattle.gg_build.specs.declared.node.Node as declared;
 ghost use Rattle.gg_build.specs.Begin.{starts_of};
-ghost use Rattle.gg_build.specs.Hosts.{CanBuildAll, HasPorts, IsStation, AreStations, AreSeats};
+ghost use Rattle.gg_build.specs.Build.{HasBridges};
+ghost use Rattle.gg_build.specs.Hosts.{CanBuildAll, HasPorts, HaveNames, IsStation, AreStations, AreSeats};
 ghost use Rattle.gg_build.specs.Node.{machines_of};
 
 use crate::begin::Begin;
+use crate::bridges::{copied, table_of};
 use crate::groups::groups_of;
 use crate::hosts::hosts_of;
 use crate::node::Node;
 use crate::ports::ports_of;
-use gg_bits::{Ids, Items};
+use gg_bits::{Ids, Items, Name};
+use gg_bridge::Bridge;
 use gg_cut::{Machine, Plan};
 use gg_flat::{Memory, Piece};
 use gg_net::{ServedPort, Station};
@@ -23,8 +26,8 @@ use std::alloc::{AllocError, Global};
 
 /// The hosts of a plan's machines, and their stations.
 #[derive(Drop)]
-pub(crate) struct Seats<'a> {
-    pub hosts: Vec<Node<'a>>,
+pub(crate) struct Seats<'a, B: Bridge + Drop> {
+    pub hosts: Vec<Node<'a, B>>,
     pub stations: Vec<Station>,
 }
 
@@ -37,7 +40,10 @@ fn memory_of(piece: &Piece) -> &Memory
 }
 
 // The ports that each machine of a host serves in a cycle.
-fn ports_at(alloc: Global, host: &Node<'_>) -> Result<Vec<ServedPort>, AllocError>
+fn ports_at<B: Bridge + Drop>(
+    alloc: Global,
+    host: &Node<'_, B>,
+) -> Result<Vec<ServedPort>, AllocError>
     requires { HasPorts host.now }
     ensures { IfOk result (λ ports. All (λ machine. ports.items ≡ map entry_of machine.ports) (machines_of host.now)) }
 {
@@ -62,23 +68,20 @@ fn ports_at(alloc: Global, host: &Node<'_>) -> Result<Vec<ServedPort>, AllocErro
             let _ = tray;
             Ok(Vec::new(alloc))
         }
+        Node::Bridge(bridge) => {
+            let _ = bridge.ins();
+            Ok(Vec::new(alloc))
+        }
     }
 }
 
-// A copy of these numbers.
-fn copied(alloc: Global, numbers: &[u32]) -> Result<Ids, AllocError>
-    ensures { IfOk result (λ copy. copy ≡ numbers.now) }
-{
-    Ok(Ids::from(Vec::from_slice(alloc, numbers)?))
-}
-
 // The station of a machine of the plan, at a thread of a host.
-fn station_of(
+fn station_of<B: Bridge + Drop>(
     alloc: Global,
     machine: &Machine,
     host: u32,
     thread: u32,
-    node: &Node<'_>,
+    node: &Node<'_, B>,
 ) -> Result<Station, AllocError>
     requires ports { HasPorts node.now }
     requires thread { thread < length (machines_of node.now) }
@@ -97,18 +100,18 @@ fn station_of(
 }
 
 // The stations of a plan's machines, at these threads of these hosts.
-fn stations_of(
+fn stations_of<B: Bridge + Drop>(
     alloc: Global,
     machines: &[Machine],
     hosts: &[u32],
     threads: &[u32],
-    nodes: &[Node<'_>],
+    nodes: &[Node<'_, B>],
 ) -> Result<Vec<Station>, AllocError>
     requires hosts { length hosts.now ≡ length machines.now }
     requires threads { length threads.now ≡ length machines.now }
     requires known { (m : ℕ) → m < length machines.now → value_at hosts.now m < length nodes.now }
     requires ports { All HasPorts nodes.now }
-    requires there { (m : ℕ) (any : declared.Node) → m < length machines.now → value_at threads.now m < length (machines_of (slice_index_or nodes.now (value_at hosts.now m) any)) }
+    requires there { (m : ℕ) (any : declared.Node B) → m < length machines.now → value_at threads.now m < length (machines_of (slice_index_or nodes.now (value_at hosts.now m) any)) }
     ensures { IfOk result (λ stations. AreStations machines.now hosts.now threads.now nodes.now (length machines.now) stations.items) }
 {
     let mut stations = Vec::new(alloc);
@@ -122,23 +125,28 @@ fn stations_of(
     Ok(stations)
 }
 
-/// The hosts and stations of a plan's machines. Units that the plan puts onto one host share it.
+/// The hosts and stations of a plan's machines. Units that the plan puts onto one host share it. The plan's bridges are taken out of those
+/// that are handed in.
 ///
 /// # Errors
 ///
 /// Returns `AllocError` if an allocation fails.
-pub(crate) fn seats_of<'a>(
+pub(crate) fn seats_of<'a, B: Bridge + Drop>(
     alloc: Global,
     plan: &'a Plan,
     trace: &Trace,
     begin: &Begin,
-) -> Result<Seats<'a>, AllocError>
+    bridges: Vec<(Name, B)>,
+) -> Result<Seats<'a, B>, AllocError>
     requires ready { CanBuildAll (starts_of plan.now.ratios begin.now) trace.now.columns plan.now.machines }
     requires cycle { begin.now.cycle ≤ cycle_limit }
+    requires bridges { HasBridges B.piece B.state plan.now bridges.items }
+    requires names { HaveNames plan.now.machines }
     ensures { IfOk result (λ seats. AreSeats plan.now (starts_of plan.now.ratios begin.now) trace.now.columns seats.hosts.items seats.stations.items) }
 {
     let machines = plan.machines.as_slice();
     let groups = groups_of(alloc, machines)?;
+    let mut table = table_of(alloc, bridges)?;
     let hosts = hosts_of(
         alloc,
         trace,
@@ -146,6 +154,7 @@ pub(crate) fn seats_of<'a>(
         &groups.members,
         plan.ratios.as_slice(),
         begin,
+        &mut table,
     )?;
     let stations = stations_of(alloc, machines, &groups.hosts, &groups.threads, &hosts)?;
     Ok(Seats { hosts, stations })

@@ -36,7 +36,7 @@ fn body_ratios(
     match body {
         Body::Cut(part) => own_ratios(alloc, part, ratios),
         Body::Memory(part) => own_ratios(alloc, part, ratios),
-        Body::Source(_) | Body::Tray => Ok(Ratios::from(Vec::new(alloc))),
+        Body::Source(_) | Body::Tray | Body::Bridge(_) => Ok(Ratios::from(Vec::new(alloc))),
     }
 }
 
@@ -54,6 +54,7 @@ fn body_state(
         Body::Cut(part) => own_state(alloc, part, begin),
         Body::Memory(part) => own_state(alloc, part, begin),
         Body::Source(_) | Body::Tray => Ok(State::of(Vec::new(alloc), Vec::new(alloc))),
+        Body::Bridge(body) => State::new(alloc, &body.model),
     }
 }
 

@@ -58,7 +58,7 @@ fn outs_of(alloc: Global, piece: &Piece, places: &[u32], body: &Body) -> Result<
             let outs = picked(alloc, places, part.piece.outs())?;
             Ok(outs)
         }
-        Body::Memory(_) | Body::Source(_) | Body::Tray => unreachable!(),
+        Body::Memory(_) | Body::Source(_) | Body::Tray | Body::Bridge(_) => unreachable!(),
     }
 }
 

@@ -41,10 +41,11 @@ told-shared unit machine cycle value has other = by unit.lanes has other
         ap (λ (v : Option ℕ). unwrap_or v 0) (other (λ tray. tray)) ∙ ap (λ (m : Machine). told_value m cycle) is
 
 -- a machine's host tells its value
-pub host-tells : (host : Node) (machine : Machine) (cycle : ℕ) (value : Option ℕ) → Contains (machines_of host) machine → (IsTray (machine_of host).behaviour → value ≡ kept_value (machine_of host) cycle)
+pub host-tells : {B : Type 0} (host : Node B) (machine : Machine) (cycle : ℕ) (value : Option ℕ) → Contains (machines_of host) machine → (IsTray (machine_of host).behaviour → value ≡ kept_value (machine_of host) cycle)
     → (¬ IsTray (machine_of host).behaviour → value ≡ None) → unwrap_or value 0 ≡ told_value machine cycle
 host-tells (node.Unit unit) machine cycle value has tray other = told-shared unit machine cycle value has other
 host-tells (node.Shared units) machine cycle value has tray other = told-shared units machine cycle value has other
 host-tells (node.Memory own) machine cycle value has tray other = told-alone own machine cycle value has tray other
 host-tells (node.Source own) machine cycle value has tray other = told-alone own machine cycle value has tray other
 host-tells (node.Tray own) machine cycle value has tray other = told-alone own machine cycle value has tray other
+host-tells (node.Bridge own) machine cycle value has tray other = told-alone own machine cycle value has tray other

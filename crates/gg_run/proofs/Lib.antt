@@ -2,6 +2,8 @@ mod HostLemmas
 pub mod FrameLemmas
 pub mod WindowLemmas
 pub mod TrayLemmas
+pub mod CountLemmas
+pub mod TrayLinkLemmas
 pub mod OutputLemmas
 pub mod OpeningLemmas
 pub mod TrayKeepLemmas

@@ -16,6 +16,8 @@ use Rattle.gg_net.specs.Network.{Network, entered, entered_by, frame_of, got_by,
 use Rattle.gg_net.proofs.OpenLemmas.{machine-open, queue-opens}
 use Rattle.gg_marking.proofs.OpeningLemmas.{none-put}
 use Rattle.gg_sound.specs.Built.{body_start, flow_of, wires_of_plan}
+use Rattle.gg_bridged.proofs.PortLemmas.{plan-ins}
+use Rattle.gg_bridged.proofs.RunLemmas.{whole-runs}
 use Rattle.gg_sound.proofs.OpeningLemmas.{built-opening}
 use Rattle.gg_sound.proofs.PlanLemmas.{plan-no-ring, plan-wired}
 use Rattle.gg_sound.proofs.SolvedLemmas.{plan-solved}
@@ -67,7 +69,7 @@ module _ (flow : Flow) (machines : List Machine) (wires : List Wire) (end : ℕ)
 module _ (plan : Plan) (start : Start) (columns : List (List ℕ)) (n : ℕ) (flow : Flow) (run : IsToRunFrom plan start columns n flow) (net : Network) (opens : IsOpeningFrom plan start (run_token run) columns n net) where
   -- the machines begin with their parts of the start
   pub begins-so : (m : ℕ) → m < length opens.machines → IsOpening (flow_of run.design run.request plan start run.rows) m (machine_at opens.machines m)
-  begins-so m lt = built-opening run.design run.request run.default plan columns n start run.rows opens.machines run.given opens.built m lt
+  begins-so m lt = built-opening run.design run.request run.models run.default plan columns n start run.rows opens.machines run.given opens.built m lt
 
   pub opening-kept : Kept flow net
   opening-kept =
@@ -79,9 +81,11 @@ module _ (plan : Plan) (start : Start) (columns : List (List ℕ)) (n : ℕ) (fl
       (subst (λ (f : Flow). Kept f (opening_net opens.machines (wires_of_plan token plan) n)) (sym run.flow_is)
       (kept-opening own opens.machines (wires_of_plan token plan) n begins-so
       (record {
-        wired = plan-wired run.design run.request run.default plan columns n start run.rows token starts opens.machines given opens.built;
-        no_ring = plan-no-ring run.design run.request run.default plan columns n start run.rows token starts opens.machines given opens.built;
-        solves = plan-solved run.design run.request run.default plan columns n start run.rows opens.machines given opens.built;
+        wired = plan-wired run.design run.request run.models run.default plan columns n start run.rows token starts opens.machines given opens.built;
+        no_ring = plan-no-ring run.design run.request run.models run.default plan columns n start run.rows token starts opens.machines given opens.built;
+        solves = plan-solved run.design run.request run.models run.default plan columns n start run.rows opens.machines given opens.built
+            (whole-runs run.design run.request run.models start columns n run.rows given.can given.typed given.given given.run)
+            (plan-ins run.design run.request run.models given.can);
       })))
 
 -- ---- the start of the whole run
@@ -91,6 +95,6 @@ pub from-zeros : (plan : Plan) (columns : List (List ℕ)) (n : ℕ) (flow : Flo
 from-zeros plan columns n flow run opening opens =
     record {
       machines = opens.machines;
-      built = built-with-zeros run.design run.request run.default plan columns opens.machines run.given.planned opens.built;
+      built = built-with-zeros run.design run.request run.models run.default plan columns opens.machines run.given.planned opens.built;
       is = opens.is ∙ ap (λ (wires : List Wire). opening_net opens.machines wires n) (sym (zero-tokens run.design run.request plan));
     }

@@ -13,7 +13,7 @@ use Rattle.gg_cut.specs.declared.plan.Plan.{Plan}
 use Rattle.gg_io.specs.declared.output.Sink
 use Rattle.gg_net.specs.Network.{Network}
 use Rattle.gg_order.specs.Design.{Ordered}
-use Rattle.gg_pipe.specs.Made.{plan_reference}
+use Rattle.gg_bridged.specs.Whole.{plan_circuit}
 use Rattle.gg_told.specs.Endings.{PrintsOn}
 use Rattle.gg_told.specs.WentOn.{SinkWentOn}
 use Rattle.gg_told.specs.declared.endings.Ending.{Ending}
@@ -43,14 +43,14 @@ module _ {K : Type 0} (sink : Sink.Ghosts K) {plan : Plan} {start : Start} {colu
   -- the header and the rows are the text
   pub ran-text : (first_out : K) → sink.written before ≡ append_known (sink.written first_out) (header_line ports) → SinkWentOn sink first_out before
       → {result : Result Bool Ending} → Ran (PrintsRow sink told.stops told.ports) (run_row run) opening first begin (n - begin) before after result
-      → PrintsOn sink first_out after (text_since (plan_stops run.design run.request) (plan_reference run.design run.request) ports run.rows begin (n - begin)) result
-  ran-text first_out header on ran = took-text sink (plan_stops run.design run.request) (plan_reference run.design run.request) ports run.rows begin (n - begin) counted before first_out header on (ran-so ran).took
+      → PrintsOn sink first_out after (text_since (plan_stops run.design run.request) (plan_circuit run.design run.request run.models) ports run.rows begin (n - begin)) result
+  ran-text first_out header on ran = took-text sink (plan_stops run.design run.request) (plan_circuit run.design run.request run.models) ports run.rows begin (n - begin) counted before first_out header on (ran-so ran).took
 
   -- the rows came to the trays
   pub ran-kept : {all : Bool} → Ran (PrintsRow sink told.stops told.ports) (run_row run) opening first begin (n - begin) before after (Ok all)
-      → RowsAreKept opening first begin (rows_since (plan_stops run.design run.request) (plan_reference run.design run.request) ports run.rows begin (n - begin)) (out_columns (plan_reference run.design run.request) run.rows)
+      → RowsAreKept opening first begin (rows_since (plan_stops run.design run.request) (plan_circuit run.design run.request run.models) ports run.rows begin (n - begin)) (out_columns (plan_circuit run.design run.request run.models) run.rows)
   ran-kept ran t lt =
-      let reference = plan_reference run.design run.request in
+      let reference = plan_circuit run.design run.request run.models in
       let stops = plan_stops run.design run.request in
       let counts = took-count sink stops reference ports run.rows begin (n - begin) counted before (ran-so ran).took in
       let within : t < n - begin = omega (arith, lt, rows-within (λ k. is_halt stops reference ports run.rows (begin + k)) (n - begin)) in

@@ -7,7 +7,7 @@ use Rattle.gg_flat.specs.declared.ports.Port.{Port}
 use Rattle.gg_build.specs.Build.{IsToRun, run_from_zeros}
 use Rattle.gg_cut.specs.declared.plan.Plan.{Plan}
 use Rattle.gg_net.specs.Network.{Network}
-use Rattle.gg_pipe.specs.Made.{plan_reference}
+use Rattle.gg_bridged.specs.Whole.{plan_circuit}
 use Rattle.gg_run.specs.Printed.{IsFirst, SeesStop, ends_run, plan_stops}
 use Rattle.gg_run.specs.Rows.{run_row}
 use Rattle.gg_run.specs.Taken.{Ran}
@@ -23,11 +23,11 @@ module _ {plan : Plan} {columns : List (List ℕ)} {n : ℕ} {flow : Flow} (run 
       (subst (λ (ratios : List Ratio). Ran (SeesStop ratios shown cycles) (run_row (run_from_zeros run)) opening first 0 (n - 0) before after (Ok all)) follows ran))
 
   pub stopped-none : (all : Bool) → all ≡ true → Ran (SeesStop stops shown cycles) (run_row (run_from_zeros run)) opening first 0 (n - 0) before after (Ok all)
-      → IsFirst (ends_run (plan_stops run.design run.request) (plan_reference run.design run.request) ports run.rows cycles) n None
+      → IsFirst (ends_run (plan_stops run.design run.request) (plan_circuit run.design run.request run.models) ports run.rows cycles) n None
   stopped-none all is ran =
-      saw-none (plan_stops run.design run.request) (plan_reference run.design run.request) ports run.rows cycles n run.given.run.count before (omega arith) (ran-so all true is ran).took
+      saw-none (plan_stops run.design run.request) (plan_circuit run.design run.request run.models) ports run.rows cycles n run.given.run.count before (omega arith) (ran-so all true is ran).took
 
   pub stopped-first : (all : Bool) → all ≡ false → Ran (SeesStop stops shown cycles) (run_row (run_from_zeros run)) opening first 0 (n - 0) before after (Ok all)
-      → IsFirst (ends_run (plan_stops run.design run.request) (plan_reference run.design run.request) ports run.rows cycles) n (Some after)
+      → IsFirst (ends_run (plan_stops run.design run.request) (plan_circuit run.design run.request run.models) ports run.rows cycles) n (Some after)
   stopped-first all is ran =
-      saw-first (plan_stops run.design run.request) (plan_reference run.design run.request) ports run.rows cycles n run.given.run.count before (omega arith) (ran-so all false is ran).took
+      saw-first (plan_stops run.design run.request) (plan_circuit run.design run.request run.models) ports run.rows cycles n run.given.run.count before (omega arith) (ran-so all false is ran).took

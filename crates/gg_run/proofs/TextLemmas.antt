@@ -9,13 +9,10 @@ use Rattle.gg_flat.specs.Run.{row_at, column}
 use Rattle.gg_flat.specs.Streams.{Flow}
 use Rattle.gg_flat.specs.declared.ports.Port.{Port}
 use Rattle.gg_build.specs.Build.{IsToRun, run_from_zeros}
-use Rattle.gg_cut.specs.Direct.{plan_hub}
-use Rattle.gg_cut.specs.Listed.{listed_of}
-use Rattle.gg_cut.specs.Machines.{first_tray}
+use Rattle.gg_cut.specs.Seated.{first_kept_tray, plan_bridges}
 use Rattle.gg_cut.specs.declared.plan.Plan.{Plan}
 use Rattle.gg_pipe.specs.Follows.{plan_start}
-use Rattle.gg_pipe.specs.Links.{taken_as}
-use Rattle.gg_pipe.specs.Made.{plan_reference}
+use Rattle.gg_bridged.specs.Whole.{plan_circuit}
 use Rattle.gg_trace.specs.Last.{acts, halts, row_count}
 use Rattle.gg_trace.specs.Printing.{row_line, trace_text}
 use Rattle.gg_trace.specs.Table.{row_of}
@@ -35,13 +32,13 @@ rows-text ports a b (suc n) same =
 
 -- what columns that come to the trays tell: as many rows as the run has, and its text
 module _ (plan : Plan) (columns : List (List ℕ)) (n : ℕ) (flow : Flow) (run : IsToRun plan columns n flow) (ports : List Port) (told : ℕ) (kept : List (List ℕ))
-    (are : AreKept plan columns n (first_tray run.design.circuit (listed_of run.design.tree run.request)) told kept) (count : length kept ≡ length run.design.circuit.outs)
+    (are : AreKept plan columns n (first_kept_tray (plan_bridges run.design.circuit run.design.tree run.request)) told kept) (count : length kept ≡ length (plan_circuit run.design run.request run.models).outs)
     (ends : told ≡ row_count (halts (plan_stops run.design run.request) (drop (length ports) kept)) n) where
   abbrev stops : List Ratio
   stops = plan_stops run.design run.request
 
   abbrev all : FlatCircuit
-  all = plan_reference run.design run.request
+  all = plan_circuit run.design run.request run.models
 
   abbrev own : List (List ℕ)
   own = out_columns all run.rows
@@ -51,10 +48,9 @@ module _ (plan : Plan) (columns : List (List ℕ)) (n : ℕ) (flow : Flow) (run 
   row-own t lt =
       let there : 0 + t ≡ t = omega arith in
       let within : t < n = omega (arith, lt, ends, rows-within (halts stops (drop (length ports) kept)) n) in
-      let wide : length (row_of kept t) ≡ length run.design.circuit.outs = length-map kept (λ (column : List ℕ). slice_index column t) ∙ count in
-      let outs : length (outputs_in all run.rows t) ≡ length run.design.circuit.outs =
-      length-map all.outs (value_at (row_at run.rows t)) ∙ length-map run.design.circuit.outs (taken_as (plan_hub run.design.circuit run.design.tree run.request)) in
-      trays-only plan (plan_start run.design run.request) columns n flow (run_from_zeros run) are.opening (from-zeros plan columns n flow run are.opening are.opens) t (row_of kept t) (omega (arith, wide)) (subst (λ k. TraysKeep are.opening (first_tray run.design.circuit (listed_of run.design.tree run.request)) k (row_of kept k)) there (are.rows t lt))
+      let wide : length (row_of kept t) ≡ length (plan_circuit run.design run.request run.models).outs = length-map kept (λ (column : List ℕ). slice_index column t) ∙ count in
+      let outs : length (outputs_in all run.rows t) ≡ length all.outs = length-map all.outs (value_at (row_at run.rows t)) in
+      trays-only plan (plan_start run.design run.request) columns n flow (run_from_zeros run) are.opening (from-zeros plan columns n flow run are.opening are.opens) t (row_of kept t) (omega (arith, wide)) (subst (λ k. TraysKeep are.opening (first_kept_tray (plan_bridges run.design.circuit run.design.tree run.request)) k (row_of kept k)) there (are.rows t lt))
       ∙ take_all (length (row_of kept t)) (outputs_in all run.rows t) (omega (arith, wide, outs))
       ∙ outputs-row all run.rows t (omega (arith, within, run.given.run.count)) all.outs
 
@@ -75,11 +71,11 @@ module _ (plan : Plan) (columns : List (List ℕ)) (n : ℕ) (flow : Flow) (run 
       ∙ ap (λ (l : List (List ℕ)). row_of l t) (drop-map (column run.rows) (length ports) all.outs))
 
   -- there are as many rows
-  pub told-rows : told ≡ rows_to (plan_stops run.design run.request) (plan_reference run.design run.request) ports run.rows n
+  pub told-rows : told ≡ rows_to (plan_stops run.design run.request) (plan_circuit run.design run.request run.models) ports run.rows n
   told-rows =
       ends ∙ (rows-agree (halts stops (drop (length ports) kept)) (is_halt stops all ports run.rows) n (λ t lt. row-stops t (omega (arith, lt, ends)))).1
 
-  pub shown-text : trace_text ports (take (length ports) kept) told ≡ text_of (plan_stops run.design run.request) (plan_reference run.design run.request) ports run.rows n
+  pub shown-text : trace_text ports (take (length ports) kept) told ≡ text_of (plan_stops run.design run.request) (plan_circuit run.design run.request run.models) ports run.rows n
   shown-text =
       rows-text ports (take (length ports) kept) (shown_columns all ports run.rows) told row-shown
       ∙ ap (trace_text ports (shown_columns all ports run.rows)) told-rows

@@ -5,12 +5,9 @@ use Rattle.std.proofs.lemmas.List.{ext_get_or, get_or-take, length-map, length-t
 use Rattle.gg_flat.specs.Line.{value_at}
 use Rattle.gg_flat.specs.Run.{Start, row_at}
 use Rattle.gg_flat.specs.Streams.{Flow}
-use Rattle.gg_cut.specs.Direct.{plan_hub}
-use Rattle.gg_cut.specs.Listed.{listed_of}
-use Rattle.gg_cut.specs.Machines.{first_tray}
+use Rattle.gg_cut.specs.Seated.{first_kept_tray, plan_bridges}
 use Rattle.gg_cut.specs.declared.plan.Plan.{Plan}
-use Rattle.gg_pipe.specs.Links.{taken_as}
-use Rattle.gg_pipe.specs.Made.{plan_reference}
+use Rattle.gg_bridged.specs.Whole.{plan_circuit}
 use Rattle.gg_net.specs.declared.event.Event.{Event}
 use Rattle.gg_net.specs.declared.shape.Wire.{Wire}
 use Rattle.gg_net.specs.Kept.{Kept}
@@ -55,12 +52,10 @@ module _ (flow : Flow) (machines : List Machine) (wires : List Wire) (end : ℕ)
 
 module _ (plan : Plan) (start : Start) (columns : List (List ℕ)) (n : ℕ) (flow : Flow) (run : IsToRunFrom plan start columns n flow) (opening : Network) (opens : IsOpeningFrom plan start (run_token run) columns n opening) where
   abbrev row : ℕ → List ℕ
-  row t = outputs_in (plan_reference run.design run.request) run.rows t
+  row t = outputs_in (plan_circuit run.design run.request run.models) run.rows t
 
-  row-count : (t : ℕ) → length (row t) ≡ length run.design.circuit.outs
-  row-count t =
-      let all = plan_reference run.design run.request in
-      length-map all.outs (value_at (row_at run.rows t)) ∙ length-map run.design.circuit.outs (taken_as (plan_hub run.design.circuit run.design.tree run.request))
+  row-count : (t : ℕ) → length (row t) ≡ length (plan_circuit run.design run.request run.models).outs
+  row-count t = let all = plan_circuit run.design run.request run.models in length-map all.outs (value_at (row_at run.rows t))
 
   kept : Kept flow opening
   kept = opening-kept plan start columns n flow run opening opens
@@ -73,15 +68,15 @@ module _ (plan : Plan) (start : Start) (columns : List (List ℕ)) (n : ℕ) (fl
       (reached flow opens.machines (wires_of_plan (run_token run) plan) n begins net (subst (Kept flow) opens.is kept) later (same ∙ ap frame_of opens.is))
 
   -- whatever steps are done, the tray of an output keeps no other value of a cycle
-  no-other : (events : List (Option Event)) (net : Network) (k t value : ℕ) → Steps opening events net → k < length run.design.circuit.outs
-      → kept_value (machine_at net.machines (first_tray run.design.circuit (listed_of run.design.tree run.request) + k)) t ≡ Some value → value ≡ value_at (row t) k
+  no-other : (events : List (Option Event)) (net : Network) (k t value : ℕ) → Steps opening events net → k < length (plan_circuit run.design run.request run.models).outs
+      → kept_value (machine_at net.machines (first_kept_tray (plan_bridges run.design.circuit run.design.tree run.request) + k)) t ≡ Some value → value ≡ value_at (row t) k
   no-other events net k t value steps lt has =
       let is = net-stays plan start (run_token run) columns n opening net (opening-is-net plan start (run_token run) columns n opening opens) (steps-frame opening events net steps) in
       keeps-only plan start columns n flow run net is (steps-kept flow opening events net kept steps) k t value lt has
 
   -- what a network that stands at the end of a window keeps of its cycles
   pub trays-keep : (net : Network) → Kept flow net → frame_of net ≡ frame_of opening → (upto t : ℕ) → AllStandAt upto net → start.cycle ≤ t → t < upto → upto ≤ t + tray_rows
-      → TraysKeep opening (first_tray run.design.circuit (listed_of run.design.tree run.request)) t (outputs_in (plan_reference run.design run.request) run.rows t)
+      → TraysKeep opening (first_kept_tray (plan_bridges run.design.circuit run.design.tree run.request)) t (outputs_in (plan_circuit run.design run.request run.models) run.rows t)
   trays-keep net later same upto t stand from done near =
       let is : IsNetOfPlan plan start (run_token run) columns n net = net-stays plan start (run_token run) columns n opening net (opening-is-net plan start (run_token run) columns n opening opens) same in
       let way = leads-to net later same in
@@ -95,8 +90,8 @@ module _ (plan : Plan) (start : Start) (columns : List (List ℕ)) (n : ℕ) (fl
       }
 
   -- nothing else comes to them
-  pub trays-only : (t : ℕ) (values : List ℕ) → length values ≤ length run.design.circuit.outs → TraysKeep opening (first_tray run.design.circuit (listed_of run.design.tree run.request)) t values
-      → values ≡ take (length values) (outputs_in (plan_reference run.design run.request) run.rows t)
+  pub trays-only : (t : ℕ) (values : List ℕ) → length values ≤ length (plan_circuit run.design run.request run.models).outs → TraysKeep opening (first_kept_tray (plan_bridges run.design.circuit run.design.tree run.request)) t values
+      → values ≡ take (length values) (outputs_in (plan_circuit run.design run.request run.models) run.rows t)
   trays-only t values few keep =
       let count : length (take (length values) (row t)) ≡ length values = length-take-le (length values) (row t) (omega (arith, few, row-count t)) in
       ext_get_or 0 values (take (length values) (row t)) (sym count) (λ k lt.

@@ -1,5 +1,6 @@
 -- What the contracts of the crate speak of.
 pub mod Window
+pub mod Trays
 pub mod Rows
 pub mod Taken
 pub mod Printed

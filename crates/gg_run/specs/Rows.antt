@@ -8,12 +8,13 @@ use Rattle.gg_flat.specs.Run.{Start, row_at}
 use Rattle.gg_flat.specs.Streams.{Flow}
 use Rattle.gg_build.specs.Build.{IsToRunFrom}
 use Rattle.gg_cut.specs.declared.plan.Plan.{Plan}
+use Rattle.gg_cut.specs.Seated.{first_kept_tray, plan_bridges}
 use Rattle.gg_marking.specs.Steps.{Steps}
 use Rattle.gg_measure.specs.Nets.{AllStandAt}
 use Rattle.gg_node.specs.Machine.{Behaviour, RunsPiece, GivesColumn, KeepsLast, Machine, machine_at, kept_value}
 use Rattle.gg_net.specs.declared.event.Event.{Event}
 use Rattle.gg_net.specs.Network.{Network, frame_of, wire_at}
-use Rattle.gg_pipe.specs.Made.{plan_reference}
+use Rattle.gg_bridged.specs.Whole.{plan_circuit}
 use Rattle.gg_sound.specs.Built.{AreBuilt, body_start, plan_frame}
 
 -- ---- one tray
@@ -58,9 +59,14 @@ pub record StandsAt (plan : Plan) (start : Start) (token : ℕ → ℕ) (columns
 abbrev pub outputs_in : FlatCircuit → List (List ℕ) → ℕ → List ℕ
 outputs_in circuit rows t = map (value_at (row_at rows t)) circuit.outs
 
--- the row of a cycle: the values of the reference circuit's out-signals in its run
+-- The trays of the plan's network: the number of the first, and how many there are.
+pub record AreTraysOf {plan : Plan} {start : Start} {columns : List (List ℕ)} {n : ℕ} {flow : Flow} (run : IsToRunFrom plan start columns n flow) (first count : ℕ) : Type 0 where
+  pub begin : first ≡ first_kept_tray (plan_bridges run.design.circuit run.design.tree run.request)
+  pub many : count ≡ length (plan_circuit run.design run.request run.models).outs
+
+-- the row of a cycle: the values of the out-signals of the plan's circuit in its run
 abbrev pub run_row : {plan : Plan} {start : Start} {columns : List (List ℕ)} {n : ℕ} {flow : Flow} → IsToRunFrom plan start columns n flow → (t : ℕ) → List ℕ
-run_row run t = outputs_in (plan_reference run.design run.request) run.rows t
+run_row run t = outputs_in (plan_circuit run.design run.request run.models) run.rows t
 
 -- ---- what host steps bring to trays
 

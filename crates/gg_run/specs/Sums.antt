@@ -13,7 +13,7 @@ use Rattle.gg_flat.specs.Streams.{Flow}
 use Rattle.gg_measure.specs.Nets.{net_left}
 use Rattle.gg_net.specs.Kept.{Kept}
 use Rattle.gg_net.specs.Network.{Network}
-use Rattle.gg_pipe.specs.Made.{plan_reference}
+use Rattle.gg_bridged.specs.Whole.{plan_circuit}
 use Rattle.gg_told.specs.declared.endings.Ending.{Ending}
 use Rattle.gg_run.specs.declared.sums.Sums.{Sums}
 
@@ -38,7 +38,7 @@ pub record AreSums (plan : Plan) (columns : List (List ℕ)) (n : ℕ) (flow : F
   pub machines : sums.machines ≡ length net.machines
   pub channels : sums.channels ≡ length net.wires
   pub steps : sums.steps ≡ net_left net
-  pub folds : FoldsRows (plan_reference run.design run.request) run.rows n sums.fold
+  pub folds : FoldsRows (plan_circuit run.design run.request run.models) run.rows n sums.fold
 
 -- the four lines for these sums
 abbrev pub sums_text : (seed size : ℕ) → Sums → List ℕ

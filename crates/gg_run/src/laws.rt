@@ -3,13 +3,12 @@ ghost use Rattle.std.specs.Prelude.{◌≡◌, ℕ, ◌+◌, ◌<◌, ◌≤◌,
 ghost use Rattle.gg_flat.specs.Run.{Start};
 ghost use Rattle.gg_flat.specs.Streams.{Flow};
 ghost use Rattle.gg_pipe.specs.Follows.{plan_start};
-ghost use Rattle.gg_cut.specs.Listed.{listed_of};
-ghost use Rattle.gg_cut.specs.Machines.{first_tray};
+ghost use Rattle.gg_cut.specs.Seated.{first_kept_tray, plan_bridges};
 ghost use Rattle.gg_cut.specs.declared.plan.Plan.{Plan};
 ghost use Rattle.gg_net.specs.Kept.{Kept};
 ghost use Rattle.gg_net.specs.Network.{Network, frame_of};
 ghost use Rattle.gg_measure.specs.Nets.{AllStandAt};
-ghost use Rattle.gg_pipe.specs.Made.{plan_reference};
+ghost use Rattle.gg_bridged.specs.Whole.{plan_circuit};
 ghost use Rattle.gg_build.specs.Build.{IsOpeningFrom, IsOpeningOf, IsToRun, IsToRunFrom, run_from_zeros, run_token};
 ghost use Rattle.gg_sound.specs.Built.{tray_rows};
 ghost use Rattle.gg_run.specs.Rows.{IsNetOfPlan, TraysKeep, outputs_in};
@@ -47,7 +46,7 @@ pub fn windows_are_kept()
 /// comes to the trays in any cycle.
 pub fn trays_keep_rows()
     ensures keep { (plan : Plan) (start : Start) (columns : List (List ℕ)) (n : ℕ) (flow : Flow) (run : IsToRunFrom plan start columns n flow) (opening net : Network) (upto t : ℕ) → IsOpeningFrom plan start (run_token run) columns n opening → Kept flow net → frame_of net ≡ frame_of opening
-        → AllStandAt upto net → start.cycle ≤ t → t < upto → upto ≤ t + tray_rows → TraysKeep opening (first_tray run.design.circuit (listed_of run.design.tree run.request)) t (outputs_in (plan_reference run.design run.request) run.rows t) }
-    ensures only { (plan : Plan) (start : Start) (columns : List (List ℕ)) (n : ℕ) (flow : Flow) (run : IsToRunFrom plan start columns n flow) (opening : Network) (t : ℕ) (values : List ℕ) → IsOpeningFrom plan start (run_token run) columns n opening → length values ≤ length run.design.circuit.outs
-        → TraysKeep opening (first_tray run.design.circuit (listed_of run.design.tree run.request)) t values → values ≡ take (length values) (outputs_in (plan_reference run.design run.request) run.rows t) }
+        → AllStandAt upto net → start.cycle ≤ t → t < upto → upto ≤ t + tray_rows → TraysKeep opening (first_kept_tray (plan_bridges run.design.circuit run.design.tree run.request)) t (outputs_in (plan_circuit run.design run.request run.models) run.rows t) }
+    ensures only { (plan : Plan) (start : Start) (columns : List (List ℕ)) (n : ℕ) (flow : Flow) (run : IsToRunFrom plan start columns n flow) (opening : Network) (t : ℕ) (values : List ℕ) → IsOpeningFrom plan start (run_token run) columns n opening → length values ≤ length (plan_circuit run.design run.request run.models).outs
+        → TraysKeep opening (first_kept_tray (plan_bridges run.design.circuit run.design.tree run.request)) t values → values ≡ take (length values) (outputs_in (plan_circuit run.design run.request run.models) run.rows t) }
 {}

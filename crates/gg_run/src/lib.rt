@@ -7,13 +7,14 @@
 //! - [`run_window`] runs a network up to the end of a window, by workers first and then by steps in the fixed order. All
 //!   machines then stand there, and no count is past it;
 //! - [`tray_value`] returns the value of a cycle that a tray keeps: the one that the tray's channel carries in that cycle;
+//! - [`trays_of`] tells which machines of a plan are its trays;
 //! - [`output_values`] returns the values of the circuit's out-signals in a cycle, from the network of a plan: those of the
-//!   reference circuit's run;
+//!   run of the plan's circuit (the reference circuit with the models of the bridges);
 //! - host steps bring these values to the trays, and bring no others there, whatever steps are done ([`trays_keep_rows`]);
 //! - [`run_rows`] runs a network and hands over its rows, one after another, until one is the last. The rows are those of the
-//!   reference circuit's run, and host steps bring them to the trays. It is the one loop over windows;
+//!   run of the plan's circuit, and host steps bring them to the trays. It is the one loop over windows;
 //! - [`RowPrinter`] writes a row, and goes on unless a stop acts in it; [`print_net`] prints the run of a plan's network so, and
-//!   [`print_from`] a run from any start. The text is that of the reference circuit's run, to the row of the first cycle in which a stop
+//!   [`print_from`] a run from any start. The text is that of the run of the plan's circuit, to the row of the first cycle in which a stop
 //!   acts;
 //! - [`run_to_stop`] runs a network to its end, and tells the first cycle in which a stop ends the run;
 //! - [`sum_net`] counts the network of a plan and the steps from its opening to its end, runs it, and folds its rows;
@@ -29,6 +30,7 @@ mod run;
 mod stopping;
 mod sums;
 mod taking;
+mod trays;
 mod window;
 
 pub use laws::{
@@ -43,4 +45,5 @@ pub use run::run_rows;
 pub use stopping::run_to_stop;
 pub use sums::{Sums, sum_net};
 pub use taking::Rows;
+pub use trays::{Trays, trays_of};
 pub use window::{run_window, window_end};

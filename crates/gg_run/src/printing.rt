@@ -1,18 +1,21 @@
 //! `print_net`, `print_from`: the run of the reference circuit of a plan is printed from the plan's network.
-ghost use Rattle.std.specs.Prelude.{◌≡◌, ◌-◌, ◌≤◌, ℕ, List, IfOk, length};
-ghost use Rattle.gg_build.specs.Build.{IsOpeningFrom, IsToRun, IsToRunFrom, run_token};
+ghost use Rattle.std.specs.Prelude.{◌≡◌, ◌+◌, ◌-◌, ◌≤◌, ℕ, List, IfOk, length};
+ghost use Rattle.gg_build.specs.Build.{HasBridges, IsOpeningFrom, IsToRun, IsToRunFrom, run_token};
 ghost use Rattle.gg_cut.specs.declared.plan.Plan.{Plan};
 ghost use Rattle.gg_flat.specs.Run.{Start};
 ghost use Rattle.gg_measure.specs.Nets.{AllStandAt};
-ghost use Rattle.gg_cut.specs.Listed.{listed_of};
-ghost use Rattle.gg_cut.specs.Machines.{first_tray};
-ghost use Rattle.gg_pipe.specs.Made.{plan_reference};
+ghost use Rattle.gg_cut.specs.Seated.{first_kept_tray, plan_bridges};
+ghost use Rattle.gg_bridged.specs.Whole.{plan_circuit};
 ghost use Rattle.gg_run.specs.Printed.{AreKept, RowsAreKept, out_columns, plan_stops, rows_since, rows_to, text_of, text_since};
+ghost use Rattle.gg_run.specs.Rows.{AreTraysOf};
 ghost use Rattle.gg_told.specs.Endings.{PrintsOn};
 ghost use Rattle.gg_told.specs.WentOn.{SinkWentOn};
 
 use crate::printer::RowPrinter;
 use crate::run::run_rows;
+use crate::trays::{Trays, trays_of};
+use gg_bits::Name;
+use gg_bridge::Bridge;
 use gg_build::{Node, build};
 use gg_clocks::Ratio;
 use gg_cut::{Plan, stop_ratios};
@@ -27,7 +30,7 @@ use std::thread::Threads;
 
 /// Prints a run from a network before its first step: a header, and then the rows from cycle `begin` on, a window at a time. The network
 /// is run by this many workers, and then by steps in the fixed order. The values of a row are those of the first out-signals, of which
-/// there are `outs`, one for each port; the others are conditions of stops, and `stops` has the ratios of their clocks. The last row is
+/// there is one for each of the trays, one for each port; the others are conditions of stops, and `stops` has the ratios of their clocks. The last row is
 /// that of the first cycle in which a stop acts, if one does, and no window begins after that cycle. Host steps bring all these values to
 /// the trays of the network, and bring no others there.
 ///
@@ -35,12 +38,12 @@ use std::thread::Threads;
 ///
 /// Returns `Unwritten` if a put fails, and `NoMemory` if an allocation fails. What was written by then is a first part of
 /// the text.
-pub fn print_from<R: Threads + Sync, Z: Streams, K: Sink, G: Gate + Sync>(
+pub fn print_from<R: Threads + Sync, B: Bridge + Send + Drop, Z: Streams, K: Sink, G: Gate + Sync>(
     rt: &R,
     alloc: Global,
-    net: Net<Node<'_>, Z>,
+    net: Net<Node<'_, B>, Z>,
     begin: u64,
-    outs: usize,
+    trays: Trays,
     stops: &[Ratio],
     ports: &Ports,
     workers: u32,
@@ -50,24 +53,25 @@ pub fn print_from<R: Threads + Sync, Z: Streams, K: Sink, G: Gate + Sync>(
     requires few { workers ≤ 64 }
     requires opening { AllStandAt begin net }
     requires within { begin ≤ net.end }
-    requires outs { outs ≤ length net.machines }
-    requires ports { length ports.now ≤ outs }
-    ensures prints { (plan : Plan) (start : Start) (columns : List (List ℕ)) (n : ℕ) (run : IsToRunFrom plan start columns n Z.flow) → IsOpeningFrom plan start (run_token run) columns n net.entry → start.cycle ≡ begin → outs ≡ length run.design.circuit.outs
-        → stops.now ≡ plan_stops run.design run.request → PrintsOn K.Sink out.old out.new (text_since (plan_stops run.design run.request) (plan_reference run.design run.request) ports.now run.rows begin (n - begin)) result }
-    ensures kept { IfOk result (λ done. (plan : Plan) (start : Start) (columns : List (List ℕ)) (n : ℕ) (run : IsToRunFrom plan start columns n Z.flow) → IsOpeningFrom plan start (run_token run) columns n net.entry → start.cycle ≡ begin → outs ≡ length run.design.circuit.outs
-        → stops.now ≡ plan_stops run.design run.request → RowsAreKept net.entry (first_tray run.design.circuit (listed_of run.design.tree run.request)) begin (rows_since (plan_stops run.design run.request) (plan_reference run.design run.request) ports.now run.rows begin (n - begin)) (out_columns (plan_reference run.design run.request) run.rows)) }
+    requires trays { trays.first + trays.count ≤ length net.machines }
+    requires ports { length ports.now ≤ trays.count }
+    ensures prints { (plan : Plan) (start : Start) (columns : List (List ℕ)) (n : ℕ) (run : IsToRunFrom plan start columns n Z.flow) → IsOpeningFrom plan start (run_token run) columns n net.entry → start.cycle ≡ begin → AreTraysOf run trays.first trays.count
+        → stops.now ≡ plan_stops run.design run.request → PrintsOn K.Sink out.old out.new (text_since (plan_stops run.design run.request) (plan_circuit run.design run.request run.models) ports.now run.rows begin (n - begin)) result }
+    ensures kept { IfOk result (λ done. (plan : Plan) (start : Start) (columns : List (List ℕ)) (n : ℕ) (run : IsToRunFrom plan start columns n Z.flow) → IsOpeningFrom plan start (run_token run) columns n net.entry → start.cycle ≡ begin → AreTraysOf run trays.first trays.count
+        → stops.now ≡ plan_stops run.design run.request → RowsAreKept net.entry (first_kept_tray (plan_bridges run.design.circuit run.design.tree run.request)) begin (rows_since (plan_stops run.design run.request) (plan_circuit run.design run.request run.models) ports.now run.rows begin (n - begin)) (out_columns (plan_circuit run.design run.request run.models) run.rows)) }
     ensures out { SinkWentOn K.Sink out.old out.new }
 {
-    let mut values = vec![in alloc; 0u128; outs]?;
+    let mut values = vec![in alloc; 0u128; trays.count]?;
     let header = header_text(alloc, ports)?;
     put(out, header.as_bytes())?;
     let printer = RowPrinter::new(alloc, ports, stops);
-    run_rows::<R, Z, K, RowPrinter<'_>, G>(
+    run_rows::<R, B, Z, K, RowPrinter<'_>, G>(
         rt,
         alloc,
         net,
         begin,
         workers,
+        trays.first,
         values.as_mut_slice(),
         &printer,
         out,
@@ -76,7 +80,7 @@ pub fn print_from<R: Threads + Sync, Z: Streams, K: Sink, G: Gate + Sync>(
     Ok(())
 }
 
-/// Prints the run of the reference circuit of a plan of the design from the plan's network: a header, and then the rows, a window
+/// Prints the run of the circuit of a plan of the design, which is the reference circuit with the models of the bridges, from the plan's network: a header, and then the rows, a window
 /// at a time. The network is run by this many workers, and then by steps in the fixed order. The values of a row are those of the
 /// first out-signals, one for each port; the others are conditions of stops. The last row is that of the first cycle in which a stop
 /// acts, if one does, and no window begins after that cycle. A stop acts in a cycle in which its condition is one and its clock has
@@ -86,7 +90,7 @@ pub fn print_from<R: Threads + Sync, Z: Streams, K: Sink, G: Gate + Sync>(
 ///
 /// Returns `Unwritten` if a put fails, and `NoMemory` if an allocation fails. What was written by then is a first part of
 /// the text.
-pub fn print_net<R: Threads + Sync, Z: Streams, K: Sink, G: Gate + Sync>(
+pub fn print_net<R: Threads + Sync, B: Bridge + Send + Drop, Z: Streams, K: Sink, G: Gate + Sync>(
     rt: &R,
     alloc: Global,
     design: &Design,
@@ -94,28 +98,29 @@ pub fn print_net<R: Threads + Sync, Z: Streams, K: Sink, G: Gate + Sync>(
     inputs: &Trace,
     ports: &Ports,
     workers: u32,
+    bridges: Vec<(Name, B)>,
     out: &mut K,
     gate: &G,
 ) -> Result<(), Ending>
     requires few { workers ≤ 64 }
-    requires run { (run : IsToRun plan.now inputs.now.columns inputs.now.rows Z.flow) × (run.design ≡ design.now) }
-    requires ports { length ports.now ≤ length design.now.circuit.outs }
+    requires bridges { HasBridges B.piece B.state plan.now bridges.items }
+    requires run { (run : IsToRun plan.now inputs.now.columns inputs.now.rows Z.flow) × ((run.design ≡ design.now) × (length ports.now ≤ length (plan_circuit run.design run.request run.models).outs)) }
     ensures prints { (run : IsToRun plan.now inputs.now.columns inputs.now.rows Z.flow) → run.design ≡ design.now
-        → PrintsOn K.Sink out.old out.new (text_of (plan_stops run.design run.request) (plan_reference run.design run.request) ports.now run.rows inputs.now.rows) result }
+        → PrintsOn K.Sink out.old out.new (text_of (plan_stops run.design run.request) (plan_circuit run.design run.request run.models) ports.now run.rows inputs.now.rows) result }
     ensures kept { IfOk result (λ done. (run : IsToRun plan.now inputs.now.columns inputs.now.rows Z.flow) → run.design ≡ design.now
-        → AreKept plan.now inputs.now.columns inputs.now.rows (first_tray run.design.circuit (listed_of run.design.tree run.request)) (rows_to (plan_stops run.design run.request) (plan_reference run.design run.request) ports.now run.rows inputs.now.rows) (out_columns (plan_reference run.design run.request) run.rows)) }
+        → AreKept plan.now inputs.now.columns inputs.now.rows (first_kept_tray (plan_bridges run.design.circuit run.design.tree run.request)) (rows_to (plan_stops run.design run.request) (plan_circuit run.design run.request run.models) ports.now run.rows inputs.now.rows) (out_columns (plan_circuit run.design run.request run.models) run.rows)) }
     ensures out { SinkWentOn K.Sink out.old out.new }
 {
-    let outs = design.piece().outs().len();
+    let trays = trays_of(plan);
     let stops = stop_ratios(alloc, design.tree(), plan.ratios.as_slice())?;
-    let net = build::<Z>(alloc, plan, inputs)?;
+    let net = build::<B, Z>(alloc, plan, inputs, bridges)?;
     net.kept();
-    print_from::<R, Z, K, G>(
+    print_from::<R, B, Z, K, G>(
         rt,
         alloc,
         net,
         0,
-        outs,
+        trays,
         stops.as_slice(),
         ports,
         workers,

@@ -3,17 +3,17 @@ ghost use Rattle.std.specs.Prelude.{◌≡◌, ◌+◌, ◌-◌, ◌<◌, ◌≤
 ghost use Rattle.gg_build.specs.Build.{IsOpeningFrom, IsToRunFrom, run_token};
 ghost use Rattle.gg_limits.specs.Limits.{cycle_limit};
 ghost use Rattle.gg_flat.specs.Run.{Start};
-ghost use Rattle.gg_cut.specs.Listed.{listed_of};
-ghost use Rattle.gg_cut.specs.Machines.{first_tray};
+ghost use Rattle.gg_cut.specs.Seated.{first_kept_tray, plan_bridges};
 ghost use Rattle.gg_cut.specs.declared.plan.Plan.{Plan};
 ghost use Rattle.gg_measure.specs.Nets.{AllStandAt};
 ghost use Rattle.gg_sound.specs.Built.{tray_rows};
-ghost use Rattle.gg_run.specs.Rows.{StandsAt, run_row};
+ghost use Rattle.gg_run.specs.Rows.{AreTraysOf, StandsAt, run_row};
 ghost use Rattle.gg_run.specs.Taken.{IsRanOut, Ran, TakesSome, Took, TookTo, WentBy, answer_of};
 
 use crate::rows::output_values;
 use crate::taking::Rows;
 use crate::window::{run_window, window_end};
+use gg_bridge::Bridge;
 use gg_build::Node;
 use gg_io::Gate;
 use gg_net::{Net, Streams};
@@ -23,28 +23,30 @@ use std::alloc::Global;
 use std::thread::Threads;
 
 // Hands over the row of a cycle, from a network that stands at the end of the cycle's window. Returns whether to go on.
-fn take_cycle<Z: Streams, T, W: Rows<T>>(
-    net: &Net<Node<'_>, Z>,
+fn take_cycle<B: Bridge + Send + Drop, Z: Streams, T, W: Rows<T>>(
+    net: &Net<Node<'_, B>, Z>,
+    first: usize,
     cycle: u64,
     outs: &mut [u128],
     rows: &W,
     taken: &mut T,
 ) -> Result<bool, Ending>
     requires within { cycle ≤ cycle_limit }
-    requires outs { length outs.old ≤ length net.now.machines }
+    requires outs { first + length outs.old ≤ length net.now.machines }
     requires can { W.can_take rows.now (length outs.old) }
     ensures row { (plan : Plan) (start : Start) (columns : List (List ℕ)) (n upto : ℕ) (run : IsToRunFrom plan start columns n Z.flow) → StandsAt plan start (run_token run) columns n upto net.now
-        → start.cycle ≤ cycle → length outs.old ≡ length run.design.circuit.outs → cycle < upto → upto ≤ cycle + tray_rows
+        → start.cycle ≤ cycle → AreTraysOf run first (length outs.old) → cycle < upto → upto ≤ cycle + tray_rows
         → W.takes rows.now taken.old cycle (run_row run cycle) taken.new result }
     ensures some { TakesSome (W.takes rows.now) taken.old taken.new result }
 {
-    output_values(net, cycle, outs);
+    output_values(net, first, cycle, outs);
     rows.take(taken, cycle, outs)
 }
 
 // Hands over the rows of a window, from a network that stands at its end. Returns whether to go on.
-fn take_window<Z: Streams, T, W: Rows<T>>(
-    net: &Net<Node<'_>, Z>,
+fn take_window<B: Bridge + Send + Drop, Z: Streams, T, W: Rows<T>>(
+    net: &Net<Node<'_, B>, Z>,
+    first: usize,
     begun: u64,
     upto: u64,
     outs: &mut [u128],
@@ -52,16 +54,16 @@ fn take_window<Z: Streams, T, W: Rows<T>>(
     taken: &mut T,
 ) -> Result<bool, Ending>
     requires within { upto ≤ cycle_limit }
-    requires outs { length outs.old ≤ length net.now.machines }
+    requires outs { first + length outs.old ≤ length net.now.machines }
     requires can { W.can_take rows.now (length outs.old) }
     ensures rows { (plan : Plan) (start : Start) (columns : List (List ℕ)) (n : ℕ) (run : IsToRunFrom plan start columns n Z.flow) (before : T) → StandsAt plan start (run_token run) columns n upto net.now
-        → length outs.old ≡ length run.design.circuit.outs → start.cycle ≤ begun → begun ≤ upto → upto ≤ begun + tray_rows
+        → AreTraysOf run first (length outs.old) → start.cycle ≤ begun → begun ≤ upto → upto ≤ begun + tray_rows
         → TookTo (W.takes rows.now) (run_row run) start.cycle before (begun - start.cycle) taken.old
         → (count : ℕ) × Took (W.takes rows.now) (run_row run) start.cycle (upto - start.cycle) count before taken.new result }
     ensures went { WentBy (W.takes rows.now) taken.old taken.new result }
 {
     for cycle in begun..upto {
-        let goes_on = take_cycle(net, cycle, outs, rows, taken)?;
+        let goes_on = take_cycle(net, first, cycle, outs, rows, taken)?;
         if !goes_on {
             return Ok(false);
         }
@@ -70,31 +72,41 @@ fn take_window<Z: Streams, T, W: Rows<T>>(
 }
 
 /// Runs a network from its first cycle on, which is `begin`, window by window: by this many workers, and then by steps in the fixed
-/// order. After each window it hands over the rows of its cycles: the values of the reference circuit's out-signals. It ends with the
+/// order. After each window it hands over the rows of its cycles: the values of the out-signals of the plan's circuit, which the trays keep,
+/// from number `first` on. It ends with the
 /// network, or with a row after which it isn't to go on; no window begins then. Returns the network, and whether all rows were taken. If
 /// they were, all machines stand at the network's end.
 ///
 /// # Errors
 ///
 /// Returns why a row couldn't be taken, and `NoMemory` if an allocation fails.
-pub fn run_rows<'n, R: Threads + Sync, Z: Streams, T, W: Rows<T>, G: Gate + Sync>(
+pub fn run_rows<
+    'n,
+    R: Threads + Sync,
+    B: Bridge + Send + Drop,
+    Z: Streams,
+    T,
+    W: Rows<T>,
+    G: Gate + Sync,
+>(
     rt: &R,
     alloc: Global,
-    net: Net<Node<'n>, Z>,
+    net: Net<Node<'n, B>, Z>,
     begin: u64,
     workers: u32,
+    first: usize,
     outs: &mut [u128],
     rows: &W,
     taken: &mut T,
     gate: &G,
-) -> Result<(Net<Node<'n>, Z>, bool), Ending>
+) -> Result<(Net<Node<'n, B>, Z>, bool), Ending>
     requires few { workers ≤ 64 }
     requires opening { AllStandAt begin net }
     requires within { begin ≤ net.end }
-    requires outs { length outs.old ≤ length net.machines }
+    requires outs { first + length outs.old ≤ length net.machines }
     requires can { W.can_take rows.now (length outs.old) }
-    ensures ran { (plan : Plan) (start : Start) (columns : List (List ℕ)) (n : ℕ) (run : IsToRunFrom plan start columns n Z.flow) → IsOpeningFrom plan start (run_token run) columns n net.entry → start.cycle ≡ begin → length outs.old ≡ length run.design.circuit.outs
-        → Ran (W.takes rows.now) (run_row run) net.entry (first_tray run.design.circuit (listed_of run.design.tree run.request)) begin (n - begin) taken.old taken.new (answer_of result) }
+    ensures ran { (plan : Plan) (start : Start) (columns : List (List ℕ)) (n : ℕ) (run : IsToRunFrom plan start columns n Z.flow) → IsOpeningFrom plan start (run_token run) columns n net.entry → start.cycle ≡ begin → AreTraysOf run first (length outs.old)
+        → Ran (W.takes rows.now) (run_row run) net.entry (first_kept_tray (plan_bridges run.design.circuit run.design.tree run.request)) begin (n - begin) taken.old taken.new (answer_of result) }
     ensures out { IfOk result (λ r. IsRanOut net.entry r.0 r.1) }
     ensures went { WentBy (W.takes rows.now) taken.old taken.new (answer_of result) }
 {
@@ -104,12 +116,20 @@ pub fn run_rows<'n, R: Threads + Sync, Z: Streams, T, W: Rows<T>, G: Gate + Sync
     let mut begun = begin;
     while begun < end {
         let upto = window_end(begun, end);
-        net = match run_window::<R, Node<'n>, Ring, Z, G>(rt, (), alloc, net, workers, upto, gate) {
+        net = match run_window::<R, Node<'n, B>, Ring, Z, G>(
+            rt,
+            (),
+            alloc,
+            net,
+            workers,
+            upto,
+            gate,
+        ) {
             Ok(net) => net,
             Err(_) => return Err(Ending::NoMemory),
         };
         net.kept();
-        let goes_on = take_window(&net, begun, upto, outs, rows, taken)?;
+        let goes_on = take_window(&net, first, begun, upto, outs, rows, taken)?;
         if !goes_on {
             return Ok((net, false));
         }

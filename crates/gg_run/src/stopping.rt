@@ -1,15 +1,18 @@
 //! `run_to_stop`: a network is run, and looked at for a stop.
-ghost use Rattle.std.specs.Prelude.{◌≡◌, ◌≤◌, ℕ, List, IfOk, IfErr, None, length};
-ghost use Rattle.gg_build.specs.Build.{IsOpeningOf, IsToRun};
+ghost use Rattle.std.specs.Prelude.{◌≡◌, ◌+◌, ◌≤◌, ℕ, List, IfOk, IfErr, None, length};
+ghost use Rattle.gg_build.specs.Build.{IsOpeningOf, IsToRun, run_from_zeros};
 ghost use Rattle.gg_cut.specs.declared.plan.Plan.{Plan};
 ghost use Rattle.gg_flat.specs.declared.ports.Port.{Port};
 ghost use Rattle.gg_measure.specs.Nets.{AllStandAt};
 ghost use Rattle.gg_net.specs.Network.{frame_of};
-ghost use Rattle.gg_pipe.specs.Made.{plan_reference};
+ghost use Rattle.gg_bridged.specs.Whole.{plan_circuit};
 ghost use Rattle.gg_run.specs.Printed.{IsFirst, SeesStop, ends_run, plan_stops};
+ghost use Rattle.gg_run.specs.Rows.{AreTraysOf};
 
 use crate::run::run_rows;
 use crate::taking::Rows;
+use crate::trays::Trays;
+use gg_bridge::Bridge;
 use gg_build::Node;
 use gg_clocks::Ratio;
 use gg_io::Gate;
@@ -42,47 +45,48 @@ impl<'s> Rows<u64> for StopWatch<'s> {
 }
 
 /// Runs a network of a plan from its first cycle, 0, to its end, a window at a time: by this many workers, and then by steps in the fixed
-/// order. Looks at the conditions of the stops, which are behind the first `shown` of `outs` out-signals; `stops` has the ratios of their
+/// order. Looks at the conditions of the stops, which are behind the first `shown` of the out-signals, one for each of the trays; `stops` has the ratios of their
 /// clocks. Returns the network, and the first cycle in which a stop ends a run of `cycles` cycles: one acts, and the cycle isn't the last
 /// one. If there is none, all machines stand at the network's end.
 ///
 /// # Errors
 ///
 /// Returns `NoMemory` if an allocation fails.
-pub fn run_to_stop<'n, R: Threads + Sync, Z: Streams, G: Gate + Sync>(
+pub fn run_to_stop<'n, R: Threads + Sync, B: Bridge + Send + Drop, Z: Streams, G: Gate + Sync>(
     rt: &R,
     alloc: Global,
-    net: Net<Node<'n>, Z>,
-    outs: usize,
+    net: Net<Node<'n, B>, Z>,
+    trays: Trays,
     stops: &[Ratio],
     shown: usize,
     cycles: u64,
     workers: u32,
     gate: &G,
-) -> Result<(Net<Node<'n>, Z>, Option<u64>), Ending>
+) -> Result<(Net<Node<'n, B>, Z>, Option<u64>), Ending>
     requires few { workers ≤ 64 }
     requires opening { AllStandAt 0 net }
-    requires outs { outs ≤ length net.machines }
-    requires shown { shown ≤ outs }
-    ensures first { IfOk result (λ r. (plan : Plan) (columns : List (List ℕ)) (n : ℕ) (ports : List Port) (run : IsToRun plan columns n Z.flow) → IsOpeningOf plan columns n net.entry → outs ≡ length run.design.circuit.outs
-        → shown ≡ length ports → stops.now ≡ plan_stops run.design run.request → IsFirst (ends_run (plan_stops run.design run.request) (plan_reference run.design run.request) ports run.rows cycles) n r.1) }
+    requires trays { trays.first + trays.count ≤ length net.machines }
+    requires shown { shown ≤ trays.count }
+    ensures first { IfOk result (λ r. (plan : Plan) (columns : List (List ℕ)) (n : ℕ) (ports : List Port) (run : IsToRun plan columns n Z.flow) → IsOpeningOf plan columns n net.entry → AreTraysOf (run_from_zeros run) trays.first trays.count
+        → shown ≡ length ports → stops.now ≡ plan_stops run.design run.request → IsFirst (ends_run (plan_stops run.design run.request) (plan_circuit run.design run.request run.models) ports run.rows cycles) n r.1) }
     ensures frame { IfOk result (λ r. frame_of r.0 ≡ frame_of net.entry) }
     ensures stands { IfOk result (λ r. r.1 ≡ None → AllStandAt net.entry.end r.0) }
     ensures refused { IfErr result (λ ending. ending ≡ Ending.NoMemory) }
 {
-    let mut values = vec![in alloc; 0u128; outs]?;
+    let mut values = vec![in alloc; 0u128; trays.count]?;
     let watch = StopWatch {
         stops,
         shown,
         cycles,
     };
     let mut stop = 0;
-    let (net, whole) = run_rows::<R, Z, u64, StopWatch<'_>, G>(
+    let (net, whole) = run_rows::<R, B, Z, u64, StopWatch<'_>, G>(
         rt,
         alloc,
         net,
         0,
         workers,
+        trays.first,
         values.as_mut_slice(),
         &watch,
         &mut stop,

@@ -1,10 +1,14 @@
 //! The network of a plan is built, counted and run, and its rows are folded.
 ghost use Rattle.std.specs.Prelude.{◌≡◌, ◌≤◌, IfOk, length};
-ghost use Rattle.gg_build.specs.Build.{IsToRun};
+ghost use Rattle.gg_bridged.specs.Whole.{plan_circuit};
+ghost use Rattle.gg_build.specs.Build.{HasBridges, IsToRun};
 ghost use Rattle.gg_run.specs.Sums.{AreSums, FoldsRow};
 
 use crate::run::run_rows;
 use crate::taking::Rows;
+use crate::trays::trays_of;
+use gg_bits::Name;
+use gg_bridge::Bridge;
 use gg_build::build;
 use gg_cut::Plan;
 use gg_demo::Fold;
@@ -45,39 +49,41 @@ impl Rows<Fold> for Folding {
 }
 
 /// Builds the network of a plan, counts it, runs it by this many workers and then by steps in the fixed order, and folds the
-/// rows of the first two out-signals. The design should have two out-signals at least.
+/// rows of the first two out-signals. The plan's circuit should have two out-signals at least.
 ///
 /// # Errors
 ///
 /// Returns `AllocError` if an allocation fails.
-pub fn sum_net<R: Threads + Sync, Z: Streams, G: Gate + Sync>(
+pub fn sum_net<R: Threads + Sync, B: Bridge + Send + Drop, Z: Streams, G: Gate + Sync>(
     rt: &R,
     alloc: Global,
     design: &Design,
     plan: &Plan,
     inputs: &Trace,
     workers: u32,
+    bridges: Vec<(Name, B)>,
     gate: &G,
 ) -> Result<Sums, AllocError>
     requires few { workers ≤ 64 }
-    requires run { (run : IsToRun plan.now inputs.now.columns inputs.now.rows Z.flow) × (run.design ≡ design.now) }
-    requires two { 2 ≤ length design.now.circuit.outs }
+    requires run { (run : IsToRun plan.now inputs.now.columns inputs.now.rows Z.flow) × ((run.design ≡ design.now) × (2 ≤ length (plan_circuit run.design run.request run.models).outs)) }
+    requires bridges { HasBridges B.piece B.state plan.now bridges.items }
     ensures { IfOk result (λ sums. (run : IsToRun plan.now inputs.now.columns inputs.now.rows Z.flow) → run.design ≡ design.now → AreSums plan.now inputs.now.columns inputs.now.rows Z.flow run sums) }
 {
-    let piece = design.piece();
-    let mut outs = vec![in alloc; 0u128; piece.outs().len()]?;
-    let net = build::<Z>(alloc, plan, inputs)?;
+    let trays = trays_of(plan);
+    let mut outs = vec![in alloc; 0u128; trays.count]?;
+    let net = build::<B, Z>(alloc, plan, inputs, bridges)?;
     net.kept();
     let machines = net.machines() as u64;
     let channels = net.channels() as u64;
     let steps = left(&net);
     let mut fold = Fold::new();
-    let ran = run_rows::<R, Z, Fold, Folding, G>(
+    let ran = run_rows::<R, B, Z, Fold, Folding, G>(
         rt,
         alloc,
         net,
         0,
         workers,
+        trays.first,
         outs.as_mut_slice(),
         &Folding,
         &mut fold,

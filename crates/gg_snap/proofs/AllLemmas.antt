@@ -7,8 +7,9 @@ use Rattle.gg_partfile.specs.declared.request.Request.{Request}
 use Rattle.gg_moved.specs.KeepsToTree.{KeepsToTree}
 use Rattle.gg_cut.specs.declared.listed.Listed.{Listed}
 use Rattle.gg_cut.specs.declared.plan.Body.{Body}
-use Rattle.gg_cut.specs.declared.plan.Body.TheVariants.{Cut, Memory, Source, Tray}
+use Rattle.gg_cut.specs.declared.plan.Body.TheVariants.{Cut, Memory, Source, Tray, Bridge}
 use Rattle.gg_cut.specs.declared.plan.Plan.{Plan}
+use Rattle.gg_cut.specs.Bridges.{Models}
 use Rattle.gg_cut.specs.Direct.{plan_hub}
 use Rattle.gg_cut.specs.Listed.{first_place, listed_of, memory_or, memory_owner, owner_of_instance}
 use Rattle.gg_cut.specs.Machines.{first_source}
@@ -29,12 +30,13 @@ memory_owner-below tree listed place = by (first_place (λ j. j == place) listed
     by None e = let low = unit_or_hub-below tree listed.units (memory_at tree place).instance in omega (arith, low)
     by (Some j) e = let lt = (first_place-Some (λ j. j == place) listed.memories j e).within in omega (arith, lt)
 
-module _ (design : Ordered) (request : Request) (default : ℕ) (plan : Plan) (planned : IsPlan design request default plan) (keeps : KeepsToTree design.circuit design.tree) where
-  keeps-in : (m k : ℕ) (body : Body) → m < first_source (listed_of design.tree request) → HasMemory design.tree (listed_of design.tree request) m k → IsBody design (listed_of design.tree request) (plan_hub design.circuit design.tree request) m body → Contains (kept_by body) k
+module _ (design : Ordered) (request : Request) (models : Models) (default : ℕ) (plan : Plan) (planned : IsPlan design request models default plan) (keeps : KeepsToTree design.circuit design.tree) where
+  keeps-in : (m k : ℕ) (body : Body) → m < first_source (listed_of design.tree request) → HasMemory design.tree (listed_of design.tree request) m k → IsBody design request models (listed_of design.tree request) (plan_hub design.circuit design.tree request) m body → Contains (kept_by body) k
   keeps-in m k (Cut part) lt has is = (is.1.memories k).1 has
   keeps-in m k (Memory part) lt has is = (is.2.memories k).1 has
   keeps-in m k (Source place) lt has is = absurd (omega (arith, lt, is.1))
-  keeps-in m k Tray lt has is = absurd (omega (arith, lt, is))
+  keeps-in m k Tray lt has is = absurd (omega (arith, lt, is.0))
+  keeps-in m k (Bridge bridge) lt has is = absurd (omega (arith, lt, is.0))
 
   pub memories-kept : (k : ℕ) → k < length design.circuit.memories → IsKeptBy plan k
   memories-kept k lt =

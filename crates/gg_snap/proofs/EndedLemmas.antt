@@ -15,6 +15,7 @@ use Rattle.gg_sound.proofs.LinkLemmas.{length-from}
 use Rattle.gg_build.specs.Build.{run_token}
 use Rattle.gg_snap.specs.Gathered.{AreApart, AreIn, IsAll}
 use Rattle.gg_snap.specs.Whole.{HasEnded, last_state}
+use Rattle.gg_snap.proofs.AloneLemmas.{run-alone}
 use Rattle.gg_snap.proofs.PlannedLemmas.{channels-apart, known-signals}
 use Rattle.gg_snap.proofs.SizeLemmas.{last-typed}
 use Rattle.gg_snap.proofs.StandLemmas.{count, inside}
@@ -24,32 +25,32 @@ module _ (plan : Plan) (design : Ordered) (start : Start) (columns : List (List 
   pub ended-known : All (λ (channel : Channel). channel.signal < length design.circuit.signals) plan.channels
   ended-known =
       subst (λ (d : Ordered). All (λ (channel : Channel). channel.signal < length d.circuit.signals) plan.channels) ended.of_design
-      (known-signals ended.run.design ended.run.request ended.run.default plan ended.run.given.planned ended.run.given.design_is ended.run.given.keeps ended.run.given.faultless)
+      (known-signals ended.run.design ended.run.request ended.run.models ended.run.default plan (run-alone ended.run ended.alone).planned (run-alone ended.run ended.alone).design_is (run-alone ended.run ended.alone).keeps (run-alone ended.run ended.alone).faultless)
 
   pub ended-apart : AreApart plan.channels
-  ended-apart = channels-apart ended.run.design ended.run.request ended.run.default plan ended.run.given.planned ended.run.given.design_is ended.run.given.keeps ended.run.given.faultless
+  ended-apart = channels-apart ended.run.design ended.run.request ended.run.models ended.run.default plan (run-alone ended.run ended.alone).planned (run-alone ended.run ended.alone).design_is (run-alone ended.run ended.alone).keeps (run-alone ended.run ended.alone).faultless
 
   pub ended-within : n ≤ cycle_limit
   ended-within = ended.run.given.most
 
   module _ (kept : Kept flow net) where
     pub ended-machines : length net.machines ≡ length plan.machines
-    ended-machines = count plan start columns n flow ended.run net kept ended.stands
+    ended-machines = count plan start columns n flow ended.run ended.alone net kept ended.stands
 
     pub ended-wires : length net.wires ≡ length plan.channels
-    ended-wires = ap length (wires plan start columns n flow ended.run net kept ended.stands) ∙ length-from (run_token ended.run) plan 0 plan.channels
+    ended-wires = ap length (wires plan start columns n flow ended.run ended.alone net kept ended.stands) ∙ length-from (run_token ended.run) plan 0 plan.channels
 
     module _ (fresh : IsFresh design.circuit) where
       own-fresh : IsFresh ended.run.design.circuit
       own-fresh = subst (λ (d : Ordered). IsFresh d.circuit) (sym ended.of_design) fresh
 
       pub ended-typed : IsState (plan_reference ended.run.design ended.run.request) (last_state ended.run)
-      ended-typed = last-typed plan start columns n flow ended.run own-fresh
+      ended-typed = last-typed plan start columns n flow ended.run ended.alone own-fresh
 
       pub ended-in : AreIn design.circuit plan net (last_state ended.run)
-      ended-in = subst (λ (d : Ordered). AreIn d.circuit plan net (last_state ended.run)) ended.of_design (inside plan start columns n flow ended.run net kept ended.stands own-fresh)
+      ended-in = subst (λ (d : Ordered). AreIn d.circuit plan net (last_state ended.run)) ended.of_design (inside plan start columns n flow ended.run ended.alone net kept ended.stands own-fresh)
 
       pub ended-all : AllHeld design.circuit → IsAll design.circuit plan net (last_state ended.run)
       ended-all held =
           subst (λ (d : Ordered). IsAll d.circuit plan net (last_state ended.run)) ended.of_design
-          (everything plan start columns n flow ended.run net kept ended.stands own-fresh (subst (λ (d : Ordered). AllHeld d.circuit) (sym ended.of_design) held))
+          (everything plan start columns n flow ended.run ended.alone net kept ended.stands own-fresh (subst (λ (d : Ordered). AllHeld d.circuit) (sym ended.of_design) held))

@@ -1,6 +1,6 @@
 -- The machines of a plan hold all registers of the circuit.
 use Rattle.std.proofs.Common.{◌≡◌, ◌≢◌, ℕ, zero, suc, ◌<◌, ◌==◌, List, [], ◌∷◌, length, map, get_or, Bool, true, false, Option, None, Some, is_some, refl, sym, ap, ◌∙◌, subst, arith, ◌⊎◌, inl, inr}
-use Rattle.std.specs.Prelude.{if◌then◌else◌, ◌&&◌, All, Contains, option_and_then}
+use Rattle.std.specs.Prelude.{if◌then◌else◌, ◌&&◌, ◌||◌, All, Contains, option_and_then}
 use Rattle.std.specs.List.{list_any}
 use Rattle.std.proofs.lemmas.Bool.{and_parts, cases_Bool, eqb-true}
 use Rattle.std.proofs.lemmas.List.{get_or_default}
@@ -24,9 +24,10 @@ use Rattle.gg_moved.specs.KeepsToTree.{KeepsToTree}
 use Rattle.gg_pipe.specs.Made.{AllHeld}
 use Rattle.gg_cut.specs.declared.listed.Listed.{Listed}
 use Rattle.gg_cut.specs.declared.plan.Body.{Body}
-use Rattle.gg_cut.specs.declared.plan.Body.TheVariants.{Cut, Memory, Source, Tray}
+use Rattle.gg_cut.specs.declared.plan.Body.TheVariants.{Cut, Memory, Source, Tray, Bridge}
 use Rattle.gg_cut.specs.declared.plan.Plan.{Plan}
 use Rattle.gg_cut.specs.declared.wires.Wire.{Wire}
+use Rattle.gg_cut.specs.Bridges.{Models}
 use Rattle.gg_cut.specs.Channels.{numbered, source_wires}
 use Rattle.gg_cut.specs.Direct.{Hub, bare_of, copied, direct_of, if_plain, if_wide, is_direct, is_own, is_taken, left_by, may_be_direct, origin, origin_within, plan_hub, routes}
 use Rattle.gg_cut.specs.Fault.{first_fault}
@@ -68,7 +69,7 @@ module _ (hub : Hub) (base : IsBase hub) (s : ℕ) (plain : copied hub.circuit s
   no-origin free zero = refl
   no-origin free (suc n) = by (is_taken hub s) (is_own hub s) free
     where
-      by : (taken own : Bool) → taken ≡ false → (if taken then (if hub.piped s then None else Some s) else (if own then option_and_then (origin_within hub n) (copied hub.circuit s) else None)) ≡ None
+      by : (taken own : Bool) → taken ≡ false → (if taken then (if hub.piped s || hub.driven s then None else Some s) else (if own then option_and_then (origin_within hub n) (copied hub.circuit s) else None)) ≡ None
       by true own e = cc
       by false true e = ap (λ (o : Option ℕ). option_and_then (origin_within hub n) o) plain
       by false false e = refl
@@ -156,7 +157,7 @@ module _ (whole : FlatCircuit) (k : ℕ) (part : Part) (memory : own_memory.Memo
           (subst (IsFrom part.piece.ins part.globals part.held part.memories p (driver_at whole (value_at part.globals p))) (sym (ap (driver_at part.piece) (at.holds any)) ∙ word-driver at.place at.within) (is.drivers p lt))
           holds
 
-module _ (design : Ordered) (request : Request) (default : ℕ) (plan : Plan) (planned : IsPlan design request default plan) (is : IsDesign design) (keeps : KeepsToTree design.circuit design.tree) (none : first_fault design request ≡ None) where
+module _ (design : Ordered) (request : Request) (models : Models) (default : ℕ) (plan : Plan) (planned : IsPlan design request models default plan) (is : IsDesign design) (keeps : KeepsToTree design.circuit design.tree) (none : first_fault design request ≡ None) where
   abbrev listed : Listed
   listed = listed_of design.tree request
 
@@ -198,7 +199,7 @@ module _ (design : Ordered) (request : Request) (default : ℕ) (plan : Plan) (p
           let same = eqb-true v.item.signal s v.passes in
           record { machine = v.item.producer; made = made-wire hub base v.item.producer s v.item v.among refl same; below = producer-below v.item v.among (λ top. not-top s r e (subst (IsTop design.circuit) same top)) }
 
-  holds-in : (s r : ℕ) → driver_at design.circuit s ≡ Held r → (m : ℕ) (body : Body) → Made (plan_hub design.circuit design.tree request) base m s → m < first_source (listed_of design.tree request) → IsBody design (listed_of design.tree request) (plan_hub design.circuit design.tree request) m body → Contains (held_by body) r
+  holds-in : (s r : ℕ) → driver_at design.circuit s ≡ Held r → (m : ℕ) (body : Body) → Made (plan_hub design.circuit design.tree request) base m s → m < first_source (listed_of design.tree request) → IsBody design request models (listed_of design.tree request) (plan_hub design.circuit design.tree request) m body → Contains (held_by body) r
   holds-in s r e m (Cut part) made low body =
       let plain = held-plain s r e in
       let cut = body.1 in
@@ -213,7 +214,8 @@ module _ (design : Ordered) (request : Request) (default : ℕ) (plan : Plan) (p
       (λ inside. not-takes hub base s plain m made (subst (λ t. Takes (routes hub) m t) at (subst (λ (l : List ℕ). Contains l (value_at part.globals among.0)) cut.ins (Contains-map (value_at part.globals) part.piece.ins among.0 inside))))
       (ap (driver_at design.circuit) at ∙ e))
   holds-in s r e m (Source place) made low body = absurd (omega (arith, low, body.1))
-  holds-in s r e m Tray made low body = absurd (omega (arith, low, body))
+  holds-in s r e m Tray made low body = absurd (omega (arith, low, body.0))
+  holds-in s r e m (Bridge bridge) made low body = absurd (omega (arith, low, body.0))
 
   pub registers-held : AllHeld design.circuit → (r : ℕ) → r < length design.circuit.registers → IsHeldBy plan r
   registers-held holders r lt =

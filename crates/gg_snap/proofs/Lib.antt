@@ -1,6 +1,7 @@
 mod NumberLemmas
 mod PipeLemmas
 mod GatherLemmas
+mod AloneLemmas
 mod PlannedLemmas
 mod SaveLemmas
 mod WholeLemmas

@@ -3,7 +3,7 @@ use Rattle.std.proofs.Common.{◌≡◌, ℕ, ◌+◌, ◌<◌, ◌≤◌, List,
 use Rattle.std.specs.Prelude.{◌==◌, ◌&&◌, All}
 use Rattle.std.specs.List.{range_with_len}
 use Rattle.std.proofs.lemmas.Bool.{and_from, and_parts, cases_lt}
-use Rattle.std.proofs.lemmas.List.{get_or_default}
+use Rattle.std.proofs.lemmas.List.{get_or_default, length-map}
 use Rattle.std.proofs.lemmas.List.Elements.{Contains-get_or}
 use Rattle.std.proofs.lemmas.List.Folds.{list_any_at}
 use Rattle.gg_flat.specs.Line.{value_at}
@@ -15,11 +15,14 @@ use Rattle.gg_partfile.specs.declared.request.Request.{Request}
 use Rattle.gg_cut.specs.declared.plan.Channel.{Channel}
 use Rattle.gg_cut.specs.declared.plan.Plan.{Plan}
 use Rattle.gg_cut.specs.declared.wires.Wire.{Wire}
+use Rattle.gg_cut.specs.Bridges.{Models}
 use Rattle.gg_cut.specs.Direct.{Hub, is_piped, plan_hub, routes}
 use Rattle.gg_cut.specs.Fault.{first_fault}
 use Rattle.gg_cut.specs.Listed.{first_place}
 use Rattle.gg_cut.specs.Plan.{IsPlan, wire_at}
+use Rattle.gg_cut.specs.Seated.{Bridges, plan_bridges, plan_wires, seated_wire}
 use Rattle.gg_cut.proofs.OriginLemmas.{any-finds, finds-any}
+use Rattle.gg_cut_seats.proofs.LowLemmas.{wire-signal}
 use Rattle.gg_closed.proofs.PlaceLemmas.{same-bool}
 use Rattle.gg_routes.proofs.ChoiceLemmas.{any-wire}
 use Rattle.gg_routes.proofs.RouteLemmas.{IsBase, routes-known, routes-once}
@@ -30,18 +33,31 @@ use Rattle.gg_snap.specs.Gathered.{AreApart, is_piped_by, pipe_number}
 use Rattle.gg_snap.proofs.NumberLemmas.{below-less, chosen, chosen-at, chosen-place, filter-same}
 use Rattle.gg_snap.proofs.PipeLemmas.{channel-of, piped-at}
 
-module _ (design : Ordered) (request : Request) (default : ℕ) (plan : Plan) (planned : IsPlan design request default plan) (is : IsDesign design) (keeps : KeepsToTree design.circuit design.tree) (none : first_fault design request ≡ None) where
+module _ (design : Ordered) (request : Request) (models : Models) (default : ℕ) (plan : Plan) (planned : IsPlan design request models default plan) (is : IsDesign design) (keeps : KeepsToTree design.circuit design.tree) (none : first_fault design request ≡ None) where
   abbrev hub : Hub
   hub = plan_hub design.circuit design.tree request
 
   base : IsBase (plan_hub design.circuit design.tree request)
   base = routed-base design request is keeps none
 
+  -- the channels have the signals of the cut's
+  abbrev seats : Bridges
+  seats = plan_bridges design.circuit design.tree request
+
+  many : length (plan_wires design.circuit design.tree request) ≡ length (routes (plan_hub design.circuit design.tree request))
+  many = length-map (routes hub) (seated_wire seats)
+
+  own-signal : (c : ℕ) → (wire_at (plan_wires design.circuit design.tree request) c).signal ≡ (wire_at (routes (plan_hub design.circuit design.tree request)) c).signal
+  own-signal c = wire-signal seats (routes hub) c
+
   there : (c : ℕ) → c < length plan.channels → c < length (routes (plan_hub design.circuit design.tree request))
-  there c lt = omega (arith, lt, planned.channel_total)
+  there c lt = omega (arith, lt, planned.channel_total, many)
 
   pub signal-at : (c : ℕ) (any : Channel) → c < length plan.channels → (get_or plan.channels c any).signal ≡ (wire_at (routes (plan_hub design.circuit design.tree request)) c).signal
-  signal-at c any lt = (planned.channel c any lt).signal
+  signal-at c any lt = (planned.channel c any lt).signal ∙ own-signal c
+
+  pipe-at : (c : ℕ) (any : Channel) → c < length plan.channels → (get_or plan.channels c any).pipe ≡ is_piped design.circuit request (wire_at (routes (plan_hub design.circuit design.tree request)) c).signal
+  pipe-at c any lt = (planned.channel c any lt).pipe ∙ ap (is_piped design.circuit request) (own-signal c)
 
   pub known-signals : All (λ (channel : Channel). channel.signal < length design.circuit.signals) plan.channels
   known-signals = λ c any lt. subst (λ s. s < length design.circuit.signals) (sym (signal-at c any lt)) (routes-known hub base c any-wire (there c lt))
@@ -64,10 +80,9 @@ module _ (design : Ordered) (request : Request) (default : ℕ) (plan : Plan) (p
       only : is_piped_by plan.channels s ≡ true → (is_piped design.circuit request s && is_carried (plan_hub design.circuit design.tree request) s) ≡ true
       only e =
           let own = channel-of plan.channels s e in
-          let channel = planned.channel own.place own.any own.within in
           let w = wire_at (routes hub) own.place in
-          let of : w.signal ≡ s = sym channel.signal ∙ own.signal in
-          and_from (is_piped design.circuit request s) (is_carried hub s) (ap (is_piped design.circuit request) (sym of) ∙ sym channel.pipe ∙ own.pipe)
+          let of : w.signal ≡ s = sym (signal-at own.place own.any own.within) ∙ own.signal in
+          and_from (is_piped design.circuit request s) (is_carried hub s) (ap (is_piped design.circuit request) (sym of) ∙ sym (pipe-at own.place own.any own.within) ∙ own.pipe)
           (finds-any (λ (r : Wire). r.signal == s) (routes hub) w (Contains-get_or (routes hub) own.place any-wire (there own.place own.within)) (eq-eqb w.signal s of))
 
       back : (is_piped design.circuit request s && is_carried (plan_hub design.circuit design.tree request) s) ≡ true → is_piped_by plan.channels s ≡ true
@@ -77,12 +92,11 @@ module _ (design : Ordered) (request : Request) (default : ℕ) (plan : Plan) (p
           let at = found.among in
           let c = at.0 in
           let low = at.1 in
-          let lt : c < length plan.channels = omega (arith, low, planned.channel_total) in
+          let lt : c < length plan.channels = omega (arith, low, planned.channel_total, many) in
           let any = some-item plan.channels c lt in
-          let channel = planned.channel c any lt in
           let wire : (wire_at (routes hub) c).signal ≡ s = ap (λ (r : Wire). r.signal) (get_or_default (routes hub) c any-wire found.item low ∙ at.2) ∙ eqb-true found.item.signal s found.passes in
           list_any_at (λ (x : Channel). x.pipe && (x.signal == s)) plan.channels c any lt
-          (and_from (get_or plan.channels c any).pipe ((get_or plan.channels c any).signal == s) (channel.pipe ∙ ap (is_piped design.circuit request) wire ∙ parts.0) (eq-eqb (get_or plan.channels c any).signal s (channel.signal ∙ wire)))
+          (and_from (get_or plan.channels c any).pipe ((get_or plan.channels c any).signal == s) (pipe-at c any lt ∙ ap (is_piped design.circuit request) wire ∙ parts.0) (eq-eqb (get_or plan.channels c any).signal s (signal-at c any lt ∙ wire)))
 
   pub pipes-are : pipes_of (plan_hub design.circuit design.tree request) ≡ chosen (is_piped_by plan.channels) (length design.circuit.signals)
   pipes-are = sym (filter-same (is_piped_by plan.channels) (λ s. is_piped design.circuit request s && is_carried hub s) piped-same (range_with_len 0 (length design.circuit.signals)))

@@ -21,6 +21,7 @@ use Rattle.gg_build.specs.Build.{IsToRunFrom}
 use Rattle.gg_snap_text.specs.Parts.{HasSizeOf}
 use Rattle.gg_snap_text.proofs.PartLemmas.{no_bank}
 use Rattle.gg_snap.specs.Whole.{last_state}
+use Rattle.gg_snap.proofs.AloneLemmas.{run-alone}
 
 past : {A : Type 0} (xs : List A) (k : ℕ) (d : A) → length xs ≤ k → get_or xs k d ≡ d
 past [] k d le = refl
@@ -62,14 +63,14 @@ module _ (one all : FlatCircuit) (views : Views) (pipes : List ℕ) (reference :
 
 -- ---- the last state of a run
 
-module _ (plan : Plan) (start : Start) (columns : List (List ℕ)) (n : ℕ) (flow : Flow) (run : IsToRunFrom plan start columns n flow) (fresh : IsFresh run.design.circuit) where
+module _ (plan : Plan) (start : Start) (columns : List (List ℕ)) (n : ℕ) (flow : Flow) (run : IsToRunFrom plan start columns n flow) (none : run.request.bridges ≡ []) (fresh : IsFresh run.design.circuit) where
   pub last-typed : IsState (plan_reference run.design run.request) (last_state run)
   last-typed =
-      let given = run.given in
+      let given = run-alone run none in
       let formed = plan-formed run.design run.request given.design_is given.keeps given.held given.faultless fresh in
       IsState-at (plan_reference run.design run.request) start columns (since start.cycle n) (drop start.cycle run.rows) formed given.typed given.run.run (since start.cycle n) (omega arith)
 
   pub last-sizes : (m : ℕ) → HasSizeOf (bank_at (last_state run).banks m) (bank_at (opening run.design.circuit).banks m)
   last-sizes =
-      let given = run.given in
+      let given = run-alone run none in
       sizes run.design.circuit (plan_reference run.design run.request) _ _ (plan-made run.design run.request given.design_is given.keeps given.held given.faultless) (last_state run) last-typed

@@ -17,7 +17,7 @@ use Rattle.gg_part.specs.PartRun.{part_ratios, part_row, part_rows, part_start, 
 use Rattle.gg_part.specs.declared.part.Part.{Part}
 use Rattle.gg_part.proofs.RunLemmas.{HasCounts, state-part}
 use Rattle.gg_cut.specs.declared.plan.Body.{Body}
-use Rattle.gg_cut.specs.declared.plan.Body.TheVariants.{Cut, Memory, Source, Tray}
+use Rattle.gg_cut.specs.declared.plan.Body.TheVariants.{Cut, Memory, Source, Tray, Bridge}
 use Rattle.gg_cut.specs.declared.plan.Machine as planned
 use Rattle.gg_cut.specs.declared.plan.Plan.{Plan}
 use Rattle.gg_cut.specs.Direct.{plan_hub}
@@ -38,21 +38,22 @@ use Rattle.gg_sound.proofs.AlikeLemmas.{state-alike}
 use Rattle.gg_sound.proofs.BeginLemmas.{memory-begins}
 use Rattle.gg_sound.proofs.FitLemmas.{kind-is}
 use Rattle.gg_sound.proofs.MemoryPartLemmas.{memory-part}
+use Rattle.gg_sound.proofs.RowLemmas.{models_in, rows-at}
 use Rattle.gg_sound.proofs.SeenLemmas.{seen-typed}
 use Rattle.gg_sound.proofs.ShownLemmas.{rows-twice, seen-twice}
-use Rattle.gg_sound.proofs.SolvedLemmas.{rows-at}
 use Rattle.gg_sound.proofs.StateLemmas.{ratios-again}
 use Rattle.gg_run.specs.Rows.{StandsAt}
 use Rattle.gg_snap_text.specs.Parts.{IsPartState}
 use Rattle.gg_snap.specs.Gathered.{AreIn, HoldsBody}
 use Rattle.gg_snap.specs.Whole.{last_state}
+use Rattle.gg_snap.proofs.AloneLemmas.{no-bridge, run-alone}
 use Rattle.gg_snap.proofs.EndLemmas.{none-served}
 use Rattle.gg_snap.proofs.SizeLemmas.{last-sizes}
 
 is-part : (w state : State) (held memories : List ℕ) → state ≡ part_state held memories w → IsPartState w held memories state
 is-part w state held memories e = record { registers = ap (λ (s : State). s.registers) e; banks = ap (λ (s : State). s.banks) e }
 
-module _ (plan : Plan) (start : Start) (columns : List (List ℕ)) (n : ℕ) (flow : Flow) (run : IsToRunFrom plan start columns n flow) where
+module _ (plan : Plan) (start : Start) (columns : List (List ℕ)) (n : ℕ) (flow : Flow) (run : IsToRunFrom plan start columns n flow) (none : run.request.bridges ≡ []) where
   abbrev all : FlatCircuit
   all = plan_reference run.design run.request
 
@@ -64,14 +65,14 @@ module _ (plan : Plan) (start : Start) (columns : List (List ℕ)) (n : ℕ) (fl
   rest = drop start.cycle run.rows
 
   reference-counts : HasCounts (plan_reference run.design run.request) start.state
-  reference-counts = record { registers = run.given.typed.typed.count ∙ length-map all.registers (λ (register : Register). shape register.ty); banks = run.given.typed.held.count }
+  reference-counts = record { registers = (run-alone run none).typed.typed.count ∙ length-map all.registers (λ (register : Register). shape register.ty); banks = (run-alone run none).typed.held.count }
 
   -- ---- what a part has of the state
 
   part-stands : (m : ℕ) (part : Part) → IsCutPart run.design (listed_of run.design.tree run.request) (plan_hub run.design.circuit run.design.tree run.request) m part
       → run_state part.piece (part_start part.held part.memories part.clocks start) (part_rows (map (plan_seen run.design run.request m) part.globals) run.rows) n ≡ part_state part.held part.memories (last_state run)
   part-stands m part cut =
-      let given = run.given in
+      let given = run-alone run none in
       let mine = map (plan_seen run.design run.request m) part.globals in
       let begin = part_start part.held part.memories part.clocks start in
       let seen_is = plan-part run.design run.request given.design_is given.keeps given.held given.faultless m part cut in
@@ -84,7 +85,7 @@ module _ (plan : Plan) (start : Start) (columns : List (List ℕ)) (n : ℕ) (fl
       → (memory : IsMemoryOf (part_start part.held part.memories part.clocks start) part machine)
       → run_state memory.alone.piece (record { cycle = start.cycle; state = part_state [] part.memories start.state; ratios = part_ratios part.clocks start.ratios }) (part_rows (map (plan_seen run.design run.request m) (map (value_at part.globals) (part.piece.ins ++ part.piece.outs))) run.rows) n ≡ part_state [] part.memories (last_state run)
   alone-stands m part machine cut one memory =
-      let given = run.given in
+      let given = run-alone run none in
       let alone = memory.alone in
       let piece = alone.piece in
       let seen = plan_seen run.design run.request m in
@@ -149,12 +150,16 @@ module _ (plan : Plan) (start : Start) (columns : List (List ℕ)) (n : ℕ) (fl
     state-is : (m : ℕ) (body : Body) → m < length plan.machines → (machine_in plan m).body ≡ body → state_in (states_of plan start.state) m ≡ body_state body start.state
     state-is m body lt e = get_or-map (λ (machine : planned.Machine). body_state machine.body start.state) plan.machines m nameless no_state lt ∙ ap (λ b. body_state b start.state) e
 
-    rows-are : (m : ℕ) (body : Body) → m < length plan.machines → (machine_in plan m).body ≡ body → rows_at (rows_of run.design run.request plan run.rows) m ≡ body_rows (plan_seen run.design run.request m) body run.rows
+    -- the number of the first signal of a model of machine m, which counts for a bridge alone
+    abbrev behind : ℕ → ℕ
+    behind m = length all.signals + models_in (take m plan.machines)
+
+    rows-are : (m : ℕ) (body : Body) → m < length plan.machines → (machine_in plan m).body ≡ body → rows_at (rows_of run.design run.request plan run.rows) m ≡ body_rows (plan_seen run.design run.request m) (length (plan_reference run.design run.request).signals + models_in (take m plan.machines)) body run.rows
     rows-are m body lt e =
         let same : 0 + m ≡ m = omega arith in
-        rows-at (plan_seen run.design run.request) 0 plan.machines run.rows m lt
-        ∙ ap (λ k. body_rows (plan_seen run.design run.request k) (machine_in plan m).body run.rows) same
-        ∙ ap (λ b. body_rows (plan_seen run.design run.request m) b run.rows) e
+        rows-at (plan_seen run.design run.request) 0 (length all.signals) plan.machines run.rows m lt
+        ∙ ap (λ k. body_rows (plan_seen run.design run.request k) (behind m) (machine_in plan m).body run.rows) same
+        ∙ ap (λ b. body_rows (plan_seen run.design run.request m) (behind m) b run.rows) e
 
     -- the numbers of a part's registers and memories are the design's
     registers-known : (m : ℕ) (part : Part) → IsCutPart run.design (listed_of run.design.tree run.request) (plan_hub run.design.circuit run.design.tree run.request) m part → All (λ r. r < length run.design.circuit.registers) part.held
@@ -197,18 +202,19 @@ module _ (plan : Plan) (start : Start) (columns : List (List ℕ)) (n : ℕ) (fl
           known_memories = memories-known m part cut;
         }
 
-    body-stands : (m : ℕ) (body : Body) → m < length plan.machines → (machine_in plan m).body ≡ body → IsBody run.design (listed_of run.design.tree run.request) (plan_hub run.design.circuit run.design.tree run.request) m body → IsBuilt columns (length (machine_in plan m).outs) (body_start start body) body (machine_at stand.of_plan.machines m)
+    body-stands : (m : ℕ) (body : Body) → m < length plan.machines → (machine_in plan m).body ≡ body → IsBody run.design run.request run.models (listed_of run.design.tree run.request) (plan_hub run.design.circuit run.design.tree run.request) m body → IsBuilt columns (length (machine_in plan m).outs) (body_start start body) body (machine_at stand.of_plan.machines m)
         → HoldsBody (last_state run) (length run.design.circuit.registers) (length run.design.circuit.memories) body (machine_at net.machines m)
     body-stands m (Cut part) lt e body built = unit-stands m part lt e body.1 built
     body-stands m (Memory part) lt e body built =
-        let given = run.given in
+        let given = run-alone run none in
         let own = memory-part run.design run.request m part given.design_is given.keeps (faultless-apart run.design run.request given.faultless given.keeps.fitting) (plan-routed run.design run.request given.design_is given.keeps given.faultless) body.0 body.1 body.2 (faultless-few run.design run.request given.faultless) in
         memory-stands m part lt e body.2 own.1.count built
     body-stands m (Source place) lt e body built = tt
     body-stands m Tray lt e body built = tt
+    body-stands m (Bridge bridge) lt e body built = no-bridge run.design run.request run.models run.default plan columns n start run.rows run.given none m lt body.0
 
     stand-all : (m : ℕ) → m < length plan.machines → HoldsBody (last_state run) (length run.design.circuit.registers) (length run.design.circuit.memories) (machine_in plan m).body (machine_at net.machines m)
-    stand-all m lt = body-stands m (machine_in plan m).body lt refl (run.given.planned.machine m nameless lt).body (stand.of_plan.built.each m lt)
+    stand-all m lt = body-stands m (machine_in plan m).body lt refl ((run-alone run none).planned.machine m nameless lt).body (stand.of_plan.built.each m lt)
 
     pub inside : IsFresh run.design.circuit → AreIn run.design.circuit plan net (last_state run)
-    inside fresh = record { sizes = last-sizes plan start columns n flow run fresh; each = stand-all }
+    inside fresh = record { sizes = last-sizes plan start columns n flow run none fresh; each = stand-all }

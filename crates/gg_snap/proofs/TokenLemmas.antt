@@ -1,5 +1,5 @@
 -- At the end of a run the channel of each pipe has what the pipe's register has.
-use Rattle.std.proofs.Common.{◌≡◌, ℕ, zero, suc, ◌+◌, ◌<◌, ◌≤◌, List, ◌∷◌, ◌++◌, drop, replicate, length, get_or, true, Some, sym, ap, ap₂, ◌∙◌, subst, arith, ◌⊎◌, inl, inr}
+use Rattle.std.proofs.Common.{◌≡◌, ℕ, zero, suc, ◌+◌, ◌<◌, ◌≤◌, List, [], ◌∷◌, ◌++◌, drop, replicate, length, get_or, true, Some, sym, ap, ap₂, ◌∙◌, subst, arith, ◌⊎◌, inl, inr}
 use Rattle.std.proofs.lemmas.Bool.{cases_lt}
 use Rattle.std.proofs.lemmas.List.{get_or-drop, length-drop, length-map}
 use Rattle.std.proofs.lemmas.List.FromFn.{get_or-map-range_with_len}
@@ -31,6 +31,7 @@ use Rattle.gg_build.specs.Build.{IsToRunFrom, run_token}
 use Rattle.gg_run.specs.Rows.{StandsAt}
 use Rattle.gg_snap.specs.Gathered.{ArePipes, IsAll, newest, newest_tokens, pipe_number}
 use Rattle.gg_snap.specs.Whole.{last_state}
+use Rattle.gg_snap.proofs.AloneLemmas.{run-alone}
 use Rattle.gg_snap.proofs.EndLemmas.{last-token}
 use Rattle.gg_snap.proofs.AllLemmas.{memories-kept}
 use Rattle.gg_snap.proofs.HolderLemmas.{registers-held}
@@ -55,12 +56,12 @@ module _ (all : FlatCircuit) (g r s : ℕ) (pipe : IsPipe all g r s) (start : St
       ∙ sym (shifted-here start.cycle (value_at start.state.registers r) (drop start.cycle (column rows s)))
       ∙ ap (value_at (replicate start.cycle 0 ++ value_at start.state.registers r ∷ drop start.cycle (column rows s))) (sym same)
 
-module _ (plan : Plan) (start : Start) (columns : List (List ℕ)) (n : ℕ) (flow : Flow) (run : IsToRunFrom plan start columns n flow) where
+module _ (plan : Plan) (start : Start) (columns : List (List ℕ)) (n : ℕ) (flow : Flow) (run : IsToRunFrom plan start columns n flow) (none : run.request.bridges ≡ []) where
   abbrev all : FlatCircuit
   all = plan_reference run.design run.request
 
   counts : length start.state.registers ≡ length (plan_reference run.design run.request).registers
-  counts = run.given.typed.typed.count ∙ length-map all.registers (λ (register : Register). shape register.ty)
+  counts = (run-alone run none).typed.typed.count ∙ length-map all.registers (λ (register : Register). shape register.ty)
 
   -- ---- one pipe
 
@@ -75,15 +76,15 @@ module _ (plan : Plan) (start : Start) (columns : List (List ℕ)) (n : ℕ) (fl
     pipes = pipes_of (plan_hub run.design.circuit run.design.tree run.request)
 
     there : pipe_number plan.channels (get_or plan.channels c any).signal < length (pipes_of (plan_hub run.design.circuit run.design.tree run.request))
-    there = pipe-there run.design run.request run.default plan run.given.planned run.given.design_is run.given.keeps run.given.faultless c any lt pipe
+    there = pipe-there run.design run.request run.models run.default plan (run-alone run none).planned (run-alone run none).design_is (run-alone run none).keeps (run-alone run none).faultless c any lt pipe
 
     of : value_at (pipes_of (plan_hub run.design.circuit run.design.tree run.request)) (pipe_number plan.channels (get_or plan.channels c any).signal) ≡ (get_or plan.channels c any).signal
-    of = pipe-is run.design run.request run.default plan run.given.planned run.given.design_is run.given.keeps run.given.faultless c any lt pipe
+    of = pipe-is run.design run.request run.models run.default plan (run-alone run none).planned (run-alone run none).design_is (run-alone run none).keeps (run-alone run none).faultless c any lt pipe
 
     register-is : IsPipe (plan_reference run.design run.request) (length run.design.circuit.signals + pipe_number plan.channels (get_or plan.channels c any).signal) (length run.design.circuit.registers + pipe_number plan.channels (get_or plan.channels c any).signal) (get_or plan.channels c any).signal
     register-is =
-        let reference = plan-made run.design run.request run.given.design_is run.given.keeps run.given.held run.given.faultless in
-        let low = known-signals run.design run.request run.default plan run.given.planned run.given.design_is run.given.keeps run.given.faultless c any lt in
+        let reference = plan-made run.design run.request (run-alone run none).design_is (run-alone run none).keeps (run-alone run none).held (run-alone run none).faultless in
+        let low = known-signals run.design run.request run.models run.default plan (run-alone run none).planned (run-alone run none).design_is (run-alone run none).keeps (run-alone run none).faultless c any lt in
         let sink = shape_at (signal_shapes run.design.circuit) (value_at pipes number) in
         record {
           known = omega (arith, there, reference.signals);
@@ -96,7 +97,7 @@ module _ (plan : Plan) (start : Start) (columns : List (List ℕ)) (n : ℕ) (fl
         }
 
     token : plan_token run.design run.request start.state (get_or plan.channels c any).signal ≡ value_at start.state.registers (length run.design.circuit.registers + pipe_number plan.channels (get_or plan.channels c any).signal)
-    token = token-is run.design run.request run.default plan run.given.planned run.given.design_is run.given.keeps run.given.faultless c any lt pipe start.state
+    token = token-is run.design run.request run.models run.default plan (run-alone run none).planned (run-alone run none).design_is (run-alone run none).keeps (run-alone run none).faultless c any lt pipe start.state
 
     list-is : list_at flow.lists c ≡ replicate start.cycle 0 ++ value_at start.state.registers (length run.design.circuit.registers + pipe_number plan.channels (get_or plan.channels c any).signal) ∷ drop start.cycle (column run.rows (get_or plan.channels c any).signal)
     list-is =
@@ -106,7 +107,7 @@ module _ (plan : Plan) (start : Start) (columns : List (List ℕ)) (n : ℕ) (fl
 
     held-last : value_at (last_state run).registers (length run.design.circuit.registers + pipe_number plan.channels (get_or plan.channels c any).signal) ≡ value_at (list_at flow.lists c) n
     held-last =
-        last-value all (length run.design.circuit.signals + number) (length run.design.circuit.registers + number) channel.signal register-is start counts columns run.rows n run.given.run (cases_lt start.cycle n)
+        last-value all (length run.design.circuit.signals + number) (length run.design.circuit.registers + number) channel.signal register-is start counts columns run.rows n (run-alone run none).run (cases_lt start.cycle n)
         ∙ ap (λ (l : List ℕ). value_at l n) (sym list-is)
 
   -- ---- all pipes
@@ -128,11 +129,11 @@ module _ (plan : Plan) (start : Start) (columns : List (List ℕ)) (n : ℕ) (fl
     tokens-held : IsFresh run.design.circuit → ArePipes plan.channels (length run.design.circuit.signals) (newest_tokens net.queues (length plan.channels)) (drop (length run.design.circuit.registers) (last_state run).registers)
     tokens-held fresh = record {
       count =
-          let given = run.given in
+          let given = run-alone run none in
           let reference = plan-made run.design run.request given.design_is given.keeps given.held given.faultless in
-          let typed = last-typed plan start columns n flow run fresh in
+          let typed = last-typed plan start columns n flow run none fresh in
           let long = typed.typed.count ∙ length-map all.registers (λ (register : Register). shape register.ty) in
-          let same = ap length (pipes-are run.design run.request run.default plan given.planned given.design_is given.keeps given.faultless) in
+          let same = ap length (pipes-are run.design run.request run.models run.default plan given.planned given.design_is given.keeps given.faultless) in
           omega (arith, length-drop (length run.design.circuit.registers) (last_state run).registers, long, reference.registers, same);
       each = λ c any lt pipe.
           get_or-drop (length run.design.circuit.registers) (last_state run).registers (pipe_number plan.channels (get_or plan.channels c any).signal) 0
@@ -143,14 +144,14 @@ module _ (plan : Plan) (start : Start) (columns : List (List ℕ)) (n : ℕ) (fl
 
     pub everything : IsFresh run.design.circuit → AllHeld run.design.circuit → IsAll run.design.circuit plan net (last_state run)
     everything fresh held =
-        let given = run.given in
+        let given = run-alone run none in
         let reference = plan-made run.design run.request given.design_is given.keeps given.held given.faultless in
-        let typed = last-typed plan start columns n flow run fresh in
+        let typed = last-typed plan start columns n flow run none fresh in
         let long = typed.typed.count ∙ length-map all.registers (λ (register : Register). shape register.ty) in
         record {
           register_count = omega (arith, long, reference.registers);
           bank_count = typed.held.count ∙ reference.memories;
-          registers = registers-held run.design run.request run.default plan given.planned given.design_is given.keeps given.faultless held;
-          memories = memories-kept run.design run.request run.default plan given.planned given.keeps;
+          registers = registers-held run.design run.request run.models run.default plan given.planned given.design_is given.keeps given.faultless held;
+          memories = memories-kept run.design run.request run.models run.default plan given.planned given.keeps;
           pipes = tokens-held fresh;
         }

@@ -8,7 +8,7 @@ use Rattle.gg_flat.specs.Line.{value_at}
 use Rattle.gg_flat.specs.Memory.{bank_at}
 use Rattle.gg_flat.specs.State.{State, opening}
 use Rattle.gg_cut.specs.declared.plan.Body.{Body}
-use Rattle.gg_cut.specs.declared.plan.Body.TheVariants.{Cut, Memory, Source, Tray}
+use Rattle.gg_cut.specs.declared.plan.Body.TheVariants.{Cut, Memory, Source, Tray, Bridge}
 use Rattle.gg_cut.specs.declared.plan.Channel.{Channel}
 use Rattle.gg_cut.specs.declared.plan.Plan.{Plan}
 use Rattle.gg_node.specs.Machine.{Machine, RunsPiece, machine_at}
@@ -21,12 +21,13 @@ pub record IsRunning (machine : Machine) : Type 0 where
   pub piece : FlatCircuit
   pub is : machine.behaviour ≡ RunsPiece piece
 
--- the registers of the circuit that a machine with this body holds
+-- The registers of the circuit that a machine with this body holds. A bridge has none of them: its model's are its own.
 abbrev pub held_by : Body → List ℕ
 held_by (Cut part) = part.held
 held_by (Memory part) = []
 held_by (Source place) = []
 held_by Tray = []
+held_by (Bridge bridge) = []
 
 -- its memories
 abbrev pub kept_by : Body → List ℕ
@@ -34,6 +35,7 @@ kept_by (Cut part) = part.memories
 kept_by (Memory part) = part.memories
 kept_by (Source place) = []
 kept_by Tray = []
+kept_by (Bridge bridge) = []
 
 -- A machine is in its part of a state. The registers and memories of the part are among as many.
 pub record HoldsPart (whole : State) (registers banks : ℕ) (held memories : List ℕ) (machine : Machine) : Type 0 where
@@ -42,11 +44,14 @@ pub record HoldsPart (whole : State) (registers banks : ℕ) (held memories : Li
   pub known_registers : All (λ r. r < registers) held
   pub known_memories : All (λ m. m < banks) memories
 
+-- A machine with this body is in its part of a state. A source and a tray have none. A state is one of a circuit without bridges, so no
+-- machine is a bridge.
 abbrev pub HoldsBody : State → (registers banks : ℕ) → Body → Machine → Type 0
 HoldsBody whole registers banks (Cut part) machine = HoldsPart whole registers banks part.held part.memories machine
 HoldsBody whole registers banks (Memory part) machine = HoldsPart whole registers banks [] part.memories machine
 HoldsBody whole registers banks (Source place) machine = ⊤
 HoldsBody whole registers banks Tray machine = ⊤
+HoldsBody whole registers banks (Bridge bridge) machine = ⊥
 
 -- Each machine of the plan's network is in its part of a state of the circuit.
 pub record AreIn (circuit : FlatCircuit) (plan : Plan) (net : Network) (whole : State) : Type 0 where

@@ -1,7 +1,7 @@
 -- The state of the reference circuit that a plan's network is in at the end of its run, and the network that begins with a state.
 -- Source: MEMOCODE 2009 (a network of machines has the state of the synchronous circuit that it was cut from, each machine its part, and a
 -- pipe's register is the token in its channel).
-use Rattle.std.specs.Prelude.{◌≡◌, ℕ, drop, List}
+use Rattle.std.specs.Prelude.{◌≡◌, ℕ, drop, List, []}
 use Rattle.gg_flat.specs.Run.{Start, since, state_at}
 use Rattle.gg_flat.specs.State.{State}
 use Rattle.gg_flat.specs.Streams.{Flow}
@@ -12,19 +12,21 @@ use Rattle.gg_net.specs.Network.{Network}
 use Rattle.gg_build.specs.Build.{IsToRunFrom, run_token}
 use Rattle.gg_run.specs.Rows.{StandsAt}
 
--- the state of the reference circuit after the last cycle of a run
+-- The state of the reference circuit after the last cycle of a run. Without bridges the run is one of the reference circuit.
 abbrev pub last_state : {plan : Plan} {start : Start} {columns : List (List ℕ)} {n : ℕ} {flow : Flow} → IsToRunFrom plan start columns n flow → State
 last_state {start = start} {n = n} run = state_at (plan_reference run.design run.request) start (drop start.cycle run.rows) (since start.cycle n)
 
--- The network of a plan of a design stands at the end of its run.
+-- The network of a plan of a design stands at the end of its run. The plan has no bridges.
 pub record HasEnded (plan : Plan) (design : Ordered) (start : Start) (columns : List (List ℕ)) (n : ℕ) (flow : Flow) (net : Network) : Type 0 where
   pub run : IsToRunFrom plan start columns n flow
   pub of_design : run.design ≡ design
+  pub alone : run.request.bridges ≡ []
   pub stands : StandsAt plan start (run_token run) columns n n net
 
--- The network of a plan of a design can be run from this cycle and this state.
+-- The network of a plan of a design can be run from this cycle and this state. The plan has no bridges.
 pub record CanBegin (plan : Plan) (design : Ordered) (cycle : ℕ) (state : State) (start : Start) (columns : List (List ℕ)) (n : ℕ) (flow : Flow) : Type 0 where
   pub run : IsToRunFrom plan start columns n flow
   pub of_design : run.design ≡ design
+  pub alone : run.request.bridges ≡ []
   pub at_cycle : start.cycle ≡ cycle
   pub in_state : start.state ≡ state

@@ -1,5 +1,5 @@
 //! The state of a circuit, gathered from a network.
-ghost use Rattle.std.specs.Prelude.{◌≡◌, ℕ, ◌<◌, ◌≤◌, ◌^◌, All, IfOk, MatchOption, length};
+ghost use Rattle.std.specs.Prelude.{◌≡◌, ℕ, ◌<◌, ◌≤◌, ◌^◌, All, IfOk, MatchOption, OnOk, length};
 ghost use Rattle.gg_flat.specs.Memory.{bank_at};
 ghost use Rattle.gg_flat.specs.State.{State, opening};
 ghost use Rattle.gg_cut.specs.declared.plan.Plan.{Plan};
@@ -10,6 +10,7 @@ ghost use Rattle.gg_snap_text.specs.Parts.{HasPart, HasSizeOf};
 ghost use Rattle.gg_snap.specs.Gathered.{AreApart, AreDone, AreIn, HoldsBody, HoldsPart, IsAll, IsRunning, IsSized, held_by, kept_by, newest, newest_tokens};
 
 use crate::pipes::pipes_of;
+use gg_bridge::Bridge;
 use gg_build::Node;
 use gg_cut::{Body, Machine, Plan};
 use gg_flat::{Piece, State, Streams};
@@ -17,51 +18,62 @@ use gg_net::Net;
 use gg_snap_text::Draft;
 use std::alloc::{AllocError, Global};
 
-// The state of a thread's machine, if it runs a piece.
-fn state_of<'n>(node: &'n Node<'_>, thread: u32) -> Option<&'n State>
+// The state of a thread's machine, if it runs a piece. A bridge's host can't tell its state: the network of a plan without bridges has no
+// such host.
+fn state_of<'n, B: Bridge + Drop>(
+    node: &'n Node<'_, B>,
+    thread: u32,
+) -> Result<Option<&'n State>, AllocError>
     requires { thread < length (machines_of node.now) }
-    ensures { MatchOption result (IsRunning (machine_at (machines_of node.now) thread) → ⊥) (λ state. state.now ≡ (machine_at (machines_of node.now) thread).state) }
+    ensures { IfOk result (λ found. MatchOption found (IsRunning (machine_at (machines_of node.now) thread) → ⊥) (λ state. state.now ≡ (machine_at (machines_of node.now) thread).state)) }
 {
     match node {
-        Node::Unit(host) => Some(host.state(thread)),
-        Node::Shared(host) => Some(host.state(thread)),
-        Node::Memory(host) => Some(host.state(thread)),
+        Node::Unit(host) => Ok(Some(host.state(thread))),
+        Node::Shared(host) => Ok(Some(host.state(thread))),
+        Node::Memory(host) => Ok(Some(host.state(thread))),
         Node::Source(host) => {
             let _ = host.column();
-            None
+            Ok(None)
         }
         Node::Tray(host) => {
             let _ = host.value(0);
-            None
+            Ok(None)
         }
+        Node::Bridge(_) => Err(AllocError),
     }
 }
 
 // Puts the state of a machine at the registers and memories that it has.
-fn put<Z: Streams>(
+fn put<B: Bridge + Send + Drop, Z: Streams>(
     draft: &mut Draft,
-    net: &Net<Node<'_>, Z>,
+    net: &Net<Node<'_, B>, Z>,
     machine: u32,
     held: &[u32],
     memories: &[u32],
-)
+) -> Result<(), AllocError>
     requires known { machine < length net.now.machines }
     requires holds { (whole : State) × HoldsPart whole (length draft.old.registers) (length draft.old.banks) held.now memories.now (machine_at net.now.machines machine) × ((m : ℕ) → HasSizeOf (bank_at whole.banks m) (bank_at draft.old.banks m)) }
-    ensures sizes { (m : ℕ) → HasSizeOf (bank_at draft.new.banks m) (bank_at draft.old.banks m) }
-    ensures part { (whole : State) → HoldsPart whole (length draft.old.registers) (length draft.old.banks) held.now memories.now (machine_at net.now.machines machine) → HasPart whole held.now memories.now draft.old draft.new }
+    ensures sizes { OnOk result ((m : ℕ) → HasSizeOf (bank_at draft.new.banks m) (bank_at draft.old.banks m)) }
+    ensures part { OnOk result ((whole : State) → HoldsPart whole (length draft.old.registers) (length draft.old.banks) held.now memories.now (machine_at net.now.machines machine) → HasPart whole held.now memories.now draft.old draft.new) }
 {
     let (node, thread) = net.seat(machine);
-    if let Some(state) = state_of(node, thread) {
+    if let Some(state) = state_of(node, thread)? {
         draft.put_part(held, memories, state);
     }
+    Ok(())
 }
 
 // Puts the state of a machine of a plan.
-fn put_machine<Z: Streams>(draft: &mut Draft, net: &Net<Node<'_>, Z>, machine: u32, body: &Body)
+fn put_machine<B: Bridge + Send + Drop, Z: Streams>(
+    draft: &mut Draft,
+    net: &Net<Node<'_, B>, Z>,
+    machine: u32,
+    body: &Body,
+) -> Result<(), AllocError>
     requires known { machine < length net.now.machines }
     requires holds { (whole : State) × HoldsBody whole (length draft.old.registers) (length draft.old.banks) body.now (machine_at net.now.machines machine) × ((m : ℕ) → HasSizeOf (bank_at whole.banks m) (bank_at draft.old.banks m)) }
-    ensures sizes { (m : ℕ) → HasSizeOf (bank_at draft.new.banks m) (bank_at draft.old.banks m) }
-    ensures part { (whole : State) → HoldsBody whole (length draft.old.registers) (length draft.old.banks) body.now (machine_at net.now.machines machine) → HasPart whole (held_by body.now) (kept_by body.now) draft.old draft.new }
+    ensures sizes { OnOk result ((m : ℕ) → HasSizeOf (bank_at draft.new.banks m) (bank_at draft.old.banks m)) }
+    ensures part { OnOk result ((whole : State) → HoldsBody whole (length draft.old.registers) (length draft.old.banks) body.now (machine_at net.now.machines machine) → HasPart whole (held_by body.now) (kept_by body.now) draft.old draft.new) }
 {
     match body {
         Body::Cut(part) => put(
@@ -72,12 +84,12 @@ fn put_machine<Z: Streams>(draft: &mut Draft, net: &Net<Node<'_>, Z>, machine: u
             part.memories.as_slice(),
         ),
         Body::Memory(part) => put(draft, net, machine, &[], part.memories.as_slice()),
-        Body::Source(_) | Body::Tray => {}
+        Body::Source(_) | Body::Tray | Body::Bridge(_) => Ok(()),
     }
 }
 
 // The last token of a channel; 0 if it has none.
-fn newest_of<Z: Streams>(net: &Net<Node<'_>, Z>, channel: u32) -> u128
+fn newest_of<B: Bridge + Send + Drop, Z: Streams>(net: &Net<Node<'_, B>, Z>, channel: u32) -> u128
     requires { channel < length net.now.wires }
     ensures { result ≡ newest (queue_at net.now.queues channel) }
 {
@@ -85,9 +97,9 @@ fn newest_of<Z: Streams>(net: &Net<Node<'_>, Z>, channel: u32) -> u128
 }
 
 // The last token of each channel.
-fn newest_tokens<Z: Streams>(
+fn newest_tokens<B: Bridge + Send + Drop, Z: Streams>(
     alloc: Global,
-    net: &Net<Node<'_>, Z>,
+    net: &Net<Node<'_, B>, Z>,
     count: usize,
 ) -> Result<Vec<u128>, AllocError>
     requires count { count ≡ length net.now.wires }
@@ -102,9 +114,9 @@ fn newest_tokens<Z: Streams>(
 }
 
 // What the machines of a plan have of a state.
-fn gather_machines<Z: Streams>(
+fn gather_machines<B: Bridge + Send + Drop, Z: Streams>(
     alloc: Global,
-    net: &Net<Node<'_>, Z>,
+    net: &Net<Node<'_, B>, Z>,
     machines: &[Machine],
     piece: &Piece,
 ) -> Result<Draft, AllocError>
@@ -116,7 +128,7 @@ fn gather_machines<Z: Streams>(
 {
     let mut draft = Draft::new(alloc, piece)?;
     for m in 0..machines.len() {
-        put_machine(&mut draft, net, m as u32, &machines[m].body);
+        put_machine(&mut draft, net, m as u32, &machines[m].body)?;
     }
     Ok(draft)
 }
@@ -126,10 +138,10 @@ fn gather_machines<Z: Streams>(
 ///
 /// # Errors
 ///
-/// Returns `AllocError` if an allocation fails.
-pub(crate) fn gather<Z: Streams>(
+/// Returns `AllocError` if an allocation fails, or if a bridge's host has one of the machines.
+pub(crate) fn gather<B: Bridge + Send + Drop, Z: Streams>(
     alloc: Global,
-    net: &Net<Node<'_>, Z>,
+    net: &Net<Node<'_, B>, Z>,
     plan: &Plan,
     piece: &Piece,
 ) -> Result<State, AllocError>

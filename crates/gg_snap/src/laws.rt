@@ -1,7 +1,8 @@
 //! Laws: facts about snapshots. Each is the contract of a function with an empty body.
-ghost use Rattle.std.specs.Prelude.{◌≡◌, ◌<◌, ◌≤◌, ℕ, List, None, length};
+ghost use Rattle.std.specs.Prelude.{◌≡◌, ◌<◌, ◌≤◌, ℕ, List, [], None, length};
 ghost use Rattle.gg_flat.specs.Run.{Start};
 ghost use Rattle.gg_flat.specs.Streams.{Flow};
+ghost use Rattle.gg_cut.specs.Bridges.{Models};
 ghost use Rattle.gg_cut.specs.Fault.{first_fault};
 ghost use Rattle.gg_cut.specs.Held.{AreHeldOnce};
 ghost use Rattle.gg_cut.specs.Plan.{IsPlan};
@@ -32,17 +33,17 @@ pub fn plans_are_whole()
 
 /// The machines of a plan hold all registers of the design's circuit, and have all of its memories.
 pub fn plans_have_all()
-    ensures registers { (design : Ordered) (request : Request) (default : ℕ) (plan : Plan) → IsPlan design request default plan → IsDesign design → KeepsToTree design.circuit design.tree → AllHeld design.circuit → first_fault design request ≡ None
+    ensures registers { (design : Ordered) (request : Request) (models : Models) (default : ℕ) (plan : Plan) → IsPlan design request models default plan → IsDesign design → KeepsToTree design.circuit design.tree → AllHeld design.circuit → first_fault design request ≡ None
         → (r : ℕ) → r < length design.circuit.registers → IsHeldBy plan r }
-    ensures memories { (design : Ordered) (request : Request) (default : ℕ) (plan : Plan) → IsPlan design request default plan → IsDesign design → KeepsToTree design.circuit design.tree → AllHeld design.circuit → first_fault design request ≡ None
+    ensures memories { (design : Ordered) (request : Request) (models : Models) (default : ℕ) (plan : Plan) → IsPlan design request models default plan → IsDesign design → KeepsToTree design.circuit design.tree → AllHeld design.circuit → first_fault design request ≡ None
         → (k : ℕ) → k < length design.circuit.memories → IsKeptBy plan k }
 {}
 
-/// At the end of a run each machine of a plan's network is in its part of the state of the reference circuit, and the channel of each pipe
+/// At the end of a run each machine of the network of a plan without bridges is in its part of the state of the reference circuit, and the channel of each pipe
 /// has one token, what the pipe's register holds. So the network has all of that state.
 pub fn networks_hold_states()
-    ensures inside { (plan : Plan) (start : Start) (columns : List (List ℕ)) (n : ℕ) (flow : Flow) (run : IsToRunFrom plan start columns n flow) (net : Network) → IsFresh run.design.circuit → Kept flow net → StandsAt plan start (run_token run) columns n n net
+    ensures inside { (plan : Plan) (start : Start) (columns : List (List ℕ)) (n : ℕ) (flow : Flow) (run : IsToRunFrom plan start columns n flow) (net : Network) → run.request.bridges ≡ [] → IsFresh run.design.circuit → Kept flow net → StandsAt plan start (run_token run) columns n n net
         → AreIn run.design.circuit plan net (last_state run) }
-    ensures all { (plan : Plan) (start : Start) (columns : List (List ℕ)) (n : ℕ) (flow : Flow) (run : IsToRunFrom plan start columns n flow) (net : Network) → IsFresh run.design.circuit → AllHeld run.design.circuit → Kept flow net → StandsAt plan start (run_token run) columns n n net
+    ensures all { (plan : Plan) (start : Start) (columns : List (List ℕ)) (n : ℕ) (flow : Flow) (run : IsToRunFrom plan start columns n flow) (net : Network) → run.request.bridges ≡ [] → IsFresh run.design.circuit → AllHeld run.design.circuit → Kept flow net → StandsAt plan start (run_token run) columns n n net
         → IsAll run.design.circuit plan net (last_state run) }
 {}

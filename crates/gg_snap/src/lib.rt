@@ -4,9 +4,10 @@
 //! design's circuit with a register for each pipe. So it doesn't depend on units, hosts or capacities. The crate promises:
 //!
 //! - [`snapshot`] gathers the state of the reference circuit from a network at the end of its run: from each machine its part, and from the
-//!   queue of each channel with a pipe the pipe's token. It is the state of the run after the network's last cycle;
-//! - [`restore`] builds the network of a plan that begins with a snapshot's cycle and state: each machine with its part, and each channel
-//!   with a pipe with the pipe's token;
+//!   queue of each channel with a pipe the pipe's token. It is the state of the run after the network's last cycle. The plan has no
+//!   bridges;
+//! - [`restore`] builds the network of a plan without bridges that begins with a snapshot's cycle and state: each machine with its part, and
+//!   each channel with a pipe with the pipe's token;
 //! - the reference circuit of a plan can be saved ([`plans_can_save`]), and a snapshot's text has all of its state ([`plans_are_whole`]).
 //!
 //! Both take time linear in the plan, its pieces, the state and the trace.

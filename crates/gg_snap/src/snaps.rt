@@ -8,6 +8,7 @@ ghost use Rattle.gg_snap.specs.Whole.{CanBegin, HasEnded, last_state};
 
 use crate::gathering::gather;
 use crate::pipes::tokens_of;
+use gg_bridge::Bridge;
 use gg_build::{Begin, Node, build_from};
 use gg_cut::Plan;
 use gg_net::{Net, Streams};
@@ -17,14 +18,15 @@ use gg_trace::Trace;
 use std::alloc::{AllocError, Global};
 
 /// The snapshot of a plan's network that stands at the end of its run: the cycle there, and the state of the reference circuit. `plan` is a
-/// plan of `design`, and `reference` has the reference circuit of the plan.
+/// plan of `design` without bridges, and `reference` has the reference circuit of the plan.
 ///
 /// # Errors
 ///
-/// Returns `AllocError` if an allocation fails.
-pub fn snapshot<'a, Z: Streams>(
+/// Returns `AllocError` if an allocation fails, or if a bridge's host has one of the machines: a bridge doesn't tell its state. The network
+/// that gg_build makes for a plan without bridges has no such host.
+pub fn snapshot<'a, B: Bridge + Send + Drop, Z: Streams>(
     alloc: Global,
-    net: &Net<Node<'_>, Z>,
+    net: &Net<Node<'_, B>, Z>,
     plan: &Plan,
     design: &Design,
     reference: &'a Design,
@@ -43,8 +45,8 @@ pub fn snapshot<'a, Z: Streams>(
     Ok(Snap::new(reference, cycle, state))
 }
 
-/// The network of a plan that begins with a snapshot's cycle and state. `plan` is a plan of `design`, and the snapshot is one of the
-/// reference circuit of the plan. The sources give the columns of a trace, from the snapshot's cycle on, which should be at most the
+/// The network of a plan that begins with a snapshot's cycle and state. `plan` is a plan of `design` without bridges, and the snapshot is
+/// one of the reference circuit of the plan. The sources give the columns of a trace, from the snapshot's cycle on, which should be at most the
 /// number of the trace's rows.
 ///
 /// Allocates all the memory that the network will use.
@@ -52,13 +54,13 @@ pub fn snapshot<'a, Z: Streams>(
 /// # Errors
 ///
 /// Returns `AllocError` if an allocation fails.
-pub fn restore<'p, Z: Streams>(
+pub fn restore<'p, B: Bridge + Send + Drop, Z: Streams>(
     alloc: Global,
     plan: &'p Plan,
     design: &Design,
     trace: &Trace,
     snap: Snap<'_>,
-) -> Result<Net<Node<'p>, Z>, AllocError>
+) -> Result<Net<Node<'p, B>, Z>, AllocError>
     requires { (start : Start) × CanBegin plan.now design.now snap.cycle snap.state start trace.now.columns trace.now.rows Z.flow }
     ensures { IfOk result (λ net. (start : Start) (can : CanBegin plan.now design.now snap.entry.cycle snap.entry.state start trace.now.columns trace.now.rows Z.flow) → IsOpeningFrom plan.now start (run_token can.run) trace.now.columns trace.now.rows net) }
 {
@@ -74,6 +76,6 @@ pub fn restore<'p, Z: Streams>(
         state: Some(state),
         tokens,
     };
-    let net = build_from::<Z>(alloc, plan, trace, &begin)?;
+    let net = build_from::<B, Z>(alloc, plan, trace, &begin, Vec::new(alloc))?;
     Ok(net)
 }

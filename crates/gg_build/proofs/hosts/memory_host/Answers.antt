@@ -10,7 +10,7 @@ use Rattle.gg_build.specs.Begin.{starts_of}
 use Rattle.gg_build.proofs.hosts.memory_host.Goals as goal
 
 pub from_state-requires-clause-state : goal.from_state-requires-clause-state
-from_state-requires-clause-state c =
+from_state-requires-clause-state g c =
     let part = c.args.part.now in
     let alone = c.in_ok-alone.alone in
     let cut = c.in_ok-alone.ensures in
@@ -20,7 +20,7 @@ from_state-requires-clause-state c =
     (IsState-part part.piece alone.piece alone.globals alone.held alone.memories alone.clocks cut.is_part own.state c.requires.begin))
 
 pub returns : goal.returns
-returns c =
+returns g c =
     let part = c.args.part.now in
     let alone = c.in_ok-alone.alone in
     let cut = c.in_ok-alone.ensures in

@@ -3,18 +3,18 @@ use Rattle.gg_net.specs.Seats.{machines_by}
 use Rattle.gg_net.specs.Net.{Opens, opening_net}
 use Rattle.gg_build.specs.Begin.{AreTokens}
 use Rattle.gg_build.proofs.BeginLemmas.{begins-within}
-use Rattle.gg_build.proofs.ReadyLemmas.{all-ready, faultless}
+use Rattle.gg_build.proofs.ReadyLemmas.{all-named, all-ready, faultless}
 use Rattle.gg_build.proofs.OpenLemmas.{lists_of, opens, started}
 use Rattle.gg_build.proofs.opening.started.Goals as goal
 
 pub seats_of-requires-clause-ready : goal.seats_of-requires-clause-ready
-seats_of-requires-clause-ready g c = all-ready c.args.plan.now c.args.begin.now c.args.trace.now.columns c.args.trace.now.rows g.Z.Streams.flow c.requires
+seats_of-requires-clause-ready g c = all-ready c.args.plan.now c.args.begin.now c.args.trace.now.columns c.args.trace.now.rows g.Z.Streams.flow c.requires.run
 
 pub seats_of-requires-clause-cycle : goal.seats_of-requires-clause-cycle
-seats_of-requires-clause-cycle g c = begins-within c.args.plan.now c.args.begin.now c.args.trace.now.columns c.args.trace.now.rows g.Z.Streams.flow c.requires
+seats_of-requires-clause-cycle g c = begins-within c.args.plan.now c.args.begin.now c.args.trace.now.columns c.args.trace.now.rows g.Z.Streams.flow c.requires.run
 
 pub wires_of-requires : goal.wires_of-requires
-wires_of-requires g c = faultless c.args.plan.now c.args.begin.now c.args.trace.now.columns c.args.trace.now.rows g.Z.Streams.flow c.requires
+wires_of-requires g c = faultless c.args.plan.now c.args.begin.now c.args.trace.now.columns c.args.trace.now.rows g.Z.Streams.flow c.requires.run
 
 pub new-requires-after_bounds : goal.new-requires-after_bounds
 new-requires-after_bounds g c κs within =
@@ -26,7 +26,7 @@ new-requires-after_bounds g c κs within =
     let stations = c.in_ok-hosts.field-0.stations.items in
     let wires = c.in_ok-wires.wires.items in
     subst (Opens g.Z.Streams.flow (lists_of plan begin columns n hosts stations c.in_ok-hosts.ensures) stations wires) (sym c.rows-end.ensures.count)
-    (opens plan begin columns n hosts stations c.in_ok-hosts.ensures g.Z.Streams.flow c.requires wires
+    (opens plan begin columns n hosts stations c.in_ok-hosts.ensures g.Z.Streams.flow c.requires.run wires
     (λ token have. c.in_ok-wires.ensures token (subst (AreTokens plan.channels token) (sym c.deref.ensures.value) have)))
 
 pub returns : goal.returns
@@ -41,3 +41,6 @@ returns g c =
     started plan begin columns n hosts stations c.in_ok-hosts.ensures wires c.in_ok-net.net
     (λ token have. c.in_ok-wires.ensures token (subst (AreTokens plan.channels token) (sym c.deref.ensures.value) have))
     (subst (λ k. c.in_ok-net.net ≡ opening_net (machines_by (lists_of plan begin columns n hosts stations c.in_ok-hosts.ensures) stations) wires k) c.rows-end.ensures.count c.in_ok-net.ensures)
+
+pub seats_of-requires-clause-names : goal.seats_of-requires-clause-names
+seats_of-requires-clause-names g c = all-named c.args.plan.now c.args.begin.now c.args.trace.now.columns c.args.trace.now.rows g.Z.Streams.flow c.requires.run

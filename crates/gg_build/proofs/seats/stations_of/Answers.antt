@@ -11,7 +11,7 @@ use Rattle.gg_build.proofs.SeatLemmas.{stations-more}
 use Rattle.gg_build.proofs.seats.stations_of.Goals as goal
 
 pub loop-number-preserved : goal.loop-number-preserved
-loop-number-preserved c =
+loop-number-preserved g c =
     let machines = c.args.machines.now in
     let hosts = c.args.hosts.now in
     let threads = c.args.threads.now in
@@ -24,4 +24,4 @@ loop-number-preserved c =
     (λ any.
     let host : get_or nodes (value_at hosts m) any ≡ node = get_or_default nodes (value_at hosts m) any node (c.requires.known m c.loop-number-test.true) ∙ sym c.index-nodes-host.is in
     subst (λ (o : planned.Machine). IsStation o (value_at hosts m) (value_at threads m) (machine_at (machines_of (get_or nodes (value_at hosts m) any)) (value_at threads m)) c.in_ok-station.station) (sym machine)
-    (subst (λ (n : Node). IsStation own (value_at hosts m) (value_at threads m) (machine_at (machines_of n) (value_at threads m)) c.in_ok-station.station) (sym host) c.in_ok-station.ensures))
+    (subst (λ (n : Node _). IsStation own (value_at hosts m) (value_at threads m) (machine_at (machines_of n) (value_at threads m)) c.in_ok-station.station) (sym host) c.in_ok-station.ensures))

@@ -1,8 +1,9 @@
 use Rattle.std.proofs.Common.{◌≡◌, ◌-◌, Bool, length, refl, ap, ◌∙◌, arith}
 use Rattle.std.specs.Io.KnownBytes.{append_known}
-use Rattle.gg_pipe.specs.Made.{plan_reference}
+use Rattle.gg_bridged.specs.Whole.{plan_circuit}
 use Rattle.gg_told.proofs.EndingLemmas.{exit-is}
 use Rattle.gg_told.proofs.WritingLemmas.{none-front, on-then}
+use Rattle.gg_run.specs.Rows.{AreTraysOf}
 use Rattle.gg_run.specs.Printed.{RowForm, plan_stops, rows_since, shown_columns}
 use Rattle.gg_run.proofs.PrintLemmas.{header-stop, sink-went, stop-as}
 use Rattle.gg_run.proofs.PrintedLemmas.{ran-kept, ran-text}
@@ -17,13 +18,13 @@ returns-in_err-header-clause-prints g c = λ plan start columns n run opens from
 pub returns-in_err-put-clause-prints : goal.returns-in_err-put-clause-prints
 returns-in_err-put-clause-prints g c =
     λ plan start columns n run opens from same follows.
-    let all = plan_reference run.design run.request in
+    let all = plan_circuit run.design run.request run.models in
     let told = rows_since (plan_stops run.design run.request) all c.args.ports.now run.rows c.args.begin (n - c.args.begin) in
     rw (exit-is c.from_residual-in_err-put.ensures.1)
     (header-stop (Unit {0}) _ _ _ c.args.ports.now (shown_columns all c.args.ports.now run.rows) c.args.begin told c.as_bytes.result.now c.in_err-put.field-0.0 (c.as_bytes.ensures ∙ c.in_ok-header.ensures) c.in_err-put.ensures.prints)
 
 pub run_rows-requires-clause-outs : goal.run_rows-requires-clause-outs
-run_rows-requires-clause-outs g c = omega (arith, c.in_ok-values.ensures.len, c.requires.outs, ap length c.as_mut_slice.ensures.value)
+run_rows-requires-clause-outs g c = omega (arith, c.in_ok-values.ensures.len, c.requires.trays, ap length c.as_mut_slice.ensures.value)
 
 pub run_rows-requires-clause-can : goal.run_rows-requires-clause-can
 run_rows-requires-clause-can g c =
@@ -32,7 +33,8 @@ run_rows-requires-clause-can g c =
 pub returns-in_err-run_rows-clause-prints : goal.returns-in_err-run_rows-clause-prints
 returns-in_err-run_rows-clause-prints g c =
     λ plan start columns n run opens from same follows.
-    let counted : length c.as_mut_slice.result.now ≡ length run.design.circuit.outs = omega (arith, c.in_ok-values.ensures.len, same, ap length c.as_mut_slice.ensures.value) in
+    let counted : AreTraysOf run c.args.trays.first (length c.as_mut_slice.result.now) =
+    record { begin = same.begin; many = omega (arith, c.in_ok-values.ensures.len, same.many, ap length c.as_mut_slice.ensures.value) } in
     let form : c.new-printer.result ≡ record { ports = c.args.ports.now; stops = plan_stops run.design run.request } =
     c.new-printer.ensures ∙ ap (λ stops. record { ports = c.args.ports.now; stops = stops }) follows in
     let header = c.in_ok-put.ensures.prints ∙ ap (append_known (g.K.Sink.written c.args.out.now)) (c.as_bytes.ensures ∙ c.in_ok-header.ensures) in
@@ -43,7 +45,8 @@ returns-in_err-run_rows-clause-prints g c =
 pub returns-clause-prints : goal.returns-clause-prints
 returns-clause-prints g c =
     λ plan start columns n run opens from same follows.
-    let counted : length c.as_mut_slice.result.now ≡ length run.design.circuit.outs = omega (arith, c.in_ok-values.ensures.len, same, ap length c.as_mut_slice.ensures.value) in
+    let counted : AreTraysOf run c.args.trays.first (length c.as_mut_slice.result.now) =
+    record { begin = same.begin; many = omega (arith, c.in_ok-values.ensures.len, same.many, ap length c.as_mut_slice.ensures.value) } in
     let form : c.new-printer.result ≡ record { ports = c.args.ports.now; stops = plan_stops run.design run.request } =
     c.new-printer.ensures ∙ ap (λ stops. record { ports = c.args.ports.now; stops = stops }) follows in
     let header = c.in_ok-put.ensures.prints ∙ ap (append_known (g.K.Sink.written c.args.out.now)) (c.as_bytes.ensures ∙ c.in_ok-header.ensures) in
@@ -52,7 +55,8 @@ returns-clause-prints g c =
 pub returns-clause-kept : goal.returns-clause-kept
 returns-clause-kept g c =
     λ plan start columns n run opens from same follows.
-    let counted : length c.as_mut_slice.result.now ≡ length run.design.circuit.outs = omega (arith, c.in_ok-values.ensures.len, same, ap length c.as_mut_slice.ensures.value) in
+    let counted : AreTraysOf run c.args.trays.first (length c.as_mut_slice.result.now) =
+    record { begin = same.begin; many = omega (arith, c.in_ok-values.ensures.len, same.many, ap length c.as_mut_slice.ensures.value) } in
     let form : c.new-printer.result ≡ record { ports = c.args.ports.now; stops = plan_stops run.design run.request } =
     c.new-printer.ensures ∙ ap (λ stops. record { ports = c.args.ports.now; stops = stops }) follows in
     ran-kept g.K.Sink run c.args.begin from c.new-printer.result c.args.ports.now form c.args.net _ c.put.new.out c.run_rows.new.taken (c.in_ok-run_rows.ensures.ran plan start columns n run opens from counted)

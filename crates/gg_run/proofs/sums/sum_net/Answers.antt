@@ -1,15 +1,11 @@
-use Rattle.std.proofs.Common.{◌≡◌, ◌-◌, ◌≤◌, length, refl, ap, arith}
-use Rattle.std.proofs.lemmas.List.{length-map}
-use Rattle.gg_cut.specs.Direct.{plan_hub}
-use Rattle.gg_flat.specs.Circuit.{FlatCircuit}
-use Rattle.gg_order.specs.Design.{Ordered}
+use Rattle.std.proofs.Common.{◌≤◌, ◌≡◌, ◌-◌, length, refl, ap, arith}
 use Rattle.gg_build.specs.Build.{run_from_zeros, run_token}
 use Rattle.gg_pipe.specs.Follows.{plan_start}
-use Rattle.gg_pipe.specs.Links.{taken_as}
-use Rattle.gg_pipe.specs.Made.{plan_reference}
+use Rattle.gg_bridged.specs.Whole.{plan_circuit}
+use Rattle.gg_run.specs.Rows.{AreTraysOf}
 use Rattle.gg_run.proofs.FoldLemmas.{took-folds}
 use Rattle.gg_run.proofs.OpeningLemmas.{from-zeros}
-use Rattle.gg_run.proofs.OutputLemmas.{opening-is-net, outs-few}
+use Rattle.gg_run.proofs.OutputLemmas.{opening-is-net, outs-few, trays-told}
 use Rattle.gg_run.proofs.RunLemmas.{opening-stands}
 use Rattle.gg_run.proofs.sums.sum_net.Goals as goal
 
@@ -26,12 +22,12 @@ run_rows-ran-requires-clause-outs g c =
     let trace = c.args.inputs.now in
     let start = plan_start run.design run.request in
     let from = from-zeros c.args.plan.now trace.columns trace.rows g.Z.Streams.flow run c.in_ok-net.net c.in_ok-net.ensures in
+    let are = trays-told (run_from_zeros run) c.trays_of-trays.result.first c.trays_of-trays.result.count (c.trays_of-trays.ensures.first run.design run.request run.models run.default run.given.planned) (c.trays_of-trays.ensures.count run.design run.request run.models run.default run.given.planned) in
     omega (
       arith,
+      are.begin,
+      are.many,
       c.in_ok-outs.ensures.len,
-      ap length c.outs.ensures,
-      ap (λ (f : FlatCircuit). length f.outs) c.piece-piece.ensures.circuit,
-      ap (λ (d : Ordered). length d.circuit.outs) c.requires.run.1,
       ap length c.as_mut_slice.ensures.value,
       outs-few c.args.plan.now start trace.columns trace.rows g.Z.Streams.flow (run_from_zeros run) c.in_ok-net.net
           (opening-is-net c.args.plan.now start (run_token (run_from_zeros run)) trace.columns trace.rows c.in_ok-net.net from) c.kept.ensures,
@@ -39,38 +35,22 @@ run_rows-ran-requires-clause-outs g c =
 
 pub run_rows-ran-requires-clause-can : goal.run_rows-ran-requires-clause-can
 run_rows-ran-requires-clause-can g c =
-    omega (
-      arith,
-      c.requires.two,
-      c.in_ok-outs.ensures.len,
-      ap length c.outs.ensures,
-      ap (λ (f : FlatCircuit). length f.outs) c.piece-piece.ensures.circuit,
-      ap length c.as_mut_slice.ensures.value,
-    )
+    let run = c.requires.run.0 in
+    let are = trays-told (run_from_zeros run) c.trays_of-trays.result.first c.trays_of-trays.result.count (c.trays_of-trays.ensures.first run.design run.request run.models run.default run.given.planned) (c.trays_of-trays.ensures.count run.design run.request run.models run.default run.given.planned) in
+    omega (arith, c.requires.run.1.1, are.many, c.in_ok-outs.ensures.len, ap length c.as_mut_slice.ensures.value)
 
 pub returns-in-Ok : goal.returns-in-Ok
 returns-in-Ok g c =
     λ run same.
     let trace = c.args.inputs.now in
-    let reference = plan_reference run.design run.request in
     let whole : trace.rows - 0 ≡ trace.rows = omega arith in
     let from = from-zeros c.args.plan.now trace.columns trace.rows g.Z.Streams.flow run c.in_ok-net.net c.in_ok-net.ensures in
-    let counted : length c.as_mut_slice.result.now ≡ length run.design.circuit.outs =
-    omega (
-      arith,
-      c.in_ok-outs.ensures.len,
-      ap length c.outs.ensures,
-      ap (λ (f : FlatCircuit). length f.outs) c.piece-piece.ensures.circuit,
-      ap (λ (d : Ordered). length d.circuit.outs) same,
-      ap length c.as_mut_slice.ensures.value,
-    ) in
-    let two : 2 ≤ length reference.outs =
-    omega (
-      arith,
-      c.requires.two,
-      ap (λ (d : Ordered). length d.circuit.outs) same,
-      length-map run.design.circuit.outs (taken_as (plan_hub run.design.circuit run.design.tree run.request)),
-    ) in
+    let are = trays-told (run_from_zeros run) c.trays_of-trays.result.first c.trays_of-trays.result.count (c.trays_of-trays.ensures.first run.design run.request run.models run.default run.given.planned) (c.trays_of-trays.ensures.count run.design run.request run.models run.default run.given.planned) in
+    let one = c.requires.run.0 in
+    let ones = trays-told (run_from_zeros one) c.trays_of-trays.result.first c.trays_of-trays.result.count (c.trays_of-trays.ensures.first one.design one.request one.models one.default one.given.planned) (c.trays_of-trays.ensures.count one.design one.request one.models one.default one.given.planned) in
+    let two : 2 ≤ length (plan_circuit run.design run.request run.models).outs = omega (arith, c.requires.run.1.1, ones.many, are.many) in
+    let counted : AreTraysOf (run_from_zeros run) c.trays_of-trays.result.first (length c.as_mut_slice.result.now) =
+    record { begin = are.begin; many = omega (arith, are.many, c.in_ok-outs.ensures.len, ap length c.as_mut_slice.ensures.value) } in
     record {
       net = c.in_ok-net.net;
       opens = c.in_ok-net.ensures;
@@ -78,6 +58,6 @@ returns-in-Ok g c =
       machines = c.machines-machines.ensures;
       channels = c.channels-channels.ensures;
       steps = c.left-steps.ensures;
-      folds = took-folds reference run.rows trace.rows run.given.run.count two c.new-fold.result c.new-fold.ensures whole
+      folds = took-folds (plan_circuit run.design run.request run.models) run.rows trace.rows run.given.run.count two c.new-fold.result c.new-fold.ensures whole
           (c.in-Ok.ensures.ran c.args.plan.now (plan_start run.design run.request) trace.columns trace.rows (run_from_zeros run) from refl counted).took;
     }

@@ -24,11 +24,11 @@ loop-m-preserved g c =
     let drawn : (plan : Plan) (whole : State) → plan.machines ≡ machines → AreIn piece plan net whole → HasPart whole (held_by machine.body) (kept_by machine.body) old new = λ plan whole same in_all.
     let is = body-is plan machines m any same c.index-machines-m.is lt ∙ at in
     let here : m < length plan.machines = omega (arith, lt, ap length same) in
-    c.put_machine.ensures.part whole
+    c.in_ok-put_machine.ensures.part whole
     (holds-sized whole (length piece.registers) (length piece.memories) (length old.registers) (length old.banks) machine.body (machine_at net.machines m) (sym sized.registers) (sym sized.banks)
     (subst (λ b. HoldsBody whole (length piece.registers) (length piece.memories) b (machine_at net.machines m)) is (in_all.each m here))) in
     let some = c.requires.holds in (
-      sized-more piece some.1 old new (held_by machine.body) (kept_by machine.body) sized (drawn some.0 some.1 some.2 some.3) c.put_machine.ensures.sizes,
+      sized-more piece some.1 old new (held_by machine.body) (kept_by machine.body) sized (drawn some.0 some.1 some.2 some.3) c.in_ok-put_machine.ensures.sizes,
       λ plan whole same in_all. done-more plan whole old new m machine.body (body-is plan machines m any same c.index-machines-m.is lt ∙ at) (c.loop-m.invariant.1 plan whole same in_all) (drawn plan whole same in_all),
     )
 

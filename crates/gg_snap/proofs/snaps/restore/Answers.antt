@@ -4,7 +4,7 @@ use Rattle.gg_flat.specs.Circuit.{FlatCircuit}
 use Rattle.gg_flat.specs.State.{State}
 use Rattle.gg_cut.specs.declared.plan.Channel.{Channel}
 use Rattle.gg_build.specs.declared.begin.Begin.{Begin}
-use Rattle.gg_snap.proofs.BeginLemmas.{begins, registers-there, signals-there, to-begin, tokens-by}
+use Rattle.gg_snap.proofs.BeginLemmas.{begins, none-owed, registers-there, signals-there, to-begin, tokens-by}
 use Rattle.gg_snap.proofs.snaps.restore.Goals as goal
 
 pub tokens_of-requires : goal.tokens_of-requires
@@ -25,8 +25,13 @@ tokens_of-requires g c =
       held = omega (arith, held, ap length values, registers-there plan design snap.cycle snap.state some.0 trace.columns trace.rows flow some.1);
     }
 
-pub build_from-requires-after_bounds : goal.build_from-requires-after_bounds
-build_from-requires-after_bounds g c κs within =
+pub build_from-requires-clause-bridges : goal.build_from-requires-clause-bridges
+build_from-requires-clause-bridges g c κs within =
+    let some = c.requires in
+    none-owed c.args.plan.now c.args.design.now c.args.snap.cycle c.args.snap.state some.0 c.args.trace.now.columns c.args.trace.now.rows g.Z.Streams.flow some.1 g.B.Bridge.piece g.B.Bridge.state c.new.result.items c.new.ensures.items
+
+pub build_from-requires-clause-run : goal.build_from-requires-clause-run
+build_from-requires-clause-run g c κs within =
     let plan = c.args.plan.now in
     let design = c.args.design.now in
     let snap = c.args.snap in

@@ -6,9 +6,9 @@ use Rattle.gg_build.proofs.HostLemmas.{unit-keeps}
 use Rattle.gg_build.proofs.node.Node.value.Goals as goal
 
 pub returns-in-Unit-clause-tray : goal.returns-in-Unit-clause-tray
-returns-in-Unit-clause-tray c =
-    subst (λ (node : Node). IsTray (machine_of node).behaviour → None ≡ kept_value (machine_of node) c.args.cycle) (sym c.in-Unit.is) (unit-keeps c.in-Unit.host c.args.cycle)
+returns-in-Unit-clause-tray g c =
+    subst (λ (node : Node _). IsTray (machine_of node).behaviour → None ≡ kept_value (machine_of node) c.args.cycle) (sym c.in-Unit.is) (unit-keeps c.in-Unit.host c.args.cycle)
 
 pub returns-in-Shared-clause-tray : goal.returns-in-Shared-clause-tray
-returns-in-Shared-clause-tray c =
-    subst (λ (node : Node). IsTray (machine_of node).behaviour → None ≡ kept_value (machine_of node) c.args.cycle) (sym c.in-Shared.is) (unit-keeps c.in-Shared.host c.args.cycle)
+returns-in-Shared-clause-tray g c =
+    subst (λ (node : Node _). IsTray (machine_of node).behaviour → None ≡ kept_value (machine_of node) c.args.cycle) (sym c.in-Shared.is) (unit-keeps c.in-Shared.host c.args.cycle)
