@@ -1,4 +1,4 @@
--- No path of a signal begins with `pipe:`. A name has no colon, and what is before the colon of a stop is no such word.
+-- No path of a signal begins with `pipe:` or `bridge:`. A name has no colon, and what is before the colon of a stop is no such word.
 use Rattle.std.proofs.Common.{◌≡◌, ◌≢◌, ◌⊎◌, inl, inr, ℕ, zero, suc, Bool, true, List, [], ◌∷◌, ◌++◌, codes, refl, sym, ap, ◌∙◌, subst, arith}
 use Rattle.std.specs.Prelude.{All, Contains}
 use Rattle.std.specs.List.{list_all}
@@ -18,10 +18,6 @@ use Rattle.gg_tree.specs.IsTreeOf.{signal_paths}
 use Rattle.gg_paths.specs.Paths.{HasPathBytes, IsPath, is_path_byte}
 use Rattle.gg_paths.proofs.PathLemmas.{all-of, own-name, site-bytes}
 use Rattle.gg_paths.proofs.SpeltLemmas.{names-spelt}
-
--- the path doesn't begin with `pipe:`
-abbrev IsUnpiped : List ℕ → Type 0
-IsUnpiped path = (rest : List ℕ) → path ≢ codes "pipe:" ++ rest
 
 abbrev head_of : List ℕ → ℕ
 head_of [] = 0
@@ -46,35 +42,58 @@ dot-apart (w ∷ word) (b ∷ outer) name rest named bytes e =
     dot-apart word outer name rest (and_parts (is_name_byte w) (list_all is_name_byte word) named).1 (and_parts (is_path_byte b) (list_all is_path_byte outer) bytes).1 (ap tail_of e)
 
 -- a path has no colon
-path-unpiped : (path : List ℕ) → HasPathBytes path → IsUnpiped path
-path-unpiped path bytes rest e = let clash : list_all is_path_byte (codes "pipe:" ++ rest) ≡ true = subst HasPathBytes e bytes in absurd (cc)
+no-colon : (word rest : List ℕ) → list_all is_path_byte (word ++ 58 ∷ rest) ≡ true → ⊥
+no-colon [] rest e = let is : is_path_byte 58 ≡ true = (and_parts (is_path_byte 58) (list_all is_path_byte rest) e).0 in absurd (cc)
+no-colon (b ∷ word) rest e = no-colon word rest (and_parts (is_path_byte b) (list_all is_path_byte (word ++ 58 ∷ rest)) e).1
 
-stop-unpiped : (n : ℕ) → IsUnpiped (stop_name n)
-stop-unpiped n rest e = let same : 115 ≡ 112 = ap head_of e in absurd (omega (arith, same))
+-- a word that doesn't begin as `stop` does, with a colon behind it
+module _ (word : List ℕ) (named : list_all is_name_byte word ≡ true) (other : (rest : List ℕ) → 115 ≢ head_of (word ++ 58 ∷ rest)) where
+  -- the path doesn't begin so
+  abbrev IsFree : List ℕ → Type 0
+  IsFree path = (rest : List ℕ) → path ≢ word ++ 58 ∷ rest
 
-joined-unpiped : (outer name : List ℕ) → HasPathBytes outer → IsUnpiped name → IsUnpiped (joined outer name)
-joined-unpiped [] name bytes h = h
-joined-unpiped (b ∷ outer) name bytes h = λ rest e. dot-apart (codes "pipe") (b ∷ outer) name rest refl bytes e
+  path-free : (path : List ℕ) → HasPathBytes path → IsFree path
+  path-free path bytes rest e = no-colon word rest (subst HasPathBytes e bytes)
 
-module _ (circuit : CircuitTree) (names : AreNamesOfCircuit circuit) where
-  signal-unpiped : (path : List ℕ) → Contains (signal_paths circuit) path → IsUnpiped path
-  signal-unpiped path c =
-      let x = from-map (λ (s : FlatSignal). s.path) (flat_signals (types_of circuit) circuit.modules (sites_of circuit)) path c in
-      let s = from-flat_map (signals_at (types_of circuit) circuit.modules) (sites_of circuit) x.of x.among in
-      let o = from-map (flat_signal circuit.modules s.of) (own_signals (types_of circuit) s.of.number (module_at circuit.modules s.of.number)) x.of s.made in
-      subst IsUnpiped (ap (λ (z : FlatSignal). z.path) o.made ∙ x.made)
-      (joined-unpiped s.of.path o.of.name (site-bytes circuit names s.of s.among) (go o.of.name (own-name circuit names s.of.number o.of o.among)))
+  stop-free : (n : ℕ) → IsFree (stop_name n)
+  stop-free n rest e = other rest (ap head_of e)
+
+  joined-free : (outer name : List ℕ) → HasPathBytes outer → IsFree name → IsFree (joined outer name)
+  joined-free [] name bytes h = h
+  joined-free (b ∷ outer) name bytes h = λ rest e. dot-apart word (b ∷ outer) name rest named bytes e
+
+  module _ (circuit : CircuitTree) (names : AreNamesOfCircuit circuit) where
+    signal-free : (path : List ℕ) → Contains (signal_paths circuit) path → IsFree path
+    signal-free path c =
+        let x = from-map (λ (s : FlatSignal). s.path) (flat_signals (types_of circuit) circuit.modules (sites_of circuit)) path c in
+        let s = from-flat_map (signals_at (types_of circuit) circuit.modules) (sites_of circuit) x.of x.among in
+        let o = from-map (flat_signal circuit.modules s.of) (own_signals (types_of circuit) s.of.number (module_at circuit.modules s.of.number)) x.of s.made in
+        subst IsFree (ap (λ (z : FlatSignal). z.path) o.made ∙ x.made)
+        (joined-free s.of.path o.of.name (site-bytes circuit names s.of s.among) (go o.of.name (own-name circuit names s.of.number o.of o.among)))
+      where
+        go : (name : List ℕ) → IsPath name ⊎ ((n : ℕ) × (name ≡ stop_name n)) → IsFree name
+        go name (inl is) = path-free name is.bytes
+        go name (inr stop) = subst IsFree (sym stop.1) (stop-free stop.0)
+
+  -- the path with any number is one of them, or empty
+  none-free : (rest : List ℕ) → [] ≢ word ++ 58 ∷ rest
+  none-free rest = none word
     where
-      go : (name : List ℕ) → IsPath name ⊎ ((n : ℕ) × (name ≡ stop_name n)) → IsUnpiped name
-      go name (inl is) = path-unpiped name is.bytes
-      go name (inr stop) = subst IsUnpiped (sym stop.1) (stop-unpiped stop.0)
+      none : (w : List ℕ) → [] ≢ w ++ 58 ∷ rest
+      none [] e = absurd (cc)
+      none (b ∷ w) e = absurd (cc)
 
--- the path with any number is one of them, or empty
-at-unpiped : (paths : List (List ℕ)) → All IsUnpiped paths → (s : ℕ) → IsUnpiped (path_at paths s)
-at-unpiped [] h s = λ rest e. absurd (cc)
-at-unpiped (path ∷ paths) h zero = h 0 [] (omega arith)
-at-unpiped (path ∷ paths) h (suc s) = at-unpiped paths (λ k d lt. h (suc k) d (omega (arith, lt))) s
+  at-free : (paths : List (List ℕ)) → All IsFree paths → (s : ℕ) → IsFree (path_at paths s)
+  at-free [] h s = none-free
+  at-free (path ∷ paths) h zero = h 0 [] (omega arith)
+  at-free (path ∷ paths) h (suc s) = at-free paths (λ k d lt. h (suc k) d (omega (arith, lt))) s
+
+  none-begins : (text : List ℕ) (circuit : CircuitTree) (flat : FlatCircuit) → Spells text circuit → IsFlat circuit flat → (s : ℕ) (path : List ℕ) → path_at flat.paths s ≢ word ++ 58 ∷ path
+  none-begins text circuit flat spelt is s =
+      at-free flat.paths (subst (All IsFree) (sym is.paths) (all-of circuit (names-spelt text circuit spelt) IsFree (signal_paths circuit) (signal-free circuit (names-spelt text circuit spelt)))) s
 
 pub none-piped : (text : List ℕ) (circuit : CircuitTree) (flat : FlatCircuit) → Spells text circuit → IsFlat circuit flat → (s : ℕ) (path : List ℕ) → path_at flat.paths s ≢ codes "pipe:" ++ path
-none-piped text circuit flat spelt is s =
-    at-unpiped flat.paths (subst (All IsUnpiped) (sym is.paths) (all-of circuit (names-spelt text circuit spelt) IsUnpiped (signal_paths circuit) (signal-unpiped circuit (names-spelt text circuit spelt)))) s
+none-piped = none-begins (codes "pipe") refl (λ rest e. absurd (omega (arith, e)))
+
+pub none-bridged : (text : List ℕ) (circuit : CircuitTree) (flat : FlatCircuit) → Spells text circuit → IsFlat circuit flat → (s : ℕ) (path : List ℕ) → path_at flat.paths s ≢ codes "bridge:" ++ path
+none-bridged = none-begins (codes "bridge") refl (λ rest e. absurd (omega (arith, e)))

@@ -26,3 +26,8 @@ pub fn paths_are_words()
 pub fn no_pipe_names()
     ensures { (text : List ℕ) (circuit : CircuitTree) (flat : FlatCircuit) → Spells text circuit → IsFlat circuit flat → (s : ℕ) (path : List ℕ) → s < length flat.signals → path_at flat.paths s ≢ codes "pipe:" ++ path }
 {}
+
+/// No path begins with `bridge:` either.
+pub fn no_bridge_names()
+    ensures { (text : List ℕ) (circuit : CircuitTree) (flat : FlatCircuit) → Spells text circuit → IsFlat circuit flat → (s : ℕ) (path : List ℕ) → s < length flat.signals → path_at flat.paths s ≢ codes "bridge:" ++ path }
+{}
