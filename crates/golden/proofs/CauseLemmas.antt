@@ -14,6 +14,7 @@ use Rattle.gg_words.specs.Meaning.{IsCommand, Says}
 use Rattle.gg_words.specs.declared.command.Cmd.{Cmd}
 use Rattle.gg_words.specs.declared.command.WordFault.{WordFault}
 use Rattle.gg_words.specs.declared.command.WordFault.TheVariants as word
+use Rattle.gg_cut.specs.Bridges.{Models}
 use Rattle.golden.specs.Commands.{order_of}
 use Rattle.golden.specs.Outcome.{Outcome, Asked, Unasked, WantsMemoryFirst}
 use Rattle.golden.specs.Words.{AskForCommand, TellsUnasked, TellsWords}
@@ -49,36 +50,36 @@ pub unasked-status : (words : List (List ℕ)) (said : Said) → TellsUnasked wo
 unasked-status words said (fault, has, tells) = fault-status fault said tells
 
 -- each command's order is exact
-abbrev pub ExactOrders : Type 0
-ExactOrders = (command : Cmd) → IsExact (order_of command)
+abbrev pub ExactOrders : Models → Type 0
+ExactOrders models = (command : Cmd) → IsExact (order_of models command)
 
-module _ (loads : Loads) (unwritten : Type 0) where
+module _ (models : Models) (loads : Loads) (unwritten : Type 0) where
   -- The cause of each status.
   pub data Cause (words : List (List ℕ)) (status : ℕ) (text line : List ℕ) : Type 0 where
     IsLost : (is : status ≡ 3) (rose : loads.lost) (none : text ≡ []) → Cause words status text line
-    IsCut : (is : status ≡ 8) (rose : loads.cut) (command : Cmd) (said : Said) (asks : IsCommand words command) (stops : StopsAt loads.files ⊥ loads.cut (order_of command) said) (at : said.status ≡ 8) (tells : line ≡ said.line) (none : text ≡ []) → Cause words status text line
-    IsJudged : (judged : IsJudgement status) (command : Cmd) (said : Said) (asks : IsCommand words command) (stops : StopsAt loads.files ⊥ ⊥ (order_of command) said) (is : status ≡ said.status) (tells : line ≡ said.line) (none : text ≡ []) → Cause words status text line
+    IsCut : (is : status ≡ 8) (rose : loads.cut) (command : Cmd) (said : Said) (asks : IsCommand words command) (stops : StopsAt loads.files ⊥ loads.cut (order_of models command) said) (at : said.status ≡ 8) (tells : line ≡ said.line) (none : text ≡ []) → Cause words status text line
+    IsJudged : (judged : IsJudgement status) (command : Cmd) (said : Said) (asks : IsCommand words command) (stops : StopsAt loads.files ⊥ ⊥ (order_of models command) said) (is : status ≡ said.status) (tells : line ≡ said.line) (none : text ≡ []) → Cause words status text line
     IsNoCommand : (is : status ≡ 2) (unasked : ¬ AskForCommand words) (said : Said) (told : TellsUnasked words said) (tells : line ≡ said.line) (none : text ≡ []) → Cause words status text line
     IsDone : (is : status ≡ 0) → Cause words status text line
     IsUnwritten : (is : status ≡ 4) (failed : unwritten) → Cause words status text line
     IsWanting : (is : status ≡ 5) → Cause words status text line
 
   cause-stopped : (words : List (List ℕ)) (status : ℕ) (text line : List ℕ) (command : Cmd) (said : Said) → IsCommand words command
-      → status ≡ said.status → line ≡ said.line → text ≡ [] → Why loads.files loads.lost loads.cut (order_of command) said → Cause words status text line
+      → status ≡ said.status → line ≡ said.line → text ≡ [] → Why loads.files loads.lost loads.cut (order_of models command) said → Cause words status text line
   cause-stopped words status text line command said asks is tells none (Lost e rose) = IsLost (is ∙ e) rose none
   cause-stopped words status text line command said asks is tells none (Cut e rose stops) = IsCut (is ∙ e) rose command said asks stops e tells none
   cause-stopped words status text line command said asks is tells none (Judged e stops) = IsJudged (subst IsJudgement (sym is) e) command said asks stops is tells none
 
-  cause-ends : ExactOrders → (words : List (List ℕ)) (status : ℕ) (text line : List ℕ) (command : Cmd) → IsCommand words command
-      → WhyEnds loads unwritten (order_of command) status text line → Cause words status text line
+  cause-ends : ExactOrders models → (words : List (List ℕ)) (status : ℕ) (text line : List ℕ) (command : Cmd) → IsCommand words command
+      → WhyEnds loads unwritten (order_of models command) status text line → Cause words status text line
   cause-ends exact words status text line command asks (Stopped said stops is tells none) =
-      cause-stopped words status text line command said asks is tells none (why-stops loads.files loads.lost loads.cut (order_of command) said (exact command) stops)
+      cause-stopped words status text line command said asks is tells none (why-stops loads.files loads.lost loads.cut (order_of models command) said (exact command) stops)
   cause-ends exact words status text line command asks (Wrote written is) = IsDone is
   cause-ends exact words status text line command asks (Failed failed whole written is) = IsUnwritten is failed
   cause-ends exact words status text line command asks (Wanted is) = IsWanting is
 
-  pub cause : ExactOrders → (words : List (List ℕ)) (status : ℕ) (text line : List ℕ) → Outcome words loads unwritten status text line → Cause words status text line
-  cause exact words status text line (Asked command asks ends) = cause-ends exact words status text line command asks (ends-why loads unwritten (order_of command) status text line ends)
+  pub cause : ExactOrders models → (words : List (List ℕ)) (status : ℕ) (text line : List ℕ) → Outcome models words loads unwritten status text line → Cause words status text line
+  cause exact words status text line (Asked command asks ends) = cause-ends exact words status text line command asks (ends-why loads unwritten (order_of models command) status text line ends)
   cause exact words status text line (Unasked unasked said tells says none) = IsNoCommand (says.0 ∙ unasked-status words said tells) unasked said tells says.1 none
   cause exact words status text line (WantsMemoryFirst says none) = IsWanting says.0
 
@@ -93,7 +94,7 @@ module _ (loads : Loads) (unwritten : Type 0) where
     lost-3 (IsWanting is) e = absurd (omega arith)
 
     pub cut-8 : Cause words status text line → status ≡ 8 → loads.cut
-        × ((command : Cmd) × IsCommand words command × ((said : Said) × StopsAt loads.files ⊥ loads.cut (order_of command) said × (status ≡ said.status) × (line ≡ said.line)))
+        × ((command : Cmd) × IsCommand words command × ((said : Said) × StopsAt loads.files ⊥ loads.cut (order_of models command) said × (status ≡ said.status) × (line ≡ said.line)))
     cut-8 (IsLost is rose none) e = absurd (omega arith)
     cut-8 (IsCut is rose command said asks stops at tells none) e = (rose, (command, asks, (said, stops, e ∙ sym at, tells)))
     cut-8 (IsJudged judged command said asks stops is tells none) e = absurd (unjudged-8 (subst IsJudgement e judged))
@@ -112,7 +113,7 @@ module _ (loads : Loads) (unwritten : Type 0) where
     unwritten-4 (IsWanting is) e = absurd (omega arith)
 
     pub judged-file : Cause words status text line → IsJudgement status
-        → (command : Cmd) × IsCommand words command × ((said : Said) × StopsAt loads.files ⊥ ⊥ (order_of command) said × (status ≡ said.status) × (line ≡ said.line))
+        → (command : Cmd) × IsCommand words command × ((said : Said) × StopsAt loads.files ⊥ ⊥ (order_of models command) said × (status ≡ said.status) × (line ≡ said.line))
     judged-file (IsLost is rose none) j = absurd (unjudged-3 (subst IsJudgement is j))
     judged-file (IsCut is rose command said asks stops at tells none) j = absurd (unjudged-8 (subst IsJudgement is j))
     judged-file (IsJudged judged command said asks stops is tells none) j = (command, asks, (said, stops, is, tells))
@@ -139,24 +140,24 @@ module _ (loads : Loads) (unwritten : Type 0) where
     none-written (IsUnwritten is failed) a b c = absurd (b is)
     none-written (IsWanting is) a b c = absurd (c is)
 
-    pub unasked-2 : Outcome words loads unwritten status text line → ¬ AskForCommand words → (status ≡ 2) ⊎ (status ≡ 5)
+    pub unasked-2 : Outcome models words loads unwritten status text line → ¬ AskForCommand words → (status ≡ 2) ⊎ (status ≡ 5)
     unasked-2 (Asked command asks ends) unasked = absurd (unasked (command, asks))
     unasked-2 (Unasked none said tells says nothing) unasked = inl (says.0 ∙ unasked-status words said tells)
     unasked-2 (WantsMemoryFirst says nothing) unasked = inr says.0
 
-    pub due-said : ExactOrders → OneMeaning → Outcome words loads unwritten status text line → (loads.lost → ⊥)
-        → (command : Cmd) (due : Said) → IsCommand words command → DueAt loads.files (order_of command) due → SaysDue loads unwritten status line (order_of command) due
+    pub due-said : ExactOrders models → OneMeaning → Outcome models words loads unwritten status text line → (loads.lost → ⊥)
+        → (command : Cmd) (due : Said) → IsCommand words command → DueAt loads.files (order_of models command) due → SaysDue loads unwritten status line (order_of models command) due
     due-said exact once (Asked command asks ends) none other due others d =
         let same = asks-once once words other command others asks in
-        subst (λ (c : Cmd). SaysDue loads unwritten status line (order_of c) due) (sym same)
-        (due-ends loads unwritten status text line (order_of command) due (exact command) (subst (λ (c : Cmd). DueAt loads.files (order_of c) due) same d) none (ends-why loads unwritten (order_of command) status text line ends))
+        subst (λ (c : Cmd). SaysDue loads unwritten status line (order_of models c) due) (sym same)
+        (due-ends loads unwritten status text line (order_of models command) due (exact command) (subst (λ (c : Cmd). DueAt loads.files (order_of models c) due) same d) none (ends-why loads unwritten (order_of models command) status text line ends))
     due-said exact once (Unasked unasked said tells says nothing) none other due others d = absurd (unasked (other, others))
     due-said exact once (WantsMemoryFirst says nothing) none other due others d = inr says.0
 
-    pub complete-status : ExactOrders → OneMeaning → Outcome words loads unwritten status text line → (loads.lost → ⊥) → (unwritten → ⊥)
-        → (command : Cmd) → IsCommand words command → IsDueAccepted loads.files (order_of command) → (status ≡ 0) ⊎ (status ≡ 5)
+    pub complete-status : ExactOrders models → OneMeaning → Outcome models words loads unwritten status text line → (loads.lost → ⊥) → (unwritten → ⊥)
+        → (command : Cmd) → IsCommand words command → IsDueAccepted loads.files (order_of models command) → (status ≡ 0) ⊎ (status ≡ 5)
     complete-status exact once (Asked command asks ends) none wrote other others d =
         let same = asks-once once words other command others asks in
-        complete-ends loads unwritten status text line (order_of command) (exact command) (subst (λ (c : Cmd). IsDueAccepted loads.files (order_of c)) same d) none wrote (ends-why loads unwritten (order_of command) status text line ends)
+        complete-ends loads unwritten status text line (order_of models command) (exact command) (subst (λ (c : Cmd). IsDueAccepted loads.files (order_of models c)) same d) none wrote (ends-why loads unwritten (order_of models command) status text line ends)
     complete-status exact once (Unasked unasked said tells says nothing) none wrote other others d = absurd (unasked (other, others))
     complete-status exact once (WantsMemoryFirst says nothing) none wrote other others d = inr says.0

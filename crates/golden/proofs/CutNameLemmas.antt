@@ -1,32 +1,39 @@
 -- The names of a cut can be used in the lines of a steps file.
-use Rattle.std.proofs.Common.{◌≡◌, ◌≢◌, ◌⊎◌, inl, inr, ℕ, suc, ◌+◌, ◌-◌, ◌<◌, ◌≤◌, Bool, true, false, List, [], ◌∷◌, ◌++◌, None, codes, length, get_or, map, take, drop, refl, sym, ap, ◌∙◌, subst, arith, nat_le, nat_lt, length-append, ◌&&◌}
-use Rattle.std.specs.Prelude.{All, AllPairs, Contains, if◌then◌else◌, slice_index_or}
+use Rattle.std.proofs.Common.{◌≡◌, ◌≢◌, ◌⊎◌, inl, inr, ℕ, ◌+◌, ◌-◌, ◌<◌, ◌≤◌, Bool, true, false, List, [], ◌∷◌, ◌++◌, None, codes, length, get_or, map, take, drop, refl, sym, ap, ◌∙◌, subst, arith, nat_le, nat_lt, length-append, ◌&&◌}
+use Rattle.std.specs.Prelude.{All, AllPairs, Contains, if◌then◌else◌, not, slice_index_or}
 use Rattle.std.specs.List.{list_all, range_with_len}
 use Rattle.std.proofs.lemmas.Bool.{and_parts, cases_lt, leb-true, ltb-true}
 use Rattle.std.proofs.Math.Seq.{get_or-append-add}
-use Rattle.std.proofs.lemmas.List.{ext_get_or, get_or_append_left, get_or_default, get_or_past, length-map, take-append-drop}
+use Rattle.std.proofs.lemmas.List.{ext_get_or, get_or-map, get_or_append_left, get_or_default, get_or_past, length-map, take-append-drop}
 use Rattle.std.proofs.lemmas.List.Folds.{list_all-append}
-use Rattle.std.proofs.lemmas.List.Elements.{All-append, All-cons, All-contains, All-map, All-nil, Contains-append_cases, Contains-get_or}
+use Rattle.std.proofs.lemmas.List.Elements.{All-append, All-cons, All-contains, All-filter, All-map, All-nil, Contains-append_cases, Contains-get_or}
 use Rattle.std.proofs.lemmas.List.FromFn.{get_or-map-range_with_len, length-map-range_with_len}
-use Rattle.std.proofs.lemmas.List.Kept.{AllPairs-cons}
+use Rattle.std.proofs.lemmas.List.Kept.{AllPairs-cons, AllPairs-filter}
 use Rattle.gg_flat.specs.Line.{value_at}
+use Rattle.gg_flat.specs.Models.{model_names}
 use Rattle.gg_flat.specs.Scoped.{memory_fields}
 use Rattle.gg_flat.specs.Tree.{memory_at, path_at}
 use Rattle.gg_flat.specs.declared.tree.MemoryInstance.{MemoryInstance}
 use Rattle.gg_flat.proofs.ListLemmas.{once-apart}
 use Rattle.gg_moved.specs.KeepsToTree.{KeepsToTree}
 use Rattle.gg_order.specs.Design.{IsDesign, Ordered}
+use Rattle.gg_partfile.specs.Size.{all_driven, all_seen}
+use Rattle.gg_partfile.specs.declared.request.BridgeEntry.{BridgeEntry}
 use Rattle.gg_partfile.specs.declared.request.Request.{Request}
+use Rattle.gg_cut.specs.Bridges.{Models}
 use Rattle.gg_cut.specs.Channels.{channel_signals, flattened, port_signals, wire}
-use Rattle.gg_cut.specs.Direct.{plan_hub, plan_wires}
-use Rattle.gg_cut.specs.Machines.{first_memory, first_source, is_memory, machine_count}
+use Rattle.gg_cut.specs.Direct.{plan_hub, plan_routes}
+use Rattle.gg_cut.specs.Machines.{first_memory, first_source, is_memory}
 use Rattle.gg_cut.specs.Fault.{first_fault}
-use Rattle.gg_cut.specs.Listed.{lies, listed_of}
-use Rattle.gg_cut.specs.Plan.{machine_names, output_count, wire_at}
+use Rattle.gg_cut.specs.Listed.{is_among, lies, listed_of}
+use Rattle.gg_cut.specs.Plan.{machine_names, wire_at}
+use Rattle.gg_cut.specs.Seated.{machine_end, open_ins, open_outs, output_count, plan_bridges, plan_wires, seated_wire}
 use Rattle.gg_cut.specs.declared.listed.Listed.{Listed}
 use Rattle.gg_cut.specs.declared.wires.Wire.{Wire}
 use Rattle.gg_cut.proofs.ChainLemmas.{lies-self}
-use Rattle.gg_cut.proofs.TrayLemmas.{trays-count}
+use Rattle.gg_cut_seats.specs.Fitting.{AreFitting}
+use Rattle.gg_cut_seats.proofs.LowLemmas.{wire-signal}
+use Rattle.gg_cut_seats.proofs.NameLemmas.{names-count}
 use Rattle.gg_cut.proofs.KnownLemmas.{parents-before, signals-known}
 use Rattle.gg_closed.specs.Apart.{AreApart}
 use Rattle.gg_closed.specs.Longest.{listed_paths}
@@ -35,13 +42,17 @@ use Rattle.gg_closed.proofs.ListLemmas.{AllPairs-append, AllPairs-map, map-cases
 use Rattle.gg_closed.proofs.ListedLemmas.{listed-are, memory-paths}
 use Rattle.gg_closed.proofs.LongestLemmas.{Among, First, Behind, ArePaths, among}
 use Rattle.gg_closed.proofs.OnceLemmas.{signals-once}
+use Rattle.gg_bridged.specs.Whole.{CanBridge}
+use Rattle.gg_bridged.proofs.PlanLemmas.{fit}
 use Rattle.gg_routes.specs.Routes.{AreRoutes}
 use Rattle.gg_routes.proofs.RoutedLemmas.{plan-routed}
 use Rattle.gg_check.specs.CheckText.{channel_name}
 use Rattle.gg_paths.specs.Paths.{HavePaths, IsPath, is_path_byte}
 use Rattle.gg_steps.specs.Spelling.{AreUsable, IsUsable}
+use Rattle.golden.specs.Handed.{IsBridgeName}
 use Rattle.golden.specs.Replay.{naming_of, port_names}
-use Rattle.golden.proofs.UsableLemmas.{IsPlain, behind-plain, name-plain, path-plain, signal-plain, usable}
+use Rattle.golden.proofs.AloneLemmas.{faultless-first}
+use Rattle.golden.proofs.UsableLemmas.{IsPlain, behind-plain, bridge-plain, name-plain, path-plain, signal-plain, usable}
 
 -- all that a function makes of numbers in order, if each number has the item of a list at its place
 numbered-list : (f : ℕ → List ℕ) (names : List (List ℕ)) (n : ℕ) → length names ≡ n → ((k : ℕ) → k < n → f k ≡ get_or names k []) → map f (range_with_len 0 n) ≡ names
@@ -62,6 +73,9 @@ last-part xs ys apart i j d less lt same =
 abbrev no_memory : MemoryInstance
 no_memory = record { instance = 0; memory = 0; ports = []; clocks = [] }
 
+abbrev no_entry : BridgeEntry
+no_entry = record { name = []; sees = []; drives = [] }
+
 abbrev head_of : List ℕ → ℕ
 head_of [] = 0
 head_of (b ∷ bytes) = b
@@ -70,7 +84,16 @@ abbrev tail_of : List ℕ → List ℕ
 tail_of [] = []
 tail_of (b ∷ bytes) = bytes
 
-module _ (design : Ordered) (request : Request) (is : IsDesign design) (keeps : KeepsToTree design.circuit design.tree) (none : first_fault design request ≡ None) (have : HavePaths design.circuit design.tree) where
+module _ (design : Ordered) (request : Request) (models : Models) (can : CanBridge design request models) (named : All (λ model. IsBridgeName model.0) models) (have : HavePaths design.circuit design.tree) where
+  abbrev keeps : KeepsToTree design.circuit design.tree
+  keeps = can.keeps
+
+  abbrev is : IsDesign design
+  is = can.design_is
+
+  none : first_fault design request ≡ None
+  none = faultless-first design request models can.faultless
+
   abbrev listed : Listed
   listed = listed_of design.tree request
 
@@ -91,10 +114,20 @@ module _ (design : Ordered) (request : Request) (is : IsDesign design) (keeps : 
   abbrev channels : List (List ℕ)
   channels = map (channel_name design.circuit wires) (range_with_len 0 (length wires))
 
+  -- the channels between the machines of the cut without bridges
+  abbrev base : List Wire
+  base = plan_routes design.circuit design.tree request
+
+  wires-count : length wires ≡ length base
+  wires-count = length-map base (seated_wire (plan_bridges design.circuit design.tree request))
+
+  same-signal : (c : ℕ) → (wire_at wires c).signal ≡ (wire_at base c).signal
+  same-signal c = wire-signal (plan_bridges design.circuit design.tree request) base c
+
   signal-there : (c : ℕ) → c < length wires → (wire_at wires c).signal < length design.circuit.paths
   signal-there c lt =
-      let known = routed.known c (wire 0 0 0) lt in
-      omega (arith, known, is.formed.named)
+      let known = routed.known c (wire 0 0 0) (omega (arith, lt, wires-count)) in
+      omega (arith, known, is.formed.named, same-signal c)
 
   channel-is : (c : ℕ) (d : List ℕ) → c < length wires → get_or channels c d ≡ path_at design.circuit.paths (wire_at wires c).signal
   channel-is c d lt = get_or-map-range_with_len (channel_name design.circuit wires) 0 (length wires) c c d lt (let same : 0 + c ≡ c = omega arith in same)
@@ -106,9 +139,9 @@ module _ (design : Ordered) (request : Request) (is : IsDesign design) (keeps : 
   channels-differ i j d less lt same =
       let below : j < length wires = channel-inside j lt in
       let before : i < length wires = omega (arith, less, below) in
-      routed.once i j (wire 0 0 0) less below
-      (once-apart design.circuit.paths [] is.formed.distinct (wire_at wires i).signal (wire_at wires j).signal (signal-there i before) (signal-there j below)
-      (sym (channel-is i d before) ∙ same ∙ channel-is j d below))
+      routed.once i j (wire 0 0 0) less (omega (arith, below, wires-count))
+      (sym (same-signal i) ∙ once-apart design.circuit.paths [] is.formed.distinct (wire_at wires i).signal (wire_at wires j).signal (signal-there i before) (signal-there j below)
+      (sym (channel-is i d before) ∙ same ∙ channel-is j d below) ∙ same-signal j)
 
   channels-plain : All IsPlain channels
   channels-plain c d lt =
@@ -199,23 +232,39 @@ module _ (design : Ordered) (request : Request) (is : IsDesign design) (keeps : 
   abbrev halt_name : ℕ → List ℕ
   halt_name s = codes "halt:" ++ path_at design.circuit.paths s
 
+  abbrev bridge_name : BridgeEntry → List ℕ
+  bridge_name entry = codes "bridge:" ++ entry.name
+
+  -- the inputs and the outputs that no bridge has
+  abbrev inputs : List ℕ
+  inputs = open_ins design.circuit request
+
+  abbrev all_outputs : List ℕ
+  all_outputs = take (output_count design) design.circuit.outs
+
   abbrev outputs : List ℕ
-  outputs = take (output_count design) design.circuit.outs
+  outputs = open_outs design.circuit (output_count design) request
 
   abbrev stops : List ℕ
   stops = drop (output_count design) design.circuit.outs
 
   abbrev sources : List (List ℕ)
-  sources = map source_name design.circuit.ins
+  sources = map source_name inputs
 
   abbrev trays : List (List ℕ)
   trays = map out_name outputs ++ map halt_name stops
 
+  abbrev bridges : List (List ℕ)
+  bridges = map bridge_name request.bridges
+
+  abbrev front : List (List ℕ)
+  front = (paths ++ sources) ++ trays
+
   abbrev names : List (List ℕ)
-  names = codes "hub:" ∷ ((paths ++ sources) ++ trays)
+  names = codes "hub:" ∷ (front ++ bridges)
 
   names-are : machine_names design request listed ≡ names
-  names-are = ap (λ l. codes "hub:" ∷ (((request.units ++ l) ++ sources) ++ trays)) (memory-paths design.tree request keeps.fitting.memory_named)
+  names-are = ap (λ l. codes "hub:" ∷ ((((request.units ++ l) ++ sources) ++ trays) ++ bridges)) (memory-paths design.tree request keeps.fitting.memory_named)
 
   -- the signals of the units' ports and of the memories' fields
   abbrev unit_signals : List ℕ
@@ -246,39 +295,53 @@ module _ (design : Ordered) (request : Request) (is : IsDesign design) (keeps : 
   signal-one : (s t : ℕ) → s < length design.circuit.paths → t < length design.circuit.paths → path_at design.circuit.paths s ≡ path_at design.circuit.paths t → s ≡ t
   signal-one s t a b e = once-apart design.circuit.paths [] is.formed.distinct s t a b e
 
+  ins-once : AllPairs (λ a b. a ≢ b) design.circuit.ins
+  ins-once = first-part design.circuit.ins (unit_signals ++ (memory_signals ++ design.circuit.outs)) once
+
+  open-once : AllPairs (λ a b. a ≢ b) (open_ins design.circuit request)
+  open-once = AllPairs-filter (λ a b. a ≢ b) (λ s. not (is_among (all_driven request.bridges) (path_at design.circuit.paths s))) design.circuit.ins ins-once
+
+  open-known : All (λ s. s < length design.circuit.paths) (open_ins design.circuit request)
+  open-known = All-filter (λ s. not (is_among (all_driven request.bridges) (path_at design.circuit.paths s))) (λ s. s < length design.circuit.paths) design.circuit.ins in-signal
+
   sources-differ : AllPairs (λ a b. a ≢ b) sources
   sources-differ =
-      AllPairs-map (λ a b. a ≢ b) source_name design.circuit.ins
+      AllPairs-map (λ a b. a ≢ b) source_name inputs
       (λ i j d less lt same.
-      first-part design.circuit.ins _ once i j d less lt
-      (signal-one _ _ (in-signal i d (omega (arith, less, lt))) (in-signal j d lt) (ap (λ l. tail_of (tail_of (tail_of l))) same)))
+      open-once i j d less lt (signal-one _ _ (open-known i d (omega (arith, less, lt))) (open-known j d lt) (ap (λ l. tail_of (tail_of (tail_of l))) same)))
 
-  outs-once : AllPairs (λ a b. a ≢ b) (outputs ++ stops)
+  outs-once : AllPairs (λ a b. a ≢ b) (all_outputs ++ stops)
   outs-once =
       subst (AllPairs (λ a b. a ≢ b)) (sym (take-append-drop (output_count design) design.circuit.outs))
       (last-part memory_signals design.circuit.outs (last-part unit_signals (memory_signals ++ design.circuit.outs) (last-part design.circuit.ins (unit_signals ++ (memory_signals ++ design.circuit.outs)) once)))
 
-  outs-known : All (λ s. s < length design.circuit.paths) (outputs ++ stops)
+  outs-known : All (λ s. s < length design.circuit.paths) (all_outputs ++ stops)
   outs-known = subst (All (λ s. s < length design.circuit.paths)) (sym (take-append-drop (output_count design) design.circuit.outs)) out-signal
 
-  outputs-known : All (λ s. s < length design.circuit.paths) outputs
-  outputs-known i d lt = subst (λ s. s < length design.circuit.paths) (get_or_append_left outputs stops d i lt) (outs-known i d (omega (arith, lt, length-append outputs stops)))
+  all-known : All (λ s. s < length design.circuit.paths) all_outputs
+  all-known i d lt = subst (λ s. s < length design.circuit.paths) (get_or_append_left all_outputs stops d i lt) (outs-known i d (omega (arith, lt, length-append all_outputs stops)))
+
+  outputs-once : AllPairs (λ a b. a ≢ b) (open_outs design.circuit (output_count design) request)
+  outputs-once = AllPairs-filter (λ a b. a ≢ b) (λ s. not (is_among (all_seen request.bridges) (path_at design.circuit.paths s))) all_outputs (first-part all_outputs stops outs-once)
+
+  outputs-known : All (λ s. s < length design.circuit.paths) (open_outs design.circuit (output_count design) request)
+  outputs-known = All-filter (λ s. not (is_among (all_seen request.bridges) (path_at design.circuit.paths s))) (λ s. s < length design.circuit.paths) all_outputs all-known
 
   stops-known : All (λ s. s < length design.circuit.paths) stops
-  stops-known i d lt = subst (λ s. s < length design.circuit.paths) (get_or-append-add outputs stops i d) (outs-known (length outputs + i) d (omega (arith, lt, length-append outputs stops)))
+  stops-known i d lt = subst (λ s. s < length design.circuit.paths) (get_or-append-add all_outputs stops i d) (outs-known (length all_outputs + i) d (omega (arith, lt, length-append all_outputs stops)))
 
   outputs-differ : AllPairs (λ a b. a ≢ b) (map out_name outputs)
   outputs-differ =
       AllPairs-map (λ a b. a ≢ b) out_name outputs
       (λ i j d less lt same.
-      first-part outputs stops outs-once i j d less lt
+      outputs-once i j d less lt
       (signal-one _ _ (outputs-known i d (omega (arith, less, lt))) (outputs-known j d lt) (ap (λ l. tail_of (tail_of (tail_of (tail_of l)))) same)))
 
   stops-differ : AllPairs (λ a b. a ≢ b) (map halt_name stops)
   stops-differ =
       AllPairs-map (λ a b. a ≢ b) halt_name stops
       (λ i j d less lt same.
-      last-part outputs stops outs-once i j d less lt
+      last-part all_outputs stops outs-once i j d less lt
       (signal-one _ _ (stops-known i d (omega (arith, less, lt))) (stops-known j d lt) (ap (λ l. tail_of (tail_of (tail_of (tail_of (tail_of l))))) same)))
 
   -- what stands in front of the name of a source, and of a tray
@@ -288,8 +351,8 @@ module _ (design : Ordered) (request : Request) (is : IsDesign design) (keeps : 
 
   of-source : (w : List ℕ) → Contains sources w → BeginsWith (codes "in:") w
   of-source w c =
-      let at = map-cases source_name design.circuit.ins w c in
-      record { rest = path_at design.circuit.paths (value_at design.circuit.ins at.place); is-all = sym (at.holds 0) }
+      let at = map-cases source_name inputs w c in
+      record { rest = path_at design.circuit.paths (value_at inputs at.place); is-all = sym (at.holds 0) }
 
   of-output : (w : List ℕ) → Contains (map out_name outputs) w → BeginsWith (codes "out:") w
   of-output w c =
@@ -300,6 +363,11 @@ module _ (design : Ordered) (request : Request) (is : IsDesign design) (keeps : 
   of-stop w c =
       let at = map-cases halt_name stops w c in
       record { rest = path_at design.circuit.paths (value_at stops at.place); is-all = sym (at.holds 0) }
+
+  of-bridge : (w : List ℕ) → Contains bridges w → BeginsWith (codes "bridge:") w
+  of-bridge w c =
+      let at = map-cases bridge_name request.bridges w c in
+      record { rest = (get_or request.bridges at.place no_entry).name; is-all = sym (at.holds no_entry) }
 
   of-tray : (w : List ℕ) → Contains trays w → BeginsWith (codes "out:") w ⊎ BeginsWith (codes "halt:") w
   of-tray w c =
@@ -344,6 +412,43 @@ module _ (design : Ordered) (request : Request) (is : IsDesign design) (keeps : 
       go x (inr b) (inl a) = no-path (codes "halt:") x refl b a
       go x b (inr a) = source-tray x (of-source x a) b
 
+  -- ---- bridges
+
+  fits : AreFitting design.circuit all_outputs models request.bridges
+  fits = fit design request models can
+
+  bridges-differ : AllPairs (λ a b. a ≢ b) bridges
+  bridges-differ =
+      AllPairs-map (λ a b. a ≢ b) bridge_name request.bridges
+      (λ i j d less lt same.
+      fits.names i j d.name less (omega (arith, lt, length-map request.bridges (λ entry. entry.name)))
+      (get_or-map (λ (entry : BridgeEntry). entry.name) request.bridges i d d.name (omega (arith, less, lt))
+      ∙ ap (λ l. tail_of (tail_of (tail_of (tail_of (tail_of (tail_of (tail_of l))))))) same
+      ∙ sym (get_or-map (λ (entry : BridgeEntry). entry.name) request.bridges j d d.name lt)))
+
+  -- what begins as a bridge's name is none of the others
+  apart-bridge : (w : List ℕ) → BeginsWith (codes "bridge:") w → Contains front w → ⊥
+  apart-bridge w b c = go (Contains-append_cases (paths ++ sources) trays w c)
+    where
+      tray : BeginsWith (codes "out:") w ⊎ BeginsWith (codes "halt:") w → ⊥
+      tray (inl a) = let e : 98 ≡ 111 = ap head_of (sym b.is-all ∙ a.is-all) in omega (arith, e)
+      tray (inr a) = let e : 98 ≡ 104 = ap head_of (sym b.is-all ∙ a.is-all) in omega (arith, e)
+
+      early : Contains paths w ⊎ Contains sources w → ⊥
+      early (inl a) = no-path (codes "bridge:") w refl b a
+      early (inr a) = let e : 98 ≡ 105 = ap head_of (sym b.is-all ∙ (of-source w a).is-all) in omega (arith, e)
+
+      go : Contains (paths ++ sources) w ⊎ Contains trays w → ⊥
+      go (inl a) = early (Contains-append_cases paths sources w a)
+      go (inr a) = tray (of-tray w a)
+
+  all-differ : AllPairs (λ a b. a ≢ b) (front ++ bridges)
+  all-differ =
+      AllPairs-append (λ a b. a ≢ b) front bridges behind-differ bridges-differ
+      (λ x y a b same. apart-bridge x (subst (BeginsWith (codes "bridge:")) (sym same) (of-bridge y b)) a)
+
+  -- ---- the hub
+
   hub-apart : All (λ w. codes "hub:" ≢ w) ((paths ++ sources) ++ trays)
   hub-apart k d lt same = go (Contains-append_cases (paths ++ sources) trays (get_or ((paths ++ sources) ++ trays) k d) (Contains-get_or ((paths ++ sources) ++ trays) k d lt))
     where
@@ -362,11 +467,16 @@ module _ (design : Ordered) (request : Request) (is : IsDesign design) (keeps : 
       go (inl a) = front-case (Contains-append_cases paths sources _ a)
       go (inr b) = tray-case (of-tray _ b)
 
+  hub-bridges : All (λ w. codes "hub:" ≢ w) bridges
+  hub-bridges k d lt same =
+      let e : 104 ≡ 98 = ap head_of (same ∙ (of-bridge (get_or bridges k d) (Contains-get_or bridges k d lt)).is-all) in
+      omega (arith, e)
+
   names-differ : AllPairs (λ a b. a ≢ b) names
-  names-differ = AllPairs-cons (λ a b. a ≢ b) (codes "hub:") ((paths ++ sources) ++ trays) hub-apart behind-differ
+  names-differ = AllPairs-cons (λ a b. a ≢ b) (codes "hub:") (front ++ bridges) (All-append (λ w. codes "hub:" ≢ w) front bridges hub-apart hub-bridges) all-differ
 
   sources-plain : All IsPlain sources
-  sources-plain = All-map IsPlain source_name design.circuit.ins (λ i d lt. behind-plain (codes "in:") _ refl (have.signals (get_or design.circuit.ins i d) [] (in-signal i d lt)))
+  sources-plain = All-map IsPlain source_name inputs (λ i d lt. behind-plain (codes "in:") _ refl (have.signals (get_or inputs i d) [] (open-known i d lt)))
 
   trays-plain : All IsPlain trays
   trays-plain =
@@ -374,29 +484,27 @@ module _ (design : Ordered) (request : Request) (is : IsDesign design) (keeps : 
       (All-map IsPlain out_name outputs (λ i d lt. behind-plain (codes "out:") _ refl (have.signals (get_or outputs i d) [] (outputs-known i d lt))))
       (All-map IsPlain halt_name stops (λ i d lt. behind-plain (codes "halt:") _ refl (have.signals (get_or stops i d) [] (stops-known i d lt))))
 
+  bridges-plain : All IsPlain bridges
+  bridges-plain =
+      All-map IsPlain bridge_name request.bridges
+      (λ k d lt. bridge-plain (get_or request.bridges k d).name (All-contains IsBridgeName (model_names models) (get_or request.bridges k d).name (All-map IsBridgeName (λ model. model.0) models named) (fits.each k d lt).known))
+
   names-plain : All IsPlain names
   names-plain =
-      All-cons IsPlain (codes "hub:") ((paths ++ sources) ++ trays) (record { some = omega arith; bytes = refl })
+      All-cons IsPlain (codes "hub:") (front ++ bridges) (record { some = omega arith; bytes = refl })
+      (All-append IsPlain front bridges
       (All-append IsPlain (paths ++ sources) trays (All-append IsPlain paths sources (λ k d lt. path-plain (get_or paths k d) (paths-are k d lt)) sources-plain) trays-plain)
+      bridges-plain)
 
-  names-count : length (machine_names design request listed) ≡ machine_count design.circuit listed
-  names-count =
-      ap length names-are
-      ∙ (let all : suc (length ((paths ++ sources) ++ trays)) ≡ machine_count design.circuit listed =
-      omega (
-        arith,
-        length-append (paths ++ sources) trays,
-        length-append paths sources,
-        are.count,
-        length-map design.circuit.ins source_name,
-        trays-count design,
-      ) in all)
+  -- how many machines there are
+  abbrev end : ℕ
+  end = machine_end (plan_bridges design.circuit design.tree request)
 
-  machines-are : map (path_at (machine_names design request listed)) (range_with_len 0 (machine_count design.circuit listed)) ≡ names
+  machines-are : map (path_at (machine_names design request listed)) (range_with_len 0 end) ≡ names
   machines-are =
-      numbered-list (path_at (machine_names design request listed)) (machine_names design request listed) (machine_count design.circuit listed) names-count (λ k lt. refl) ∙ names-are
+      numbered-list (path_at (machine_names design request listed)) (machine_names design request listed) end (names-count design request) (λ k lt. refl) ∙ names-are
 
-  machines-usable : AreUsable (map (path_at (machine_names design request listed)) (range_with_len 0 (machine_count design.circuit listed)))
+  machines-usable : AreUsable (map (path_at (machine_names design request listed)) (range_with_len 0 end))
   machines-usable = subst AreUsable (sym machines-are) (usable names names-differ names-plain)
 
   -- ---- ports
@@ -420,17 +528,17 @@ module _ (design : Ordered) (request : Request) (is : IsDesign design) (keeps : 
           memory-usable (value_at listed.memories (m - first_memory listed)) (apart.memories (m - first_memory listed) 0 (omega (arith, low, high)))
       go false e = none-usable
 
-  ports-usable : (m : ℕ) → AreUsable (slice_index_or (map (port_names design.tree listed) (range_with_len 0 (machine_count design.circuit listed))) m [])
-  ports-usable m = go (cases_lt m (machine_count design.circuit listed))
+  ports-usable : (m : ℕ) → AreUsable (slice_index_or (map (port_names design.tree listed) (range_with_len 0 end)) m [])
+  ports-usable m = go (cases_lt m end)
     where
-      go : (m < machine_count design.circuit listed) ⊎ (machine_count design.circuit listed ≤ m) → AreUsable (slice_index_or (map (port_names design.tree listed) (range_with_len 0 (machine_count design.circuit listed))) m [])
+      go : (m < end) ⊎ (end ≤ m) → AreUsable (slice_index_or (map (port_names design.tree listed) (range_with_len 0 end)) m [])
       go (inl lt) =
-          subst AreUsable (sym (get_or-map-range_with_len (port_names design.tree listed) 0 (machine_count design.circuit listed) m m [] lt (let same : 0 + m ≡ m = omega arith in same)))
+          subst AreUsable (sym (get_or-map-range_with_len (port_names design.tree listed) 0 end m m [] lt (let same : 0 + m ≡ m = omega arith in same)))
           (port-names-usable m)
       go (inr le) =
           subst AreUsable
-          (sym (get_or_past (map (port_names design.tree listed) (range_with_len 0 (machine_count design.circuit listed))) m []
-          (omega (arith, le, length-map-range_with_len (port_names design.tree listed) 0 (machine_count design.circuit listed)))))
+          (sym (get_or_past (map (port_names design.tree listed) (range_with_len 0 end)) m []
+          (omega (arith, le, length-map-range_with_len (port_names design.tree listed) 0 end))))
           none-usable
 
   pub names-usable : IsUsable (naming_of design request)

@@ -1,12 +1,14 @@
 -- The summary of a demo's network is that of what its three texts mean, and the only one.
-use Rattle.std.proofs.Common.{◌≡◌, ℕ, ◌+◌, ◌-◌, ◌*◌, ◌<◌, List, ◌++◌, length, sym, ap, ◌∙◌, subst, arith}
+use Rattle.std.proofs.Common.{◌≡◌, ℕ, ◌+◌, ◌-◌, ◌*◌, ◌<◌, ◌≤◌, List, [], ◌++◌, length, sym, ap, ◌∙◌, subst, arith}
 use Rattle.std.specs.Prelude.{Result, slice_index}
 use Rattle.std.proofs.lemmas.List.{length-map}
-use Rattle.gg_build.specs.Build.{reference_order, reference_rows}
+use Rattle.gg_build.specs.Build.{NeedsNone, circuit_order, circuit_rows}
+use Rattle.gg_build.proofs.AloneLemmas.{needs-none}
 use Rattle.gg_demo.specs.CircuitText.{demo_circuit}
 use Rattle.gg_demo.specs.PartitionText.{demo_partition}
 use Rattle.gg_demo.specs.SummaryText.{demo_summary, fold_line, folded, last_line, network_line, size_line}
 use Rattle.gg_demo.specs.TraceText.{demo_cycles, demo_trace}
+use Rattle.gg_cut.specs.Direct.{plan_hub}
 use Rattle.gg_flat.specs.Circuit.{FlatCircuit}
 use Rattle.gg_marking.specs.Fits.{HasLayout, marking_of}
 use Rattle.gg_marking.specs.Marking.{Layout, Marking, opening_marking}
@@ -20,7 +22,8 @@ use Rattle.gg_progress.specs.Counts.{counts_of}
 use Rattle.gg_progress.specs.Measure.{all_dues, left}
 use Rattle.gg_progress.proofs.EndLemmas.{opening-left}
 use Rattle.gg_pipe.specs.Follows.{plan_start}
-use Rattle.gg_pipe.specs.Made.{plan_reference}
+use Rattle.gg_pipe.specs.Links.{taken_as}
+use Rattle.gg_bridged.specs.Whole.{plan_circuit}
 use Rattle.gg_sound.specs.Built.{IsGiven, no_token, wires_of_plan}
 use Rattle.gg_run.specs.Sums.{AreSums, FoldsRows, output_column, sums_text}
 use Rattle.gg_run.specs.declared.sums.Sums.{Sums}
@@ -32,15 +35,18 @@ use Rattle.gg_told.specs.declared.endings.Ending.TheVariants.{Refused, Unwritten
 use Rattle.gg_told.proofs.EndingLemmas.{only-ends, wants-ends}
 use Rattle.golden.specs.Case.{IsFed}
 use Rattle.golden.specs.Demo.{IsDemoText, demo_capacity, setting_summary}
+use Rattle.golden.specs.Partition.{to_run}
 use Rattle.golden.specs.Replay.{IsSetting, Setting}
 use Rattle.golden.specs.Replayed.{fed_flow}
 use Rattle.golden.specs.declared.case.Fed.{Fed}
-use Rattle.golden.proofs.CaseLemmas.{case-ordered}
+use Rattle.golden.proofs.AloneLemmas.{circuit-alone}
+use Rattle.golden.proofs.CaseLemmas.{case-can, case-ordered}
 use Rattle.golden.proofs.FedLemmas.{to-replay}
 use Rattle.golden.proofs.FedLemmas as fed_setting
+use Rattle.golden.proofs.HandedLemmas.{no-models}
 use Rattle.golden.proofs.PartitionLemmas.{DesignsAgree}
 use Rattle.golden.proofs.ReplayLemmas.{AreSet, are-set, laid, opens, setting_of}
-use Rattle.golden.proofs.SettingLemmas.{cycles-same, layouts-same, references-same, rows-same}
+use Rattle.golden.proofs.SettingLemmas.{circuits-same, cycles-same, layouts-same, rows-same}
 use Rattle.golden.proofs.TextLemmas.{OneRun}
 
 -- ---- lines
@@ -69,16 +75,16 @@ summary_by seed size circuit rows n layout =
     demo_summary seed size (length layout.turns) (length layout.links) (n * (2 * length layout.links + length layout.turns + all_dues layout)) (output_column circuit rows 0) (output_column circuit rows 1)
 
 -- settings that have these in common have the same summary
-summary-same : (seed size : ℕ) (a b : Setting) → plan_reference a.design a.request ≡ plan_reference b.design b.request → a.rows ≡ b.rows → a.cycles ≡ b.cycles → a.layout ≡ b.layout → setting_summary seed size a ≡ setting_summary seed size b
+summary-same : (seed size : ℕ) (a b : Setting) → plan_circuit a.design a.request [] ≡ plan_circuit b.design b.request [] → a.rows ≡ b.rows → a.cycles ≡ b.cycles → a.layout ≡ b.layout → setting_summary seed size a ≡ setting_summary seed size b
 summary-same seed size a b circuits rows cycles layouts =
     ap (λ (c : FlatCircuit). summary_by seed size c a.rows a.cycles a.layout) circuits
-    ∙ ap (λ (r : List (List ℕ)). summary_by seed size (plan_reference b.design b.request) r a.cycles a.layout) rows
-    ∙ ap (λ n. summary_by seed size (plan_reference b.design b.request) b.rows n a.layout) cycles
-    ∙ ap (λ (l : Layout). summary_by seed size (plan_reference b.design b.request) b.rows b.cycles l) layouts
+    ∙ ap (λ (r : List (List ℕ)). summary_by seed size (plan_circuit b.design b.request []) r a.cycles a.layout) rows
+    ∙ ap (λ n. summary_by seed size (plan_circuit b.design b.request []) b.rows n a.layout) cycles
+    ∙ ap (λ (l : Layout). summary_by seed size (plan_circuit b.design b.request []) b.rows b.cycles l) layouts
 
 -- ---- the network of a demo
 
-module _ (seed size : ℕ) (fed : Fed) (is : IsFed (demo_circuit size) (demo_partition size) (demo_trace seed size) demo_capacity fed) where
+module _ (seed size : ℕ) (fed : Fed) (is : IsFed (to_run []) (demo_circuit size) (demo_partition size) (demo_trace seed size) demo_capacity fed) where
   abbrev circuit : List ℕ
   circuit = demo_circuit size
 
@@ -94,31 +100,43 @@ module _ (seed size : ℕ) (fed : Fed) (is : IsFed (demo_circuit size) (demo_par
   abbrev n : ℕ
   n = fed.trace.rows
 
-  -- the reference circuit's run, computed along its order
+  -- the run of the plan's circuit, computed along its order
   abbrev ran : List (List ℕ)
-  ran = reference_rows design fed.case.cut.request fed.trace.columns n
+  ran = circuit_rows design fed.case.cut.request [] fed.trace.columns n
 
-  abbrev reference : FlatCircuit
-  reference = plan_reference design fed.case.cut.request
+  abbrev whole_circuit : FlatCircuit
+  whole_circuit = plan_circuit design fed.case.cut.request []
 
-  given : IsGiven design fed.case.cut.request demo_capacity fed.case.cut.plan fed.trace.columns n (plan_start design fed.case.cut.request) ran
-  given = fed_setting.given circuit partition trace demo_capacity fed is
+  given : IsGiven design fed.case.cut.request [] demo_capacity fed.case.cut.plan fed.trace.columns n (plan_start design fed.case.cut.request) ran
+  given = fed_setting.given (to_run []) circuit partition trace demo_capacity fed is
+
+  -- the plan needs no bridge, since no model is known
+  pub demo-none : NeedsNone fed.case.cut.plan
+  demo-none = needs-none design fed.case.cut.request [] demo_capacity fed.case.cut.plan is.case.planned (no-models design fed.case.cut.request (case-can is.case))
+
+  -- its circuit has as many out-signals as the design's
+  pub demo-two : 2 ≤ length fed.case.design.circuit.outs → 2 ≤ length (plan_circuit fed.case.design fed.case.cut.request []).outs
+  demo-two two =
+      let request = fed.case.cut.request in
+      let alone = no-models design request (case-can is.case) in
+      let same = ap (λ (f : FlatCircuit). length f.outs) (circuit-alone design request alone []) in
+      omega (arith, two, same, length-map design.circuit.outs (taken_as (plan_hub design.circuit design.tree request)))
 
   module _ (agree : DesignsAgree) (once : OneRun) (some : 0 < size) (whole : n ≡ demo_cycles size) (sums : Sums)
-      (are : AreSums fed.case.cut.plan fed.trace.columns n (fed_flow fed) (to-replay circuit partition trace demo_capacity fed is) sums) where
+      (are : AreSums fed.case.cut.plan fed.trace.columns n (fed_flow [] fed) (to-replay (to_run []) circuit partition trace demo_capacity fed is) sums) where
     abbrev opening : Network
     opening = opening_net are.opens.machines (wires_of_plan no_token fed.case.cut.plan) n
 
-    kept : Kept (fed_flow fed) opening
-    kept = subst (λ (x : Network). Kept (fed_flow fed) x) are.opens.is are.kept
+    kept : Kept (fed_flow [] fed) opening
+    kept = subst (λ (x : Network). Kept (fed_flow [] fed) x) are.opens.is are.kept
 
-    own : (layout : Layout) × HasLayout (frame_of opening) layout × AreSet design fed.case.cut.request demo_capacity n fed.trace.columns ran layout × (marking_of opening ≡ opening_marking layout 0)
+    own : (layout : Layout) × HasLayout (frame_of opening) layout × AreSet design fed.case.cut.request [] demo_capacity n fed.trace.columns ran layout × (marking_of opening ≡ opening_marking layout 0)
     own =
-        let l = laid design fed.case.cut.request demo_capacity fed.case.cut.plan fed.trace.columns n ran given are.opens.machines are.opens.built kept in (
+        let l = laid design fed.case.cut.request [] demo_capacity fed.case.cut.plan fed.trace.columns n ran given are.opens.machines are.opens.built kept in (
           l.0,
           l.1.1,
-          are-set design fed.case.cut.request demo_capacity fed.case.cut.plan fed.trace.columns n ran given are.opens.machines are.opens.built kept,
-          opens design fed.case.cut.request demo_capacity fed.case.cut.plan fed.trace.columns n ran given are.opens.machines are.opens.built kept,
+          are-set design fed.case.cut.request [] demo_capacity fed.case.cut.plan fed.trace.columns n ran given are.opens.machines are.opens.built kept,
+          opens design fed.case.cut.request [] demo_capacity fed.case.cut.plan fed.trace.columns n ran given are.opens.machines are.opens.built kept,
         )
 
     abbrev layout : Layout
@@ -136,31 +154,31 @@ module _ (seed size : ℕ) (fed : Fed) (is : IsFed (demo_circuit size) (demo_par
 
     steps : sums.steps ≡ n * (2 * length layout.links + length layout.turns + all_dues layout)
     steps =
-        are.steps ∙ ap (λ (x : Network). net_left x) are.opens.is ∙ left-is (fed_flow fed) opening kept layout own.1
+        are.steps ∙ ap (λ (x : Network). net_left x) are.opens.is ∙ left-is (fed_flow [] fed) opening kept layout own.1
         ∙ ap (λ (m : Marking). left layout (counts_of layout m)) own.3
-        ∙ opening-left layout (can-run (fed_flow fed) opening kept layout own.1) 0 (omega arith)
+        ∙ opening-left layout (can-run (fed_flow [] fed) opening kept layout own.1) 0 (omega arith)
         ∙ ap (λ k. k * (2 * length layout.links + length layout.turns + all_dues layout)) (let e : layout.end - 0 ≡ n = omega (arith, own.2.laid.end) in e)
 
     text : sums_text seed size sums ≡ setting_summary seed size a
     text =
-        let f = subst (λ k. FoldsRows reference a.rows k sums.fold) whole are.folds in
+        let f = subst (λ k. FoldsRows whole_circuit a.rows k sums.fold) whole are.folds in
         let lt : 0 < 4 * size = omega (arith, some) in
         summary-of seed size (length layout.turns) (length layout.links) (n * (2 * length layout.links + length layout.turns + all_dues layout))
-        (output_column reference a.rows 0) (output_column reference a.rows 1) sums machines channels steps (f.last_y lt) (f.last_z lt) f.all_y f.all_z
+        (output_column whole_circuit a.rows 0) (output_column whole_circuit a.rows 1) sums machines channels steps (f.last_y lt) (f.last_z lt) f.all_y f.all_z
 
     -- the text for these sums is the summary of the demo, and there is no other
     pub sums-only : IsOnly (IsDemoText seed size) (sums_text seed size sums)
     sums-only =
-        let x : IsSetting circuit partition trace demo_capacity a = record { means = is.case.means; cuts = is.case.cuts; feeds = is.feeds.feeds; run = own.2.run; laid = own.2.laid } in
+        let x : IsSetting (to_run []) circuit partition trace demo_capacity a = record { means = is.case.means; cuts = is.case.cuts; feeds = is.feeds.feeds; run = own.2.run; laid = own.2.laid } in
         record {
           is = (a, x, text);
           only = λ other told.
               let b = told.0 in
               let y = told.1 in
               told.2
-              ∙ summary-same seed size b a (references-same agree circuit partition trace demo_capacity b a y x)
-              (rows-same agree once circuit partition trace demo_capacity a (reference_order design fed.case.cut.request) (case-ordered is.case) x is.feeds b y)
-              (cycles-same agree circuit partition trace demo_capacity b a y x) (layouts-same agree circuit partition trace demo_capacity b a y x)
+              ∙ summary-same seed size b a (circuits-same (to_run []) agree circuit partition trace demo_capacity b a y x)
+              (rows-same (to_run []) agree once circuit partition trace demo_capacity a (circuit_order design fed.case.cut.request []) (case-ordered is.case) x is.feeds b y)
+              (cycles-same (to_run []) agree circuit partition trace demo_capacity b a y x) (layouts-same (to_run []) agree circuit partition trace demo_capacity b a y x)
               ∙ sym text;
         }
 

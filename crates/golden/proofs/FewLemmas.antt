@@ -2,7 +2,7 @@
 use Rattle.std.proofs.Common.{◌≡◌, ℕ, zero, suc, ◌+◌, ◌-◌, ◌<◌, ◌≤◌, ◌^◌, Bool, true, false, List, [], ◌∷◌, length, map, refl, sym, ap, subst, inl, inr, arith, nat_lt, nat_le}
 use Rattle.std.specs.Prelude.{None, if◌then◌else◌, slice_index_or}
 use Rattle.std.proofs.lemmas.Bool.{and_parts, cases_order, leb-true, ltb-true}
-use Rattle.std.proofs.lemmas.List.{get_or_past}
+use Rattle.std.proofs.lemmas.List.{get_or_past, length-map}
 use Rattle.gg_flat.specs.Circuit.{readers_at}
 use Rattle.gg_flat.specs.Line.{value_at}
 use Rattle.gg_flat.specs.Scoped.{writers_at}
@@ -12,7 +12,9 @@ use Rattle.gg_flat.specs.declared.tree.MemoryInstance.{MemoryInstance}
 use Rattle.gg_moved.specs.KeepsToTree.{KeepsToTree}
 use Rattle.gg_order.specs.Design.{IsDesign, Ordered}
 use Rattle.gg_partfile.specs.declared.request.Request.{Request}
-use Rattle.gg_cut.specs.Direct.{is_piped, plan_wires}
+use Rattle.gg_cut.specs.Bridges.{Models}
+use Rattle.gg_cut.specs.Direct.{is_driven, is_piped, plan_routes}
+use Rattle.gg_cut.specs.Seated.{plan_bridges, seated_wire}
 use Rattle.gg_cut.specs.Machines.{first_memory, first_source, is_memory}
 use Rattle.gg_cut.specs.Fault.{first_fault}
 use Rattle.gg_cut.specs.Listed.{listed_of}
@@ -22,8 +24,7 @@ use Rattle.gg_cut.specs.declared.plan.Plan.{Plan}
 use Rattle.gg_cut.specs.declared.wires.Wire.{Wire}
 use Rattle.gg_closed.specs.Apart.{AreFew}
 use Rattle.gg_closed.proofs.FaultlessLemmas.{faultless-few}
-use Rattle.gg_routes.proofs.FewLemmas.{few-machines}
-use Rattle.gg_routes.proofs.RoutedLemmas.{plan-routed, routed-base}
+use Rattle.gg_routes.proofs.RoutedLemmas.{routed-base}
 use Rattle.gg_sound.proofs.WordLemmas.{memory-few}
 use Rattle.golden.specs.Replay.{port_names}
 use Rattle.golden.specs.Replayed.{AreFewNames}
@@ -39,12 +40,12 @@ ports-counted (x ∷ xs) (suc k) = ports-counted xs k
 abbrev no_memory : MemoryInstance
 no_memory = record { instance = 0; memory = 0; ports = []; clocks = [] }
 
-module _ (design : Ordered) (request : Request) (default : ℕ) (plan : Plan) (is : IsDesign design) (keeps : KeepsToTree design.circuit design.tree) (faultless : first_fault design request ≡ None) (planned : IsPlan design request default plan) where
+module _ (design : Ordered) (request : Request) (models : Models) (default : ℕ) (plan : Plan) (is : IsDesign design) (keeps : KeepsToTree design.circuit design.tree) (faultless : first_fault design request ≡ None) (planned : IsPlan design request models default plan) where
   abbrev listed : Listed
   listed = listed_of design.tree request
 
   abbrev wires_in : List Wire
-  wires_in = plan_wires design.circuit design.tree request
+  wires_in = plan_routes design.circuit design.tree request
 
   few : AreFew design.circuit design.tree request
   few = faultless-few design request faultless
@@ -59,7 +60,7 @@ module _ (design : Ordered) (request : Request) (default : ℕ) (plan : Plan) (i
           | inl known ↦
               let ports : length (memory_at design.tree place).ports ≡ port_count design.circuit own = (keeps.fitting.held place known).ports in
               let counted : port_count design.circuit own ≡ length (readers_at design.circuit own) + length (writers_at design.circuit own) = ports-counted design.circuit.memories own in
-              let most : length (readers_at design.circuit own) + length (writers_at design.circuit own) ≤ length wires_in = memory-few design.circuit design.tree listed (is_piped design.circuit request) request.direct (routed-base design request is keeps faultless) i lt in
+              let most : length (readers_at design.circuit own) + length (writers_at design.circuit own) ≤ length wires_in = memory-few design.circuit design.tree listed (is_piped design.circuit request) (is_driven design.circuit request) request.direct (routed-base design request is keeps faultless) i lt in
               let channels = few.channels in
               omega (arith, ports, counted, most, channels)
           | inr above ↦ past place (omega (arith, above))
@@ -83,9 +84,8 @@ module _ (design : Ordered) (request : Request) (default : ℕ) (plan : Plan) (i
   pub few-names : AreFewNames plan design.tree
   few-names =
       let channels = few.channels in
-      let machines = few-machines design request (plan-routed design request is keeps faultless) few in
       record {
-        channels = omega (arith, channels, planned.channel_total);
-        machines = omega (arith, machines, planned.machine_total);
+        channels = omega (arith, channels, planned.channel_total, length-map wires_in (seated_wire (plan_bridges design.circuit design.tree request)));
+        machines = planned.few;
         ports = λ m. subst (λ (l : Listed). length (port_names design.tree l m) < 2 ^ 32) (sym planned.listed) (ports-few m);
       }

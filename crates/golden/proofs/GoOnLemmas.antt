@@ -1,18 +1,18 @@
 -- The steps of a file can be followed by one more line exactly if they are fewer than all steps of the cut.
 use Rattle.std.proofs.Common.{◌≡◌, ◌⊎◌, inl, inr, ℕ, suc, ◌+◌, ◌-◌, ◌*◌, ◌<◌, ◌≤◌, Bool, true, false, ◌++◌, List, [], ◌∷◌, Option, None, Some, length, get_or, map, ap, refl, sym, subst, ◌∙◌, arith, nat_le, nat_lt}
-use Rattle.std.specs.Prelude.{Ok, if◌then◌else◌}
+use Rattle.std.specs.Prelude.{All, Ok, if◌then◌else◌}
 use Rattle.std.specs.List.{range_with_len}
 use Rattle.std.proofs.lemmas.Bool.{and_parts, cases_lt, leb-true, ltb-true}
 use Rattle.std.proofs.lemmas.List.{get_or_past, length-map, map-append}
 use Rattle.std.proofs.lemmas.List.FromFn.{get_or-map-range_with_len, length-map-range_with_len}
 use Rattle.gg_flat.specs.Line.{value_at}
 use Rattle.gg_flat.specs.Tree.{memory_at, path_at, port_count}
-use Rattle.gg_moved.specs.KeepsToTree.{KeepsToTree}
-use Rattle.gg_order.specs.Design.{IsDesign, Ordered}
+use Rattle.gg_bridged.specs.Whole.{CanBridge}
+use Rattle.gg_order.specs.Design.{Ordered}
 use Rattle.gg_partfile.specs.declared.request.Request.{Request}
-use Rattle.gg_cut.specs.Direct.{plan_wires}
-use Rattle.gg_cut.specs.Machines.{first_memory, first_source, is_memory, machine_count}
-use Rattle.gg_cut.specs.Fault.{first_fault}
+use Rattle.gg_cut.specs.Bridges.{Models}
+use Rattle.gg_cut.specs.Seated.{machine_end, plan_bridges, plan_wires}
+use Rattle.gg_cut.specs.Machines.{first_memory, first_source, is_memory}
 use Rattle.gg_cut.specs.Listed.{listed_of}
 use Rattle.gg_cut.specs.Plan.{machine_names}
 use Rattle.gg_cut.specs.declared.listed.Listed.{Listed}
@@ -39,7 +39,9 @@ use Rattle.gg_steps.proofs.LengthenLaws.{lengthened}
 use Rattle.gg_steps.proofs.SpellingLaws.{step-read}
 use Rattle.gg_steps.proofs.UsableLaws.{has-line}
 use Rattle.gg_trace.specs.Fields.{text_lines}
+use Rattle.golden.specs.Handed.{IsBridgeName}
 use Rattle.golden.specs.Replay.{naming_of, port_names}
+use Rattle.golden.proofs.AloneLemmas.{faultless-first}
 use Rattle.golden.proofs.CutNameLemmas.{names-usable}
 
 -- the first condition of a step that may be done holds
@@ -54,15 +56,16 @@ last-free layout k old [] event new is = (old, (goes-past k (refusal layout old 
 last-free layout k old (x ∷ events) event new is =
     last-free layout (suc k) (after_step layout old x) events event new (goes-past k (step_refusal layout old x) (replayed_from layout (suc k) (after_step layout old x) (events ++ Some event ∷ [])) new is).1
 
-module _ (design : Ordered) (request : Request) (default n : ℕ) (is : IsDesign design) (keeps : KeepsToTree design.circuit design.tree) (none : first_fault design request ≡ None) (layout : Layout) (laid : IsLayoutOf design request default n layout) where
+module _ (design : Ordered) (request : Request) (models : Models) (default n : ℕ) (bridging : CanBridge design request models) (named : All (λ model. IsBridgeName model.0) models) (layout : Layout) (laid : IsLayoutOf design request default n layout) where
   abbrev listed : Listed
   listed = listed_of design.tree request
 
   abbrev wires : List Wire
   wires = plan_wires design.circuit design.tree request
 
+  -- how many machines there are
   abbrev count : ℕ
-  count = machine_count design.circuit listed
+  count = machine_end (plan_bridges design.circuit design.tree request)
 
   abbrev naming : Naming
   naming = naming_of design request
@@ -90,8 +93,8 @@ module _ (design : Ordered) (request : Request) (default n : ℕ) (is : IsDesign
           let parts = and_parts (nat_le (first_memory listed) m) (nat_lt m (first_source listed)) e in
           let low : first_memory listed ≤ m = leb-true (first_memory listed) m parts.0 in
           let high : m < first_source listed = ltb-true m (first_source listed) parts.1 in
-          let known = (faultless-apart design request none keeps.fitting).memories (m - first_memory listed) 0 (omega (arith, low, high)) in
-          let ports = (keeps.fitting.held (value_at listed.memories (m - first_memory listed)) known).ports in
+          let known = (faultless-apart design request (faultless-first design request models bridging.faultless) bridging.keeps.fitting).memories (m - first_memory listed) 0 (omega (arith, low, high)) in
+          let ports = (bridging.keeps.fitting.held (value_at listed.memories (m - first_memory listed)) known).ports in
           omega (arith, lt, ports)
       go false e lt = absurd (omega (arith, lt))
 
@@ -157,7 +160,7 @@ module _ (design : Ordered) (request : Request) (default n : ℕ) (is : IsDesign
     spelt : (event : Event) (next : Marking) → replayed_from layout 1 opening (events ++ Some event ∷ []) ≡ Ok next → (line : List ℕ) × (longer : List ℕ) × Follows line longer
     spelt event next is_done =
         let free = last-free layout 1 opening events event next is_done in
-        let line = has-line naming event (names-usable design request is keeps none have) (free-named free.0 event free.1) in
+        let line = has-line naming event (names-usable design request models bridging named have) (free-named free.0 event free.1) in
         let longer = lengthened line.0 line.1 steps in
         let same : steps_of naming longer.0 ≡ events ++ Some event ∷ [] =
         steps-more steps line.0 longer.0 longer.1 ∙ ap (λ x. events ++ x ∷ []) (step-read naming line.0 event line.2) in

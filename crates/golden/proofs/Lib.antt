@@ -1,3 +1,6 @@
+pub mod AloneLemmas
+pub mod BeginLemmas
+pub mod BridgeRows
 pub mod CallLemmas
 pub mod CaseLemmas
 pub mod CauseLemmas
@@ -10,6 +13,8 @@ pub mod FromLemmas
 pub mod FirstLemmas
 pub mod FrontLemmas
 pub mod GoOnLemmas
+pub mod HandedLemmas
+pub mod JoinedLemmas
 pub mod KnownLemmas
 pub mod LineLemmas
 pub mod MeantLemmas
@@ -17,6 +22,7 @@ pub mod NamingLemmas
 pub mod NetLemmas
 pub mod NetworkLemmas
 pub mod OnlyLemmas
+pub mod OpenLemmas
 pub mod OrderRows
 pub mod OutputLemmas
 pub mod PartitionLemmas
@@ -35,6 +41,7 @@ pub mod SuffixLemmas
 pub mod TextLemmas
 pub mod TraceLemmas
 pub mod UptoLemmas
+pub mod WholePortLemmas
 pub mod UsableLemmas
 pub mod TickLemmas
 pub mod StopLemmas

@@ -1,11 +1,10 @@
 -- What a circuit, a partition and a trace mean is one, but for the order of evaluation.
-use Rattle.std.proofs.Common.{◌≡◌, ℕ, zero, suc, ◌<◌, ◌≤◌, List, [], length, get_or, sym, ap, ◌∙◌, subst, arith}
+use Rattle.std.proofs.Common.{◌≡◌, ℕ, zero, suc, ◌<◌, ◌≤◌, ◌++◌, List, [], None, length, get_or, sym, ap, ◌∙◌, subst, arith}
+use Rattle.std.specs.List.{range_with_len}
 use Rattle.std.proofs.lemmas.List.{get_or_default, same_lists}
 use Rattle.std.proofs.lemmas.Grind.{same_number_lists}
 use Rattle.gg_limits.specs.Limits.{cycle_limit}
-use Rattle.gg_flat.specs.Circuit.{FlatCircuit}
 use Rattle.gg_flat.specs.Order.{IsOrder}
-use Rattle.gg_flat.specs.Ports.{in_ports}
 use Rattle.gg_flat.specs.State.{State}
 use Rattle.gg_flat.specs.WellFormed.{IsWellFormed}
 use Rattle.gg_flat.specs.declared.ports.Port.{Port}
@@ -17,16 +16,22 @@ use Rattle.gg_check.proofs.SameCutLemmas.{alike-is}
 use Rattle.gg_paths.specs.Paths.{HavePaths}
 use Rattle.gg_paths.proofs.FreshLemmas.{none-piped}
 use Rattle.gg_paths.proofs.PortLemmas.{have-paths}
+use Rattle.gg_cut.specs.Bridges.{Models}
+use Rattle.gg_cut.specs.Direct.{plan_hub}
+use Rattle.gg_cut.specs.Fault.{first_fault}
+use Rattle.gg_pipe.specs.Links.{pipes_of}
 use Rattle.gg_pipe.specs.Made.{IsFresh}
 use Rattle.gg_pipe.proofs.PlanLemmas.{plan-formed, plan-ordered}
-use Rattle.gg_build.specs.Build.{reference_order}
 use Rattle.gg_snap_text.specs.Standing.{IsSnap}
 use Rattle.gg_trace.specs.Header.{field}
 use Rattle.gg_trace.specs.Ports.{IsNamed}
 use Rattle.gg_trace.specs.Trace.{Columns, header_of}
 use Rattle.golden.specs.Meant.{AreMeant, Meant, meant_reference}
-use Rattle.golden.specs.RunText.{Feeds, IsRunBy}
+use Rattle.golden.specs.Partition.{Known}
+use Rattle.golden.specs.RunText.{IsRunBy, fed_ports}
+use Rattle.golden.proofs.AloneLemmas.{faultless-first}
 use Rattle.golden.proofs.PartitionLemmas.{DesignsAgree}
+use Rattle.golden.proofs.TextLemmas.{feeds-moved}
 
 -- ---- the columns of a trace
 
@@ -62,7 +67,15 @@ module _ (ports : List Port) (bytes : List ℕ) where
 
 -- ---- what bytes mean
 
-module _ {circuit partition trace : List ℕ} {meant : Meant} (are : AreMeant circuit partition trace meant) where
+-- an order of the reference circuit: its pipes, and then the design's
+abbrev pub reference_order : Ordered → Request → List ℕ
+reference_order design request = range_with_len (length design.circuit.signals) (length (pipes_of (plan_hub design.circuit design.tree request))) ++ design.order
+
+module _ {known : Known} {circuit partition trace : List ℕ} {meant : Meant} (are : AreMeant known circuit partition trace meant) where
+  -- the request has no fault, its bridges aside
+  pub meant-faultless : first_fault meant.design meant.request ≡ None
+  meant-faultless = faultless-first meant.design meant.request known.models are.cuts.faultless
+
   -- no path of the circuit's signals begins with `pipe:`
   pub meant-fresh : IsFresh meant.design.circuit
   meant-fresh = λ s path lt. none-piped circuit are.means.means.text.circuit meant.design.circuit are.means.means.text.spelt are.means.means.flattened s path
@@ -73,33 +86,36 @@ module _ {circuit partition trace : List ℕ} {meant : Meant} (are : AreMeant ci
 
   -- the reference circuit is well formed, and has an order
   pub meant-formed : IsWellFormed (meant_reference meant)
-  meant-formed = plan-formed meant.design meant.request are.designed are.keeps are.held are.cuts.faultless meant-fresh
+  meant-formed = plan-formed meant.design meant.request are.designed are.keeps are.held meant-faultless meant-fresh
 
   pub meant-ordered : IsOrder (meant_reference meant) (reference_order meant.design meant.request)
-  meant-ordered = plan-ordered meant.design meant.request are.designed are.keeps are.held are.cuts.faultless
+  meant-ordered = plan-ordered meant.design meant.request are.designed are.keeps are.held meant-faultless
 
 -- two meanings of the same bytes
-module _ (agree : DesignsAgree) {circuit partition trace : List ℕ} (one other : Meant) (x : AreMeant circuit partition trace one) (y : AreMeant circuit partition trace other) where
+module _ (agree : DesignsAgree) {known : Known} {circuit partition trace : List ℕ} (one other : Meant) (x : AreMeant known circuit partition trace one) (y : AreMeant known circuit partition trace other) where
   meant-alike : AreAlike one.design other.design
   meant-alike = agree circuit one.design other.design x.means y.means
 
+  meant-request : one.request ≡ other.request
+  meant-request = request-once partition one.request other.request x.cuts.asks y.cuts.asks
+
   pub meant-given : (one.cycles ≡ other.cycles) × (one.columns ≡ other.columns)
   meant-given =
-      columns-once (in_ports other.design.circuit) trace one.cycles other.cycles one.columns other.columns
-      (subst (λ (f : FlatCircuit). Feeds f trace one.cycles one.columns) meant-alike.circuit x.feeds) y.feeds
+      columns-once (fed_ports other.design.circuit other.request) trace one.cycles other.cycles one.columns other.columns
+      (feeds-moved one.design.circuit other.design.circuit one.request other.request meant-alike.circuit meant-request trace one.cycles one.columns x.feeds) y.feeds
 
   -- they differ in the order alone
   pub meant-is : one ≡ record other { design = record other.design { order = one.design.order } }
   meant-is =
       let design : Ordered = record other.design { order = one.design.order } in
       ap (λ (d : Ordered). record one { design = d }) (alike-is one.design other.design meant-alike)
-      ∙ ap (λ (r : Request). record one { design = design; request = r }) (request-once partition one.request other.request x.cuts.asks y.cuts.asks)
+      ∙ ap (λ (r : Request). record one { design = design; request = r }) meant-request
       ∙ ap (λ (n : ℕ). record one { design = design; request = other.request; cycles = n }) meant-given.0
       ∙ ap (λ (c : List (List ℕ)). record other { design = design; columns = c }) meant-given.1
 
   -- so a run of one is a run of the other, and a snapshot too
-  pub meant-run : (rows : List (List ℕ)) → IsRunBy one.design one.request one.columns one.cycles rows → IsRunBy other.design other.request other.columns other.cycles rows
-  meant-run rows run = subst (λ (m : Meant). IsRunBy m.design m.request m.columns m.cycles rows) meant-is run
+  pub meant-run : (models : Models) (rows : List (List ℕ)) → IsRunBy one.design one.request models one.columns one.cycles rows → IsRunBy other.design other.request models other.columns other.cycles rows
+  meant-run models rows run = subst (λ (m : Meant). IsRunBy m.design m.request models m.columns m.cycles rows) meant-is run
 
   pub meant-snap : (snap : List ℕ) (cycle : ℕ) (state : State) → IsSnap (meant_reference one) one.design.tree snap cycle state → IsSnap (meant_reference other) other.design.tree snap cycle state
   meant-snap snap cycle state is = subst (λ (m : Meant). IsSnap (meant_reference m) m.design.tree snap cycle state) meant-is is

@@ -46,8 +46,8 @@ module _ (plan : Plan) (columns : List (List ℕ)) (n : ℕ) (flow : Flow) (net 
       let opening = opening_net machines (wires_of_plan no_token plan) n in
       let fronts : AreFronts flow opening (opening_log (wires_of_plan no_token plan)) =
       first-fronts flow machines (wires_of_plan no_token plan) n (ap (λ (f : Flow). f.begin) run.flow_is) (subst (λ (x : Network). Kept flow x) opens.is kept)
-      (λ m lt. subst (λ (f : Flow). IsOpening f m (machine_at machines m)) (sym run.flow_is) (built-opening run.design run.request run.default plan columns n (plan_start run.design run.request) run.rows machines run.given
-      (built-with-zeros run.design run.request run.default plan columns machines run.given.planned opens.built) m lt)) in
+      (λ m lt. subst (λ (f : Flow). IsOpening f m (machine_at machines m)) (sym run.flow_is) (built-opening run.design run.request run.models run.default plan columns n (plan_start run.design run.request) run.rows machines run.given
+      (built-with-zeros run.design run.request run.models run.default plan columns machines run.given.planned opens.built) m lt)) in
       let given : log ≡ opening_log (wires_of_plan no_token plan) = is ∙ ap opening_log (same ∙ ap (λ (x : Network). x.wires) opens.is) in
       subst (λ (x : Network). AreFronts flow x log) (sym opens.is) (subst (λ l. AreFronts flow opening l) (sym given) fronts)
 

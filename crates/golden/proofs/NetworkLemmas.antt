@@ -1,5 +1,5 @@
 -- What the network of a cut printed is the text of the network, through all that a call does.
-use Rattle.std.proofs.Common.{◌≡◌, ℕ, List, Bool, false, subst, arith}
+use Rattle.std.proofs.Common.{◌≡◌, ℕ, List, Bool, false, sym, ap, ◌∙◌, subst, arith}
 use Rattle.std.specs.Prelude.{Err, IfOk, Ok, Option, Result}
 use Rattle.std.specs.Io.KnownBytes.{append_known}
 use Rattle.gg_io.specs.Told.{Told}
@@ -15,6 +15,7 @@ use Rattle.gg_words.specs.Meaning.{IsCommand}
 use Rattle.gg_words.specs.declared.command.Cmd.{Cmd}
 use Rattle.gg_words.specs.declared.command.Cmd.TheVariants.{Run}
 use Rattle.golden.specs.Network.{RanNetwork}
+use Rattle.golden.specs.Partition.{Known}
 use Rattle.golden.specs.Words.{AskForCommand, TellsUnasked}
 
 -- ---- a status of 0
@@ -47,16 +48,20 @@ asked-some NoMemory asks refused e = omega (arith, e)
 -- ---- the command
 
 -- what the network of a command's files printed
-pub ran-by : {loads : Loads} {out : Puts} {asked : Cmd} {circuit partition trace : List ℕ} {capacity workers : ℕ} {mono : Bool} {Z : Type 0} → asked ≡ Run circuit partition trace capacity workers mono
-    → (mono ≡ false → Z → RanNetwork loads out circuit partition trace capacity)
-    → (c p t : List ℕ) (k w : ℕ) → asked ≡ Run c p t k w false → Z → RanNetwork loads out c p t k
-ran-by {loads = loads} {out = out} {circuit = circuit} {partition = partition} {trace = trace} {capacity = capacity} {mono = mono} is ran c p t k w e z =
+pub ran-by : {known : Known} {loads : Loads} {out : Puts} {asked : Cmd} {circuit partition trace : List ℕ} {capacity workers : ℕ} {mono : Bool} {Z : Type 0} → asked ≡ Run circuit partition trace capacity workers mono
+    → (mono ≡ false → Z → RanNetwork known loads out circuit partition trace capacity)
+    → (c p t : List ℕ) (k w : ℕ) → asked ≡ Run c p t k w false → Z → RanNetwork known loads out c p t k
+ran-by {known = known} {loads = loads} {out = out} {circuit = circuit} {partition = partition} {trace = trace} {capacity = capacity} {mono = mono} is ran c p t k w e z =
     let off : mono ≡ false = cc in
     let one : circuit ≡ c = cc in
     let two : partition ≡ p = cc in
     let three : trace ≡ t = cc in
     let four : capacity ≡ k = cc in
-    subst (λ (k : ℕ). RanNetwork loads out c p t k) four
-    (subst (λ (t : List ℕ). RanNetwork loads out c p t capacity) three
-    (subst (λ (p : List ℕ). RanNetwork loads out c p trace capacity) two
-    (subst (λ (c : List ℕ). RanNetwork loads out c partition trace capacity) one (ran off z))))
+    subst (λ (k : ℕ). RanNetwork known loads out c p t k) four
+    (subst (λ (t : List ℕ). RanNetwork known loads out c p t capacity) three
+    (subst (λ (p : List ℕ). RanNetwork known loads out c p trace capacity) two
+    (subst (λ (c : List ℕ). RanNetwork known loads out c partition trace capacity) one (ran off z))))
+
+-- a call that wants memory isn't done
+pub wants-some : {T : Type 0} {r : Result T Ending} → r ≡ Err NoMemory → (said_by r).status ≡ 0 → ⊥
+wants-some is done = let h = sym (ap (λ r. (said_by r).status) is) ∙ done in omega (arith, h)

@@ -7,11 +7,18 @@ use Rattle.gg_flat.specs.Circuit.{FlatCircuit}
 use Rattle.gg_flat.specs.Line.{value_at}
 use Rattle.gg_flat.specs.Ports.{output_ports, ports_at}
 use Rattle.gg_flat.specs.Scoped.{output_signals}
-use Rattle.gg_flat.specs.Tree.{InstanceTree}
+use Rattle.gg_flat.specs.Tree.{InstanceTree, path_at}
 use Rattle.gg_flat.specs.WellFormed.{IsWellFormed}
 use Rattle.gg_flat.specs.declared.ports.Port.{Port}
 use Rattle.gg_flat.specs.declared.tree.InstancePort.{InstancePort}
-use Rattle.golden.specs.RunText.{outputs_of}
+use Rattle.gg_order.specs.Design.{Ordered}
+use Rattle.gg_partfile.specs.Size.{all_seen}
+use Rattle.gg_partfile.specs.declared.request.BridgeEntry.{BridgeEntry}
+use Rattle.gg_partfile.specs.declared.request.Request.{Request}
+use Rattle.gg_cut.specs.Listed.{is_among}
+use Rattle.golden.specs.RunText.{outputs_of, ports_without, shown_ports}
+use Rattle.golden.proofs.OpenLemmas.{open-same}
+use Rattle.golden.proofs.WholePortLemmas.{without-at}
 use Rattle.golden.proofs.PortLemmas.{ports-count}
 
 -- ---- the outputs among ports
@@ -42,7 +49,7 @@ module _ (circuit : FlatCircuit) (tree : InstanceTree) (stops : List ℕ) (outs 
   few : length (outputs_of tree) ≤ length circuit.outs
   few = omega (arith, length-append (outputs_of tree) stops, ap (λ (l : List ℕ). length l) outs)
 
-  output-known : (k : ℕ) → k < length (outputs_of tree) → value_at (outputs_of tree) k < length circuit.signals
+  pub output-known : (k : ℕ) → k < length (outputs_of tree) → value_at (outputs_of tree) k < length circuit.signals
   output-known k lt =
       subst (λ s. s < length circuit.signals)
       (ap (λ (l : List ℕ). value_at l k) (sym outs) ∙ get_or_append_left (outputs_of tree) stops 0 k lt)
@@ -57,3 +64,17 @@ module _ (circuit : FlatCircuit) (tree : InstanceTree) (stops : List ℕ) (outs 
 
   pub output-ports-few : (ports : List Port) → ports ≡ output_ports circuit tree → length ports ≤ length circuit.outs
   output-ports-few ports e = omega (arith, few, output-ports-count, ap (λ (p : List Port). length p) e)
+
+-- the ports that were made are those of the outputs that no bridge sees
+pub shown-made : (design : Ordered) (request : Request) → (piece : FlatCircuit) → piece ≡ design.circuit → (entries : List BridgeEntry) → entries ≡ request.bridges
+    → (set : List (List ℕ)) → ((name : List ℕ) → is_among set name ≡ is_among (all_seen entries) name) → (outputs : List ℕ) → outputs ≡ outputs_of design.tree → (kept : List ℕ) → kept ≡ filter (λ s. not (is_among set (path_at piece.paths s))) outputs
+    → (ports : List Port) → ports ≡ ports_at piece kept → ports ≡ shown_ports design request
+shown-made design request piece p entries e set same outputs t kept o ports made =
+    let circuit = design.circuit in
+    let tree = design.tree in
+    made ∙ ap (λ (f : FlatCircuit). ports_at f kept) p
+    ∙ ap (ports_at circuit)
+    (o ∙ ap (λ (f : FlatCircuit). filter (λ s. not (is_among set (path_at f.paths s))) outputs) p ∙ open-same circuit.paths set (all_seen entries) same outputs
+    ∙ ap (filter (λ s. not (is_among (all_seen entries) (path_at circuit.paths s)))) t)
+    ∙ sym (without-at (all_seen entries) circuit (outputs_of tree))
+    ∙ ap (λ (l : List BridgeEntry). ports_without (all_seen l) (output_ports circuit tree)) e

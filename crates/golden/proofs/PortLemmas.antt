@@ -1,27 +1,23 @@
 -- The ports of a well-formed circuit: their count, names and widths.
-use Rattle.std.proofs.Common.{◌≡◌, ℕ, zero, suc, ◌<◌, ◌^◌, List, [], ◌∷◌, length, get_or, refl, sym, ap, ◌∙◌, subst, inl, inr, arith, Some}
-use Rattle.std.specs.Prelude.{Option, slice_get, slice_index, slice_index_or}
+use Rattle.std.proofs.Common.{◌≡◌, ℕ, zero, suc, ◌<◌, List, [], ◌∷◌, length, get_or, refl, sym, ap, ◌∙◌, subst, inl, inr, arith, Some}
+use Rattle.std.specs.Prelude.{Option, slice_get}
 use Rattle.std.specs.List.{cons_option}
 use Rattle.std.proofs.lemmas.Option.{slice_get_cases, get_or_from_slice_get}
-use Rattle.std.proofs.lemmas.List.{get_or-map, get_or_default, length-map}
+use Rattle.std.proofs.lemmas.List.{get_or-map}
 use Rattle.std.proofs.lemmas.Bool.{cases_order}
 use Rattle.gg_bits.specs.Shape.{Shape, shape, uint}
 use Rattle.gg_flat.specs.declared.piece.Signal.{Signal}
 use Rattle.gg_flat.specs.declared.piece.Driver.TheVariants.{Input}
 use Rattle.gg_flat.specs.Circuit.{FlatCircuit, signal_shapes, driver_at}
 use Rattle.gg_flat.specs.Line.{shape_at, value_at}
-use Rattle.gg_flat.specs.Run.{IsColumns}
-use Rattle.gg_flat.specs.Settled.{IsInputs, in_shapes}
 use Rattle.gg_flat.specs.WellFormed.{IsWellFormed}
 use Rattle.gg_flat.specs.declared.ports.Port.{Port}
-use Rattle.gg_trace.specs.Ports.{name_at, width_at, HasDistinctNames}
-use Rattle.gg_trace.specs.Table.{row_of}
-use Rattle.gg_trace.specs.Trace.{Columns, HaveWidths}
-use Rattle.gg_flat.specs.Ports.{port_with, port_at, ports_at, in_ports}
+use Rattle.gg_trace.specs.Ports.{name_at, width_at}
+use Rattle.gg_flat.specs.Ports.{port_with, port_at, ports_at}
 
 module _ (circuit : FlatCircuit) where
   -- the port of a signal: its name is the signal's path, its width the signal's
-  record IsPort (s : ℕ) : Type 0 where
+  pub record IsPort (s : ℕ) : Type 0 where
     pub port : Port
     pub is : port_at circuit s ≡ Some port
     pub named : port.name ≡ get_or circuit.paths s []
@@ -37,7 +33,7 @@ module _ (circuit : FlatCircuit) where
         wide = sym (ap (λ (z : Shape). z.width) (get_or-map (λ (x : Signal). shape x.ty) circuit.signals s signal (uint 0) lt) ∙ ap (λ (x : Signal). x.ty.width) get);
       }
 
-  port_of_known : length circuit.paths ≡ length circuit.signals → (s : ℕ) → s < length circuit.signals → IsPort s
+  pub port_of_known : length circuit.paths ≡ length circuit.signals → (s : ℕ) → s < length circuit.signals → IsPort s
   port_of_known same s lt =
       elim (slice_get_cases circuit.paths s).1 [
         | inl path ↦ elim (slice_get_cases circuit.signals s).1 [
@@ -81,10 +77,7 @@ module _ (circuit : FlatCircuit) where
       subst (λ (ports : List Port). AreOf ports (s ∷ ss)) e (are_more s p.port (ports_at circuit ss) ss p.named p.wide rest)
 
   module _ (formed : IsWellFormed circuit) where
-    pub ins-are : AreOf (in_ports circuit) circuit.ins
-    ins-are = ports_at-are formed.named circuit.ins (λ i lt. (formed.ins i lt).0)
-
-    paths_once : (s r : ℕ) → s < length circuit.signals → r < length circuit.signals → get_or circuit.paths s [] ≡ get_or circuit.paths r [] → s ≡ r
+    pub paths_once : (s r : ℕ) → s < length circuit.signals → r < length circuit.signals → get_or circuit.paths s [] ≡ get_or circuit.paths r [] → s ≡ r
     paths_once s r ls lr e =
         let same = formed.named in
         elim (cases_order s r) [
@@ -95,53 +88,11 @@ module _ (circuit : FlatCircuit) where
           ]
         ]
 
-    ins_once : (i j : ℕ) → i < length circuit.ins → j < length circuit.ins → value_at circuit.ins i ≡ value_at circuit.ins j → i ≡ j
+    pub ins_once : (i j : ℕ) → i < length circuit.ins → j < length circuit.ins → value_at circuit.ins i ≡ value_at circuit.ins j → i ≡ j
     ins_once i j li lj e =
         let a : driver_at circuit (value_at circuit.ins i) ≡ Input i = (formed.ins i li).1 in
         let b : driver_at circuit (value_at circuit.ins j) ≡ Input j = (formed.ins j lj).1 in
         let c : Input i ≡ Input j = sym a ∙ ap (driver_at circuit) e ∙ b in cc
-
-    -- no two inputs have the same name
-    pub in_ports-distinct : HasDistinctNames (in_ports circuit)
-    in_ports-distinct i j li lj e =
-        let are = ins-are in
-        let n = are.count in
-        let ki : i < length circuit.ins = omega arith in
-        let kj : j < length circuit.ins = omega arith in
-        ins_once i j ki kj (paths_once (value_at circuit.ins i) (value_at circuit.ins j) (formed.ins i ki).0 (formed.ins j kj).0
-        (sym (are.named i ki) ∙ e ∙ are.named j kj))
-
-    -- a row of a trace of the inputs can be the inputs of a cycle
-    pub row-inputs : (bytes : List ℕ) (n : ℕ) (columns : List (List ℕ)) → Columns (in_ports circuit) bytes n columns
-        → HaveWidths (in_ports circuit) n columns → (t : ℕ) → t < n → IsInputs circuit (row_of columns t)
-    row-inputs bytes n columns cols fit t lt =
-        let are = ins-are in
-        let counted = are.count in
-        let wide = cols.width in
-        record {
-          count = length-map columns (λ (column : List ℕ). slice_index column t) ∙ wide ∙ counted ∙ sym (length-map circuit.ins (shape_at (signal_shapes circuit)));
-          fits = λ i li.
-              let ki : i < length circuit.ins = omega (arith, length-map circuit.ins (shape_at (signal_shapes circuit))) in
-              let kp : i < length (in_ports circuit) = omega arith in
-              let kc : i < length columns = omega arith in
-              let value : value_at (row_of columns t) i ≡ slice_index (slice_index_or columns i []) t = get_or-map (λ (column : List ℕ). slice_index column t) columns i [] 0 kc in
-              let bound : slice_index (slice_index_or columns i []) t < 2 ^ width_at (in_ports circuit) i = fit.fits i t kp lt in
-              let width : width_at (in_ports circuit) i ≡ (shape_at (in_shapes circuit) i).width =
-              are.wide i ki ∙ sym (ap (λ (z : Shape). z.width) (get_or-map (shape_at (signal_shapes circuit)) circuit.ins i 0 (uint 0) ki)) in
-              subst (λ (w : ℕ). value_at (row_of columns t) i < 2 ^ w) width (subst (λ (v : ℕ). v < 2 ^ width_at (in_ports circuit) i) (sym value) bound);
-        }
-
-    -- the columns that a trace gives the inputs are columns for the circuit
-    pub trace-columns : (bytes : List ℕ) (n : ℕ) (columns : List (List ℕ)) → Columns (in_ports circuit) bytes n columns
-        → HaveWidths (in_ports circuit) n columns → IsColumns circuit n columns
-    trace-columns bytes n columns cols fit =
-        let counted = ins-are.count in
-        let wide = cols.width in
-        record {
-          count = wide ∙ counted;
-          height = λ i d lt. ap (λ (column : List ℕ). length column) (get_or_default columns i d [] lt) ∙ cols.height i (omega (arith, lt));
-          inputs = row-inputs bytes n columns cols fit;
-        }
 
     -- there are as many ports as signals, if the circuit has these signals
     pub ports-count : (signals : List ℕ) → ((i : ℕ) → i < length signals → value_at signals i < length circuit.signals) → length (ports_at circuit signals) ≡ length signals

@@ -1,8 +1,6 @@
 -- The rows of a run, one by one.
-use Rattle.std.proofs.Common.{◌≡◌, ℕ, suc, ◌+◌, ◌<◌, List, ◌++◌, Bool, true, false, length, map, take, sym, ap, ◌∙◌, subst, arith}
-use Rattle.std.specs.Prelude.{Result, Ok, Err, drop}
-use Rattle.std.proofs.lemmas.List.{drop-map, take-map}
-use Rattle.std.proofs.Math.Seq.{drop-append_seam, take-append_seam}
+use Rattle.std.proofs.Common.{◌≡◌, ℕ, suc, ◌+◌, ◌<◌, List, Bool, true, false, length, sym, ap, ◌∙◌, subst, arith}
+use Rattle.std.specs.Prelude.{Result, Ok, Err}
 use Rattle.gg_flat.specs.Circuit.{FlatCircuit}
 use Rattle.gg_flat.specs.Order.{IsOrder}
 use Rattle.gg_flat.specs.Run.{IsRunFrom, clocked_start, row_at, state_at, inputs_at}
@@ -10,23 +8,12 @@ use Rattle.gg_flat.specs.Settled.{Settled}
 use Rattle.gg_flat.specs.State.{State, next_state}
 use Rattle.gg_io.specs.declared.output.Sink
 use Rattle.gg_refsim.specs.Cycle.{Simulation, Cycle, outputs}
-use Rattle.gg_flat.specs.declared.ports.Port.{Port}
-use Rattle.gg_trace.specs.Last.{halts, row_count}
-use Rattle.gg_trace.specs.Printing.{trace_text}
 use Rattle.gg_trace.specs.Table.{Table, row_of}
 use Rattle.gg_told.specs.declared.endings.Ending.{Ending}
-use Rattle.gg_flat.specs.Ports.{output_ports}
-use Rattle.gg_flat.specs.Scoped.{stop_signals}
 use Rattle.gg_flat.specs.Clock.{Ratio, edges_at}
-use Rattle.gg_order.specs.Design.{Ordered}
-use Rattle.gg_partfile.specs.declared.request.Request.{Request}
-use Rattle.gg_cut.specs.Direct.{plan_hub}
-use Rattle.gg_pipe.specs.Links.{taken_as}
-use Rattle.gg_pipe.specs.Made.{plan_reference}
-use Rattle.golden.specs.RunText.{columns_of, outputs_kept, outputs_of, run_rows, run_text, stops_kept}
 use Rattle.gg_told.specs.WentOn.{SinkWentOn}
 use Rattle.gg_told.proofs.WritingLemmas.{on-then}
-use Rattle.gg_run.specs.Printed.{PrintsRow, RowForm, plan_stops, rows_to, shown_columns, stop_columns, text_of}
+use Rattle.gg_run.specs.Printed.{PrintsRow, RowForm}
 use Rattle.gg_run.specs.Rows.{outputs_in}
 use Rattle.gg_run.specs.Taken.{Took, TookTo}
 use Rattle.gg_run.proofs.TakenLemmas.{row-there, took-all, took-fails, took-last, took-next}
@@ -128,32 +115,3 @@ pub simulated-all : {K : Type 0} {circuit : FlatCircuit} {ratios : List Ratio} {
     → SimulatedTo circuit ratios inputs form sink out out' cycle mono outs → cycle ≡ inputs.rows → TookAll circuit ratios inputs form sink out out' (Ok true)
 simulated-all {circuit = circuit} {inputs = inputs} {form = form} {sink = sink} {out = out} {out' = out'} {cycle = cycle} simulated all rows run =
     (inputs.rows, took-all (PrintsRow sink form.stops form.ports) (outputs_in circuit rows) 0 out cycle inputs.rows out' (simulated.took rows run) all)
-
--- the first out-signals of the reference circuit have the values of the top's outputs, and those behind them the stops' conditions
-module _ (design : Ordered) (request : Request) (stops : List ℕ) (ports : List Port) (outs : outputs_of design.tree ++ stops ≡ design.circuit.outs) (are : stops ≡ stop_signals design.tree) (count : length ports ≡ length (outputs_of design.tree))
-    (rows : List (List ℕ)) where
-  abbrev taken : ℕ → ℕ
-  taken = taken_as (plan_hub design.circuit design.tree request)
-
-  pub shown-kept : shown_columns (plan_reference design request) ports rows ≡ columns_of (outputs_kept design request) rows
-  shown-kept =
-      let first : take (length ports) design.circuit.outs ≡ outputs_of design.tree =
-      ap (λ k. take k design.circuit.outs) count ∙ ap (take (length (outputs_of design.tree))) (sym outs) ∙ take-append_seam (outputs_of design.tree) stops in
-      ap (λ (signals : List ℕ). columns_of signals rows) (take-map taken (length ports) design.circuit.outs ∙ ap (map taken) first)
-
-  pub stops-seen : stop_columns (plan_reference design request) ports rows ≡ columns_of (stops_kept design request) rows
-  stops-seen =
-      let rest : drop (length ports) design.circuit.outs ≡ stop_signals design.tree =
-      ap (λ k. drop k design.circuit.outs) count ∙ ap (drop (length (outputs_of design.tree))) (sym outs) ∙ drop-append_seam (outputs_of design.tree) stops ∙ are in
-      ap (λ (signals : List ℕ). columns_of signals rows) (drop-map taken (length ports) design.circuit.outs ∙ ap (map taken) rest)
-
-  -- as many rows
-  pub rows-kept : (n : ℕ) → rows_to (plan_stops design request) (plan_reference design request) ports rows n ≡ run_rows design request rows n
-  rows-kept n = ap (λ (columns : List (List ℕ)). row_count (halts (plan_stops design request) columns) n) stops-seen
-
-  -- so the text of as many ports is that of these
-  pub text-kept : (n : ℕ) → ports ≡ output_ports design.circuit design.tree → text_of (plan_stops design request) (plan_reference design request) ports rows n ≡ run_text design request rows n
-  text-kept n e =
-      ap (λ (columns : List (List ℕ)). trace_text ports columns (rows_to (plan_stops design request) (plan_reference design request) ports rows n)) shown-kept
-      ∙ ap (trace_text ports (columns_of (outputs_kept design request) rows)) (rows-kept n)
-      ∙ ap (λ (p : List Port). trace_text p (columns_of (outputs_kept design request) rows) (run_rows design request rows n)) e

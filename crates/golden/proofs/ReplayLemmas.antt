@@ -13,8 +13,9 @@ use Rattle.gg_flat.proofs.ListLemmas.{some-item}
 use Rattle.gg_order.specs.Design.{Ordered}
 use Rattle.gg_partfile.specs.declared.request.Request.{Request}
 use Rattle.gg_cut.specs.Channels.{capacity_of}
-use Rattle.gg_cut.specs.Direct.{is_piped, plan_wires}
-use Rattle.gg_cut.specs.Machines.{machine_count}
+use Rattle.gg_cut.specs.Direct.{is_piped}
+use Rattle.gg_cut.specs.Bridges.{Models}
+use Rattle.gg_cut.specs.Seated.{machine_end, plan_bridges, plan_wires}
 use Rattle.gg_cut.specs.Listed.{listed_of}
 use Rattle.gg_cut.specs.Plan.{IsChannel, machine_names, wire_at}
 use Rattle.gg_cut.specs.Solves.{stream}
@@ -53,14 +54,15 @@ use Rattle.gg_replay.specs.ReplayText.{channel_line}
 use Rattle.golden.specs.Replay.{Setting, channel_told, naming_of, port_names, replay_text}
 use Rattle.golden.specs.RunText.{IsRunBy}
 use Rattle.golden.specs.Replayed.{name_in, net_line, net_text, plan_naming, width_in}
+use Rattle.golden.proofs.BeginLemmas.{run-of}
 
 -- the setting that has these
 abbrev pub setting_of : Ordered → Request → ℕ → (columns rows : List (List ℕ)) → Layout → Setting
 setting_of design request n columns rows layout = record { design = design; request = request; cycles = n; columns = columns; rows = rows; layout = layout }
 
--- The circuit's run, and the layout of the request's cut, whose network can go on.
-pub record AreSet (design : Ordered) (request : Request) (default n : ℕ) (columns rows : List (List ℕ)) (layout : Layout) : Type 0 where
-  pub run : IsRunBy design request columns n rows
+-- The run, and the layout of the request's cut, whose network can go on.
+pub record AreSet (design : Ordered) (request : Request) (models : Models) (default n : ℕ) (columns rows : List (List ℕ)) (layout : Layout) : Type 0 where
+  pub run : IsRunBy design request models columns n rows
   pub laid : IsLayoutOf design request default n layout
   pub able : CanRun layout
 
@@ -79,7 +81,7 @@ map-range f g (x ∷ xs) a h =
 map-numbers : {A B : Type 0} (f : A → B) (g : ℕ → B) (xs : List A) → ((k : ℕ) (any : A) → k < length xs → f (slice_index_or xs k any) ≡ g k) → map f xs ≡ map g (range_with_len 0 (length xs))
 map-numbers f g xs h = map-range f g xs 0 (λ k any lt. h k any lt ∙ ap g (let e : k ≡ 0 + k = omega arith in e))
 
-module _ (design : Ordered) (request : Request) (default : ℕ) (plan : Plan) (columns : List (List ℕ)) (n : ℕ) (rows : List (List ℕ)) (given : IsGiven design request default plan columns n (plan_start design request) rows) where
+module _ (design : Ordered) (request : Request) (models : Models) (default : ℕ) (plan : Plan) (columns : List (List ℕ)) (n : ℕ) (rows : List (List ℕ)) (given : IsGiven design request models default plan columns n (plan_start design request) rows) where
   abbrev start : Start
   start = plan_start design request
 
@@ -102,14 +104,14 @@ module _ (design : Ordered) (request : Request) (default : ℕ) (plan : Plan) (c
       map-numbers (λ (channel : Channel). channel.name) (channel_name design.circuit the_wires) plan.channels (λ k any lt. (given.planned.channel k any lt).name)
       ∙ ap (λ count. map (channel_name design.circuit the_wires) (range_with_len 0 count)) given.planned.channel_total
 
-  machine-names : map (λ (machine : planned.Machine). machine.name) plan.machines ≡ map path_of (range_with_len 0 (machine_count design.circuit the_listed))
+  machine-names : map (λ (machine : planned.Machine). machine.name) plan.machines ≡ map path_of (range_with_len 0 (machine_end (plan_bridges design.circuit design.tree request)))
   machine-names =
       map-numbers (λ (machine : planned.Machine). machine.name) path_of plan.machines (λ k any lt. (given.planned.machine k any lt).name)
       ∙ ap (λ count. map path_of (range_with_len 0 count)) given.planned.machine_total
 
   pub naming-is : plan_naming plan design.tree ≡ naming_of design request
   naming-is =
-      let ports : map (port_names design.tree plan.listed) (range_with_len 0 (length plan.machines)) ≡ map (port_names design.tree the_listed) (range_with_len 0 (machine_count design.circuit the_listed)) =
+      let ports : map (port_names design.tree plan.listed) (range_with_len 0 (length plan.machines)) ≡ map (port_names design.tree the_listed) (range_with_len 0 (machine_end (plan_bridges design.circuit design.tree request))) =
       ap (λ (l : Listed). map (port_names design.tree l) (range_with_len 0 (length plan.machines))) given.planned.listed
       ∙ ap (λ count. map (port_names design.tree the_listed) (range_with_len 0 count)) given.planned.machine_total in
       let names = channel-names in
@@ -160,14 +162,14 @@ module _ (design : Ordered) (request : Request) (default : ℕ) (plan : Plan) (c
     opening = opening_net machines (wires_of_plan no_token plan) n
 
     pub laid : (layout : Layout) × (IsLayoutOf design request default n layout × HasLayout (frame_of opening) layout)
-    laid = plan-layout design request default plan columns n start rows no_token (opening_of plan.ratios) machines given built
+    laid = plan-layout design request models default plan columns n start rows no_token (opening_of plan.ratios) machines given built
 
     pub opens : marking_of opening ≡ opening_marking laid.0 0
     opens = opens-so flow machines (wires_of_plan no_token plan) n
-        (built-opening design request default plan columns n start rows machines given (built-with-zeros design request default plan columns machines given.planned built)) laid.0 laid.1.1
+        (built-opening design request models default plan columns n start rows machines given (built-with-zeros design request models default plan columns machines given.planned built)) laid.0 laid.1.1
 
-    pub are-set : AreSet design request default n columns rows laid.0
-    are-set = record { run = given.run.run; laid = laid.1.0; able = can-run flow opening kept laid.0 laid.1.1 }
+    pub are-set : AreSet design request models default n columns rows laid.0
+    are-set = record { run = run-of design request models columns n rows given.run; laid = laid.1.0; able = can-run flow opening kept laid.0 laid.1.1 }
 
     pub frame-has : (events : List (Option Event)) (net : Network) → Steps opening events net → HasLayout (frame_of net) laid.0
     frame-has events net steps = subst (λ (f : Frame). HasLayout f laid.0) (sym (steps-frame opening events net steps)) laid.1.1
@@ -181,4 +183,4 @@ module _ (design : Ordered) (request : Request) (default : ℕ) (plan : Plan) (c
 
     pub stopped-so : (events : List (Option Event)) (net : Network) (stopped : Stopped) → StopsAt 1 opening events net stopped → replayed_from laid.0 1 (opening_marking laid.0 0) events ≡ Err stopped
     stopped-so events net stopped stops =
-        ap (λ m. replayed_from laid.0 1 m events) (sym opens) ∙ stops-at flow laid.0 1 opening events net stopped kept laid.1.1 (plan-in-order design request default plan columns n start rows no_token (opening_of plan.ratios) machines given built) stops
+        ap (λ m. replayed_from laid.0 1 m events) (sym opens) ∙ stops-at flow laid.0 1 opening events net stopped kept laid.1.1 (plan-in-order design request models default plan columns n start rows no_token (opening_of plan.ratios) machines given built) stops

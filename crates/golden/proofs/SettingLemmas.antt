@@ -11,16 +11,17 @@ use Rattle.gg_marking.specs.Marking.{Layout, Marking, opening_marking}
 use Rattle.gg_marking.specs.Goes.{Stopped, replayed_from}
 use Rattle.gg_layout.specs.CutLayout.{IsLayoutOf}
 use Rattle.gg_layout.proofs.OneLemmas.{one-layout}
-use Rattle.gg_pipe.specs.Made.{plan_reference}
+use Rattle.gg_bridged.specs.Whole.{plan_circuit}
 use Rattle.gg_steps.specs.Naming.{Naming}
 use Rattle.gg_steps.specs.Steps.{steps_of}
 use Rattle.gg_told.specs.Said.{Said}
 use Rattle.gg_told.specs.Order.{IsExactFile, IsUniqueFile}
+use Rattle.golden.specs.Partition.{Known}
 use Rattle.golden.specs.Replay.{AreDone, IsSetting, Setting, TellsSteps, naming_of, replay_text, replayed, steps_file_for, stopped_by, stopped_said}
 use Rattle.golden.specs.RunText.{FeedsOnly}
 use Rattle.gg_told.proofs.OrderLemmas.{exact-by}
 use Rattle.golden.proofs.PartitionLemmas.{DesignsAgree}
-use Rattle.golden.proofs.TextLemmas.{OneRun, reference-same, same-run}
+use Rattle.golden.proofs.TextLemmas.{OneRun, circuit-same, same-run}
 
 -- ---- names
 
@@ -29,15 +30,15 @@ naming-alike one other s request = ap (λ (design : Ordered). naming_of design r
 
 -- ---- two settings
 
-module _ (agree : DesignsAgree) (circuit partition trace : List ℕ) (capacity : ℕ) (a b : Setting) (x : IsSetting circuit partition trace capacity a) (y : IsSetting circuit partition trace capacity b) where
+module _ (known : Known) (agree : DesignsAgree) (circuit partition trace : List ℕ) (capacity : ℕ) (a b : Setting) (x : IsSetting known circuit partition trace capacity a) (y : IsSetting known circuit partition trace capacity b) where
   pub designs-alike : AreAlike a.design b.design
   designs-alike = agree circuit a.design b.design x.means y.means
 
   pub requests-same : a.request ≡ b.request
   requests-same = request-once partition a.request b.request x.cuts.asks y.cuts.asks
 
-  pub references-same : plan_reference a.design a.request ≡ plan_reference b.design b.request
-  references-same = reference-same a.design b.design designs-alike a.request b.request requests-same
+  pub circuits-same : plan_circuit a.design a.request known.models ≡ plan_circuit b.design b.request known.models
+  circuits-same = circuit-same known.models a.design b.design designs-alike a.request b.request requests-same
 
   pub cycles-same : a.cycles ≡ b.cycles
   cycles-same = sym x.feeds.count ∙ y.feeds.count
@@ -71,25 +72,25 @@ err-same r s one other e d f = let h : Err one ≡ Err other = sym d ∙ e ∙ f
 pub ok-same : (r s : Result Marking Stopped) (one other : Marking) → r ≡ s → r ≡ Ok one → s ≡ Ok other → one ≡ other
 ok-same r s one other e d f = let h : Ok one ≡ Ok other = sym d ∙ e ∙ f in cc
 
-module _ (agree : DesignsAgree) (circuit partition trace : List ℕ) (capacity : ℕ) where
-  steps-apart : (bytes : List ℕ) (said : Said) → AreDone circuit partition trace capacity bytes → TellsSteps circuit partition trace capacity bytes said → ⊥
+module _ (known : Known) (agree : DesignsAgree) (circuit partition trace : List ℕ) (capacity : ℕ) where
+  steps-apart : (bytes : List ℕ) (said : Said) → AreDone known circuit partition trace capacity bytes → TellsSteps known circuit partition trace capacity bytes said → ⊥
   steps-apart bytes said (a, x, (marking, leads)) (b, y, (stopped, stops, is)) =
-      ok-err (replayed b bytes) marking stopped (sym (leads-same agree circuit partition trace capacity a b x y bytes) ∙ leads) stops
+      ok-err (replayed b bytes) marking stopped (sym (leads-same known agree circuit partition trace capacity a b x y bytes) ∙ leads) stops
 
-  steps-once : (bytes : List ℕ) (said said' : Said) → TellsSteps circuit partition trace capacity bytes said → TellsSteps circuit partition trace capacity bytes said' → said ≡ said'
+  steps-once : (bytes : List ℕ) (said said' : Said) → TellsSteps known circuit partition trace capacity bytes said → TellsSteps known circuit partition trace capacity bytes said' → said ≡ said'
   steps-once bytes said said' (a, x, (one, stops, is)) (b, y, (other, stops', is')) =
-      let same = err-same (replayed a bytes) (replayed b bytes) one other (leads-same agree circuit partition trace capacity a b x y bytes) stops stops' in
-      is ∙ stopped-same agree circuit partition trace capacity a b x y bytes one ∙ ap (stopped_said b bytes) same ∙ sym is'
+      let same = err-same (replayed a bytes) (replayed b bytes) one other (leads-same known agree circuit partition trace capacity a b x y bytes) stops stops' in
+      is ∙ stopped-same known agree circuit partition trace capacity a b x y bytes one ∙ ap (stopped_said b bytes) same ∙ sym is'
 
-  steps-status : (bytes : List ℕ) (said : Said) → TellsSteps circuit partition trace capacity bytes said → said.status ≡ 9
+  steps-status : (bytes : List ℕ) (said : Said) → TellsSteps known circuit partition trace capacity bytes said → said.status ≡ 9
   steps-status bytes said (a, x, (stopped, stops, is)) = ap (λ (s : Said). s.status) is
 
   -- nothing is reported for steps that may all be done, and all that is reported for others has the status 9
-  pub steps_file-exact : (name : List ℕ) → IsExactFile (steps_file_for circuit partition trace capacity name)
+  pub steps_file-exact : (name : List ℕ) → IsExactFile (steps_file_for known circuit partition trace capacity name)
   steps_file-exact name = exact-by 9 (inr (inr (inr (inl refl)))) steps-apart steps-status
 
   -- at most one thing is reported for steps
-  pub steps_file-unique : (name : List ℕ) → IsUniqueFile (steps_file_for circuit partition trace capacity name)
+  pub steps_file-unique : (name : List ℕ) → IsUniqueFile (steps_file_for known circuit partition trace capacity name)
   steps_file-unique name = steps-once
 
 -- ---- the text
@@ -105,9 +106,9 @@ texts-same a b one other s requests layouts rows same =
     ∙ ap (λ (m : Marking). replay_text b m) same
 
 -- each setting of the same circuit and trace has the rows of this one
-pub rows-same : DesignsAgree → OneRun → (circuit partition trace : List ℕ) (capacity : ℕ) (own : Setting) (order : List ℕ) → IsOrder (plan_reference own.design own.request) order
-    → IsSetting circuit partition trace capacity own → FeedsOnly own.design.circuit trace own.cycles own.columns
-    → (other : Setting) → IsSetting circuit partition trace capacity other → other.rows ≡ own.rows
-rows-same agree once circuit partition trace capacity own order ordered x feeds other y =
-    (same-run once trace own.design own.request order ordered own.cycles own.columns own.rows x.run feeds other.design other.request
-    (designs-alike agree circuit partition trace capacity other own y x) (requests-same agree circuit partition trace capacity other own y x) other.cycles other.columns other.rows y.feeds y.run).1
+pub rows-same : (known : Known) → DesignsAgree → OneRun → (circuit partition trace : List ℕ) (capacity : ℕ) (own : Setting) (order : List ℕ) → IsOrder (plan_circuit own.design own.request known.models) order
+    → IsSetting known circuit partition trace capacity own → FeedsOnly own.design.circuit own.request trace own.cycles own.columns
+    → (other : Setting) → IsSetting known circuit partition trace capacity other → other.rows ≡ own.rows
+rows-same known agree once circuit partition trace capacity own order ordered x feeds other y =
+    (same-run once known.models trace own.design own.request order ordered own.cycles own.columns own.rows x.run feeds other.design other.request
+    (designs-alike known agree circuit partition trace capacity other own y x) (requests-same known agree circuit partition trace capacity other own y x) other.cycles other.columns other.rows y.feeds y.run).1

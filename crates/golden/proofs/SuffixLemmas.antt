@@ -5,7 +5,7 @@ use Rattle.std.proofs.lemmas.Bool.{cases_Bool, eqb-true, or_right}
 use Rattle.std.proofs.lemmas.List.{length-take-le, take-append-drop}
 use Rattle.gg_flat.specs.Circuit.{FlatCircuit}
 use Rattle.gg_flat.specs.Clock.{Ratio}
-use Rattle.gg_flat.specs.Ports.{output_ports}
+use Rattle.gg_flat.specs.Order.{IsOrder}
 use Rattle.gg_flat.specs.Run.{IsRunFrom, Start, since, state_at}
 use Rattle.gg_flat.specs.Scoped.{stop_signals}
 use Rattle.gg_flat.specs.State.{IsState, State}
@@ -19,10 +19,10 @@ use Rattle.gg_order.specs.Design.{IsDesign, Ordered}
 use Rattle.gg_partfile.specs.Partition.{IsPartition}
 use Rattle.gg_partfile.specs.declared.request.Request.{Request}
 use Rattle.gg_partfile.proofs.OnceLemmas.{request-once}
-use Rattle.gg_check.proofs.SameCutLemmas.{fault-same}
+use Rattle.gg_cut.specs.Bridges.{Models}
 use Rattle.gg_cut.specs.Clocks.{ratios_of, stop_ratios}
 use Rattle.gg_cut.specs.Direct.{plan_hub}
-use Rattle.gg_cut.specs.Fault.{first_fault}
+use Rattle.gg_cut.specs.Fault.{first_fault, first_fault_with}
 use Rattle.gg_cut.specs.Held.{AreHeldOnce}
 use Rattle.gg_cut.specs.Solves.{AreRows}
 use Rattle.gg_pipe.specs.Follows.{plan_start}
@@ -31,23 +31,24 @@ use Rattle.gg_pipe.specs.Made.{AllHeld, plan_reference}
 use Rattle.gg_pipe.proofs.OneReference.{one-reference, one-start}
 use Rattle.gg_pipe.proofs.PlanLemmas.{plan-ordered}
 use Rattle.gg_pipe.proofs.StartLemmas.{plan-typed}
-use Rattle.gg_build.specs.Build.{reference_order}
 use Rattle.gg_run.specs.Printed.{plan_stops}
 use Rattle.gg_snap_text.specs.Lines.{snap_text}
 use Rattle.gg_snap_text.specs.Standing.{IsSnap}
 use Rattle.gg_snap_text.specs.Table.{rows_of}
 use Rattle.gg_trace.specs.Last.{has_halted, halts, row_count}
 use Rattle.gg_trace.specs.Printing.{text_from}
+use Rattle.gg_trace.specs.Trace.{Columns}
 use Rattle.gg_trace.proofs.LastLaws.{rows-before, rows-since, rows-stay, rows-within}
 use Rattle.golden.specs.Meant.{AreMeant, Meant, meaning, meant_reference, meant_values}
-use Rattle.golden.specs.Partition.{IsPartitionFor}
+use Rattle.golden.specs.Partition.{IsPartitionFor, to_run, to_save}
 use Rattle.golden.specs.Resumed.{CanBeResumed, HaveSamePipes, HaveSameRatios, IsRestOf, IsResumedText, rest_rows, rest_text, start_at}
 use Rattle.golden.specs.Run.{IsTextOf}
-use Rattle.golden.specs.RunText.{FeedsOnly, IsRunBy, columns_of, outputs_kept, outputs_of, run_rows, run_text, stops_kept}
+use Rattle.golden.specs.RunText.{FeedsOnly, IsRunBy, columns_of, outputs_kept, outputs_of, run_rows, run_text, shown_ports, stops_kept}
 use Rattle.golden.specs.Saved.{HasRun, save_limit, state_before}
+use Rattle.golden.proofs.AloneLemmas.{circuit-alone, fed-alone, kept-alone, run-alone, shown-alone}
 use Rattle.golden.proofs.FromLemmas.{counts-from, texts-from}
-use Rattle.golden.proofs.MeantLemmas.{columns-few, columns-once, meant-formed, meant-is, meant-ordered, meant-snap}
-use Rattle.golden.proofs.PartitionLemmas.{DesignsAgree}
+use Rattle.golden.proofs.MeantLemmas.{columns-few, columns-once, meant-faultless, meant-formed, meant-is, meant-ordered, meant-snap, reference_order}
+use Rattle.golden.proofs.PartitionLemmas.{DesignsAgree, fault-with-same}
 use Rattle.golden.proofs.TextLemmas.{only-text}
 
 -- ---- how far a run may be saved
@@ -84,13 +85,15 @@ maps-split f g (x ∷ xs) ys e =
     let all : f x ∷ map f xs ≡ g x ∷ map g xs = ap (λ (y : ℕ). y ∷ map f xs) first ∙ ap (λ (l : List ℕ). g x ∷ l) split.0 in
     (all, split.1)
 
-module _ (design : Ordered) (one other : Request) (keeps : KeepsToTree design.circuit design.tree) (circuits : plan_reference design one ≡ plan_reference design other) (starts : plan_start design one ≡ plan_start design other) where
+module _ (design : Ordered) (one other : Request) (keeps : KeepsToTree design.circuit design.tree) (circuits : plan_reference design one ≡ plan_reference design other) (starts : plan_start design one ≡ plan_start design other)
+    (alone : one.bridges ≡ []) (lone : other.bridges ≡ []) where
   -- the outputs and the conditions of the stops are the same signals of the reference circuit
   kept-same : (outputs_kept design one ≡ outputs_kept design other) × (stops_kept design one ≡ stops_kept design other)
   kept-same =
       let seen : Request → ℕ → ℕ = λ r. taken_as (plan_hub design.circuit design.tree r) in
-      maps-split (seen one) (seen other) (outputs_of design.tree) (stop_signals design.tree)
-      (ap (map (seen one)) keeps.scoped.outs ∙ ap (λ (c : FlatCircuit). c.outs) circuits ∙ ap (map (seen other)) (sym keeps.scoped.outs))
+      let split = maps-split (seen one) (seen other) (outputs_of design.tree) (stop_signals design.tree)
+      (ap (map (seen one)) keeps.scoped.outs ∙ ap (λ (c : FlatCircuit). c.outs) circuits ∙ ap (map (seen other)) (sym keeps.scoped.outs)) in
+      (kept-alone design one alone ∙ split.0 ∙ sym (kept-alone design other lone), split.1)
 
   ratios-same : ratios_of design.tree one ≡ ratios_of design.tree other
   ratios-same = ap (λ (s : Start). s.ratios) starts
@@ -98,11 +101,11 @@ module _ (design : Ordered) (one other : Request) (keeps : KeepsToTree design.ci
   -- so the text of a rest is the same for both
   rests-same : (n at : ℕ) (columns rows : List (List ℕ)) → rest_text (meaning design one n columns) at rows ≡ rest_text (meaning design other n columns) at rows
   rests-same n at columns rows =
-      let ports : List Port = output_ports design.circuit design.tree in
-      let text : List ℕ → List Ratio → List ℕ → List ℕ = λ outs clocks stops. text_from ports (columns_of outs rows) at (row_count (λ k. halts clocks (columns_of stops rows) (at + k)) (n - at)) in
-      ap (λ (outs : List ℕ). text outs (plan_stops design one) (stops_kept design one)) kept-same.0
-      ∙ ap (λ (ratios : List Ratio). text (outputs_kept design other) (stop_ratios design.tree ratios) (stops_kept design one)) ratios-same
-      ∙ ap (λ (stops : List ℕ). text (outputs_kept design other) (plan_stops design other) stops) kept-same.1
+      let text : List Port → List ℕ → List Ratio → List ℕ → List ℕ = λ ports outs clocks stops. text_from ports (columns_of outs rows) at (row_count (λ k. halts clocks (columns_of stops rows) (at + k)) (n - at)) in
+      ap (λ (ports : List Port). text ports (outputs_kept design one) (plan_stops design one) (stops_kept design one)) (shown-alone design one alone ∙ sym (shown-alone design other lone))
+      ∙ ap (λ (outs : List ℕ). text (shown_ports design other) outs (plan_stops design one) (stops_kept design one)) kept-same.0
+      ∙ ap (λ (ratios : List Ratio). text (shown_ports design other) (outputs_kept design other) (stop_ratios design.tree ratios) (stops_kept design one)) ratios-same
+      ∙ ap (λ (stops : List ℕ). text (shown_ports design other) (outputs_kept design other) (plan_stops design other) stops) kept-same.1
 
   -- a run of the one reference circuit from a state is one of the other
   rows-moved : (n at : ℕ) (columns rows : List (List ℕ)) (state : State) → AreRows (plan_reference design one) (start_at (meaning design one n columns) at state) columns n rows
@@ -114,7 +117,7 @@ module _ (design : Ordered) (one other : Request) (keeps : KeepsToTree design.ci
 -- ---- a run that goes on from the state before a cycle
 
 module _ (design : Ordered) (request : Request) (is : IsDesign design) (keeps : KeepsToTree design.circuit design.tree) (held : AreHeldOnce design.circuit) (faultless : first_fault design request ≡ None)
-    (columns : List (List ℕ)) (n at : ℕ) (rows rest : List (List ℕ)) (run : IsRunBy design request columns n rows) (le : at ≤ save_limit (meaning design request n columns) rows) where
+    (columns : List (List ℕ)) (n at : ℕ) (rows rest : List (List ℕ)) (run : IsRunFrom (plan_reference design request) (plan_start design request) columns n rows) (le : at ≤ save_limit (meaning design request n columns) rows) where
   abbrev whole : FlatCircuit
   whole = plan_reference design request
 
@@ -149,7 +152,7 @@ module _ (design : Ordered) (request : Request) (is : IsDesign design) (keeps : 
     -- so their text is the rest of the whole text
     text-so : IsRestOf at (run_text design request rows n) (rest_text (meaning design request n columns) at rest)
     text-so =
-        let ports : List Port = output_ports design.circuit design.tree in
+        let ports : List Port = shown_ports design request in
         record {
           ports = ports;
           columns = columns_of (outputs_kept design request) rows;
@@ -174,20 +177,26 @@ module _ (design : Ordered) (one other : Request) (is : IsDesign design) (keeps 
     starts-same = one-start design one other is keeps all faultless none pipes ratios
 
     -- a run that starts from a saved state prints the rest
-    pub runs-go-on : AreHeldOnce design.circuit → (columns : List (List ℕ)) (n at : ℕ) (rows rest : List (List ℕ)) → IsRunBy design other columns n rows → at ≤ save_limit (meaning design other n columns) rows
+    pub runs-go-on : AreHeldOnce design.circuit → one.bridges ≡ [] → other.bridges ≡ [] → (models : Models) (columns : List (List ℕ)) (n at : ℕ) (rows rest : List (List ℕ)) → IsRunBy design other models columns n rows → at ≤ save_limit (meaning design other n columns) rows
         → AreRows (plan_reference design one) (start_at (meaning design one n columns) at (state_before (meaning design other n columns) rows at)) columns n rest
         → IsRestOf at (run_text design other rows n) (rest_text (meaning design one n columns) at rest)
-    runs-go-on held columns n at rows rest run le own =
+    runs-go-on held alone lone models columns n at rows rest run le own =
         let state : State = state_before (meaning design other n columns) rows at in
-        subst (λ (text : List ℕ). IsRestOf at (run_text design other rows n) text) (sym (rests-same design one other keeps circuits-same starts-same n at columns rest))
-        (text-so design other is keeps held none columns n at rows rest run le (rows-moved design one other keeps circuits-same starts-same n at columns rest state own))
+        subst (λ (text : List ℕ). IsRestOf at (run_text design other rows n) text) (sym (rests-same design one other keeps circuits-same starts-same alone lone n at columns rest))
+        (text-so design other is keeps held none columns n at rows rest (run-alone design other lone models columns n rows run) le
+        (rows-moved design one other keeps circuits-same starts-same alone lone n at columns rest state own))
 
 -- ---- the bytes of files
 
+-- a partition for `save` or `resume` asks for no bridge
+asks-alone : (models : Models) {circuit partition : List ℕ} (request : Request) → IsPartitionFor (to_save models) circuit partition → IsPartition partition request → request.bridges ≡ []
+asks-alone models {partition = partition} request (design, means, (fits, cuts)) asks = ap (λ (r : Request). r.bridges) (request-once partition request fits asks cuts.asks) ∙ cuts.alone refl
+
 -- what bytes mean with another partition
-with-cut : DesignsAgree → {circuit partition cut trace : List ℕ} (meant : Meant) (request : Request) → AreMeant circuit cut trace meant → IsPartitionFor circuit partition → IsPartition partition request
-    → AreMeant circuit partition trace (meaning meant.design request meant.cycles meant.columns)
-with-cut agree {circuit} {partition} meant request are (design, means, (fits, cuts)) asks =
+with-cut : (models : Models) → DesignsAgree → {circuit partition cut trace : List ℕ} (meant : Meant) (request : Request) → AreMeant (to_save models) circuit cut trace meant → IsPartitionFor (to_save models) circuit partition → IsPartition partition request
+    → AreMeant (to_save models) circuit partition trace (meaning meant.design request meant.cycles meant.columns)
+with-cut models agree {circuit} {partition} {trace = trace} meant request are (design, means, (fits, cuts)) asks =
+    let alone = asks-alone models request (design, means, (fits, cuts)) asks in
     record {
       means = are.means;
       designed = are.designed;
@@ -197,28 +206,39 @@ with-cut agree {circuit} {partition} meant request are (design, means, (fits, cu
       cuts = record {
         asks = asks;
         faultless =
-            sym (fault-same design meant.design (agree circuit design meant.design means are.means) request)
-            ∙ ap (first_fault design) (request-once partition request fits asks cuts.asks) ∙ cuts.faultless;
+            sym (fault-with-same models design meant.design (agree circuit design meant.design means are.means) request)
+            ∙ ap (first_fault_with design models) (request-once partition request fits asks cuts.asks) ∙ cuts.faultless;
+        alone = λ saves. alone;
       };
-      feeds = are.feeds;
+      feeds = subst (λ (ports : List Port). Columns ports trace meant.cycles meant.columns) (fed-alone meant.design meant.request (are.cuts.alone refl) ∙ sym (fed-alone meant.design request alone)) are.feeds;
     }
 
-module _ (agree : DesignsAgree) {circuit partition cut trace snap : List ℕ} (one other : Request) (at : ℕ) (meant : Meant) (rows : List (List ℕ)) (has : HasRun circuit cut trace meant rows) (le : at ≤ save_limit meant rows)
-    (is : snap ≡ snap_text (meant_values meant) at (state_before meant rows at)) (fits : IsPartitionFor circuit partition) (asks : IsPartition partition one) (own : IsPartition cut other) (pipes : HaveSamePipes one other) where
+module _ (models : Models) (agree : DesignsAgree) {circuit partition cut trace snap : List ℕ} (one other : Request) (at : ℕ) (meant : Meant) (rows : List (List ℕ)) (has : HasRun (to_save models) circuit cut trace meant rows) (le : at ≤ save_limit meant rows)
+    (is : snap ≡ snap_text (meant_values meant) at (state_before meant rows at)) (fits : IsPartitionFor (to_save models) circuit partition) (asks : IsPartition partition one) (own : IsPartition cut other) (pipes : HaveSamePipes one other) where
   abbrev design : Ordered
   design = meant.design
 
   abbrev there : Meant
   there = meaning meant.design one meant.cycles meant.columns
 
-  there-are : AreMeant circuit partition trace (meaning meant.design one meant.cycles meant.columns)
-  there-are = with-cut agree meant one has.are fits asks
+  there-are : AreMeant (to_save models) circuit partition trace (meaning meant.design one meant.cycles meant.columns)
+  there-are = with-cut models agree meant one has.are fits asks
+
+  -- neither request asks for a bridge
+  alone : one.bridges ≡ []
+  alone = asks-alone models one fits asks
+
+  lone : meant.request.bridges ≡ []
+  lone = has.are.cuts.alone refl
+
+  reference-run : IsRunFrom (plan_reference meant.design meant.request) (plan_start meant.design meant.request) meant.columns meant.cycles rows
+  reference-run = run-alone meant.design meant.request lone models meant.columns meant.cycles rows has.run
 
   same-pipes : HaveSamePipes one meant.request
   same-pipes = subst (λ (r : Request). HaveSamePipes one r) (request-once cut other meant.request own has.are.cuts.asks) pipes
 
   reference-is : plan_reference meant.design one ≡ plan_reference meant.design meant.request
-  reference-is = circuits-same meant.design one meant.request has.are.designed has.are.keeps has.are.whole there-are.cuts.faultless has.are.cuts.faultless same-pipes
+  reference-is = circuits-same meant.design one meant.request has.are.designed has.are.keeps has.are.whole (meant-faultless there-are) (meant-faultless has.are) same-pipes
 
   few : at ≤ meant.cycles
   few = limit-within (halts (plan_stops meant.design meant.request) (columns_of (stops_kept meant.design meant.request) rows)) meant.cycles at le
@@ -229,31 +249,32 @@ module _ (agree : DesignsAgree) {circuit partition cut trace snap : List ℕ} (o
       record {
         within = omega (arith, few, columns-few _ trace meant.cycles meant.columns has.are.feeds);
         typed = subst (λ (c : FlatCircuit). IsState c (state_before meant rows at)) (sym reference-is)
-            (IsState-at (meant_reference meant) (plan_start meant.design meant.request) meant.columns meant.cycles rows (meant-formed has.are) (plan-typed meant.design meant.request) has.run at few);
+            (IsState-at (meant_reference meant) (plan_start meant.design meant.request) meant.columns meant.cycles rows (meant-formed has.are) (plan-typed meant.design meant.request) reference-run at few);
         is = is ∙ ap (λ (c : FlatCircuit). snap_text (rows_of c meant.design.tree) at (state_before meant rows at)) (sym reference-is);
       }
 
-  pub can-resume : CanBeResumed circuit partition trace snap
+  pub can-resume : CanBeResumed (to_save models) circuit partition trace snap
   can-resume = (there, at, state_before meant rows at, there-are, saved-snap, few)
 
-  module _ (ratios : HaveSameRatios one other) (text whole : List ℕ) (resumed : IsResumedText circuit partition trace snap text) (runs : IsTextOf circuit cut trace whole) where
+  module _ (ratios : HaveSameRatios one other) (text whole : List ℕ) (resumed : IsResumedText (to_save models) circuit partition trace snap text) (runs : IsTextOf (to_run models) circuit cut trace whole) where
     same-ratios : HaveSameRatios one meant.request
     same-ratios = subst (λ (r : Request). HaveSameRatios one r) (request-once cut other meant.request own has.are.cuts.asks) ratios
 
     whole-is : whole ≡ run_text meant.design meant.request rows meant.cycles
     whole-is =
-        let only : FeedsOnly meant.design.circuit trace meant.cycles meant.columns = record {
+        let only : FeedsOnly meant.design.circuit meant.request trace meant.cycles meant.columns = record {
           feeds = has.are.feeds;
           only = λ m others fed. columns-once _ trace meant.cycles m meant.columns others has.are.feeds fed;
         } in
-        only-text agree IsRunFrom-once circuit cut trace meant.design meant.request (reference_order meant.design meant.request) (meant-ordered has.are) has.are.means has.are.cuts.asks
+        only-text agree IsRunFrom-once (to_run models) circuit cut trace meant.design meant.request (reference_order meant.design meant.request)
+        (subst (λ (f : FlatCircuit). IsOrder f (reference_order meant.design meant.request)) (sym (circuit-alone meant.design meant.request lone models)) (meant-ordered has.are)) has.are.means has.are.cuts.asks
         meant.cycles meant.columns rows has.run only whole runs
 
     -- the text that is written from it is the rest
     pub goes-on : IsRestOf at whole text
     goes-on = by resumed
       where
-        by : IsResumedText circuit partition trace snap text → IsRestOf at whole text
+        by : IsResumedText (to_save models) circuit partition trace snap text → IsRestOf at whole text
         by (found, cycle, state, rest, y, told) =
             let same = y.only at (state_before meant rows at) (meant-snap agree there found there-are y.are snap at (state_before meant rows at) saved-snap) in
             let moved : AreRows (meant_reference there) (start_at there cycle state) meant.columns meant.cycles rest =
@@ -265,5 +286,5 @@ module _ (agree : DesignsAgree) {circuit partition cut trace snap : List ℕ} (o
             told ∙ ap (λ (m : Meant). rest_text m cycle rest) (meant-is agree found there y.are there-are) ∙ ap (λ (k : ℕ). rest_text there k rest) (sym same.0) in
             subst (λ (l : List ℕ). IsRestOf at whole l) (sym written)
             (subst (λ (l : List ℕ). IsRestOf at l (rest_text there at rest)) (sym whole-is)
-            (runs-go-on meant.design one meant.request has.are.designed has.are.keeps has.are.whole there-are.cuts.faultless has.are.cuts.faultless same-pipes same-ratios has.are.held
-            meant.columns meant.cycles at rows rest has.run le turned))
+            (runs-go-on meant.design one meant.request has.are.designed has.are.keeps has.are.whole (meant-faultless there-are) (meant-faultless has.are) same-pipes same-ratios has.are.held
+            alone lone models meant.columns meant.cycles at rows rest has.run le turned))

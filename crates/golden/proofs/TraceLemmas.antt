@@ -1,8 +1,9 @@
--- A trace has at most one first fault, whichever circuit the circuit's bytes are taken to mean.
+-- A trace has at most one first fault, whichever circuit and request the first two files' bytes are taken to mean.
 use Rattle.std.proofs.Common.{◌≡◌, ℕ, List, refl, sym, ap, ◌∙◌, subst, inl, inr}
 use Rattle.gg_flat.specs.declared.ports.Port.{Port}
 use Rattle.gg_flat.specs.Circuit.{FlatCircuit}
-use Rattle.gg_flat.specs.Ports.{in_ports}
+use Rattle.gg_partfile.proofs.OnceLemmas.{request-once}
+use Rattle.gg_partfile.specs.declared.request.Request.{Request}
 use Rattle.gg_trace.specs.FaultText.{fault_words}
 use Rattle.gg_trace.specs.Trace.{Columns, IsFirstFault}
 use Rattle.gg_trace.specs.declared.faults.TraceFault.{TraceFault}
@@ -10,6 +11,7 @@ use Rattle.gg_told.specs.Said.{Said}
 use Rattle.golden.specs.Lines.{trace_fault}
 use Rattle.gg_told.specs.Order.{IsExactFile, IsUniqueFile}
 use Rattle.golden.specs.Run.{trace_file_for, IsTraceFor, TellsTraceFor}
+use Rattle.golden.specs.RunText.{fed_ports}
 use Rattle.gg_told.proofs.OrderLemmas.{exact-by}
 use Rattle.golden.proofs.TextLemmas.{OneFlat}
 
@@ -21,24 +23,31 @@ OneFirstFault = (ports : List Port) (bytes : List ℕ) (one other : TraceFault) 
 abbrev pub NoFault : Type 0
 NoFault = (ports : List Port) (bytes : List ℕ) (n : ℕ) (columns : List (List ℕ)) (fault : TraceFault) → Columns ports bytes n columns → IsFirstFault ports bytes fault → ⊥
 
-module _ (agree : OneFlat) (once : OneFirstFault) (never : NoFault) (circuit : List ℕ) where
-  pub trace-apart : (bytes : List ℕ) (said : Said) → IsTraceFor circuit bytes → TellsTraceFor circuit bytes said → ⊥
-  trace-apart bytes said (one, means, (n, columns, feeds)) (other, means', (fault, first, is)) =
-      never (in_ports one) bytes n columns fault feeds (subst (λ (flat : FlatCircuit). IsFirstFault (in_ports flat) bytes fault) (agree circuit other one means' means) first)
+-- a fault for the ports of one circuit and of one request is one for those of others that are the same
+pub fault-moved : (one other : FlatCircuit) (request requested : Request) → one ≡ other → request ≡ requested → (bytes : List ℕ) (fault : TraceFault) → IsFirstFault (fed_ports one request) bytes fault → IsFirstFault (fed_ports other requested) bytes fault
+fault-moved one other request requested e r bytes fault first =
+    subst (λ (flat : FlatCircuit). IsFirstFault (fed_ports flat requested) bytes fault) e (subst (λ (q : Request). IsFirstFault (fed_ports one q) bytes fault) r first)
 
-  pub trace-once : (bytes : List ℕ) (said said' : Said) → TellsTraceFor circuit bytes said → TellsTraceFor circuit bytes said' → said ≡ said'
-  trace-once bytes said said' (one, means, (fault, first, is)) (other, means', (fault', first', is')) =
+module _ (agree : OneFlat) (once : OneFirstFault) (never : NoFault) (circuit partition : List ℕ) where
+  pub trace-apart : (bytes : List ℕ) (said : Said) → IsTraceFor circuit partition bytes → TellsTraceFor circuit partition bytes said → ⊥
+  trace-apart bytes said (one, means, (request, asks, (n, columns, feeds))) (other, means', (requested, asked, (fault, first, is))) =
+      never (fed_ports one request) bytes n columns fault feeds
+      (fault-moved other one requested request (agree circuit other one means' means) (request-once partition requested request asked asks) bytes fault first)
+
+  pub trace-once : (bytes : List ℕ) (said said' : Said) → TellsTraceFor circuit partition bytes said → TellsTraceFor circuit partition bytes said' → said ≡ said'
+  trace-once bytes said said' (one, means, (request, asks, (fault, first, is))) (other, means', (requested, asked, (fault', first', is'))) =
       is
-      ∙ ap (λ (f : TraceFault). trace_fault (fault_words f)) (once (in_ports other) bytes fault fault' (subst (λ (flat : FlatCircuit). IsFirstFault (in_ports flat) bytes fault) (agree circuit one other means means') first) first')
+      ∙ ap (λ (f : TraceFault). trace_fault (fault_words f))
+      (once (fed_ports other requested) bytes fault fault' (fault-moved one other request requested (agree circuit one other means means') (request-once partition request requested asks asked) bytes fault first) first')
       ∙ sym is'
 
-  pub trace-status : (bytes : List ℕ) (said : Said) → TellsTraceFor circuit bytes said → said.status ≡ 7
-  trace-status bytes said (one, means, (fault, first, is)) = ap (λ (s : Said). s.status) is
+  pub trace-status : (bytes : List ℕ) (said : Said) → TellsTraceFor circuit partition bytes said → said.status ≡ 7
+  trace-status bytes said (one, means, (request, asks, (fault, first, is))) = ap (λ (s : Said). s.status) is
 
   -- nothing is reported for a trace without a fault, and all that is reported for others has the status 7
-  pub trace_file-exact : (name : List ℕ) → IsExactFile (trace_file_for circuit name)
+  pub trace_file-exact : (name : List ℕ) → IsExactFile (trace_file_for circuit partition name)
   trace_file-exact name = exact-by 7 (inr (inr (inl refl))) trace-apart trace-status
 
   -- at most one thing is reported for a trace
-  pub trace_file-unique : (name : List ℕ) → IsUniqueFile (trace_file_for circuit name)
+  pub trace_file-unique : (name : List ℕ) → IsUniqueFile (trace_file_for circuit partition name)
   trace_file-unique name = trace-once

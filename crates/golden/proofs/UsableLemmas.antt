@@ -1,6 +1,7 @@
 -- Names that can be used in a line of a steps file: their bytes are those of paths, or colons.
 use Rattle.std.proofs.Common.{◌≡◌, ◌≢◌, ℕ, ◌<◌, Bool, true, false, ◌||◌, ◌==◌, List, [], ◌∷◌, ◌++◌, length, get_or, refl, sym, ap, ◌∙◌, arith, length-append}
-use Rattle.std.specs.Prelude.{All, AllPairs}
+use Rattle.std.specs.Prelude.{All, AllPairs, codes}
+use Rattle.std.specs.Char.{is_ascii_alphanumeric}
 use Rattle.std.specs.List.{list_all}
 use Rattle.std.proofs.lemmas.Bool.{and_from, and_parts, eqb-true}
 use Rattle.std.proofs.lemmas.List.Folds.{list_all-append}
@@ -12,6 +13,7 @@ use Rattle.gg_trace.specs.Fields.{is_blank}
 use Rattle.gg_trace.specs.Lined.{HasNoFeed}
 use Rattle.gg_trace.specs.Parted.{HasNoBlank}
 use Rattle.gg_steps.specs.Spelling.{AreUsable}
+use Rattle.golden.specs.Handed.{IsBridgeName, is_word_byte}
 
 -- a byte of a path, or a colon
 abbrev pub is_plain_byte : ℕ → Bool
@@ -83,3 +85,21 @@ behind-plain word path plain is =
       some = omega (arith, is.some, length-append word path);
       bytes = list_all-append is_plain_byte word path ∙ and_from (list_all is_plain_byte word) (list_all is_plain_byte path) plain is.bytes;
     }
+
+-- the name of a bridge behind its word
+word-byte : (b : ℕ) → is_word_byte b ≡ true → is_plain_byte b ≡ true
+word-byte b e = go (is_ascii_alphanumeric b) (b == 95) e
+  where
+    go : (x y : Bool) → (x || y) ≡ true → (((x || y || b == 36) || b == 46) || b == 58) ≡ true
+    go true y e = refl
+    go false true e = refl
+    go false false e = absurd (cc)
+
+word-bytes : (bytes : List ℕ) → list_all is_word_byte bytes ≡ true → list_all is_plain_byte bytes ≡ true
+word-bytes [] e = refl
+word-bytes (b ∷ bytes) e =
+    let parts = and_parts (is_word_byte b) (list_all is_word_byte bytes) e in
+    and_from (is_plain_byte b) (list_all is_plain_byte bytes) (word-byte b parts.0) (word-bytes bytes parts.1)
+
+pub bridge-plain : (name : List ℕ) → IsBridgeName name → IsPlain (codes "bridge:" ++ name)
+bridge-plain name is = record { some = omega (arith, is.some, length-append (codes "bridge:") name); bytes = list_all-append is_plain_byte (codes "bridge:") name ∙ and_from (list_all is_plain_byte (codes "bridge:")) (list_all is_plain_byte name) refl (word-bytes name is.bytes) }

@@ -1,12 +1,13 @@
 -- The order of each command: its files, one after another, and then its text. All that have files begin with a circuit and
 -- a partition.
 use Rattle.std.specs.Prelude.{ℕ, List, [], Option, Some, None}
+use Rattle.gg_cut.specs.Bridges.{Models}
 use Rattle.gg_words.specs.declared.command.Cmd.{Cmd}
 use Rattle.gg_words.specs.declared.command.Cmd.TheVariants.{Run, Replay, Check, Demo, Save, Resume}
 use Rattle.golden.specs.Check.{IsCutTextOf}
 use Rattle.golden.specs.Demo.{IsDemoText}
 use Rattle.gg_told.specs.Order.{Order, Load, Write}
-use Rattle.golden.specs.Partition.{partition_file_for}
+use Rattle.golden.specs.Partition.{Known, partition_file_for, to_run, to_save}
 use Rattle.golden.specs.Replay.{IsReplayOf, steps_file_for}
 use Rattle.golden.specs.Resumed.{IsResumedText, snap_file_for}
 use Rattle.golden.specs.Saved.{IsSavedText, saved_file_for}
@@ -24,12 +25,12 @@ asking circuit partition capacity = record { circuit = circuit; partition = part
 
 -- The circuit and the partition are loaded and checked, the partition for the circuit. What comes next depends on the
 -- bytes of both.
-abbrev pub read_order : Asked → (next : (circuit partition : List ℕ) → Order) → Order
-read_order asked next = Load (circuit_file asked.circuit) (λ c. Load (partition_file_for c asked.partition) (next c))
+abbrev pub read_order : Known → Asked → (next : (circuit partition : List ℕ) → Order) → Order
+read_order known asked next = Load (circuit_file asked.circuit) (λ c. Load (partition_file_for known c asked.partition) (next c))
 
--- the same, and then a trace for the circuit
-abbrev pub fed_order : Asked → (trace : List ℕ) → (next : (circuit partition trace : List ℕ) → Order) → Order
-fed_order asked trace next = read_order asked (λ c p. Load (trace_file_for c trace) (next c p))
+-- the same, and then a trace for the circuit and the partition
+abbrev pub fed_order : Known → Asked → (trace : List ℕ) → (next : (circuit partition trace : List ℕ) → Order) → Order
+fed_order known asked trace next = read_order known asked (λ c p. Load (trace_file_for c p trace) (next c p))
 
 -- what a command asks of its first two files, if it has files
 abbrev pub asked_by : Cmd → Option Asked
@@ -49,26 +50,35 @@ trace_of (Demo seed size workers) = None
 trace_of (Save circuit partition trace at capacity workers) = Some trace
 trace_of (Resume circuit partition trace snap capacity workers) = Some trace
 
+-- what is known for a command, if these models are handed in
+abbrev pub known_of : Models → Cmd → Known
+known_of models (Run circuit partition trace capacity workers mono) = to_run models
+known_of models (Replay circuit partition trace steps capacity) = to_run models
+known_of models (Check circuit partition capacity) = to_run models
+known_of models (Demo seed size workers) = to_run models
+known_of models (Save circuit partition trace at capacity workers) = to_save models
+known_of models (Resume circuit partition trace snap capacity workers) = to_save models
+
 -- What comes after a circuit and a partition with these bytes: `run` writes the text of the circuit's run on a trace, with the pipes
--- that the partition asks for,
+-- and the bridges that the partition asks for,
 -- `replay` that of the marking that the steps of a file lead to, `check` that of the cut. `demo` has no files before its
 -- text, the summary of the demo. `save` writes the snapshot of the run before a cycle, `resume` the text of the run from a snapshot on.
-abbrev pub order_behind : Cmd → (circuit partition : List ℕ) → Order
-order_behind (Run circuit partition trace capacity workers mono) c p = Load (trace_file_for c trace) (λ t. Write (IsTextOf c p t))
-order_behind (Replay circuit partition trace steps capacity) c p =
-    Load (trace_file_for c trace) (λ t. Load (steps_file_for c p t capacity steps) (λ s. Write (IsReplayOf c p t capacity s)))
-order_behind (Check circuit partition capacity) c p = Write (IsCutTextOf c p capacity)
-order_behind (Demo seed size workers) c p = Write (IsDemoText seed size)
-order_behind (Save circuit partition trace at capacity workers) c p = Load (saved_file_for c p at trace) (λ t. Write (IsSavedText c p at t))
-order_behind (Resume circuit partition trace snap capacity workers) c p =
-    Load (trace_file_for c trace) (λ t. Load (snap_file_for c p t snap) (λ s. Write (IsResumedText c p t s)))
+abbrev pub order_behind : Models → Cmd → (circuit partition : List ℕ) → Order
+order_behind models (Run circuit partition trace capacity workers mono) c p = Load (trace_file_for c p trace) (λ t. Write (IsTextOf (to_run models) c p t))
+order_behind models (Replay circuit partition trace steps capacity) c p =
+    Load (trace_file_for c p trace) (λ t. Load (steps_file_for (to_run models) c p t capacity steps) (λ s. Write (IsReplayOf (to_run models) c p t capacity s)))
+order_behind models (Check circuit partition capacity) c p = Write (IsCutTextOf c p capacity)
+order_behind models (Demo seed size workers) c p = Write (IsDemoText seed size)
+order_behind models (Save circuit partition trace at capacity workers) c p = Load (saved_file_for (to_save models) c p at trace) (λ t. Write (IsSavedText (to_save models) c p at t))
+order_behind models (Resume circuit partition trace snap capacity workers) c p =
+    Load (trace_file_for c p trace) (λ t. Load (snap_file_for (to_save models) c p t snap) (λ s. Write (IsResumedText (to_save models) c p t s)))
 
 -- What a command asks of its first two files, and then what comes next. A command without files begins with what comes
 -- next, whatever bytes that is given.
-abbrev pub order_by : Option Asked → (next : (circuit partition : List ℕ) → Order) → Order
-order_by (Some asked) next = read_order asked next
-order_by None next = next [] []
+abbrev pub order_by : Known → Option Asked → (next : (circuit partition : List ℕ) → Order) → Order
+order_by known (Some asked) next = read_order known asked next
+order_by known None next = next [] []
 
--- the order of a command
-abbrev pub order_of : Cmd → Order
-order_of cmd = order_by (asked_by cmd) (order_behind cmd)
+-- the order of a command, if these models are handed in
+abbrev pub order_of : Models → Cmd → Order
+order_of models cmd = order_by (known_of models cmd) (asked_by cmd) (order_behind models cmd)

@@ -1,8 +1,10 @@
 -- What the contracts of the program speak of.
+pub mod Bridges
 pub mod Case
 pub mod Check
 pub mod Commands
 pub mod Demo
+pub mod Handed
 pub mod Limits
 pub mod Lines
 pub mod Meant

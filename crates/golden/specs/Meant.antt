@@ -10,10 +10,10 @@ use Rattle.gg_partfile.specs.declared.request.Request.{Request}
 use Rattle.gg_pipe.specs.Made.{AllHeld, plan_reference}
 use Rattle.gg_snap_text.specs.declared.row.Row.{Row}
 use Rattle.gg_snap_text.specs.Table.{rows_of}
-use Rattle.golden.specs.Partition.{Cuts}
+use Rattle.golden.specs.Partition.{Cuts, Known}
 use Rattle.golden.specs.RunText.{Feeds}
 
--- a design, a request, and the columns of the top's inputs for some cycles
+-- a design, a request, and the columns of the top's inputs that no bridge drives for some cycles
 pub record Meant : Type 0 where
   pub design : Ordered
   pub request : Request
@@ -26,14 +26,14 @@ meaning design request cycles columns = record { design = design; request = requ
 
 -- The bytes of a circuit, a partition and a trace mean this. The design is one, it keeps to its tree, and each register is held by exactly
 -- one signal. (Each design that `golden` reads is so.)
-pub record AreMeant (circuit partition trace : List ℕ) (meant : Meant) : Type 0 where
+pub record AreMeant (known : Known) (circuit partition trace : List ℕ) (meant : Meant) : Type 0 where
   pub means : MeansDesign circuit meant.design
   pub designed : IsDesign meant.design
   pub keeps : KeepsToTree meant.design.circuit meant.design.tree
   pub held : AreHeldOnce meant.design.circuit
   pub whole : AllHeld meant.design.circuit
-  pub cuts : Cuts meant.design partition meant.request
-  pub feeds : Feeds meant.design.circuit trace meant.cycles meant.columns
+  pub cuts : Cuts known meant.design partition meant.request
+  pub feeds : Feeds meant.design.circuit meant.request trace meant.cycles meant.columns
 
 -- the circuit whose state is saved: the design's, with a register for each pipe that the request asks for
 abbrev pub meant_reference : Meant → FlatCircuit

@@ -10,8 +10,9 @@ use Rattle.gg_flat.specs.Tree.{InstanceTree, memory_at, path_at}
 use Rattle.gg_front.specs.Meaning.{MeansDesign}
 use Rattle.gg_order.specs.Design.{Ordered}
 use Rattle.gg_partfile.specs.declared.request.Request.{Request}
-use Rattle.gg_cut.specs.Direct.{is_piped, plan_wires}
-use Rattle.gg_cut.specs.Machines.{first_memory, is_memory, machine_count}
+use Rattle.gg_cut.specs.Direct.{is_piped}
+use Rattle.gg_cut.specs.Seated.{machine_end, plan_bridges, plan_wires}
+use Rattle.gg_cut.specs.Machines.{first_memory, is_memory}
 use Rattle.gg_cut.specs.Listed.{listed_of}
 use Rattle.gg_cut.specs.Plan.{machine_names, wire_at}
 use Rattle.gg_cut.specs.Solves.{stream}
@@ -33,13 +34,13 @@ use Rattle.gg_told.specs.Said.{Said}
 use Rattle.golden.specs.Limits.{steps_limit}
 use Rattle.golden.specs.Lines.{step_fault}
 use Rattle.gg_told.specs.Order.{File, IsOnly}
-use Rattle.golden.specs.Partition.{Cuts}
+use Rattle.golden.specs.Partition.{Cuts, Known}
 use Rattle.golden.specs.RunText.{Feeds, IsRunBy}
 
 -- ---- what a circuit, a partition and a trace mean
 
--- A design, a request, the columns of the top's inputs for some cycles, the run of the reference circuit on them, and the
--- layout of the request's cut.
+-- A design, a request, the columns of the top's inputs that no bridge drives for some cycles, the run on them of the reference circuit
+-- with the models of the bridges, and the layout of the request's cut.
 pub record Setting : Type 0 where
   pub design : Ordered
   pub request : Request
@@ -50,11 +51,11 @@ pub record Setting : Type 0 where
 
 -- The bytes of a circuit, a partition and a trace mean this. `capacity` is that of the channels that the request
 -- doesn't name.
-pub record IsSetting (circuit partition trace : List ℕ) (capacity : ℕ) (setting : Setting) : Type 0 where
+pub record IsSetting (known : Known) (circuit partition trace : List ℕ) (capacity : ℕ) (setting : Setting) : Type 0 where
   pub means : MeansDesign circuit setting.design
-  pub cuts : Cuts setting.design partition setting.request
-  pub feeds : Feeds setting.design.circuit trace setting.cycles setting.columns
-  pub run : IsRunBy setting.design setting.request setting.columns setting.cycles setting.rows
+  pub cuts : Cuts known setting.design partition setting.request
+  pub feeds : Feeds setting.design.circuit setting.request trace setting.cycles setting.columns
+  pub run : IsRunBy setting.design setting.request known.models setting.columns setting.cycles setting.rows
   pub laid : IsLayoutOf setting.design setting.request capacity setting.cycles setting.layout
 
 -- ---- names
@@ -69,8 +70,8 @@ abbrev pub naming_by : Ordered → Request → Listed → List Wire → Naming
 naming_by design request listed wires =
     record {
       channels = map (channel_name design.circuit wires) (range_with_len 0 (length wires));
-      machines = map (path_at (machine_names design request listed)) (range_with_len 0 (machine_count design.circuit listed));
-      ports = map (port_names design.tree listed) (range_with_len 0 (machine_count design.circuit listed));
+      machines = map (path_at (machine_names design request listed)) (range_with_len 0 (machine_end (plan_bridges design.circuit design.tree request)));
+      ports = map (port_names design.tree listed) (range_with_len 0 (machine_end (plan_bridges design.circuit design.tree request)));
     }
 
 abbrev pub naming_of : Ordered → Request → Naming
@@ -83,9 +84,9 @@ abbrev pub replayed : Setting → (steps : List ℕ) → Result Marking Stopped
 replayed setting steps = replayed_from setting.layout 1 (opening_marking setting.layout 0) (steps_of (naming_of setting.design setting.request) steps)
 
 -- each step of the file may be done
-abbrev pub AreDone : (circuit partition trace : List ℕ) (capacity : ℕ) (steps : List ℕ) → Type 0
-AreDone circuit partition trace capacity steps =
-    (setting : Setting) × IsSetting circuit partition trace capacity setting × ((marking : Marking) × (replayed setting steps ≡ Ok marking))
+abbrev pub AreDone : Known → (circuit partition trace : List ℕ) (capacity : ℕ) (steps : List ℕ) → Type 0
+AreDone known circuit partition trace capacity steps =
+    (setting : Setting) × IsSetting known circuit partition trace capacity setting × ((marking : Marking) × (replayed setting steps ≡ Ok marking))
 
 -- what is reported for a refused step: its number, counted from 1, and the cause, with the names of the cut
 abbrev pub stopped_by : Naming → (events : List (Option Event)) → Stopped → Said
@@ -95,15 +96,15 @@ abbrev pub stopped_said : Setting → (steps : List ℕ) → Stopped → Said
 stopped_said setting steps stopped = stopped_by (naming_of setting.design setting.request) (steps_of (naming_of setting.design setting.request) steps) stopped
 
 -- this is reported for steps of which one is refused
-abbrev pub TellsSteps : (circuit partition trace : List ℕ) (capacity : ℕ) (steps : List ℕ) → Said → Type 0
-TellsSteps circuit partition trace capacity steps said =
-    (setting : Setting) × IsSetting circuit partition trace capacity setting
+abbrev pub TellsSteps : Known → (circuit partition trace : List ℕ) (capacity : ℕ) (steps : List ℕ) → Said → Type 0
+TellsSteps known circuit partition trace capacity steps said =
+    (setting : Setting) × IsSetting known circuit partition trace capacity setting
     × ((stopped : Stopped) × (replayed setting steps ≡ Err stopped) × (said ≡ stopped_said setting steps stopped))
 
 -- a steps file
-abbrev pub steps_file_for : (circuit partition trace : List ℕ) (capacity : ℕ) (name : List ℕ) → File
-steps_file_for circuit partition trace capacity name =
-    record { name = name; limit = steps_limit; accepts = AreDone circuit partition trace capacity; refuses = TellsSteps circuit partition trace capacity }
+abbrev pub steps_file_for : Known → (circuit partition trace : List ℕ) (capacity : ℕ) (name : List ℕ) → File
+steps_file_for known circuit partition trace capacity name =
+    record { name = name; limit = steps_limit; accepts = AreDone known circuit partition trace capacity; refuses = TellsSteps known circuit partition trace capacity }
 
 -- ---- how many steps there are
 
@@ -113,20 +114,20 @@ abbrev pub all_steps : Setting → ℕ
 all_steps setting = setting.cycles * (2 * length setting.layout.links + length setting.layout.turns + all_dues setting.layout)
 
 -- Some line can be added to a steps file: each step of the longer file may be done.
-abbrev pub CanGoOn : (circuit partition trace : List ℕ) (capacity : ℕ) (steps : List ℕ) → Type 0
-CanGoOn circuit partition trace capacity steps =
-    (line : List ℕ) × (longer : List ℕ) × IsLengthened steps line longer × AreDone circuit partition trace capacity longer
+abbrev pub CanGoOn : Known → (circuit partition trace : List ℕ) (capacity : ℕ) (steps : List ℕ) → Type 0
+CanGoOn known circuit partition trace capacity steps =
+    (line : List ℕ) × (longer : List ℕ) × IsLengthened steps line longer × AreDone known circuit partition trace capacity longer
 
 -- A line can be added to a steps file exactly if the file has fewer lines than there are steps.
-abbrev pub GoesOnUntilAll : (circuit partition trace : List ℕ) (capacity : ℕ) (steps : List ℕ) → Type 0
-GoesOnUntilAll circuit partition trace capacity steps =
-    (setting : Setting) → IsSetting circuit partition trace capacity setting
-    → (length (text_lines steps) < all_steps setting) ↔ CanGoOn circuit partition trace capacity steps
+abbrev pub GoesOnUntilAll : Known → (circuit partition trace : List ℕ) (capacity : ℕ) (steps : List ℕ) → Type 0
+GoesOnUntilAll known circuit partition trace capacity steps =
+    (setting : Setting) → IsSetting known circuit partition trace capacity setting
+    → (length (text_lines steps) < all_steps setting) ↔ CanGoOn known circuit partition trace capacity steps
 
 -- ---- the text
 
 -- The line of channel c: its counts, and the tokens that have entered it so far. They are the first values of its signal in
--- the reference circuit's run, and before them the token 0 if the channel has a pipe.
+-- the run, and before them the token 0 if the channel has a pipe.
 abbrev pub channel_told : Setting → Marking → List Wire → ℕ → List ℕ
 channel_told setting marking wires c =
     channel_line (channel_name setting.design.circuit wires c) (shape_at (signal_shapes setting.design.circuit) (wire_at wires c).signal).width
@@ -142,16 +143,16 @@ replay_text setting marking =
     lines_told setting marking (plan_wires setting.design.circuit setting.design.tree setting.request)
 
 -- the text of `replay`, for the marking that the steps lead to
-abbrev pub IsReplayText : (circuit partition trace : List ℕ) (capacity : ℕ) (steps text : List ℕ) → Type 0
-IsReplayText circuit partition trace capacity steps text =
-    (setting : Setting) × IsSetting circuit partition trace capacity setting
+abbrev pub IsReplayText : Known → (circuit partition trace : List ℕ) (capacity : ℕ) (steps text : List ℕ) → Type 0
+IsReplayText known circuit partition trace capacity steps text =
+    (setting : Setting) × IsSetting known circuit partition trace capacity setting
     × ((marking : Marking) × (replayed setting steps ≡ Ok marking) × (text ≡ replay_text setting marking))
 
 -- This is the text of the steps, and a line can be added to them exactly if they are fewer than all.
-pub record IsReplayOf (circuit partition trace : List ℕ) (capacity : ℕ) (steps text : List ℕ) : Type 0 where
-  pub text_is : IsReplayText circuit partition trace capacity steps text
-  pub goes_on : GoesOnUntilAll circuit partition trace capacity steps
+pub record IsReplayOf (known : Known) (circuit partition trace : List ℕ) (capacity : ℕ) (steps text : List ℕ) : Type 0 where
+  pub text_is : IsReplayText known circuit partition trace capacity steps text
+  pub goes_on : GoesOnUntilAll known circuit partition trace capacity steps
 
 -- each step may be done, and this is the text, the only one
-abbrev pub IsReplayed : (circuit partition trace : List ℕ) (capacity : ℕ) (steps text : List ℕ) → Type 0
-IsReplayed circuit partition trace capacity steps text = AreDone circuit partition trace capacity steps × IsOnly (IsReplayOf circuit partition trace capacity steps) text
+abbrev pub IsReplayed : Known → (circuit partition trace : List ℕ) (capacity : ℕ) (steps text : List ℕ) → Type 0
+IsReplayed known circuit partition trace capacity steps text = AreDone known circuit partition trace capacity steps × IsOnly (IsReplayOf known circuit partition trace capacity steps) text

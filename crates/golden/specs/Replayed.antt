@@ -4,6 +4,7 @@ use Rattle.std.specs.List.{range_with_len}
 use Rattle.gg_flat.specs.Line.{value_at}
 use Rattle.gg_flat.specs.Streams.{Flow}
 use Rattle.gg_flat.specs.Tree.{InstanceTree, path_at}
+use Rattle.gg_cut.specs.Bridges.{Models}
 use Rattle.gg_cut.specs.declared.plan.Plan.{Plan}
 use Rattle.gg_node.specs.Machine.{Machine}
 use Rattle.gg_net.specs.declared.event.Event.{Event}
@@ -61,9 +62,9 @@ net_text plan flow net = flat_map (net_line plan flow net) (range_with_len 0 (le
 
 -- ---- steps
 
--- what the plan's network computes on the trace
-abbrev pub fed_flow : Fed → Flow
-fed_flow fed = flow_along fed.case.design fed.case.cut.request fed.case.cut.plan fed.trace.columns fed.trace.rows
+-- what the plan's network computes on the trace, with these models
+abbrev pub fed_flow : Models → Fed → Flow
+fed_flow models fed = flow_along fed.case.design fed.case.cut.request models fed.case.cut.plan fed.trace.columns fed.trace.rows
 
 -- the plan's network can be built for this flow
 abbrev pub IsToReplay : Fed → Flow → Type 0

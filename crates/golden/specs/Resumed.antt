@@ -3,7 +3,6 @@
 use Rattle.std.specs.Prelude.{◌≡◌, ◌↔◌, ℕ, ◌+◌, ◌-◌, ◌<◌, ◌≤◌, ◌⊎◌, Contains, List}
 use Rattle.gg_cut.specs.Clocks.{ratio_of, ratios_of}
 use Rattle.gg_cut.specs.Solves.{AreRows}
-use Rattle.gg_flat.specs.Ports.{output_ports}
 use Rattle.gg_flat.specs.Run.{Start}
 use Rattle.gg_flat.specs.State.{State}
 use Rattle.gg_flat.specs.declared.ports.Port.{Port}
@@ -19,34 +18,35 @@ use Rattle.gg_trace.specs.Printing.{text_from, trace_text}
 use Rattle.golden.specs.Limits.{snap_limit}
 use Rattle.golden.specs.Lines.{few_rows, snap_fault}
 use Rattle.golden.specs.Meant.{AreMeant, Meant, meant_reference}
-use Rattle.golden.specs.RunText.{columns_of, outputs_kept, stops_kept}
+use Rattle.golden.specs.Partition.{Known}
+use Rattle.golden.specs.RunText.{columns_of, outputs_kept, shown_ports, stops_kept}
 
 -- ---- the file of a snapshot
 
 -- the bytes are the text of a snapshot of the reference circuit, before a cycle that is at most the number of the trace's
-abbrev pub CanBeResumed : (circuit partition trace snap : List ℕ) → Type 0
-CanBeResumed circuit partition trace snap =
-    (meant : Meant) × (cycle : ℕ) × (state : State) × AreMeant circuit partition trace meant × IsSnap (meant_reference meant) meant.design.tree snap cycle state × (cycle ≤ meant.cycles)
+abbrev pub CanBeResumed : Known → (circuit partition trace snap : List ℕ) → Type 0
+CanBeResumed known circuit partition trace snap =
+    (meant : Meant) × (cycle : ℕ) × (state : State) × AreMeant known circuit partition trace meant × IsSnap (meant_reference meant) meant.design.tree snap cycle state × (cycle ≤ meant.cycles)
 
 -- this is reported for bytes that aren't the text of such a snapshot: their first line that can't stand
-abbrev pub TellsNoSnap : (circuit partition trace snap : List ℕ) → Said → Type 0
-TellsNoSnap circuit partition trace snap said =
-    (meant : Meant) × (line : ℕ) × AreMeant circuit partition trace meant × IsFirstFault (meant_reference meant) meant.design.tree snap line × (said ≡ snap_fault (fault_words (S1 line)))
+abbrev pub TellsNoSnap : Known → (circuit partition trace snap : List ℕ) → Said → Type 0
+TellsNoSnap known circuit partition trace snap said =
+    (meant : Meant) × (line : ℕ) × AreMeant known circuit partition trace meant × IsFirstFault (meant_reference meant) meant.design.tree snap line × (said ≡ snap_fault (fault_words (S1 line)))
 
 -- this is reported for a snapshot before a later cycle
-abbrev pub TellsLate : (circuit partition trace snap : List ℕ) → Said → Type 0
-TellsLate circuit partition trace snap said =
-    (meant : Meant) × (cycle : ℕ) × (state : State) × AreMeant circuit partition trace meant × IsSnap (meant_reference meant) meant.design.tree snap cycle state
+abbrev pub TellsLate : Known → (circuit partition trace snap : List ℕ) → Said → Type 0
+TellsLate known circuit partition trace snap said =
+    (meant : Meant) × (cycle : ℕ) × (state : State) × AreMeant known circuit partition trace meant × IsSnap (meant_reference meant) meant.design.tree snap cycle state
     × (meant.cycles < cycle) × (said ≡ few_rows cycle meant.cycles)
 
 -- the file of a snapshot
-abbrev pub snap_file_for : (circuit partition trace name : List ℕ) → File
-snap_file_for circuit partition trace name =
+abbrev pub snap_file_for : Known → (circuit partition trace name : List ℕ) → File
+snap_file_for known circuit partition trace name =
     record {
       name = name;
       limit = snap_limit;
-      accepts = CanBeResumed circuit partition trace;
-      refuses = λ snap said. TellsNoSnap circuit partition trace snap said ⊎ TellsLate circuit partition trace snap said;
+      accepts = CanBeResumed known circuit partition trace;
+      refuses = λ snap said. TellsNoSnap known circuit partition trace snap said ⊎ TellsLate known circuit partition trace snap said;
     }
 
 -- ---- the text
@@ -56,9 +56,9 @@ abbrev pub start_at : Meant → (cycle : ℕ) → State → Start
 start_at meant cycle state = record { cycle = cycle; state = state; ratios = ratios_of meant.design.tree meant.request }
 
 -- What the files of a circuit, a partition, a trace and a snapshot mean: the snapshot has this cycle and this state and no other, and these
--- are the rows of the run from there, by cycle.
-pub record HasRest (circuit partition trace snap : List ℕ) (meant : Meant) (cycle : ℕ) (state : State) (rows : List (List ℕ)) : Type 0 where
-  pub are : AreMeant circuit partition trace meant
+-- are the rows of the run from there, by cycle. For `resume` a partition asks for no bridge, so it is a run of the reference circuit.
+pub record HasRest (known : Known) (circuit partition trace snap : List ℕ) (meant : Meant) (cycle : ℕ) (state : State) (rows : List (List ℕ)) : Type 0 where
+  pub are : AreMeant known circuit partition trace meant
   pub reads : IsSnap (meant_reference meant) meant.design.tree snap cycle state
   pub only : (c : ℕ) (s : State) → IsSnap (meant_reference meant) meant.design.tree snap c s → (c ≡ cycle) × (s ≡ state)
   pub within : cycle ≤ meant.cycles
@@ -72,12 +72,12 @@ rest_rows meant cycle rows =
 -- a header, and these rows, with the columns of the top's outputs
 abbrev pub rest_text : Meant → (cycle : ℕ) → (rows : List (List ℕ)) → List ℕ
 rest_text meant cycle rows =
-    text_from (output_ports meant.design.circuit meant.design.tree) (columns_of (outputs_kept meant.design meant.request) rows) cycle (rest_rows meant cycle rows)
+    text_from (shown_ports meant.design meant.request) (columns_of (outputs_kept meant.design meant.request) rows) cycle (rest_rows meant cycle rows)
 
 -- the text of the run from a snapshot on
-abbrev pub IsResumedText : (circuit partition trace snap text : List ℕ) → Type 0
-IsResumedText circuit partition trace snap text =
-    (meant : Meant) × (cycle : ℕ) × (state : State) × (rows : List (List ℕ)) × HasRest circuit partition trace snap meant cycle state rows × (text ≡ rest_text meant cycle rows)
+abbrev pub IsResumedText : Known → (circuit partition trace snap text : List ℕ) → Type 0
+IsResumedText known circuit partition trace snap text =
+    (meant : Meant) × (cycle : ℕ) × (state : State) × (rows : List (List ℕ)) × HasRest known circuit partition trace snap meant cycle state rows × (text ≡ rest_text meant cycle rows)
 
 -- ---- what `resume` writes after `save`
 

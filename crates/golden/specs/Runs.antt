@@ -3,7 +3,6 @@
 -- any state on).
 use Rattle.std.specs.Prelude.{◌≡◌, ℕ, ◌-◌, ◌<◌, ◌≤◌, ◌++◌, ◌⊎◌, List, [], Option, None, Some, map, replicate, take}
 use Rattle.gg_flat.specs.Along.{rows_from}
-use Rattle.gg_flat.specs.Ports.{output_ports}
 use Rattle.gg_flat.specs.Run.{state_at}
 use Rattle.gg_flat.specs.State.{State}
 use Rattle.gg_flat.specs.Streams.{Flow}
@@ -11,7 +10,9 @@ use Rattle.gg_order.specs.Design.{Ordered}
 use Rattle.gg_pipe.specs.Follows.{plan_start}
 use Rattle.gg_pipe.specs.Made.{plan_reference}
 use Rattle.gg_sound.specs.Built.{flow_of}
-use Rattle.gg_build.specs.Build.{reference_order}
+use Rattle.gg_build.specs.Build.{circuit_order}
+use Rattle.gg_bridged.specs.Whole.{plan_begin, plan_circuit}
+use Rattle.gg_cut.specs.Bridges.{Models}
 use Rattle.gg_run.specs.Printed.{IsFirst, ends_run, plan_stops}
 use Rattle.gg_snap_text.specs.FaultText.{fault_words}
 use Rattle.gg_snap_text.specs.Lines.{snap_text}
@@ -23,6 +24,7 @@ use Rattle.golden.specs.Lines.{few_rows, snap_fault}
 use Rattle.golden.specs.Meant.{Meant}
 use Rattle.golden.specs.Replayed.{IsToReplay}
 use Rattle.golden.specs.Resumed.{start_at}
+use Rattle.golden.specs.RunText.{shown_ports}
 use Rattle.golden.specs.declared.case.Fed.{Fed}
 
 -- ---- what was read
@@ -46,9 +48,9 @@ pub record IsUpto (whole : Fed) (at : ℕ) (fed : Fed) : Type 0 where
 
 -- this is the first cycle in which a stop ends a run of `cycles` cycles, of which the first ones are run
 abbrev pub FindsStop : (fed : Fed) {flow : Flow} (run : IsToReplay fed flow) (cycles : ℕ) → Option ℕ → Type 0
-FindsStop fed run cycles stop = IsFirst (ends_run (plan_stops run.design run.request) (plan_reference run.design run.request) (output_ports run.design.circuit run.design.tree) run.rows cycles) fed.trace.rows stop
+FindsStop fed run cycles stop = IsFirst (ends_run (plan_stops run.design run.request) (plan_circuit run.design run.request run.models) (shown_ports run.design run.request) run.rows cycles) fed.trace.rows stop
 
--- the text of the snapshot of the reference circuit after the cycles that are run
+-- the text of the snapshot of the reference circuit after the cycles that are run; the request asks for no bridge
 abbrev pub text_after : (fed : Fed) {flow : Flow} (run : IsToReplay fed flow) → List ℕ
 text_after fed run =
     snap_text (rows_of (plan_reference run.design run.request) run.design.tree) fed.trace.rows
@@ -61,15 +63,16 @@ pub data TellsEarly (fed : Fed) {flow : Flow} (run : IsToReplay fed flow) (cycle
 
 -- ---- `resume`
 
--- the rows, by cycle, of the reference circuit's run from a cycle and a state on, computed along its order
-abbrev pub resumed_rows : Fed → (cycle : ℕ) → State → List (List ℕ)
-resumed_rows fed cycle state =
+-- the rows, by cycle, of the run of the plan's circuit from a cycle and a state on, computed along its order
+abbrev pub resumed_rows : Models → Fed → (cycle : ℕ) → State → List (List ℕ)
+resumed_rows models fed cycle state =
     replicate cycle []
-    ++ rows_from (plan_reference fed.case.design fed.case.cut.request) (reference_order fed.case.design fed.case.cut.request) (start_at (meant_by fed) cycle state) fed.trace.columns (fed.trace.rows - cycle)
+    ++ rows_from (plan_circuit fed.case.design fed.case.cut.request models) (circuit_order fed.case.design fed.case.cut.request models)
+    (plan_begin fed.case.design fed.case.cut.request models (start_at (meant_by fed) cycle state)) fed.trace.columns (fed.trace.rows - cycle)
 
 -- what the plan's network computes from there
-abbrev pub resumed_flow : Fed → (cycle : ℕ) → State → Flow
-resumed_flow fed cycle state = flow_of fed.case.design fed.case.cut.request fed.case.cut.plan (start_at (meant_by fed) cycle state) (resumed_rows fed cycle state)
+abbrev pub resumed_flow : Models → Fed → (cycle : ℕ) → State → Flow
+resumed_flow models fed cycle state = flow_of fed.case.design fed.case.cut.request fed.case.cut.plan (start_at (meant_by fed) cycle state) (resumed_rows models fed cycle state)
 
 -- This is reported for bytes that aren't the text of a snapshot of this circuit, or that of one before a cycle that is later than this
 -- number of rows.

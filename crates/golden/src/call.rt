@@ -1,9 +1,12 @@
 //! The top call.
-ghost use Rattle.std.specs.Prelude.{◌≡◌, ℕ, List, Bool, false};
+ghost use Rattle.std.specs.Prelude.{◌≡◌, ℕ, List, [], Bool, false};
 ghost use Rattle.gg_words.specs.Meaning as command_line;
 ghost use Rattle.gg_words.specs.Meaning.{texts};
 ghost use Rattle.gg_words.specs.declared.command.Cmd.TheVariants.{Replay, Resume, Run, Save};
+ghost use Rattle.golden.specs.Bridges.{CanHandIn, HaveModels, models_in};
+ghost use Rattle.golden.specs.Handed.{AreHandedIn};
 ghost use Rattle.golden.specs.Network.{RanNetwork};
+ghost use Rattle.golden.specs.Partition.{to_run};
 ghost use Rattle.golden.specs.Outcome.{CallEnded, Answered};
 ghost use Rattle.gg_told.specs.Endings.{said_by};
 ghost use Rattle.gg_told.specs.Ends.{Reports, loads_of, puts_of};
@@ -12,12 +15,16 @@ ghost use Rattle.gg_told.specs.WentOn.{ShelfWentOn, SinkWentOn};
 
 use crate::check::check;
 use crate::demo::demo;
+use crate::handed::models_of;
 use crate::laws::{refusals_are_exact, resumed_runs_go_on};
 use crate::replay::replay;
 use crate::resume::resume;
 use crate::run::run;
 use crate::save::save;
 use crate::words::end_at_words;
+use gg_bits::Name;
+use gg_bridge::Bridge;
+use gg_flat::Models;
 use gg_io::{Gate, Shelf, Sink};
 use gg_partfile::one_answer;
 use gg_told::{Ending, report};
@@ -26,19 +33,23 @@ use std::alloc::Global;
 use std::thread::Threads;
 
 // Does the command `run`.
-fn do_run<R: Threads + Sync, S: Shelf, K: Sink, G: Gate + Sync>(
+fn do_run<R: Threads + Sync, S: Shelf, K: Sink, G: Gate + Sync, B: Bridge + Send + Drop>(
     rt: &R,
     alloc: Global,
     cmd: &Cmd,
+    models: &Models,
+    bridges: Vec<(Name, B)>,
     shelf: &mut S,
     out: &mut K,
     gate: &G,
 ) -> Result<(), Ending>
     requires is { (circuit partition trace : List ℕ) × (capacity workers : ℕ) × (mono : Bool) × (cmd.now ≡ Run circuit partition trace capacity workers mono) }
     requires asked { (words : List (List ℕ)) × command_line.IsCommand words cmd.now }
-    ensures ended { (words : List (List ℕ)) → command_line.IsCommand words cmd.now → CallEnded words (loads_of S.Shelf shelf.old shelf.new) (puts_of K.Sink out.old out.new) result }
+    requires handed { AreHandedIn models.now }
+    requires bridges { HaveModels B.piece B.state bridges.items models.now }
+    ensures ended { (words : List (List ℕ)) → command_line.IsCommand words cmd.now → CallEnded models.now words (loads_of S.Shelf shelf.old shelf.new) (puts_of K.Sink out.old out.new) result }
     ensures network { (circuit partition trace : List ℕ) (capacity workers : ℕ) → cmd.now ≡ Run circuit partition trace capacity workers false → (said_by result).status ≡ 0
-        → RanNetwork (loads_of S.Shelf shelf.old shelf.new) (puts_of K.Sink out.old out.new) circuit partition trace capacity }
+        → RanNetwork (to_run models.now) (loads_of S.Shelf shelf.old shelf.new) (puts_of K.Sink out.old out.new) circuit partition trace capacity }
     ensures shelf { ShelfWentOn S.Shelf shelf.old shelf.new }
     ensures out { SinkWentOn K.Sink out.old out.new }
 {
@@ -60,6 +71,8 @@ fn do_run<R: Threads + Sync, S: Shelf, K: Sink, G: Gate + Sync>(
             *capacity,
             *workers,
             *mono,
+            models,
+            bridges,
             shelf,
             out,
             gate,
@@ -69,15 +82,19 @@ fn do_run<R: Threads + Sync, S: Shelf, K: Sink, G: Gate + Sync>(
 }
 
 // Does the command `replay`.
-fn do_replay<S: Shelf, K: Sink>(
+fn do_replay<S: Shelf, K: Sink, B: Bridge + Send + Drop>(
     alloc: Global,
     cmd: &Cmd,
+    models: &Models,
+    bridges: Vec<(Name, B)>,
     shelf: &mut S,
     out: &mut K,
 ) -> Result<(), Ending>
     requires is { (circuit partition trace steps : List ℕ) × (capacity : ℕ) × (cmd.now ≡ Replay circuit partition trace steps capacity) }
     requires asked { (words : List (List ℕ)) × command_line.IsCommand words cmd.now }
-    ensures ended { (words : List (List ℕ)) → command_line.IsCommand words cmd.now → CallEnded words (loads_of S.Shelf shelf.old shelf.new) (puts_of K.Sink out.old out.new) result }
+    requires handed { AreHandedIn models.now }
+    requires bridges { HaveModels B.piece B.state bridges.items models.now }
+    ensures ended { (words : List (List ℕ)) → command_line.IsCommand words cmd.now → CallEnded models.now words (loads_of S.Shelf shelf.old shelf.new) (puts_of K.Sink out.old out.new) result }
     ensures shelf { ShelfWentOn S.Shelf shelf.old shelf.new }
     ensures out { SinkWentOn K.Sink out.old out.new }
 {
@@ -96,6 +113,8 @@ fn do_replay<S: Shelf, K: Sink>(
             trace.as_str(),
             steps.as_str(),
             *capacity,
+            models,
+            bridges,
             shelf,
             out,
         ),
@@ -108,13 +127,15 @@ fn do_save<R: Threads + Sync, S: Shelf, K: Sink, G: Gate + Sync>(
     rt: &R,
     alloc: Global,
     cmd: &Cmd,
+    models: &Models,
     shelf: &mut S,
     out: &mut K,
     gate: &G,
 ) -> Result<(), Ending>
     requires is { (circuit partition trace : List ℕ) × (at capacity workers : ℕ) × (cmd.now ≡ Save circuit partition trace at capacity workers) }
     requires asked { (words : List (List ℕ)) × command_line.IsCommand words cmd.now }
-    ensures ended { (words : List (List ℕ)) → command_line.IsCommand words cmd.now → CallEnded words (loads_of S.Shelf shelf.old shelf.new) (puts_of K.Sink out.old out.new) result }
+    requires handed { AreHandedIn models.now }
+    ensures ended { (words : List (List ℕ)) → command_line.IsCommand words cmd.now → CallEnded models.now words (loads_of S.Shelf shelf.old shelf.new) (puts_of K.Sink out.old out.new) result }
     ensures shelf { ShelfWentOn S.Shelf shelf.old shelf.new }
     ensures out { SinkWentOn K.Sink out.old out.new }
 {
@@ -136,6 +157,7 @@ fn do_save<R: Threads + Sync, S: Shelf, K: Sink, G: Gate + Sync>(
             *at,
             *capacity,
             *workers,
+            models,
             shelf,
             out,
             gate,
@@ -149,13 +171,15 @@ fn do_resume<R: Threads + Sync, S: Shelf, K: Sink, G: Gate + Sync>(
     rt: &R,
     alloc: Global,
     cmd: &Cmd,
+    models: &Models,
     shelf: &mut S,
     out: &mut K,
     gate: &G,
 ) -> Result<(), Ending>
     requires is { (circuit partition trace snap : List ℕ) × (capacity workers : ℕ) × (cmd.now ≡ Resume circuit partition trace snap capacity workers) }
     requires asked { (words : List (List ℕ)) × command_line.IsCommand words cmd.now }
-    ensures ended { (words : List (List ℕ)) → command_line.IsCommand words cmd.now → CallEnded words (loads_of S.Shelf shelf.old shelf.new) (puts_of K.Sink out.old out.new) result }
+    requires handed { AreHandedIn models.now }
+    ensures ended { (words : List (List ℕ)) → command_line.IsCommand words cmd.now → CallEnded models.now words (loads_of S.Shelf shelf.old shelf.new) (puts_of K.Sink out.old out.new) result }
     ensures shelf { ShelfWentOn S.Shelf shelf.old shelf.new }
     ensures out { SinkWentOn K.Sink out.old out.new }
 {
@@ -177,6 +201,7 @@ fn do_resume<R: Threads + Sync, S: Shelf, K: Sink, G: Gate + Sync>(
             snap.as_str(),
             *capacity,
             *workers,
+            models,
             shelf,
             out,
             gate,
@@ -186,25 +211,29 @@ fn do_resume<R: Threads + Sync, S: Shelf, K: Sink, G: Gate + Sync>(
 }
 
 // Does a command of the command line.
-fn do_command<R: Threads + Sync, S: Shelf, K: Sink, G: Gate + Sync>(
+fn do_command<R: Threads + Sync, S: Shelf, K: Sink, G: Gate + Sync, B: Bridge + Send + Drop>(
     rt: &R,
     alloc: Global,
     cmd: &Cmd,
+    models: &Models,
+    bridges: Vec<(Name, B)>,
     shelf: &mut S,
     out: &mut K,
     gate: &G,
 ) -> Result<(), Ending>
-    requires { (words : List (List ℕ)) × command_line.IsCommand words cmd.now }
-    ensures ended { (words : List (List ℕ)) → command_line.IsCommand words cmd.now → CallEnded words (loads_of S.Shelf shelf.old shelf.new) (puts_of K.Sink out.old out.new) result }
+    requires asked { (words : List (List ℕ)) × command_line.IsCommand words cmd.now }
+    requires handed { AreHandedIn models.now }
+    requires bridges { HaveModels B.piece B.state bridges.items models.now }
+    ensures ended { (words : List (List ℕ)) → command_line.IsCommand words cmd.now → CallEnded models.now words (loads_of S.Shelf shelf.old shelf.new) (puts_of K.Sink out.old out.new) result }
     ensures network { (circuit partition trace : List ℕ) (capacity workers : ℕ) → cmd.now ≡ Run circuit partition trace capacity workers false → (said_by result).status ≡ 0
-        → RanNetwork (loads_of S.Shelf shelf.old shelf.new) (puts_of K.Sink out.old out.new) circuit partition trace capacity }
+        → RanNetwork (to_run models.now) (loads_of S.Shelf shelf.old shelf.new) (puts_of K.Sink out.old out.new) circuit partition trace capacity }
     ensures shelf { ShelfWentOn S.Shelf shelf.old shelf.new }
     ensures out { SinkWentOn K.Sink out.old out.new }
 {
     numbers_are_in_range();
     match cmd {
-        Cmd::Run { .. } => do_run(rt, alloc, cmd, shelf, out, gate),
-        Cmd::Replay { .. } => do_replay(alloc, cmd, shelf, out),
+        Cmd::Run { .. } => do_run(rt, alloc, cmd, models, bridges, shelf, out, gate),
+        Cmd::Replay { .. } => do_replay(alloc, cmd, models, bridges, shelf, out),
         Cmd::Check {
             circuit,
             partition,
@@ -214,6 +243,7 @@ fn do_command<R: Threads + Sync, S: Shelf, K: Sink, G: Gate + Sync>(
             circuit.as_str(),
             partition.as_str(),
             *capacity,
+            models,
             shelf,
             out,
         ),
@@ -222,28 +252,52 @@ fn do_command<R: Threads + Sync, S: Shelf, K: Sink, G: Gate + Sync>(
             size,
             workers,
         } => demo(rt, alloc, *seed, *size, *workers, out, gate),
-        Cmd::Save { .. } => do_save(rt, alloc, cmd, shelf, out, gate),
-        Cmd::Resume { .. } => do_resume(rt, alloc, cmd, shelf, out, gate),
+        Cmd::Save { .. } => do_save(rt, alloc, cmd, models, shelf, out, gate),
+        Cmd::Resume { .. } => do_resume(rt, alloc, cmd, models, shelf, out, gate),
     }
 }
 
-// Does the command that the words ask for.
-fn command<R: Threads + Sync, S: Shelf, K: Sink, G: Gate + Sync>(
+// Does a command of the command line, with bridges that are handed in.
+fn do_handed<R: Threads + Sync, S: Shelf, K: Sink, G: Gate + Sync, B: Bridge + Send + Drop>(
     rt: &R,
     alloc: Global,
-    given: &[String],
+    cmd: &Cmd,
+    bridges: Vec<(Name, B)>,
     shelf: &mut S,
     out: &mut K,
     gate: &G,
 ) -> Result<(), Ending>
-    ensures ended { CallEnded (texts given.now) (loads_of S.Shelf shelf.old shelf.new) (puts_of K.Sink out.old out.new) result }
+    requires asked { (words : List (List ℕ)) × command_line.IsCommand words cmd.now }
+    requires bridges { CanHandIn B.piece B.state bridges.items }
+    ensures ended { (words : List (List ℕ)) → command_line.IsCommand words cmd.now → CallEnded (models_in B.piece bridges.items) words (loads_of S.Shelf shelf.old shelf.new) (puts_of K.Sink out.old out.new) result }
+    ensures network { (circuit partition trace : List ℕ) (capacity workers : ℕ) → cmd.now ≡ Run circuit partition trace capacity workers false → (said_by result).status ≡ 0
+        → RanNetwork (to_run (models_in B.piece bridges.items)) (loads_of S.Shelf shelf.old shelf.new) (puts_of K.Sink out.old out.new) circuit partition trace capacity }
+    ensures shelf { ShelfWentOn S.Shelf shelf.old shelf.new }
+    ensures out { SinkWentOn K.Sink out.old out.new }
+{
+    let models = models_of(alloc, bridges.as_slice())?;
+    do_command(rt, alloc, cmd, &models, bridges, shelf, out, gate)
+}
+
+// Does the command that the words ask for.
+fn command<R: Threads + Sync, S: Shelf, K: Sink, G: Gate + Sync, B: Bridge + Send + Drop>(
+    rt: &R,
+    alloc: Global,
+    given: &[String],
+    bridges: Vec<(Name, B)>,
+    shelf: &mut S,
+    out: &mut K,
+    gate: &G,
+) -> Result<(), Ending>
+    requires { CanHandIn B.piece B.state bridges.items }
+    ensures ended { CallEnded (models_in B.piece bridges.items) (texts given.now) (loads_of S.Shelf shelf.old shelf.new) (puts_of K.Sink out.old out.new) result }
     ensures network { (circuit partition trace : List ℕ) (capacity workers : ℕ) → command_line.IsCommand (texts given.now) (Run circuit partition trace capacity workers false) → (said_by result).status ≡ 0
-        → RanNetwork (loads_of S.Shelf shelf.old shelf.new) (puts_of K.Sink out.old out.new) circuit partition trace capacity }
+        → RanNetwork (to_run (models_in B.piece bridges.items)) (loads_of S.Shelf shelf.old shelf.new) (puts_of K.Sink out.old out.new) circuit partition trace capacity }
     ensures shelf { ShelfWentOn S.Shelf shelf.old shelf.new }
     ensures out { SinkWentOn K.Sink out.old out.new }
 {
     match words(alloc, given) {
-        Ok(cmd) => do_command(rt, alloc, &cmd, shelf, out, gate),
+        Ok(cmd) => do_handed(rt, alloc, &cmd, bridges, shelf, out, gate),
         Err(fault) => Err(end_at_words(alloc, &fault)),
     }
 }
@@ -262,7 +316,7 @@ fn status_of<E: Sink>(ended: &Result<(), Ending>, err: &mut E) -> u8
 }
 
 // Does what the words ask for, and reports how it ended.
-fn answer<R: Threads + Sync, S: Shelf, K: Sink, E: Sink, G: Gate + Sync>(
+fn answer<R: Threads + Sync, S: Shelf, K: Sink, E: Sink, G: Gate + Sync, B: Bridge + Send + Drop>(
     rt: &R,
     alloc: Global,
     words: &[String],
@@ -270,15 +324,17 @@ fn answer<R: Threads + Sync, S: Shelf, K: Sink, E: Sink, G: Gate + Sync>(
     out: &mut K,
     err: &mut E,
     gate: &G,
+    bridges: Vec<(Name, B)>,
 ) -> u8
-    ensures answered { Answered (texts words.now) (loads_of S.Shelf shelf.old shelf.new) (puts_of K.Sink out.old out.new) (puts_of E.Sink err.old err.new) result }
+    requires { CanHandIn B.piece B.state bridges.items }
+    ensures answered { Answered (models_in B.piece bridges.items) (texts words.now) (loads_of S.Shelf shelf.old shelf.new) (puts_of K.Sink out.old out.new) (puts_of E.Sink err.old err.new) result }
     ensures network { (circuit partition trace : List ℕ) (capacity workers : ℕ) → command_line.IsCommand (texts words.now) (Run circuit partition trace capacity workers false) → result ≡ 0
-        → RanNetwork (loads_of S.Shelf shelf.old shelf.new) (puts_of K.Sink out.old out.new) circuit partition trace capacity }
+        → RanNetwork (to_run (models_in B.piece bridges.items)) (loads_of S.Shelf shelf.old shelf.new) (puts_of K.Sink out.old out.new) circuit partition trace capacity }
     ensures shelf { ShelfWentOn S.Shelf shelf.old shelf.new }
     ensures out { SinkWentOn K.Sink out.old out.new }
     ensures err { SinkWentOn E.Sink err.old err.new }
 {
-    let ended = command(rt, alloc, words, shelf, out, gate);
+    let ended = command(rt, alloc, words, bridges, shelf, out, gate);
     status_of(&ended, err)
 }
 
@@ -306,7 +362,7 @@ fn answer<R: Threads + Sync, S: Shelf, K: Sink, E: Sink, G: Gate + Sync>(
 /// - 3: a load failed, which the shelf counts as a fault; nothing was written;
 /// - 4: a put on `out` failed, which `out` counts as a fault; a first part of the text was written;
 /// - 5: an allocation failed; nothing or a first part of the text was written;
-/// - 6: the partition has a fault for the circuit, which has none; nothing was written;
+/// - 6: the partition has a fault for the circuit, which has none, or asks for a bridge for `save` or `resume`; nothing was written;
 /// - 7: the trace has a fault, and the files before it have none; nothing was written;
 /// - 8: a file is longer than its limit; nothing was written;
 /// - 9: a step of the steps file may not be done after those before it, and the files before it have no fault; nothing
@@ -316,6 +372,8 @@ fn answer<R: Threads + Sync, S: Shelf, K: Sink, E: Sink, G: Gate + Sync>(
 ///   has rows. The files before it have no fault; nothing was written.
 ///
 /// If the files are known and no load or put fails, the files and the words determine the status, unless it is 5.
+///
+/// No bridge is handed in, so a partition that asks for one is refused.
 pub fn golden<R: Threads + Sync, S: Shelf, K: Sink, E: Sink, G: Gate + Sync>(
     rt: &R,
     alloc: Global,
@@ -325,7 +383,35 @@ pub fn golden<R: Threads + Sync, S: Shelf, K: Sink, E: Sink, G: Gate + Sync>(
     err: &mut E,
     gate: &G,
 ) -> u8
-    ensures promised { Promised (texts words.now) (loads_of S.Shelf shelf.old shelf.new) (puts_of K.Sink out.old out.new) (puts_of E.Sink err.old err.new) result }
+    ensures promised { Promised [] (texts words.now) (loads_of S.Shelf shelf.old shelf.new) (puts_of K.Sink out.old out.new) (puts_of E.Sink err.old err.new) result }
+    ensures shelf { ShelfWentOn S.Shelf shelf.old shelf.new }
+    ensures out { SinkWentOn K.Sink out.old out.new }
+    ensures err { SinkWentOn E.Sink err.old err.new }
+{
+    golden_with(rt, alloc, words, shelf, out, err, gate, Vec::new(alloc))
+}
+
+/// The same as `golden`, where these bridges are handed in, each with its name. A partition may list some of them, each for outputs of the
+/// circuit's top that it sees and for inputs that it drives: in each cycle such an input has the value that the bridge says, and the
+/// bridge answers what it sees with its next state. The trace has no columns for those inputs, and the outputs that bridges see aren't
+/// written. The text is that of the run of the circuit with the models of the bridges in it. With `--mono` the models are simulated, and no
+/// bridge is called. `save` and `resume` take a partition without bridges only.
+///
+/// The names of the bridges differ, and each has at least one ASCII letter, digit or `_` and nothing else. Each bridge is in the state of
+/// zeros, and their models have at most 4,000,000,000 signals together. Models are copied, with memory of `alloc`; each bridge is called by
+/// one worker at a time, or given up.
+pub fn golden_with<R: Threads + Sync, S: Shelf, K: Sink, E: Sink, G: Gate + Sync>(
+    rt: &R,
+    alloc: Global,
+    words: &[String],
+    shelf: &mut S,
+    out: &mut K,
+    err: &mut E,
+    gate: &G,
+    bridges: Vec<(Name, Box<dyn Bridge + Send + Drop>)>,
+) -> u8
+    requires bridges { CanHandIn piece state bridges.items }
+    ensures promised { Promised (models_in piece bridges.items) (texts words.now) (loads_of S.Shelf shelf.old shelf.new) (puts_of K.Sink out.old out.new) (puts_of E.Sink err.old err.new) result }
     ensures shelf { ShelfWentOn S.Shelf shelf.old shelf.new }
     ensures out { SinkWentOn K.Sink out.old out.new }
     ensures err { SinkWentOn E.Sink err.old err.new }
@@ -334,5 +420,5 @@ pub fn golden<R: Threads + Sync, S: Shelf, K: Sink, E: Sink, G: Gate + Sync>(
     resumed_runs_go_on();
     one_meaning();
     one_answer();
-    answer(rt, alloc, words, shelf, out, err, gate)
+    answer(rt, alloc, words, shelf, out, err, gate, bridges)
 }

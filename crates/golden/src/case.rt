@@ -3,6 +3,7 @@ ghost use Rattle.std.specs.Prelude.{◌≡◌, ◌≤◌, IfOk, IfErr};
 ghost use Rattle.gg_words.specs.Range.{IsCapacity};
 ghost use Rattle.golden.specs.Case.{CaseRead, FedRead, case_order, trace_order};
 ghost use Rattle.golden.specs.Commands.{asking};
+ghost use Rattle.golden.specs.Handed.{AreHandedIn};
 ghost use Rattle.golden.specs.Runs.{upto};
 ghost use Rattle.gg_told.specs.Endings.{IfRefused, StopsBy};
 ghost use Rattle.gg_told.specs.Ends.{loads_of};
@@ -10,6 +11,7 @@ ghost use Rattle.gg_told.specs.WentOn.{ShelfWentOn};
 
 use crate::partition::{Cut, read_cut};
 use crate::reading::{read_circuit, read_inputs};
+use gg_flat::Models;
 use gg_io::Shelf;
 use gg_order::Design;
 use gg_told::Ending;
@@ -62,21 +64,24 @@ impl Fed {
     }
 }
 
-/// Reads a circuit and a partition.
+/// Reads a circuit and a partition. These models of bridges are known, and `saves` tells whether the command is `save` or `resume`.
 pub(crate) fn read_case<S: Shelf>(
     alloc: Global,
     shelf: &mut S,
     circuit: &str,
     partition: &str,
+    models: &Models,
+    saves: bool,
     capacity: u32,
 ) -> Result<Case, Ending>
-    requires { IsCapacity capacity }
-    ensures read { IfOk result (CaseRead (S.files shelf.old) (asking circuit.now partition.now capacity)) }
-    ensures refused { IfErr result (IfRefused (StopsBy (loads_of S.Shelf shelf.old shelf.new) (case_order (asking circuit.now partition.now capacity)))) }
+    requires capacity { IsCapacity capacity }
+    requires handed { AreHandedIn models.now }
+    ensures read { IfOk result (CaseRead (record { models = models.now; saves = saves }) (S.files shelf.old) (asking circuit.now partition.now capacity)) }
+    ensures refused { IfErr result (IfRefused (StopsBy (loads_of S.Shelf shelf.old shelf.new) (case_order (record { models = models.now; saves = saves }) (asking circuit.now partition.now capacity)))) }
     ensures shelf { ShelfWentOn S.Shelf shelf.old shelf.new }
 {
     let design = read_circuit(alloc, shelf, circuit)?;
-    let cut = read_cut(alloc, shelf, partition, &design, capacity)?;
+    let cut = read_cut(alloc, shelf, partition, &design, models, saves, capacity)?;
     // for the design's invariant
     let _ = design.order();
     let _ = design.piece();
@@ -90,15 +95,18 @@ pub(crate) fn read_fed<S: Shelf>(
     circuit: &str,
     partition: &str,
     trace: &str,
+    models: &Models,
+    saves: bool,
     capacity: u32,
 ) -> Result<Fed, Ending>
-    requires { IsCapacity capacity }
-    ensures read { IfOk result (FedRead (S.files shelf.old) (asking circuit.now partition.now capacity) trace.now) }
-    ensures refused { IfErr result (IfRefused (StopsBy (loads_of S.Shelf shelf.old shelf.new) (trace_order (asking circuit.now partition.now capacity) trace.now))) }
+    requires capacity { IsCapacity capacity }
+    requires handed { AreHandedIn models.now }
+    ensures read { IfOk result (FedRead (record { models = models.now; saves = saves }) (S.files shelf.old) (asking circuit.now partition.now capacity) trace.now) }
+    ensures refused { IfErr result (IfRefused (StopsBy (loads_of S.Shelf shelf.old shelf.new) (trace_order (record { models = models.now; saves = saves }) (asking circuit.now partition.now capacity) trace.now))) }
     ensures shelf { ShelfWentOn S.Shelf shelf.old shelf.new }
 {
-    let case = read_case(alloc, shelf, circuit, partition, capacity)?;
-    let inputs = read_inputs(alloc, shelf, trace, &case.design)?;
+    let case = read_case(alloc, shelf, circuit, partition, models, saves, capacity)?;
+    let inputs = read_inputs(alloc, shelf, trace, &case.design, &case.cut.request)?;
     // for the limit on its rows
     let _ = inputs.rows();
     Ok(Fed {

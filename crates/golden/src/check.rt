@@ -4,6 +4,8 @@ ghost use Rattle.gg_words.specs.Range.{IsCapacity};
 ghost use Rattle.golden.specs.Case.{IsCase};
 ghost use Rattle.golden.specs.Check.{IsCutTextOf};
 ghost use Rattle.golden.specs.Commands.{asking, read_order};
+ghost use Rattle.golden.specs.Handed.{AreHandedIn};
+ghost use Rattle.golden.specs.Partition.{Known, to_run};
 ghost use Rattle.gg_told.specs.Endings.{EndedOn, PrintsOn};
 ghost use Rattle.gg_told.specs.Order.{IsOnly, Write};
 ghost use Rattle.gg_told.specs.Ends.{loads_of, puts_of};
@@ -12,6 +14,7 @@ ghost use Rattle.gg_told.specs.WentOn.{ShelfWentOn, SinkWentOn};
 use crate::case::{Case, read_case};
 use crate::checking::print_plan;
 use gg_check::{one_text, plan_is_told};
+use gg_flat::Models;
 use gg_front::one_meaning;
 use gg_io::{Shelf, Sink};
 use gg_told::Ending;
@@ -19,7 +22,7 @@ use std::alloc::Global;
 
 // Prints the cut of a case.
 fn check_case<K: Sink>(alloc: Global, case: &Case, out: &mut K) -> Result<(), Ending>
-    ensures prints { (circuit partition : List ℕ) (capacity : ℕ) → IsCase circuit partition capacity case.now
+    ensures prints { (known : Known) (circuit partition : List ℕ) (capacity : ℕ) → IsCase known circuit partition capacity case.now
         → (text : List ℕ) × IsOnly (IsCutTextOf circuit partition capacity) text × PrintsOn K.Sink out.old out.new text result }
     ensures out { SinkWentOn K.Sink out.old out.new }
 {
@@ -29,20 +32,22 @@ fn check_case<K: Sink>(alloc: Global, case: &Case, out: &mut K) -> Result<(), En
     print_plan(alloc, &case.cut.plan, out)
 }
 
-/// `check`: reads the circuit and the partition, and writes the text of the cut.
+/// `check`: reads the circuit and the partition, and writes the text of the cut. These models of bridges are known.
 pub(crate) fn check<S: Shelf, K: Sink>(
     alloc: Global,
     circuit: &str,
     partition: &str,
     capacity: u32,
+    models: &Models,
     shelf: &mut S,
     out: &mut K,
 ) -> Result<(), Ending>
-    requires { IsCapacity capacity }
-    ensures ended { EndedOn (loads_of S.Shelf shelf.old shelf.new) (puts_of K.Sink out.old out.new) (read_order (asking circuit.now partition.now capacity) (λ c p. Write (IsCutTextOf c p capacity))) result }
+    requires capacity { IsCapacity capacity }
+    requires handed { AreHandedIn models.now }
+    ensures ended { EndedOn (loads_of S.Shelf shelf.old shelf.new) (puts_of K.Sink out.old out.new) (read_order (to_run models.now) (asking circuit.now partition.now capacity) (λ c p. Write (IsCutTextOf c p capacity))) result }
     ensures shelf { ShelfWentOn S.Shelf shelf.old shelf.new }
     ensures out { SinkWentOn K.Sink out.old out.new }
 {
-    let case = read_case(alloc, shelf, circuit, partition, capacity)?;
+    let case = read_case(alloc, shelf, circuit, partition, models, false, capacity)?;
     check_case(alloc, &case, out)
 }

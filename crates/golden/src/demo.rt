@@ -1,36 +1,40 @@
 //! The command `demo`.
-ghost use Rattle.std.specs.Prelude.{◌≡◌, ◌≤◌, ◌<◌, IfOk, length, true};
+ghost use Rattle.std.specs.Prelude.{◌≡◌, ◌≤◌, ◌<◌, [], IfOk, length, true};
 ghost use Rattle.gg_cut.specs.Plan.{IsPlan};
 ghost use Rattle.gg_demo.specs.CircuitText.{demo_circuit};
 ghost use Rattle.gg_demo.specs.PartitionText.{demo_partition};
 ghost use Rattle.gg_demo.specs.TraceText.{demo_cycles, demo_trace};
-ghost use Rattle.gg_flat.specs.Run.{IsColumns};
+ghost use Rattle.gg_bridged.specs.Whole.{plan_circuit};
+ghost use Rattle.gg_build.specs.Build.{NeedsNone};
 ghost use Rattle.gg_front.specs.Meaning.{MeansDesign};
 ghost use Rattle.gg_limits.specs.Limits.{cycle_limit};
 ghost use Rattle.gg_moved.specs.KeepsToTree.{KeepsToTree};
 ghost use Rattle.gg_cut.specs.Held.{AreHeldOnce};
 ghost use Rattle.gg_pipe.specs.Made.{AllHeld};
 ghost use Rattle.gg_run.specs.Sums.{AreSums};
+ghost use Rattle.gg_trace.specs.Trace.{HaveWidths};
 ghost use Rattle.gg_told.specs.Ends.{puts_of};
 ghost use Rattle.gg_told.specs.Endings.{PrintsOrStops};
 ghost use Rattle.gg_told.specs.Order.{IsOnly};
 ghost use Rattle.gg_told.specs.WentOn.{SinkWentOn};
 ghost use Rattle.golden.specs.Case.{IsCase, IsFed};
 ghost use Rattle.golden.specs.Demo.{IsDemoText, demo_capacity};
-ghost use Rattle.golden.specs.Partition.{Cuts};
+ghost use Rattle.golden.specs.Partition.{Cuts, to_run};
 ghost use Rattle.golden.specs.Replayed.{IsToReplay};
-ghost use Rattle.golden.specs.RunText.{FeedsOnly};
+ghost use Rattle.golden.specs.RunText.{FeedsOnly, fed_ports};
 
 use crate::case::{Case, Fed};
 use crate::limits::{CIRCUIT_LIMIT, PARTITION_LIMIT};
 use crate::partition::{Cut, cut_request, request_of};
 use crate::reading::inputs_of;
+use gg_bridge::Echo;
 use gg_demo::{circuit_text, partition_text, trace_text};
-use gg_flat::run_once;
+use gg_flat::{Models, run_once};
 use gg_front::{front, one_meaning};
 use gg_io::{Gate, Sink};
 use gg_net::Streams;
 use gg_order::Design;
+use gg_partfile::Request;
 use gg_run::{Sums, put_summary, sum_net};
 use gg_told::Ending;
 use gg_trace::Trace;
@@ -65,8 +69,8 @@ fn demo_cut(alloc: Global, size: u32, design: &Design) -> Result<Cut, Ending>
     requires most { size ≤ 64 }
     requires keeps { KeepsToTree design.now.circuit design.now.tree }
     requires held { AreHeldOnce design.now.circuit }
-    ensures cuts { IfOk result (λ cut. Cuts design.now (demo_partition size) cut.request) }
-    ensures planned { IfOk result (λ cut. IsPlan design.now cut.request demo_capacity cut.plan) }
+    ensures cuts { IfOk result (λ cut. Cuts (to_run []) design.now (demo_partition size) cut.request) }
+    ensures planned { IfOk result (λ cut. IsPlan design.now cut.request [] demo_capacity cut.plan) }
 {
     let text = partition_text(alloc, size)?;
     let bytes = text.as_bytes();
@@ -74,7 +78,7 @@ fn demo_cut(alloc: Global, size: u32, design: &Design) -> Result<Cut, Ending>
         return Err(Ending::NoMemory);
     }
     let request = request_of(alloc, bytes)?;
-    let cut = cut_request(alloc, design, request, CAPACITY)?;
+    let cut = cut_request(alloc, design, request, &Models::new(alloc), CAPACITY)?;
     Ok(cut)
 }
 
@@ -82,7 +86,7 @@ fn demo_cut(alloc: Global, size: u32, design: &Design) -> Result<Cut, Ending>
 fn demo_case(alloc: Global, size: u32) -> Result<Case, Ending>
     requires some { 0 < size }
     requires most { size ≤ 64 }
-    ensures { IfOk result (IsCase (demo_circuit size) (demo_partition size) demo_capacity) }
+    ensures { IfOk result (IsCase (to_run []) (demo_circuit size) (demo_partition size) demo_capacity) }
 {
     let design = demo_design(alloc, size)?;
     match demo_cut(alloc, size, &design) {
@@ -99,16 +103,22 @@ fn demo_case(alloc: Global, size: u32) -> Result<Case, Ending>
     }
 }
 
-// The trace of a demo.
-fn demo_inputs(alloc: Global, seed: u32, size: u32, design: &Design) -> Result<Trace, Ending>
+// The trace of a demo, for the cut of its partition.
+fn demo_inputs(
+    alloc: Global,
+    seed: u32,
+    size: u32,
+    design: &Design,
+    request: &Request,
+) -> Result<Trace, Ending>
     requires some { 0 < size }
     requires most { size ≤ 64 }
-    ensures feeds { IfOk result (λ trace. FeedsOnly design.now.circuit (demo_trace seed size) trace.rows trace.columns) }
+    ensures feeds { IfOk result (λ trace. FeedsOnly design.now.circuit request.now (demo_trace seed size) trace.rows trace.columns) }
     ensures most { IfOk result (λ trace. trace.rows ≤ cycle_limit) }
-    ensures columns { IfOk result (λ trace. IsColumns design.now.circuit trace.rows trace.columns) }
+    ensures widths { IfOk result (λ trace. HaveWidths (fed_ports design.now.circuit request.now) trace.rows trace.columns) }
 {
     let text = trace_text(alloc, seed, size)?;
-    let trace = inputs_of(alloc, text.as_bytes(), design)?;
+    let trace = inputs_of(alloc, text.as_bytes(), design, request)?;
     // for the limit on the rows
     let _ = trace.rows();
     Ok(trace)
@@ -118,10 +128,10 @@ fn demo_inputs(alloc: Global, seed: u32, size: u32, design: &Design) -> Result<T
 fn demo_fed(alloc: Global, seed: u32, size: u32) -> Result<Fed, Ending>
     requires some { 0 < size }
     requires most { size ≤ 64 }
-    ensures { IfOk result (IsFed (demo_circuit size) (demo_partition size) (demo_trace seed size) demo_capacity) }
+    ensures { IfOk result (IsFed (to_run []) (demo_circuit size) (demo_partition size) (demo_trace seed size) demo_capacity) }
 {
     let case = demo_case(alloc, size)?;
-    match demo_inputs(alloc, seed, size, &case.design) {
+    match demo_inputs(alloc, seed, size, &case.design, &case.cut.request) {
         Ok(trace) => Ok(Fed { case, trace }),
         Err(ending) => {
             drop(case);
@@ -147,18 +157,19 @@ fn sum_fed<R: Threads + Sync, Z: Streams, G: Gate + Sync>(
     gate: &G,
 ) -> Result<Sums, AllocError>
     requires few { workers ≤ 64 }
-    requires run { (run : IsToReplay fed.now Z.flow) × (run.design ≡ fed.now.case.design) }
-    requires two { 2 ≤ length fed.now.case.design.circuit.outs }
+    requires run { (run : IsToReplay fed.now Z.flow) × (run.design ≡ fed.now.case.design) × (2 ≤ length (plan_circuit run.design run.request run.models).outs) }
+    requires none { NeedsNone fed.now.case.cut.plan }
     ensures { IfOk result (λ sums. (run : IsToReplay fed.now Z.flow) → run.design ≡ fed.now.case.design → AreSums fed.now.case.cut.plan fed.now.trace.columns fed.now.trace.rows Z.flow run sums) }
 {
     let case = &fed.case;
-    sum_net::<R, Z, G>(
+    sum_net::<R, Echo, Z, G>(
         rt,
         alloc,
         &case.design,
         &case.cut.plan,
         &fed.trace,
         workers,
+        Vec::new(alloc),
         gate,
     )
 }
@@ -176,7 +187,7 @@ fn print_demo<R: Threads + Sync, K: Sink, G: Gate + Sync>(
 ) -> Result<(), Ending>
     requires few { workers ≤ 64 }
     requires some { 0 < size }
-    requires fed { IsFed (demo_circuit size) (demo_partition size) (demo_trace seed size) demo_capacity fed.now }
+    requires fed { IsFed (to_run []) (demo_circuit size) (demo_partition size) (demo_trace seed size) demo_capacity fed.now }
     ensures ended { PrintsOrStops (puts_of K.Sink out.old out.new) (IsOnly (IsDemoText seed size)) (λ said. ⊥) result }
     ensures out { SinkWentOn K.Sink out.old out.new }
 {

@@ -1,5 +1,6 @@
 //! Laws: facts about what is reported for files, and about what a run writes that goes on. Each is the contract of a function.
-ghost use Rattle.std.specs.Prelude.{◌≡◌, ◌≤◌, ℕ, List, None};
+ghost use Rattle.std.specs.Prelude.{◌≡◌, ◌≤◌, ℕ, List, [], None};
+ghost use Rattle.gg_cut.specs.Bridges.{Models};
 ghost use Rattle.gg_cut.specs.Fault.{first_fault};
 ghost use Rattle.gg_cut.specs.Held.{AreHeldOnce};
 ghost use Rattle.gg_cut.specs.Solves.{AreRows};
@@ -13,10 +14,10 @@ ghost use Rattle.gg_read.specs.declared.text.ReadFault.{ReadFault};
 ghost use Rattle.gg_told.specs.Said.{Said};
 ghost use Rattle.golden.specs.Lines.{TellsUnread};
 ghost use Rattle.gg_words.specs.declared.command.Cmd.{Cmd};
-ghost use Rattle.golden.specs.Commands.{Asked, order_behind, order_of};
+ghost use Rattle.golden.specs.Commands.{Asked, known_of, order_behind, order_of};
 ghost use Rattle.gg_told.specs.Order.{IsExact, IsUnique, Load};
 ghost use Rattle.golden.specs.Meant.{meaning};
-ghost use Rattle.golden.specs.Partition.{IsPartitionFor, partition_file_for};
+ghost use Rattle.golden.specs.Partition.{IsPartitionFor, partition_file_for, to_run, to_save};
 ghost use Rattle.golden.specs.Resumed.{CanBeResumed, HaveSamePipes, HaveSameRatios, IsRestOf, IsResumedText, rest_text, start_at};
 ghost use Rattle.golden.specs.Run.{IsTextOf, TellsCircuit};
 ghost use Rattle.golden.specs.RunText.{IsRunBy, run_text};
@@ -29,12 +30,12 @@ use gg_snap::plans_can_save;
 use gg_snap_text::one_snapshot;
 use gg_trace::one_first_fault;
 
-/// Nothing is reported for accepted bytes of a command's file, and all that is reported for other bytes has one status,
-/// which is a judgement. For a partition, a trace, steps and a snapshot at most one thing is reported. For a circuit with a fault of reading
-/// only that fault is reported.
+/// Whatever models are handed in, nothing is reported for accepted bytes of a command's file, and all that is reported for other bytes has
+/// one status, which is a judgement. For a partition, a trace, steps and a snapshot at most one thing is reported. For a circuit with a fault
+/// of reading only that fault is reported.
 pub fn refusals_are_exact()
-    ensures exact { (command : Cmd) → IsExact (order_of command) }
-    ensures unique { (command : Cmd) (asked : Asked) (circuit : List ℕ) → IsUnique (Load (partition_file_for circuit asked.partition) (order_behind command circuit)) }
+    ensures exact { (models : Models) (command : Cmd) → IsExact (order_of models command) }
+    ensures unique { (models : Models) (command : Cmd) (asked : Asked) (circuit : List ℕ) → IsUnique (Load (partition_file_for (known_of models command) circuit asked.partition) (order_behind models command circuit)) }
     ensures unread { (bytes : List ℕ) (fault : ReadFault) (said other : Said) → HasReadFault bytes fault → TellsUnread fault said → TellsCircuit bytes other → other ≡ said }
 {
     one_fault_line();
@@ -46,20 +47,20 @@ pub fn refusals_are_exact()
     one_snapshot();
 }
 
-/// `resume` goes on where `save` stopped, under any partition that asks for the same pipes and gives the clocks the same ratios, whatever
-/// its units, its memories, its direct channels and its capacities. A run that starts from the state of another run before a cycle prints
-/// the rest of what the other prints. So the text that `save` writes is accepted as a snapshot, and what `resume` writes is the rest of
-/// what `run` writes.
+/// `resume` goes on where `save` stopped, under any partition that asks for the same pipes and for no bridge and gives the clocks the same
+/// ratios, whatever its units, its memories, its direct channels and its capacities. A run that starts from the state of another run before a
+/// cycle prints the rest of what the other prints. So the text that `save` writes is accepted as a snapshot, and what `resume` writes is the
+/// rest of what `run` writes.
 pub fn resumed_runs_go_on()
-    ensures runs { (design : Ordered) (one other : Request) (columns : List (List ℕ)) (n at : ℕ) (rows rest : List (List ℕ)) → IsDesign design → KeepsToTree design.circuit design.tree → AreHeldOnce design.circuit → AllHeld design.circuit
-        → first_fault design one ≡ None → first_fault design other ≡ None → HaveSamePipes one other → HaveSameRatios one other
-        → IsRunBy design other columns n rows → at ≤ save_limit (meaning design other n columns) rows
+    ensures runs { (design : Ordered) (one other : Request) (models : Models) (columns : List (List ℕ)) (n at : ℕ) (rows rest : List (List ℕ)) → IsDesign design → KeepsToTree design.circuit design.tree → AreHeldOnce design.circuit → AllHeld design.circuit
+        → first_fault design one ≡ None → first_fault design other ≡ None → one.bridges ≡ [] → other.bridges ≡ [] → HaveSamePipes one other → HaveSameRatios one other
+        → IsRunBy design other models columns n rows → at ≤ save_limit (meaning design other n columns) rows
         → AreRows (plan_reference design one) (start_at (meaning design one n columns) at (state_before (meaning design other n columns) rows at)) columns n rest
         → IsRestOf at (run_text design other rows n) (rest_text (meaning design one n columns) at rest) }
-    ensures accepted { (circuit partition cut trace snap : List ℕ) (one other : Request) (at : ℕ) → IsSavedText circuit cut at trace snap → IsPartitionFor circuit partition → IsPartition partition one → IsPartition cut other → HaveSamePipes one other
-        → CanBeResumed circuit partition trace snap }
-    ensures texts { (circuit partition cut trace snap text whole : List ℕ) (one other : Request) (at : ℕ) → IsSavedText circuit cut at trace snap → IsPartitionFor circuit partition → IsPartition partition one → IsPartition cut other → HaveSamePipes one other → HaveSameRatios one other
-        → IsResumedText circuit partition trace snap text → IsTextOf circuit cut trace whole → IsRestOf at whole text }
+    ensures accepted { (models : Models) (circuit partition cut trace snap : List ℕ) (one other : Request) (at : ℕ) → IsSavedText (to_save models) circuit cut at trace snap → IsPartitionFor (to_save models) circuit partition → IsPartition partition one → IsPartition cut other → HaveSamePipes one other
+        → CanBeResumed (to_save models) circuit partition trace snap }
+    ensures texts { (models : Models) (circuit partition cut trace snap text whole : List ℕ) (one other : Request) (at : ℕ) → IsSavedText (to_save models) circuit cut at trace snap → IsPartitionFor (to_save models) circuit partition → IsPartition partition one → IsPartition cut other → HaveSamePipes one other → HaveSameRatios one other
+        → IsResumedText (to_save models) circuit partition trace snap text → IsTextOf (to_run models) circuit cut trace whole → IsRestOf at whole text }
 {
     one_meaning();
 }

@@ -1,7 +1,8 @@
-//! The program golden as one call. [`golden`] does what the words of a call ask for, with files from a shelf. It writes
+//! The program golden as one call. [`golden_with`] does what the words of a call ask for, with files from a shelf and with bridges that its
+//! caller hands in; [`golden`] is the case of none. It writes
 //! the text to one output, and at most one line to another, which the usage of each command may follow. It returns the
 //! status. gg_words defines which words are which command. `run` prints the run on the trace of the circuit with the
-//! pipes that the partition asks for, from the network of the cut, window by window, or by the simulator. Each clock has an
+//! pipes and the bridges that the partition asks for, from the network of the cut, window by window, or by the simulator. Each clock has an
 //! edge in the cycles that its ratio tells, if the partition gives it one, and else in each cycle. The text is the
 //! same, whatever the rest of the partition and the number of workers.
 //! `replay` does a list of steps on the network of the cut, and prints the tokens of each channel. `check` prints the
@@ -10,13 +11,14 @@
 //! `save` runs the network of the cut up to a cycle, and prints a snapshot: the state of the circuit with the pipes before that cycle. `resume`
 //! prints the run from a snapshot on, from the network of a cut with the same pipes.
 //!
-//! What the call promises (`Promised`), for every shelf and all outputs:
+//! What the call promises (`Promised`), for every shelf and all outputs, and whatever bridges are handed in, of whose code only the contract is
+//! used (gg_bridge's `Bridge`):
 //!
 //! - `outcome`: the status, the text on `out` and the line on `err` are those of one end of the command that the words
 //!   ask for, or of words that ask for none. A command is an order of files. It ends if a file is refused, after each
 //!   file before it was accepted; if a put fails; if an allocation fails; or with its whole text. With status 0 the
-//!   text on `out` is that of the run of the reference circuit on the trace (`IsTextOf`): the circuit with a register for
-//!   each pipe, and its own where there is none, whose clocks have the ratios that the partition gives them (`IsRunBy`). For any flat circuit that the bytes
+//!   text on `out` is that of the run of the reference circuit with the bridges' models on the trace (`IsTextOf`): the circuit with a register
+//!   for each pipe, and its own where there is none, joined with the model of each bridge that the partition asks for, whose clocks have the ratios that the partition gives them (`IsRunBy`). For any flat circuit that the bytes
 //!   mean, each such run on the trace has this text and no other (`IsOnly`). The same holds for the text of the cut
 //!   (`IsCutTextOf`), for the summary of a demo (`IsDemoText`), and for the text of the marking that the steps lead to
 //!   (`IsReplayOf`), for the snapshot of the run before a cycle (`IsSavedText`), and for the text of the run from a snapshot on
@@ -48,11 +50,13 @@ mod case;
 mod check;
 mod checking;
 mod demo;
+mod handed;
 mod laws;
 mod limits;
 mod naming;
 mod network;
 mod partition;
+mod ports;
 mod printing;
 mod reading;
 mod replay;
@@ -60,8 +64,9 @@ mod resume;
 mod run;
 mod save;
 mod snaps;
+mod whole;
 mod windows;
 mod words;
 
-pub use call::golden;
+pub use call::{golden, golden_with};
 pub use laws::{refusals_are_exact, resumed_runs_go_on};

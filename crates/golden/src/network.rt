@@ -1,5 +1,6 @@
 //! The network of a plan: its steps, and the line of each channel.
 ghost use Rattle.std.specs.Prelude.{◌≡◌, ◌-◌, ◌<◌, ◌^◌, ◌++◌, IfOk, None, codes, decimal, length, slice_index_or, string_bytes};
+ghost use Rattle.gg_build.specs.Build.{HasBridges};
 ghost use Rattle.gg_replay.specs.Log.{AreFronts};
 ghost use Rattle.gg_steps.specs.Cause.{cause_text};
 ghost use Rattle.gg_told.specs.Endings.{IfRefused, PrintsOn, PrintsOrStops};
@@ -9,8 +10,11 @@ ghost use Rattle.gg_told.specs.Ends.{puts_of};
 ghost use Rattle.gg_told.specs.WentOn.{SinkWentOn};
 
 use crate::case::Fed;
+use gg_bits::Name;
+use gg_bridge::Bridge;
 use gg_build::{Node, build};
 use gg_cut::Plan;
+use gg_flat::Models;
 use gg_io::Sink;
 use gg_net::{Event, Net, Refusal, Streams};
 use gg_replay::{Log, Stop, channel_line, replay};
@@ -19,10 +23,10 @@ use gg_told::{Ending, end_with, make_refusal, put, text_with_number};
 use std::alloc::{AllocError, Global};
 
 // Writes the line of a channel.
-fn print_channel<Z: Streams, K: Sink>(
+fn print_channel<B: Bridge + Send + Drop, Z: Streams, K: Sink>(
     alloc: Global,
     plan: &Plan,
-    net: &Net<Node<'_>, Z>,
+    net: &Net<Node<'_, B>, Z>,
     log: &Log,
     channel: u32,
     out: &mut K,
@@ -46,10 +50,10 @@ fn print_channel<Z: Streams, K: Sink>(
 }
 
 // Writes the lines of all channels.
-fn print_net<Z: Streams, K: Sink>(
+fn print_net<B: Bridge + Send + Drop, Z: Streams, K: Sink>(
     alloc: Global,
     plan: &Plan,
-    net: &Net<Node<'_>, Z>,
+    net: &Net<Node<'_, B>, Z>,
     log: &Log,
     out: &mut K,
 ) -> Result<(), Ending>
@@ -107,20 +111,23 @@ fn end_at_step(
 }
 
 /// Does these steps on the network of the plan, and prints a line for each channel.
-pub(crate) fn replay_net<Z: Streams, K: Sink>(
+pub(crate) fn replay_net<B: Bridge + Send + Drop, Z: Streams, K: Sink>(
     alloc: Global,
     fed: &Fed,
+    _models: &Models,
+    bridges: Vec<(Name, B)>,
     names: &StepNames<'_>,
     events: &[Option<Event>],
     out: &mut K,
 ) -> Result<(), Ending>
     requires few { length fed.now.case.cut.plan.channels < 2 ^ 32 }
     requires run { IsToReplay fed.now Z.flow }
+    requires bridges { HasBridges B.piece B.state fed.now.case.cut.plan bridges.items }
     ensures ended { PrintsOrStops (puts_of K.Sink out.old out.new) (IsNetText fed.now Z.flow events.now) (TellsStop fed.now Z.flow names.now events.now) result }
     ensures out { SinkWentOn K.Sink out.old out.new }
 {
     let plan = &fed.case.cut.plan;
-    let mut net = build::<Z>(alloc, plan, &fed.trace)?;
+    let mut net = build::<B, Z>(alloc, plan, &fed.trace, bridges)?;
     net.kept();
     let mut log = Log::new(alloc, net.shape().wires.as_slice())?;
     match replay(&mut net, events, &mut log) {

@@ -1,5 +1,5 @@
 //! Reading of the partition's file, and the cut of the circuit that it asks for.
-ghost use Rattle.std.specs.Prelude.{◌≡◌, ◌≢◌, ◌≤◌, ◌++◌, ℕ, List, IfOk, IfErr, Some, None, codes, length, string_bytes};
+ghost use Rattle.std.specs.Prelude.{◌≡◌, ◌≢◌, ◌≤◌, ◌++◌, ℕ, List, [], IfOk, IfErr, Some, None, codes, length, string_bytes, true};
 ghost use Rattle.gg_cut.specs.Fault as cut;
 ghost use Rattle.gg_cut.specs.Held.{AreHeldOnce};
 ghost use Rattle.gg_cut.specs.Plan.{IsPlan};
@@ -11,6 +11,7 @@ ghost use Rattle.gg_partfile.specs.Fault as file;
 ghost use Rattle.gg_partfile.specs.Partition.{IsPartition};
 ghost use Rattle.gg_partfile.specs.declared.fault.PartFault.TheVariants as file_fault;
 ghost use Rattle.gg_told.specs.Endings.{IfRefused, IsRefusedBy};
+ghost use Rattle.golden.specs.Handed.{AreHandedIn};
 ghost use Rattle.golden.specs.Limits.{partition_limit};
 ghost use Rattle.golden.specs.Lines.{partition_fault};
 ghost use Rattle.gg_told.specs.Order.{CanBe};
@@ -20,6 +21,7 @@ ghost use Rattle.gg_told.specs.WentOn.{ShelfWentOn};
 
 use crate::limits::PARTITION_LIMIT;
 use gg_cut::{CutFault, Plan};
+use gg_flat::Models;
 use gg_io::Shelf;
 use gg_order::Design;
 use gg_partfile::{PartFault, Request};
@@ -103,46 +105,64 @@ pub(crate) fn request_of(alloc: Global, bytes: &[u8]) -> Result<Request, Ending>
     }
 }
 
-/// The cut of a design that a request asks for, if the request has no fault.
+/// The cut of a design that a request asks for, if the request has no fault. These models of bridges are known.
 pub(crate) fn cut_request(
     alloc: Global,
     design: &Design,
     request: Request,
+    models: &Models,
     capacity: u32,
 ) -> Result<Cut, Ending>
     requires small { cut.IsSmall request }
     requires keeps { KeepsToTree design.now.circuit design.now.tree }
     requires held { AreHeldOnce design.now.circuit }
+    requires handed { AreHandedIn models.now }
     requires range { IsCapacity capacity }
-    ensures faultless { IfOk result (λ _. cut.first_fault design.now request ≡ None) }
+    ensures faultless { IfOk result (λ _. cut.first_fault_with design.now models.now request ≡ None) }
     ensures request { IfOk result (λ cut. cut.request ≡ request) }
-    ensures planned { IfOk result (λ cut. IsPlan design.now request capacity cut.plan) }
-    ensures refused { IfErr result (IfRefused (λ said. (fault : CutFault) × (cut.first_fault design.now request ≡ Some fault) × (said ≡ partition_fault (cut.fault_text fault)))) }
+    ensures planned { IfOk result (λ cut. IsPlan design.now request models.now capacity cut.plan) }
+    ensures refused { IfErr result (IfRefused (λ said. (fault : CutFault) × (cut.first_fault_with design.now models.now request ≡ Some fault) × (said ≡ partition_fault (cut.fault_text fault)))) }
 {
-    match cut(alloc, design, &request, capacity) {
+    match cut(alloc, design, &request, capacity, models) {
         Ok(plan) => Ok(Cut { request, plan }),
         Err(fault) => Err(end_at_request(alloc, &fault)),
     }
 }
 
-/// The cut that the partition's file asks for, if its request has no fault for the design.
+// A cut, if its partition may be one for the command: that for `save` or `resume` asks for no bridge.
+fn allowed(alloc: Global, cut: Cut, saves: bool) -> Result<Cut, Ending>
+    ensures same { IfOk result (λ own. own ≡ cut) }
+    ensures alone { IfOk result (λ own. saves ≡ true → cut.request.bridges ≡ []) }
+    ensures refused { IfErr result (IfRefused (λ said. (saves ≡ true) × (cut.request.bridges ≢ []) × (said ≡ partition_fault (codes "P17")))) }
+{
+    if saves && !cut.request.bridges.as_slice().is_empty() {
+        return Err(end_at_fault(alloc, "P17"));
+    }
+    Ok(cut)
+}
+
+/// The cut that the partition's file asks for, if its request has no fault for the design, and for the command: `saves` tells whether that is
+/// `save` or `resume`. These models of bridges are known.
 pub(crate) fn read_cut<S: Shelf>(
     alloc: Global,
     shelf: &mut S,
     name: &str,
     design: &Design,
+    models: &Models,
+    saves: bool,
     capacity: u32,
 ) -> Result<Cut, Ending>
     requires keeps { KeepsToTree design.now.circuit design.now.tree }
     requires held { AreHeldOnce design.now.circuit }
+    requires handed { AreHandedIn models.now }
     requires range { IsCapacity capacity }
-    ensures accepted { IfOk result (λ cut. (bytes : List ℕ) × CanBe (S.files shelf.old) (partition_file_of design.now name.now) bytes × Cuts design.now bytes cut.request) }
-    ensures planned { IfOk result (λ cut. IsPlan design.now cut.request capacity cut.plan) }
-    ensures refused { IfErr result (IfRefused (IsRefusedBy (loads_of S.Shelf shelf.old shelf.new) (partition_file_of design.now name.now))) }
+    ensures accepted { IfOk result (λ cut. (bytes : List ℕ) × CanBe (S.files shelf.old) (partition_file_of (record { models = models.now; saves = saves }) design.now name.now) bytes × Cuts (record { models = models.now; saves = saves }) design.now bytes cut.request) }
+    ensures planned { IfOk result (λ cut. IsPlan design.now cut.request models.now capacity cut.plan) }
+    ensures refused { IfErr result (IfRefused (IsRefusedBy (loads_of S.Shelf shelf.old shelf.new) (partition_file_of (record { models = models.now; saves = saves }) design.now name.now))) }
     ensures shelf { ShelfWentOn S.Shelf shelf.old shelf.new }
 {
     let bytes = load(alloc, shelf, name, PARTITION_LIMIT)?;
     let request = request_of(alloc, bytes.as_slice())?;
-    let cut = cut_request(alloc, design, request, capacity)?;
-    Ok(cut)
+    let cut = cut_request(alloc, design, request, models, capacity)?;
+    allowed(alloc, cut, saves)
 }

@@ -1,36 +1,35 @@
 //! Printing of the run of a circuit.
-ghost use Rattle.std.specs.Prelude.{◌≡◌, ◌+◌, ◌++◌, ◌∷◌, ◌^◌, ◌<◌, ◌≤◌, true, ℕ, List, [], length, IfOk, OnOk};
+ghost use Rattle.std.specs.Prelude.{◌≡◌, ◌+◌, ◌<◌, ◌≤◌, ℕ, List, length};
 ghost use Rattle.gg_limits.specs.Limits.{cycle_limit};
 ghost use Rattle.gg_flat.specs.Clock.{edges_at};
 ghost use Rattle.gg_flat.specs.Order.{IsOrder};
 ghost use Rattle.gg_flat.specs.Run.{IsColumns, IsRunFrom, clocked_start};
-ghost use Rattle.gg_flat.specs.Scoped.{output_signals};
 ghost use Rattle.gg_flat.specs.Settled.{IsInputs};
 ghost use Rattle.gg_flat.specs.State.{opening};
-ghost use Rattle.gg_moved.specs.KeepsToTree.{KeepsToTree};
 ghost use Rattle.gg_refsim.specs.Cycle.{Cycle};
-ghost use Rattle.gg_flat.specs.Ports.{output_ports};
-ghost use Rattle.gg_pipe.specs.Made.{plan_reference};
+ghost use Rattle.gg_bridged.specs.Whole.{plan_circuit};
 ghost use Rattle.gg_run.specs.Printed.{PrintsRow, text_of};
 ghost use Rattle.gg_run.specs.Rows.{outputs_in};
 ghost use Rattle.gg_run.specs.Taken.{Took};
-ghost use Rattle.golden.specs.Case.{IsCase, IsFed, PrintsFed};
-ghost use Rattle.golden.specs.RunText.{IsRunBy, outputs_of};
+ghost use Rattle.golden.specs.Case.{IsFed, PrintsFed};
+ghost use Rattle.golden.specs.Partition.{to_run};
+ghost use Rattle.golden.specs.RunText.{IsRunBy};
 ghost use Rattle.gg_told.specs.Endings.{PrintsOn};
 ghost use Rattle.gg_told.specs.WentOn.{SinkWentOn};
 
-use crate::case::{Case, Fed};
+use crate::case::Fed;
+use crate::ports::shown_ports;
+use crate::whole::whole_of;
 use gg_clocks::Ratio;
 use gg_cut::stop_ratios;
-use gg_flat::{InstancePort, Ports, Tree, runs_along, settled_once};
+use gg_flat::{Models, Ports, runs_along, settled_once};
 use gg_io::Sink;
 use gg_order::Design;
-use gg_piped::pipe;
 use gg_refsim::Mono;
 use gg_run::{RowPrinter, Rows};
 use gg_told::{Ending, put};
 use gg_trace::{Trace, header_text};
-use std::alloc::{AllocError, Global};
+use std::alloc::Global;
 
 // Advances by one cycle, and writes its row. Returns whether to go on: no stop acts in the cycle.
 fn print_row<K: Sink>(
@@ -111,46 +110,6 @@ fn print_all<K: Sink>(
     Ok(())
 }
 
-// Adds the signal of a port, if it is an output.
-fn add_output(signals: &mut Vec<u32>, port: &InstancePort) -> Result<(), AllocError>
-    ensures { OnOk result (signals.new.items ≡ signals.old.items ++ output_signals (port.now ∷ [])) }
-{
-    if !port.is_input {
-        signals.push(port.signal)?;
-    }
-    Ok(())
-}
-
-// The signals of the outputs among these ports.
-fn outputs_among(alloc: Global, ports: &[InstancePort]) -> Result<Vec<u32>, AllocError>
-    ensures { IfOk result (λ signals. signals.items ≡ output_signals ports.now) }
-{
-    let mut signals = Vec::new(alloc);
-    for port in ports {
-        add_output(&mut signals, port)?;
-    }
-    Ok(signals)
-}
-
-// The top's outputs, in port order.
-fn top_outputs(alloc: Global, tree: &Tree) -> Result<Vec<u32>, AllocError>
-    requires { 0 < length tree.now.instances }
-    ensures { IfOk result (λ signals. signals.items ≡ outputs_of tree.now) }
-{
-    outputs_among(alloc, tree.instances()[0].ports.as_slice())
-}
-
-/// The top's outputs as ports.
-pub(crate) fn top_ports(alloc: Global, design: &Design) -> Result<Ports, AllocError>
-    requires { KeepsToTree design.now.circuit design.now.tree }
-    ensures { IfOk result (λ ports. ports ≡ output_ports design.now.circuit design.now.tree) }
-{
-    let piece = design.piece();
-    let outputs = top_outputs(alloc, design.tree())?;
-    let ports = piece.ports(alloc, outputs.as_slice())?;
-    Ok(ports)
-}
-
 // Prints the run of a design's circuit on these inputs, by the simulator: a value for each port, of the first out-signals. The clocks
 // of the circuit and those of the stops have these ratios.
 fn print_simulated<K: Sink>(
@@ -181,62 +140,43 @@ fn print_simulated<K: Sink>(
     print_all(alloc, &mut mono, stops, ports, inputs, out)
 }
 
-// Whether numbers of 32 bits suffice for the signals and the channels of a case together.
-fn has_room(case: &Case) -> bool
-    ensures { result ≡ true → length case.now.design.circuit.signals + length case.now.cut.plan.channels < 2 ^ 32 }
-{
-    let signals = case.design.piece().signal_count() as u64;
-    let channels = case.cut.plan.channels.as_slice().len() as u64;
-    signals.saturating_add(channels) < 4_294_967_296
-}
-
-/// The reference circuit of a case, with an order and the design's tree.
-pub(crate) fn reference_of(alloc: Global, case: &Case) -> Result<Design, AllocError>
-    requires { (circuit : List ℕ) × (partition : List ℕ) × (capacity : ℕ) × IsCase circuit partition capacity case.now }
-    ensures circuit { IfOk result (λ made. made.circuit ≡ plan_reference case.now.design case.now.cut.request) }
-    ensures tree { IfOk result (λ made. made.tree ≡ case.now.design.tree) }
-{
-    if !has_room(case) {
-        return Err(AllocError);
-    }
-    let made = pipe(alloc, &case.design, &case.cut.plan)?;
-    Ok(made)
-}
-
-// Prints the run of the reference circuit on a trace, by the simulator: a value for each port, of the first out-signals. The clocks of
-// the stops have these ratios.
-fn print_reference<K: Sink>(
+// Prints the run of the circuit that a case's network computes, by the simulator: a value for each port, of the first out-signals. The
+// clocks of the stops have these ratios.
+fn print_whole<K: Sink>(
     alloc: Global,
     fed: &Fed,
+    models: &Models,
     stops: &[Ratio],
     ports: &Ports,
     out: &mut K,
 ) -> Result<(), Ending>
-    requires fed { (circuit : List ℕ) × (partition : List ℕ) × (trace : List ℕ) × (capacity : ℕ) × IsFed circuit partition trace capacity fed.now }
-    requires ports { length ports.now ≤ length fed.now.case.design.circuit.outs }
-    ensures prints { (rows : List (List ℕ)) × IsRunBy fed.now.case.design fed.now.case.cut.request fed.now.trace.columns fed.now.trace.rows rows
-        × PrintsOn K.Sink out.old out.new (text_of stops.now (plan_reference fed.now.case.design fed.now.case.cut.request) ports.now rows fed.now.trace.rows) result }
+    requires fed { (circuit : List ℕ) × (partition : List ℕ) × (trace : List ℕ) × (capacity : ℕ) × IsFed (to_run models.now) circuit partition trace capacity fed.now }
+    requires ports { length ports.now ≤ length (plan_circuit fed.now.case.design fed.now.case.cut.request models.now).outs }
+    ensures prints { (rows : List (List ℕ)) × IsRunBy fed.now.case.design fed.now.case.cut.request models.now fed.now.trace.columns fed.now.trace.rows rows
+        × PrintsOn K.Sink out.old out.new (text_of stops.now (plan_circuit fed.now.case.design fed.now.case.cut.request models.now) ports.now rows fed.now.trace.rows) result }
     ensures out { SinkWentOn K.Sink out.old out.new }
 {
-    let reference = reference_of(alloc, &fed.case)?;
+    let whole = whole_of(alloc, models, &fed.case)?;
     let ratios = fed.case.cut.plan.ratios.as_slice();
-    print_simulated(alloc, &reference, ratios, stops, ports, &fed.trace, out)
+    print_simulated(alloc, &whole, ratios, stops, ports, &fed.trace, out)
 }
 
-/// Prints the run of a design on a trace, by the simulator: the top's outputs, cycle by cycle, to the first cycle in which a stop
-/// acts. The clocks have the ratios that the request gives. If it asks for pipes, the reference circuit is simulated.
-pub(crate) fn print_run<K: Sink>(alloc: Global, fed: &Fed, out: &mut K) -> Result<(), Ending>
-    requires fed { (circuit : List ℕ) × (partition : List ℕ) × (trace : List ℕ) × (capacity : ℕ) × IsFed circuit partition trace capacity fed.now }
-    ensures prints { PrintsFed K.Sink out.old out.new fed.now result }
+/// Prints the run of a design on a trace, by the simulator: the top's outputs that no bridge sees, cycle by cycle, to the first cycle in
+/// which a stop acts. The clocks have the ratios that the request gives. If it asks for pipes or bridges, the reference circuit with the
+/// bridges' models is simulated.
+pub(crate) fn print_run<K: Sink>(
+    alloc: Global,
+    fed: &Fed,
+    models: &Models,
+    out: &mut K,
+) -> Result<(), Ending>
+    requires fed { (circuit : List ℕ) × (partition : List ℕ) × (trace : List ℕ) × (capacity : ℕ) × IsFed (to_run models.now) circuit partition trace capacity fed.now }
+    ensures prints { PrintsFed models.now K.Sink out.old out.new fed.now result }
     ensures out { SinkWentOn K.Sink out.old out.new }
 {
     let case = &fed.case;
-    let ports = top_ports(alloc, &case.design)?;
+    let ports = shown_ports(alloc, &case.design, &case.cut.request)?;
     let ratios = case.cut.plan.ratios.as_slice();
     let own = stop_ratios(alloc, case.design.tree(), ratios)?;
-    let stops = own.as_slice();
-    if case.cut.request.pipe.as_slice().is_empty() {
-        return print_simulated(alloc, &case.design, ratios, stops, &ports, &fed.trace, out);
-    }
-    print_reference(alloc, fed, stops, &ports, out)
+    print_whole(alloc, fed, models, own.as_slice(), &ports, out)
 }

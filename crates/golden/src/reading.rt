@@ -3,24 +3,26 @@ ghost use Rattle.std.specs.Prelude.{◌≡◌, ◌≢◌, ℕ, List, IfOk, IfErr
 ghost use Rattle.gg_front.specs.Fault.{front_text};
 ghost use Rattle.gg_front.specs.Meaning.{MeansDesign};
 ghost use Rattle.gg_front.specs.declared.fault.FrontFault.TheVariants as front;
-ghost use Rattle.gg_flat.specs.Run.{IsColumns};
 ghost use Rattle.gg_moved.specs.KeepsToTree.{KeepsToTree};
 ghost use Rattle.gg_cut.specs.Held.{AreHeldOnce};
 ghost use Rattle.gg_pipe.specs.Made.{AllHeld};
 ghost use Rattle.gg_trace.specs.declared.faults.TraceFault.TheVariants.{NoMemory};
 ghost use Rattle.gg_trace.specs.FaultText.{fault_words};
+ghost use Rattle.gg_trace.specs.Trace.{HaveWidths};
 ghost use Rattle.golden.specs.Lines.{circuit_fault, trace_fault};
 ghost use Rattle.gg_told.specs.Order.{CanBe};
 ghost use Rattle.golden.specs.Run.{TellsTraceOf, circuit_file, trace_file_of};
-ghost use Rattle.golden.specs.RunText.{FeedsOnly};
+ghost use Rattle.golden.specs.RunText.{FeedsOnly, fed_ports};
 ghost use Rattle.gg_told.specs.Endings.{IfRefused, IsRefusedBy};
 ghost use Rattle.gg_told.specs.Ends.{loads_of};
 ghost use Rattle.gg_told.specs.WentOn.{ShelfWentOn};
 
 use crate::limits::{CIRCUIT_LIMIT, TRACE_LIMIT};
+use crate::ports::fed_ports;
 use gg_front::{FrontFault, front};
 use gg_io::Shelf;
 use gg_order::Design;
+use gg_partfile::Request;
 use gg_told::{Ending, end_with, load, make_refusal};
 use gg_trace::{Trace, TraceFault, read_trace};
 use std::alloc::{AllocError, Global};
@@ -78,33 +80,38 @@ fn end_at_trace(alloc: Global, fault: TraceFault) -> Ending
     }
 }
 
-/// The columns that the bytes of a trace give the inputs of a circuit.
-pub(crate) fn inputs_of(alloc: Global, bytes: &[u8], design: &Design) -> Result<Trace, Ending>
-    ensures accepted { IfOk result (λ trace. FeedsOnly design.now.circuit bytes.now trace.rows trace.columns) }
-    ensures fed { IfOk result (λ trace. IsColumns design.now.circuit trace.rows trace.columns) }
-    ensures refused { IfErr result (IfRefused (TellsTraceOf design.now.circuit bytes.now)) }
+/// The columns that the bytes of a trace give the inputs of a circuit that no bridge of a request drives.
+pub(crate) fn inputs_of(
+    alloc: Global,
+    bytes: &[u8],
+    design: &Design,
+    request: &Request,
+) -> Result<Trace, Ending>
+    ensures accepted { IfOk result (λ trace. FeedsOnly design.now.circuit request.now bytes.now trace.rows trace.columns) }
+    ensures widths { IfOk result (λ trace. HaveWidths (fed_ports design.now.circuit request.now) trace.rows trace.columns) }
+    ensures refused { IfErr result (IfRefused (TellsTraceOf design.now.circuit request.now bytes.now)) }
 {
-    let piece = design.piece();
-    let ports = piece.in_ports(alloc)?;
+    let ports = fed_ports(alloc, design.piece(), request)?;
     match read_trace(alloc, &ports, bytes) {
         Ok(trace) => Ok(trace),
         Err(fault) => Err(end_at_trace(alloc, fault)),
     }
 }
 
-/// The columns that the trace's file gives the inputs of a circuit.
+/// The columns that the trace's file gives these inputs.
 pub(crate) fn read_inputs<S: Shelf>(
     alloc: Global,
     shelf: &mut S,
     name: &str,
     design: &Design,
+    request: &Request,
 ) -> Result<Trace, Ending>
-    ensures accepted { IfOk result (λ trace. (bytes : List ℕ) × CanBe (S.files shelf.old) (trace_file_of design.now.circuit name.now) bytes
-        × FeedsOnly design.now.circuit bytes trace.rows trace.columns) }
-    ensures fed { IfOk result (λ trace. IsColumns design.now.circuit trace.rows trace.columns) }
-    ensures refused { IfErr result (IfRefused (IsRefusedBy (loads_of S.Shelf shelf.old shelf.new) (trace_file_of design.now.circuit name.now))) }
+    ensures accepted { IfOk result (λ trace. (bytes : List ℕ) × CanBe (S.files shelf.old) (trace_file_of design.now.circuit request.now name.now) bytes
+        × FeedsOnly design.now.circuit request.now bytes trace.rows trace.columns) }
+    ensures widths { IfOk result (λ trace. HaveWidths (fed_ports design.now.circuit request.now) trace.rows trace.columns) }
+    ensures refused { IfErr result (IfRefused (IsRefusedBy (loads_of S.Shelf shelf.old shelf.new) (trace_file_of design.now.circuit request.now name.now))) }
     ensures shelf { ShelfWentOn S.Shelf shelf.old shelf.new }
 {
     let bytes = load(alloc, shelf, name, TRACE_LIMIT)?;
-    inputs_of(alloc, bytes.as_slice(), design)
+    inputs_of(alloc, bytes.as_slice(), design, request)
 }

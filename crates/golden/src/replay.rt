@@ -5,15 +5,21 @@ ghost use Rattle.gg_told.specs.Endings.{EndedOn, PrintsOrStops};
 ghost use Rattle.gg_told.specs.Order.{Load, Write};
 ghost use Rattle.gg_told.specs.WentOn.{ShelfWentOn, SinkWentOn};
 ghost use Rattle.gg_words.specs.Range.{IsCapacity};
+ghost use Rattle.gg_build.specs.Build.{HasBridges};
+ghost use Rattle.golden.specs.Bridges.{HaveModels};
 ghost use Rattle.golden.specs.Case.{IsFed};
 ghost use Rattle.golden.specs.Commands.{asking, fed_order};
+ghost use Rattle.golden.specs.Handed.{AreHandedIn};
+ghost use Rattle.golden.specs.Partition.{to_run};
 ghost use Rattle.golden.specs.Replay.{IsReplayOf, IsReplayed, TellsSteps, steps_file_for};
 
 use crate::case::{Fed, read_fed};
 use crate::limits::STEPS_LIMIT;
 use crate::naming::names_of;
 use crate::network::replay_net;
-use gg_flat::run_once;
+use gg_bits::Name;
+use gg_bridge::Bridge;
+use gg_flat::{Models, run_once};
 use gg_front::one_meaning;
 use gg_io::{Shelf, Sink};
 use gg_steps::read_steps;
@@ -22,10 +28,18 @@ use std::alloc::Global;
 use std::marker::Brand;
 
 // Does the steps of a file on the network of the plan.
-fn replay_bytes<K: Sink>(alloc: Global, fed: &Fed, steps: &[u8], out: &mut K) -> Result<(), Ending>
-    requires { (circuit : List ℕ) × (partition : List ℕ) × (trace : List ℕ) × (capacity : ℕ) × IsFed circuit partition trace capacity fed.now }
-    ensures ended { (circuit partition trace : List ℕ) (capacity : ℕ) → IsFed circuit partition trace capacity fed.now
-        → PrintsOrStops (puts_of K.Sink out.old out.new) (IsReplayed circuit partition trace capacity steps.now) (TellsSteps circuit partition trace capacity steps.now) result }
+fn replay_bytes<K: Sink, B: Bridge + Send + Drop>(
+    alloc: Global,
+    fed: &Fed,
+    models: &Models,
+    bridges: Vec<(Name, B)>,
+    steps: &[u8],
+    out: &mut K,
+) -> Result<(), Ending>
+    requires bridges { HasBridges B.piece B.state fed.now.case.cut.plan bridges.items }
+    requires fed { (circuit : List ℕ) × (partition : List ℕ) × (trace : List ℕ) × (capacity : ℕ) × IsFed (to_run models.now) circuit partition trace capacity fed.now }
+    ensures ended { (circuit partition trace : List ℕ) (capacity : ℕ) → IsFed (to_run models.now) circuit partition trace capacity fed.now
+        → PrintsOrStops (puts_of K.Sink out.old out.new) (IsReplayed (to_run models.now) circuit partition trace capacity steps.now) (TellsSteps (to_run models.now) circuit partition trace capacity steps.now) result }
     ensures out { SinkWentOn K.Sink out.old out.new }
 {
     one_meaning();
@@ -33,44 +47,53 @@ fn replay_bytes<K: Sink>(alloc: Global, fed: &Fed, steps: &[u8], out: &mut K) ->
     let case = &fed.case;
     let names = names_of(alloc, case.design.tree(), &case.cut.plan)?;
     let events = read_steps(alloc, &names, steps)?;
-    replay_net::<Brand, K>(alloc, fed, &names, events.as_slice(), out)
+    replay_net::<B, Brand, K>(alloc, fed, models, bridges, &names, events.as_slice(), out)
 }
 
 // `replay`, after the circuit, the partition and the trace were read.
-fn replay_steps<S: Shelf, K: Sink>(
+fn replay_steps<S: Shelf, K: Sink, B: Bridge + Send + Drop>(
     alloc: Global,
     fed: &Fed,
+    models: &Models,
+    bridges: Vec<(Name, B)>,
     steps: &str,
     shelf: &mut S,
     out: &mut K,
 ) -> Result<(), Ending>
-    requires { (circuit : List ℕ) × (partition : List ℕ) × (trace : List ℕ) × (capacity : ℕ) × IsFed circuit partition trace capacity fed.now }
-    ensures ended { (circuit partition trace : List ℕ) (capacity : ℕ) → IsFed circuit partition trace capacity fed.now
-        → EndedOn (loads_of S.Shelf shelf.old shelf.new) (puts_of K.Sink out.old out.new) (Load (steps_file_for circuit partition trace capacity steps.now) (λ s. Write (IsReplayOf circuit partition trace capacity s))) result }
+    requires bridges { HasBridges B.piece B.state fed.now.case.cut.plan bridges.items }
+    requires fed { (circuit : List ℕ) × (partition : List ℕ) × (trace : List ℕ) × (capacity : ℕ) × IsFed (to_run models.now) circuit partition trace capacity fed.now }
+    ensures ended { (circuit partition trace : List ℕ) (capacity : ℕ) → IsFed (to_run models.now) circuit partition trace capacity fed.now
+        → EndedOn (loads_of S.Shelf shelf.old shelf.new) (puts_of K.Sink out.old out.new) (Load (steps_file_for (to_run models.now) circuit partition trace capacity steps.now) (λ s. Write (IsReplayOf (to_run models.now) circuit partition trace capacity s))) result }
     ensures shelf { ShelfWentOn S.Shelf shelf.old shelf.new }
     ensures out { SinkWentOn K.Sink out.old out.new }
 {
     let bytes = load(alloc, shelf, steps, STEPS_LIMIT)?;
-    replay_bytes(alloc, fed, bytes.as_slice(), out)
+    replay_bytes(alloc, fed, models, bridges, bytes.as_slice(), out)
 }
 
 /// `replay`: reads the circuit, the partition, the trace and the steps, does the steps on the network, and writes a
-/// line for each channel.
-pub(crate) fn replay<S: Shelf, K: Sink>(
+/// line for each channel. `models` are those of the bridges.
+pub(crate) fn replay<S: Shelf, K: Sink, B: Bridge + Send + Drop>(
     alloc: Global,
     circuit: &str,
     partition: &str,
     trace: &str,
     steps: &str,
     capacity: u32,
+    models: &Models,
+    bridges: Vec<(Name, B)>,
     shelf: &mut S,
     out: &mut K,
 ) -> Result<(), Ending>
-    requires { IsCapacity capacity }
-    ensures ended { EndedOn (loads_of S.Shelf shelf.old shelf.new) (puts_of K.Sink out.old out.new) (fed_order (asking circuit.now partition.now capacity) trace.now (λ c p t. Load (steps_file_for c p t capacity steps.now) (λ s. Write (IsReplayOf c p t capacity s)))) result }
+    requires capacity { IsCapacity capacity }
+    requires handed { AreHandedIn models.now }
+    requires bridges { HaveModels B.piece B.state bridges.items models.now }
+    ensures ended { EndedOn (loads_of S.Shelf shelf.old shelf.new) (puts_of K.Sink out.old out.new) (fed_order (to_run models.now) (asking circuit.now partition.now capacity) trace.now (λ c p t. Load (steps_file_for (to_run models.now) c p t capacity steps.now) (λ s. Write (IsReplayOf (to_run models.now) c p t capacity s)))) result }
     ensures shelf { ShelfWentOn S.Shelf shelf.old shelf.new }
     ensures out { SinkWentOn K.Sink out.old out.new }
 {
-    let fed = read_fed(alloc, shelf, circuit, partition, trace, capacity)?;
-    replay_steps(alloc, &fed, steps, shelf, out)
+    let fed = read_fed(
+        alloc, shelf, circuit, partition, trace, models, false, capacity,
+    )?;
+    replay_steps(alloc, &fed, models, bridges, steps, shelf, out)
 }

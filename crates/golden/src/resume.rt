@@ -1,5 +1,6 @@
 //! The command `resume`.
 ghost use Rattle.std.specs.Prelude.{◌≡◌, ◌-◌, ◌<◌, ◌≤◌, ℕ, ◌⊎◌, List, IfErr, IfOk, length};
+ghost use Rattle.gg_bridged.specs.Whole.{plan_circuit};
 ghost use Rattle.gg_flat.specs.Run.{Start};
 ghost use Rattle.gg_flat.specs.State.{IsState};
 ghost use Rattle.gg_pipe.specs.Made.{plan_reference};
@@ -15,21 +16,25 @@ ghost use Rattle.gg_told.specs.WentOn.{ShelfWentOn, SinkWentOn};
 ghost use Rattle.gg_words.specs.Range.{IsCapacity};
 ghost use Rattle.golden.specs.Case.{IsFed};
 ghost use Rattle.golden.specs.Commands.{asking, fed_order};
+ghost use Rattle.golden.specs.Handed.{AreHandedIn};
 ghost use Rattle.golden.specs.Lines.{few_rows};
+ghost use Rattle.golden.specs.Partition.{to_save};
 ghost use Rattle.golden.specs.Resumed.{CanBeResumed, IsResumedText, TellsLate, TellsNoSnap, rest_text, snap_file_for};
 ghost use Rattle.golden.specs.Runs.{TellsSnapOf, meant_by, resumed_rows};
 
 use crate::case::{Fed, read_fed};
 use crate::limits::SNAP_LIMIT;
-use crate::printing::{reference_of, top_ports};
+use crate::ports::shown_ports;
 use crate::snaps::{end_at_snap, end_few};
+use crate::whole::reference_of;
+use gg_bridge::Echo;
 use gg_cut::stop_ratios;
-use gg_flat::Ports;
+use gg_flat::{Models, Ports};
 use gg_front::one_meaning;
 use gg_io::{Gate, Shelf, Sink};
 use gg_net::Streams;
 use gg_order::Design;
-use gg_run::print_from;
+use gg_run::{print_from, trays_of};
 use gg_snap::{plans_are_whole, plans_can_save, restore};
 use gg_snap_text::{Snap, one_snapshot, read_snap};
 use gg_told::{Ending, load};
@@ -74,6 +79,7 @@ fn print_since<R: Threads + Sync, Z: Streams, K: Sink, G: Gate + Sync>(
     rt: &R,
     alloc: Global,
     fed: &Fed,
+    _models: &Models,
     ports: &Ports,
     snap: Snap<'_>,
     workers: u32,
@@ -81,26 +87,24 @@ fn print_since<R: Threads + Sync, Z: Streams, K: Sink, G: Gate + Sync>(
     gate: &G,
 ) -> Result<(), Ending>
     requires few { workers ≤ 64 }
-    requires run { (start : Start) × CanBegin fed.now.case.cut.plan fed.now.case.design snap.cycle snap.state start fed.now.trace.columns fed.now.trace.rows Z.flow }
+    requires run { (start : Start) × (can : CanBegin fed.now.case.cut.plan fed.now.case.design snap.cycle snap.state start fed.now.trace.columns fed.now.trace.rows Z.flow) × (length ports.now ≤ length (plan_circuit can.run.design can.run.request can.run.models).outs) }
     requires within { snap.cycle ≤ fed.now.trace.rows }
-    requires ports { length ports.now ≤ length fed.now.case.design.circuit.outs }
     ensures prints { (start : Start) (can : CanBegin fed.now.case.cut.plan fed.now.case.design snap.entry.cycle snap.entry.state start fed.now.trace.columns fed.now.trace.rows Z.flow)
-        → PrintsOn K.Sink out.old out.new (text_since (plan_stops can.run.design can.run.request) (plan_reference can.run.design can.run.request) ports.now can.run.rows snap.entry.cycle (fed.now.trace.rows - snap.entry.cycle)) result }
+        → PrintsOn K.Sink out.old out.new (text_since (plan_stops can.run.design can.run.request) (plan_circuit can.run.design can.run.request can.run.models) ports.now can.run.rows snap.entry.cycle (fed.now.trace.rows - snap.entry.cycle)) result }
     ensures out { SinkWentOn K.Sink out.old out.new }
 {
     let design = &fed.case.design;
     let plan = &fed.case.cut.plan;
     let begin = snap.cycle();
-    let outs = design.piece().outs().len();
     let stops = stop_ratios(alloc, design.tree(), plan.ratios.as_slice())?;
-    let net = restore::<Z>(alloc, plan, design, &fed.trace, snap)?;
+    let net = restore::<Echo, Z>(alloc, plan, design, &fed.trace, snap)?;
     net.kept();
-    print_from::<R, Z, K, G>(
+    print_from::<R, Echo, Z, K, G>(
         rt,
         alloc,
         net,
         begin,
-        outs,
+        trays_of(plan),
         stops.as_slice(),
         ports,
         workers,
@@ -114,20 +118,21 @@ fn print_rest<R: Threads + Sync, K: Sink, G: Gate + Sync>(
     rt: &R,
     alloc: Global,
     fed: &Fed,
+    models: &Models,
     snap: Snap<'_>,
     workers: u32,
     out: &mut K,
     gate: &G,
 ) -> Result<(), Ending>
     requires few { workers ≤ 64 }
-    requires fed { (circuit : List ℕ) × (partition : List ℕ) × (trace : List ℕ) × (capacity : ℕ) × IsFed circuit partition trace capacity fed.now }
+    requires fed { (circuit : List ℕ) × (partition : List ℕ) × (trace : List ℕ) × (capacity : ℕ) × IsFed (to_save models.now) circuit partition trace capacity fed.now }
     requires within { snap.cycle ≤ fed.now.trace.rows }
     requires typed { IsState (plan_reference fed.now.case.design fed.now.case.cut.request) snap.state }
-    ensures prints { PrintsOn K.Sink out.old out.new (rest_text (meant_by fed.now) snap.entry.cycle (resumed_rows fed.now snap.entry.cycle snap.entry.state)) result }
+    ensures prints { PrintsOn K.Sink out.old out.new (rest_text (meant_by fed.now) snap.entry.cycle (resumed_rows models.now fed.now snap.entry.cycle snap.entry.state)) result }
     ensures out { SinkWentOn K.Sink out.old out.new }
 {
-    let ports = top_ports(alloc, &fed.case.design)?;
-    print_since::<R, Brand, K, G>(rt, alloc, fed, &ports, snap, workers, out, gate)
+    let ports = shown_ports(alloc, &fed.case.design, &fed.case.cut.request)?;
+    print_since::<R, Brand, K, G>(rt, alloc, fed, models, &ports, snap, workers, out, gate)
 }
 
 // `resume`, after all files were loaded and those before the snapshot's were read.
@@ -135,16 +140,17 @@ fn resume_bytes<R: Threads + Sync, K: Sink, G: Gate + Sync>(
     rt: &R,
     alloc: Global,
     fed: &Fed,
+    models: &Models,
     bytes: Vec<u8>,
     workers: u32,
     out: &mut K,
     gate: &G,
 ) -> Result<(), Ending>
     requires few { workers ≤ 64 }
-    requires fed { (circuit : List ℕ) × (partition : List ℕ) × (trace : List ℕ) × (capacity : ℕ) × IsFed circuit partition trace capacity fed.now }
-    ensures ended { (circuit partition trace : List ℕ) (capacity : ℕ) → IsFed circuit partition trace capacity fed.now
-        → PrintsOrStops (puts_of K.Sink out.old out.new) (λ text. CanBeResumed circuit partition trace bytes.items × IsOnly (IsResumedText circuit partition trace bytes.items) text)
-        (λ said. TellsNoSnap circuit partition trace bytes.items said ⊎ TellsLate circuit partition trace bytes.items said) result }
+    requires fed { (circuit : List ℕ) × (partition : List ℕ) × (trace : List ℕ) × (capacity : ℕ) × IsFed (to_save models.now) circuit partition trace capacity fed.now }
+    ensures ended { (circuit partition trace : List ℕ) (capacity : ℕ) → IsFed (to_save models.now) circuit partition trace capacity fed.now
+        → PrintsOrStops (puts_of K.Sink out.old out.new) (λ text. CanBeResumed (to_save models.now) circuit partition trace bytes.items × IsOnly (IsResumedText (to_save models.now) circuit partition trace bytes.items) text)
+        (λ said. TellsNoSnap (to_save models.now) circuit partition trace bytes.items said ⊎ TellsLate (to_save models.now) circuit partition trace bytes.items said) result }
     ensures out { SinkWentOn K.Sink out.old out.new }
 {
     one_meaning();
@@ -153,7 +159,7 @@ fn resume_bytes<R: Threads + Sync, K: Sink, G: Gate + Sync>(
     plans_are_whole();
     let reference = reference_of(alloc, &fed.case)?;
     let snap = snap_in(alloc, &reference, fed.trace.rows(), bytes)?;
-    print_rest(rt, alloc, fed, snap, workers, out, gate)
+    print_rest(rt, alloc, fed, models, snap, workers, out, gate)
 }
 
 // `resume`, after the circuit, the partition and the trace were read.
@@ -161,6 +167,7 @@ fn resume_fed<R: Threads + Sync, S: Shelf, K: Sink, G: Gate + Sync>(
     rt: &R,
     alloc: Global,
     fed: &Fed,
+    models: &Models,
     snap: &str,
     workers: u32,
     shelf: &mut S,
@@ -168,18 +175,18 @@ fn resume_fed<R: Threads + Sync, S: Shelf, K: Sink, G: Gate + Sync>(
     gate: &G,
 ) -> Result<(), Ending>
     requires few { workers ≤ 64 }
-    requires fed { (circuit : List ℕ) × (partition : List ℕ) × (trace : List ℕ) × (capacity : ℕ) × IsFed circuit partition trace capacity fed.now }
-    ensures ended { (circuit partition trace : List ℕ) (capacity : ℕ) → IsFed circuit partition trace capacity fed.now
-        → EndedOn (loads_of S.Shelf shelf.old shelf.new) (puts_of K.Sink out.old out.new) (Load (snap_file_for circuit partition trace snap.now) (λ s. Write (IsResumedText circuit partition trace s))) result }
+    requires fed { (circuit : List ℕ) × (partition : List ℕ) × (trace : List ℕ) × (capacity : ℕ) × IsFed (to_save models.now) circuit partition trace capacity fed.now }
+    ensures ended { (circuit partition trace : List ℕ) (capacity : ℕ) → IsFed (to_save models.now) circuit partition trace capacity fed.now
+        → EndedOn (loads_of S.Shelf shelf.old shelf.new) (puts_of K.Sink out.old out.new) (Load (snap_file_for (to_save models.now) circuit partition trace snap.now) (λ s. Write (IsResumedText (to_save models.now) circuit partition trace s))) result }
     ensures shelf { ShelfWentOn S.Shelf shelf.old shelf.new }
     ensures out { SinkWentOn K.Sink out.old out.new }
 {
     let bytes = load(alloc, shelf, snap, SNAP_LIMIT)?;
-    resume_bytes(rt, alloc, fed, bytes, workers, out, gate)
+    resume_bytes(rt, alloc, fed, models, bytes, workers, out, gate)
 }
 
 /// `resume`: reads the circuit, the partition, the trace and the snapshot, and writes the text of the run of the circuit with the pipes
-/// that the partition asks for, from the snapshot on.
+/// that the partition asks for, from the snapshot on. These models of bridges are known, but none may be asked for.
 pub(crate) fn resume<R: Threads + Sync, S: Shelf, K: Sink, G: Gate + Sync>(
     rt: &R,
     alloc: Global,
@@ -189,16 +196,20 @@ pub(crate) fn resume<R: Threads + Sync, S: Shelf, K: Sink, G: Gate + Sync>(
     snap: &str,
     capacity: u32,
     workers: u32,
+    models: &Models,
     shelf: &mut S,
     out: &mut K,
     gate: &G,
 ) -> Result<(), Ending>
     requires capacity { IsCapacity capacity }
     requires few { workers ≤ 64 }
-    ensures ended { EndedOn (loads_of S.Shelf shelf.old shelf.new) (puts_of K.Sink out.old out.new) (fed_order (asking circuit.now partition.now capacity) trace.now (λ c p t. Load (snap_file_for c p t snap.now) (λ s. Write (IsResumedText c p t s)))) result }
+    requires handed { AreHandedIn models.now }
+    ensures ended { EndedOn (loads_of S.Shelf shelf.old shelf.new) (puts_of K.Sink out.old out.new) (fed_order (to_save models.now) (asking circuit.now partition.now capacity) trace.now (λ c p t. Load (snap_file_for (to_save models.now) c p t snap.now) (λ s. Write (IsResumedText (to_save models.now) c p t s)))) result }
     ensures shelf { ShelfWentOn S.Shelf shelf.old shelf.new }
     ensures out { SinkWentOn K.Sink out.old out.new }
 {
-    let fed = read_fed(alloc, shelf, circuit, partition, trace, capacity)?;
-    resume_fed(rt, alloc, &fed, snap, workers, shelf, out, gate)
+    let fed = read_fed(
+        alloc, shelf, circuit, partition, trace, models, true, capacity,
+    )?;
+    resume_fed(rt, alloc, &fed, models, snap, workers, shelf, out, gate)
 }

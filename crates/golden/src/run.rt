@@ -1,7 +1,11 @@
 //! The command `run`.
 ghost use Rattle.std.specs.Prelude.{◌≡◌, ◌≤◌, ℕ, List, false};
 ghost use Rattle.gg_words.specs.Range.{IsCapacity};
+ghost use Rattle.gg_build.specs.Build.{HasBridges};
+ghost use Rattle.golden.specs.Bridges.{HaveModels};
 ghost use Rattle.golden.specs.Commands.{asking, fed_order};
+ghost use Rattle.golden.specs.Handed.{AreHandedIn};
+ghost use Rattle.golden.specs.Partition.{to_run};
 ghost use Rattle.gg_told.specs.Endings.{EndedOn, said_by};
 ghost use Rattle.gg_told.specs.Order.{Write};
 ghost use Rattle.golden.specs.Run.{IsTextOf};
@@ -14,39 +18,45 @@ use crate::case::{Fed, read_fed};
 use crate::laws::refusals_are_exact;
 use crate::printing::print_run;
 use crate::windows::print_fed;
-use gg_flat::run_once;
+use gg_bits::Name;
+use gg_bridge::Bridge;
+use gg_flat::{Models, run_once};
 use gg_front::one_meaning;
 use gg_io::{Gate, Shelf, Sink};
 use gg_told::Ending;
 use std::alloc::Global;
 use std::thread::Threads;
 
-// Prints the run of a design on a trace, with its pipes: by the simulator if `mono`, and else from the network of the cut.
-fn print_text<R: Threads + Sync, K: Sink, G: Gate + Sync>(
+// Prints the run of a design on a trace, with its pipes and bridges: by the simulator if `mono`, and else from the network of the cut.
+fn print_text<R: Threads + Sync, B: Bridge + Send + Drop, K: Sink, G: Gate + Sync>(
     rt: &R,
     alloc: Global,
     fed: &Fed,
+    models: &Models,
+    bridges: Vec<(Name, B)>,
     workers: u32,
     mono: bool,
     out: &mut K,
     gate: &G,
 ) -> Result<(), Ending>
-    requires fed { (circuit : List ℕ) × (partition : List ℕ) × (trace : List ℕ) × (capacity : ℕ) × IsFed circuit partition trace capacity fed.now }
+    requires fed { (circuit : List ℕ) × (partition : List ℕ) × (trace : List ℕ) × (capacity : ℕ) × IsFed (to_run models.now) circuit partition trace capacity fed.now }
+    requires bridges { HasBridges B.piece B.state fed.now.case.cut.plan bridges.items }
     requires few { workers ≤ 64 }
-    ensures prints { PrintsFed K.Sink out.old out.new fed.now result }
-    ensures network { mono ≡ false → PrintsFedByNetwork K.Sink out.old out.new fed.now result }
+    ensures prints { PrintsFed models.now K.Sink out.old out.new fed.now result }
+    ensures network { mono ≡ false → PrintsFedByNetwork models.now K.Sink out.old out.new fed.now result }
     ensures out { SinkWentOn K.Sink out.old out.new }
 {
     if mono {
-        print_run(alloc, fed, out)
+        print_run(alloc, fed, models, out)
     } else {
-        print_fed(rt, alloc, fed, workers, out, gate)
+        print_fed(rt, alloc, fed, models, bridges, workers, out, gate)
     }
 }
 
-/// `run`: reads the circuit, the partition and the trace, and writes the text of the run of the circuit with the pipes that the
-/// partition asks for: by the simulator if `mono`, and else from the network of the cut, which this many workers run.
-pub(crate) fn run<R: Threads + Sync, S: Shelf, K: Sink, G: Gate + Sync>(
+/// `run`: reads the circuit, the partition and the trace, and writes the text of the run of the circuit with the pipes and the bridges that
+/// the partition asks for: by the simulator if `mono`, and else from the network of the cut, which this many workers run. `models` are
+/// those of the bridges.
+pub(crate) fn run<R: Threads + Sync, S: Shelf, K: Sink, G: Gate + Sync, B: Bridge + Send + Drop>(
     rt: &R,
     alloc: Global,
     circuit: &str,
@@ -55,20 +65,26 @@ pub(crate) fn run<R: Threads + Sync, S: Shelf, K: Sink, G: Gate + Sync>(
     capacity: u32,
     workers: u32,
     mono: bool,
+    models: &Models,
+    bridges: Vec<(Name, B)>,
     shelf: &mut S,
     out: &mut K,
     gate: &G,
 ) -> Result<(), Ending>
     requires capacity { IsCapacity capacity }
     requires few { workers ≤ 64 }
-    ensures ended { EndedOn (loads_of S.Shelf shelf.old shelf.new) (puts_of K.Sink out.old out.new) (fed_order (asking circuit.now partition.now capacity) trace.now (λ c p t. Write (IsTextOf c p t))) result }
-    ensures network { mono ≡ false → (said_by result).status ≡ 0 → RanNetwork (loads_of S.Shelf shelf.old shelf.new) (puts_of K.Sink out.old out.new) circuit.now partition.now trace.now capacity }
+    requires handed { AreHandedIn models.now }
+    requires bridges { HaveModels B.piece B.state bridges.items models.now }
+    ensures ended { EndedOn (loads_of S.Shelf shelf.old shelf.new) (puts_of K.Sink out.old out.new) (fed_order (to_run models.now) (asking circuit.now partition.now capacity) trace.now (λ c p t. Write (IsTextOf (to_run models.now) c p t))) result }
+    ensures network { mono ≡ false → (said_by result).status ≡ 0 → RanNetwork (to_run models.now) (loads_of S.Shelf shelf.old shelf.new) (puts_of K.Sink out.old out.new) circuit.now partition.now trace.now capacity }
     ensures shelf { ShelfWentOn S.Shelf shelf.old shelf.new }
     ensures out { SinkWentOn K.Sink out.old out.new }
 {
     one_meaning();
     run_once();
     refusals_are_exact();
-    let fed = read_fed(alloc, shelf, circuit, partition, trace, capacity)?;
-    print_text(rt, alloc, &fed, workers, mono, out, gate)
+    let fed = read_fed(
+        alloc, shelf, circuit, partition, trace, models, false, capacity,
+    )?;
+    print_text(rt, alloc, &fed, models, bridges, workers, mono, out, gate)
 }

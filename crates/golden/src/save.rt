@@ -1,6 +1,7 @@
 //! The command `save`.
 ghost use Rattle.std.specs.Prelude.{◌≡◌, ◌≤◌, ℕ, List, None, IfErr, IfOk};
 ghost use Rattle.gg_build.specs.Build.{run_from_zeros, run_token};
+ghost use Rattle.gg_cut.specs.Bridges.{Models};
 ghost use Rattle.gg_limits.specs.Limits.{cycle_limit};
 ghost use Rattle.gg_pipe.specs.Follows.{plan_start};
 ghost use Rattle.gg_run.specs.Rows.{StandsAt};
@@ -11,20 +12,25 @@ ghost use Rattle.gg_told.specs.WentOn.{ShelfWentOn, SinkWentOn};
 ghost use Rattle.gg_words.specs.Range.{IsCapacity};
 ghost use Rattle.golden.specs.Case.{IsCase, IsFed};
 ghost use Rattle.golden.specs.Commands.{asking, read_order};
+ghost use Rattle.golden.specs.Handed.{AreHandedIn};
+ghost use Rattle.golden.specs.Partition.{to_save};
 ghost use Rattle.golden.specs.Replayed.{IsToReplay};
 ghost use Rattle.golden.specs.Runs.{FindsStop, IsUpto, TellsEarly, text_after};
 ghost use Rattle.golden.specs.Saved.{CanBeSaved, IsSavedText, TellsFew, saved_file_for};
 
 use crate::case::{Fed, read_fed};
-use crate::printing::{reference_of, top_ports};
+use crate::ports::shown_ports;
 use crate::snaps::end_few;
+use crate::whole::reference_of;
 use gg_bits::Name;
+use gg_bridge::Echo;
 use gg_build::{Node, build};
 use gg_cut::stop_ratios;
+use gg_flat::Models;
 use gg_front::one_meaning;
 use gg_io::{Gate, Shelf, Sink};
 use gg_net::{Net, Streams};
-use gg_run::run_to_stop;
+use gg_run::{run_to_stop, trays_of};
 use gg_snap::{plans_can_save, snapshot};
 use gg_snap_text::snap_text;
 use gg_told::{Ending, put};
@@ -41,25 +47,25 @@ fn run_upto<'f, R: Threads + Sync, Z: Streams, G: Gate + Sync>(
     cycles: u64,
     workers: u32,
     gate: &G,
-) -> Result<(Net<Node<'f>, Z>, Option<u64>), Ending>
+) -> Result<(Net<Node<'f, Echo>, Z>, Option<u64>), Ending>
     requires few { workers ≤ 64 }
-    requires run { (run : IsToReplay fed.now Z.flow) × (run.design ≡ fed.now.case.design) }
-    ensures first { IfOk result (λ r. (run : IsToReplay fed.now Z.flow) → run.design ≡ fed.now.case.design → FindsStop fed.now run cycles r.1) }
+    requires case { (models : Models) × (circuit : List ℕ) × (partition : List ℕ) × (capacity : ℕ) × IsCase (to_save models) circuit partition capacity fed.now.case }
+    requires run { (run : IsToReplay fed.now Z.flow) × (run.design ≡ fed.now.case.design) × (run.request ≡ fed.now.case.cut.request) }
+    ensures first { IfOk result (λ r. (run : IsToReplay fed.now Z.flow) → run.design ≡ fed.now.case.design → run.request ≡ fed.now.case.cut.request → FindsStop fed.now run cycles r.1) }
     ensures stands { IfOk result (λ r. r.1 ≡ None → (run : IsToReplay fed.now Z.flow) → StandsAt fed.now.case.cut.plan (plan_start run.design run.request) (run_token (run_from_zeros run)) fed.now.trace.columns fed.now.trace.rows fed.now.trace.rows r.0) }
     ensures refused { IfErr result (λ ending. ending ≡ Ending.NoMemory) }
 {
     let design = &fed.case.design;
     let plan = &fed.case.cut.plan;
-    let outs = design.piece().outs().len();
-    let ports = top_ports(alloc, design)?;
+    let ports = shown_ports(alloc, design, &fed.case.cut.request)?;
     let stops = stop_ratios(alloc, design.tree(), plan.ratios.as_slice())?;
-    let net = build::<Z>(alloc, plan, &fed.trace)?;
+    let net = build::<Echo, Z>(alloc, plan, &fed.trace, Vec::new(alloc))?;
     net.kept();
-    run_to_stop::<R, Z, G>(
+    run_to_stop::<R, Echo, Z, G>(
         rt,
         alloc,
         net,
-        outs,
+        trays_of(plan),
         stops.as_slice(),
         ports.as_slice().len(),
         cycles,
@@ -69,8 +75,12 @@ fn run_upto<'f, R: Threads + Sync, Z: Streams, G: Gate + Sync>(
 }
 
 // The text of the snapshot of the reference circuit, from the plan's network at its end.
-fn text_of<Z: Streams>(alloc: Global, fed: &Fed, net: &Net<Node<'_>, Z>) -> Result<Name, AllocError>
-    requires case { (circuit : List ℕ) × (partition : List ℕ) × (capacity : ℕ) × IsCase circuit partition capacity fed.now.case }
+fn text_of<Z: Streams>(
+    alloc: Global,
+    fed: &Fed,
+    net: &Net<Node<'_, Echo>, Z>,
+) -> Result<Name, AllocError>
+    requires case { (models : Models) × (circuit : List ℕ) × (partition : List ℕ) × (capacity : ℕ) × IsCase (to_save models) circuit partition capacity fed.now.case }
     requires run { (run : IsToReplay fed.now Z.flow) × (run.design ≡ fed.now.case.design) × (run.request ≡ fed.now.case.cut.request)
         × StandsAt fed.now.case.cut.plan (plan_start run.design run.request) (run_token (run_from_zeros run)) fed.now.trace.columns fed.now.trace.rows fed.now.trace.rows net.now }
     ensures { IfOk result (λ text. (run : IsToReplay fed.now Z.flow) → run.design ≡ fed.now.case.design → run.request ≡ fed.now.case.cut.request
@@ -80,7 +90,7 @@ fn text_of<Z: Streams>(alloc: Global, fed: &Fed, net: &Net<Node<'_>, Z>) -> Resu
     let case = &fed.case;
     let reference = reference_of(alloc, case)?;
     let cycle = fed.trace.rows();
-    let snap = snapshot(alloc, net, &case.cut.plan, &case.design, &reference, cycle)?;
+    let snap = snapshot::<Echo, Z>(alloc, net, &case.cut.plan, &case.design, &reference, cycle)?;
     snap_text(alloc, &snap)
 }
 
@@ -90,18 +100,19 @@ fn text_upto<R: Threads + Sync, Z: Streams, G: Gate + Sync>(
     rt: &R,
     alloc: Global,
     fed: &Fed,
+    _models: &Models,
     cycles: u64,
     at: u64,
     workers: u32,
     gate: &G,
 ) -> Result<Name, Ending>
     requires few { workers ≤ 64 }
-    requires case { (circuit : List ℕ) × (partition : List ℕ) × (capacity : ℕ) × IsCase circuit partition capacity fed.now.case }
+    requires case { (models : Models) × (circuit : List ℕ) × (partition : List ℕ) × (capacity : ℕ) × IsCase (to_save models) circuit partition capacity fed.now.case }
     requires run { (run : IsToReplay fed.now Z.flow) × (run.design ≡ fed.now.case.design) × (run.request ≡ fed.now.case.cut.request) }
-    ensures none { IfOk result (λ text. (run : IsToReplay fed.now Z.flow) → run.design ≡ fed.now.case.design → FindsStop fed.now run cycles None) }
+    ensures none { IfOk result (λ text. (run : IsToReplay fed.now Z.flow) → run.design ≡ fed.now.case.design → run.request ≡ fed.now.case.cut.request → FindsStop fed.now run cycles None) }
     ensures within { IfOk result (λ text. at ≤ cycles) }
     ensures text { IfOk result (λ text. (run : IsToReplay fed.now Z.flow) → run.design ≡ fed.now.case.design → run.request ≡ fed.now.case.cut.request → text ≡ text_after fed.now run) }
-    ensures refused { IfErr result (IfRefused (λ said. (run : IsToReplay fed.now Z.flow) → run.design ≡ fed.now.case.design → TellsEarly fed.now run cycles at said)) }
+    ensures refused { IfErr result (IfRefused (λ said. (run : IsToReplay fed.now Z.flow) → run.design ≡ fed.now.case.design → run.request ≡ fed.now.case.cut.request → TellsEarly fed.now run cycles at said)) }
 {
     let (net, stop) = run_upto::<R, Z, G>(rt, alloc, fed, cycles, workers, gate)?;
     if let Some(stop) = stop {
@@ -119,6 +130,7 @@ fn save_upto<R: Threads + Sync, K: Sink, G: Gate + Sync>(
     rt: &R,
     alloc: Global,
     fed: &Fed,
+    models: &Models,
     cycles: u64,
     at: u64,
     workers: u32,
@@ -126,13 +138,13 @@ fn save_upto<R: Threads + Sync, K: Sink, G: Gate + Sync>(
     gate: &G,
 ) -> Result<(), Ending>
     requires few { workers ≤ 64 }
-    requires fed { (circuit : List ℕ) × (partition : List ℕ) × (trace : List ℕ) × (capacity : ℕ) × (whole : Fed) × IsFed circuit partition trace capacity whole × (cycles ≡ whole.trace.rows) × IsUpto whole at fed.now }
-    ensures ended { (circuit partition trace : List ℕ) (capacity : ℕ) (whole : Fed) → IsFed circuit partition trace capacity whole → cycles ≡ whole.trace.rows → IsUpto whole at fed.now
-        → PrintsOrStops (puts_of K.Sink out.old out.new) (λ text. CanBeSaved circuit partition at trace × IsOnly (IsSavedText circuit partition at trace) text) (TellsFew circuit partition at trace) result }
+    requires fed { (circuit : List ℕ) × (partition : List ℕ) × (trace : List ℕ) × (capacity : ℕ) × (whole : Fed) × IsFed (to_save models.now) circuit partition trace capacity whole × (cycles ≡ whole.trace.rows) × IsUpto whole at fed.now }
+    ensures ended { (circuit partition trace : List ℕ) (capacity : ℕ) (whole : Fed) → IsFed (to_save models.now) circuit partition trace capacity whole → cycles ≡ whole.trace.rows → IsUpto whole at fed.now
+        → PrintsOrStops (puts_of K.Sink out.old out.new) (λ text. CanBeSaved (to_save models.now) circuit partition at trace × IsOnly (IsSavedText (to_save models.now) circuit partition at trace) text) (TellsFew (to_save models.now) circuit partition at trace) result }
     ensures out { SinkWentOn K.Sink out.old out.new }
 {
     one_meaning();
-    let text = text_upto::<R, Brand, G>(rt, alloc, fed, cycles, at, workers, gate)?;
+    let text = text_upto::<R, Brand, G>(rt, alloc, fed, models, cycles, at, workers, gate)?;
     put(out, text.as_bytes())
 }
 
@@ -141,24 +153,25 @@ fn save_fed<R: Threads + Sync, K: Sink, G: Gate + Sync>(
     rt: &R,
     alloc: Global,
     fed: Fed,
+    models: &Models,
     at: u64,
     workers: u32,
     out: &mut K,
     gate: &G,
 ) -> Result<(), Ending>
     requires few { workers ≤ 64 }
-    requires fed { (circuit : List ℕ) × (partition : List ℕ) × (trace : List ℕ) × (capacity : ℕ) × IsFed circuit partition trace capacity fed }
-    ensures ended { (circuit partition trace : List ℕ) (capacity : ℕ) → IsFed circuit partition trace capacity fed
-        → PrintsOrStops (puts_of K.Sink out.old out.new) (λ text. CanBeSaved circuit partition at trace × IsOnly (IsSavedText circuit partition at trace) text) (TellsFew circuit partition at trace) result }
+    requires fed { (circuit : List ℕ) × (partition : List ℕ) × (trace : List ℕ) × (capacity : ℕ) × IsFed (to_save models.now) circuit partition trace capacity fed }
+    ensures ended { (circuit partition trace : List ℕ) (capacity : ℕ) → IsFed (to_save models.now) circuit partition trace capacity fed
+        → PrintsOrStops (puts_of K.Sink out.old out.new) (λ text. CanBeSaved (to_save models.now) circuit partition at trace × IsOnly (IsSavedText (to_save models.now) circuit partition at trace) text) (TellsFew (to_save models.now) circuit partition at trace) result }
     ensures out { SinkWentOn K.Sink out.old out.new }
 {
     let cycles = fed.trace.rows();
     let fed = fed.upto(at.min(cycles));
-    save_upto(rt, alloc, &fed, cycles, at, workers, out, gate)
+    save_upto(rt, alloc, &fed, models, cycles, at, workers, out, gate)
 }
 
 /// `save`: reads the circuit, the partition and the trace, runs the network of the cut up to cycle `at`, and writes the snapshot of the
-/// state of the reference circuit before that cycle.
+/// state of the reference circuit before that cycle. These models of bridges are known, but none may be asked for.
 pub(crate) fn save<R: Threads + Sync, S: Shelf, K: Sink, G: Gate + Sync>(
     rt: &R,
     alloc: Global,
@@ -168,16 +181,20 @@ pub(crate) fn save<R: Threads + Sync, S: Shelf, K: Sink, G: Gate + Sync>(
     at: u32,
     capacity: u32,
     workers: u32,
+    models: &Models,
     shelf: &mut S,
     out: &mut K,
     gate: &G,
 ) -> Result<(), Ending>
     requires capacity { IsCapacity capacity }
     requires few { workers ≤ 64 }
-    ensures ended { EndedOn (loads_of S.Shelf shelf.old shelf.new) (puts_of K.Sink out.old out.new) (read_order (asking circuit.now partition.now capacity) (λ c p. Load (saved_file_for c p at trace.now) (λ t. Write (IsSavedText c p at t)))) result }
+    requires handed { AreHandedIn models.now }
+    ensures ended { EndedOn (loads_of S.Shelf shelf.old shelf.new) (puts_of K.Sink out.old out.new) (read_order (to_save models.now) (asking circuit.now partition.now capacity) (λ c p. Load (saved_file_for (to_save models.now) c p at trace.now) (λ t. Write (IsSavedText (to_save models.now) c p at t)))) result }
     ensures shelf { ShelfWentOn S.Shelf shelf.old shelf.new }
     ensures out { SinkWentOn K.Sink out.old out.new }
 {
-    let fed = read_fed(alloc, shelf, circuit, partition, trace, capacity)?;
-    save_fed(rt, alloc, fed, u64::from(at), workers, out, gate)
+    let fed = read_fed(
+        alloc, shelf, circuit, partition, trace, models, true, capacity,
+    )?;
+    save_fed(rt, alloc, fed, models, u64::from(at), workers, out, gate)
 }

@@ -1,7 +1,12 @@
 //! Calls with files and sinks in memory, and what they answered.
+ghost use Rattle.std.specs.Prelude.{◌≡◌, [], ◌∷◌, codes, length, IfOk};
+ghost use Rattle.gg_flat.specs.State.{opening};
+
 use crate::circuits::{COUNTER, TRACE};
-use gg_io::{FailingPut, MemFiles, MemShelf, MemSink, NoGate, hold};
-use golden::golden;
+use gg_bits::Name;
+use gg_bridge::{Bridge, Echo};
+use gg_io::{FailingPut, MemFiles, MemShelf, MemSink, NoGate, Shelf, Sink, hold};
+use golden::golden_with;
 use std::alloc::{AllocError, Global};
 use std::collections::BTreeMap;
 use std::mem;
@@ -100,6 +105,109 @@ pub fn words_of(alloc: Global, line: &str) -> Result<Vec<String>, AllocError> {
     Ok(words)
 }
 
+// Five echoes.
+#[derive(Drop)]
+struct Echoes {
+    one: Echo,
+    eight: Echo,
+    other: Echo,
+    many: Echo,
+    most: Echo,
+}
+
+// Five echoes in the state of zeros.
+fn make_echoes(alloc: Global) -> Result<Echoes, AllocError>
+    ensures one { IfOk result (λ made. made.one.last ≡ 0) }
+    ensures eight { IfOk result (λ made. made.eight.last ≡ 0) }
+    ensures other { IfOk result (λ made. made.other.last ≡ 0) }
+    ensures many { IfOk result (λ made. made.many.last ≡ 0) }
+    ensures most { IfOk result (λ made. made.most.last ≡ 0) }
+{
+    Ok(Echoes {
+        one: Echo::new(alloc, 1)?,
+        eight: Echo::new(alloc, 8)?,
+        other: Echo::new(alloc, 8)?,
+        many: Echo::new(alloc, 32)?,
+        most: Echo::new(alloc, 64)?,
+    })
+}
+
+// These bridges, each with its name.
+fn named(
+    alloc: Global,
+    one: Box<dyn Bridge + Send + Drop>,
+    eight: Box<dyn Bridge + Send + Drop>,
+    other: Box<dyn Bridge + Send + Drop>,
+    many: Box<dyn Bridge + Send + Drop>,
+    most: Box<dyn Bridge + Send + Drop>,
+) -> Result<Vec<(Name, Box<dyn Bridge + Send + Drop>)>, AllocError>
+    ensures { IfOk result (λ bridges. bridges.items ≡ (codes "echo1", one) ∷ (codes "echo8", eight) ∷ (codes "other8", other) ∷ (codes "echo32", many) ∷ (codes "echo64", most) ∷ []) }
+{
+    let mut bridges = Vec::new(alloc);
+    bridges.push((Name::from_str(alloc, "echo1")?, one))?;
+    bridges.push((Name::from_str(alloc, "echo8")?, eight))?;
+    bridges.push((Name::from_str(alloc, "other8")?, other))?;
+    bridges.push((Name::from_str(alloc, "echo32")?, many))?;
+    bridges.push((Name::from_str(alloc, "echo64")?, most))?;
+    Ok(bridges)
+}
+
+// A call of `golden_with` with these bridges, each in the state of zeros.
+fn call_with<R: Threads + Sync, S: Shelf, K: Sink, E: Sink>(
+    rt: &R,
+    alloc: Global,
+    words: &[String],
+    shelf: &mut S,
+    out: &mut K,
+    err: &mut E,
+    one: Box<dyn Bridge + Send + Drop>,
+    eight: Box<dyn Bridge + Send + Drop>,
+    other: Box<dyn Bridge + Send + Drop>,
+    many: Box<dyn Bridge + Send + Drop>,
+    most: Box<dyn Bridge + Send + Drop>,
+) -> Result<u8, AllocError>
+    requires one { state one ≡ opening (piece one) }
+    requires eight { state eight ≡ opening (piece eight) }
+    requires other { state other ≡ opening (piece other) }
+    requires many { state many ≡ opening (piece many) }
+    requires most { state most ≡ opening (piece most) }
+    requires few1 { length (piece one).signals ≡ 2 }
+    requires few2 { length (piece eight).signals ≡ 2 }
+    requires few3 { length (piece other).signals ≡ 2 }
+    requires few4 { length (piece many).signals ≡ 2 }
+    requires few5 { length (piece most).signals ≡ 2 }
+{
+    let bridges = named(alloc, one, eight, other, many, most)?;
+    Ok(golden_with(rt, alloc, words, shelf, out, err, &NoGate, bridges))
+}
+
+/// A call of `golden_with` with these words, on this shelf and these outputs. Five echoes are handed in: `echo1`, `echo8`, `other8`, `echo32` and
+/// `echo64`, of as many bits. Returns the status.
+pub fn call_on<R: Threads + Sync, S: Shelf, K: Sink, E: Sink>(
+    rt: &R,
+    alloc: Global,
+    words: &[String],
+    shelf: &mut S,
+    out: &mut K,
+    err: &mut E,
+) -> Result<u8, AllocError> {
+    let Echoes {
+        one,
+        eight,
+        other,
+        many,
+        most,
+    } = make_echoes(alloc)?;
+    let one: Box<dyn Bridge + Send + Drop> = Box::new(alloc, one)?;
+    let eight: Box<dyn Bridge + Send + Drop> = Box::new(alloc, eight)?;
+    let other: Box<dyn Bridge + Send + Drop> = Box::new(alloc, other)?;
+    let many: Box<dyn Bridge + Send + Drop> = Box::new(alloc, many)?;
+    let most: Box<dyn Bridge + Send + Drop> = Box::new(alloc, most)?;
+    call_with(
+        rt, alloc, words, shelf, out, err, one, eight, other, many, most,
+    )
+}
+
 /// A call with these words and files, where these loads and puts are to fail.
 pub fn call<R: Threads + Sync>(
     rt: &R,
@@ -114,15 +222,7 @@ pub fn call<R: Threads + Sync>(
     let mut shelf = MemShelf::new(files, loads);
     let mut out = MemSink::new(alloc, puts);
     let mut err = MemSink::new(alloc, err_puts);
-    let status = golden(
-        rt,
-        alloc,
-        words.as_slice(),
-        &mut shelf,
-        &mut out,
-        &mut err,
-        &NoGate,
-    );
+    let status = call_on(rt, alloc, words.as_slice(), &mut shelf, &mut out, &mut err)?;
     Ok(Answer {
         status,
         loads: shelf.loads,

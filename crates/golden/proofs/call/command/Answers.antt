@@ -19,4 +19,4 @@ returns-in-Err-clause-network g c = λ circuit partition trace capacity workers 
 
 pub returns-in-Ok-clause-network : goal.returns-in-Ok-clause-network
 returns-in-Ok-clause-network g c = λ circuit partition trace capacity workers asks done.
-    c.do_command.ensures.network circuit partition trace capacity workers (c.in-Ok.ensures.complete _ asks) done
+    c.do_handed.ensures.network circuit partition trace capacity workers (c.in-Ok.ensures.complete _ asks) done

@@ -6,17 +6,17 @@ use Rattle.golden.proofs.CallLemmas.{asked-ends}
 use Rattle.golden.proofs.DemoLemmas.{demo-ends}
 use Rattle.golden.proofs.call.do_command.Goals as goal
 
-pub check-requires : goal.check-requires
-check-requires g c = subst AreInRange c.in-Check.is (c.numbers_are_in_range.ensures c.requires.0 c.args.cmd.now c.requires.1)
+pub check-requires-clause-capacity : goal.check-requires-clause-capacity
+check-requires-clause-capacity g c = subst AreInRange c.in-Check.is (c.numbers_are_in_range.ensures c.requires.asked.0 c.args.cmd.now c.requires.asked.1)
 
 pub demo-requires-clause-few : goal.demo-requires-clause-few
-demo-requires-clause-few g c κs within = (subst AreInRange c.in-Demo.is (c.numbers_are_in_range.ensures c.requires.0 c.args.cmd.now c.requires.1)).2.1
+demo-requires-clause-few g c κs within = (subst AreInRange c.in-Demo.is (c.numbers_are_in_range.ensures c.requires.asked.0 c.args.cmd.now c.requires.asked.1)).2.1
 
 pub demo-requires-clause-some : goal.demo-requires-clause-some
-demo-requires-clause-some g c κs within = (subst AreInRange c.in-Demo.is (c.numbers_are_in_range.ensures c.requires.0 c.args.cmd.now c.requires.1)).1.0
+demo-requires-clause-some g c κs within = (subst AreInRange c.in-Demo.is (c.numbers_are_in_range.ensures c.requires.asked.0 c.args.cmd.now c.requires.asked.1)).1.0
 
 pub demo-requires-clause-most : goal.demo-requires-clause-most
-demo-requires-clause-most g c κs within = (subst AreInRange c.in-Demo.is (c.numbers_are_in_range.ensures c.requires.0 c.args.cmd.now c.requires.1)).1.1
+demo-requires-clause-most g c κs within = (subst AreInRange c.in-Demo.is (c.numbers_are_in_range.ensures c.requires.asked.0 c.args.cmd.now c.requires.asked.1)).1.1
 
 pub returns-in-Check-clause-ended : goal.returns-in-Check-clause-ended
 returns-in-Check-clause-ended g c = λ words asks.

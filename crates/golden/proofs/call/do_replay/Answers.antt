@@ -5,8 +5,8 @@ use Rattle.gg_words.specs.declared.command.Cmd.TheVariants.{Replay}
 use Rattle.golden.proofs.CallLemmas.{asked-ends}
 use Rattle.golden.proofs.call.do_replay.Goals as goal
 
-pub replay-requires : goal.replay-requires
-replay-requires g c = subst AreInRange c.in-Replay.is (c.numbers_are_in_range.ensures c.requires.asked.0 c.args.cmd.now c.requires.asked.1)
+pub replay-requires-clause-capacity : goal.replay-requires-clause-capacity
+replay-requires-clause-capacity g c κs within = subst AreInRange c.in-Replay.is (c.numbers_are_in_range.ensures c.requires.asked.0 c.args.cmd.now c.requires.asked.1)
 
 pub returns-clause-ended : goal.returns-clause-ended
 returns-clause-ended g c = λ words asks.

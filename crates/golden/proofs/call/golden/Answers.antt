@@ -1,6 +1,16 @@
-use Rattle.golden.proofs.PromisedLemmas.{promised}
+use Rattle.std.proofs.Common.{subst}
+use Rattle.gg_cut.specs.Bridges.{Models}
+use Rattle.gg_told.specs.Ends.{loads_of, puts_of}
+use Rattle.gg_words.specs.Meaning.{texts}
+use Rattle.golden.specs.Promised.{Promised}
+use Rattle.golden.proofs.HandedLemmas.{none-can, none-models}
 use Rattle.golden.proofs.call.golden.Goals as goal
+
+pub golden_with-requires-clause-bridges : goal.golden_with-requires-clause-bridges
+golden_with-requires-clause-bridges g c κs within = none-can _ _ c.new.result.items c.new.ensures.items
 
 pub returns-clause-promised : goal.returns-clause-promised
 returns-clause-promised g c =
-    promised c.answer.ensures.answered c.refusals_are_exact.ensures.exact c.one_meaning.ensures.once c.one_answer.ensures.request c.refusals_are_exact.ensures.unique c.refusals_are_exact.ensures.unread c.resumed_runs_go_on.ensures.accepted c.resumed_runs_go_on.ensures.texts c.answer.ensures.network
+    subst
+    (λ (models : Models). Promised models (texts c.args.words.now) (loads_of g.S.Shelf c.args.shelf.now c.golden_with.new.shelf) (puts_of g.K.Sink c.args.out.now c.golden_with.new.out) (puts_of g.E.Sink c.args.err.now c.golden_with.new.err) c.golden_with.result)
+    (none-models _ c.new.result.items c.new.ensures.items) c.golden_with.ensures.promised

@@ -4,6 +4,7 @@ use Rattle.gg_told.specs.Order.{Write}
 use Rattle.gg_told.proofs.EndingLemmas.{IfRefused-map, exit-is, loads-on, only-ends, stopped-ends}
 use Rattle.golden.specs.Check.{IsCutTextOf}
 use Rattle.golden.specs.Commands.{asking}
+use Rattle.golden.specs.Partition.{to_run}
 use Rattle.golden.proofs.CaseLemmas.{case-ends, case-stops}
 use Rattle.golden.proofs.check.check.Goals as goal
 
@@ -17,4 +18,4 @@ returns-in_err-case-clause-ended g c =
 pub returns-clause-ended : goal.returns-clause-ended
 returns-clause-ended g c =
     let read = c.in_ok-case.ensures.read in
-    case-ends (loads-on c.read_case.new.shelf c.read_case.ensures.shelf) read (only-ends c.check_case.result (c.check_case.ensures.prints read.circuit read.partition c.args.capacity read.is))
+    case-ends (loads-on c.read_case.new.shelf c.read_case.ensures.shelf) read (only-ends c.check_case.result (c.check_case.ensures.prints (to_run c.args.models.now) read.circuit read.partition c.args.capacity read.is))

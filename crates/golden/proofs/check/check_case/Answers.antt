@@ -6,8 +6,8 @@ pub returns-clause-prints : goal.returns-clause-prints
 returns-clause-prints g c =
     let d = c.one_meaning.ensures in
     let case = c.args.case.now in
-    λ circuit partition capacity is. (
+    λ known circuit partition capacity is. (
       _,
-      only-cut-text (designs-agree d.flat d.tree) c.one_text.ensures is.means is.cuts.asks (c.plan_is_told.ensures case.design case.cut.request capacity case.cut.plan is.planned),
+      only-cut-text (designs-agree d.flat d.tree) c.one_text.ensures is.means is.cuts.asks (c.plan_is_told.ensures case.design case.cut.request known.models capacity case.cut.plan is.planned),
       c.print_plan.ensures.prints,
     )

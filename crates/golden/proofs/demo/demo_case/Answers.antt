@@ -1,4 +1,5 @@
 use Rattle.std.proofs.Common.{arith}
+use Rattle.golden.proofs.HandedLemmas.{none-handed}
 use Rattle.golden.proofs.demo.demo_case.Goals as goal
 
 pub returns-in-Ok : goal.returns-in-Ok
@@ -9,6 +10,7 @@ returns-in-Ok c =
       keeps = c.in_ok-design.ensures.keeps;
       held = c.in_ok-design.ensures.held;
       whole = c.in_ok-design.ensures.whole;
+      handed = none-handed;
       cuts = c.in-Ok.ensures.cuts;
       bounded = (omega arith, omega arith);
       planned = c.in-Ok.ensures.planned;

@@ -5,7 +5,7 @@ use Rattle.golden.proofs.demo.demo_inputs.Goals as goal
 pub returns-clause-feeds : goal.returns-clause-feeds
 returns-clause-feeds c =
     let trace = c.in_ok-trace.trace in
-    subst (λ (b : List ℕ). FeedsOnly c.args.design.now.circuit b trace.rows trace.columns) (c.as_bytes.ensures.value ∙ c.in_ok-text.ensures) c.in_ok-trace.ensures.accepted
+    subst (λ (b : List ℕ). FeedsOnly c.args.design.now.circuit c.args.request.now b trace.rows trace.columns) (c.as_bytes.ensures.value ∙ c.in_ok-text.ensures) c.in_ok-trace.ensures.accepted
 
 pub returns-clause-most : goal.returns-clause-most
 returns-clause-most c = omega (arith, c.rows.ensures.limit, c.rows.ensures.count)

@@ -12,7 +12,7 @@ returns-clause-accepted g c =
     (λ trace feeds. (
       c.in_ok-bytes.bytes.items,
       record { held = c.in_ok-bytes.ensures.held; within = c.in_ok-bytes.ensures.within },
-      subst (λ (b : List ℕ). FeedsOnly circuit b trace.rows trace.columns) c.as_slice.ensures.value feeds,
+      subst (λ (b : List ℕ). FeedsOnly circuit c.args.request.now b trace.rows trace.columns) c.as_slice.ensures.value feeds,
     ))
     c.inputs_of.ensures.accepted
 
@@ -23,7 +23,7 @@ returns-clause-refused g c =
     (λ said h. inr (
       c.in_ok-bytes.bytes.items,
       record { held = c.in_ok-bytes.ensures.held; within = c.in_ok-bytes.ensures.within },
-      subst (λ (b : List ℕ). TellsTraceOf c.args.design.now.circuit b said) c.as_slice.ensures.value h,
+      subst (λ (b : List ℕ). TellsTraceOf c.args.design.now.circuit c.args.request.now b said) c.as_slice.ensures.value h,
     ))
     ending)
     c.inputs_of.ensures.refused

@@ -4,18 +4,29 @@ use Rattle.gg_told.specs.Order.{Load, Write}
 use Rattle.gg_told.proofs.EndingLemmas.{IfRefused-map, exit-is, loads-on, stopped-ends}
 use Rattle.golden.specs.Commands.{asking}
 use Rattle.golden.specs.Replay.{IsReplayOf, steps_file_for}
+use Rattle.golden.specs.Partition.{to_run}
 use Rattle.golden.proofs.CaseLemmas.{fed-ends, fed-stops}
+use Rattle.golden.proofs.FedLemmas.{given}
+use Rattle.golden.proofs.HandedLemmas.{has-bridges}
 use Rattle.golden.proofs.replay.replay.Goals as goal
 
-pub replay_steps-requires : goal.replay_steps-requires
-replay_steps-requires g c = let read = c.in_ok-fed.ensures.read in (read.read.circuit, read.read.partition, read.bytes, c.args.capacity, read.is)
+pub replay_steps-requires-clause-fed : goal.replay_steps-requires-clause-fed
+replay_steps-requires-clause-fed g c κs within = let read = c.in_ok-fed.ensures.read in (read.read.circuit, read.read.partition, read.bytes, c.args.capacity, read.is)
+
+pub replay_steps-requires-clause-bridges : goal.replay_steps-requires-clause-bridges
+replay_steps-requires-clause-bridges g c κs within =
+    let read = c.in_ok-fed.ensures.read in
+    let fed = c.in_ok-fed.fed in
+    let case = fed.case in
+    has-bridges g.B.Bridge.piece g.B.Bridge.state c.args.bridges.items c.args.models.now c.requires.handed c.requires.bridges case.design case.cut.request c.args.capacity case.cut.plan fed.trace.columns fed.trace.rows _ _
+    (given (to_run c.args.models.now) read.read.circuit read.read.partition read.bytes c.args.capacity fed read.is)
 
 pub returns-in_err-fed-clause-ended : goal.returns-in_err-fed-clause-ended
 returns-in_err-fed-clause-ended g c =
     stopped-ends refl (exit-is c.from_residual.ensures.1)
     (IfRefused-map
     (λ said. fed-stops (loads_of g.S.Shelf c.args.shelf.now c.read_fed.new.shelf) (asking c.args.circuit.now c.args.partition.now c.args.capacity) c.args.trace.now
-    (λ b p t. Load (steps_file_for b p t c.args.capacity c.args.steps.now) (λ s. Write (IsReplayOf b p t c.args.capacity s))))
+    (λ b p t. Load (steps_file_for (to_run c.args.models.now) b p t c.args.capacity c.args.steps.now) (λ s. Write (IsReplayOf (to_run c.args.models.now) b p t c.args.capacity s))))
     c.in_err-fed.field-0.0 c.in_err-fed.ensures.refused)
 
 pub returns-clause-ended : goal.returns-clause-ended

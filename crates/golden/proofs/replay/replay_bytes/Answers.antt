@@ -1,6 +1,7 @@
 use Rattle.std.proofs.Common.{sym, ap, ◌∙◌, subst}
 use Rattle.gg_flat.specs.Tree.{InstanceTree}
 use Rattle.golden.specs.Replayed.{AreFewNames, plan_naming}
+use Rattle.golden.specs.Partition.{to_run}
 use Rattle.golden.proofs.FedLemmas.{few-named, steps-judged, to-replay}
 use Rattle.golden.proofs.PartitionLemmas.{designs-agree}
 use Rattle.golden.proofs.replay.replay_bytes.Goals as goal
@@ -8,19 +9,19 @@ use Rattle.golden.proofs.replay.replay_bytes.Goals as goal
 pub names_of-requires : goal.names_of-requires
 names_of-requires g c =
     let case = c.args.fed.now.case in
-    subst (λ (t : InstanceTree). AreFewNames case.cut.plan t) (sym c.tree.ensures.tree) (few-named c.requires.0 c.requires.1 c.requires.2 c.requires.3 c.args.fed.now c.requires.4)
+    subst (λ (t : InstanceTree). AreFewNames case.cut.plan t) (sym c.tree.ensures.tree) (few-named (to_run c.args.models.now) c.requires.fed.0 c.requires.fed.1 c.requires.fed.2 c.requires.fed.3 c.args.fed.now c.requires.fed.4)
 
 pub replay_net-requires-clause-few : goal.replay_net-requires-clause-few
-replay_net-requires-clause-few g c κs within = (few-named c.requires.0 c.requires.1 c.requires.2 c.requires.3 c.args.fed.now c.requires.4).channels
+replay_net-requires-clause-few g c κs within = (few-named (to_run c.args.models.now) c.requires.fed.0 c.requires.fed.1 c.requires.fed.2 c.requires.fed.3 c.args.fed.now c.requires.fed.4).channels
 
 pub replay_net-requires-clause-run : goal.replay_net-requires-clause-run
-replay_net-requires-clause-run g c κs within = to-replay c.requires.0 c.requires.1 c.requires.2 c.requires.3 c.args.fed.now c.requires.4
+replay_net-requires-clause-run g c κs within = to-replay (to_run c.args.models.now) c.requires.fed.0 c.requires.fed.1 c.requires.fed.2 c.requires.fed.3 c.args.fed.now c.requires.fed.4
 
 pub returns-clause-ended : goal.returns-clause-ended
 returns-clause-ended g c =
     let d = c.one_meaning.ensures in
     let case = c.args.fed.now.case in
     λ circuit partition trace capacity is.
-    steps-judged circuit partition trace capacity c.args.fed.now is (designs-agree d.flat d.tree) c.run_once.ensures.from c.args.steps.now _ _
+    steps-judged (to_run c.args.models.now) circuit partition trace capacity c.args.fed.now is (designs-agree d.flat d.tree) c.run_once.ensures.from c.args.steps.now _ _
     (c.in_ok-names.ensures ∙ ap (λ (t : InstanceTree). plan_naming case.cut.plan t) c.tree.ensures.tree)
     (c.as_slice.ensures.value ∙ c.in_ok-events.ensures) c.replay_net.ensures.ended

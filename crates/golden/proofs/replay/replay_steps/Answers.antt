@@ -2,11 +2,12 @@ use Rattle.std.proofs.Common.{List, ℕ, inl, refl, subst}
 use Rattle.gg_told.specs.Ends.{puts_of}
 use Rattle.gg_told.specs.Endings.{PrintsOrStops}
 use Rattle.gg_told.proofs.EndingLemmas.{IfRefused-map, exit-is, judged-ends, stopped-ends}
+use Rattle.golden.specs.Partition.{to_run}
 use Rattle.golden.specs.Replay.{IsReplayed, TellsSteps}
 use Rattle.golden.proofs.replay.replay_steps.Goals as goal
 
-pub replay_bytes-requires : goal.replay_bytes-requires
-replay_bytes-requires g c = c.requires
+pub replay_bytes-requires-clause-fed : goal.replay_bytes-requires-clause-fed
+replay_bytes-requires-clause-fed g c κs within = c.requires.fed
 
 pub returns-in_err-bytes-clause-ended : goal.returns-in_err-bytes-clause-ended
 returns-in_err-bytes-clause-ended g c = λ circuit partition trace capacity is.
@@ -16,5 +17,5 @@ pub returns-clause-ended : goal.returns-clause-ended
 returns-clause-ended g c = λ circuit partition trace capacity is.
     judged-ends (record { held = c.in_ok-bytes.ensures.held; within = c.in_ok-bytes.ensures.within })
     (subst
-    (λ (b : List ℕ). PrintsOrStops (puts_of g.K.Sink c.args.out.now c.replay_bytes.new.out) (IsReplayed circuit partition trace capacity b) (TellsSteps circuit partition trace capacity b) c.replay_bytes.result)
+    (λ (b : List ℕ). PrintsOrStops (puts_of g.K.Sink c.args.out.now c.replay_bytes.new.out) (IsReplayed (to_run c.args.models.now) circuit partition trace capacity b) (TellsSteps (to_run c.args.models.now) circuit partition trace capacity b) c.replay_bytes.result)
     c.as_slice.ensures.value (c.replay_bytes.ensures.ended circuit partition trace capacity is))

@@ -3,6 +3,7 @@ use Rattle.gg_told.specs.Ends.{loads_of}
 use Rattle.gg_told.specs.Order.{Load, Write}
 use Rattle.gg_told.proofs.EndingLemmas.{IfRefused-map, exit-is, loads-on, stopped-ends}
 use Rattle.golden.specs.Commands.{asking}
+use Rattle.golden.specs.Partition.{to_save}
 use Rattle.golden.specs.Resumed.{IsResumedText, snap_file_for}
 use Rattle.golden.proofs.CaseLemmas.{fed-ends, fed-stops}
 use Rattle.golden.proofs.resume.resume.Goals as goal
@@ -15,7 +16,7 @@ returns-in_err-fed-clause-ended g c =
     stopped-ends refl (exit-is c.from_residual.ensures.1)
     (IfRefused-map
     (λ said. fed-stops (loads_of g.S.Shelf c.args.shelf.now c.read_fed.new.shelf) (asking c.args.circuit.now c.args.partition.now c.args.capacity) c.args.trace.now
-    (λ b p t. Load (snap_file_for b p t c.args.snap.now) (λ s. Write (IsResumedText b p t s))))
+    (λ b p t. Load (snap_file_for (to_save c.args.models.now) b p t c.args.snap.now) (λ s. Write (IsResumedText (to_save c.args.models.now) b p t s))))
     c.in_err-fed.field-0.0 c.in_err-fed.ensures.refused)
 
 pub returns-clause-ended : goal.returns-clause-ended

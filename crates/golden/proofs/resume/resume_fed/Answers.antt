@@ -1,5 +1,6 @@
 use Rattle.std.proofs.Common.{inl, refl}
 use Rattle.gg_told.proofs.EndingLemmas.{IfRefused-map, exit-is, judged-ends, stopped-ends}
+use Rattle.golden.specs.Partition.{to_save}
 use Rattle.golden.specs.Resumed.{IsResumedText, snap_file_for}
 use Rattle.golden.proofs.resume.resume_fed.Goals as goal
 
@@ -12,5 +13,5 @@ returns-in_err-bytes-clause-ended g c = λ circuit partition trace capacity is.
 
 pub returns-clause-ended : goal.returns-clause-ended
 returns-clause-ended g c = λ circuit partition trace capacity is.
-    judged-ends {file = snap_file_for circuit partition trace c.args.snap.now} {IsText = IsResumedText circuit partition trace} (record { held = c.in_ok-bytes.ensures.held; within = c.in_ok-bytes.ensures.within })
+    judged-ends {file = snap_file_for (to_save c.args.models.now) circuit partition trace c.args.snap.now} {IsText = IsResumedText (to_save c.args.models.now) circuit partition trace} (record { held = c.in_ok-bytes.ensures.held; within = c.in_ok-bytes.ensures.within })
     (c.resume_bytes.ensures.ended circuit partition trace capacity is)

@@ -1,4 +1,4 @@
-use Rattle.std.proofs.Common.{ℕ, ◌<◌, sym, ap, ◌∙◌, subst, arith}
+use Rattle.std.proofs.Common.{ℕ, ◌<◌, ap, ◌∙◌, subst, arith}
 use Rattle.gg_told.proofs.EndingLemmas.{IfRefused-map}
 use Rattle.golden.specs.Lines.{few_rows}
 use Rattle.golden.proofs.resume.within.Goals as goal

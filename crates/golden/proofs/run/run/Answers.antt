@@ -4,11 +4,13 @@ use Rattle.gg_told.specs.Ends.{loads_of, puts_of}
 use Rattle.gg_told.specs.Endings.{said_by}
 use Rattle.gg_told.specs.Order.{Write}
 use Rattle.gg_words.specs.declared.command.Cmd.TheVariants.{Run}
+use Rattle.golden.specs.Partition.{to_run}
 use Rattle.golden.specs.Run.{IsTextOf}
-use Rattle.gg_build.specs.Build.{reference_order}
+use Rattle.gg_build.specs.Build.{circuit_order}
 use Rattle.golden.specs.RunText.{run_text}
 use Rattle.golden.proofs.CaseLemmas.{case-ordered, fed-ends, fed-stops}
-use Rattle.golden.proofs.FedLemmas.{network-text-of, run-text-of}
+use Rattle.golden.proofs.FedLemmas.{given, network-text-of, run-text-of}
+use Rattle.golden.proofs.HandedLemmas.{has-bridges}
 use Rattle.golden.proofs.OnlyLemmas.{network-only}
 use Rattle.golden.proofs.PartitionLemmas.{designs-agree}
 use Rattle.gg_told.proofs.EndingLemmas.{exit-is, loads-on, stopped-ends, printed-ends, IfRefused-map}
@@ -19,8 +21,16 @@ use Rattle.golden.proofs.run.run.Goals as goal
 pub print_text-requires-clause-fed : goal.print_text-requires-clause-fed
 print_text-requires-clause-fed g c κs within = let read = c.in_ok-fed.ensures.read in (read.read.circuit, read.read.partition, read.bytes, c.args.capacity, read.is)
 
+pub print_text-requires-clause-bridges : goal.print_text-requires-clause-bridges
+print_text-requires-clause-bridges g c κs within =
+    let read = c.in_ok-fed.ensures.read in
+    let fed = c.in_ok-fed.fed in
+    let case = fed.case in
+    has-bridges g.B.Bridge.piece g.B.Bridge.state c.args.bridges.items c.args.models.now c.requires.handed c.requires.bridges case.design case.cut.request c.args.capacity case.cut.plan fed.trace.columns fed.trace.rows _ _
+    (given (to_run c.args.models.now) read.read.circuit read.read.partition read.bytes c.args.capacity fed read.is)
+
 pub returns-in_err-fed-clause-ended : goal.returns-in_err-fed-clause-ended
-returns-in_err-fed-clause-ended g c = stopped-ends refl (exit-is c.from_residual.ensures.1) (IfRefused-map (λ said. fed-stops (loads_of g.S.Shelf c.args.shelf.now c.read_fed.new.shelf) (asking c.args.circuit.now c.args.partition.now c.args.capacity) c.args.trace.now (λ b p t. Write (IsTextOf b p t))) c.in_err-fed.field-0.0 c.in_err-fed.ensures.refused)
+returns-in_err-fed-clause-ended g c = stopped-ends refl (exit-is c.from_residual.ensures.1) (IfRefused-map (λ said. fed-stops (loads_of g.S.Shelf c.args.shelf.now c.read_fed.new.shelf) (asking c.args.circuit.now c.args.partition.now c.args.capacity) c.args.trace.now (λ b p t. Write (IsTextOf (to_run c.args.models.now) b p t))) c.in_err-fed.field-0.0 c.in_err-fed.ensures.refused)
 
 pub returns-clause-ended : goal.returns-clause-ended
 returns-clause-ended g c =
@@ -33,8 +43,8 @@ returns-clause-ended g c =
     (record {
       is = run-text-of read.is prints.0 prints.1;
       only =
-          only-text (designs-agree c.one_meaning.ensures.flat c.one_meaning.ensures.tree) c.run_once.ensures.from read.read.circuit read.read.partition read.bytes
-          fed.case.design fed.case.cut.request (reference_order fed.case.design fed.case.cut.request) (case-ordered read.read.is) means read.read.is.cuts.asks
+          only-text (designs-agree c.one_meaning.ensures.flat c.one_meaning.ensures.tree) c.run_once.ensures.from (to_run c.args.models.now) read.read.circuit read.read.partition read.bytes
+          fed.case.design fed.case.cut.request (circuit_order fed.case.design fed.case.cut.request c.args.models.now) (case-ordered read.read.is) means read.read.is.cuts.asks
           fed.trace.rows fed.trace.columns prints.0 prints.1 read.is.feeds;
     })
     prints.2)
@@ -44,8 +54,8 @@ returns-in_err-fed-clause-network g c = λ off done.
     let loads = loads_of g.S.Shelf c.args.shelf.now c.read_fed.new.shelf in
     let command = Run c.args.circuit.now c.args.partition.now c.args.trace.now c.args.capacity c.args.workers c.args.mono in
     let stops =
-    IfRefused-map (λ said. fed-stops loads (asking c.args.circuit.now c.args.partition.now c.args.capacity) c.args.trace.now (λ b p t. Write (IsTextOf b p t))) c.in_err-fed.field-0.0 c.in_err-fed.ensures.refused in
-    absurd (stopped-some loads (order_of command) c.in_err-fed.field-0.0 (c.refusals_are_exact.ensures.exact command) stops (subst (λ r. (said_by r).status ≡ 0) (exit-is c.from_residual.ensures.1) done))
+    IfRefused-map (λ said. fed-stops loads (asking c.args.circuit.now c.args.partition.now c.args.capacity) c.args.trace.now (λ b p t. Write (IsTextOf (to_run c.args.models.now) b p t))) c.in_err-fed.field-0.0 c.in_err-fed.ensures.refused in
+    absurd (stopped-some loads (order_of c.args.models.now command) c.in_err-fed.field-0.0 (c.refusals_are_exact.ensures.exact c.args.models.now command) stops (subst (λ r. (said_by r).status ≡ 0) (exit-is c.from_residual.ensures.1) done))
 
 pub returns-clause-network : goal.returns-clause-network
 returns-clause-network g c = λ off done.
@@ -68,6 +78,6 @@ returns-clause-network g c = λ off done.
       of_network = record {
         is = network-text-of read.is prints.0 whole.1;
         only =
-            network-only (designs-agree c.one_meaning.ensures.flat c.one_meaning.ensures.tree) read.read.circuit read.read.partition read.bytes c.args.capacity fed read.is prints.0 prints.1;
+            network-only (to_run c.args.models.now) (designs-agree c.one_meaning.ensures.flat c.one_meaning.ensures.tree) read.read.circuit read.read.partition read.bytes c.args.capacity fed read.is prints.0 prints.1;
       };
     }

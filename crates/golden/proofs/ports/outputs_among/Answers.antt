@@ -1,6 +1,6 @@
 use Rattle.std.proofs.Common.{arith}
 use Rattle.golden.proofs.OutputLemmas.{outputs-more}
-use Rattle.golden.proofs.printing.outputs_among.Goals as goal
+use Rattle.golden.proofs.ports.outputs_among.Goals as goal
 
 pub loop-port-preserved : goal.loop-port-preserved
 loop-port-preserved c =
