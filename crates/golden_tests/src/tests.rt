@@ -1,4 +1,5 @@
 //! The tests: tables of calls, by what they are about, and their check; and four tests of what no table says.
+mod bridges;
 mod calls;
 mod circuits;
 mod clocks;

@@ -11,7 +11,7 @@ mod reading;
 mod texts;
 
 pub use meeting::Meeting;
-pub use networks::{is_at_most, keeps};
+pub use networks::{build_alone, is_at_most, keeps};
 pub use reading::{design_of, inputs_of, request_of};
 pub use texts::{
     BACK, COUNTER, COUNTER_TRACE, DUAL, FORK, FORK_TRACE, FOUR_PORTS, FOUR_PORTS_TRACE, HALT, PAIR,

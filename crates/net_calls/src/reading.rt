@@ -4,7 +4,7 @@ ghost use Rattle.gg_cut.specs.Fault.{IsSmall};
 ghost use Rattle.gg_flat.specs.Run.{IsColumns};
 ghost use Rattle.gg_moved.specs.KeepsToTree.{KeepsToTree};
 ghost use Rattle.gg_cut.specs.Held.{AreHeldOnce};
-ghost use Rattle.gg_pipe.specs.Made.{IsFresh};
+ghost use Rattle.gg_bridged.specs.Whole.{HasFreeFronts};
 
 use gg_front::front;
 use gg_order::Design;
@@ -19,7 +19,7 @@ const LIMIT: usize = 4_194_304;
 pub fn design_of(alloc: Global, circuit: &str) -> Option<Design>
     ensures keeps { IfSome result (λ design. KeepsToTree design.circuit design.tree) }
     ensures held { IfSome result (λ design. AreHeldOnce design.circuit) }
-    ensures fresh { IfSome result (λ design. IsFresh design.circuit) }
+    ensures free { IfSome result (λ design. HasFreeFronts design.circuit) }
 {
     let bytes = circuit.as_bytes();
     if bytes.len() > LIMIT {

@@ -1,21 +1,21 @@
 -- The network of a plan without pipes can be built from any start. The run from there is computed along an order.
-use Rattle.std.proofs.Common.{◌≡◌, ℕ, zero, suc, ◌<◌, ◌≤◌, ◌+◌, ◌++◌, List, [], None, Some, drop, length, replicate, refl, sym, ◌∙◌, ap, subst, true≢false, arith}
+use Rattle.std.proofs.Common.{◌≡◌, ℕ, zero, suc, ◌<◌, ◌≤◌, ◌+◌, ◌++◌, List, [], Some, drop, length, replicate, refl, sym, ◌∙◌, ap, subst, true≢false, arith}
 use Rattle.std.specs.Prelude.{unwrap_or}
 use Rattle.gg_limits.specs.Limits.{capacity_limit, cycle_limit}
 use Rattle.gg_flat.specs.Along.{rows_from}
 use Rattle.gg_flat.specs.Circuit.{FlatCircuit}
 use Rattle.gg_flat.specs.Line.{value_at}
+use Rattle.gg_flat.specs.Order.{IsOrder}
 use Rattle.gg_flat.specs.Run.{IsColumns, IsRunFrom, Start, later, row_at, since}
 use Rattle.gg_flat.specs.State.{IsState, State}
 use Rattle.gg_flat.specs.Streams.{Flow}
 use Rattle.gg_flat.proofs.AlongLemmas.{IsRunFrom-along}
 use Rattle.gg_flat.proofs.SinceLemmas.{since-add}
-use Rattle.gg_moved.specs.KeepsToTree.{KeepsToTree}
-use Rattle.gg_order.specs.Design.{IsDesign, Ordered}
+use Rattle.gg_order.specs.Design.{Ordered}
 use Rattle.gg_partfile.specs.declared.request.Request.{Request}
 use Rattle.gg_cut.specs.declared.plan.Plan.{Plan}
-use Rattle.gg_cut.specs.Direct.{plan_wires}
-use Rattle.gg_cut.specs.Fault.{first_fault}
+use Rattle.gg_cut.specs.Seated.{plan_wires}
+use Rattle.gg_cut.specs.Bridges.{Models}
 use Rattle.gg_cut.specs.Held.{AreHeldOnce}
 use Rattle.gg_cut.specs.Listed.{is_among}
 use Rattle.gg_cut.specs.Plan.{IsPlan, wire_at}
@@ -23,13 +23,16 @@ use Rattle.gg_cut.specs.Solves.{AreRows}
 use Rattle.gg_flat.specs.Tree.{path_at}
 use Rattle.gg_node.specs.Machine.{no_state}
 use Rattle.gg_pipe.specs.Follows.{plan_token}
-use Rattle.gg_pipe.specs.Made.{IsFresh, plan_reference}
+use Rattle.gg_pipe.specs.Made.{plan_reference}
 use Rattle.gg_pipe.proofs.NothingLemmas.{plan-plain}
-use Rattle.gg_pipe.proofs.PlanLemmas.{plan-columns, plan-formed, plan-ordered}
+use Rattle.gg_bridged.specs.Whole.{CanBridge, plan_begin, plan_circuit}
+use Rattle.gg_bridged.proofs.FoundLemmas.{found-is}
+use Rattle.gg_bridged.proofs.PlanLemmas.{circuit-formed, circuit-ordered}
+use Rattle.gg_bridged.proofs.StateLemmas.{states-with}
 use Rattle.gg_sound.specs.Built.{IsGiven, flow_of}
 use Rattle.gg_build.specs.declared.begin.Begin.{Begin}
 use Rattle.gg_build.specs.Begin.{AreTokens}
-use Rattle.gg_build.specs.Build.{IsToBegin, reference_order}
+use Rattle.gg_build.specs.Build.{IsToBegin, circuit_order}
 
 -- ---- rows by cycle
 
@@ -71,40 +74,48 @@ padded-rows circuit start columns n rows le run =
 abbrev pub start_of : Plan → Begin → Start
 start_of plan begin = record { cycle = begin.cycle; state = unwrap_or begin.state no_state; ratios = plan.ratios }
 
--- the rows of the reference circuit's run from there
-abbrev pub begun_rows : Ordered → Request → Plan → Begin → List (List ℕ) → ℕ → List (List ℕ)
-begun_rows design request plan begin columns n = padded begin.cycle (rows_from (plan_reference design request) (reference_order design request) (start_of plan begin) columns (since begin.cycle n))
+-- the rows of the plan's circuit from there
+abbrev pub begun_rows : Ordered → Request → Models → Plan → Begin → List (List ℕ) → ℕ → List (List ℕ)
+begun_rows design request models plan begin columns n = padded begin.cycle (rows_from (plan_circuit design request models) (circuit_order design request models) (plan_begin design request models (start_of plan begin)) columns (since begin.cycle n))
 
 -- what the plan's network computes from there
-abbrev pub begun_flow : Ordered → Request → Plan → Begin → List (List ℕ) → ℕ → Flow
-begun_flow design request plan begin columns n = flow_of design request plan (start_of plan begin) (begun_rows design request plan begin columns n)
+abbrev pub begun_flow : Ordered → Request → Models → Plan → Begin → List (List ℕ) → ℕ → Flow
+begun_flow design request models plan begin columns n = flow_of design request plan (start_of plan begin) (begun_rows design request models plan begin columns n)
 
-module _ (design : Ordered) (request : Request) (default : ℕ) (plan : Plan) (begin : Begin) (state : State) (columns : List (List ℕ)) (n : ℕ) (is : IsDesign design) (keeps : KeepsToTree design.circuit design.tree) (held : AreHeldOnce design.circuit) (fresh : IsFresh design.circuit) (faultless : first_fault design request ≡ None) (planned : IsPlan design request default plan)
-    (some : 0 < default) (room : default ≤ capacity_limit) (most : n ≤ cycle_limit) (fed : IsColumns design.circuit n columns) (plain : request.pipe ≡ []) (within : begin.cycle ≤ n) (state_is : begin.state ≡ Some state) (typed : IsState design.circuit state) where
+module _ (design : Ordered) (request : Request) (models : Models) (default : ℕ) (plan : Plan) (begin : Begin) (state : State) (columns : List (List ℕ)) (n : ℕ) (can : CanBridge design request models) (held : AreHeldOnce design.circuit) (planned : IsPlan design request models default plan)
+    (some : 0 < default) (room : default ≤ capacity_limit) (most : n ≤ cycle_limit) (fed : IsColumns (plan_circuit design request models) n columns) (plain : request.pipe ≡ []) (within : begin.cycle ≤ n) (state_is : begin.state ≡ Some state) (typed : IsState design.circuit state) where
+  abbrev circuit : FlatCircuit
+  circuit = plan_circuit design request models
+
+  abbrev whole : Start
+  whole = plan_begin design request models (start_of plan begin)
+
   state-typed : IsState (plan_reference design request) (start_of plan begin).state
   state-typed =
       subst (λ (circuit : FlatCircuit). IsState circuit (start_of plan begin).state) (sym (plan-plain design request plain))
       (subst (λ (own : State). IsState design.circuit own) (sym (ap (λ o. unwrap_or o no_state) state_is)) typed)
 
-  run-along : IsRunFrom (plan_reference design request) (start_of plan begin) columns (since begin.cycle n) (rows_from (plan_reference design request) (reference_order design request) (start_of plan begin) columns (since begin.cycle n))
-  run-along =
-      IsRunFrom-along (plan_reference design request) (reference_order design request) (start_of plan begin) columns (since begin.cycle n) (plan-formed design request is keeps held faultless fresh) (plan-ordered design request is keeps held faultless) state-typed
-      (λ t lt. (plan-columns design request is keeps held faultless n columns fed).inputs (later begin.cycle t) (since-within begin.cycle n t within lt))
+  order : IsOrder circuit (circuit_order design request models)
+  order = let any = circuit-ordered design request models can in found-is circuit any.order any.is
 
-  begun-given : IsGiven design request default plan columns n (start_of plan begin) (begun_rows design request plan begin columns n)
+  run-along : IsRunFrom circuit whole columns (since begin.cycle n) (rows_from circuit (circuit_order design request models) whole columns (since begin.cycle n))
+  run-along =
+      IsRunFrom-along circuit (circuit_order design request models) whole columns (since begin.cycle n) (circuit-formed design request models can) order
+      (states-with models (plan_reference design request) (start_of plan begin).state request.bridges state-typed)
+      (λ t lt. fed.inputs (later begin.cycle t) (since-within begin.cycle n t within lt))
+
+  begun-given : IsGiven design request models default plan columns n (start_of plan begin) (begun_rows design request models plan begin columns n)
   begun-given =
       record {
-        design_is = is;
-        keeps = keeps;
+        can = can;
         held = held;
-        faultless = faultless;
         some = some;
         planned = planned;
         most = most;
         given = fed;
         typed = state-typed;
         clocked = planned.ratios;
-        run = padded-rows (plan_reference design request) (start_of plan begin) columns n (rows_from (plan_reference design request) (reference_order design request) (start_of plan begin) columns (since begin.cycle n)) within run-along;
+        run = padded-rows circuit whole columns n (rows_from circuit (circuit_order design request models) whole columns (since begin.cycle n)) within run-along;
       }
 
   -- no channel has a pipe
@@ -112,14 +123,15 @@ module _ (design : Ordered) (request : Request) (default : ℕ) (plan : Plan) (b
   no-tokens token = λ c any lt piped.
       absurd (true≢false (sym piped ∙ (planned.channel c any lt).pipe ∙ ap (λ names. is_among names (path_at design.circuit.paths (wire_at (plan_wires design.circuit design.tree request) c).signal)) plain))
 
-  pub to-begin : IsToBegin plan begin columns n (begun_flow design request plan begin columns n)
+  pub to-begin : IsToBegin plan begin columns n (begun_flow design request models plan begin columns n)
   to-begin =
       record {
         design = design;
         request = request;
+        models = models;
         default = default;
         start = start_of plan begin;
-        rows = begun_rows design request plan begin columns n;
+        rows = begun_rows design request models plan begin columns n;
         given = begun-given;
         room = room;
         begins =

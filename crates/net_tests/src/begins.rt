@@ -1,19 +1,20 @@
 //! gg_build: networks that begin at a later cycle, with the state that the design has there.
 ghost use Rattle.std.specs.Prelude.{◌≡◌, ◌<◌, ◌≤◌, [], None, Some, IfOk};
-ghost use Rattle.gg_build.specs.Build.{IsToBegin};
-ghost use Rattle.gg_cut.specs.Fault.{IsSmall, first_fault};
+ghost use Rattle.gg_build.specs.Build.{IsToBegin, NeedsNone};
+ghost use Rattle.gg_cut.specs.Fault.{IsSmall, first_fault_with};
 ghost use Rattle.gg_cut.specs.Held.{AreHeldOnce};
 ghost use Rattle.gg_cut.specs.Plan.{IsPlan};
 ghost use Rattle.gg_flat.specs.Run.{IsColumns};
 ghost use Rattle.gg_flat.specs.State.{IsState};
 ghost use Rattle.gg_moved.specs.KeepsToTree.{KeepsToTree};
-ghost use Rattle.gg_pipe.specs.Made.{IsFresh};
+ghost use Rattle.gg_bridged.specs.Whole.{HasFreeFronts};
 
 use crate::sharing::{DEEP, DEEP_TRACE};
+use gg_bridge::Echo;
 use gg_build::{Begin, Node, build_from};
 use gg_clocks::{Ratio, Timing};
 use gg_cut::Plan;
-use gg_flat::State;
+use gg_flat::{Models, State};
 use gg_measure::run_to_end;
 use gg_net::{Net, Streams};
 use gg_order::Design;
@@ -83,7 +84,7 @@ fn begin_in(alloc: Global, state: State) -> Begin
 }
 
 // Whether the last machine is a tray that keeps these values from cycle 2 on, and none of a cycle before.
-fn keeps_from_two<Z: Streams>(net: &Net<Node<'_>, Z>, outputs: &[u128]) -> bool {
+fn keeps_from_two<Z: Streams>(net: &Net<Node<'_, Echo>, Z>, outputs: &[u128]) -> bool {
     net.within_limits();
     let machines = net.machines();
     if machines == 0 {
@@ -100,7 +101,7 @@ fn keeps_from_two<Z: Streams>(net: &Net<Node<'_>, Z>, outputs: &[u128]) -> bool 
 }
 
 // Whether a network begins at cycle 2 and then gives these outputs.
-fn gives_from_two<Z: Streams>(mut net: Net<Node<'_>, Z>, outputs: &[u128]) -> bool {
+fn gives_from_two<Z: Streams>(mut net: Net<Node<'_, Echo>, Z>, outputs: &[u128]) -> bool {
     let begins = 0 < net.machines() && net.cycle(0) == 2;
     run_to_end(&mut net);
     begins && keeps_from_two(&net, outputs)
@@ -112,35 +113,41 @@ fn is_built_from<Z: Streams>(
     alloc: Global,
     _design: &Design,
     _request: &Request,
+    _models: &Models,
     plan: &Plan,
     inputs: &Trace,
     begin: &Begin,
     outputs: &[u128],
 ) -> bool
-    requires { IsToBegin plan.now begin.now inputs.now.columns inputs.now.rows Z.flow }
+    requires run { IsToBegin plan.now begin.now inputs.now.columns inputs.now.rows Z.flow }
+    requires alone { NeedsNone plan.now }
 {
-    match build_from::<Z>(alloc, plan, inputs, begin) {
+    let bridges = Vec::new(alloc);
+    match build_from::<Echo, Z>(alloc, plan, inputs, begin, bridges) {
         Ok(net) => gives_from_two(net, outputs),
         Err(_) => false,
     }
 }
 
-// Whether the network of a plan gives these outputs from cycle 2 on.
+// Whether the network of a plan without bridges gives these outputs from cycle 2 on.
 fn is_begun(
     alloc: Global,
     design: &Design,
     request: &Request,
+    models: &Models,
     plan: &Plan,
     inputs: &Trace,
     outputs: &[u128],
 ) -> bool
     requires keeps { KeepsToTree design.now.circuit design.now.tree }
     requires held { AreHeldOnce design.now.circuit }
-    requires fresh { IsFresh design.now.circuit }
+    requires free { HasFreeFronts design.now.circuit }
     requires fed { IsColumns design.now.circuit inputs.now.rows inputs.now.columns }
-    requires faultless { first_fault design.now request.now ≡ None }
-    requires planned { IsPlan design.now request.now 1 plan.now }
+    requires faultless { first_fault_with design.now models.now request.now ≡ None }
+    requires planned { IsPlan design.now request.now models.now 1 plan.now }
     requires plain { request.now.pipe ≡ [] }
+    requires alone { request.now.bridges ≡ [] }
+    requires none { models.now ≡ [] }
     requires within { 2 ≤ inputs.now.rows }
 {
     // for the design's invariant on its parts
@@ -150,13 +157,15 @@ fn is_begun(
     match state_after_two(alloc, design, plan.ratios.as_slice(), inputs) {
         Ok(state) => {
             let begin = begin_in(alloc, state);
-            is_built_from::<Brand>(alloc, design, request, plan, inputs, &begin, outputs)
+            is_built_from::<Brand>(
+                alloc, design, request, models, plan, inputs, &begin, outputs,
+            )
         }
         Err(_) => false,
     }
 }
 
-// Whether the network of a design and a request without pipes gives these outputs from cycle 2 on.
+// Whether the network of a design and a request without pipes and bridges gives these outputs from cycle 2 on.
 fn is_cut_from(
     alloc: Global,
     design: &Design,
@@ -167,14 +176,18 @@ fn is_cut_from(
     requires small { IsSmall request.now }
     requires keeps { KeepsToTree design.now.circuit design.now.tree }
     requires held { AreHeldOnce design.now.circuit }
-    requires fresh { IsFresh design.now.circuit }
+    requires free { HasFreeFronts design.now.circuit }
     requires fed { IsColumns design.now.circuit inputs.now.rows inputs.now.columns }
 {
     if !request.pipe.as_slice().is_empty() || inputs.rows() < 2 {
         return false;
     }
-    match cut(alloc, design, request, 1) {
-        Ok(plan) => is_begun(alloc, design, request, &plan, inputs, outputs),
+    if !request.bridges.as_slice().is_empty() {
+        return false;
+    }
+    let models = Models::new(alloc);
+    match cut(alloc, design, request, 1, &models) {
+        Ok(plan) => is_begun(alloc, design, request, &models, &plan, inputs, outputs),
         Err(fault) => {
             drop(fault);
             false
@@ -192,7 +205,7 @@ fn is_fed_from(
 ) -> bool
     requires keeps { KeepsToTree design.now.circuit design.now.tree }
     requires held { AreHeldOnce design.now.circuit }
-    requires fresh { IsFresh design.now.circuit }
+    requires free { HasFreeFronts design.now.circuit }
 {
     match request_of(alloc, partition) {
         Some(request) => match inputs_of(alloc, design, trace) {

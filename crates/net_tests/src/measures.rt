@@ -1,12 +1,13 @@
 //! gg_measure: what is left to do in a network, and doing it in two orders.
 use crate::networks::Case;
+use gg_bridge::Echo;
 use gg_build::Node;
 use gg_measure::{left, possible, run_to, run_to_end};
 use gg_net::{Net, Streams};
 use net_calls::{is_at_most, keeps};
 
 // Does the steps that `possible` answers, one after another. Returns how many were done, at most this many.
-fn follow<Z: Streams>(net: &mut Net<Node<'_>, Z>, most: u64) -> u64 {
+fn follow<Z: Streams>(net: &mut Net<Node<'_, Echo>, Z>, most: u64) -> u64 {
     for done in 0..most {
         let Some(event) = possible(net) else {
             return done;
@@ -20,7 +21,7 @@ fn follow<Z: Streams>(net: &mut Net<Node<'_>, Z>, most: u64) -> u64 {
 
 // Runs a network that is before its first cycle to cycle 1, and then to its end. Returns whether what was left at cycle
 // 1 is what the other cycles take.
-fn run_in_two<Z: Streams>(net: &mut Net<Node<'_>, Z>, case: &Case) -> bool {
+fn run_in_two<Z: Streams>(net: &mut Net<Node<'_, Echo>, Z>, case: &Case) -> bool {
     let begins = net.end() >= 1 && is_at_most(net, 1);
     if begins {
         run_to(net, 1);
@@ -31,14 +32,14 @@ fn run_in_two<Z: Streams>(net: &mut Net<Node<'_>, Z>, case: &Case) -> bool {
 }
 
 // Whether nothing is left to do.
-fn is_done<Z: Streams>(net: &Net<Node<'_>, Z>) -> bool {
+fn is_done<Z: Streams>(net: &Net<Node<'_, Echo>, Z>) -> bool {
     left(net) == 0 && possible(net).is_none()
 }
 
 // Whether a machine has the same counts in two networks.
 fn is_machine_alike<Z: Streams>(
-    one: &Net<Node<'_>, Z>,
-    other: &Net<Node<'_>, Z>,
+    one: &Net<Node<'_, Echo>, Z>,
+    other: &Net<Node<'_, Echo>, Z>,
     machine: u32,
 ) -> bool {
     (machine as usize) < one.machines()
@@ -49,8 +50,8 @@ fn is_machine_alike<Z: Streams>(
 
 // Whether a channel has the same counts and the same newest token in two networks.
 fn is_channel_alike<Z: Streams>(
-    one: &Net<Node<'_>, Z>,
-    other: &Net<Node<'_>, Z>,
+    one: &Net<Node<'_, Echo>, Z>,
+    other: &Net<Node<'_, Echo>, Z>,
     channel: u32,
 ) -> bool {
     (channel as usize) < one.channels()
@@ -61,7 +62,11 @@ fn is_channel_alike<Z: Streams>(
 }
 
 // Whether two networks have the same counts.
-fn are_alike<Z: Streams>(one: &Net<Node<'_>, Z>, other: &Net<Node<'_>, Z>, case: &Case) -> bool {
+fn are_alike<Z: Streams>(
+    one: &Net<Node<'_, Echo>, Z>,
+    other: &Net<Node<'_, Echo>, Z>,
+    case: &Case,
+) -> bool {
     for machine in 0..case.machines {
         if !is_machine_alike(one, other, machine) {
             return false;
@@ -78,8 +83,8 @@ fn are_alike<Z: Streams>(one: &Net<Node<'_>, Z>, other: &Net<Node<'_>, Z>, case:
 // Whether two networks end alike, of which the one goes as `possible` answers and the other as `run_to` does. Both are
 // before their first cycle.
 pub(crate) fn end_alike<Z: Streams>(
-    one: &mut Net<Node<'_>, Z>,
-    other: &mut Net<Node<'_>, Z>,
+    one: &mut Net<Node<'_, Echo>, Z>,
+    other: &mut Net<Node<'_, Echo>, Z>,
     case: &Case,
 ) -> bool {
     left(one) == case.left

@@ -1,17 +1,19 @@
 //! gg_plan, gg_build, gg_net and gg_memunit: networks are built, and run to their end.
-ghost use Rattle.std.specs.Prelude.{◌≡◌, ◌<◌, length};
-ghost use Rattle.gg_build.specs.Build.{IsToRun};
+ghost use Rattle.std.specs.Prelude.{◌≡◌, ◌<◌, [], length};
+ghost use Rattle.gg_build.specs.Build.{IsToRun, NeedsNone};
 ghost use Rattle.gg_cut.specs.Fault.{IsSmall};
 ghost use Rattle.gg_moved.specs.KeepsToTree.{KeepsToTree};
 ghost use Rattle.gg_cut.specs.Held.{AreHeldOnce};
-ghost use Rattle.gg_pipe.specs.Made.{IsFresh};
+ghost use Rattle.gg_bridged.specs.Whole.{HasFreeFronts};
 ghost use Rattle.gg_flat.specs.Run.{IsColumns};
 
 use crate::circuits::Circuit::{Memory, Whole};
 use crate::circuits::{Circuit, text_of};
 use crate::measures::end_alike;
-use gg_build::{Node, build};
+use gg_bridge::Echo;
+use gg_build::Node;
 use gg_cut::Plan;
+use gg_flat::Models;
 use gg_net::{Event, Net, Refusal, Streams};
 use gg_order::Design;
 use gg_partfile::Request;
@@ -19,7 +21,7 @@ use gg_plan::cut;
 use gg_trace::Trace;
 use net_calls::{
     COUNTER, COUNTER_TRACE, FOUR_PORTS, FOUR_PORTS_TRACE, PAIR, PAIR_TRACE, THREE_CYCLES,
-    design_of, inputs_of, request_of,
+    build_alone, design_of, inputs_of, request_of,
 };
 use std::alloc::Global;
 use std::marker::Brand;
@@ -140,7 +142,7 @@ fn step_of(letter: u8, number: u32) -> Event {
 }
 
 // Whether the steps of a cycle can be done.
-fn goes_once<Z: Streams>(net: &mut Net<Node<'_>, Z>, steps: &str) -> bool {
+fn goes_once<Z: Streams>(net: &mut Net<Node<'_, Echo>, Z>, steps: &str) -> bool {
     let mut number: u32 = 0;
     for byte in steps.as_bytes() {
         if byte.is_ascii_digit() {
@@ -157,7 +159,7 @@ fn goes_once<Z: Streams>(net: &mut Net<Node<'_>, Z>, steps: &str) -> bool {
 }
 
 // Whether the steps of a cycle can be done so many times.
-fn goes<Z: Streams>(net: &mut Net<Node<'_>, Z>, steps: &str, times: u64) -> bool {
+fn goes<Z: Streams>(net: &mut Net<Node<'_, Echo>, Z>, steps: &str, times: u64) -> bool {
     for _ in 0..times {
         if !goes_once(net, steps) {
             return false;
@@ -167,12 +169,12 @@ fn goes<Z: Streams>(net: &mut Net<Node<'_>, Z>, steps: &str, times: u64) -> bool
 }
 
 // The network, taken apart and put together again.
-fn joined<'a, Z: Streams>(net: Net<Node<'a>, Z>) -> Net<Node<'a>, Z> {
+fn joined<'a, Z: Streams>(net: Net<Node<'a, Echo>, Z>) -> Net<Node<'a, Echo>, Z> {
     Net::of(net.parts())
 }
 
 // Whether these are the hosts of the machines.
-fn are_hosts<Z: Streams>(net: &Net<Node<'_>, Z>, hosts: &[u32]) -> bool {
+fn are_hosts<Z: Streams>(net: &Net<Node<'_, Echo>, Z>, hosts: &[u32]) -> bool {
     let stations = net.shape().stations.as_slice();
     for (machine, host) in hosts.iter().enumerate() {
         if machine >= stations.len() || stations[machine].host != *host {
@@ -183,7 +185,7 @@ fn are_hosts<Z: Streams>(net: &Net<Node<'_>, Z>, hosts: &[u32]) -> bool {
 }
 
 // Whether a network is as expected before its first cycle.
-fn opens<Z: Streams>(net: &Net<Node<'_>, Z>, case: &Case) -> bool {
+fn opens<Z: Streams>(net: &Net<Node<'_, Echo>, Z>, case: &Case) -> bool {
     net.machines() == case.machines as usize
         && net.channels() == case.channels as usize
         && net.shape().stations.len() == case.machines as usize
@@ -193,7 +195,7 @@ fn opens<Z: Streams>(net: &Net<Node<'_>, Z>, case: &Case) -> bool {
 }
 
 // Whether all cycles of a machine are done.
-fn has_ended<Z: Streams>(net: &Net<Node<'_>, Z>, machine: u32) -> bool
+fn has_ended<Z: Streams>(net: &Net<Node<'_, Echo>, Z>, machine: u32) -> bool
     requires { machine < length net.now.machines }
 {
     net.cycle(machine) == net.end()
@@ -202,7 +204,7 @@ fn has_ended<Z: Streams>(net: &Net<Node<'_>, Z>, machine: u32) -> bool
 }
 
 // Whether a channel has a token put and taken in each cycle, and holds one exactly if it opened with one.
-fn is_spent<Z: Streams>(net: &Net<Node<'_>, Z>, channel: u32) -> bool
+fn is_spent<Z: Streams>(net: &Net<Node<'_, Echo>, Z>, channel: u32) -> bool
     requires { channel < length net.now.wires }
 {
     let first = net.shape().wires.as_slice()[channel as usize].first;
@@ -212,7 +214,7 @@ fn is_spent<Z: Streams>(net: &Net<Node<'_>, Z>, channel: u32) -> bool
 }
 
 // Whether machine 1 serves as expected.
-fn serves<Z: Streams>(net: &Net<Node<'_>, Z>, case: &Case) -> bool {
+fn serves<Z: Streams>(net: &Net<Node<'_, Echo>, Z>, case: &Case) -> bool {
     let (ports, dues, times) = case.served;
     1 < net.machines()
         && net.port_count(1) == ports
@@ -221,7 +223,7 @@ fn serves<Z: Streams>(net: &Net<Node<'_>, Z>, case: &Case) -> bool {
 }
 
 // Whether a network is as expected behind its last cycle.
-fn closes<Z: Streams>(net: &Net<Node<'_>, Z>, case: &Case) -> bool {
+fn closes<Z: Streams>(net: &Net<Node<'_, Echo>, Z>, case: &Case) -> bool {
     for machine in 0..case.machines {
         if machine as usize >= net.machines() || !has_ended(net, machine) {
             return false;
@@ -236,7 +238,7 @@ fn closes<Z: Streams>(net: &Net<Node<'_>, Z>, case: &Case) -> bool {
 }
 
 // Whether a network runs as expected, where it is taken apart behind its first cycle.
-fn runs<Z: Streams>(mut net: Net<Node<'_>, Z>, case: &Case) -> bool {
+fn runs<Z: Streams>(mut net: Net<Node<'_, Echo>, Z>, case: &Case) -> bool {
     let begins = opens(&net, case) && goes(&mut net, case.steps, 1);
     let mut net = joined(net);
     begins && goes(&mut net, case.steps, case.end.saturating_sub(1)) && closes(&net, case)
@@ -244,9 +246,10 @@ fn runs<Z: Streams>(mut net: Net<Node<'_>, Z>, case: &Case) -> bool {
 
 // Whether the network of a plan runs as expected by the steps of the case.
 fn is_built_once<Z: Streams>(alloc: Global, plan: &Plan, inputs: &Trace, case: &Case) -> bool
-    requires { IsToRun plan.now inputs.now.columns inputs.now.rows Z.flow }
+    requires run { IsToRun plan.now inputs.now.columns inputs.now.rows Z.flow }
+    requires alone { NeedsNone plan.now }
 {
-    match build::<Z>(alloc, plan, inputs) {
+    match build_alone::<Z>(alloc, plan, inputs) {
         Ok(net) => runs(net, case),
         Err(_) => false,
     }
@@ -254,10 +257,11 @@ fn is_built_once<Z: Streams>(alloc: Global, plan: &Plan, inputs: &Trace, case: &
 
 // Whether two networks of a plan end alike, in two orders of steps.
 fn is_built_twice<Z: Streams>(alloc: Global, plan: &Plan, inputs: &Trace, case: &Case) -> bool
-    requires { IsToRun plan.now inputs.now.columns inputs.now.rows Z.flow }
+    requires run { IsToRun plan.now inputs.now.columns inputs.now.rows Z.flow }
+    requires alone { NeedsNone plan.now }
 {
-    match build::<Z>(alloc, plan, inputs) {
-        Ok(mut one) => match build::<Z>(alloc, plan, inputs) {
+    match build_alone::<Z>(alloc, plan, inputs) {
+        Ok(mut one) => match build_alone::<Z>(alloc, plan, inputs) {
             Ok(mut other) => end_alike(&mut one, &mut other, case),
             Err(_) => false,
         },
@@ -265,34 +269,45 @@ fn is_built_twice<Z: Streams>(alloc: Global, plan: &Plan, inputs: &Trace, case: 
     }
 }
 
-// Whether the network of a plan runs as expected. What it computes is picked where this is called, by the design and the request.
+// Whether the network of a plan without bridges runs as expected. What it computes is picked where this is called, by the design and the
+// request.
 fn is_built<Z: Streams>(
     alloc: Global,
     _design: &Design,
     _request: &Request,
+    _models: &Models,
     plan: &Plan,
     inputs: &Trace,
     case: &Case,
 ) -> bool
-    requires { IsToRun plan.now inputs.now.columns inputs.now.rows Z.flow }
+    requires run { IsToRun plan.now inputs.now.columns inputs.now.rows Z.flow }
+    requires alone { NeedsNone plan.now }
 {
     is_built_once::<Z>(alloc, plan, inputs, case) && is_built_twice::<Z>(alloc, plan, inputs, case)
 }
 
-// Whether the network of a design and a request runs as expected, for channels of capacity 1.
-fn is_cut(alloc: Global, design: &Design, request: &Request, inputs: &Trace, case: &Case) -> bool
+// Whether the network of a design and a request without bridges runs as expected, for channels of capacity 1.
+fn is_planned(
+    alloc: Global,
+    design: &Design,
+    request: &Request,
+    inputs: &Trace,
+    case: &Case,
+) -> bool
     requires small { IsSmall request.now }
     requires keeps { KeepsToTree design.now.circuit design.now.tree }
     requires held { AreHeldOnce design.now.circuit }
-    requires fresh { IsFresh design.now.circuit }
+    requires free { HasFreeFronts design.now.circuit }
     requires fed { IsColumns design.now.circuit inputs.now.rows inputs.now.columns }
+    requires alone { request.now.bridges ≡ [] }
 {
     // for the design's invariant on its parts
     let _ = design.order();
     let _ = design.piece();
     let _ = inputs.rows();
-    match cut(alloc, design, request, 1) {
-        Ok(plan) => is_built::<Brand>(alloc, design, request, &plan, inputs, case),
+    let models = Models::new(alloc);
+    match cut(alloc, design, request, 1, &models) {
+        Ok(plan) => is_built::<Brand>(alloc, design, request, &models, &plan, inputs, case),
         Err(fault) => {
             drop(fault);
             false
@@ -300,11 +315,25 @@ fn is_cut(alloc: Global, design: &Design, request: &Request, inputs: &Trace, cas
     }
 }
 
+// The same, where the request has to have no bridges.
+fn is_cut(alloc: Global, design: &Design, request: &Request, inputs: &Trace, case: &Case) -> bool
+    requires small { IsSmall request.now }
+    requires keeps { KeepsToTree design.now.circuit design.now.tree }
+    requires held { AreHeldOnce design.now.circuit }
+    requires free { HasFreeFronts design.now.circuit }
+    requires fed { IsColumns design.now.circuit inputs.now.rows inputs.now.columns }
+{
+    if !request.bridges.as_slice().is_empty() {
+        return false;
+    }
+    is_planned(alloc, design, request, inputs, case)
+}
+
 // Whether the network of a design and a partition runs as expected on a trace.
 fn is_fed(alloc: Global, design: &Design, partition: &str, trace: &str, case: &Case) -> bool
     requires keeps { KeepsToTree design.now.circuit design.now.tree }
     requires held { AreHeldOnce design.now.circuit }
-    requires fresh { IsFresh design.now.circuit }
+    requires free { HasFreeFronts design.now.circuit }
 {
     match request_of(alloc, partition) {
         Some(request) => match inputs_of(alloc, design, trace) {

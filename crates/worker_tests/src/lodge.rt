@@ -6,6 +6,7 @@ ghost use Rattle.gg_node.specs.Token.{IsToken, IsNextState};
 ghost use Rattle.gg_node.specs.Step.{MayLatch, MayFire, MayServe, MayFinish, with_latch, with_flag, with_served, finished};
 ghost use Rattle.gg_build.specs.Node.{machines_of};
 
+use gg_bridge::Echo;
 use gg_build::Node;
 use gg_net::{Net, Parts, Streams};
 use gg_node::Host;
@@ -13,7 +14,7 @@ use std::alloc::{AllocError, Global};
 
 /// Has the threads of a node, or none if no node is in.
 pub(crate) struct Lodge<'a> {
-    node: Option<Node<'a>>,
+    node: Option<Node<'a, Echo>>,
 }
 
 impl Drop for Lodge<'_> {
@@ -140,7 +141,7 @@ impl<'a> Host for Lodge<'a> {
 }
 
 // These nodes in lodges, and behind them a lodge that is empty.
-fn lodges_of<'a>(alloc: Global, nodes: Vec<Node<'a>>) -> Result<Vec<Lodge<'a>>, AllocError>
+fn lodges_of<'a>(alloc: Global, nodes: Vec<Node<'a, Echo>>) -> Result<Vec<Lodge<'a>>, AllocError>
     ensures { IfOk result (λ lodges. map ⟦<Lodge<'a> as Host>⟧.machines lodges.items ≡ map machines_of nodes.entry.items ++ ([] ∷ [])) }
 {
     let mut lodges = Vec::new(alloc);
@@ -158,7 +159,7 @@ fn lodges_of<'a>(alloc: Global, nodes: Vec<Node<'a>>) -> Result<Vec<Lodge<'a>>, 
 /// Returns `AllocError` if an allocation fails.
 pub(crate) fn beside_none<'a, Z: Streams>(
     alloc: Global,
-    net: Net<Node<'a>, Z>,
+    net: Net<Node<'a, Echo>, Z>,
 ) -> Result<Net<Lodge<'a>, Z>, AllocError> {
     let Parts {
         hosts,

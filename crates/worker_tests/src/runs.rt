@@ -1,14 +1,17 @@
 //! Runs of a network by workers.
-ghost use Rattle.gg_build.specs.Build.{IsToRun};
+ghost use Rattle.std.specs.Prelude.{◌≡◌, []};
+ghost use Rattle.gg_build.specs.Build.{IsToRun, NeedsNone};
 ghost use Rattle.gg_cut.specs.Fault.{IsSmall};
 ghost use Rattle.gg_flat.specs.Run.{IsColumns};
 ghost use Rattle.gg_moved.specs.KeepsToTree.{KeepsToTree};
 ghost use Rattle.gg_cut.specs.Held.{AreHeldOnce};
-ghost use Rattle.gg_pipe.specs.Made.{IsFresh};
+ghost use Rattle.gg_bridged.specs.Whole.{HasFreeFronts};
 
 use crate::lodge::{Lodge, beside_none};
-use gg_build::{Node, build};
+use gg_bridge::Echo;
+use gg_build::Node;
 use gg_cut::Plan;
+use gg_flat::Models;
 use gg_io::Gate;
 use gg_link::Link;
 use gg_measure::{left, run_to, run_to_end};
@@ -18,7 +21,7 @@ use gg_partfile::Request;
 use gg_plan::cut;
 use gg_trace::Trace;
 use gg_workers::work;
-use net_calls::{design_of, inputs_of, is_at_most, keeps, request_of};
+use net_calls::{build_alone, design_of, inputs_of, is_at_most, keeps, request_of};
 use std::alloc::Global;
 use std::marker::Brand;
 use std::thread::Threads;
@@ -40,14 +43,14 @@ pub(crate) struct Table {
 }
 
 // Brings a network to a cycle, if that lies before it.
-fn bring<Z: Streams>(net: &mut Net<Node<'_>, Z>, cycle: u64) {
+fn bring<Z: Streams>(net: &mut Net<Node<'_, Echo>, Z>, cycle: u64) {
     if cycle <= net.end() && is_at_most(net, cycle) {
         run_to(net, cycle);
     }
 }
 
 // Whether a network is as expected after a run, and at its end.
-fn ends<Z: Streams>(net: &mut Net<Node<'_>, Z>, table: &Table, row: Row) -> bool {
+fn ends<Z: Streams>(net: &mut Net<Node<'_, Echo>, Z>, table: &Table, row: Row) -> bool {
     let (_, _, _, least, most) = row;
     let rest = left(net);
     run_to_end(net);
@@ -101,7 +104,7 @@ fn goes<R: Threads + Sync, L: Link, Z: Streams, G: Gate + Sync>(
     rt: &R,
     home: L::Home,
     alloc: Global,
-    mut net: Net<Node<'_>, Z>,
+    mut net: Net<Node<'_, Echo>, Z>,
     table: &Table,
     row: Row,
     gate: &G,
@@ -115,13 +118,13 @@ fn goes<R: Threads + Sync, L: Link, Z: Streams, G: Gate + Sync>(
         };
     }
     let workers = workers.min(64);
-    match work::<R, Node<'_>, L, Z, G>(rt, home, alloc, net, workers, upto, gate) {
+    match work::<R, Node<'_, Echo>, L, Z, G>(rt, home, alloc, net, workers, upto, gate) {
         Ok(mut net) => ends(&mut net, table, row),
         Err(_) => false,
     }
 }
 
-// Whether a run of the network of a plan leaves what is expected. What it computes is picked where this is called, by the
+// Whether a run of the network of a plan without bridges leaves what is expected. What it computes is picked where this is called, by the
 // design and the request.
 fn is_run<R: Threads + Sync, L: Link, Z: Streams, G: Gate + Sync>(
     rt: &R,
@@ -129,21 +132,60 @@ fn is_run<R: Threads + Sync, L: Link, Z: Streams, G: Gate + Sync>(
     alloc: Global,
     _design: &Design,
     _request: &Request,
+    _models: &Models,
     plan: &Plan,
     inputs: &Trace,
     table: &Table,
     row: Row,
     gate: &G,
 ) -> bool
-    requires { IsToRun plan.now inputs.now.columns inputs.now.rows Z.flow }
+    requires run { IsToRun plan.now inputs.now.columns inputs.now.rows Z.flow }
+    requires alone { NeedsNone plan.now }
 {
-    match build::<Z>(alloc, plan, inputs) {
+    match build_alone::<Z>(alloc, plan, inputs) {
         Ok(net) => goes::<R, L, Z, G>(rt, home, alloc, net, table, row, gate),
         Err(_) => false,
     }
 }
 
-// Whether a run of the network of a design and a request, whose channels have capacity 1, leaves what is expected.
+// Whether a run of the network of a design and a request without bridges, whose channels have capacity 1, leaves what is expected.
+fn is_planned<R: Threads + Sync, L: Link, G: Gate + Sync>(
+    rt: &R,
+    home: L::Home,
+    alloc: Global,
+    design: &Design,
+    request: &Request,
+    inputs: &Trace,
+    table: &Table,
+    row: Row,
+    gate: &G,
+) -> bool
+    requires small { IsSmall request.now }
+    requires keeps { KeepsToTree design.now.circuit design.now.tree }
+    requires held { AreHeldOnce design.now.circuit }
+    requires free { HasFreeFronts design.now.circuit }
+    requires fed { IsColumns design.now.circuit inputs.now.rows inputs.now.columns }
+    requires alone { request.now.bridges ≡ [] }
+{
+    // for the design's invariant on its parts
+    let _ = design.order();
+    let _ = design.piece();
+    let _ = inputs.rows();
+    let models = Models::new(alloc);
+    match cut(alloc, design, request, 1, &models) {
+        Ok(plan) => {
+            is_run::<R, L, Brand, G>(
+                rt, home, alloc, design, request, &models, &plan, inputs, table, row, gate,
+            )
+        }
+        Err(fault) => {
+            drop(fault);
+            false
+        }
+    }
+}
+
+// The same, where the request has to have no bridges.
 fn is_cut<R: Threads + Sync, L: Link, G: Gate + Sync>(
     rt: &R,
     home: L::Home,
@@ -158,24 +200,13 @@ fn is_cut<R: Threads + Sync, L: Link, G: Gate + Sync>(
     requires small { IsSmall request.now }
     requires keeps { KeepsToTree design.now.circuit design.now.tree }
     requires held { AreHeldOnce design.now.circuit }
-    requires fresh { IsFresh design.now.circuit }
+    requires free { HasFreeFronts design.now.circuit }
     requires fed { IsColumns design.now.circuit inputs.now.rows inputs.now.columns }
 {
-    // for the design's invariant on its parts
-    let _ = design.order();
-    let _ = design.piece();
-    let _ = inputs.rows();
-    match cut(alloc, design, request, 1) {
-        Ok(plan) => {
-            is_run::<R, L, Brand, G>(
-                rt, home, alloc, design, request, &plan, inputs, table, row, gate,
-            )
-        }
-        Err(fault) => {
-            drop(fault);
-            false
-        }
+    if !request.bridges.as_slice().is_empty() {
+        return false;
     }
+    is_planned::<R, L, G>(rt, home, alloc, design, request, inputs, table, row, gate)
 }
 
 // Whether a run of the network of a design leaves what is expected.
@@ -190,7 +221,7 @@ fn is_fed<R: Threads + Sync, L: Link, G: Gate + Sync>(
 ) -> bool
     requires keeps { KeepsToTree design.now.circuit design.now.tree }
     requires held { AreHeldOnce design.now.circuit }
-    requires fresh { IsFresh design.now.circuit }
+    requires free { HasFreeFronts design.now.circuit }
 {
     match request_of(alloc, table.partition) {
         Some(request) => match inputs_of(alloc, design, table.trace) {

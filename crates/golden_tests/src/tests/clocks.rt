@@ -340,7 +340,7 @@ pub(crate) static CLOCK_FAULTS: [Row; 23] = [
         Refuses(6, 2, "golden: partition: P1 clocks\n"),
     ),
     (
-        Run(DUAL, "{\"bridges\":[],\"clocks\":{\"c2\":[2,3]}}", "cycle"),
+        Run(DUAL, "{\"bridges\":{},\"clocks\":{\"c2\":[2,3]}}", "cycle"),
         Refuses(6, 2, "golden: partition: P1 bridges\n"),
     ),
     // no Clock input of the top: no name of it, an input of another type, a clock of an instance

@@ -1,12 +1,12 @@
 //! Puts that fail or find no memory.
 ghost use Rattle.std.specs.Prelude.{None};
 
+use super::bridges::{ECHO, ECHOED, FIVE_ROWS};
 use super::calls::Call::AskFailing;
 use super::calls::End::{Refuses, Stops};
 use super::calls::{NONE, RESUME, Row};
-use gg_io::{NoGate, PutFail, Sink, SureShelf, SureSink, hold};
-use golden::golden;
-use golden_calls::{COUNTER, RUN, TEXT, TRACE, counter_files, words_of};
+use gg_io::{MemFiles, PutFail, Sink, SureShelf, SureSink, hold};
+use golden_calls::{COUNTER, RUN, TEXT, TRACE, TWO, call_on, counter_files, files_of, words_of};
 use std::alloc::{AllocError, Global};
 use std::test::Fail;
 use std::thread::Threads;
@@ -70,25 +70,18 @@ impl Sink for FullSink {
     }
 }
 
-// Whether a call with these words on the counter and a snapshot of it, where `out` has memory for so many puts, answers this status and leaves these
-// texts on `out` and `err`.
+// Whether a call with these words and files, where `out` has memory for so many puts, answers this status and leaves these texts on `out` and `err`.
 fn ends_so<R: Threads + Sync>(
     rt: &R,
     alloc: Global,
     call: &str,
+    files: MemFiles,
     room: u64,
     status: u8,
     text: &str,
     line: &str,
 ) -> Result<bool, AllocError> {
     let words = words_of(alloc, call)?;
-    let mut files = counter_files(alloc)?;
-    hold(
-        &mut files,
-        alloc,
-        "k1.snap",
-        b"golden snapshot 1\ncycle 2\nreg c 01\n",
-    )?;
     let mut shelf = SureShelf::new(files);
     let mut out = FullSink {
         bytes: Vec::new(alloc),
@@ -96,20 +89,24 @@ fn ends_so<R: Threads + Sync>(
         refused: 0,
     };
     let mut err = SureSink::new(alloc);
-    let answered = golden(
-        rt,
-        alloc,
-        words.as_slice(),
-        &mut shelf,
-        &mut out,
-        &mut err,
-        &NoGate,
-    );
+    let answered = call_on(rt, alloc, words.as_slice(), &mut shelf, &mut out, &mut err)?;
     Ok(
         answered == status
             && out.bytes.as_slice() == text.as_bytes()
             && err.bytes.as_slice() == line.as_bytes(),
     )
+}
+
+// The counter's files and a snapshot of it.
+fn saved_files(alloc: Global) -> Result<MemFiles, AllocError> {
+    let mut files = counter_files(alloc)?;
+    hold(
+        &mut files,
+        alloc,
+        "k1.snap",
+        b"golden snapshot 1\ncycle 2\nreg c 01\n",
+    )?;
+    Ok(files)
 }
 
 // The words of `save`.
@@ -128,8 +125,30 @@ fn puts_that_find_no_memory(rt: HostRuntime) -> Result<(), Fail> {
         (RESUME, 2, 5, "cycle out\n2 01\n", "golden: out of memory\n"),
         (RESUME, 3, 0, "cycle out\n2 01\n3 02\n", ""),
     ] {
-        let is_right = ends_so(&rt, rt.alloc(), call, room, status, text, line)?;
+        let files = saved_files(rt.alloc())?;
+        let is_right = ends_so(&rt, rt.alloc(), call, files, room, status, text, line)?;
         assert!(rt; is_right, "{call}, with memory for {room} puts");
+    }
+    Ok(())
+}
+
+// The same with a bridge.
+#[test]
+fn puts_of_bridges_that_find_no_memory(rt: HostRuntime) -> Result<(), Fail> {
+    for (room, status, text, line) in [
+        (0, 5, "", "golden: out of memory\n"),
+        (
+            4,
+            5,
+            "cycle p\n0 00\n1 00\n2 00\n",
+            "golden: out of memory\n",
+        ),
+        (6, 0, ECHOED, ""),
+    ] {
+        let alloc = rt.alloc();
+        let files = files_of(alloc, TWO.as_bytes(), ECHO.as_bytes(), FIVE_ROWS.as_bytes())?;
+        let is_right = ends_so(&rt, alloc, RUN, files, room, status, text, line)?;
+        assert!(rt; is_right, "with a bridge and memory for {room} puts");
     }
     Ok(())
 }

@@ -1,4 +1,8 @@
 //! The tests of all tables.
+use super::bridges::{
+    BRIDGED, BRIDGED_CUTS, BRIDGED_STEPS, BRIDGED_TRACES, BRIDGED_WAYS, BRIDGES_ASTRAY,
+    BRIDGES_LAST, BRIDGES_UNFIT, BRIDGES_UNKNOWN, BRIDGES_UNREAD, BRIDGES_UNSAVED,
+};
 use super::calls::check_rows;
 use super::circuits::{CIRCUIT_FAULTS, CUT, RUNS, WHOLE};
 use super::clocks::{CLOCK_CUTS, CLOCK_FAULTS, CLOCKED, HANDSHAKES, SERVED_WITHOUT_AN_EDGE};
@@ -223,6 +227,45 @@ fn clocks_meet(rt: HostRuntime) {
 #[test]
 fn ratios_are_refused(rt: HostRuntime) {
     check_rows(&rt, rt.alloc(), "CLOCK_FAULTS", &CLOCK_FAULTS);
+}
+
+#[test]
+fn bridges_run(rt: HostRuntime) {
+    check_rows(&rt, rt.alloc(), "BRIDGED", &BRIDGED);
+}
+
+#[test]
+fn bridges_run_in_each_way(rt: HostRuntime) {
+    let alloc = rt.alloc();
+    check_rows(&rt, alloc, "BRIDGED_WAYS", &BRIDGED_WAYS);
+    check_rows(&rt, alloc, "BRIDGED_TRACES", &BRIDGED_TRACES);
+}
+
+#[test]
+fn bridges_are_machines(rt: HostRuntime) {
+    let alloc = rt.alloc();
+    check_rows(&rt, alloc, "BRIDGED_CUTS", &BRIDGED_CUTS);
+    check_rows(&rt, alloc, "BRIDGED_STEPS", &BRIDGED_STEPS);
+}
+
+#[test]
+fn bridges_are_refused(rt: HostRuntime) {
+    let alloc = rt.alloc();
+    check_rows(&rt, alloc, "BRIDGES_UNREAD", &BRIDGES_UNREAD);
+    check_rows(&rt, alloc, "BRIDGES_UNKNOWN", &BRIDGES_UNKNOWN);
+    check_rows(&rt, alloc, "BRIDGES_LAST", &BRIDGES_LAST);
+}
+
+#[test]
+fn ports_of_bridges_are_refused(rt: HostRuntime) {
+    let alloc = rt.alloc();
+    check_rows(&rt, alloc, "BRIDGES_ASTRAY", &BRIDGES_ASTRAY);
+    check_rows(&rt, alloc, "BRIDGES_UNFIT", &BRIDGES_UNFIT);
+}
+
+#[test]
+fn bridges_are_not_saved(rt: HostRuntime) {
+    check_rows(&rt, rt.alloc(), "BRIDGES_UNSAVED", &BRIDGES_UNSAVED);
 }
 
 // `rt try --test` doesn't end on this one.
