@@ -132,8 +132,11 @@ Hold-read piece slots after lane out held needed done cycle same =
     record {
       cycle = cycle;
       put = λ i within. (
-        λ has. elim ((done (value_at piece.ins i)).0 has) [ inl old ↦ (held.put i within).0 old | inr reaches ↦ (held.put i within).0 (needed i within reaches) ],
-        λ some. (done (value_at piece.ins i)).1 (inl ((held.put i within).1 some)),
+        λ has. elim (done.only (value_at piece.ins i) has) [
+          | inl old ↦ (held.put i within).0 old
+          | inr more ↦ elim more [ inl reaches ↦ (held.put i within).0 (needed i within reaches) | inr all ↦ (held.put i within).0 (all i within) ]
+        ],
+        λ some. done.done (value_at piece.ins i) (inl ((held.put i within).1 some)),
       );
       tokens = subst (HaveTokens lane.latches) (sym same) held.tokens;
     }

@@ -13,15 +13,15 @@ use Rattle.gg_flat.specs.Reads.{Reaches}
 use Rattle.gg_flat.specs.Room.{HasRoom}
 use Rattle.gg_flat.specs.WellFormed.{IsWellFormed, MayDrive}
 use Rattle.gg_flat.specs.State.{State}
-use Rattle.gg_flat.specs.Settled.{in_shapes}
+use Rattle.gg_flat.specs.Settled.{Settled, in_shapes}
 use Rattle.gg_flat.proofs.TypedLemmas.{shape_at-in_shapes, AreTyped-zeros, AreTyped-set}
 use Rattle.gg_part.specs.InOrder.{IsInOrder}
 use Rattle.gg_order.specs.Marks.{is_marked}
-use Rattle.gg_needs.proofs.ReachLemmas.{Reaches-on, Reaches-within}
-use Rattle.gg_program.specs.Slots.{Slotted, IsDone, NoneDone, AreSlots, HasInput, HasNeeded, with_input}
+use Rattle.gg_needs.proofs.ReachLemmas.{Reaches-on, Reaches-within, along-reaches}
+use Rattle.gg_program.specs.Slots.{Slotted, IsDone, NoneDone, AreSlots, HasInput, HasInputs, HasNeeded, with_input, inputs_in, DoneWith}
 use Rattle.gg_program.specs.Right.{AreRight, InCycle, IsInner}
-use Rattle.gg_program.specs.Search.{Searched, IsGathered, StandBehind}
-use Rattle.gg_program.proofs.SearchLemmas.{mark-more, mark-cases}
+use Rattle.gg_program.specs.Search.{Searched, IsGathered, IsFull, StandBehind}
+use Rattle.gg_program.proofs.SearchLemmas.{mark-more, mark-cases, marked-within}
 use Rattle.gg_program.proofs.RightLemmas.{AreRight-same, AreRight-none, AreRight-put}
 
 -- ---- what was found
@@ -82,6 +82,48 @@ InCycle-reached circuit state out before search values room held same typed g ri
     record {
       held = record { typed = typed; count = g.count; room = subst (HasRoom circuit) (sym same) held.room };
       right = right-reached circuit state out before.done search values g right;
+    }
+
+-- ---- what is done afterwards
+
+-- what was searched for is done, and nothing else
+pub DoneWith-gathered : (circuit : FlatCircuit) (out : ℕ) (before after : Slotted) (search : Searched) → IsGathered circuit out before.done search → after.done ≡ search.marks → DoneWith circuit out before after
+DoneWith-gathered circuit out before after search g same =
+    record {
+      done = λ s e. subst (λ (l : List Bool). is_marked l s ≡ true) (sym same) ((g.marked s).1 e);
+      only = λ s is. elim ((g.marked s).0 (subst (λ (l : List Bool). is_marked l s ≡ true) same is)) [ inl was ↦ inl was | inr to ↦ inr (inl to) ];
+    }
+
+-- the signal was done before
+pub DoneWith-before : (circuit : FlatCircuit) (state : State) (out : ℕ) (slots : Slotted) → InCycle circuit state slots → IsDone slots out → DoneWith circuit out slots slots
+DoneWith-before circuit state out slots cycle is =
+    record {
+      done = λ s e. elim e [ inl was ↦ was | inr to ↦ along-reaches circuit (IsDone slots) (λ a b at reads. cycle.right.closed a b at reads) out s is to ];
+      only = λ s was. inl was;
+    }
+
+-- all inputs were put, and all signals are done
+pub DoneWith-all : (circuit : FlatCircuit) (out : ℕ) (before after : Slotted) → IsWellFormed circuit → out < length circuit.signals → length before.done ≡ length circuit.signals → HasInputs circuit before → ((s : ℕ) → s < length circuit.signals → IsDone after s) → DoneWith circuit out before after
+DoneWith-all circuit out before after formed known count inputs all =
+    record {
+      done = λ s e. elim e [ inl was ↦ all s (omega (arith, count, marked-within before.done s was)) | inr to ↦ all s (Reaches-within circuit out s formed known to) ];
+      only = λ s is. inr (inr inputs);
+    }
+
+-- if all signals are done, the values are settled
+pub Settled-all : (circuit : FlatCircuit) (state : State) (inputs : List ℕ) (slots : Slotted) → InCycle circuit state slots → ((s : ℕ) → s < length circuit.signals → IsDone slots s) → inputs_in circuit slots.values ≡ inputs → Settled circuit state inputs slots.values
+Settled-all circuit state inputs slots cycle all same =
+    subst (λ (l : List ℕ). Settled circuit state l slots.values) same (record { typed = cycle.held.typed; driven = λ s known. cycle.right.driven s known (all s known) })
+
+-- slots in which the rest was worked out
+pub InCycle-rest : (circuit : FlatCircuit) (state : State) (before : Slotted) (values : List ℕ) (marks : List Bool) (room : ℕ) → AreSlots circuit before → IsWellFormed circuit → room ≡ before.room → AreTyped (signal_shapes circuit) values → length marks ≡ length before.done → IsFull marks → AreRight circuit state values (λ s. s < length circuit.signals) → InCycle circuit state (record { values = values; done = marks; room = room })
+InCycle-rest circuit state before values marks room held formed same typed count full right =
+    let total : length marks ≡ length circuit.signals = count ∙ held.count in
+    record {
+      held = record { typed = typed; count = total; room = subst (HasRoom circuit) (sym same) held.room };
+      right =
+          AreRight-same circuit state values (λ s. s < length circuit.signals) (λ s. is_marked marks s ≡ true)
+          (λ s known. full s (omega (arith, known, total))) (λ s is. omega (arith, marked-within marks s is, total)) right;
     }
 
 -- ---- the start of a cycle

@@ -1,9 +1,9 @@
 -- Marks on signals with a list of those that were found, signal by signal.
-use Rattle.std.proofs.Common.{◌≡◌, ◌≢◌, ℕ, ◌+◌, ◌<◌, ◌≤◌, List, [], ◌∷◌, ◌++◌, length, take, set, Bool, true, false, true≢false, nat_eq, refl, sym, ◌∙◌, ap, subst, inl, inr, ◌⊎◌, ◌↔◌, arith, append_assoc}
+use Rattle.std.proofs.Common.{◌≡◌, ◌≢◌, ℕ, ◌+◌, ◌<◌, ◌≤◌, List, [], ◌∷◌, ◌++◌, length, take, set, replicate, Bool, true, false, true≢false, nat_eq, refl, sym, ◌∙◌, ap, subst, inl, inr, ◌⊎◌, ◌↔◌, arith, append_assoc}
 use Rattle.std.specs.Prelude.{AllPairs, Contains, slice_index_or}
 use Rattle.std.proofs.lemmas.Bool.{cases_lt}
 use Rattle.std.proofs.lemmas.Bool.Decides.{Decides-eqb}
-use Rattle.std.proofs.lemmas.List.{append-nil, get_or_default, get_or_past, get_or-set_same, get_or-set_other, length-append, length-set, take_more}
+use Rattle.std.proofs.lemmas.List.{append-nil, get_or_default, get_or_past, get_or-replicate, get_or-set_same, get_or-set_other, length-append, length-replicate, length-set, take_more}
 use Rattle.std.proofs.lemmas.List.Elements.{Contains-append_left, Contains-append_right, Contains-append_cases}
 use Rattle.std.proofs.lemmas.List.Quantifiers.{all_pairs_push}
 use Rattle.std.proofs.lemmas.Map.Made.{IsDistinct-from_AllPairs}
@@ -16,7 +16,7 @@ use Rattle.gg_flat.specs.Line.{value_at}
 use Rattle.gg_flat.specs.Reads.{Names}
 use Rattle.gg_flat.proofs.NameLemmas.{Contains-one, Names-push, Names-new, Names-push_cases}
 use Rattle.gg_order.specs.Marks.{is_marked}
-use Rattle.gg_program.specs.Search.{Searched, IsListed, Finds}
+use Rattle.gg_program.specs.Search.{Searched, IsListed, IsFull, Finds}
 
 -- ---- marks
 
@@ -62,6 +62,17 @@ IsListed-push marks found signal known not h =
       ];
       once = all_pairs_push (λ (a b : ℕ). a ≢ b) found signal h.once (λ i d lt same.
           true≢false (sym (h.marked signal (i, lt, get_or_default found i signal d lt ∙ same)) ∙ not));
+    }
+
+-- marks that are all set
+pub IsFull-replicate : (n : ℕ) → IsFull (replicate n true)
+IsFull-replicate n s lt = get_or-replicate n s true false (omega (arith, lt, length-replicate n true))
+
+pub IsListed-full : (marks : List Bool) (found : List ℕ) (n : ℕ) → n ≡ length marks → IsListed marks found → IsListed (replicate n true) found
+IsListed-full marks found n count h =
+    record {
+      marked = λ s has. IsFull-replicate n s (omega (arith, count, marked-within marks s (h.marked s has), length-replicate n true));
+      once = h.once;
     }
 
 -- no more signals are listed than there are marks

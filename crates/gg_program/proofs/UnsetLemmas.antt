@@ -7,11 +7,11 @@ use Rattle.gg_flat.specs.declared.piece.Driver.TheVariants.{Input, Held, MemoryW
 use Rattle.gg_flat.specs.Line.{value_at}
 use Rattle.gg_flat.specs.Circuit.{FlatCircuit, driver_at}
 use Rattle.gg_order.specs.Marks.{is_marked}
-use Rattle.gg_program.specs.Slots.{Slotted, with_input}
+use Rattle.gg_program.specs.Slots.{Slotted, IsDone, with_input}
 use Rattle.gg_program.proofs.SearchLemmas.{mark-more}
 use Rattle.gg_program.specs.Search.{Searched, IsGathered}
 use Rattle.gg_program.specs.Right.{IsInner}
-use Rattle.gg_program.specs.Unset.{is_assignment, waits, one_if, count_below, unset_among, unset, assignments, IsConeDone}
+use Rattle.gg_program.specs.Unset.{is_assignment, waits, one_if, count_below, unset_among, unset, assignments}
 
 -- ---- numbers that pass a test
 
@@ -119,14 +119,6 @@ unset-found circuit out first search once inner g =
         let is : IsInner circuit s = subst (IsInner circuit) has.2 (inner has.0 s has.1) in
         (is.known, waits-inner circuit first s is of.1, ap (λ m. waits m (driver_at circuit s)) ((g.marked s).1 (inr of.0)))
 
--- if all that a signal reaches was done, nothing was found
-pub none-found : (circuit : FlatCircuit) (out : ℕ) (slots : Slotted) (search : Searched) → IsGathered circuit out slots.done search → IsConeDone circuit out slots → length search.found ≡ 0
-none-found circuit out slots search g done = by search.found (λ s has. let of = (g.found s).0 has in true≢false (sym (done s of.0) ∙ of.1))
-  where
-    by : (found : List ℕ) → ((s : ℕ) → ¬ Contains found s) → length found ≡ 0
-    by [] none = refl
-    by (x ∷ found) none = absurd (none x (0, omega arith, refl))
-
 -- ---- all signals that aren't marked, from the first to the last
 
 pub rest-step : (circuit : FlatCircuit) (marks : List Bool) (first steps k : ℕ) → IsInner circuit k → is_marked marks k ≡ false → steps ≤ first + count_below (λ s. waits (is_marked marks s) (driver_at circuit s)) k → steps + 1 ≤ first + count_below (λ s. waits (is_marked marks s) (driver_at circuit s)) (k + 1)
@@ -144,6 +136,16 @@ unset-put circuit slots place input marked =
     let after = with_input circuit slots place input in
     count-least (λ s. waits (is_marked slots.done s) (driver_at circuit s)) (λ s. waits (is_marked after.done s) (driver_at circuit s)) (length circuit.signals)
     (λ s. waits-less (is_marked slots.done s) (is_marked after.done s) (driver_at circuit s) (λ is. mark-more slots.done (value_at circuit.ins place) s marked is))
+
+-- if all signals are done, none is unset
+pub unset-none : (circuit : FlatCircuit) (slots : Slotted) → ((s : ℕ) → s < length circuit.signals → IsDone slots s) → unset circuit slots ≡ 0
+unset-none circuit slots all = by (length circuit.signals) all
+  where
+    by : (n : ℕ) → ((s : ℕ) → s < n → IsDone slots s) → count_below (λ s. waits (is_marked slots.done s) (driver_at circuit s)) n ≡ 0
+    by zero done = refl
+    by (suc n) done =
+        let last : one_if (waits (is_marked slots.done n) (driver_at circuit n)) ≡ 0 = ap (λ m. one_if (waits m (driver_at circuit n))) (done n (omega arith)) in
+        omega (arith, by n (λ s lt. done s (omega (arith, lt))), last)
 
 -- no more is unset than there are assignments
 pub unset-most : (circuit : FlatCircuit) (slots : Slotted) → unset circuit slots ≤ assignments circuit

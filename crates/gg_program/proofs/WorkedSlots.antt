@@ -6,10 +6,10 @@ use Rattle.gg_flat.specs.Circuit.{signal_shapes, driver_at}
 use Rattle.gg_flat.specs.Reads.{Reads, Reaches}
 use Rattle.gg_flat.specs.State.{State}
 use Rattle.gg_flat.specs.Settled.{driver_value}
-use Rattle.gg_flat.proofs.WorkedForms.{four}
+use Rattle.gg_flat.proofs.WorkedForms.{both, four}
 use Rattle.gg_needs.proofs.ReachLemmas.{Reaches-itself, along-reaches}
 use Rattle.gg_needs.proofs.WorkedUnits.{unit, q-k, In, copies, in-closed, p-k}
-use Rattle.gg_program.specs.Slots.{Slotted, IsDone, HasNeeded, HasInputs, with_input, DoneWith, inputs_in}
+use Rattle.gg_program.specs.Slots.{Slotted, IsDone, HasInput, HasNeeded, HasInputs, with_input, DoneWith, inputs_in}
 use Rattle.gg_program.specs.Right.{AreRight, InCycle}
 use Rattle.gg_program.specs.Unset.{unset, IsConeDone}
 
@@ -91,16 +91,40 @@ unset-last = refl
 not-cone : ¬ IsConeDone unit 3 with-p
 not-cone done = true≢false (sym (done 3 (Reaches-itself unit 3)))
 
--- `p` doesn't reach `q`, so `q` isn't done because `p` was worked out
+-- `p` doesn't reach `q`, and `k` wasn't put, so `q` isn't done because `p` was worked out
 p-q : ¬ Reaches unit 2 3
 p-q to = along-reaches unit In in-closed 2 3 tt to
 
 not-q : ¬ DoneWith unit 2 with-x (slots (5 ∷ 0 ∷ 5 ∷ 5 ∷ []) (true ∷ false ∷ true ∷ true ∷ []))
-not-q done = elim ((done 3).0 refl) [
+not-q done = elim (done.only 3 refl) [
   | inl was ↦ true≢false (sym was)
-  | inr to ↦ p-q to
+  | inr more ↦ elim more [ inl to ↦ p-q to | inr all ↦ true≢false (sym (all 1 (lit< tt))) ]
 ]
 
 -- after `p` was worked out it must be done
 not-less : ¬ DoneWith unit 2 with-x with-x
-not-less done = true≢false (sym ((done 2).1 (inr (Reaches-itself unit 2))))
+not-less done = true≢false (sym (done.done 2 (inr (Reaches-itself unit 2))))
+
+-- if `k` was put too, all may be worked out with `p`
+abbrev with-k : Slotted
+with-k = slots (5 ∷ 3 ∷ 0 ∷ 0 ∷ []) (true ∷ true ∷ false ∷ false ∷ [])
+
+was-done : (s : ℕ) → IsDone with-k s → IsDone with-q s
+was-done zero is = refl
+was-done (suc zero) is = refl
+was-done (suc (suc zero)) is = refl
+was-done (suc (suc (suc zero))) is = refl
+was-done (suc (suc (suc (suc s)))) is = absurd (true≢false (sym is))
+
+in-done : (s : ℕ) → In s → IsDone with-q s
+in-done zero at = refl
+in-done (suc zero) at = refl
+in-done (suc (suc zero)) at = refl
+in-done (suc (suc (suc s))) at = absurd at
+
+all-done : DoneWith unit 2 with-k with-q
+all-done =
+    record {
+      done = λ s e. elim e [ inl was ↦ was-done s was | inr to ↦ in-done s (along-reaches unit In in-closed 2 s tt to) ];
+      only = λ s is. inr (inr (both (HasInput unit with-k) refl refl));
+    }

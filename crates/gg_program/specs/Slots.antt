@@ -1,6 +1,6 @@
 -- Slots: the values of the signals in a cycle, and which of them are there already.
 -- Source: MEMOCODE 2009 (a node gets its inputs one by one, and gives each output as soon as it can).
-use Rattle.std.specs.Prelude.{◌≡◌, ◌⊎◌, ◌↔◌, ℕ, ◌<◌, List, length, map, Bool, true, false, slice_index_or, slice_set}
+use Rattle.std.specs.Prelude.{◌≡◌, ◌⊎◌, ℕ, ◌<◌, List, length, map, Bool, true, false, slice_index_or, slice_set}
 use Rattle.gg_flat.specs.Line.{value_at, AreTyped}
 use Rattle.gg_flat.specs.Circuit.{FlatCircuit, signal_shapes}
 use Rattle.gg_flat.specs.Reads.{Reaches}
@@ -51,6 +51,7 @@ with_input circuit slots place input =
       room = slots.room;
     }
 
--- exactly what was done before, and what a signal reaches, is done
-abbrev pub DoneWith : FlatCircuit → ℕ → Slotted → Slotted → Type 0
-DoneWith circuit out before after = (s : ℕ) → IsDone after s ↔ (IsDone before s ⊎ Reaches circuit out s)
+-- What was done before, and what a signal reaches, is done. If not all inputs were put before, nothing else is.
+pub record DoneWith (circuit : FlatCircuit) (out : ℕ) (before after : Slotted) : Type 0 where
+  pub done : (s : ℕ) → IsDone before s ⊎ Reaches circuit out s → IsDone after s
+  pub only : (s : ℕ) → IsDone after s → IsDone before s ⊎ Reaches circuit out s ⊎ HasInputs circuit before

@@ -6,9 +6,10 @@
 //!
 //! - `Program::needs` is exactly the in-signals to which a path of reads leads from the out-signal;
 //! - `Program::cone_once` gives the value that the out-signal has in every settled row of the state that has the
-//!   needed inputs. So the value depends on no other input (`one_cone_value`). Afterwards exactly those signals are
-//!   done that were done before or that the out-signal reaches. The steps, together with the signals that have still to
-//!   be evaluated (`unset`), are no more than those before. If all that it reaches was done, no step is taken;
+//!   needed inputs. So the value depends on no other input (`one_cone_value`). Afterwards those signals are done that
+//!   were done before or that the out-signal reaches, and no others unless all inputs were put. The steps, together with
+//!   the signals that have still to be evaluated (`unset`), are no more than those before. If all that it reaches was
+//!   done, no step is taken;
 //! - `Program::next_once` goes to the next state by the settled values with the inputs that were put. It takes at most
 //!   `unset` steps. Afterwards no signal is done;
 //! - `run_cone` and `run_next` are the same without a count.

@@ -143,7 +143,8 @@ impl<'a> Program<'a> {
 
     /// The value of the out-signal at this place, in this state and with the inputs that it needs, which were put
     /// before. It depends on no other input. What the out-signal reaches is done then, in addition to what was done
-    /// before. Each signal that wasn't done is evaluated at most once, and no other. It allocates nothing.
+    /// before. If all inputs were put, more may be done. Each signal that wasn't done is evaluated at most once, and no
+    /// other. It allocates nothing.
     ///
     /// State and slots are those of the program's circuit, in a cycle from this state.
     pub fn cone_once<L: Ledger>(
@@ -166,7 +167,9 @@ impl<'a> Program<'a> {
     {
         let piece = self.piece;
         let signal = piece.outs()[out as usize];
-        slots.reach(piece, state, signal, steps);
+        // others may wait for a token that needs no input
+        let alone = self.needs(out).is_empty();
+        slots.reach(piece, state, signal, alone, steps);
         slots.value(signal)
     }
 

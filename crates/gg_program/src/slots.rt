@@ -1,16 +1,18 @@
 //! `Slots`: the values of a cycle, and which of them are there already.
 ghost use Rattle.std.specs.Prelude.{◌≡◌, ◌⊎◌, ℕ, ◌+◌, ◌<◌, ◌≤◌, length, replicate, true, false, slice_set, IfOk};
+ghost use Rattle.gg_flat.specs.Settled.{Settled};
+ghost use Rattle.gg_order.specs.Marks.{is_marked};
 ghost use Rattle.gg_flat.specs.Line.{value_at};
 ghost use Rattle.gg_flat.specs.WellFormed.{IsWellFormed};
 ghost use Rattle.gg_flat.specs.State.{State, IsState};
 ghost use Rattle.gg_part.specs.InOrder.{IsInOrder};
 ghost use Rattle.gg_flat.specs.Circuit.{FlatCircuit};
-ghost use Rattle.gg_program.specs.Slots.{AreSlots, inputs_in, HasInputs, HasNeeded, NoneDone, DoneWith};
+ghost use Rattle.gg_program.specs.Slots.{AreSlots, inputs_in, HasInputs, HasNeeded, IsDone, NoneDone, DoneWith};
 ghost use Rattle.gg_program.specs.Right.{InCycle, IsCycle};
 ghost use Rattle.gg_program.specs.Unset.{unset, IsConeDone};
 
 use crate::evaluate::{work_out, work_rest};
-use crate::search::Search;
+use crate::search::{Search, are_marked};
 use crate::steps::Steps;
 use gg_flat::{Piece, State};
 use std::alloc::{AllocError, Global};
@@ -23,6 +25,10 @@ pub struct Slots {
     values: Vec<u128>,
     room: Vec<u128>,
     search: Search,
+    // how often an input was put in this cycle
+    puts: usize,
+    // set only if all signals are done
+    whole: bool,
 }
 
 impl Drop for Slots {
@@ -31,6 +37,8 @@ impl Drop for Slots {
             values,
             room,
             search,
+            puts: _,
+            whole: _,
         } = self;
         drop(values);
         drop(room);
@@ -39,14 +47,15 @@ impl Drop for Slots {
 }
 
 impl Model for Slots {
-    ghost use Rattle.std.specs.Prelude.{◌≡◌, [], length};
+    ghost use Rattle.std.specs.Prelude.{◌≡◌, [], length, true};
     ghost use Rattle.gg_program.specs.Slots.{Slotted};
+    ghost use Rattle.gg_program.specs.Search.{IsFull};
 
     ghost Value = { Slotted };
 
     ghost view = { λ slots. record { values = slots.values.items; done = slots.search.marks; room = length slots.room.items } };
 
-    ghost invariant = { λ slots. slots.search.found ≡ [] };
+    ghost invariant = { λ slots. (slots.search.found ≡ []) × (slots.whole ≡ true → IsFull slots.search.marks) };
 }
 
 // This many zeros.
@@ -70,6 +79,8 @@ impl Slots {
             values,
             room,
             search,
+            puts: 0,
+            whole: false,
         })
     }
 
@@ -82,6 +93,7 @@ impl Slots {
     {
         self.values[signal as usize] = value;
         self.search.mark(signal);
+        self.puts = self.puts.saturating_add(1);
     }
 
     /// No signal is done any more. All else stays.
@@ -91,6 +103,8 @@ impl Slots {
         ensures cycle { (circuit : FlatCircuit) (state : State) → AreSlots circuit self.old → InCycle circuit state self.new }
     {
         self.search.clear();
+        self.puts = 0;
+        self.whole = false;
     }
 
     // The value in the place of a signal.
@@ -101,12 +115,32 @@ impl Slots {
         self.values[signal as usize]
     }
 
-    // Evaluates what a signal reaches and isn't done. All inputs that it needs are done.
+    // Whether a signal is done.
+    fn is_done(&self, signal: u32) -> bool
+        requires { signal < length self.now.done }
+        ensures { result ≡ is_marked self.now.done signal }
+    {
+        self.search.is_marked(signal)
+    }
+
+    // Whether to evaluate all signals for one that is asked for: unless it is to be evaluated alone, if all inputs were
+    // put. Without as many puts as inputs no mark is looked at.
+    fn takes_all(&self, piece: &Piece, alone: bool) -> bool
+        requires formed { IsWellFormed piece.now }
+        requires count { length self.now.done ≡ length piece.now.signals }
+        ensures { result ≡ true → HasInputs piece.now self.now }
+    {
+        !alone && self.puts >= piece.ins().len() && are_marked(self.search.marks(), piece.ins())
+    }
+
+    // Evaluates what a signal reaches and isn't done. All inputs that it needs are done. If all inputs are done, and it
+    // isn't to be evaluated alone, all signals are evaluated, so that nothing is searched for in this cycle any more.
     pub(crate) fn reach<L: Ledger>(
         &mut self,
         piece: &Piece,
         state: &State,
         signal: u32,
+        alone: bool,
         steps: &mut Steps<L>,
     )
         requires formed { IsWellFormed piece.now }
@@ -121,6 +155,28 @@ impl Slots {
         ensures steps { steps.new + unset piece.now self.new ≤ steps.old + unset piece.now self.old }
         ensures still { IsConeDone piece.now signal self.old → steps.new ≡ steps.old }
     {
+        if !self.is_done(signal) {
+            if self.takes_all(piece, alone) {
+                self.rest(piece, state, steps);
+            } else {
+                self.cone(piece, state, signal, steps);
+            }
+        }
+    }
+
+    // Evaluates what a signal reaches and isn't done, and nothing else.
+    fn cone<L: Ledger>(&mut self, piece: &Piece, state: &State, signal: u32, steps: &mut Steps<L>)
+        requires formed { IsWellFormed piece.now }
+        requires ordered { IsInOrder piece.now }
+        requires known { signal < length piece.now.signals }
+        requires state { IsState piece.now state.now }
+        requires cycle { InCycle piece.now state.now self.old }
+        requires needed { HasNeeded piece.now self.old signal }
+        ensures cycle { InCycle piece.now state.now self.new }
+        ensures done { DoneWith piece.now signal self.old self.new }
+        ensures inputs { inputs_in piece.now self.new.values ≡ inputs_in piece.now self.old.values }
+        ensures steps { steps.new + unset piece.now self.new ≤ steps.old + unset piece.now self.old }
+    {
         self.search.gather(piece, signal);
         self.search.sort();
         work_out(
@@ -132,6 +188,33 @@ impl Slots {
             steps,
         );
         self.search.forget();
+    }
+
+    // Evaluates what isn't done. All inputs are done. Afterwards all signals are.
+    fn rest<L: Ledger>(&mut self, piece: &Piece, state: &State, steps: &mut Steps<L>)
+        requires formed { IsWellFormed piece.now }
+        requires ordered { IsInOrder piece.now }
+        requires state { IsState piece.now state.now }
+        requires cycle { InCycle piece.now state.now self.old }
+        requires inputs { HasInputs piece.now self.old }
+        ensures cycle { InCycle piece.now state.now self.new }
+        ensures done { (s : ℕ) → s < length piece.now.signals → IsDone self.new s }
+        ensures inputs { inputs_in piece.now self.new.values ≡ inputs_in piece.now self.old.values }
+        ensures settled { Settled piece.now state.now (inputs_in piece.now self.old.values) self.new.values }
+        ensures steps { steps.new + unset piece.now self.new ≤ steps.old + unset piece.now self.old }
+    {
+        if !self.whole {
+            work_rest(
+                piece,
+                self.search.marks(),
+                state,
+                self.values.as_mut_slice(),
+                self.room.as_mut_slice(),
+                steps,
+            );
+            self.search.fill();
+            self.whole = true;
+        }
     }
 
     // Evaluates what isn't done, and goes to the next state. All inputs are done. Afterwards nothing is.
@@ -153,14 +236,7 @@ impl Slots {
         ensures none { NoneDone self.new }
         ensures steps { steps.new ≤ steps.old + unset piece.now self.old }
     {
-        work_rest(
-            piece,
-            self.search.marks(),
-            state,
-            self.values.as_mut_slice(),
-            self.room.as_mut_slice(),
-            steps,
-        );
+        self.rest(piece, state, steps);
         state.advance(
             piece,
             edges,

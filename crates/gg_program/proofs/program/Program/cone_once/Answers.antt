@@ -23,7 +23,7 @@ returns-clause-value g c =
     let at : signal ≡ out = ap (λ (l : List ℕ). value_at l c.args.out) (c.outs.ensures ∙ ap (λ (p : Programmed). p.circuit.outs) c.self.view_is) in
     let cycle : InCycle circuit state after = subst (λ (p : Programmed). InCycle p.circuit state after) c.self.view_is c.reach.ensures.cycle in
     let with : DoneWith circuit signal before after = subst (λ (p : Programmed). DoneWith p.circuit signal before after) c.self.view_is c.reach.ensures.done in
-    let done : IsDone after out = subst (IsDone after) at ((with signal).1 (inr (Reaches-itself circuit signal))) in
+    let done : IsDone after out = subst (IsDone after) at (with.done signal (inr (Reaches-itself circuit signal))) in
     let same : inputs_in circuit after.values ≡ inputs_in circuit before.values = subst (λ (p : Programmed). inputs_in p.circuit after.values ≡ inputs_in p.circuit before.values) c.self.view_is c.reach.ensures.inputs in
     IsConeValue-done circuit state (inputs_in circuit before.values) after.values out c.value.result (IsDone after) formed ordered known c.requires.state cycle.held.typed cycle.right done same
     (c.value.ensures ∙ ap (value_at after.values) at)

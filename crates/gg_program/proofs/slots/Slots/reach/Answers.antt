@@ -1,69 +1,11 @@
-use Rattle.std.proofs.Common.{◌≡◌, ◌≢◌, ◌⊎◌, ℕ, List, Bool, true, length, subst, sym, ap, ◌∙◌, arith}
-use Rattle.std.specs.Prelude.{All, AllPairs, Contains}
-use Rattle.std.proofs.lemmas.List.{with_items_is}
-use Rattle.std.specs.Vec.{with_items}
-use Rattle.gg_order.specs.Marks.{is_marked}
-use Rattle.gg_program.specs.Slots.{Slotted}
-use Rattle.gg_program.specs.Right.{AreRight, InCycle, IsInner}
-use Rattle.gg_program.specs.Search.{IsGathered, StandBehind}
-use Rattle.gg_program.proofs.GatherLemmas.{IsGathered-moved}
-use Rattle.gg_program.proofs.CycleLemmas.{StandBehind-sorted, found-inner, InCycle-reached}
-use Rattle.gg_program.specs.Unset.{unset_among}
-use Rattle.gg_program.proofs.UnsetLemmas.{unset-found, none-found}
+use Rattle.std.proofs.Common.{sym, ◌∙◌}
+use Rattle.gg_program.proofs.CycleLemmas.{DoneWith-before, DoneWith-all}
 use Rattle.gg_program.proofs.slots.Slots.reach.Goals as goal
 
-pub work_out-requires-clause-inner : goal.work_out-requires-clause-inner
-work_out-requires-clause-inner g c =
-    let circuit = c.args.piece.now in
-    let out = c.args.signal in
-    let slots = c.args.self.now in
-    let search = c.sort.new.self in
-    let moved = IsGathered-moved circuit out c.self.inside.search.marks c.gather.new.self search c.sort.ensures.marks c.sort.ensures.same c.gather.ensures in
-    let gathered : IsGathered circuit out slots.done search = subst (λ (s : Slotted). IsGathered circuit out s.done search) c.self.view_is moved in
-    subst (All (IsInner circuit)) (sym c.found.ensures) (found-inner circuit out slots search c.requires.formed c.requires.known c.requires.needed gathered)
+pub returns-then-takes_all-clause-done : goal.returns-then-takes_all-clause-done
+returns-then-takes_all-clause-done g c =
+    DoneWith-all c.args.piece.now c.args.signal c.args.self.now c.rest.new.self c.requires.formed c.requires.known c.requires.cycle.held.count (c.takes_all.ensures c.if-takes_all.true) c.rest.ensures.done
 
-pub returns-clause-cycle : goal.returns-clause-cycle
-returns-clause-cycle g c =
-    let circuit = c.args.piece.now in
-    let state = c.args.state.now in
-    let out = c.args.signal in
-    let slots = c.args.self.now in
-    let search = c.sort.new.self in
-    let values = c.work_out.new.values in
-    let room = c.work_out.new.room in
-    let moved = IsGathered-moved circuit out c.self.inside.search.marks c.gather.new.self search c.sort.ensures.marks c.sort.ensures.same c.gather.ensures in
-    let gathered : IsGathered circuit out slots.done search = subst (λ (s : Slotted). IsGathered circuit out s.done search) c.self.view_is moved in
-    let behind : StandBehind circuit slots.done c.found.result.now = subst (StandBehind circuit slots.done) (sym c.found.ensures) (StandBehind-sorted circuit out slots.done search c.requires.ordered c.sort.ensures.sorted gathered) in
-    let lent : c.as_mut_slice.result.now ≡ slots.values = c.as_mut_slice.ensures.value ∙ ap (λ (s : Slotted). s.values) c.self.view_is in
-    let first : AreRight circuit state c.as_mut_slice.result.now (λ s. is_marked slots.done s ≡ true) = subst (λ (l : List ℕ). AreRight circuit state l (λ s. is_marked slots.done s ≡ true)) (sym lent) c.requires.cycle.right in
-    let right : AreRight circuit state values (λ s. (is_marked slots.done s ≡ true) ⊎ Contains search.found s) =
-    subst (λ (l : List ℕ). AreRight circuit state values (λ s. (is_marked slots.done s ≡ true) ⊎ Contains l s)) c.found.ensures (c.work_out.ensures.right slots.done behind first) in
-    let count : length values ≡ c.self.inside.values.len = omega (arith, c.work_out.auto.values, ap (λ (l : List ℕ). length l) c.as_mut_slice.ensures.value, c.self.inside.values.ok.0) in
-    let space : length room ≡ c.self.inside.room.len = omega (arith, c.work_out.auto.room, ap (λ (l : List ℕ). length l) c.as_mut_slice-2.ensures.value, c.self.inside.room.ok.0) in
-    let same : length room ≡ slots.room = omega (arith, space, c.self.inside.room.ok.0, ap (λ (s : Slotted). s.room) c.self.view_is) in
-    subst (λ (l : List ℕ). InCycle circuit state (record { values = l; done = c.forget.new.self.marks; room = length (with_items c.self.inside.room room).items })) (sym (with_items_is c.self.inside.values values count))
-    (subst (λ (l : List ℕ). InCycle circuit state (record { values = values; done = c.forget.new.self.marks; room = length l })) (sym (with_items_is c.self.inside.room room space))
-    (subst (λ (l : List Bool). InCycle circuit state (record { values = values; done = l; room = length room })) (sym c.forget.ensures.marks)
-    (InCycle-reached circuit state out slots search values (length room) c.requires.cycle.held same c.work_out.ensures.typed gathered right)))
-
-pub returns-clause-steps : goal.returns-clause-steps
-returns-clause-steps g c =
-    let circuit = c.args.piece.now in
-    let out = c.args.signal in
-    let slots = c.args.self.now in
-    let search = c.sort.new.self in
-    let moved = IsGathered-moved circuit out c.self.inside.search.marks c.gather.new.self search c.sort.ensures.marks c.sort.ensures.same c.gather.ensures in
-    let gathered : IsGathered circuit out slots.done search = subst (λ (s : Slotted). IsGathered circuit out s.done search) c.self.view_is moved in
-    let inner : All (IsInner circuit) search.found = found-inner circuit out slots search c.requires.formed c.requires.known c.requires.needed gathered in
-    let once : AllPairs (λ a b. a ≢ b) search.found = c.sort.ensures.once in
-    omega (arith, unset-found circuit out slots.done search once inner gathered, c.work_out.ensures.steps, ap (λ (l : List ℕ). length l) c.found.ensures, ap (unset_among circuit) c.forget.ensures.marks)
-
-pub returns-clause-still : goal.returns-clause-still
-returns-clause-still g c = λ done.
-    let circuit = c.args.piece.now in
-    let out = c.args.signal in
-    let slots = c.args.self.now in
-    let search = c.sort.new.self in
-    let moved = IsGathered-moved circuit out c.self.inside.search.marks c.gather.new.self search c.sort.ensures.marks c.sort.ensures.same c.gather.ensures in
-    let gathered : IsGathered circuit out slots.done search = subst (λ (s : Slotted). IsGathered circuit out s.done search) c.self.view_is moved in
-    omega (arith, none-found circuit out slots search gathered done, c.work_out.ensures.steps, ap (λ (l : List ℕ). length l) c.found.ensures)
+pub returns-else-not-is_done-clause-done : goal.returns-else-not-is_done-clause-done
+returns-else-not-is_done-clause-done g c =
+    DoneWith-before c.args.piece.now c.args.state.now c.args.signal c.args.self.now c.requires.cycle (sym c.is_done.ensures ∙ c.if-not-is_done.false)
