@@ -1,2 +1,3 @@
 mod PatternLaws
+mod ResultLaws
 mod WorkedRows

@@ -1,16 +1,19 @@
 -- Patterns of whole numbers: two numbers that differ by a multiple of 2 ^ k have the same pattern of k bits.
-use Rattle.std.proofs.Common.{◌≡◌, ℕ, ◌+◌, ◌-◌, ◌*◌, ◌/◌, ◌%◌, ◌^◌, ◌<◌, ◌≤◌, min, ⊎_elim, refl, sym, ap, ap₂, ◌∙◌, arith}
+use Rattle.std.proofs.Common.{◌≡◌, ℕ, ◌+◌, ◌-◌, ◌*◌, ◌/◌, ◌%◌, ◌^◌, ◌<◌, ◌≤◌, min, ⊎_elim, refl, sym, ap, ap₂, subst, ◌∙◌, arith}
 use Rattle.std.specs.Prelude.{ℤ, pos, negsuc, ◌+ℤ◌, ◌-ℤ◌, ◌*ℤ◌, unsigned_abs}
 use Rattle.std.proofs.lemmas.Int.{int_rem_euclid_is, int_wrap_fits, to_z-of_z}
 use Rattle.std.specs.Prelude.{bit_and, bit_or, bit_xor, Bool, true, false, nat_lt, if◌then◌else◌, FitsSigned}
 use Rattle.std.proofs.Common.{lit≤, to_z, of_z}
 use Rattle.std.specs.Int.{w128, int_wrap, int_shr}
+use Rattle.std.specs.Int.Bits.{and_lt}
 use borrow.Author.Tests.{ltb-true, ltb-false}
-use Rattle.gg_bits.specs.declared.types.Kind.TheVariants.{SInt}
+use Rattle.gg_bits.specs.declared.types.Kind.{Kind}
+use Rattle.gg_bits.specs.declared.types.Kind.TheVariants.{UInt, SInt}
 use Rattle.std.proofs.lemmas.Nat.{pow_pos, pow-add, div-add-mod', and_mask, shr_high, shr_le, pow_below, shl_below, or_shifted, or_lt, xor_lt}
 use Rattle.std.proofs.lemmas.Bool.{cases_lt}
 use lib.Pow.{ones_split, ones_lt}
 use Rattle.std.proofs.Math.Nat.{mod-lt, mod-eq_of_lt, mul-le-mul_left, pow-le-pow_right, div-eq_of_lt}
+use Rattle.std.proofs.Math.Pow.{shr_lt}
 use Rattle.std.proofs.Math.IntN.{*ℤ_comm}
 use borrow.Author.Differences.{up, down, ints, same_in, same_out, sum_is_lem, product_is}
 use Rattle.gg_bits.specs.Value.{number_of, pattern_of}
@@ -161,24 +164,63 @@ number_of-abs w p some few h = by (nat_lt p (2 ^ (w - 1))) refl
 
 -- ---- bits
 
--- a pattern of at most 128 bits is below 2 ^ 128
-below_128 : (x w : ℕ) → w ≤ 128 → x < 2 ^ w → x < 2 ^ 128
-below_128 x w few h = let whole : 2 ^ w ≤ 2 ^ 128 = pow-le-pow_right (lit≤ tt) few in omega arith
+-- a pattern has no bit beyond a wider width
+pub below_wider : (x v w : ℕ) → v ≤ w → x < 2 ^ v → x < 2 ^ w
+below_wider x v w longer h = let whole : 2 ^ v ≤ 2 ^ w = pow-le-pow_right (lit≤ tt) longer in omega arith
 
--- the pattern of two patterns that have at most 128 bits together, one above the other
-pub joined_pattern : (a b v w : ℕ) → a < 2 ^ v → b < 2 ^ w → v + w ≤ 128 → bit_or (a * 2 ^ w % 2 ^ 128) b ≡ pattern_of 128 (pos (a * 2 ^ w + b))
+-- the pattern of two patterns, one above the other
+pub joined_pattern : (a b v w : ℕ) → a < 2 ^ v → b < 2 ^ w → v + w ≤ 128 → bit_or (a * 2 ^ w % 2 ^ 128) b ≡ pattern_of (v + w) (pos (a * 2 ^ w + b))
 joined_pattern a b v w h k few =
     let above : a * 2 ^ w < 2 ^ (v + w) = shl_below a v w h in
-    let whole : 2 ^ (v + w) ≤ 2 ^ 128 = pow-le-pow_right (lit≤ tt) few in
-    let fits : a * 2 ^ w < 2 ^ 128 = omega arith in
+    let fits : a * 2 ^ w < 2 ^ 128 = below_wider (a * 2 ^ w) (v + w) 128 few above in
     let is : bit_or (a * 2 ^ w) b ≡ a * 2 ^ w + b = or_shifted a w b k in
-    let some : bit_or (a * 2 ^ w) b < 2 ^ 128 = or_lt 128 (a * 2 ^ w) b fits (below_128 b w (omega arith) k) in
-    ap (λ x. bit_or x b) (mod-eq_of_lt fits) ∙ is ∙ sym (pattern_of-pos 128 (a * 2 ^ w + b) (rw (← is) some))
+    let some : bit_or (a * 2 ^ w) b < 2 ^ (v + w) = or_lt (v + w) (a * 2 ^ w) b above (below_wider b w (v + w) (omega arith) k) in
+    ap (λ x. bit_or x b) (mod-eq_of_lt fits) ∙ is ∙ sym (pattern_of-pos (v + w) (a * 2 ^ w + b) (rw (← is) some))
 
--- or and exclusive or on patterns of at most 128 bits
-module _ (w r s x y : ℕ) (few : w ≤ 128) (h : r < 2 ^ w) (k : s < 2 ^ w) (p : r ≡ x) (q : s ≡ y) where
-  pub or_pattern : bit_or r s ≡ pattern_of 128 (pos (bit_or x y))
-  or_pattern = sym (mod-eq_of_lt (below_128 (bit_or r s) w few (or_lt w r s h k))) ∙ ap (λ z. z % 2 ^ 128) (ap₂ bit_or p q)
+-- and, or and exclusive or on patterns of w bits
+module _ (w r s x y : ℕ) (h : r < 2 ^ w) (k : s < 2 ^ w) (p : r ≡ x) (q : s ≡ y) where
+  pub and_pattern : bit_and r s ≡ pattern_of w (pos (bit_and x y))
+  and_pattern = sym (pattern_of-pos w (bit_and r s) (and_lt w r s h k)) ∙ ap (λ z. z % 2 ^ w) (ap₂ bit_and p q)
 
-  pub xor_pattern : bit_xor r s ≡ pattern_of 128 (pos (bit_xor x y))
-  xor_pattern = sym (mod-eq_of_lt (below_128 (bit_xor r s) w few (xor_lt w r s h k))) ∙ ap (λ z. z % 2 ^ 128) (ap₂ bit_xor p q)
+  pub or_pattern : bit_or r s ≡ pattern_of w (pos (bit_or x y))
+  or_pattern = sym (pattern_of-pos w (bit_or r s) (or_lt w r s h k)) ∙ ap (λ z. z % 2 ^ w) (ap₂ bit_or p q)
+
+  pub xor_pattern : bit_xor r s ≡ pattern_of w (pos (bit_xor x y))
+  xor_pattern = sym (pattern_of-pos w (bit_xor r s) (xor_lt w r s h k)) ∙ ap (λ z. z % 2 ^ w) (ap₂ bit_xor p q)
+
+-- ---- patterns that stay as they are
+
+-- the pattern of a number is below 2 ^ w
+pub pattern_of-lt : (w : ℕ) (z : ℤ) → pattern_of w z < 2 ^ w
+pattern_of-lt w (pos n) = mod-lt n (pow_pos w)
+pattern_of-lt w (negsuc n) = let small = mod-lt n (pow_pos w) in omega arith
+
+-- a natural of v bits is its own pattern in w bits
+pub pattern_of-wider : (v w n : ℕ) → v ≤ w → n < 2 ^ v → n ≡ pattern_of w (pos n)
+pattern_of-wider v w n longer h = sym (pattern_of-pos w n (below_wider n v w longer h))
+
+-- the number of a pattern has that pattern in the same width
+pub pattern_of-number : (kind : Kind) (w p : ℕ) → p < 2 ^ w → p ≡ pattern_of w (number_of kind w p)
+pattern_of-number UInt w p h = sym (pattern_of-pos w p h)
+pattern_of-number SInt w p h = by (nat_lt p (2 ^ (w - 1)))
+  where
+    by : (t : Bool) → p ≡ pattern_of w (if t then pos p else (pos p -ℤ pos (2 ^ w)))
+    by true = sym (pattern_of-pos w p h)
+    by false = sym (pattern_of-pos w p h) ∙ same_pattern w (pos p) (pos p -ℤ pos (2 ^ w)) 0 1 (omega (arith, ints))
+
+-- the number of a UInt has its pattern in each width from its own on
+pub uint_extended : (kind : Kind) (v w n : ℕ) → kind ≡ UInt → v ≤ w → n < 2 ^ v → n ≡ pattern_of w (number_of kind v n)
+uint_extended kind v w n is longer h = rw is (pattern_of-wider v w n longer h)
+
+-- and the number of either kind in its own
+pub same_extended : (kind : Kind) (v w n : ℕ) → v ≡ w → n < 2 ^ v → n ≡ pattern_of w (number_of kind v n)
+same_extended kind v w n same h = subst (λ w. n ≡ pattern_of w (number_of kind v n)) same (pattern_of-number kind v n h)
+
+-- low bits, and upper bits
+pub low_pattern : (a w k : ℕ) → w ≡ k → a % 2 ^ w ≡ pattern_of w (pos (a % 2 ^ k))
+low_pattern a w k e = subst (λ k. a % 2 ^ w ≡ pattern_of w (pos (a % 2 ^ k))) e (sym (pattern_of-pos w (a % 2 ^ w) (mod-lt a (pow_pos w))))
+
+pub head_pattern : (a v w n : ℕ) → w ≡ n → a < 2 ^ v → a / 2 ^ (v - n) ≡ pattern_of w (pos (a / 2 ^ (v - n)))
+head_pattern a v w n e h =
+    let upper : a / 2 ^ (v - n) < 2 ^ n = shr_lt n (v - n) (below_wider a v (n + (v - n)) (omega arith) h) in
+    sym (pattern_of-pos w (a / 2 ^ (v - n)) (subst (λ k. a / 2 ^ (v - n) < 2 ^ k) (sym e) upper))

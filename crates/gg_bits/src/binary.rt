@@ -1,5 +1,5 @@
 //! Operations on two values (FIRRTL Specification, "Primitive Operations").
-ghost use Rattle.std.specs.Prelude.{◌≡◌, ◌+◌, ◌-◌, ◌^◌, ◌≤◌, min, true, IsOk, IfOk};
+ghost use Rattle.std.specs.Prelude.{◌≡◌, ◌+◌, ◌-◌, ◌^◌, ◌≤◌, min, true, Ok, IsOk, IfOk};
 ghost use Rattle.gg_bits.specs.Value.{pattern_of};
 ghost use Rattle.gg_bits.specs.Shape.{shape, shape_of, Fits};
 ghost use Rattle.gg_bits.specs.ResultType.{kinds2, shape2, type2};
@@ -10,7 +10,7 @@ use crate::bitwise::{both, concatenate, differing, either};
 use crate::compare::{equal, less};
 use crate::judge::judge_width;
 use crate::ops::Op2;
-use crate::patterns::{bit, fit, wide};
+use crate::patterns::{bit, fit};
 use crate::shifts::{shift_left, shift_right};
 use crate::types::{Bad, Kind, Ty, Val};
 
@@ -40,7 +40,18 @@ pub fn apply2(op: Op2, ta: Ty, a: Val, tb: Ty, b: Val) -> Val
     ensures typed { IfOk (type2 op (shape ta) (shape tb)) (λ s. Fits s result.0) }
 {
     let (_, width) = kind_and_width2(op, ta, tb);
-    Val(fit(wide2(op, ta, a, tb, b), width))
+    Val(pattern2(op, width, ta, a, tb, b))
+}
+
+/// The operation's result, where its type is known.
+pub fn apply2_to(op: Op2, to: Ty, ta: Ty, a: Val, tb: Ty, b: Val) -> Val
+    requires accepted { type2 op (shape ta) (shape tb) ≡ Ok (shape to) }
+    requires first { Fits (shape ta) a.0 }
+    requires second { Fits (shape tb) b.0 }
+    ensures value { result.0 ≡ value2 op (shape ta) a.0 (shape tb) b.0 }
+    ensures typed { Fits (shape to) result.0 }
+{
+    Val(pattern2(op, to.width, ta, a, tb, b))
 }
 
 /// Whether the operation takes operands of these kinds.
@@ -87,32 +98,34 @@ pub fn shifted_width(width: u32, amount: u32) -> u32
     }
 }
 
-/// The pattern in 128 bits of the operation's meaning.
-fn wide2(op: Op2, ta: Ty, a: Val, tb: Ty, b: Val) -> u128
+/// The pattern of the operation's meaning, in the width of its result.
+fn pattern2(op: Op2, width: u32, ta: Ty, a: Val, tb: Ty, b: Val) -> u128
     requires kinds { kinds2 op (shape ta) (shape tb) ≡ true }
-    requires few { (shape2 op (shape ta) (shape tb)).width ≤ 128 }
+    requires width { width ≡ (shape2 op (shape ta) (shape tb)).width }
+    requires some { 1 ≤ width }
+    requires few { width ≤ 128 }
     requires first { Fits (shape ta) a.0 }
     requires second { Fits (shape tb) b.0 }
-    ensures { result ≡ pattern_of 128 (meaning2 op (shape ta) a.0 (shape tb) b.0) }
+    ensures { result ≡ pattern_of width (meaning2 op (shape ta) a.0 (shape tb) b.0) }
 {
     match op {
-        Op2::Add => sum(ta, a, tb, b),
-        Op2::Sub => difference(ta, a, tb, b),
-        Op2::Mul => product(ta, a, tb, b),
-        Op2::Div => quotient(ta, a, tb, b),
-        Op2::Rem => remainder(ta, a, tb, b),
+        Op2::Add => fit(sum(ta, a, tb, b), width),
+        Op2::Sub => fit(difference(ta, a, tb, b), width),
+        Op2::Mul => fit(product(ta, a, tb, b), width),
+        Op2::Div => fit(quotient(ta, a, tb, b), width),
+        Op2::Rem => fit(remainder(ta, a, tb, b), width),
         Op2::Lt => bit(less(ta, a, tb, b)),
         Op2::Leq => bit(!less(tb, b, ta, a)),
         Op2::Gt => bit(less(tb, b, ta, a)),
         Op2::Geq => bit(!less(ta, a, tb, b)),
         Op2::Eq => bit(equal(ta, a, tb, b)),
         Op2::Neq => bit(!equal(ta, a, tb, b)),
-        Op2::Dshl => shift_left(ta, a, b.0 as u32),
-        Op2::Dshr => shift_right(ta, a, b.0),
-        Op2::And => both(ta, a, tb, b),
-        Op2::Or => either(ta, a, tb, b),
-        Op2::Xor => differing(ta, a, tb, b),
+        Op2::Dshl => fit(shift_left(ta, a, b.0 as u32), width),
+        Op2::Dshr => fit(shift_right(ta, a, b.0), width),
+        Op2::And => both(width, ta, a, tb, b),
+        Op2::Or => either(width, ta, a, tb, b),
+        Op2::Xor => differing(width, ta, a, tb, b),
         Op2::Cat => concatenate(ta, a, tb, b),
-        Op2::Validif => wide(tb, b),
+        Op2::Validif => b.0,
     }
 }

@@ -25,12 +25,12 @@ mod spelling;
 mod types;
 mod unary;
 
-pub use binary::{apply2, result2, shifted_width};
+pub use binary::{apply2, apply2_to, result2, shifted_width};
 pub use choice::{mux, result_mux};
 pub use lists::{Ids, Items, Names};
 pub use name::Name;
 pub use ops::{Op1, Op2, OpN};
-pub use parametric::{apply_const, result_const};
+pub use parametric::{apply_const, apply_const_to, result_const};
 pub use patterns::extend;
 pub use types::{Bad, Kind, Ty, Val};
-pub use unary::{apply1, result1};
+pub use unary::{apply1, apply1_to, result1};

@@ -1,5 +1,5 @@
 //! Operations with parameters (FIRRTL Specification, "Primitive Operations").
-ghost use Rattle.std.specs.Prelude.{◌≡◌, ◌≤◌, min, true, IsOk, IfOk};
+ghost use Rattle.std.specs.Prelude.{◌≡◌, ◌≤◌, min, true, Ok, IsOk, IfOk};
 ghost use Rattle.gg_bits.specs.Value.{pattern_of};
 ghost use Rattle.gg_bits.specs.Shape.{shape, shape_of, Fits};
 ghost use Rattle.gg_bits.specs.ResultType.{params_const, shape_const, type_const};
@@ -7,7 +7,7 @@ ghost use Rattle.gg_bits.specs.Meaning.{meaning_const, value_const};
 
 use crate::judge::judge_width;
 use crate::ops::OpN;
-use crate::patterns::{fit, wide};
+use crate::patterns::{extend, fit};
 use crate::shifts::{shift_left, shift_right};
 use crate::types::{Bad, Kind, Ty, Val};
 
@@ -36,7 +36,17 @@ pub fn apply_const(op: OpN, ty: Ty, v: Val, n: u32, m: u32) -> Val
     ensures typed { IfOk (type_const op (shape ty) n m) (λ s. Fits s result.0) }
 {
     let (_, width) = kind_and_width_const(op, ty, n, m);
-    Val(fit(wide_const(op, ty, v, n, m), width))
+    Val(pattern_const(op, width, ty, v, n, m))
+}
+
+/// The operation's result, where its type is known.
+pub fn apply_const_to(op: OpN, to: Ty, ty: Ty, v: Val, n: u32, m: u32) -> Val
+    requires accepted { type_const op (shape ty) n m ≡ Ok (shape to) }
+    requires typed { Fits (shape ty) v.0 }
+    ensures value { result.0 ≡ value_const op (shape ty) v.0 n m }
+    ensures typed { Fits (shape to) result.0 }
+{
+    Val(pattern_const(op, to.width, ty, v, n, m))
 }
 
 /// Whether the bits that the parameters name exist.
@@ -66,20 +76,21 @@ fn kind_and_width_const(op: OpN, ty: Ty, n: u32, m: u32) -> (Kind, u32)
     }
 }
 
-/// The pattern in 128 bits of the operation's meaning.
-fn wide_const(op: OpN, ty: Ty, v: Val, n: u32, m: u32) -> u128
+/// The pattern of the operation's meaning, in the width of its result.
+fn pattern_const(op: OpN, width: u32, ty: Ty, v: Val, n: u32, m: u32) -> u128
     requires params { params_const op (shape ty) n m ≡ true }
-    requires some { 1 ≤ (shape_const op (shape ty) n m).width }
-    requires few { (shape_const op (shape ty) n m).width ≤ 128 }
+    requires width { width ≡ (shape_const op (shape ty) n m).width }
+    requires some { 1 ≤ width }
+    requires few { width ≤ 128 }
     requires typed { Fits (shape ty) v.0 }
-    ensures { result ≡ pattern_of 128 (meaning_const op (shape ty) v.0 n m) }
+    ensures { result ≡ pattern_of width (meaning_const op (shape ty) v.0 n m) }
 {
     match op {
-        OpN::Pad => wide(ty, v),
-        OpN::Shl => shift_left(ty, v, n),
-        OpN::Shr => shift_right(ty, v, u128::from(n)),
-        OpN::Bits => fit(v.0 >> m, n - m + 1),
+        OpN::Pad => extend(v, ty, width).0,
+        OpN::Shl => fit(shift_left(ty, v, n), width),
+        OpN::Shr => fit(shift_right(ty, v, u128::from(n)), width),
+        OpN::Bits => fit(v.0 >> m, width),
         OpN::Head => v.0 >> (ty.width - n),
-        OpN::Tail => fit(v.0, ty.width - n),
+        OpN::Tail => fit(v.0, width),
     }
 }

@@ -12,7 +12,11 @@ pub(crate) fn ones(width: u32) -> u128
     requires bounded { width ≤ 128 }
     ensures { result ≡ 2 ^ width - 1 }
 {
-    u128::MAX >> (128 - width)
+    if width <= 64 {
+        (u64::MAX >> (64 - width)) as u128
+    } else {
+        u128::MAX >> (128 - width)
+    }
 }
 
 /// The low `width` bits of `x`. From the pattern of a number in 128 bits this gives its pattern in `width` bits.
@@ -59,7 +63,11 @@ pub fn extend(v: Val, ty: Ty, width: u32) -> Val
     ensures value { result.0 ≡ extended (shape ty) width v.0 }
     ensures typed { result.0 < 2 ^ width }
 {
-    Val(fit(wide(ty, v), width))
+    match ty.kind {
+        Kind::UInt => v,
+        Kind::SInt if ty.width == width => v,
+        Kind::SInt => Val(fit(sign_extend(v.0, ty.width), width)),
+    }
 }
 
 /// The number that a value of an `SInt` type stands for.
@@ -73,7 +81,7 @@ pub(crate) fn signed_number(ty: Ty, v: Val) -> i128
 
 /// The one bit that stands for a truth value.
 pub(crate) fn bit(holds: bool) -> u128
-    ensures { result ≡ pattern_of 128 (truth holds) }
+    ensures { result ≡ pattern_of 1 (truth holds) }
 {
     if holds { 1 } else { 0 }
 }

@@ -1,5 +1,5 @@
 //! Operations on one value (FIRRTL Specification, "Primitive Operations").
-ghost use Rattle.std.specs.Prelude.{◌≡◌, ◌≤◌, neg_ℤ, IsOk, IfOk};
+ghost use Rattle.std.specs.Prelude.{◌≡◌, ◌≤◌, neg_ℤ, Ok, IsOk, IfOk};
 ghost use Rattle.gg_bits.specs.Value.{pattern_of};
 ghost use Rattle.gg_bits.specs.Shape.{shape, shape_of, number, Fits};
 ghost use Rattle.gg_bits.specs.ResultType.{shape1, type1};
@@ -7,7 +7,7 @@ ghost use Rattle.gg_bits.specs.Meaning.{meaning1, value1};
 
 use crate::judge::judge_width;
 use crate::ops::Op1;
-use crate::patterns::{bit, fit, ones, wide};
+use crate::patterns::{bit, extend, fit, ones, wide};
 use crate::types::{Bad, Kind, Ty, Val};
 
 /// The type of the operation's result. Operands of both kinds are allowed.
@@ -31,7 +31,17 @@ pub fn apply1(op: Op1, ty: Ty, v: Val) -> Val
     ensures typed { IfOk (type1 op (shape ty)) (λ s. Fits s result.0) }
 {
     let (_, width) = kind_and_width1(op, ty);
-    Val(fit(wide1(op, ty, v), width))
+    Val(pattern1(op, width, ty, v))
+}
+
+/// The operation's result, where its type is known.
+pub fn apply1_to(op: Op1, to: Ty, ty: Ty, v: Val) -> Val
+    requires accepted { type1 op (shape ty) ≡ Ok (shape to) }
+    requires typed { Fits (shape ty) v.0 }
+    ensures value { result.0 ≡ value1 op (shape ty) v.0 }
+    ensures typed { Fits (shape to) result.0 }
+{
+    Val(pattern1(op, to.width, ty, v))
 }
 
 /// The kind and the width of the result, before the width is checked.
@@ -52,15 +62,17 @@ fn kind_and_width1(op: Op1, ty: Ty) -> (Kind, u32)
     }
 }
 
-/// The pattern in 128 bits of the operation's meaning.
-fn wide1(op: Op1, ty: Ty, v: Val) -> u128
-    requires { Fits (shape ty) v.0 }
-    ensures { result ≡ pattern_of 128 (meaning1 op (shape ty) v.0) }
+/// The pattern of the operation's meaning, in the width of its result.
+fn pattern1(op: Op1, width: u32, ty: Ty, v: Val) -> u128
+    requires width { width ≡ (shape1 op (shape ty)).width }
+    requires few { width ≤ 128 }
+    requires typed { Fits (shape ty) v.0 }
+    ensures { result ≡ pattern_of width (meaning1 op (shape ty) v.0) }
 {
     match op {
         Op1::AsUInt | Op1::AsSInt => v.0,
-        Op1::Cvt => wide(ty, v),
-        Op1::Neg => negate(ty, v),
+        Op1::Cvt => extend(v, ty, width).0,
+        Op1::Neg => fit(negate(ty, v), width),
         Op1::Not => ones(ty.width) - v.0,
         Op1::Andr => bit(v.0 == ones(ty.width)),
         Op1::Orr => bit(v.0 != 0),

@@ -1,9 +1,7 @@
-use Rattle.std.proofs.Common.{arith}
 use Rattle.gg_bits.proofs.PatternLaws.{or_pattern}
 use Rattle.gg_bits.proofs.bitwise.either.Goals as goal
 
 pub returns : goal.returns
 returns c =
-    rw (← c.max-width.ensures)
-    (or_pattern c.max-width.result c.extend.result.0 c.extend-2.result.0 _ _ (omega arith)
-    c.extend.ensures.typed c.extend-2.ensures.typed c.extend.ensures.value c.extend-2.ensures.value)
+    or_pattern c.args.width c.extend_both.result.0.0 c.extend_both.result.1.0 _ _
+    c.extend_both.ensures.fits.0 c.extend_both.ensures.fits.1 c.extend_both.ensures.first c.extend_both.ensures.second
