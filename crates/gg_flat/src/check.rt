@@ -53,22 +53,22 @@ fn is_node(signals: &[Signal], nodes: &[Node], k: usize) -> bool
 {
     let ty = type_of(nodes, k);
     match op_of(nodes, k) {
-        Op::Ref(signal) => is_typed(signals, signal, ty),
-        Op::Literal(value) => fits(value, ty),
+        Op::Ref(signal) => is_typed(signals, *signal, ty),
+        Op::Literal(value) => fits(*value, ty),
         Op::One(op, i) => {
-            let i = i as usize;
-            i < k && results_in(result1(op, type_of(nodes, i)), ty)
+            let i = *i as usize;
+            i < k && results_in(result1(*op, type_of(nodes, i)), ty)
         }
         Op::Two(op, i, j) => {
-            let (i, j) = (i as usize, j as usize);
-            i < k && j < k && results_in(result2(op, type_of(nodes, i), type_of(nodes, j)), ty)
+            let (i, j) = (*i as usize, *j as usize);
+            i < k && j < k && results_in(result2(*op, type_of(nodes, i), type_of(nodes, j)), ty)
         }
         Op::Fix(op, i, n, m) => {
-            let i = i as usize;
-            i < k && results_in(result_const(op, type_of(nodes, i), n, m), ty)
+            let i = *i as usize;
+            i < k && results_in(result_const(*op, type_of(nodes, i), *n, *m), ty)
         }
         Op::Mux(c, i, j) => {
-            let (c, i, j) = (c as usize, i as usize, j as usize);
+            let (c, i, j) = (*c as usize, *i as usize, *j as usize);
             if c >= k || i >= k || j >= k {
                 return false;
             }

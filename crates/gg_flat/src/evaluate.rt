@@ -1,7 +1,7 @@
 //! The values of lines and drivers, computed without allocating.
-ghost use Rattle.std.specs.Prelude.{◌≡◌, ℕ, ◌<◌, ◌≤◌, ◌^◌, length, take};
+ghost use Rattle.std.specs.Prelude.{◌≡◌, ℕ, ◌<◌, ◌≤◌, ◌^◌, length};
 ghost use Rattle.gg_bits.specs.Shape.{shape, Fits};
-ghost use Rattle.gg_flat.specs.Line.{shape_at, value_at, shapes_of, op_at, HasShape, HasValue, IsLine, IsSource, op_value, node_values, line_shape, line_value, connected_value};
+ghost use Rattle.gg_flat.specs.Line.{shape_at, value_at, shapes_of, op_at, HasShape, HasValue, IsLine, IsSource, op_value, line_shape, line_value, connected_value};
 ghost use Rattle.gg_flat.specs.Settled.{HasSource, driver_value};
 ghost use Rattle.gg_flat.specs.Room.{line_length, register_length};
 ghost use Rattle.gg_flat.specs.WellFormed.{IsRegister};
@@ -11,7 +11,7 @@ use crate::clock::ticks;
 use crate::line::{Line, Node, Op};
 use crate::piece::{Driver, Register};
 use crate::state::State;
-use gg_bits::{Ty, Val, apply_const, apply1, apply2, extend, mux};
+use gg_bits::{Ty, Val, apply_const_to, apply1_to, apply2_to, extend, mux};
 
 // The type of a node.
 pub(crate) fn type_of(nodes: &[Node], i: usize) -> Ty
@@ -22,11 +22,11 @@ pub(crate) fn type_of(nodes: &[Node], i: usize) -> Ty
 }
 
 // The operation of a node.
-pub(crate) fn op_of(nodes: &[Node], k: usize) -> Op
+pub(crate) fn op_of(nodes: &[Node], k: usize) -> &Op
     requires { k < length nodes.now }
-    ensures { result ≡ op_at nodes.now k }
+    ensures { result.now ≡ op_at nodes.now k }
 {
-    nodes[k].op
+    &nodes[k].op
 }
 
 // The value of a node, given the values of the signals and of the nodes before it.
@@ -39,42 +39,59 @@ fn node_value(nodes: &[Node], k: usize, signals: &[u128], before: &[u128]) -> u1
     ensures fits { Fits (shape_at (shapes_of nodes.now) k) result }
 {
     match op_of(nodes, k) {
-        Op::Ref(signal) => signals[signal as usize],
+        Op::Ref(signal) => signals[*signal as usize],
         Op::Literal(value) => value.0,
-        Op::One(op, i) => apply1(op, type_of(nodes, i as usize), Val(before[i as usize])).0,
+        Op::One(op, i) => {
+            let i = *i as usize;
+            apply1_to(*op, type_of(nodes, k), type_of(nodes, i), Val(before[i])).0
+        }
         Op::Two(op, i, j) => {
-            let first = type_of(nodes, i as usize);
-            let second = type_of(nodes, j as usize);
-            let a = Val(before[i as usize]);
-            let b = Val(before[j as usize]);
-            apply2(op, first, a, second, b).0
+            let (i, j) = (*i as usize, *j as usize);
+            let (first, second) = (type_of(nodes, i), type_of(nodes, j));
+            let (a, b) = (Val(before[i]), Val(before[j]));
+            apply2_to(*op, type_of(nodes, k), first, a, second, b).0
         }
         Op::Fix(op, i, n, m) => {
-            let ty = type_of(nodes, i as usize);
-            let a = Val(before[i as usize]);
-            apply_const(op, ty, a, n, m).0
+            let i = *i as usize;
+            let (ty, a) = (type_of(nodes, i), Val(before[i]));
+            apply_const_to(*op, type_of(nodes, k), ty, a, *n, *m).0
         }
         Op::Mux(c, i, j) => {
-            let first = type_of(nodes, i as usize);
-            let second = type_of(nodes, j as usize);
-            let condition = Val(before[c as usize]);
-            let a = Val(before[i as usize]);
-            let b = Val(before[j as usize]);
-            mux(condition, first, a, second, b).0
+            let (i, j) = (*i as usize, *j as usize);
+            let (first, second) = (type_of(nodes, i), type_of(nodes, j));
+            let (a, b) = (Val(before[i]), Val(before[j]));
+            mux(Val(before[*c as usize]), first, a, second, b).0
         }
     }
 }
 
-// Computes the values of all nodes in order, into the scratch space.
-fn fill_nodes(nodes: &[Node], signals: &[u128], scratch: &mut [u128])
+// Computes the values of all nodes in order, into the scratch space. Returns the last one.
+#[inline(never)]
+fn fill_nodes(nodes: &[Node], signals: &[u128], scratch: &mut [u128]) -> u128
     requires line { IsLine (HasValue signals.now) nodes.now }
     requires room { length nodes.now ≤ length scratch.old }
-    ensures values { take (length nodes.now) scratch.new ≡ node_values signals.now (shapes_of nodes.now) nodes.now }
-    ensures fits { (i : ℕ) → i < length nodes.now → Fits (shape_at (shapes_of nodes.now) i) (value_at scratch.new i) }
+    ensures value { result ≡ line_value signals.now nodes.now }
+    ensures fits { Fits (line_shape nodes.now) result }
 {
+    let mut value = 0;
     for k in 0..nodes.len() {
-        let value = node_value(nodes, k, signals, scratch);
+        value = node_value(nodes, k, signals, scratch);
         scratch[k] = value;
+    }
+    value
+}
+
+// The value of a line's last node. Nothing is computed where this is a reference or a literal.
+fn last_value(nodes: &[Node], signals: &[u128], scratch: &mut [u128]) -> u128
+    requires line { IsLine (HasValue signals.now) nodes.now }
+    requires room { length nodes.now ≤ length scratch.old }
+    ensures value { result ≡ line_value signals.now nodes.now }
+    ensures fits { Fits (line_shape nodes.now) result }
+{
+    match op_of(nodes, nodes.len() - 1) {
+        Op::Ref(signal) => signals[*signal as usize],
+        Op::Literal(value) => value.0,
+        _ => fill_nodes(nodes, signals, scratch),
     }
 }
 
@@ -86,9 +103,7 @@ impl Line {
         ensures value { result ≡ line_value signals.now self.now }
         ensures fits { Fits (line_shape self.now) result }
     {
-        let nodes = self.as_slice();
-        fill_nodes(nodes, signals, scratch);
-        scratch[nodes.len() - 1]
+        last_value(self.as_slice(), signals, scratch)
     }
 
     /// What a sink of a type gets from the line: its value, extended to the sink's width by the line's own kind.

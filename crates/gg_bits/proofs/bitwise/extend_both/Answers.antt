@@ -13,6 +13,7 @@ returns-in-UInt-clause-second c =
     uint_extended c.args.tb.kind c.args.tb.width c.args.width c.args.b.0 (sym c.requires.kinds ∙ c.in-UInt.is) longer c.requires.second
 
 pub returns-in-UInt-clause-fits : goal.returns-in-UInt-clause-fits
-returns-in-UInt-clause-fits c =
-    (below_wider c.args.a.0 c.args.ta.width c.args.width (omega (arith, c.requires.width)) c.requires.first,
-    below_wider c.args.b.0 c.args.tb.width c.args.width (omega (arith, c.requires.width)) c.requires.second)
+returns-in-UInt-clause-fits c = (
+  below_wider c.args.a.0 c.args.ta.width c.args.width (omega (arith, c.requires.width)) c.requires.first,
+  below_wider c.args.b.0 c.args.tb.width c.args.width (omega (arith, c.requires.width)) c.requires.second,
+)
