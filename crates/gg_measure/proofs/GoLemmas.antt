@@ -128,7 +128,7 @@ module _ (flow : Flow) (net : Network) (kept : Kept flow net) where
 pub goes-none : (cycle : ℕ) (net : Network) → Goes cycle net false net
 goes-none cycle net = record { events = []; steps = refl; none = λ is. refl; some = λ is. absurd (true≢false (sym is)) }
 
-steps-then : (cycle : ℕ) (a b c : Network) (events more : List Event) → StepsBelow cycle a events b → StepsBelow cycle b more c → StepsBelow cycle a (events ++ more) c
+pub steps-then : (cycle : ℕ) (a b c : Network) (events more : List Event) → StepsBelow cycle a events b → StepsBelow cycle b more c → StepsBelow cycle a (events ++ more) c
 steps-then cycle a b c [] more steps later = subst (λ x. StepsBelow cycle x more c) steps later
 steps-then cycle a b c (event ∷ events) more steps later = (steps.0, steps.1, steps-then cycle steps.0 b c events more steps.2 later)
 

@@ -8,3 +8,5 @@ pub mod CountWays
 pub mod OrderLemmas
 pub mod FallLemmas
 pub mod AtLemmas
+mod SetLemmas
+mod FollowLemmas

@@ -70,7 +70,7 @@ module _ (flow : Flow) (cycle m count d : ℕ) (old net new : Network) (moved do
 
 -- ---- the numbers of ins and outs stay
 
-steps-frame : (cycle : ℕ) (a : Network) (events : List Event) (b : Network) → StepsBelow cycle a events b → frame_of b ≡ frame_of a
+pub steps-frame : (cycle : ℕ) (a : Network) (events : List Event) (b : Network) → StepsBelow cycle a events b → frame_of b ≡ frame_of a
 steps-frame cycle a [] b steps = ap frame_of steps
 steps-frame cycle a (event ∷ events) b steps = steps-frame cycle steps.0 events b steps.2 ∙ step-frame a event steps.0 steps.1.step
 

@@ -1,3 +1,4 @@
 pub mod Nets
 pub mod At
 pub mod Turns
+pub mod Sets

@@ -15,10 +15,17 @@
 //! - [`left`] returns the measure, and [`possible`] a step that may be done, as long as there is one;
 //! - [`run_to`] brings all machines to a cycle by steps of machines below it, and no count further. [`run_to_end`]
 //!   brings them to the end.
+//!
+//! Only `run_to` and `run_to_end` allocate: a schedule of what may have something to do, which they drop at the end. Where
+//! there is no memory for it, they do the same steps without one.
 #![tactic(auto)]
 
+mod follow;
 mod laws;
+mod making;
 mod run;
+mod schedule;
+mod set;
 mod tells;
 mod try_event;
 mod turn;

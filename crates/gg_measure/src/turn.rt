@@ -9,7 +9,7 @@ use gg_net::{Event, Net, Streams};
 use gg_node::Host;
 
 // Whether one of two is true.
-fn either(one: bool, other: bool) -> bool
+pub(crate) fn either(one: bool, other: bool) -> bool
     ensures { result ≡ (one || other) }
 {
     one || other
@@ -63,7 +63,7 @@ fn serve_next<H: Host, Z: Streams>(net: &mut Net<H, Z>, machine: u32, cycle: u64
 }
 
 // Serves the ports of a machine as long as that may be done. Returns whether it served any.
-fn serve_all<H: Host, Z: Streams>(net: &mut Net<H, Z>, machine: u32, cycle: u64) -> bool
+pub(crate) fn serve_all<H: Host, Z: Streams>(net: &mut Net<H, Z>, machine: u32, cycle: u64) -> bool
     requires { IsAtWork cycle machine net.old }
     ensures work { IsAtWork cycle machine net.new }
     ensures goes { Goes cycle net.old result net.new }

@@ -1,24 +1,21 @@
-use Rattle.std.proofs.Common.{◌||◌}
-use Rattle.gg_measure.proofs.GoLemmas.{goes-then}
-use Rattle.gg_measure.proofs.TurnLemmas.{run-ends, run-bounds, run-frame}
+use Rattle.gg_measure.proofs.FollowLemmas.{run-then, within-run, frame-run, end-run, above-run}
 use Rattle.gg_measure.proofs.run.run_to.Goals as goal
 
-pub loop-preserved : goal.loop-preserved
-loop-preserved g c =
-    record {
-      moved = c.loop.invariant.moved || c.go_round.result;
-      goes = goes-then c.args.cycle c.args.net.now c.loop.net c.go_round.new.net c.loop.invariant.moved c.go_round.result c.loop.invariant.goes c.go_round.ensures.round.goes;
-    }
+pub run_rounds-requires-clause-within : goal.run_rounds-requires-clause-within
+run_rounds-requires-clause-within g c κs within = end-run g.Z.Streams.flow c.args.cycle c.args.net.now c.follow.new.net c.kept.ensures c.follow.ensures c.requires.within
 
-pub returns-clause-there : goal.returns-clause-there
-returns-clause-there g c =
-    run-ends g.Z.Streams.flow c.args.cycle c.args.net.now c.loop.net c.go_round.new.net c.loop.invariant.moved c.go_round.result c.kept.ensures c.loop.invariant.goes c.go_round.ensures.round
-    c.if-not-go_round.true c.kept-2.ensures c.requires.within c.requires.none_above
+pub run_rounds-requires-clause-none_above : goal.run_rounds-requires-clause-none_above
+run_rounds-requires-clause-none_above g c κs within = above-run g.Z.Streams.flow c.args.cycle c.args.net.now c.follow.new.net c.kept.ensures c.follow.ensures c.requires.none_above
+
+pub returns-clause-steps : goal.returns-clause-steps
+returns-clause-steps g c = run-then c.args.cycle c.args.net.now c.follow.new.net c.run_rounds.new.net c.follow.ensures c.run_rounds.ensures.steps
 
 pub returns-clause-bounds : goal.returns-clause-bounds
 returns-clause-bounds g c =
-    run-bounds g.Z.Streams.flow c.args.cycle c.args.net.now c.loop.net c.go_round.new.net c.loop.invariant.moved c.go_round.result c.kept.ensures c.loop.invariant.goes c.go_round.ensures.round
+    within-run g.Z.Streams.flow c.args.cycle c.args.net.now c.run_rounds.new.net c.kept.ensures
+    (run-then c.args.cycle c.args.net.now c.follow.new.net c.run_rounds.new.net c.follow.ensures c.run_rounds.ensures.steps)
 
 pub returns-clause-frame : goal.returns-clause-frame
 returns-clause-frame g c =
-    run-frame g.Z.Streams.flow c.args.cycle c.args.net.now c.loop.net c.go_round.new.net c.loop.invariant.moved c.go_round.result c.kept.ensures c.loop.invariant.goes c.go_round.ensures.round
+    frame-run g.Z.Streams.flow c.args.cycle c.args.net.now c.run_rounds.new.net c.kept.ensures
+    (run-then c.args.cycle c.args.net.now c.follow.new.net c.run_rounds.new.net c.follow.ensures c.run_rounds.ensures.steps)

@@ -1,6 +1,6 @@
 use Rattle.std.proofs.Common.{Bool}
 use Rattle.gg_measure.specs.Nets.{Goes, net_left}
-use Rattle.gg_measure.proofs.run.run_to.Given as goal
+use Rattle.gg_measure.proofs.run.run_rounds.Given as goal
 
 abbrev pub invariant-loop : goal.invariant-loop
 invariant-loop g l = record { moved : Bool; goes : Goes l.cycle l.initial.net moved l.net }
