@@ -113,8 +113,9 @@ impl Line {
         ensures value { result ≡ connected_value signals.now (shape sink) self.now }
         ensures fits { Fits (shape sink) result }
     {
-        let value = self.value(signals, scratch);
-        extend(Val(value), self.ty(), sink.width).0
+        let nodes = self.as_slice();
+        let value = last_value(nodes, signals, scratch);
+        extend(Val(value), type_of(nodes, nodes.len() - 1), sink.width).0
     }
 
     // The type of the result.
