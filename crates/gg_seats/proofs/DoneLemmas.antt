@@ -1,86 +1,91 @@
--- Whether a row, or a pass, has done anything.
-use Rattle.std.proofs.Common.{◌≡◌, ◌||◌, ℕ, suc, ◌<◌, List, Option, None, Some, Bool, true, false, length, refl, sym, ap, subst, ◌∙◌, arith, get_or-set_same, true≢false}
-use Rattle.std.specs.Prelude.{IsSome, slice_set}
+-- Whether a try, a row of tries or a pass has done a step.
+use Rattle.std.proofs.Common.{◌≡◌, ◌||◌, ◌+◌, ◌*◌, ℕ, suc, ◌<◌, ◌≤◌, List, Option, None, Some, Bool, true, false, length, sym, ap, subst, ◌∙◌, arith, length-set, get_or-set_same}
+use Rattle.std.specs.Prelude.{cond, is_some, count_by, replicate, slice_set}
+use Rattle.std.proofs.Math.Nat.{mul-suc}
+use Rattle.std.proofs.lemmas.List.{length-replicate}
+use Rattle.std.proofs.lemmas.List.Sums.{sum_by-set, count_by-le-length}
+use Rattle.gg_flat.specs.State.{State}
 use Rattle.gg_link.specs.Seats.{SeatState}
 use Rattle.gg_node.specs.Machine.{Machine, no_machine, machine_at, latch_at, flag_at}
-use Rattle.gg_node.specs.Step.{with_latch, with_flag}
-use Rattle.gg_net.specs.Network.{wire_at, given_by, got_by, Frame}
-use Rattle.gg_net.specs.Parted.{takes_by}
-use Rattle.gg_net.proofs.LatchLemmas.{latch-grows}
-use Rattle.gg_seats.specs.Tries.{LatchTried, FireTried}
-use Rattle.gg_seats.specs.Rows.{LatchesDone, FiresDone}
-use Rattle.gg_seats.specs.Pass.{puts_by}
-use Rattle.gg_seats.proofs.FireLemmas.{flag-grows}
+use Rattle.gg_node.specs.Step.{with_latch, with_flag, with_served, finished}
+use Rattle.gg_seats.specs.Tries.{LatchTried, FireTried, ServeTried, FinishTried}
+use Rattle.gg_seats.specs.Rows.{steps_by, StepsDone}
 
--- ---- one more try
+-- ---- one step
+
+one-more : (p f s k n : ℕ) → n ≡ suc k → p + (n + f + s) ≡ suc (p + (k + f + s))
+one-more p f s k n is = omega (arith, is)
+
+one-more-flag : (p l s k n : ℕ) → n ≡ suc k → p + (l + n + s) ≡ suc (p + (l + k + s))
+one-more-flag p l s k n is = omega (arith, is)
+
+latch-counts : (x : Machine) (place value : ℕ) → place < length x.latches → latch_at x.latches place ≡ None → steps_by (with_latch x place value) ≡ suc (steps_by x)
+latch-counts x place value inside empty =
+    let f : Option ℕ → ℕ = λ latch. cond (is_some latch) 1 0 in
+    let latches : List (Option ℕ) = slice_set x.latches place (Some value) in
+    let more : count_by is_some latches ≡ suc (count_by is_some x.latches) = omega (arith, sum_by-set f x.latches place (Some value) None inside, ap f empty) in
+    ap (λ n. (n + length x.flags + length x.ports + 1) * x.cycle + (count_by is_some latches + count_by (λ flag. flag) x.flags + x.served)) (length-set x.latches place (Some value))
+    ∙ one-more ((length x.latches + length x.flags + length x.ports + 1) * x.cycle) (count_by (λ flag. flag) x.flags) x.served (count_by is_some x.latches) (count_by is_some latches) more
+
+fire-counts : (x : Machine) (place : ℕ) → place < length x.flags → flag_at x.flags place ≡ false → steps_by (with_flag x place) ≡ suc (steps_by x)
+fire-counts x place inside clear =
+    let f : Bool → ℕ = λ flag. cond flag 1 0 in
+    let flags : List Bool = slice_set x.flags place true in
+    let more : count_by (λ flag. flag) flags ≡ suc (count_by (λ flag. flag) x.flags) = omega (arith, sum_by-set f x.flags place true false inside, ap f clear) in
+    ap (λ n. (length x.latches + n + length x.ports + 1) * x.cycle + (count_by is_some x.latches + count_by (λ flag. flag) flags + x.served)) (length-set x.flags place true)
+    ∙ one-more-flag ((length x.latches + length x.flags + length x.ports + 1) * x.cycle) (count_by is_some x.latches) x.served (count_by (λ flag. flag) x.flags) (count_by (λ flag. flag) flags) more
+
+past : (n c k j : ℕ) → k < n → n * c + k < n * suc c + j
+past n c k j lt = omega (arith, lt, mul-suc n c)
+
+finish-counts : (x : Machine) (next : State) → x.served ≤ length x.ports → steps_by x < steps_by (finished x next)
+finish-counts x next served =
+    let latches : List (Option ℕ) = replicate (length x.latches) None in
+    let flags : List Bool = replicate (length x.flags) false in
+    let n : ℕ = length x.latches + length x.flags + length x.ports + 1 in
+    let k : ℕ = count_by is_some x.latches + count_by (λ flag. flag) x.flags + x.served in
+    let j : ℕ = count_by is_some latches + count_by (λ flag. flag) flags + 0 in
+    let same : length latches + length flags + length x.ports + 1 ≡ length x.latches + length x.flags + length x.ports + 1 = omega (arith, length-replicate {A = Option ℕ} (length x.latches) None, length-replicate (length x.flags) false) in
+    subst (λ m. steps_by x < m * suc x.cycle + (count_by is_some latches + count_by (λ flag. flag) flags + 0)) (sym same)
+    (past n x.cycle k j (omega (arith, served, count_by-le-length is_some x.latches, count_by-le-length (λ (flag : Bool). flag) x.flags)))
+
+-- ---- a try
 
 -- the machine of a thread after a step of it
 stepped-is : (hosts after : List Machine) (thread : ℕ) (y : Machine) → thread < length hosts → after ≡ slice_set hosts thread y → machine_at after thread ≡ y
 stepped-is hosts after thread y within step = ap (λ all. machine_at all thread) step ∙ get_or-set_same hosts thread y no_machine within
 
-module _ (first hosts after : List Machine) (thread place upto : ℕ) (p q : SeatState) (within : thread < length hosts) where
-  latched-now : LatchTried hosts thread place upto p after q true → place < length (machine_at hosts thread).latches → IsSome (latch_at (machine_at after thread).latches place)
-  latched-now t inside =
-      let y : Machine = machine_at hosts thread in
-      subst IsSome (sym (ap (λ (z : Machine). latch_at z.latches place) (stepped-is hosts after thread (with_latch y place t.value) within t.step) ∙ get_or-set_same y.latches place (Some t.value) None inside)) refl
+stepped-more : (hosts after : List Machine) (thread : ℕ) (y : Machine) → thread < length hosts → after ≡ slice_set hosts thread y → steps_by (machine_at hosts thread) < steps_by y → StepsDone hosts thread after true
+stepped-more hosts after thread y within step more = subst (λ (z : Machine). steps_by (machine_at hosts thread) < steps_by z) (sym (stepped-is hosts after thread y within step)) more
 
-  latch-stays : (i : ℕ) (b : Bool) → LatchTried hosts thread place upto p after q b → place < length (machine_at hosts thread).latches → IsSome (latch_at (machine_at hosts thread).latches i) → IsSome (latch_at (machine_at after thread).latches i)
-  latch-stays i false t inside some = subst (λ all. IsSome (latch_at (machine_at all thread).latches i)) (sym t.same) some
-  latch-stays i true t inside some =
-      let y : Machine = machine_at hosts thread in
-      subst (λ (z : Machine). IsSome (latch_at z.latches i)) (sym (stepped-is hosts after thread (with_latch y place t.value) within t.step)) (latch-grows y.latches place t.value i inside some)
+less-than-next : (a b : ℕ) → b ≡ suc a → a < b
+less-than-next a b is = omega (arith, is)
 
-  fired-now : FireTried hosts thread place upto p after q true → place < length (machine_at hosts thread).flags → flag_at (machine_at after thread).flags place ≡ true
-  fired-now t inside =
-      let y : Machine = machine_at hosts thread in
-      ap (λ (z : Machine). flag_at z.flags place) (stepped-is hosts after thread (with_flag y place) within t.step) ∙ get_or-set_same y.flags place true false inside
+module _ (hosts after : List Machine) (thread : ℕ) (within : thread < length hosts) where
+  abbrev x : Machine
+  x = machine_at hosts thread
 
-  flag-stays : (o : ℕ) (b : Bool) → FireTried hosts thread place upto p after q b → place < length (machine_at hosts thread).flags → flag_at (machine_at hosts thread).flags o ≡ true → flag_at (machine_at after thread).flags o ≡ true
-  flag-stays o false t inside set = ap (λ all. flag_at (machine_at all thread).flags o) t.same ∙ set
-  flag-stays o true t inside set =
-      let y : Machine = machine_at hosts thread in
-      ap (λ (z : Machine). flag_at z.flags o) (stepped-is hosts after thread (with_flag y place) within t.step) ∙ flag-grows y.flags place o inside set
+  pub latch-done : (place : ℕ) (p q : SeatState) (b : Bool) → place < length (machine_at hosts thread).latches → LatchTried hosts thread place p after q b → StepsDone hosts thread after b
+  latch-done place p q true inside t = stepped-more hosts after thread (with_latch x place t.value) within t.step (less-than-next (steps_by x) (steps_by (with_latch x place t.value)) (latch-counts x place t.value inside t.empty))
+  latch-done place p q false inside t = t.same
 
-  module _ (long : length (machine_at hosts thread).latches ≡ length (machine_at first thread).latches) (inside : place < length (machine_at first thread).latches) where
-    pub latch-done : (b done : Bool) → LatchesDone first thread hosts b → LatchTried hosts thread place upto p after q done → LatchesDone first thread after (b || done)
-    latch-done false false h t = t.same ∙ h
-    latch-done false true h t =
-        record {
-          place = place;
-          within = inside;
-          empty = ap (λ all. latch_at (machine_at all thread).latches place) (sym h) ∙ t.empty;
-          full = latched-now t (omega (arith, inside, long));
-        }
-    latch-done true done h t = record { place = h.place; within = h.within; empty = h.empty; full = latch-stays h.place done t (omega (arith, inside, long)) h.full }
+  pub fire-done : (place : ℕ) (p q : SeatState) (b : Bool) → place < length (machine_at hosts thread).flags → FireTried hosts thread place p after q b → StepsDone hosts thread after b
+  fire-done place p q true inside t = stepped-more hosts after thread (with_flag x place) within t.step (less-than-next (steps_by x) (steps_by (with_flag x place)) (fire-counts x place inside t.clear))
+  fire-done place p q false inside t = t.same
 
-  module _ (long : length (machine_at hosts thread).flags ≡ length (machine_at first thread).flags) (inside : place < length (machine_at first thread).flags) where
-    pub fire-done : (b done : Bool) → FiresDone first thread hosts b → FireTried hosts thread place upto p after q done → FiresDone first thread after (b || done)
-    fire-done false false h t = t.same ∙ h
-    fire-done false true h t =
-        record {
-          out = place;
-          within = inside;
-          clear = ap (λ all. flag_at (machine_at all thread).flags place) (sym h) ∙ t.clear;
-          set = fired-now t (omega (arith, inside, long));
-        }
-    fire-done true done h t = record { out = h.out; within = h.within; clear = h.clear; set = flag-stays h.out done t (omega (arith, inside, long)) h.set }
+  pub serve-done : (b : Bool) → ServeTried hosts thread after b → StepsDone hosts thread after b
+  serve-done true t = stepped-more hosts after thread (with_served x) within t.step (omega arith)
+  serve-done false t = t.same
 
--- ---- the pass
+  pub finish-done : (b : Bool) → (machine_at hosts thread).served ≤ length (machine_at hosts thread).ports → FinishTried hosts thread after b → StepsDone hosts thread after b
+  finish-done true served t = stepped-more hosts after thread (finished x t.state) within t.step (finish-counts x t.state served)
+  finish-done false served t = t.same
 
-got-more : (n : ℕ) (old new : Option ℕ) → old ≡ None → IsSome new → got_by n old < got_by n new
-got-more n old None none some = absurd (true≢false (sym some))
-got-more n old (Some value) none some = subst (λ latch. got_by n latch < suc n) (sym none) (omega arith)
+-- ---- several
 
-given-more : (n : ℕ) (old new : Bool) → old ≡ false → new ≡ true → given_by n old < given_by n new
-given-more n old new clear set = subst (λ flag. given_by n flag < given_by n new) (sym clear) (subst (λ flag. n < given_by n flag) (sym set) (omega arith))
-
--- an in that got its token took it from its channel, and an out that gave its token put it into its channel
-pub took-one : (frame : Frame) (x y : Machine) (c place : ℕ) → (wire_at frame.wires c).place ≡ place → y.cycle ≡ x.cycle → latch_at x.latches place ≡ None → IsSome (latch_at y.latches place) → takes_by frame x c < takes_by frame y c
-took-one frame x y c place is cycle empty full =
-    let more : got_by x.cycle (latch_at x.latches place) < got_by x.cycle (latch_at y.latches place) = got-more x.cycle (latch_at x.latches place) (latch_at y.latches place) empty full in
-    subst (λ i. got_by x.cycle (latch_at x.latches i) < got_by y.cycle (latch_at y.latches i)) (sym is) (subst (λ n. got_by x.cycle (latch_at x.latches place) < got_by n (latch_at y.latches place)) (sym cycle) more)
-
-pub put-one : (frame : Frame) (x y : Machine) (c out : ℕ) → (wire_at frame.wires c).out ≡ out → y.cycle ≡ x.cycle → flag_at x.flags out ≡ false → flag_at y.flags out ≡ true → puts_by frame x c < puts_by frame y c
-put-one frame x y c out is cycle clear set =
-    let more : given_by x.cycle (flag_at x.flags out) < given_by x.cycle (flag_at y.flags out) = given-more x.cycle (flag_at x.flags out) (flag_at y.flags out) clear set in
-    subst (λ o. given_by x.cycle (flag_at x.flags o) < given_by y.cycle (flag_at y.flags o)) (sym is) (subst (λ n. given_by x.cycle (flag_at x.flags out) < given_by n (flag_at y.flags out)) (sym cycle) more)
+-- steps, or none, after others
+pub done-more : (first hosts after : List Machine) (thread : ℕ) (b done : Bool) → StepsDone first thread hosts b → StepsDone hosts thread after done → StepsDone first thread after (b || done)
+done-more first hosts after thread false false h t = t ∙ h
+done-more first hosts after thread false true h t = subst (λ all. steps_by (machine_at all thread) < steps_by (machine_at after thread)) h t
+done-more first hosts after thread true false h t = subst (λ all. steps_by (machine_at first thread) < steps_by (machine_at all thread)) (sym t) h
+done-more first hosts after thread true true h t = omega (arith, h, t)

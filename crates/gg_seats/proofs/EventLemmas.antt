@@ -10,7 +10,7 @@ use Rattle.gg_net.specs.Step.{CanLatch, CanFire}
 use Rattle.gg_net.specs.Kept.{Kept}
 use Rattle.gg_net.specs.Net.{IsListed}
 use Rattle.gg_net.specs.Parted.{takes_by}
-use Rattle.gg_seats.specs.Tries.{StandsBelow, MayServeBelow, MayFinishBelow}
+use Rattle.gg_seats.specs.Tries.{StandsBelow, ServeIsDue, FinishIsDue}
 use Rattle.gg_seats.specs.Pass.{puts_by, serves_by, MachineWentOn, IsDesk, IsNewDesk, KnownDone, EventsDone}
 use Rattle.gg_seats.proofs.AllLemmas.{in-listed, out-listed}
 
@@ -70,8 +70,8 @@ module _ {X S T : Type 0} (takes_from : X → S → Type 0) (puts_into : X → T
         fire = fire-done;
         serve = λ p can below.
             subst (λ (z : Machine). length z.ports * z.cycle + z.served < serves_by y) new.machine
-            (known.serve p (subst (λ z. MayServeBelow upto z p) (sym new.machine) (record { going = below; fired = can.fired; due = can.due; fields = can.fields })));
+            (known.serve p (going below) (subst (λ z. ServeIsDue z p) (sym new.machine) (record { fired = can.fired; due = can.due; fields = can.fields })));
         finish = λ can below.
             subst (λ (z : Machine). z.cycle < y.cycle) new.machine
-            (known.finish (subst (MayFinishBelow upto) (sym new.machine) (record { going = below; fired = can.fired; served = can.served; latched = can.latched })));
+            (known.finish (going below) (subst FinishIsDue (sym new.machine) (record { fired = can.fired; served = can.served; latched = can.latched })));
       }

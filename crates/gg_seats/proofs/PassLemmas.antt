@@ -1,5 +1,5 @@
 -- A pass over one machine: its row of latches, its row of fires, its serves, and the end of its cycle.
-use Rattle.std.proofs.Common.{◌≡◌, ◌≢◌, ◌+◌, ◌*◌, ℕ, ◌<◌, ◌≤◌, List, Option, None, Bool, true, false, length, map, refl, sym, ap, subst, ◌∙◌, arith, get_or-set_same, ◌||◌, true≢false}
+use Rattle.std.proofs.Common.{◌≡◌, ◌≢◌, ◌+◌, ◌*◌, ℕ, ◌<◌, ◌≤◌, List, Option, None, Bool, true, false, length, map, refl, sym, ap, subst, ◌∙◌, arith, get_or-set_same}
 use Rattle.std.specs.Prelude.{All, IsSome, slice_index_or, slice_get}
 use Rattle.std.proofs.lemmas.List.{get_or_default}
 use Rattle.gg_flat.specs.Line.{value_at}
@@ -21,10 +21,9 @@ use Rattle.gg_net.proofs.StepLemmas.{all-served}
 use Rattle.gg_net.proofs.MachineLemmas.{own_finish}
 use Rattle.gg_net.proofs.PartLemmas.{takes-finish, enters-finish}
 use Rattle.gg_seats.specs.Seats.{SeatCounts}
-use Rattle.gg_seats.specs.Tries.{StandsBelow, MayServeBelow, MayFinishBelow, FinishTried}
-use Rattle.gg_seats.specs.Rows.{SeatsByPlace, AreIns, AreOuts, LatchesTried, FiresTried, ServesTried, NoneServes, HasLatchedOne, HasFiredOne, LatchesDone, FiresDone, ServesDone}
-use Rattle.gg_seats.specs.Pass.{puts_by, serves_by, MachineWentOn, IsDesk, KnownDone, PassDone}
-use Rattle.gg_seats.proofs.DoneLemmas.{took-one, put-one}
+use Rattle.gg_seats.specs.Tries.{StandsBelow, ServeIsDue, FinishIsDue, FinishTried}
+use Rattle.gg_seats.specs.Rows.{SeatsByPlace, AreIns, AreOuts, LatchesTried, FiresTried, ServesTried, NoneServes}
+use Rattle.gg_seats.specs.Pass.{puts_by, serves_by, MachineWentOn, IsDesk, KnownDone}
 use Rattle.gg_seats.proofs.WentLemmas.{enters-puts, went-further, went-latches, went-fires, went-serves, went-finish, went-nowhere}
 
 -- ---- what stays possible while tokens are latched and given
@@ -67,14 +66,14 @@ record Ended (flow : Flow) (frame : Frame) (m upto : ℕ) (x y : Machine) : Type
   went_on : MachineWentOn frame m upto x y
   takes : (c : ℕ) → c < length frame.wires → (wire_at frame.wires c).consumer ≡ m → takes_by frame y c ≡ takes_by frame x c
   enters : (c : ℕ) → c < length frame.wires → (wire_at frame.wires c).producer ≡ m → enters_by frame y c ≡ enters_by frame x c
-  finish : MayFinishBelow upto x → x.cycle < y.cycle
+  finish : FinishIsDue x → x.cycle < y.cycle
 
 module _ {X S T : Type 0} (takes_from : X → S → Type 0) (puts_into : X → T → Type 0) (taking : S → SeatState) (putting : T → SeatState) (flow : Flow) (net : Network) (kept : Kept flow net) (links : List X) (m : ℕ) (there : m < length (map kind_of net.machines)) (upto : ℕ) (few : upto ≤ net.end) (ins outs : List ℕ)
     (x : Machine) (take_seats : List S) (put_seats : List T) (desk : IsDesk takes_from puts_into taking putting flow net links m ins outs x take_seats put_seats)
     (into : AreIns net m x ins) (from : AreOuts net m x outs) (below : StandsBelow upto x)
-    (x1 : Machine) (take_seats1 : List S) (latches : LatchesTried takes_from taking flow net m upto links ins (length ins) x take_seats x1 take_seats1)
-    (x2 : Machine) (put_seats1 : List T) (fires : FiresTried puts_into putting flow net m upto links outs (length outs) x1 put_seats x2 put_seats1)
-    (x3 : Machine) (serves : ServesTried flow net m x2 x3) (none : NoneServes upto x3) where
+    (x1 : Machine) (take_seats1 : List S) (latches : LatchesTried takes_from taking flow net m links ins (length ins) x take_seats x1 take_seats1)
+    (x2 : Machine) (put_seats1 : List T) (fires : FiresTried puts_into putting flow net m links outs (length outs) x1 put_seats x2 put_seats1)
+    (x3 : Machine) (serves : ServesTried flow net m x2 x3) (none : NoneServes x3) where
   abbrev frame : Frame
   frame = frame_of net
 
@@ -103,10 +102,9 @@ module _ {X S T : Type 0} (takes_from : X → S → Type 0) (puts_into : X → T
   went13 = went-further frame m upto x1 x2 x3 went2 went3
 
   -- what may be finished before the pass still may before the end of the cycle
-  serve-still : (p : ℕ) → MayServeBelow upto x p → MayServeBelow upto x2 p
+  serve-still : (p : ℕ) → ServeIsDue x p → ServeIsDue x2 p
   serve-still p may =
       record {
-        going = below2;
         fired = all-fired may.fired;
         due = ap due fires.same ∙ ap due latches.same ∙ may.due;
         fields = fields-still may.fields;
@@ -124,14 +122,13 @@ module _ {X S T : Type 0} (takes_from : X → S → Type 0) (puts_into : X → T
           ∙ ap (first_empty x1.latches) (ap due_fields fires.same ∙ ap due_fields latches.same)
           ∙ one
 
-  pub finish-still : MayFinishBelow upto x → MayFinishBelow upto x3
+  pub finish-still : FinishIsDue x → FinishIsDue x3
   finish-still may =
       let due2 : due x2 ≡ None = ap due fires.same ∙ ap due latches.same ∙ may.served in
       let whole : x2.served ≡ length x2.ports = all-served x2.ports x2.served any_port fires.machine.served due2 in
       let ports3 : x3.ports ≡ x2.ports = ap (λ (z : Machine). z.ports) serves.same in
       let same3 : x3.served ≡ x2.served = omega (arith, whole, serves.grows, serves.machine.served, ap (λ (ports : List Port). length ports) ports3) in
       record {
-        going = below3;
         fired = subst (λ (flags : List Bool). All (λ flag. flag ≡ true) flags) (sym (ap (λ (z : Machine). z.flags) serves.same))
             (still-fired x1.flags x2.flags (ap (λ (k : Kind). k.outs) (kind-of x2 fires.machine ∙ sym (kind-of x1 latches.machine))) fires.grows
             (subst (λ (flags : List Bool). All (λ flag. flag ≡ true) flags) (sym (ap (λ (z : Machine). z.flags) latches.same)) may.fired));
@@ -142,7 +139,7 @@ module _ {X S T : Type 0} (takes_from : X → S → Type 0) (puts_into : X → T
 
   -- ---- the end of the cycle
 
-  ended-not : (MayFinishBelow upto x3 → ⊥) → Ended flow frame m upto x3 x3
+  ended-not : (FinishIsDue x3 → ⊥) → Ended flow frame m upto x3 x3
   ended-not cause =
       record {
         machine = serves.machine;
@@ -152,7 +149,7 @@ module _ {X S T : Type 0} (takes_from : X → S → Type 0) (puts_into : X → T
         finish = λ may. absurd (cause may);
       }
 
-  ended-so : (next : State) → MayFinishBelow upto x3 → IsNextState x3 next → Ended flow frame m upto x3 (finished x3 next)
+  ended-so : (next : State) → FinishIsDue x3 → IsNextState x3 next → Ended flow frame m upto x3 (finished x3 next)
   ended-so next whole goes =
       let count : x3.served ≡ length x3.ports = all-served x3.ports x3.served any_port serves.machine.served whole.served in
       let own : MachineAt flow frame m (finished x3 next) = own_finish flow frame kept.sound m there x3 serves.machine next (omega (arith, below3, few)) whole.latched count goes in
@@ -164,17 +161,17 @@ module _ {X S T : Type 0} (takes_from : X → S → Type 0) (puts_into : X → T
         finish = λ may. omega arith;
       }
 
-  ended-by : (hosts after : List Machine) (thread : ℕ) → thread < length hosts → machine_at hosts thread ≡ x3 → (b : Bool) → FinishTried hosts thread upto after b → Ended flow frame m upto x3 (machine_at after thread)
+  ended-by : (hosts after : List Machine) (thread : ℕ) → thread < length hosts → machine_at hosts thread ≡ x3 → (b : Bool) → FinishTried hosts thread after b → Ended flow frame m upto x3 (machine_at after thread)
   ended-by hosts after thread here is false t =
-      subst (Ended flow frame m upto x3) (sym (ap (λ all. machine_at all thread) t.same ∙ is)) (ended-not (λ may. t.cause (subst (MayFinishBelow upto) (sym is) may)))
+      subst (Ended flow frame m upto x3) (sym (ap (λ all. machine_at all thread) t.same ∙ is)) (ended-not (λ may. t.cause (subst FinishIsDue (sym is) may)))
   ended-by hosts after thread here is true t =
       subst (Ended flow frame m upto x3)
       (sym (ap (λ all. machine_at all thread) t.step ∙ get_or-set_same hosts thread (finished (machine_at hosts thread) t.state) no_machine here ∙ ap (λ z. finished z t.state) is))
-      (ended-so t.state (subst (MayFinishBelow upto) is t.whole) (subst (λ z. IsNextState z t.state) is t.is))
+      (ended-so t.state (subst FinishIsDue is t.whole) (subst (λ z. IsNextState z t.state) is t.is))
 
   -- ---- the whole pass
 
-  module _ (hosts after : List Machine) (thread : ℕ) (here : thread < length hosts) (is : machine_at hosts thread ≡ x3) (b : Bool) (t : FinishTried hosts thread upto after b) where
+  module _ (hosts after : List Machine) (thread : ℕ) (here : thread < length hosts) (is : machine_at hosts thread ≡ x3) (b : Bool) (t : FinishTried hosts thread after b) where
     abbrev y : Machine
     y = machine_at after thread
 
@@ -201,7 +198,7 @@ module _ {X S T : Type 0} (takes_from : X → S → Type 0) (puts_into : X → T
           latch = λ k s lt going empty seen.
               let c : ℕ = value_at ins k in
               let up : takes_by frame x c < takes_by frame x1 c =
-              count-up flow net c (takes_by frame x c) (takes_by frame x1 c) (taking (slice_index_or take_seats k s)) (taking (slice_index_or take_seats1 k s)) (desk.takes.counts k s lt) (latches.placed.counts k s lt) (latches.done k s lt lt going empty seen) in
+              count-up flow net c (takes_by frame x c) (takes_by frame x1 c) (taking (slice_index_or take_seats k s)) (taking (slice_index_or take_seats1 k s)) (desk.takes.counts k s lt) (latches.placed.counts k s lt) (latches.done k s lt lt empty seen) in
               omega (arith, up, (rest.takes c (into.at k lt).known (into.at k lt).machine).up);
           fire = λ k s lt going clear needed room.
               let c : ℕ = value_at outs k in
@@ -211,24 +208,23 @@ module _ {X S T : Type 0} (takes_from : X → S → Type 0) (puts_into : X → T
               ∙ still-filled x.latches x1.latches (needs_at x.needs k) latches.grows needed in
               let same : enters_by frame x1 c ≡ enters_by frame x c = ap (λ z. enters_by frame z c) latches.same in
               let up : enters_by frame x c < enters_by frame x2 c =
-              count-up flow net c (enters_by frame x c) (enters_by frame x2 c) (putting (slice_index_or put_seats k s)) (putting (slice_index_or put_seats1 k s)) (desk.puts.counts k s lt) (fires.placed.counts k s lt) (fires.done k s lt lt below1 flag none room) in
+              count-up flow net c (enters_by frame x c) (enters_by frame x2 c) (putting (slice_index_or put_seats k s)) (putting (slice_index_or put_seats1 k s)) (desk.puts.counts k s lt) (fires.placed.counts k s lt) (fires.done k s lt lt flag none room) in
               let more : puts_by frame x c < puts_by frame x2 c = enters-puts (wire_at frame.wires c).first (puts_by frame x c) (puts_by frame x2 c) up in
               omega (arith, more, (went3.puts c (from.at k lt).known (from.at k lt).machine).up, (ended.went_on.puts c (from.at k lt).known (from.at k lt).machine).up);
-          serve = λ p may.
-              let port : MayServeBelow upto x2 p = serve-still p may in
+          serve = λ p going may.
+              let port : ServeIsDue x2 p = serve-still p may in
               let apart : x3.served ≢ x2.served = λ same. none p (serve-again p port same) in
               let is2 : serves_by x2 ≡ serves_by x = ap serves_by fires.same ∙ ap serves_by latches.same in
               let is3 : serves_by x3 ≡ length x2.ports * x2.cycle + x3.served = ap serves_by serves.same in
               omega (arith, is2, is3, apart, serves.grows, ended.went_on.serves.up);
-          finish = λ may. omega (arith, ended.finish (finish-still may), went1.cycle.up, went13.cycle.up);
+          finish = λ going may. omega (arith, ended.finish (finish-still may), went1.cycle.up, went13.cycle.up);
         }
       where
-        serve-again : (p : ℕ) → MayServeBelow upto x2 p → x3.served ≡ x2.served → MayServeBelow upto x3 p
+        serve-again : (p : ℕ) → ServeIsDue x2 p → x3.served ≡ x2.served → ServeIsDue x3 p
         serve-again p port same =
             let ports3 : x3.ports ≡ x2.ports = ap (λ (z : Machine). z.ports) serves.same in
             let latches3 : x3.latches ≡ x2.latches = ap (λ (z : Machine). z.latches) serves.same in
             record {
-              going = below3;
               fired = subst (λ (flags : List Bool). All (λ flag. flag ≡ true) flags) (sym (ap (λ (z : Machine). z.flags) serves.same)) port.fired;
               due = ap (λ (ps : List Port). port_number (slice_get ps x3.served)) ports3 ∙ ap (λ n. port_number (slice_get x2.ports n)) same ∙ port.due;
               fields =
@@ -238,52 +234,6 @@ module _ {X S T : Type 0} (takes_from : X → S → Type 0) (puts_into : X → T
                   ∙ port.fields;
             }
 
-    finished-up : (b : Bool) → FinishTried hosts thread upto after b → b ≡ true → x3.cycle < y.cycle
-    finished-up false t set = absurd (true≢false (sym set))
-    finished-up true t set =
-        omega (
-          arith,
-          ap (λ (all : List Machine). (machine_at all thread).cycle) t.step ∙ ap (λ (z : Machine). z.cycle) (get_or-set_same hosts thread (finished (machine_at hosts thread) t.state) no_machine here),
-          ap (λ (z : Machine). z.cycle) is,
-        )
-
-    module _ (first hosts1 hosts2 : List Machine) (is0 : machine_at first thread ≡ x) (is1 : machine_at hosts1 thread ≡ x1) (is2 : machine_at hosts2 thread ≡ x2) where
-      after-latch : HasLatchedOne x x1 → y ≡ x → ⊥
-      after-latch one same =
-          let lt : one.place < length ins = omega (arith, one.within, into.count) in
-          let c : ℕ = value_at ins one.place in
-          let up : takes_by frame x c < takes_by frame x1 c = took-one frame x x1 c one.place (into.at one.place lt).place (ap (λ (z : Machine). z.cycle) latches.same) one.empty one.full in
-          omega (arith, up, (went13.takes c (into.at one.place lt).known (into.at one.place lt).machine).up, (ended.went_on.takes c (into.at one.place lt).known (into.at one.place lt).machine).up, ap (λ z. takes_by frame z c) same)
-
-      after-fire : HasFiredOne x1 x2 → y ≡ x → ⊥
-      after-fire one same =
-          let lt : one.out < length outs = omega (arith, one.within, from.count, ap (λ (k : Kind). k.outs) (kind-of x1 latches.machine)) in
-          let c : ℕ = value_at outs one.out in
-          let up : puts_by frame x1 c < puts_by frame x2 c = put-one frame x1 x2 c one.out (from.at one.out lt).out (ap (λ (z : Machine). z.cycle) fires.same) one.clear one.set in
-          omega (
-            arith,
-            up,
-            (went1.puts c (from.at one.out lt).known (from.at one.out lt).machine).up,
-            (went3.puts c (from.at one.out lt).known (from.at one.out lt).machine).up,
-            (ended.went_on.puts c (from.at one.out lt).known (from.at one.out lt).machine).up,
-            ap (λ z. puts_by frame z c) same,
-          )
-
-      after-serve : x2.served < x3.served → y ≡ x → ⊥
-      after-serve lt same =
-          let is3 : serves_by x3 ≡ length x2.ports * x2.cycle + x3.served = ap serves_by serves.same in
-          omega (arith, lt, is3, went1.serves.up, went2.serves.up, ended.went_on.serves.up, ap serves_by same)
-
-      after-finish : x3.cycle < y.cycle → y ≡ x → ⊥
-      after-finish lt same = omega (arith, lt, went1.cycle.up, went13.cycle.up, ap (λ (z : Machine). z.cycle) same)
-
-      pub pass-moved : (b1 b2 b3 b4 : Bool) → LatchesDone first thread hosts1 b1 → FiresDone hosts1 thread hosts2 b2 → ServesDone hosts2 thread hosts b3 → FinishTried hosts thread upto after b4 → PassDone first thread after ((b1 || b2) || (b3 || b4))
-      pass-moved true b2 b3 b4 h1 h2 h3 h4 = λ same. after-latch (subst (λ z. HasLatchedOne z x1) is0 (subst (HasLatchedOne (machine_at first thread)) is1 h1)) (same ∙ is0)
-      pass-moved false true b3 b4 h1 h2 h3 h4 = λ same. after-fire (subst (λ z. HasFiredOne z x2) is1 (subst (HasFiredOne (machine_at hosts1 thread)) is2 h2)) (same ∙ is0)
-      pass-moved false false true b4 h1 h2 h3 h4 = λ same. after-serve (omega (arith, h3, ap (λ (z : Machine). z.served) is2, ap (λ (z : Machine). z.served) is)) (same ∙ is0)
-      pass-moved false false false true h1 h2 h3 h4 = λ same. after-finish (finished-up true h4 refl) (same ∙ is0)
-      pass-moved false false false false h1 h2 h3 h4 = h4.same ∙ h3 ∙ h2 ∙ h1
-
 -- ---- a pass of a machine that isn't below the cycle
 
 -- Nothing was done, and nothing could be.
@@ -292,6 +242,6 @@ idle-done taking putting frame upto ins outs x take_seats put_seats le =
     record {
       latch = λ k s lt going empty seen. absurd (omega (arith, going, le));
       fire = λ k s lt going clear needed room. absurd (omega (arith, going, le));
-      serve = λ p may. absurd (omega (arith, may.going, le));
-      finish = λ may. absurd (omega (arith, may.going, le));
+      serve = λ p going may. absurd (omega (arith, going, le));
+      finish = λ going may. absurd (omega (arith, going, le));
     }

@@ -16,7 +16,7 @@ use Rattle.gg_net.proofs.LatchLemmas.{latch-grows}
 use Rattle.gg_net.proofs.MachineLemmas.{own_latch}
 use Rattle.gg_net.proofs.PartLemmas.{own-may-latch, takes-latch, takes-latch-other}
 use Rattle.gg_seats.specs.Seats.{SeatCounts}
-use Rattle.gg_seats.specs.Tries.{StandsBelow, LatchTried}
+use Rattle.gg_seats.specs.Tries.{LatchTried}
 use Rattle.gg_seats.specs.Rows.{SeatsByPlace, with_latches, LatchesTried, AreIns}
 
 -- a fact about each place, once one was written
@@ -43,8 +43,8 @@ placed-set {X = X} {S = S} of part flow net f g links channels seats n q link h 
           (λ other. subst (λ c. SeatCounts flow net (value_at channels k) c (part (slice_index_or seats k s))) (sym (others k lt other)) (h.counts k s lt));
     }
 
-module _ {X S : Type 0} (of : X → S → Type 0) (part : S → SeatState) (flow : Flow) (net : Network) (kept : Kept flow net) (m : ℕ) (below : m < length (map kind_of net.machines)) (upto : ℕ) (few : upto ≤ net.end) (links : List X) (ins : List ℕ) (x0 : Machine) (are : AreIns net m x0 ins) where
-  pub latches-start : (x : Machine) (seats : List S) → MachineAt flow (frame_of net) m x → SeatsByPlace of part flow net (takes_by (frame_of net) x) links ins seats → LatchesTried of part flow net m upto links ins 0 x seats x seats
+module _ {X S : Type 0} (of : X → S → Type 0) (part : S → SeatState) (flow : Flow) (net : Network) (kept : Kept flow net) (m : ℕ) (below : m < length (map kind_of net.machines)) (links : List X) (ins : List ℕ) (x0 : Machine) (are : AreIns net m x0 ins) where
+  pub latches-start : (x : Machine) (seats : List S) → MachineAt flow (frame_of net) m x → SeatsByPlace of part flow net (takes_by (frame_of net) x) links ins seats → LatchesTried of part flow net m links ins 0 x seats x seats
   latches-start x seats own placed =
       record {
         machine = own;
@@ -56,9 +56,12 @@ module _ {X S : Type 0} (of : X → S → Type 0) (part : S → SeatState) (flow
         untried = λ k s le. (refl, refl);
       }
 
-  module _ (n : ℕ) (x : Machine) (old : List S) (y : Machine) (new : List S) (h : LatchesTried of part flow net m upto links ins n x old y new) (inside : n < length ins) (p : S) (was : p ≡ slice_index_or new n p) where
+  module _ (n : ℕ) (x : Machine) (old : List S) (y : Machine) (new : List S) (h : LatchesTried of part flow net m links ins n x old y new) (going : x.cycle < net.end) (inside : n < length ins) (p : S) (was : p ≡ slice_index_or new n p) where
     abbrev c : ℕ
     c = value_at ins n
+
+    goes : y.cycle < net.end
+    goes = subst (λ t. t < net.end) (sym (ap (λ (z : Machine). z.cycle) h.same)) going
 
     at : IsAtIn net.wires m n c
     at = are.at n inside
@@ -80,23 +83,22 @@ module _ {X S : Type 0} (of : X → S → Type 0) (part : S → SeatState) (flow
         ∙ get_or-drop (takes net c) (list_at flow.lists c) (part p).count 0
         ∙ ap (value_at (list_at flow.lists c)) (counts.count ∙ ap (got_by y.cycle) (empty-here none))
 
-    pub may-take : (value : ℕ) → StandsBelow upto y → latch_at y.latches n ≡ None → slice_get (part p).stream (part p).count ≡ Some value → MayLatch y n value
-    may-take value going none token =
+    pub may-take : (value : ℕ) → latch_at y.latches n ≡ None → slice_get (part p).stream (part p).count ≡ Some value → MayLatch y n value
+    may-take value none token =
         subst (λ i. MayLatch y i value) at.place
-        (own-may-latch flow (frame_of net) kept.sound m below y h.machine c value at.known at.machine (omega (arith, going, few)) (empty-here none) (token-is value none token))
+        (own-may-latch flow (frame_of net) kept.sound m below y h.machine c value at.known at.machine goes (empty-here none) (token-is value none token))
 
     module _ (q : S) (link : X) (there : slice_get links c ≡ Some link) (mine : of link q) (long : n < length new) where
       other-place : (k : ℕ) → k < length ins → k ≢ n → value_at ins k ≢ c
       other-place k lt other same = other (sym (are.at k lt).place ∙ ap (λ d. (wire_at net.wires d).place) same ∙ at.place)
 
-      latched-yes : (value : ℕ) → StandsBelow upto y → latch_at y.latches n ≡ None → slice_get (part p).stream (part p).count ≡ Some value → Counted (part p) (part q) → LatchesTried of part flow net m upto links ins (suc n) x old (with_latch y n value) (slice_set new n q)
-      latched-yes value going none token counted =
+      latched-yes : (value : ℕ) → latch_at y.latches n ≡ None → slice_get (part p).stream (part p).count ≡ Some value → Counted (part p) (part q) → LatchesTried of part flow net m links ins (suc n) x old (with_latch y n value) (slice_set new n q)
+      latched-yes value none token counted =
           let i : ℕ = (wire_at net.wires c).place in
-          let lt : y.cycle < net.end = omega (arith, going, few) in
-          let within : n < length y.latches = (may-take value going none token).there in
+          let within : n < length y.latches = (may-take value none token).there in
           let own : MachineAt flow (frame_of net) m (with_latch y n value) =
           subst (λ j. MachineAt flow (frame_of net) m (with_latch y j value)) at.place
-          (own_latch flow (frame_of net) kept.sound m below y h.machine c value at.known at.machine lt (empty-here none) (token-is value none token)) in
+          (own_latch flow (frame_of net) kept.sound m below y h.machine c value at.known at.machine goes (empty-here none) (token-is value none token)) in
           let more : takes_by (frame_of net) (with_latch y n value) c ≡ suc (takes_by (frame_of net) y c) =
           subst (λ j. takes_by (frame_of net) (with_latch y j value) c ≡ suc (takes_by (frame_of net) y c)) at.place
           (takes-latch flow (frame_of net) kept.sound m below y h.machine c value at.known at.machine (empty-here none)) in
@@ -113,44 +115,43 @@ module _ {X S : Type 0} (of : X → S → Type 0) (part : S → SeatState) (flow
             no_less = λ k s less. set-cases (λ j u. (part (slice_index_or old j s)).count ≤ (part u).count) new n q long k s
                 (λ is. omega (arith, counted.count, ap (λ u. (part u).count) (old-is s long)))
                 (λ other. h.no_less k s less);
-            done = λ k s less known goes. set-cases (λ j u. latch_at x.latches j ≡ None → (part (slice_index_or old j s)).count < (part (slice_index_or old j s)).seen → (part (slice_index_or old j s)).count < (part u).count) new n q long k s
+            done = λ k s less known. set-cases (λ j u. latch_at x.latches j ≡ None → (part (slice_index_or old j s)).count < (part (slice_index_or old j s)).seen → (part (slice_index_or old j s)).count < (part u).count) new n q long k s
                 (λ is free seen. omega (arith, counted.count, ap (λ u. (part u).count) (old-is s long)))
-                (λ other. h.done k s (omega (arith, less, other)) known goes);
+                (λ other. h.done k s (omega (arith, less, other)) known);
             untried = λ k s le.
                 let other : k ≢ n = λ same. omega (arith, le, same) in
                 (get_or-set_other new n k q s other ∙ (h.untried k s (omega (arith, le))).0, get_or-set_other y.latches n k (Some value) None other ∙ (h.untried k s (omega (arith, le))).1);
           }
 
-      latched-no : SeatWentOn (part p) (part q) → (part q).count ≡ (part p).count → (StandsBelow upto y → latch_at y.latches n ≡ None → (part q).seen ≡ (part q).count) → LatchesTried of part flow net m upto links ins (suc n) x old y (slice_set new n q)
-      latched-no goes count cause =
+      latched-no : SeatWentOn (part p) (part q) → (part q).count ≡ (part p).count → (latch_at y.latches n ≡ None → (part q).seen ≡ (part q).count) → LatchesTried of part flow net m links ins (suc n) x old y (slice_set new n q)
+      latched-no went count cause =
           record {
             machine = h.machine;
             placed = placed-set of part flow net (takes_by (frame_of net) y) (takes_by (frame_of net) y) links ins new n q link h.placed inside there mine
-                (record { stream = goes.stream ∙ counts.stream; capacity = goes.capacity ∙ counts.capacity; count = omega (arith, count, counts.count) })
+                (record { stream = went.stream ∙ counts.stream; capacity = went.capacity ∙ counts.capacity; count = omega (arith, count, counts.count) })
                 (λ k less other. refl);
             same = h.same;
             grows = h.grows;
             no_less = λ k s less. set-cases (λ j u. (part (slice_index_or old j s)).count ≤ (part u).count) new n q long k s
                 (λ is. omega (arith, count, ap (λ u. (part u).count) (old-is s long)))
                 (λ other. h.no_less k s less);
-            done = λ k s less known to. set-cases (λ j u. latch_at x.latches j ≡ None → (part (slice_index_or old j s)).count < (part (slice_index_or old j s)).seen → (part (slice_index_or old j s)).count < (part u).count) new n q long k s
+            done = λ k s less known. set-cases (λ j u. latch_at x.latches j ≡ None → (part (slice_index_or old j s)).count < (part (slice_index_or old j s)).seen → (part (slice_index_or old j s)).count < (part u).count) new n q long k s
                 (λ is free seen.
-                let low : StandsBelow upto y = subst (λ t. t < upto) (sym (ap (λ (z : Machine). z.cycle) h.same)) to in
-                let all : (part q).seen ≡ (part q).count = cause low ((h.untried n s (omega arith)).1 ∙ free) in
-                absurd (omega (arith, all, count, goes.seen, seen, ap (λ u. (part u).count) (old-is s long), ap (λ u. (part u).seen) (old-is s long))))
-                (λ other. h.done k s (omega (arith, less, other)) known to);
+                let all : (part q).seen ≡ (part q).count = cause ((h.untried n s (omega arith)).1 ∙ free) in
+                absurd (omega (arith, all, count, went.seen, seen, ap (λ u. (part u).count) (old-is s long), ap (λ u. (part u).seen) (old-is s long))))
+                (λ other. h.done k s (omega (arith, less, other)) known);
             untried = λ k s le. let other : k ≢ n = λ same. omega (arith, le, same) in (get_or-set_other new n k q s other ∙ (h.untried k s (omega (arith, le))).0, (h.untried k s (omega (arith, le))).1);
           }
 
       -- after one more try, whatever came of it
-      pub latch-step : (hosts after : List Machine) (thread : ℕ) → machine_at hosts thread ≡ y → thread < length hosts → (b : Bool) → LatchTried hosts thread n upto (part p) after (part q) b → LatchesTried of part flow net m upto links ins (suc n) x old (machine_at after thread) (slice_set new n q)
+      pub latch-step : (hosts after : List Machine) (thread : ℕ) → machine_at hosts thread ≡ y → thread < length hosts → (b : Bool) → LatchTried hosts thread n (part p) after (part q) b → LatchesTried of part flow net m links ins (suc n) x old (machine_at after thread) (slice_set new n q)
       latch-step hosts after thread is within true t =
           let next : machine_at after thread ≡ with_latch y n t.value = ap (λ all. machine_at all thread) t.step ∙ get_or-set_same hosts thread (with_latch (machine_at hosts thread) n t.value) no_machine within ∙ ap (λ z. with_latch z n t.value) is in
-          subst (λ z. LatchesTried of part flow net m upto links ins (suc n) x old z (slice_set new n q)) (sym next)
-          (latched-yes t.value (subst (StandsBelow upto) is t.going) (subst (λ (z : Machine). latch_at z.latches n ≡ None) is t.empty) t.token t.counted)
+          subst (λ z. LatchesTried of part flow net m links ins (suc n) x old z (slice_set new n q)) (sym next)
+          (latched-yes t.value (subst (λ (z : Machine). latch_at z.latches n ≡ None) is t.empty) t.token t.counted)
       latch-step hosts after thread is within false t =
-          subst (λ z. LatchesTried of part flow net m upto links ins (suc n) x old z (slice_set new n q)) (sym (ap (λ all. machine_at all thread) t.same ∙ is))
-          (latched-no t.went_on t.count (λ going none. t.cause (subst (StandsBelow upto) (sym is) going) (subst (λ (z : Machine). latch_at z.latches n ≡ None) (sym is) none)))
+          subst (λ z. LatchesTried of part flow net m links ins (suc n) x old z (slice_set new n q)) (sym (ap (λ all. machine_at all thread) t.same ∙ is))
+          (latched-no t.went_on t.count (λ none. t.cause (subst (λ (z : Machine). latch_at z.latches n ≡ None) (sym is) none)))
 
 -- ---- one thread of a host
 
@@ -169,9 +170,9 @@ alone-more first hosts after thread z within alone step =
     let here : machine_at after thread ≡ z = ap (λ all. machine_at all thread) last ∙ get_or-set_same first thread z no_machine within in
     last ∙ ap (slice_set first thread) (sym here)
 
-pub alone-latch : (first hosts after : List Machine) (thread place upto : ℕ) (p q : SeatState) → thread < length first → hosts ≡ slice_set first thread (machine_at hosts thread) → (b : Bool) → LatchTried hosts thread place upto p after q b → after ≡ slice_set first thread (machine_at after thread)
-alone-latch first hosts after thread place upto p q within alone true t = alone-more first hosts after thread (with_latch (machine_at hosts thread) place t.value) within alone t.step
-alone-latch first hosts after thread place upto p q within alone false t = subst (λ all. all ≡ slice_set first thread (machine_at all thread)) (sym t.same) alone
+pub alone-latch : (first hosts after : List Machine) (thread place : ℕ) (p q : SeatState) → thread < length first → hosts ≡ slice_set first thread (machine_at hosts thread) → (b : Bool) → LatchTried hosts thread place p after q b → after ≡ slice_set first thread (machine_at after thread)
+alone-latch first hosts after thread place p q within alone true t = alone-more first hosts after thread (with_latch (machine_at hosts thread) place t.value) within alone t.step
+alone-latch first hosts after thread place p q within alone false t = subst (λ all. all ≡ slice_set first thread (machine_at all thread)) (sym t.same) alone
 
 pub alone-within : (first hosts : List Machine) (thread : ℕ) → thread < length first → hosts ≡ slice_set first thread (machine_at hosts thread) → thread < length hosts
 alone-within first hosts thread within alone = omega (arith, within, ap length alone, length-set first thread (machine_at hosts thread))

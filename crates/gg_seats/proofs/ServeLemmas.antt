@@ -1,5 +1,5 @@
 -- One try in a row of tries: a serve. And the end of a cycle.
-use Rattle.std.proofs.Common.{◌≡◌, ℕ, suc, ◌<◌, ◌≤◌, List, Bool, true, false, length, map, refl, sym, ap, subst, ◌∙◌, arith, get_or-set_same}
+use Rattle.std.proofs.Common.{◌≡◌, ℕ, suc, ◌<◌, List, Bool, true, false, length, map, refl, sym, ap, subst, ◌∙◌, arith, get_or-set_same}
 use Rattle.std.specs.Prelude.{All, slice_set}
 use Rattle.std.proofs.lemmas.List.{get_or-map, length-map}
 use Rattle.gg_flat.specs.Streams.{Flow}
@@ -12,7 +12,7 @@ use Rattle.gg_net.specs.Net.{entry_of}
 use Rattle.gg_net.proofs.PortLemmas.{any_port}
 use Rattle.gg_net.proofs.MachineLemmas.{own_serve}
 use Rattle.gg_net.proofs.PartLemmas.{own-may-serve, own-may-finish}
-use Rattle.gg_seats.specs.Tries.{MayServeBelow, ServeTried, MayFinishBelow, FinishTried}
+use Rattle.gg_seats.specs.Tries.{ServeIsDue, ServeTried, FinishIsDue, FinishTried}
 use Rattle.gg_seats.specs.Rows.{with_serves, ServesTried}
 use Rattle.gg_seats.proofs.RowLemmas.{alone-more}
 
@@ -26,39 +26,39 @@ fields-within flow frame sound m below x at ports are =
     let within : k < length x.ports = omega (arith, lt, length-map x.ports entry_of) in
     subst (λ (port : ServedPort). All (λ i. i < length x.latches) port.fields) (sym (get_or-map entry_of x.ports k any_port d within)) (fields k any_port within))
 
-module _ (flow : Flow) (net : Network) (kept : Kept flow net) (m : ℕ) (below : m < length (map kind_of net.machines)) (upto : ℕ) (few : upto ≤ net.end) where
-  pub may-serve : (x : Machine) → MachineAt flow (frame_of net) m x → (p : ℕ) → MayServeBelow upto x p → MayServe x p
+module _ (flow : Flow) (net : Network) (kept : Kept flow net) (m : ℕ) (below : m < length (map kind_of net.machines)) where
+  pub may-serve : (x : Machine) → MachineAt flow (frame_of net) m x → (p : ℕ) → ServeIsDue x p → MayServe x p
   may-serve x own p may = own-may-serve flow (frame_of net) kept.sound m below x own p may.fired may.due may.fields
 
-  pub may-finish : (x : Machine) → MachineAt flow (frame_of net) m x → MayFinishBelow upto x → MayFinish x
-  may-finish x own may = own-may-finish flow (frame_of net) kept.sound m below x own (omega (arith, may.going, few)) may.fired may.served may.latched
+  pub may-finish : (x : Machine) → MachineAt flow (frame_of net) m x → x.cycle < net.end → FinishIsDue x → MayFinish x
+  may-finish x own going may = own-may-finish flow (frame_of net) kept.sound m below x own going may.fired may.served may.latched
 
   pub serves-start : (x : Machine) → MachineAt flow (frame_of net) m x → ServesTried flow net m x x
   serves-start x own = record { machine = own; same = refl; grows = omega arith }
 
   -- after one more port was served
-  served-yes : (x y : Machine) (p : ℕ) → ServesTried flow net m x y → MayServeBelow upto y p → ServesTried flow net m x (with_served y)
-  served-yes x y p h may =
+  served-yes : (x y : Machine) (p : ℕ) → ServesTried flow net m x y → x.cycle < net.end → ServeIsDue y p → ServesTried flow net m x (with_served y)
+  served-yes x y p h going may =
       record {
-        machine = own_serve flow (frame_of net) kept.sound m below y h.machine p (omega (arith, may.going, few)) may.fired may.due may.fields;
+        machine = own_serve flow (frame_of net) kept.sound m below y h.machine p (subst (λ t. t < net.end) (sym (ap (λ (z : Machine). z.cycle) h.same)) going) may.fired may.due may.fields;
         same = ap (λ (z : Machine). with_serves z (with_served y).state (suc y.served)) h.same;
         grows = omega (arith, h.grows);
       }
 
-  pub serve-step : (x : Machine) (hosts after : List Machine) (thread : ℕ) → thread < length hosts → ServesTried flow net m x (machine_at hosts thread) → (b : Bool) → ServeTried hosts thread upto after b → ServesTried flow net m x (machine_at after thread)
-  serve-step x hosts after thread within h true t =
+  pub serve-step : (x : Machine) (hosts after : List Machine) (thread : ℕ) → thread < length hosts → x.cycle < net.end → ServesTried flow net m x (machine_at hosts thread) → (b : Bool) → ServeTried hosts thread after b → ServesTried flow net m x (machine_at after thread)
+  serve-step x hosts after thread within going h true t =
       subst (ServesTried flow net m x) (sym (ap (λ all. machine_at all thread) t.step ∙ get_or-set_same hosts thread (with_served (machine_at hosts thread)) no_machine within))
-      (served-yes x (machine_at hosts thread) t.port h t.due)
-  serve-step x hosts after thread within h false t = subst (ServesTried flow net m x) (sym (ap (λ all. machine_at all thread) t.same)) h
+      (served-yes x (machine_at hosts thread) t.port h going t.due)
+  serve-step x hosts after thread within going h false t = subst (ServesTried flow net m x) (sym (ap (λ all. machine_at all thread) t.same)) h
 
 -- a port is served only if one is left
-pub serves-left : (hosts after : List Machine) (thread upto : ℕ) → thread < length hosts → ServeTried hosts thread upto after true → (machine_at after thread).served ≡ suc (machine_at hosts thread).served
-serves-left hosts after thread upto within t = ap (λ (all : List Machine). (machine_at all thread).served) t.step ∙ ap (λ (x : Machine). x.served) (get_or-set_same hosts thread (with_served (machine_at hosts thread)) no_machine within)
+pub serves-left : (hosts after : List Machine) (thread : ℕ) → thread < length hosts → ServeTried hosts thread after true → (machine_at after thread).served ≡ suc (machine_at hosts thread).served
+serves-left hosts after thread within t = ap (λ (all : List Machine). (machine_at all thread).served) t.step ∙ ap (λ (x : Machine). x.served) (get_or-set_same hosts thread (with_served (machine_at hosts thread)) no_machine within)
 
-pub alone-serve : (first hosts after : List Machine) (thread upto : ℕ) → thread < length first → hosts ≡ slice_set first thread (machine_at hosts thread) → (b : Bool) → ServeTried hosts thread upto after b → after ≡ slice_set first thread (machine_at after thread)
-alone-serve first hosts after thread upto within alone true t = alone-more first hosts after thread (with_served (machine_at hosts thread)) within alone t.step
-alone-serve first hosts after thread upto within alone false t = subst (λ all. all ≡ slice_set first thread (machine_at all thread)) (sym t.same) alone
+pub alone-serve : (first hosts after : List Machine) (thread : ℕ) → thread < length first → hosts ≡ slice_set first thread (machine_at hosts thread) → (b : Bool) → ServeTried hosts thread after b → after ≡ slice_set first thread (machine_at after thread)
+alone-serve first hosts after thread within alone true t = alone-more first hosts after thread (with_served (machine_at hosts thread)) within alone t.step
+alone-serve first hosts after thread within alone false t = subst (λ all. all ≡ slice_set first thread (machine_at all thread)) (sym t.same) alone
 
-pub alone-finish : (first hosts after : List Machine) (thread upto : ℕ) → thread < length first → hosts ≡ slice_set first thread (machine_at hosts thread) → (b : Bool) → FinishTried hosts thread upto after b → after ≡ slice_set first thread (machine_at after thread)
-alone-finish first hosts after thread upto within alone true t = alone-more first hosts after thread (finished (machine_at hosts thread) t.state) within alone t.step
-alone-finish first hosts after thread upto within alone false t = subst (λ all. all ≡ slice_set first thread (machine_at all thread)) (sym t.same) alone
+pub alone-finish : (first hosts after : List Machine) (thread : ℕ) → thread < length first → hosts ≡ slice_set first thread (machine_at hosts thread) → (b : Bool) → FinishTried hosts thread after b → after ≡ slice_set first thread (machine_at after thread)
+alone-finish first hosts after thread within alone true t = alone-more first hosts after thread (finished (machine_at hosts thread) t.state) within alone t.step
+alone-finish first hosts after thread within alone false t = subst (λ all. all ≡ slice_set first thread (machine_at all thread)) (sym t.same) alone

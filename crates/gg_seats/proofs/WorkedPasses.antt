@@ -9,7 +9,8 @@ use Rattle.gg_node.specs.Machine.{Machine, source_machine, tray_machine}
 use Rattle.gg_net.specs.Network.{Network, wire_at, Frame, frame_of}
 use Rattle.gg_net.specs.Parted.{takes_by}
 use Rattle.gg_seats.specs.Seats.{SeatCounts}
-use Rattle.gg_seats.specs.Pass.{RisesTo, MachineWentOn, PassDone}
+use Rattle.gg_seats.specs.Rows.{steps_by, StepsDone}
+use Rattle.gg_seats.specs.Pass.{RisesTo, MachineWentOn}
 use Rattle.gg_seats.specs.Deal.{seat_at, RowDealt}
 
 -- ---- counts
@@ -70,12 +71,16 @@ not-lost w = let up : 1 ≤ 0 = (w.takes 0 (omega arith) refl).up in omega arith
 not-late : MachineWentOn frame 1 3 (tray 3 None) (tray 3 (Some 7)) → ⊥
 not-late w = let within : 4 ≤ 3 = (w.takes 0 (omega arith) refl).within in omega arith
 
+-- a machine in cycle 2 that has latched has done five steps: a latch and the end in each cycle, and one more latch
+five : steps_by (tray 2 (Some 9)) ≡ 5
+five = refl
+
 -- a pass that did nothing answers false, and not true
-nothing : PassDone net.machines 1 net.machines false
+nothing : StepsDone net.machines 1 net.machines false
 nothing = refl
 
-not-nothing : PassDone net.machines 1 net.machines true → ⊥
-not-nothing differs = differs refl
+not-nothing : StepsDone net.machines 1 net.machines true → ⊥
+not-nothing more = omega (arith, more)
 
 -- ---- seats
 

@@ -1,7 +1,7 @@
 -- What a pass over one machine does: a try of each of its events.
 -- Source: MEMOCODE 2009 (a node takes its tokens, gives its tokens and then finishes its cycle, as its latches and flags
 -- allow). Which events a pass tries, and in which order, is this program's own.
-use Rattle.std.specs.Prelude.{◌≡◌, ℕ, ◌+◌, ◌*◌, ◌<◌, ◌≤◌, max, List, None, Bool, true, false, length, slice_index_or}
+use Rattle.std.specs.Prelude.{◌≡◌, ℕ, ◌+◌, ◌*◌, ◌<◌, ◌≤◌, max, List, None, false, length, slice_index_or}
 use Rattle.gg_flat.specs.Line.{value_at}
 use Rattle.gg_flat.specs.Streams.{Flow}
 use Rattle.gg_link.specs.Seats.{SeatState}
@@ -10,7 +10,7 @@ use Rattle.gg_net.specs.Network.{Network, wire_at, queue_at, given_by, kind_of, 
 use Rattle.gg_net.specs.Kept.{MachineAt}
 use Rattle.gg_net.specs.Parted.{takes_by, enters_by}
 use Rattle.gg_net.specs.Step.{CanLatch, CanFire, CanServe, CanFinish}
-use Rattle.gg_seats.specs.Tries.{StandsBelow, MayServeBelow, MayFinishBelow}
+use Rattle.gg_seats.specs.Tries.{StandsBelow, ServeIsDue, FinishIsDue}
 use Rattle.gg_seats.specs.Rows.{SeatsByPlace}
 
 -- ---- the counts of one machine
@@ -59,8 +59,8 @@ module _ {S T : Type 0} (taking : S → SeatState) (putting : T → SeatState) w
   pub record KnownDone (frame : Frame) (upto : ℕ) (ins outs : List ℕ) (x : Machine) (take_seats : List S) (put_seats : List T) (y : Machine) : Type 0 where
     pub latch : (k : ℕ) (s : S) → k < length ins → StandsBelow upto x → latch_at x.latches k ≡ None → (taking (slice_index_or take_seats k s)).count < (taking (slice_index_or take_seats k s)).seen → takes_by frame x (value_at ins k) < takes_by frame y (value_at ins k)
     pub fire : (k : ℕ) (s : T) → k < length outs → StandsBelow upto x → flag_at x.flags k ≡ false → missing x k ≡ None → (putting (slice_index_or put_seats k s)).count < (putting (slice_index_or put_seats k s)).seen + (putting (slice_index_or put_seats k s)).capacity → puts_by frame x (value_at outs k) < puts_by frame y (value_at outs k)
-    pub serve : (p : ℕ) → MayServeBelow upto x p → serves_by x < serves_by y
-    pub finish : MayFinishBelow upto x → x.cycle < y.cycle
+    pub serve : (p : ℕ) → StandsBelow upto x → ServeIsDue x p → serves_by x < serves_by y
+    pub finish : StandsBelow upto x → FinishIsDue x → x.cycle < y.cycle
 
 -- Each event of machine m that could be done in the network was done, if the machine was below `upto` there. It is y.
 pub record EventsDone (net : Network) (m upto : ℕ) (y : Machine) : Type 0 where
@@ -68,8 +68,3 @@ pub record EventsDone (net : Network) (m upto : ℕ) (y : Machine) : Type 0 wher
   pub fire : (c : ℕ) → CanFire net c → (wire_at net.wires c).producer ≡ m → StandsBelow upto (machine_at net.machines m) → puts net c < puts_by (frame_of net) y c
   pub serve : (p : ℕ) → CanServe net m p → StandsBelow upto (machine_at net.machines m) → serves net m < serves_by y
   pub finish : CanFinish net m → StandsBelow upto (machine_at net.machines m) → (machine_at net.machines m).cycle < y.cycle
-
--- The machine of a thread is another than before, or nothing was done.
-abbrev pub PassDone : List Machine → ℕ → List Machine → Bool → Type 0
-PassDone old thread new true = machine_at new thread ≡ machine_at old thread → ⊥
-PassDone old thread new false = new ≡ old

@@ -1,6 +1,6 @@
 -- What a row of tries has done to one machine and its seats. The seats stand in the order of the ins, or of the outs.
 -- Source: MEMOCODE 2009 (a node takes a token from each input queue once in a cycle).
-use Rattle.std.specs.Prelude.{◌≡◌, ℕ, ◌+◌, ◌<◌, ◌≤◌, List, Option, Some, None, Bool, true, false, IsSome, length, slice_index_or, slice_get}
+use Rattle.std.specs.Prelude.{◌≡◌, ℕ, ◌+◌, ◌*◌, ◌<◌, ◌≤◌, List, Option, Some, None, Bool, true, false, IsSome, is_some, count_by, length, slice_index_or, slice_get}
 use Rattle.gg_flat.specs.Line.{value_at}
 use Rattle.gg_flat.specs.Streams.{Flow}
 use Rattle.gg_flat.specs.State.{State}
@@ -10,7 +10,7 @@ use Rattle.gg_net.specs.Network.{Network, IsAtIn, IsAtOut, frame_of}
 use Rattle.gg_net.specs.Kept.{MachineAt}
 use Rattle.gg_net.specs.Parted.{takes_by, enters_by}
 use Rattle.gg_seats.specs.Seats.{SeatCounts}
-use Rattle.gg_seats.specs.Tries.{StandsBelow, MayServeBelow}
+use Rattle.gg_seats.specs.Tries.{ServeIsDue}
 
 -- Each place of these channels has a seat of its channel's link, which counts what is said.
 pub record SeatsByPlace {X S : Type 0} (of : X → S → Type 0) (part : S → SeatState) (flow : Flow) (net : Network) (count : ℕ → ℕ) (links : List X) (channels : List ℕ) (seats : List S) : Type 0 where
@@ -23,13 +23,13 @@ abbrev pub with_latches : Machine → List (Option ℕ) → Machine
 with_latches x latches = record x { latches = latches }
 
 -- The first n ins of machine m were tried.
-pub record LatchesTried {X S : Type 0} (of : X → S → Type 0) (part : S → SeatState) (flow : Flow) (net : Network) (m upto : ℕ) (links : List X) (ins : List ℕ) (n : ℕ) (x : Machine) (old : List S) (y : Machine) (new : List S) : Type 0 where
+pub record LatchesTried {X S : Type 0} (of : X → S → Type 0) (part : S → SeatState) (flow : Flow) (net : Network) (m : ℕ) (links : List X) (ins : List ℕ) (n : ℕ) (x : Machine) (old : List S) (y : Machine) (new : List S) : Type 0 where
   pub machine : MachineAt flow (frame_of net) m y
   pub placed : SeatsByPlace of part flow net (takes_by (frame_of net) y) links ins new
   pub same : y ≡ with_latches x y.latches
   pub grows : (i : ℕ) → IsSome (latch_at x.latches i) → IsSome (latch_at y.latches i)
   pub no_less : (k : ℕ) (s : S) → k < length ins → (part (slice_index_or old k s)).count ≤ (part (slice_index_or new k s)).count
-  pub done : (k : ℕ) (s : S) → k < n → k < length ins → StandsBelow upto x → latch_at x.latches k ≡ None → (part (slice_index_or old k s)).count < (part (slice_index_or old k s)).seen → (part (slice_index_or old k s)).count < (part (slice_index_or new k s)).count
+  pub done : (k : ℕ) (s : S) → k < n → k < length ins → latch_at x.latches k ≡ None → (part (slice_index_or old k s)).count < (part (slice_index_or old k s)).seen → (part (slice_index_or old k s)).count < (part (slice_index_or new k s)).count
   pub untried : (k : ℕ) (s : S) → n ≤ k → (slice_index_or new k s ≡ slice_index_or old k s) × (latch_at y.latches k ≡ latch_at x.latches k)
 
 -- these are the channels at the ins of machine m, by place
@@ -42,13 +42,13 @@ abbrev pub with_flags : Machine → List Bool → Machine
 with_flags x flags = record x { flags = flags }
 
 -- The first n outs of machine m were tried.
-pub record FiresTried {X S : Type 0} (of : X → S → Type 0) (part : S → SeatState) (flow : Flow) (net : Network) (m upto : ℕ) (links : List X) (outs : List ℕ) (n : ℕ) (x : Machine) (old : List S) (y : Machine) (new : List S) : Type 0 where
+pub record FiresTried {X S : Type 0} (of : X → S → Type 0) (part : S → SeatState) (flow : Flow) (net : Network) (m : ℕ) (links : List X) (outs : List ℕ) (n : ℕ) (x : Machine) (old : List S) (y : Machine) (new : List S) : Type 0 where
   pub machine : MachineAt flow (frame_of net) m y
   pub placed : SeatsByPlace of part flow net (enters_by (frame_of net) y) links outs new
   pub same : y ≡ with_flags x y.flags
   pub grows : (o : ℕ) → flag_at x.flags o ≡ true → flag_at y.flags o ≡ true
   pub no_less : (k : ℕ) (s : S) → k < length outs → (part (slice_index_or old k s)).count ≤ (part (slice_index_or new k s)).count
-  pub done : (k : ℕ) (s : S) → k < n → k < length outs → StandsBelow upto x → flag_at x.flags k ≡ false → missing x k ≡ None → (part (slice_index_or old k s)).count < (part (slice_index_or old k s)).seen + (part (slice_index_or old k s)).capacity → (part (slice_index_or old k s)).count < (part (slice_index_or new k s)).count
+  pub done : (k : ℕ) (s : S) → k < n → k < length outs → flag_at x.flags k ≡ false → missing x k ≡ None → (part (slice_index_or old k s)).count < (part (slice_index_or old k s)).seen + (part (slice_index_or old k s)).capacity → (part (slice_index_or old k s)).count < (part (slice_index_or new k s)).count
   pub untried : (k : ℕ) (s : S) → n ≤ k → (slice_index_or new k s ≡ slice_index_or old k s) × (flag_at y.flags k ≡ flag_at x.flags k)
 
 -- these are the channels at the outs of machine m, by place
@@ -67,36 +67,17 @@ pub record ServesTried (flow : Flow) (net : Network) (m : ℕ) (x y : Machine) :
   pub grows : x.served ≤ y.served
 
 -- no port can be served
-abbrev pub NoneServes : ℕ → Machine → Type 0
-NoneServes upto x = (port : ℕ) → MayServeBelow upto x port → ⊥
+abbrev pub NoneServes : Machine → Type 0
+NoneServes x = (port : ℕ) → ServeIsDue x port → ⊥
 
--- ---- whether a row has done anything
+-- ---- whether anything was done
 
--- An in has got its token.
-pub record HasLatchedOne (x y : Machine) : Type 0 where
-  pub place : ℕ
-  pub within : place < length x.latches
-  pub empty : latch_at x.latches place ≡ None
-  pub full : IsSome (latch_at y.latches place)
+-- The number of steps that a machine has done since the first cycle. In each cycle it latches at each in, fires at each
+-- out, serves each port and finishes once.
+abbrev pub steps_by : Machine → ℕ
+steps_by x = (length x.latches + length x.flags + length x.ports + 1) * x.cycle + (count_by is_some x.latches + count_by (λ flag. flag) x.flags + x.served)
 
--- An out has given its token.
-pub record HasFiredOne (x y : Machine) : Type 0 where
-  pub out : ℕ
-  pub within : out < length x.flags
-  pub clear : flag_at x.flags out ≡ false
-  pub set : flag_at y.flags out ≡ true
-
--- A token was latched at the machine of a thread, or nothing was done.
-abbrev pub LatchesDone : List Machine → ℕ → List Machine → Bool → Type 0
-LatchesDone old thread new true = HasLatchedOne (machine_at old thread) (machine_at new thread)
-LatchesDone old thread new false = new ≡ old
-
--- A token of the machine of a thread was given, or nothing was done.
-abbrev pub FiresDone : List Machine → ℕ → List Machine → Bool → Type 0
-FiresDone old thread new true = HasFiredOne (machine_at old thread) (machine_at new thread)
-FiresDone old thread new false = new ≡ old
-
--- A port of the machine of a thread was served, or nothing was done.
-abbrev pub ServesDone : List Machine → ℕ → List Machine → Bool → Type 0
-ServesDone old thread new true = (machine_at old thread).served < (machine_at new thread).served
-ServesDone old thread new false = new ≡ old
+-- Steps of the machine of a thread were done, or nothing was done.
+abbrev pub StepsDone : List Machine → ℕ → List Machine → Bool → Type 0
+StepsDone old thread new true = steps_by (machine_at old thread) < steps_by (machine_at new thread)
+StepsDone old thread new false = new ≡ old

@@ -16,8 +16,7 @@ StandsBelow upto x = x.cycle < upto
 -- ---- `Latch`
 
 -- The next value of the stream was taken and latched.
-pub record HasLatched (old : List Machine) (thread place upto : ℕ) (before : SeatState) (new : List Machine) (after : SeatState) : Type 0 where
-  pub going : StandsBelow upto (machine_at old thread)
+pub record HasLatched (old : List Machine) (thread place : ℕ) (before : SeatState) (new : List Machine) (after : SeatState) : Type 0 where
   pub empty : latch_at (machine_at old thread).latches place ≡ None
   pub value : ℕ
   pub token : slice_get before.stream before.count ≡ Some value
@@ -25,78 +24,75 @@ pub record HasLatched (old : List Machine) (thread place upto : ℕ) (before : S
   pub step : new ≡ slice_set old thread (with_latch (machine_at old thread) place value)
 
 -- Nothing was latched. If the latch could take a token, the seat found no value.
-pub record HasNotLatched (old : List Machine) (thread place upto : ℕ) (before : SeatState) (new : List Machine) (after : SeatState) : Type 0 where
+pub record HasNotLatched (old : List Machine) (thread place : ℕ) (before : SeatState) (new : List Machine) (after : SeatState) : Type 0 where
   pub same : new ≡ old
   pub went_on : SeatWentOn before after
   pub count : after.count ≡ before.count
-  pub cause : StandsBelow upto (machine_at old thread) → latch_at (machine_at old thread).latches place ≡ None → after.seen ≡ after.count
+  pub cause : latch_at (machine_at old thread).latches place ≡ None → after.seen ≡ after.count
 
-abbrev pub LatchTried : List Machine → ℕ → ℕ → ℕ → SeatState → List Machine → SeatState → Bool → Type 0
-LatchTried old thread place upto before new after true = HasLatched old thread place upto before new after
-LatchTried old thread place upto before new after false = HasNotLatched old thread place upto before new after
+abbrev pub LatchTried : List Machine → ℕ → ℕ → SeatState → List Machine → SeatState → Bool → Type 0
+LatchTried old thread place before new after true = HasLatched old thread place before new after
+LatchTried old thread place before new after false = HasNotLatched old thread place before new after
 
 -- ---- `Fire`
 
 -- The next value of the stream was put, and the flag set.
-pub record HasFired (old : List Machine) (thread place upto : ℕ) (before : SeatState) (new : List Machine) (after : SeatState) : Type 0 where
-  pub going : StandsBelow upto (machine_at old thread)
+pub record HasFired (old : List Machine) (thread place : ℕ) (before : SeatState) (new : List Machine) (after : SeatState) : Type 0 where
   pub clear : flag_at (machine_at old thread).flags place ≡ false
   pub needed : missing (machine_at old thread) place ≡ None
   pub counted : Counted before after
   pub step : new ≡ slice_set old thread (with_flag (machine_at old thread) place)
 
 -- Nothing was put. If the out could give its token, the seat found the link full.
-pub record HasNotFired (old : List Machine) (thread place upto : ℕ) (before : SeatState) (new : List Machine) (after : SeatState) : Type 0 where
+pub record HasNotFired (old : List Machine) (thread place : ℕ) (before : SeatState) (new : List Machine) (after : SeatState) : Type 0 where
   pub same : new ≡ old
   pub went_on : SeatWentOn before after
   pub count : after.count ≡ before.count
-  pub cause : StandsBelow upto (machine_at old thread) → flag_at (machine_at old thread).flags place ≡ false → missing (machine_at old thread) place ≡ None → after.seen + after.capacity ≡ after.count
+  pub cause : flag_at (machine_at old thread).flags place ≡ false → missing (machine_at old thread) place ≡ None → after.seen + after.capacity ≡ after.count
 
-abbrev pub FireTried : List Machine → ℕ → ℕ → ℕ → SeatState → List Machine → SeatState → Bool → Type 0
-FireTried old thread place upto before new after true = HasFired old thread place upto before new after
-FireTried old thread place upto before new after false = HasNotFired old thread place upto before new after
+abbrev pub FireTried : List Machine → ℕ → ℕ → SeatState → List Machine → SeatState → Bool → Type 0
+FireTried old thread place before new after true = HasFired old thread place before new after
+FireTried old thread place before new after false = HasNotFired old thread place before new after
 
 -- ---- `Serve`
 
 -- the port that is due may be served
-pub record MayServeBelow (upto : ℕ) (x : Machine) (port : ℕ) : Type 0 where
-  pub going : StandsBelow upto x
+pub record ServeIsDue (x : Machine) (port : ℕ) : Type 0 where
   pub fired : AllFired x
   pub due : due x ≡ Some port
   pub fields : first_empty x.latches (due_fields x) ≡ None
 
-pub record HasServed (old : List Machine) (thread upto : ℕ) (new : List Machine) : Type 0 where
+pub record HasServed (old : List Machine) (thread : ℕ) (new : List Machine) : Type 0 where
   pub port : ℕ
-  pub due : MayServeBelow upto (machine_at old thread) port
+  pub due : ServeIsDue (machine_at old thread) port
   pub step : new ≡ slice_set old thread (with_served (machine_at old thread))
 
-pub record HasNotServed (old : List Machine) (thread upto : ℕ) (new : List Machine) : Type 0 where
+pub record HasNotServed (old : List Machine) (thread : ℕ) (new : List Machine) : Type 0 where
   pub same : new ≡ old
-  pub cause : (port : ℕ) → MayServeBelow upto (machine_at old thread) port → ⊥
+  pub cause : (port : ℕ) → ServeIsDue (machine_at old thread) port → ⊥
 
-abbrev pub ServeTried : List Machine → ℕ → ℕ → List Machine → Bool → Type 0
-ServeTried old thread upto new true = HasServed old thread upto new
-ServeTried old thread upto new false = HasNotServed old thread upto new
+abbrev pub ServeTried : List Machine → ℕ → List Machine → Bool → Type 0
+ServeTried old thread new true = HasServed old thread new
+ServeTried old thread new false = HasNotServed old thread new
 
 -- ---- `Finish`
 
 -- the cycle may be finished
-pub record MayFinishBelow (upto : ℕ) (x : Machine) : Type 0 where
-  pub going : StandsBelow upto x
+pub record FinishIsDue (x : Machine) : Type 0 where
   pub fired : AllFired x
   pub served : due x ≡ None
   pub latched : AllLatched x
 
-pub record HasFinished (old : List Machine) (thread upto : ℕ) (new : List Machine) : Type 0 where
-  pub whole : MayFinishBelow upto (machine_at old thread)
+pub record HasFinished (old : List Machine) (thread : ℕ) (new : List Machine) : Type 0 where
+  pub whole : FinishIsDue (machine_at old thread)
   pub state : State
   pub is : IsNextState (machine_at old thread) state
   pub step : new ≡ slice_set old thread (finished (machine_at old thread) state)
 
-pub record HasNotFinished (old : List Machine) (thread upto : ℕ) (new : List Machine) : Type 0 where
+pub record HasNotFinished (old : List Machine) (thread : ℕ) (new : List Machine) : Type 0 where
   pub same : new ≡ old
-  pub cause : MayFinishBelow upto (machine_at old thread) → ⊥
+  pub cause : FinishIsDue (machine_at old thread) → ⊥
 
-abbrev pub FinishTried : List Machine → ℕ → ℕ → List Machine → Bool → Type 0
-FinishTried old thread upto new true = HasFinished old thread upto new
-FinishTried old thread upto new false = HasNotFinished old thread upto new
+abbrev pub FinishTried : List Machine → ℕ → List Machine → Bool → Type 0
+FinishTried old thread new true = HasFinished old thread new
+FinishTried old thread new false = HasNotFinished old thread new

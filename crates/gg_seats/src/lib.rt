@@ -8,12 +8,12 @@
 //!   what the machines at its ends count. [`close_all`] closes the links again: each queue then holds the tokens between
 //!   the counts of the two machines.
 //! - [`deal_row`] takes the seats of some channels out of the list of all seats, and [`gather_row`] puts them back.
-//! - [`try_latch`], [`try_fire`], [`try_serve`] and [`try_finish`] each try one event of one machine, and do it exactly if
-//!   the machine is below a given cycle and, as far as the seat knows, the event may be done. [`latch_all`], [`fire_all`]
-//!   and [`serve_all`] try the events of all ins, outs and ports.
-//! - [`pass`] tries all events of one machine. The machine stays one that the network can have, and its seats go on to
-//!   count what it counts. None of its counts falls, and none rises past the given cycle. What could be done before the
-//!   pass, as far as the seats knew, was done. The other machines of the host stay as they were.
+//! - [`pass`] tries all events of one machine, if it is below a given cycle: a latch of each in, a fire of each out, its
+//!   ports as long as one can be served, and the end of its cycle. Each is done exactly if, as far as the seats know, it
+//!   may be done. The machine stays one that the network can have, and its seats go on to count what it counts. None of its
+//!   counts falls, and none rises past the given cycle. What could be done before the pass, as far as the seats knew, was
+//!   done. The other machines of the host stay as they were. The answer tells whether the machine has done a step: if not,
+//!   nothing has changed in the host.
 //!
 //! Only `open_all` allocates: it makes links.
 #![tactic(auto)]
@@ -33,5 +33,3 @@ pub use desk::Desk;
 pub use era::Era;
 pub use open::open_all;
 pub use passes::pass;
-pub use rows::{fire_all, latch_all, serve_all};
-pub use tries::{try_finish, try_fire, try_latch, try_serve};

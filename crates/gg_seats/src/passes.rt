@@ -4,7 +4,8 @@ ghost use Rattle.gg_node.specs.Machine.{machine_at};
 ghost use Rattle.gg_net.specs.Network.{frame_of, kind_at};
 ghost use Rattle.gg_net.specs.Kept.{Kept};
 ghost use Rattle.gg_net.specs.Net.{IsListed};
-ghost use Rattle.gg_seats.specs.Pass.{IsDesk, MachineWentOn, KnownDone, IsNewDesk, EventsDone, PassDone};
+ghost use Rattle.gg_seats.specs.Rows.{StepsDone};
+ghost use Rattle.gg_seats.specs.Pass.{IsDesk, MachineWentOn, KnownDone, IsNewDesk, EventsDone};
 
 use crate::desk::Desk;
 use crate::era::Era;
@@ -36,7 +37,7 @@ pub fn pass<H: Host, L: Link, Z: Streams, E: Era>(
     ensures went_on { MachineWentOn (frame_of E.start) desk.old.machine upto (machine_at (H.machines host.old) station.now.thread) (machine_at (H.machines host.new) station.now.thread) }
     ensures done { KnownDone L.taking L.putting (frame_of E.start) upto station.now.ins station.now.outs (machine_at (H.machines host.old) station.now.thread) desk.old.takes.items desk.old.puts.items (machine_at (H.machines host.new) station.now.thread) }
     ensures first { IsNewDesk L.taking L.putting E.start desk.old.machine station.now.ins station.now.outs (machine_at (H.machines host.old) station.now.thread) desk.old.takes.items desk.old.puts.items → EventsDone E.start desk.old.machine upto (machine_at (H.machines host.new) station.now.thread) }
-    ensures stepped { PassDone (H.machines host.old) station.now.thread (H.machines host.new) result }
+    ensures stepped { StepsDone (H.machines host.old) station.now.thread (H.machines host.new) result }
 {
     let thread = station.thread;
     let machine = desk.machine;
@@ -45,11 +46,11 @@ pub fn pass<H: Host, L: Link, Z: Streams, E: Era>(
     }
     let ins = station.ins.as_slice();
     let outs = station.outs.as_slice();
-    let latched = latch_all::<H, L, Z, E>(links, host, thread, machine, ins, &mut desk.takes, upto);
-    let fired = fire_all::<H, L, Z, E>(links, host, thread, machine, outs, &mut desk.puts, upto);
+    let latched = latch_all::<H, L, Z, E>(links, host, thread, machine, ins, &mut desk.takes);
+    let fired = fire_all::<H, L, Z, E>(links, host, thread, machine, outs, &mut desk.puts);
     let ports = station.ports.as_slice();
-    let served = serve_all::<H, Z, E>(host, thread, machine, outs.len() as u32, ports, upto);
-    let finished = try_finish(host, thread, ins.len() as u32, outs.len() as u32, upto);
+    let served = serve_all::<H, Z, E>(host, thread, machine, outs.len() as u32, ports);
+    let finished = try_finish(host, thread, ins.len() as u32, outs.len() as u32);
     let passed = either(latched, fired);
     let ended = either(served, finished);
     either(passed, ended)
