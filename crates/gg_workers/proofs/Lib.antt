@@ -3,6 +3,8 @@ mod DealLemmas
 mod DeskLemmas
 mod FillLemmas
 mod MakingLemmas
+mod StepLemmas
+mod FallLemmas
 mod TurnLemmas
 mod WorkedDesks
 mod WorkedRuns
@@ -11,3 +13,4 @@ mod ApartLemmas
 mod WorkLemmas
 mod BackLemmas
 mod CapLemmas
+mod LawLemmas

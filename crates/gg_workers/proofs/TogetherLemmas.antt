@@ -8,6 +8,8 @@ use Rattle.gg_workers.specs.declared.booth.Booth.{Booth}
 use Rattle.gg_workers.specs.declared.booth.Worker.{Worker}
 use Rattle.gg_workers.specs.Booths.{IsBooth, AreBooths, AreNumbered}
 use Rattle.gg_workers.specs.Deal.{IsOf, Dealing, IsFrom, Gathering}
+use Rattle.gg_workers.specs.Turns.{Falls}
+use Rattle.gg_workers.proofs.FallLemmas.{cards-fall}
 
 some-of : {A : Type 0} (xs : List A) (k : ℕ) → k < length xs → A
 some-of [] k lt = absurd (omega (arith, lt))
@@ -19,6 +21,10 @@ module _ {H S T : Type 0} (machines : H → List Machine) (threads : List ℕ) (
   dealt-booths booths j e lt k f le =
       let is : IsOf ss0 (slice_index_or (slice_index_or ws j e).booths.items k f) = dealt.of_all j k e f (rw (sym dealt.count) lt) le in
       subst (λ (s : Booth H S T). IsBooth machines threads P s) (is.there f) (booths (slice_index_or (slice_index_or ws j e).booths.items k f).number f is.below)
+
+  -- each worker has its hosts in falling order
+  pub dealt-falls : All (λ v. Falls (map (λ s. s.number) v.booths.items)) ws
+  dealt-falls j e lt = subst Falls (sym (dealt.numbers j e (rw (sym dealt.count) lt))) (cards-fall n j 0 (length ss0))
 
   module _ (ws1 : List (Worker H S T)) (long : length ws1 ≡ length ws) (numbers : (j : ℕ) (e : Worker H S T) → j < length ws → map (λ (s : Booth H S T). s.number) (slice_index_or ws1 j e).booths.items ≡ map (λ (s : Booth H S T). s.number) (slice_index_or ws j e).booths.items) where
     -- workers whose booths keep their numbers can be gathered

@@ -1,5 +1,5 @@
 -- A pass over the machines of a host, one after another, and over several hosts.
-use Rattle.std.proofs.Common.{◌≡◌, ℕ, ◌+◌, ◌<◌, ◌≤◌, inl, inr, List, [], ◌∷◌, length, map, slice_index_or, slice_set, sym, refl, ap, subst, ◌∙◌, arith, length-set}
+use Rattle.std.proofs.Common.{◌≡◌, ℕ, ◌+◌, ◌-◌, ◌<◌, ◌≤◌, inl, inr, List, [], ◌∷◌, length, map, slice_index_or, slice_set, sym, refl, ap, subst, ◌∙◌, arith, length-set}
 use Rattle.std.proofs.lemmas.List.{map-set, set-get_or, get_or-map, length-map}
 use Rattle.gg_flat.specs.Streams.{Flow}
 use Rattle.gg_link.specs.Seats.{SeatState}
@@ -105,6 +105,10 @@ module _ {H X S T : Type 0} (machines : H → List Machine) (threads : List ℕ)
         count = is.count;
       }
 
+-- where no machine of several hosts is below the cycle, none of one of them is
+pub one-ended : {H S T : Type 0} (machines : H → List Machine) (upto : ℕ) (bs : List (Booth H S T)) (k : ℕ) (b : Booth H S T) → b ≡ slice_index_or bs k b → k < length bs → AllEnded machines upto bs → (t : ℕ) → t < length (machines b.host) → upto ≤ (machine_at (machines b.host) t).cycle
+one-ended {H} {S} {T} machines upto bs k b is lt all = subst (λ (x : Booth H S T). (t : ℕ) → t < length (machines x.host) → upto ≤ (machine_at (machines x.host) t).cycle) (sym is) (all k b lt)
+
 -- ---- the machines of one host
 
 module _ {S T : Type 0} (P Q : ℕ → ℕ → Machine → Desk S T → Type 0) (imp : (h t : ℕ) (x : Machine) (d : Desk S T) → Q h t x d → P h t x d) (h : ℕ) where
@@ -147,21 +151,21 @@ module _ {H S T : Type 0} (machines : H → List Machine) (threads : List ℕ) (
   pub booths-imp : (bs : List (Booth H S T)) → AreBooths machines threads Q bs → AreBooths machines threads P bs
   booths-imp bs are k b lt = booth-imp (slice_index_or bs k b) (are k b lt)
 
-  -- the first n were passed
+  -- those from the last down to place n were passed
   pub record ArePassing (n : ℕ) (old bs : List (Booth H S T)) : Type 0 where
     pub each : AreBooths machines threads P bs
-    pub first : (k : ℕ) (b : Booth H S T) → k < n → k < length bs → IsBooth machines threads Q (slice_index_or bs k b)
+    pub last : (k : ℕ) (b : Booth H S T) → n ≤ k → k < length bs → IsBooth machines threads Q (slice_index_or bs k b)
     pub numbers : map (λ (b : Booth H S T). b.number) bs ≡ map (λ (b : Booth H S T). b.number) old
 
-  pub pass-start : (bs : List (Booth H S T)) → AreBooths machines threads P bs → ArePassing 0 bs bs
-  pass-start bs are = record { each = are; first = λ k b lt. absurd (omega (arith, lt)); numbers = refl }
+  pub pass-start : (bs : List (Booth H S T)) → AreBooths machines threads P bs → ArePassing (length bs) bs bs
+  pass-start bs are = record { each = are; last = λ k b le lt. absurd (omega (arith, le, lt)); numbers = refl }
 
-  pub pass-step : (n : ℕ) (old bs : List (Booth H S T)) (p q : Booth H S T) → ArePassing n old bs → n < length bs → ((d : Booth H S T) → slice_index_or bs n d ≡ p) → IsBooth machines threads Q q → q.number ≡ p.number → ArePassing (n + 1) old (slice_set bs n q)
-  pass-step n old bs p q a inside was is number =
+  pub pass-step : (n : ℕ) (old bs : List (Booth H S T)) (p q : Booth H S T) → ArePassing n old bs → 0 < n → n - 1 < length bs → ((d : Booth H S T) → slice_index_or bs (n - 1) d ≡ p) → IsBooth machines threads Q q → q.number ≡ p.number → ArePassing (n - 1) old (slice_set bs (n - 1) q)
+  pass-step n old bs p q a some inside was is number =
       record {
-        each = λ k b lt. set_cases (λ j z. IsBooth machines threads P z) bs n q inside k b (λ e. booth-imp q is) (λ ne. a.each k b (rw length-set at lt));
-        first = λ k b le lt. set_cases (λ j z. IsBooth machines threads Q z) bs n q inside k b (λ e. is) (λ ne. a.first k b (omega (arith, le, ne)) (rw length-set at lt));
-        numbers = numbers-set bs n q p inside was number ∙ a.numbers;
+        each = λ k b lt. set_cases (λ j z. IsBooth machines threads P z) bs (n - 1) q inside k b (λ e. booth-imp q is) (λ ne. a.each k b (rw length-set at lt));
+        last = λ k b le lt. set_cases (λ j z. IsBooth machines threads Q z) bs (n - 1) q inside k b (λ e. is) (λ ne. a.last k b (omega (arith, le, ne, some)) (rw length-set at lt));
+        numbers = numbers-set bs (n - 1) q p inside was number ∙ a.numbers;
       }
     where
       numbers-set : (l : List (Booth H S T)) (i : ℕ) (z w : Booth H S T) → i < length l → ((d : Booth H S T) → slice_index_or l i d ≡ w) → z.number ≡ w.number → map (λ (b : Booth H S T). b.number) (slice_set l i z) ≡ map (λ (b : Booth H S T). b.number) l

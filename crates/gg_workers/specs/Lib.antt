@@ -1,4 +1,5 @@
 pub mod Booths
+pub mod Turns
 pub mod Deal
 pub mod Work
 pub mod Apart

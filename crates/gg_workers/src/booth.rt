@@ -15,6 +15,6 @@ pub(crate) struct Booth<H, S, T> {
 // The hosts that one thread of the system steps.
 #[derive(Drop)]
 pub(crate) struct Worker<H, S, T> {
-    // The hosts with their desks.
+    // The hosts with their desks, in falling order of their numbers.
     pub(crate) booths: Vec<Booth<H, S, T>>,
 }

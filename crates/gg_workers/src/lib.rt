@@ -10,9 +10,11 @@
 //! are dealt to workers, host h to worker h mod the number of workers. Each worker runs in a thread of its own. Then the
 //! booths are gathered again, in the order of their numbers.
 //!
-//! A turn of a worker is one pass over its machines; the gate is passed at its start. A worker ends before a turn where none
-//! of its machines is below `upto`, or after 1,024 turns in a row without a step. Where a thread can't be started, the
-//! caller's does the work. All memory is taken before the first step.
+//! A turn of a worker is one pass over its machines, from the host with the least number on; the gate is passed at its
+//! start. A worker ends before a turn where none of its machines is below `upto`, or after 1,024 turns in a row without a
+//! step. Where a thread can't be started, the caller's does the work. All memory is taken before the first step.
+//!
+//! [`later_by_steps`] says what that means: steps lead from the network to the one that comes back.
 #![tactic(auto)]
 
 mod apart;
@@ -23,6 +25,7 @@ mod dealt;
 mod desks;
 mod fill;
 mod furnish;
+mod laws;
 mod links;
 mod opened;
 mod room;
@@ -30,4 +33,5 @@ mod run;
 mod threads;
 mod turns;
 
+pub use laws::later_by_steps;
 pub use run::work;

@@ -1,4 +1,5 @@
 use Rattle.gg_workers.specs.Booths.{ReadyAt, DoneAt}
+use Rattle.gg_workers.specs.Turns.{steps_of, machines_in, StepsTold}
 use Rattle.gg_workers.proofs.TurnLemmas.{ArePassing, done-ready}
 use Rattle.gg_workers.proofs.turns.pass_all.Given as goal
 
@@ -8,3 +9,4 @@ invariant-loop-k g l =
     (DoneAt g.L.Link.takes_from g.L.Link.puts_into g.L.Link.taking g.L.Link.putting g.Z.Streams.flow g.E.Era.start l.stations l.links l.upto)
     (done-ready g.L.Link.takes_from g.L.Link.puts_into g.L.Link.taking g.L.Link.putting g.Z.Streams.flow g.E.Era.start l.stations l.links l.upto)
     l.k l.initial.booths.items l.booths.items
+    × StepsTold steps_of (machines_in g.H.Host.machines l.initial.booths.items) (machines_in g.H.Host.machines l.booths.items) l.stepped
