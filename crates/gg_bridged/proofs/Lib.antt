@@ -1,4 +1,3 @@
-pub mod FoundLemmas
 pub mod NameLemmas
 pub mod SeenLemmas
 pub mod PlanLemmas

@@ -18,7 +18,7 @@ use Rattle.gg_bridge.proofs.WorkedEcho.{two}
 use Rattle.gg_cut.specs.Bridges.{Models}
 use Rattle.gg_cut.specs.Seated.{open_ins, open_outs}
 use Rattle.gg_cut.proofs.WorkedPair.{input, output}
-use Rattle.gg_bridged.specs.Found.{found_order}
+use Rattle.gg_order.specs.Found.{found_order}
 use Rattle.gg_bridged.specs.Whole.{driven_signal, model_signals, plan_circuit, seen_signal}
 
 -- ---- two sums, of the input `x` and of its complement

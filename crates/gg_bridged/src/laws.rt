@@ -1,7 +1,5 @@
 //! Laws: facts about the definitions. Each is the contract of a function with an empty body.
 ghost use Rattle.std.specs.Prelude.{◌≡◌, ◌-◌, ◌++◌, ℕ, List, length, map, drop};
-ghost use Rattle.gg_flat.specs.Circuit.{FlatCircuit};
-ghost use Rattle.gg_flat.specs.Order.{IsOrder};
 ghost use Rattle.gg_flat.specs.Run.{IsColumns, Start, clocked_start};
 ghost use Rattle.gg_flat.specs.State.{IsState};
 ghost use Rattle.gg_flat.specs.WellFormed.{IsWellFormed};
@@ -16,18 +14,12 @@ ghost use Rattle.gg_cut.specs.Solves.{AreRows};
 ghost use Rattle.gg_pipe.specs.Follows.{plan_start};
 ghost use Rattle.gg_pipe.specs.Links.{taken_as};
 ghost use Rattle.gg_pipe.specs.Made.{plan_reference};
-ghost use Rattle.gg_bridged.specs.Found.{found_order};
 ghost use Rattle.gg_bridged.specs.Whole.{CanBridge, CanStandAll, RunsWhole, plan_begin, plan_circuit};
 
 /// The circuit with the bridges' models is well formed, and has an order of evaluation.
 pub fn circuit_is_formed()
     ensures formed { (design : Ordered) (request : Request) (models : Models) → CanBridge design request models → IsWellFormed (plan_circuit design request models) }
     ensures ordered { (design : Ordered) (request : Request) (models : Models) → CanBridge design request models → HasOrder (plan_circuit design request models) }
-{}
-
-/// If a circuit has an order of evaluation at all, the one that is found is one.
-pub fn orders_are_found()
-    ensures { (circuit : FlatCircuit) → IsWellFormed circuit → HasOrder circuit → IsOrder circuit (found_order circuit) }
 {}
 
 /// Its inputs are those that no bridge drives. Its out-signals are what trays keep: of the outputs that no bridge sees, and of the stops. It

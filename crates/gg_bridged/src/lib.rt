@@ -4,7 +4,6 @@
 //! fault, and models as bridges have them, it promises:
 //!
 //! - the circuit is well formed and has an order of evaluation (`circuit_is_formed`);
-//! - an order that is found from a circuit alone is one, if the circuit has any (`orders_are_found`);
 //! - its inputs are those that no bridge drives, and its outputs those that none sees, with the stops behind them (`circuit_has_ports`);
 //! - a run of it is a run of the reference circuit and of each model, and what a bridge drives has the columns of what its model says
 //!   (`circuit_runs`);
@@ -17,6 +16,5 @@
 mod laws;
 
 pub use laws::{
-    bridges_stand, circuit_has_ports, circuit_is_formed, circuit_runs, orders_are_found,
-    starts_are_typed, zeros_stay,
+    bridges_stand, circuit_has_ports, circuit_is_formed, circuit_runs, starts_are_typed, zeros_stay,
 };

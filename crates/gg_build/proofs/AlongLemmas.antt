@@ -5,6 +5,7 @@ use Rattle.gg_flat.specs.Circuit.{FlatCircuit}
 use Rattle.gg_flat.specs.Order.{IsOrder}
 use Rattle.gg_flat.specs.Run.{IsColumns, IsRunFrom, Start}
 use Rattle.gg_flat.proofs.AlongLemmas.{IsRunFrom-along}
+use Rattle.gg_flat.proofs.OrderLemmas.{IsLoop-none}
 use Rattle.gg_order.specs.Design.{Ordered}
 use Rattle.gg_partfile.specs.declared.request.Request.{Request}
 use Rattle.gg_cut.specs.Bridges.{Models}
@@ -16,7 +17,7 @@ use Rattle.gg_pipe.specs.Follows.{plan_start}
 use Rattle.gg_pipe.specs.Made.{plan_reference}
 use Rattle.gg_pipe.proofs.StartLemmas.{plan-typed}
 use Rattle.gg_bridged.specs.Whole.{CanBridge, plan_begin, plan_circuit}
-use Rattle.gg_bridged.proofs.FoundLemmas.{found-is}
+use Rattle.gg_order.proofs.FoundLemmas.{found-is}
 use Rattle.gg_bridged.proofs.PlanLemmas.{circuit-formed, circuit-ordered}
 use Rattle.gg_bridged.proofs.StateLemmas.{states-with}
 use Rattle.gg_sound.specs.Built.{IsGiven}
@@ -31,7 +32,9 @@ module _ (design : Ordered) (request : Request) (models : Models) (default : ℕ
   begin = plan_begin design request models (plan_start design request)
 
   order : IsOrder circuit (circuit_order design request models)
-  order = let any = circuit-ordered design request models can in found-is circuit any.order any.is
+  order =
+      let any = circuit-ordered design request models can in
+      found-is circuit (circuit-formed design request models can) (λ loop is. IsLoop-none circuit any.order loop any.is is)
 
   run-along : IsRunFrom circuit begin columns n (circuit_rows design request models columns n)
   run-along = IsRunFrom-along circuit (circuit_order design request models) begin columns n (circuit-formed design request models can) order (states-with models (plan_reference design request) (plan_start design request).state request.bridges (plan-typed design request)) fed.inputs

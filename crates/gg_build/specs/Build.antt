@@ -16,7 +16,7 @@ use Rattle.gg_cut.specs.declared.plan.Body.TheVariants.{Bridge}
 use Rattle.gg_cut.specs.declared.plan.BridgeBody.{BridgeBody}
 use Rattle.gg_cut.specs.Plan.{IsPlan}
 use Rattle.gg_pipe.specs.Follows.{plan_start, plan_token}
-use Rattle.gg_bridged.specs.Found.{found_order}
+use Rattle.gg_order.specs.Found.{found_order}
 use Rattle.gg_bridged.specs.Whole.{CanBridge, plan_begin, plan_circuit}
 use Rattle.gg_node.specs.Machine.{Machine}
 use Rattle.gg_net.specs.Network.{Network}

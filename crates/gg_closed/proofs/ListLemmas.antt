@@ -1,10 +1,11 @@
 -- What a list contains that is made from other lists; and pairs of its items.
+pub use Rattle.gg_order.proofs.NumberLemmas.{AllPairs-append}
 use Rattle.std.proofs.Common.{◌≡◌, ℕ, zero, suc, ◌+◌, ◌<◌, List, [], ◌∷◌, ◌++◌, length, map, get_or, refl, ap, subst, inl, inr, ◌⊎◌, arith}
 use Rattle.std.specs.Prelude.{flat_map, Contains, All, AllPairs}
-use Rattle.std.proofs.lemmas.List.Elements.{Contains-append_left, Contains-append_right, Contains-append_cases, Contains-get_or}
+use Rattle.std.proofs.lemmas.List.Elements.{Contains-append_left, Contains-append_right, Contains-append_cases}
 use Rattle.std.proofs.lemmas.List.Kept.{AllPairs-cons}
 use Rattle.gg_cut.specs.Channels.{flattened, numbered}
-use Rattle.gg_flat.proofs.ListLemmas.{here, further, Contains-cases}
+use Rattle.gg_flat.proofs.ListLemmas.{Contains-cases}
 
 -- ---- what a list contains
 
@@ -76,19 +77,6 @@ numbered-cases f n (x ∷ xs) y h = by (Contains-append_cases (f n x) (numbered 
 
 pub pairs-nil : {A : Type 0} (R : A → A → Type 0) → AllPairs R []
 pairs-nil R i j d less lt = absurd (omega (arith, lt))
-
-pub AllPairs-append : {A : Type 0} (R : A → A → Type 0) (xs ys : List A) → AllPairs R xs → AllPairs R ys → ((x y : A) → Contains xs x → Contains ys y → R x y) → AllPairs R (xs ++ ys)
-AllPairs-append R [] ys a b cross = b
-AllPairs-append R (x ∷ xs) ys a b cross =
-    AllPairs-cons R x (xs ++ ys) first
-    (AllPairs-append R xs ys (λ i j d less lt. a (suc i) (suc j) d (omega (arith, less)) (omega (arith, lt))) b (λ u v p q. cross u v (further x xs u p) q))
-  where
-    first : All (R x) (xs ++ ys)
-    first k d lt = by (Contains-append_cases xs ys (get_or (xs ++ ys) k d) (Contains-get_or (xs ++ ys) k d lt))
-      where
-        by : Contains xs (get_or (xs ++ ys) k d) ⊎ Contains ys (get_or (xs ++ ys) k d) → R x (get_or (xs ++ ys) k d)
-        by (inl p) = subst (λ y. R x y) p.2 (a 0 (suc p.0) (get_or (xs ++ ys) k d) (omega arith) (omega (arith, p.1)))
-        by (inr q) = cross x (get_or (xs ++ ys) k d) (here x xs) q
 
 pub AllPairs-flattened : {A B : Type 0} (R : B → B → Type 0) (f : A → List B) (xs : List A) → All (λ x. AllPairs R (f x)) xs → AllPairs (λ x y. (a b : B) → Contains (f x) a → Contains (f y) b → R a b) xs → AllPairs R (flattened f xs)
 AllPairs-flattened R f [] each cross = pairs-nil R

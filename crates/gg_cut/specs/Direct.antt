@@ -4,6 +4,7 @@
 -- in-channel leaves, with its copies, if a direct channel has it as its origin and the hub needs it for nothing else.
 -- Source: MEMOCODE 2009 (a fork: one out-signal of a node on several channels); this program's profile for which
 -- channels are direct.
+pub use Rattle.gg_order.specs.Found.{op_names, line_names}
 use Rattle.std.specs.Prelude.{◌≡◌, ℕ, zero, suc, List, [], ◌∷◌, ◌++◌, Bool, true, false, not, ◌||◌, ◌&&◌, ◌==◌, if◌then◌else◌, Option, Some, None, length, map, filter, flat_map, find, option_and_then, is_some, slice_get}
 use Rattle.std.specs.List.{list_any, range_with_len}
 use Rattle.gg_flat.specs.declared.line.Node.{Node}
@@ -28,18 +29,6 @@ use Rattle.gg_cut.specs.Machines.{is_memory}
 use Rattle.gg_cut.specs.Channels.{wires_of}
 
 -- ---- what a driver names
-
-abbrev pub op_names : Op → List ℕ
-op_names (Ref s) = s ∷ []
-op_names (Literal value) = []
-op_names (One op i) = []
-op_names (Two op i j) = []
-op_names (Fix op i n m) = []
-op_names (Mux c i j) = []
-
--- the signals that a line refers to
-abbrev pub line_names : List Node → List ℕ
-line_names line = flat_map (λ node. op_names node.op) line
 
 abbrev pub next_names : Option (List Node) → List ℕ
 next_names None = []

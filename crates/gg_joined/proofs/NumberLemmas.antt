@@ -1,11 +1,12 @@
 -- Items by number, the place of a number in a list, and what is left without some numbers.
-use Rattle.std.proofs.Common.{◌≡◌, ◌≢◌, ℕ, zero, suc, ◌+◌, ◌<◌, List, [], ◌∷◌, length, get_or, Bool, true, false, true≢false, eq-eqb, true-eqb, Option, Some, None, refl, sym, ◌∙◌, ap, subst, inl, inr, ◌⊎◌, arith}
-use Rattle.std.specs.Prelude.{◌==◌, ◌||◌, not, if◌then◌else◌, option_map, unwrap_or, Contains, AllPairs}
+pub use Rattle.gg_order.proofs.NumberLemmas.{any-has, any-is, behind-once}
+use Rattle.std.proofs.Common.{◌≡◌, ◌≢◌, ℕ, zero, suc, ◌+◌, ◌<◌, List, [], ◌∷◌, length, get_or, Bool, true, false, true≢false, eq-eqb, true-eqb, Option, Some, None, refl, sym, ◌∙◌, ap, inl, inr, ◌⊎◌, arith}
+use Rattle.std.specs.Prelude.{◌==◌, not, if◌then◌else◌, option_map, unwrap_or, Contains, AllPairs}
 use Rattle.std.specs.List.{list_any, range_with_len}
 use Rattle.std.proofs.lemmas.Bool.{cases_Bool}
 use Rattle.std.proofs.lemmas.List.{get_or_default}
 use Rattle.std.proofs.lemmas.List.Kept.{AllPairs-filter}
-use Rattle.std.proofs.lemmas.List.FromFn.{get_or-range_with_len, length-range_with_len}
+use Rattle.std.proofs.lemmas.List.FromFn.{get_or-range_with_len}
 use Rattle.gg_flat.specs.Line.{value_at}
 use Rattle.gg_flat.proofs.ListLemmas.{Contains-cases, Contains-filter, filter-cases, once-apart}
 use Rattle.gg_joined.specs.Joined.{by_number, place_among, without}
@@ -31,14 +32,6 @@ behind a n i lt = get_or-range_with_len a n i 0 lt
 
 pub behind-first : (n i : ℕ) → i < n → value_at (range_with_len 0 n) i ≡ i
 behind-first n i lt = get_or-range_with_len 0 n i 0 lt ∙ (let same : 0 + i ≡ i = omega arith in same)
-
-pub behind-once : (a n : ℕ) → AllPairs (λ x y. x ≢ y) (range_with_len a n)
-behind-once a n i j d less lt same =
-    let second : j < n = omega (arith, lt, length-range_with_len a n) in
-    let first : i < n = omega (arith, less, second) in
-    let x = get_or-range_with_len a n i d first in
-    let y = get_or-range_with_len a n j d second in
-    omega (arith, x, y, same, less)
 
 -- ---- the place of a number
 
@@ -83,25 +76,6 @@ place-of xs s h = by (place_among xs s) refl (place-tells xs s)
         record { known = omega (arith, t.0, at); is = ap (value_at xs) at ∙ t.1 }
 
 -- ---- numbers that are left
-
-pub any-is : (xs : List ℕ) (s : ℕ) → list_any (λ t. t == s) xs ≡ true → Contains xs s
-any-is [] s e = absurd (true≢false (sym e))
-any-is (x ∷ xs) s e = by (x == s) refl e (any-is xs s)
-  where
-    by : (b : Bool) → (x == s) ≡ b → list_any (λ t. t == s) (x ∷ xs) ≡ true → (list_any (λ t. t == s) xs ≡ true → Contains xs s) → Contains (x ∷ xs) s
-    by true is h rest = (0, omega arith, true-eqb x s (sym is))
-    by false is h rest =
-        let more = rest (subst (λ (b : Bool). (b || list_any (λ t. t == s) xs) ≡ true) is h) in
-        (suc more.0, omega (arith, more.1), more.2)
-
-pub any-has : (xs : List ℕ) (s : ℕ) → Contains xs s → list_any (λ t. t == s) xs ≡ true
-any-has [] s h = absurd (omega (arith, h.1))
-any-has (x ∷ xs) s h = by (x == s) refl (Contains-cases x s xs h) (any-has xs s)
-  where
-    by : (b : Bool) → (x == s) ≡ b → (x ≡ s) ⊎ Contains xs s → (Contains xs s → list_any (λ t. t == s) xs ≡ true) → list_any (λ t. t == s) (x ∷ xs) ≡ true
-    by true is c rest = ap (λ (b : Bool). b || list_any (λ t. t == s) xs) is
-    by false is (inl same) rest = absurd (true≢false (sym (eq-eqb x s same) ∙ is))
-    by false is (inr r) rest = ap (λ (b : Bool). b || list_any (λ t. t == s) xs) is ∙ rest r
 
 -- it was there, and isn't gone
 pub record IsLeft (gone list : List ℕ) (s : ℕ) : Type 0 where

@@ -1,24 +1,11 @@
 -- Pairs of items of joined lists and of images, and what stands before an item.
-use Rattle.std.proofs.Common.{◌≡◌, ◌≢◌, ℕ, zero, suc, ◌+◌, ◌<◌, List, [], ◌∷◌, ◌++◌, length, map, take, get_or, Bool, true, false, true≢false, refl, sym, ◌∙◌, ap, subst, inl, inr, ◌⊎◌, length-take, arith}
-use Rattle.std.specs.Prelude.{cond, filter, Contains, All, AllPairs}
+pub use Rattle.gg_order.proofs.NumberLemmas.{AllPairs-append}
+use Rattle.std.proofs.Common.{◌≡◌, ◌≢◌, ℕ, zero, suc, ◌+◌, ◌<◌, List, [], ◌∷◌, length, map, take, Bool, true, false, true≢false, refl, sym, ◌∙◌, ap, length-take, arith}
+use Rattle.std.specs.Prelude.{cond, filter, Contains, AllPairs}
 use Rattle.std.proofs.lemmas.List.{get_or-map, get_or-take, get_or_default, length-map}
-use Rattle.std.proofs.lemmas.List.Elements.{Contains-append_cases, Contains-get_or}
-use Rattle.std.proofs.lemmas.List.Kept.{AllPairs-cons}
+use Rattle.std.proofs.lemmas.List.Elements.{Contains-get_or}
 use Rattle.gg_flat.specs.Line.{value_at}
-use Rattle.gg_flat.proofs.ListLemmas.{here, further}
-
-pub AllPairs-append : {A : Type 0} (R : A → A → Type 0) (xs ys : List A) → AllPairs R xs → AllPairs R ys → ((x y : A) → Contains xs x → Contains ys y → R x y) → AllPairs R (xs ++ ys)
-AllPairs-append R [] ys a b cross = b
-AllPairs-append R (x ∷ xs) ys a b cross =
-    AllPairs-cons R x (xs ++ ys) first
-    (AllPairs-append R xs ys (λ i j d less lt. a (suc i) (suc j) d (omega (arith, less)) (omega (arith, lt))) b (λ u v p q. cross u v (further x xs u p) q))
-  where
-    first : All (R x) (xs ++ ys)
-    first k d lt = by (Contains-append_cases xs ys (get_or (xs ++ ys) k d) (Contains-get_or (xs ++ ys) k d lt))
-      where
-        by : Contains xs (get_or (xs ++ ys) k d) ⊎ Contains ys (get_or (xs ++ ys) k d) → R x (get_or (xs ++ ys) k d)
-        by (inl p) = subst (λ y. R x y) p.2 (a 0 (suc p.0) (get_or (xs ++ ys) k d) (omega arith) (omega (arith, p.1)))
-        by (inr q) = cross x (get_or (xs ++ ys) k d) (here x xs) q
+use Rattle.gg_flat.proofs.ListLemmas.{further}
 
 -- numbers moved by as many are distinct if they were
 pub moved-once : (n : ℕ) (xs : List ℕ) → AllPairs (λ a b. a ≢ b) xs → AllPairs (λ a b. a ≢ b) (map (λ s. n + s) xs)

@@ -1,4 +1,6 @@
 pub mod MarkLemmas
 pub mod ReadLemmas
 pub mod LoopLemmas
+pub mod NumberLemmas
+pub mod FoundLemmas
 mod WorkedLoops

@@ -25,7 +25,7 @@ in-turn circuit first [] goes = goes
 in-turn circuit first (a ∷ []) goes = goes
 in-turn circuit first (a ∷ b ∷ rest) goes = (goes.0, in-turn circuit first (b ∷ rest) goes.1)
 
-IsLoop-ring : (circuit : FlatCircuit) (count : ℕ) (ring : List ℕ) → IsRing (Reads circuit) count ring → IsLoop circuit ring
+pub IsLoop-ring : (circuit : FlatCircuit) (count : ℕ) (ring : List ℕ) → IsRing (Reads circuit) count ring → IsLoop circuit ring
 IsLoop-ring circuit count [] r = r.round
 IsLoop-ring circuit count (first ∷ rest) r = (r.once, in-turn circuit first (first ∷ rest) r.round)
 

@@ -1,5 +1,6 @@
 pub mod Design
 pub mod Fault
+pub mod Found
 pub mod Loop
 pub mod Marks
 pub mod Places

@@ -6,6 +6,7 @@
 //!
 //! - `order` returns an order exactly if the circuit has no combinational loop. Else it returns such a loop, which
 //!   begins with the signal whose path is the least by bytes (`IsToldLoop`). It may return `NoMemory` instead;
+//! - a circuit without a combinational loop has an order, which is found from the circuit alone (`orders_are_found`);
 //! - a `Design` is a well-formed flat circuit, with a tree of instances and an order of it.
 //!
 //! The time that `order` takes is linear in the numbers of signals and nodes.
@@ -14,9 +15,11 @@
 mod design;
 mod fault;
 mod graph;
+mod laws;
 mod loops;
 mod ordering;
 
 pub use design::Design;
 pub use fault::OrderFault;
+pub use laws::orders_are_found;
 pub use ordering::{Order, order};

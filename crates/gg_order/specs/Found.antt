@@ -1,11 +1,25 @@
 -- An order of evaluation, found from the circuit alone.
 -- Source: A. B. Kahn, Topological sorting of large networks, CACM 1962: whatever needs only what is placed is placed next.
-use Rattle.std.specs.Prelude.{ℕ, zero, suc, List, [], ◌∷◌, ◌++◌, Bool, not, ◌&&◌, ◌==◌, filter, length}
+use Rattle.std.specs.Prelude.{ℕ, zero, suc, List, [], ◌∷◌, ◌++◌, Bool, not, ◌&&◌, ◌==◌, filter, flat_map, length}
 use Rattle.std.specs.List.{list_all, list_any, range_with_len}
 use Rattle.gg_flat.specs.Circuit.{FlatCircuit, driver_at}
+use Rattle.gg_flat.specs.declared.line.Node.{Node}
+use Rattle.gg_flat.specs.declared.line.Op.{Op}
+use Rattle.gg_flat.specs.declared.line.Op.TheVariants.{Ref, Literal, One, Two, Fix, Mux}
 use Rattle.gg_flat.specs.declared.piece.Driver.{Driver}
 use Rattle.gg_flat.specs.declared.piece.Driver.TheVariants.{Input, Held, MemoryWord, ReadRegister, Computed}
-use Rattle.gg_cut.specs.Direct.{line_names}
+
+abbrev pub op_names : Op → List ℕ
+op_names (Ref s) = s ∷ []
+op_names (Literal value) = []
+op_names (One op i) = []
+op_names (Two op i j) = []
+op_names (Fix op i n m) = []
+op_names (Mux c i j) = []
+
+-- the signals that a line refers to
+abbrev pub line_names : List Node → List ℕ
+line_names line = flat_map (λ node. op_names node.op) line
 
 -- the signals that a driver reads in the same tick
 abbrev pub reads_of : Driver → List ℕ

@@ -1,11 +1,11 @@
--- The order that is found is one, if the circuit has any.
-use Rattle.std.proofs.Common.{◌≡◌, ◌≢◌, ℕ, zero, suc, ◌+◌, ◌-◌, ◌<◌, ◌≤◌, List, [], ◌∷◌, ◌++◌, Bool, true, false, true≢false, length, map, take, refl, sym, ◌∙◌, ap, subst, inl, inr, ◌⊎◌, arith}
-use Rattle.std.specs.Prelude.{AllPairs, Contains, not, ◌&&◌, filter}
+-- The order that is found is one, if the circuit is well formed and has no combinational loop.
+use Rattle.std.proofs.Common.{◌≡◌, ◌≢◌, ℕ, zero, suc, ◌+◌, ◌-◌, ◌<◌, ◌≤◌, List, [], ◌∷◌, ◌++◌, Bool, true, false, true≢false, length, get_or, map, take, drop, refl, sym, ◌∙◌, ap, subst, inl, inr, ◌⊎◌, arith}
+use Rattle.std.specs.Prelude.{All, AllPairs, Contains, not, ◌&&◌, filter}
 use Rattle.std.specs.List.{list_all, range_with_len}
 use Rattle.std.proofs.lemmas.Bool.{and_parts, cases_lt, cases_Bool}
-use Rattle.std.proofs.lemmas.List.{get_or-append-add, get_or_append_left, get_or_default, get_or-take, length-append, length-take}
-use Rattle.std.proofs.lemmas.List.Elements.{Contains-append_cases, Contains-append_left, Contains-append_right, Contains-get_or}
-use Rattle.std.proofs.lemmas.List.Kept.{AllPairs-filter}
+use Rattle.std.proofs.lemmas.List.{get_or-append-add, get_or-drop, get_or_append_left, get_or_default, get_or-take, length-append, length-drop, length-take}
+use Rattle.std.proofs.lemmas.List.Elements.{All-append, All-contains, Contains-push, Contains-append_cases, Contains-append_left, Contains-append_right, Contains-get_or}
+use Rattle.std.proofs.lemmas.List.Kept.{AllPairs-cons, AllPairs-filter}
 use Rattle.gg_flat.specs.declared.line.Node.{Node}
 use Rattle.gg_flat.specs.declared.line.Op.{Op}
 use Rattle.gg_flat.specs.declared.line.Op.TheVariants.{Ref, Literal, One, Two, Fix, Mux}
@@ -14,14 +14,17 @@ use Rattle.gg_flat.specs.declared.piece.Driver.TheVariants.{Input, Held, MemoryW
 use Rattle.gg_flat.specs.Circuit.{FlatCircuit, driver_at}
 use Rattle.gg_flat.specs.Line.{value_at}
 use Rattle.gg_flat.specs.Order.{IsOrder}
-use Rattle.gg_flat.specs.Reads.{NamesSignal, Names, Reads}
-use Rattle.gg_flat.proofs.ListLemmas.{here, Contains-cases, Contains-filter, filter-cases, in-range, range-below}
-use Rattle.gg_flat.proofs.OrderLemmas.{stands-before, place-of}
-use Rattle.gg_part.proofs.FrameLemmas.{length-once}
-use Rattle.gg_cut.specs.Direct.{op_names, line_names}
-use Rattle.gg_joined.proofs.NumberLemmas.{any-is, any-has, behind-once}
-use Rattle.gg_joined.proofs.PairLemmas.{AllPairs-append}
-use Rattle.gg_bridged.specs.Found.{reads_of, is_placed, is_ready, placed_after, found_order}
+use Rattle.gg_flat.specs.Reads.{IsLoop, NamesSignal, Names, Reads}
+use Rattle.gg_flat.specs.WellFormed.{IsWellFormed}
+use Rattle.gg_flat.proofs.ListLemmas.{here, further, Contains-cases, Contains-filter, filter-cases, in-range, range-below}
+use Rattle.gg_flat.proofs.OrderLemmas.{stands-before}
+use Rattle.gg_walk.specs.Graph.{IsRing}
+use Rattle.gg_walk.specs.Walk.{IsChain}
+use Rattle.gg_walk.proofs.RingLemmas.{GoesRound-end, IsChain-push, once-drop}
+use Rattle.gg_order.specs.Found.{op_names, line_names, reads_of, is_placed, is_ready, placed_after, found_order}
+use Rattle.gg_order.proofs.LoopLemmas.{IsLoop-ring}
+use Rattle.gg_order.proofs.NumberLemmas.{AllPairs-append, any-has, any-is, behind-once, length-once}
+use Rattle.gg_order.proofs.ReadLemmas.{names_within}
 
 -- ---- what a driver reads
 
@@ -90,6 +93,20 @@ all-true : (test : ℕ → Bool) (xs : List ℕ) → ((x : ℕ) → Contains xs 
 all-true test [] each = refl
 all-true test (y ∷ ys) each =
     ap (λ (b : Bool). b && list_all test ys) (each y (here y ys)) ∙ all-true test ys (λ x h. each x (suc h.0, omega (arith, h.1), h.2))
+
+-- an item that fails a test
+record Fails (test : ℕ → Bool) (xs : List ℕ) : Type 0 where
+  item : ℕ
+  among : Contains xs item
+  fails : test item ≡ false
+
+some-fails : (test : ℕ → Bool) (xs : List ℕ) → list_all test xs ≡ false → Fails test xs
+some-fails test [] e = absurd (true≢false e)
+some-fails test (y ∷ ys) e = by (test y) refl e (some-fails test ys)
+  where
+    by : (b : Bool) → test y ≡ b → (b && list_all test ys) ≡ false → (list_all test ys ≡ false → Fails test ys) → Fails test (y ∷ ys)
+    by true is rest more = let found = more rest in record { item = found.item; among = further y ys found.item found.among; fails = found.fails }
+    by false is rest more = record { item = y; among = here y ys; fails = is }
 
 -- what stands before place i
 in-take : (xs : List ℕ) (i k s : ℕ) → k < i → k < length xs → value_at xs k ≡ s → Contains (take i xs) s
@@ -177,30 +194,169 @@ module _ (circuit : FlatCircuit) where
           in-take (placed_after circuit n ++ fresh n) i found.0 s (omega (arith, within, high)) (omega (arith, within, length-append (placed_after circuit n) (fresh n)))
           (get_or_append_left (placed_after circuit n) (fresh n) 0 found.0 within ∙ get_or_default (placed_after circuit n) found.0 0 s within ∙ found.2)
 
-  -- ---- an order says that all are placed
+  -- ---- no loop says that all are placed
 
-  module _ (order : List ℕ) (is : IsOrder circuit order) where
-    first-placed : (i : ℕ) → i ≤ length order → (j : ℕ) → j < i → Contains (placed_after circuit i) (value_at order j)
-    first-placed zero le j lt = absurd (omega (arith, lt))
-    first-placed (suc i) le j lt = by (cases_lt j i) (λ k less. first-placed i (omega (arith, le)) k less)
+  placed-below : (n : ℕ) → All (λ s. s < length circuit.signals) (placed_after circuit n)
+  placed-below n i d lt = placed-low n (get_or (placed_after circuit n) i d) (Contains-get_or (placed_after circuit n) i d lt)
+
+  -- a signal that isn't placed reads one that isn't, if a round places none
+  record Waits (placed : List ℕ) (s : ℕ) : Type 0 where
+    read : ℕ
+    reads : Reads circuit s read
+    low : read < length circuit.signals
+    waits : is_placed placed read ≡ false
+
+  module _ (formed : IsWellFormed circuit) (free : (loop : List ℕ) → ¬ IsLoop circuit loop) (n : ℕ) (still : fresh n ≡ []) where
+    abbrev placed : List ℕ
+    placed = placed_after circuit n
+
+    waits : (s : ℕ) → s < length circuit.signals → is_placed placed s ≡ false → Waits placed s
+    waits s low new = by (list_all (is_placed placed) (reads_of (driver_at circuit s))) refl
       where
-        by : (j < i) ⊎ (i ≤ j) → ((k : ℕ) → k < i → Contains (placed_after circuit i) (value_at order k)) → Contains (placed_after circuit (suc i)) (value_at order j)
-        by (inl less) rest = Contains-append_left (placed_after circuit i) (fresh i) (value_at order j) (rest j less)
-        by (inr more) rest =
-            let inside : j < length order = omega (arith, lt, le) in
-            let same : j ≡ i = omega (arith, lt, more) in
-            next i (value_at order j) (is.signals j inside) (λ t names.
-            let at = stands-before order j t (is.after j t inside (record { signal = is.signals j inside; names = names })) in
-            subst (Contains (placed_after circuit i)) at.is (rest at.place (omega (arith, at.before, same))))
+        by : (b : Bool) → list_all (is_placed placed) (reads_of (driver_at circuit s)) ≡ b → Waits placed s
+        by true e =
+            let ready : is_ready circuit placed s ≡ true = ap (λ (b : Bool). not b && list_all (is_placed placed) (reads_of (driver_at circuit s))) new ∙ e in
+            let none = subst (λ xs. Contains xs s) still (Contains-filter (is_ready circuit placed) (range_with_len 0 (length circuit.signals)) s (in-range (length circuit.signals) s low) ready) in
+            absurd (omega (arith, none.1))
+        by false e =
+            let found = some-fails (is_placed placed) (reads_of (driver_at circuit s)) e in
+            let names = reads-out (driver_at circuit s) found.item found.among in
+            record {
+              read = found.item;
+              reads = record { signal = low; names = names };
+              low = names_within circuit s found.item formed low names;
+              waits = found.fails;
+            }
 
-    few : length order ≤ length circuit.signals
-    few = length-once order (length circuit.signals) is.once (λ i d lt. let known = is.signals i lt in let same = get_or_default order i d 0 lt in omega (arith, known, same))
+    -- a path of distinct signals that aren't placed: each reads the next
+    record Path : Type 0 where
+      front : List ℕ
+      last : ℕ
+      chain : IsChain (Reads circuit) (front ++ last ∷ [])
+      once : AllPairs (λ a b. a ≢ b) (front ++ last ∷ [])
+      low : All (λ s. s < length circuit.signals) (front ++ last ∷ [])
+      waiting : is_placed (placed_after circuit n) last ≡ false
 
+    abbrev on : Path → List ℕ
+    on path = path.front ++ path.last ∷ []
+
+    -- one signal more: were it on the path, the path from there on would be a loop
+    longer : (path : Path) → (more : Path) × (length more.front ≡ suc (length path.front))
+    longer path = by (is_placed (on path) next.read) refl
+      where
+        last-low : path.last < length circuit.signals
+        last-low = All-contains (λ s. s < length circuit.signals) (on path) path.last path.low (Contains-push path.front path.last)
+
+        next : Waits (placed_after circuit n) path.last
+        next = waits path.last last-low path.waiting
+
+        grown : length (on path) ≡ suc (length path.front)
+        grown = omega (arith, length-append path.front (path.last ∷ []))
+
+        ring : (k : ℕ) → k < length (on path) → get_or (on path) k next.read ≡ next.read → IsRing (Reads circuit) (length circuit.signals) (drop k (on path))
+        ring k lt is =
+            record {
+              nodes = λ i within.
+                  subst (λ s. s < length circuit.signals) (sym (get_or-drop k (on path) i 0))
+                  (path.low (k + i) 0 (omega (arith, within, length-drop k (on path))));
+              once = once-drop k (on path) path.once;
+              round = GoesRound-end (Reads circuit) path.front path.last next.read k path.chain next.reads lt is;
+            }
+
+        by : (b : Bool) → is_placed (on path) next.read ≡ b → (more : Path) × (length more.front ≡ suc (length path.front))
+        by true e =
+            let found = any-is (on path) next.read e in
+            absurd (free (drop found.0 (on path)) (IsLoop-ring circuit (length circuit.signals) (drop found.0 (on path)) (ring found.0 found.1 found.2)))
+        by false e = (
+          record {
+            front = on path;
+            last = next.read;
+            chain = IsChain-push (Reads circuit) path.front path.last next.read path.chain next.reads;
+            once = AllPairs-append (λ a b. a ≢ b) (on path) (next.read ∷ []) path.once (λ i j d less lt. absurd (omega (arith, less, lt)))
+                (λ x y a b same. absurd (true≢false (sym (any-has (on path) next.read (subst (Contains (on path)) (same ∙ alone y b) a)) ∙ e)));
+            low = All-append (λ s. s < length circuit.signals) (on path) (next.read ∷ []) path.low (λ i d lt. only i d lt);
+            waiting = next.waits;
+          },
+          grown,
+        )
+          where
+            alone : (y : ℕ) → Contains (next.read ∷ []) y → y ≡ next.read
+            alone y h = at (Contains-cases next.read y [] h)
+              where
+                at : (next.read ≡ y) ⊎ Contains [] y → y ≡ next.read
+                at (inl same) = sym same
+                at (inr none) = absurd (omega (arith, none.1))
+
+            only : (i d : ℕ) → i < 1 → get_or (next.read ∷ []) i d < length circuit.signals
+            only zero d lt = next.low
+            only (suc i) d lt = absurd (omega (arith, lt))
+
+    long : Path → (k : ℕ) → (path : Path) × (k ≤ length path.front)
+    long first zero = (first, omega arith)
+    long first (suc k) =
+        let before = long first k in
+        let after = longer before.0 in
+        (after.0, omega (arith, before.1, after.1))
+
+    all-there : (s : ℕ) → s < length circuit.signals → Contains (placed_after circuit n) s
+    all-there s low = by (is_placed (placed_after circuit n) s) refl
+      where
+        first : is_placed (placed_after circuit n) s ≡ false → Path
+        first new =
+            record {
+              front = [];
+              last = s;
+              chain = tt;
+              once = λ i j d less lt. absurd (omega (arith, less, lt));
+              low = λ i d lt. only i d lt;
+              waiting = new;
+            }
+          where
+            only : (i d : ℕ) → i < 1 → get_or (s ∷ []) i d < length circuit.signals
+            only zero d lt = low
+            only (suc i) d lt = absurd (omega (arith, lt))
+
+        by : (b : Bool) → is_placed (placed_after circuit n) s ≡ b → Contains (placed_after circuit n) s
+        by true e = any-is (placed_after circuit n) s e
+        by false e =
+            let far = long (first e) (length circuit.signals) in
+            let path = far.0 in
+            let few = length-once (path.front ++ path.last ∷ []) (length circuit.signals) path.once path.low in
+            absurd (omega (arith, far.1, few, length-append path.front (path.last ∷ [])))
+
+  -- after n rounds all signals are placed, or at least n
+  grown-to : IsWellFormed circuit → ((loop : List ℕ) → ¬ IsLoop circuit loop) → (n : ℕ) → ((s : ℕ) → s < length circuit.signals → Contains (placed_after circuit n) s) ⊎ (n ≤ length (placed_after circuit n))
+  grown-to formed free zero = inr (omega arith)
+  grown-to formed free (suc n) = by (grown-to formed free n) (fresh n) refl
+    where
+      by : ((s : ℕ) → s < length circuit.signals → Contains (placed_after circuit n) s) ⊎ (n ≤ length (placed_after circuit n)) → (new : List ℕ) → fresh n ≡ new
+          → ((s : ℕ) → s < length circuit.signals → Contains (placed_after circuit n ++ fresh n) s) ⊎ (suc n ≤ length (placed_after circuit n ++ fresh n))
+      by (inl all) new is = inl (λ s low. Contains-append_left (placed_after circuit n) (fresh n) s (all s low))
+      by (inr most) [] is = inl (λ s low. Contains-append_left (placed_after circuit n) (fresh n) s (all-there formed free n is s low))
+      by (inr most) (s ∷ rest) is = inr (omega (arith, most, length-append (placed_after circuit n) (fresh n), ap length is))
+
+  module _ (formed : IsWellFormed circuit) (free : (loop : List ℕ) → ¬ IsLoop circuit loop) where
+    -- distinct numbers below the count, as many as there are signals, are all of them
     all-placed : (s : ℕ) → s < length circuit.signals → Contains (found_order circuit) s
-    all-placed s lt =
-        let at = place-of circuit order s is lt in
-        stays (suc at.place) (length circuit.signals) s (omega (arith, at.within, few))
-        (subst (Contains (placed_after circuit (suc at.place))) at.is (first-placed (suc at.place) (omega (arith, at.within)) at.place (omega arith)))
+    all-placed s low = by (grown-to formed free (length circuit.signals)) (cases_Bool (is_placed (found_order circuit) s))
+      where
+        once : is_placed (found_order circuit) s ≡ false → AllPairs (λ a b. a ≢ b) (s ∷ found_order circuit)
+        once new =
+            AllPairs-cons (λ a b. a ≢ b) s (found_order circuit)
+            (λ i d lt same. absurd (true≢false (sym (any-has (found_order circuit) s (subst (Contains (found_order circuit)) (sym same) (Contains-get_or (found_order circuit) i d lt))) ∙ new)))
+            (placed-once (length circuit.signals))
+
+        below : All (λ t. t < length circuit.signals) (s ∷ found_order circuit)
+        below zero d lt = low
+        below (suc i) d lt = placed-below (length circuit.signals) i d (omega (arith, lt))
+
+        by : ((t : ℕ) → t < length circuit.signals → Contains (found_order circuit) t) ⊎ (length circuit.signals ≤ length (found_order circuit))
+            → (is_placed (found_order circuit) s ≡ true) ⊎ (is_placed (found_order circuit) s ≡ false) → Contains (found_order circuit) s
+        by (inl all) there = all s low
+        by (inr most) (inl there) = any-is (found_order circuit) s there
+        by (inr most) (inr new) =
+            let few : suc (length (found_order circuit)) ≤ length circuit.signals = length-once (s ∷ found_order circuit) (length circuit.signals) (once new) below in
+            absurd (omega (arith, most, few))
 
     pub found-is : IsOrder circuit (found_order circuit)
     found-is =
