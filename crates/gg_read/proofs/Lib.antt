@@ -2,6 +2,7 @@ pub mod Builds
 pub mod EveryText
 pub mod FaultLines
 pub mod LineSteps
+pub mod NamesSpelt
 pub mod NextStages
 pub mod TextSteps
 pub mod TokenCounts

@@ -1,6 +1,7 @@
 //! What follows from the definitions alone.
 ghost use Rattle.std.specs.Prelude.{◌≡◌, ◌⊎◌, ℕ, List};
 ghost use Rattle.std.specs.Str.{IsUtf8};
+ghost use Rattle.gg_ast.specs.Names.{AreNamesOfCircuit};
 ghost use Rattle.gg_ast.specs.Tree.{CircuitTree};
 ghost use Rattle.gg_read.specs.Text.{LineTokens, IsFaultLine, HasNoFaultLine, IsTooDeep, Spells};
 
@@ -22,4 +23,9 @@ pub fn spelt_but_too_deep()
 /// A text that is UTF-8 spells a circuit and has no fault line, or it has a fault line.
 pub fn every_text()
     ensures { (text : List ℕ) → IsUtf8 text → ((circuit : CircuitTree) × Spells text circuit × HasNoFaultLine text) ⊎ ((n : ℕ) × (line : LineTokens) × IsFaultLine text n line) }
+{}
+
+/// The names of a circuit that a text spells are names: they have no dot and no dash.
+pub fn spelt_names()
+    ensures { (text : List ℕ) (circuit : CircuitTree) → Spells text circuit → AreNamesOfCircuit circuit }
 {}
