@@ -3,6 +3,7 @@ pub mod ChildLemmas
 pub mod ClockedLemmas
 pub mod DeclaredLemmas
 pub mod DriverLemmas
+pub mod EachTreeLemmas
 pub mod ElementLemmas
 pub mod EndLemmas
 pub mod FieldLemmas

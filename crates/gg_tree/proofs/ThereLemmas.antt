@@ -76,7 +76,7 @@ holder-among (suc n) modules x y (suc i, lt, is) =
     go h c (inl same) = record { outer = record { path = x.path; number = x.number; name = h.name }; is = ap (λ (s : Site). s.outer) same; there = (0, omega arith, refl) }
     go h c (inr a) = record { outer = a.outer; is = a.is; there = below-among n modules x h a.outer.path c a.there }
 
-outer-there : (circuit : CircuitTree) (y : Site) → Contains (sites_of circuit) y → (y.outer ≡ None) ⊎ HolderAmong (sites_of circuit) y
+pub outer-there : (circuit : CircuitTree) (y : Site) → Contains (sites_of circuit) y → (y.outer ≡ None) ⊎ HolderAmong (sites_of circuit) y
 outer-there circuit y c = go (place_of circuit.name (module_names circuit)) c
   where
     pick : (k : ℕ) → (y ≡ top_site k) ⊎ HolderAmong (sites_from circuit.modules (Some k)) y → (y.outer ≡ None) ⊎ HolderAmong (sites_from circuit.modules (Some k)) y

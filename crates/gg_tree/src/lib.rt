@@ -10,6 +10,7 @@
 //! this follows of its own instance. The crate promises:
 //!
 //! - `tree_of` is the circuit's tree;
+//! - each circuit has a tree (`each_has_tree`);
 //! - `fits` states that this tree is one of the circuit's flat circuit (`IsTree`); that the flat circuit keeps to its
 //!   scopes (`IsScoped`): what a driver names is visible where the driver is written; and that the circuit's clocks are
 //!   those that the tree leads to (`IsClocked`).
@@ -18,10 +19,12 @@
 mod clocks;
 mod fitting;
 mod instances;
+mod laws;
 mod memories;
 mod places;
 mod stops;
 mod tree;
 
 pub use fitting::fits;
+pub use laws::each_has_tree;
 pub use tree::tree_of;
