@@ -1,7 +1,12 @@
 pub mod BuildLemmas
+pub mod EachCircuitLemmas
+pub mod EachLineLemmas
+pub mod EachSignalLemmas
+pub mod FewStopLemmas
 pub mod LimitLemmas
 pub mod LineLemmas
 pub mod PlacedLemmas
 pub mod ScopeLemmas
+pub mod SizedLemmas
 pub mod WholeLemmas
 pub mod WholeLineLemmas

@@ -7,12 +7,15 @@
 //! - the tree that it returns is a tree of the flat circuit (`IsTree`), and the flat circuit keeps to the tree's
 //!   scopes (`IsScoped`);
 //! - it refuses a circuit exactly if a count is above its limit, with the first such count (`IsAnswered`).
+//!
+//! A circuit without faults of types has a flat circuit (`each_has_flat`).
 #![tactic(auto)]
 
 mod build;
 mod elaborate;
 mod expression;
 mod fault;
+mod laws;
 mod lines;
 mod lookup;
 mod ports;
@@ -21,3 +24,4 @@ mod site;
 
 pub use elaborate::flatten;
 pub use fault::{ElabFault, limit_of};
+pub use laws::each_has_flat;

@@ -73,7 +73,7 @@ some-fault f h = cc
 
 -- ---- widths
 
-is_width-tells : (w : ℕ) → is_width w ≡ true → (1 ≤ w) × (w ≤ 128)
+pub is_width-tells : (w : ℕ) → is_width w ≡ true → (1 ≤ w) × (w ≤ 128)
 is_width-tells w h = grind (arith, nat_tests)
 
 width-from : (f : Fault) (w : ℕ) (b : Bool) → is_width w ≡ b → fault_if (not b) f ≡ [] → (1 ≤ w) × (w ≤ 128)
@@ -96,7 +96,7 @@ within-wide : (s t : Shape) (bad : Bad) (b : Bool) → is_width s.width ≡ b �
 within-wide s t bad true is h = let same : s ≡ t = cc in subst (λ x. IsWide (bits x)) same (is_width-tells s.width is)
 within-wide s t bad false is h = cc
 
-answer-wide : (a b : Bool) (s t : Shape) → answer a b s ≡ Ok t → IsWide (bits t)
+pub answer-wide : (a b : Bool) (s t : Shape) → answer a b s ≡ Ok t → IsWide (bits t)
 answer-wide false b s t h = cc
 answer-wide true false s t h = cc
 answer-wide true true s t h = within-wide s t _ (is_width s.width) refl h
@@ -259,7 +259,7 @@ first-between (suc more) w depth h = go (nat_le depth (2 ^ w)) (first-between mo
     go true later = (h, omega arith)
     go false later = (later.0, omega (arith, later.1))
 
-address-wide : (depth : ℕ) → (1 ≤ address_width depth) × (address_width depth ≤ 128)
+pub address-wide : (depth : ℕ) → (1 ≤ address_width depth) × (address_width depth ≤ 128)
 address-wide depth = let b = first-between 31 1 depth (omega arith) in (b.0, omega (arith, b.1))
 
 one-bit : (1 ≤ 1) × (1 ≤ 128)
