@@ -1,4 +1,5 @@
 pub mod AgreementLemmas
+pub mod EachMeaningLemmas
 pub mod FaultLemmas
 pub mod LoopLemmas
 pub mod MeaningLemmas

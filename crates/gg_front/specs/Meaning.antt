@@ -1,9 +1,10 @@
 -- What the bytes of a circuit file mean: a flat circuit, and a design: the flat circuit with the tree of the instances
 -- and an order. The bytes mean at most one flat circuit and one tree.
-use Rattle.std.specs.Prelude.{ℕ, List}
+use Rattle.std.specs.Prelude.{◌≡◌, ℕ, List}
 use Rattle.gg_flattened.specs.IsFlat.{IsFlat}
 use Rattle.gg_tree.specs.IsTreeOf.{IsTreeOf}
 use Rattle.gg_flat.specs.Circuit.{FlatCircuit}
+use Rattle.gg_flat.specs.Run.{IsColumns, IsRun}
 use Rattle.gg_flat.specs.WellFormed.{IsWellFormed}
 use Rattle.gg_order.specs.Design.{Ordered}
 use Rattle.gg_front.specs.Accepted.{IsAcceptedText}
@@ -19,3 +20,16 @@ pub record Means (bytes : List ℕ) (flat : FlatCircuit) : Type 0 where
 pub record MeansDesign (bytes : List ℕ) (design : Ordered) : Type 0 where
   pub means : Means bytes design.circuit
   pub grown : IsTreeOf means.text.circuit design.tree
+
+-- The circuit has exactly one run of n cycles on these columns of inputs.
+pub record HasOneRun (flat : FlatCircuit) (columns : List (List ℕ)) (n : ℕ) : Type 0 where
+  pub rows : List (List ℕ)
+  pub run : IsRun flat columns n rows
+  pub only : (others : List (List ℕ)) → IsRun flat columns n others → others ≡ rows
+
+-- The bytes mean exactly one flat circuit, and it has exactly one run on all columns of inputs that it can get.
+pub record MeansOne (bytes : List ℕ) : Type 0 where
+  pub flat : FlatCircuit
+  pub means : Means bytes flat
+  pub only : (other : FlatCircuit) → Means bytes other → other ≡ flat
+  pub runs : (columns : List (List ℕ)) (n : ℕ) → IsColumns flat n columns → HasOneRun flat columns n

@@ -2,7 +2,7 @@
 ghost use Rattle.std.specs.Prelude.{◌≡◌, ◌≢◌, ℕ, List};
 ghost use Rattle.gg_ast.specs.Tree.{CircuitTree};
 ghost use Rattle.gg_flat.specs.Circuit.{FlatCircuit};
-ghost use Rattle.gg_order.specs.Design.{Ordered};
+ghost use Rattle.gg_order.specs.Design.{IsDesign, Ordered};
 ghost use Rattle.gg_read.specs.Text.{Spells, HasReadFault};
 ghost use Rattle.gg_read.specs.declared.text.ReadFault.{ReadFault};
 ghost use Rattle.gg_read.specs.declared.text.ReadFault.TheVariants as unread;
@@ -10,7 +10,7 @@ ghost use Rattle.gg_shape.specs.declared.fault.Fault.{Fault};
 ghost use Rattle.gg_front.specs.Accepted.{IsAccepted, IsAcceptedText};
 ghost use Rattle.gg_front.specs.Agreement.{Agree};
 ghost use Rattle.gg_front.specs.Fault.{HasFrontFault, IsFaulty};
-ghost use Rattle.gg_front.specs.Meaning.{Means, MeansDesign};
+ghost use Rattle.gg_front.specs.Meaning.{Means, MeansDesign, MeansOne};
 ghost use Rattle.gg_front.specs.declared.fault.FrontFault.{FrontFault};
 ghost use Rattle.gg_front.specs.declared.fault.FrontFault.TheVariants.{NoMemory};
 
@@ -24,6 +24,18 @@ pub fn one_meaning()
 {
     one_circuit();
     gg_flattened::one_flat();
+}
+
+/// The bytes of an accepted circuit mean a design: a well-formed flat circuit, the tree of its instances and an order.
+pub fn each_has_design()
+    ensures { (bytes : List ℕ) → IsAcceptedText bytes → (design : Ordered) × IsDesign design × MeansDesign bytes design }
+{}
+
+/// The bytes of an accepted circuit mean exactly one flat circuit, which has exactly one run for each trace.
+pub fn each_has_one_run()
+    ensures { (bytes : List ℕ) → IsAcceptedText bytes → MeansOne bytes }
+{
+    one_meaning();
 }
 
 /// If one circuit that a text spells is accepted, each is.

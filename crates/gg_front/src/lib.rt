@@ -8,6 +8,8 @@
 //!   modules, or of several loops, may be reported.
 //! - `one_meaning`: some bytes mean at most one flat circuit and one tree of instances, so two designs that they mean
 //!   differ in their order alone.
+//! - `each_has_design`: the bytes of an accepted circuit mean a design.
+//! - `each_has_one_run`: they mean exactly one flat circuit, and it has exactly one run for each trace.
 //! - `acceptance_agrees`: if one circuit that a text spells is accepted, each is.
 //! - `one_fault`: two faults of a text are the same, except that any ring of modules and any loop may be reported.
 //! - `faults_apart`: an accepted text has no fault, and a text with a fault of reading has no fault of a circuit.
@@ -19,4 +21,6 @@ mod laws;
 
 pub use fault::FrontFault;
 pub use front_end::front;
-pub use laws::{acceptance_agrees, faults_apart, one_fault, one_meaning};
+pub use laws::{
+    acceptance_agrees, each_has_design, each_has_one_run, faults_apart, one_fault, one_meaning,
+};
