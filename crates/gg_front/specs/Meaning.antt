@@ -27,7 +27,7 @@ pub record HasOneRun (flat : FlatCircuit) (columns : List (List ℕ)) (n : ℕ) 
   pub run : IsRun flat columns n rows
   pub only : (others : List (List ℕ)) → IsRun flat columns n others → others ≡ rows
 
--- The bytes mean exactly one flat circuit, and it has exactly one run on all columns of inputs that it can get.
+-- The bytes mean exactly one flat circuit, and on any columns of inputs that it can get it has exactly one run.
 pub record MeansOne (bytes : List ℕ) : Type 0 where
   pub flat : FlatCircuit
   pub means : Means bytes flat
