@@ -56,6 +56,12 @@ stepped first turned after t change_lane change same program lanes turn below ke
     ∙ ap (λ (l : List Machine). slice_set l turned.turn (change (machine_at (machines_of first) t))) (machines_same first turned program lanes)
     ∙ ap (λ (k : ℕ). slice_set (machines_of first) k (change (machine_at (machines_of first) t))) turn
 
+-- a thread does a step that leaves the slots as they are
+pub stepped_apart : (first after : Sharing) (t : ℕ) (change_lane : Laned → Laned) (change : Machine → Machine) → ((lane : Laned) → change (lane_machine first.program lane) ≡ lane_machine first.program (change_lane lane)) → t < length (machines_of first) → after.program ≡ first.program → after.lanes ≡ slice_set first.lanes t (change_lane (lane_at first.lanes t)) → machines_of after ≡ slice_set (machines_of first) t (change (machine_at (machines_of first) t))
+stepped_apart first after t change_lane change same below kept set =
+    let at = machine_of_lane first.program first.lanes t (omega (arith, below, length-map first.lanes (lane_machine first.program))) in
+    machines_set first after t (change_lane (lane_at first.lanes t)) (change (machine_at (machines_of first) t)) kept set (ap change at ∙ same (lane_at first.lanes t))
+
 -- ---- what has still to be evaluated
 
 pub unset_turned : (shared : Sharing) (t : ℕ) → shared.turn ≡ t → unset_of shared t ≡ unset shared.program.circuit shared.slots

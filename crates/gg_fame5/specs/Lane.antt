@@ -1,7 +1,7 @@
 -- A lane: what one thread of a host has of its own, beside the program and the slots that the threads share.
 -- Source: FAME-5 (one model of several equal units, with the state of each); MEMOCODE 2009 (a node with a latch for
 -- each input and a flag for each output).
-use Rattle.std.specs.Prelude.{◌≡◌, ◌↔◌, ℕ, suc, ◌<◌, List, Option, Some, None, Bool, true, false, IsSome, length, replicate, slice_set}
+use Rattle.std.specs.Prelude.{◌≡◌, ◌↔◌, ℕ, suc, ◌+◌, ◌<◌, List, [], ◌∷◌, Option, Some, None, Bool, true, false, IsSome, length, replicate, slice_set}
 use Rattle.gg_bits.specs.Shape.{Fits}
 use Rattle.gg_flat.specs.Clock.{Ratio}
 use Rattle.gg_flat.specs.Line.{shape_at, value_at}
@@ -63,6 +63,16 @@ finished_lane lane next =
       latches = replicate (length lane.latches) None;
       flags = replicate (length lane.flags) false;
     }
+
+-- 1 if a latch is empty
+abbrev pub one_if_empty : Option ℕ → ℕ
+one_if_empty None = 1
+one_if_empty (Some value) = 0
+
+-- the number of latches that are empty
+abbrev pub empty_count : List (Option ℕ) → ℕ
+empty_count [] = 0
+empty_count (latch ∷ latches) = empty_count latches + one_if_empty latch
 
 -- ---- what it keeps to
 

@@ -1,6 +1,10 @@
 //! `Lane`: what one thread has of its own.
-ghost use Rattle.std.specs.Prelude.{◌≡◌, ◌+◌, ◌<◌, ◌≤◌, length, is_some, IfOk};
+ghost use Rattle.std.specs.Prelude.{◌≡◌, ◌+◌, ◌<◌, ◌≤◌, length, None, is_some, IfOk};
+ghost use Rattle.gg_bits.specs.Shape.{Fits};
 ghost use Rattle.gg_limits.specs.Limits.{cycle_limit};
+ghost use Rattle.gg_flat.specs.Circuit.{FlatCircuit};
+ghost use Rattle.gg_flat.specs.Line.{shape_at};
+ghost use Rattle.gg_flat.specs.Settled.{in_shapes};
 ghost use Rattle.gg_flat.specs.State.{IsState};
 ghost use Rattle.gg_node.specs.Machine.{latch_at, flag_at, missing};
 ghost use Rattle.gg_node.specs.Token.{IsToken, IsNextState};
@@ -28,6 +32,8 @@ pub(crate) struct Lane {
     timing: Timing,
     state: State,
     latches: Vec<Option<u128>>,
+    // the number of empty latches
+    empty: usize,
     flags: Vec<bool>,
 }
 
@@ -38,6 +44,7 @@ impl Drop for Lane {
             timing,
             state,
             latches,
+            empty: _,
             flags,
         } = self;
         drop(outs);
@@ -49,11 +56,14 @@ impl Drop for Lane {
 }
 
 impl Model for Lane {
-    ghost use Rattle.gg_fame5.specs.Lane.{Laned};
+    ghost use Rattle.std.specs.Prelude.{◌≡◌};
+    ghost use Rattle.gg_fame5.specs.Lane.{Laned, empty_count};
 
     ghost Value = { Laned };
 
     ghost view = { λ lane. record { outs = lane.outs; ratios = lane.timing.ratios; cycle = lane.timing.tick; state = lane.state; latches = lane.latches.items; flags = lane.flags.items } };
+
+    ghost invariant = { λ lane. lane.empty ≡ empty_count lane.latches.items };
 }
 
 // The number of outs of a lane.
@@ -88,13 +98,15 @@ impl Lane {
     {
         let piece = program.piece();
         let timing = Timing::new(alloc, ratios, cycle)?;
-        let latches = empty_latches(alloc, piece.ins().len())?;
+        let empty = piece.ins().len();
+        let latches = empty_latches(alloc, empty)?;
         let flags = clear_flags(alloc, count_outs(piece, &outs))?;
         Ok(Lane {
             outs,
             timing,
             state,
             latches,
+            empty,
             flags,
         })
     }
@@ -143,16 +155,19 @@ impl Lane {
         }
     }
 
-    /// The first in that an out needs and that has no token yet, if there is one.
+    /// The first in that an out needs and that has no token yet, if there is one. If no latch is empty, none is looked
+    /// at.
     pub(crate) fn missing(&self, program: &Program<'_>, place: u32) -> Option<u32>
         requires lane { IsLane program.now.circuit self.now }
         requires place { place < length self.now.flags }
         ensures { result ≡ missing (lane_machine program.now self.now) place }
     {
-        first_empty(
-            self.latches.as_slice(),
-            program.needs(self.out(program, place)),
-        )
+        let needs = program.needs(self.out(program, place));
+        if self.empty == 0 {
+            None
+        } else {
+            first_empty(self.latches.as_slice(), needs)
+        }
     }
 
     /// The token of an out.
@@ -177,7 +192,7 @@ impl Lane {
         program.cone_once(&self.state, slots, self.out(program, place), steps)
     }
 
-    /// Puts a token into the latch of an in.
+    /// Puts a token into the latch of an in, and into the slots.
     pub(crate) fn latch(
         &mut self,
         program: &Program<'_>,
@@ -196,7 +211,18 @@ impl Lane {
         // for the program's invariant on its circuit
         let _ = program.piece();
         program.put(slots, place, token);
+        self.keep(place, token);
+    }
+
+    /// Puts a token into the latch of an in, and into no slots.
+    pub(crate) fn keep(&mut self, place: u32, token: u128)
+        requires there { place < length self.old.latches }
+        requires empty { latch_at self.old.latches place ≡ None }
+        ensures step { self.new ≡ latched_lane self.old place token }
+        ensures lane { (circuit : FlatCircuit) → Fits (shape_at (in_shapes circuit) place) token → IsLane circuit self.old → IsLane circuit self.new }
+    {
         self.latches[place as usize] = Some(token);
+        self.empty -= 1;
     }
 
     /// Sets the flag of an out.
@@ -228,6 +254,7 @@ impl Lane {
         settled_once();
         program.next_once(&mut self.state, slots, self.timing.edges(), steps);
         clean(&mut self.latches, &mut self.flags);
+        self.empty = self.latches.len();
         self.timing.advance();
     }
 

@@ -1,5 +1,5 @@
 //! `Shared`: several threads of one program.
-ghost use Rattle.std.specs.Prelude.{◌≡◌, ℕ, ◌+◌, ◌<◌, ◌≤◌, ◌^◌, List, [], ◌∷◌, All, length, is_some, slice_set, IfOk};
+ghost use Rattle.std.specs.Prelude.{◌≡◌, ◌≢◌, ℕ, ◌+◌, ◌<◌, ◌≤◌, ◌^◌, List, [], ◌∷◌, All, length, is_some, slice_set, IfOk};
 ghost use Rattle.gg_limits.specs.Limits.{cycle_limit};
 ghost use Rattle.gg_flat.specs.State.{IsState};
 ghost use Rattle.gg_node.specs.Machine.{Machine, machine_at, latch_at, flag_at, missing, due};
@@ -213,6 +213,18 @@ impl<'a> Shared<'a> {
         self.lanes[self.turn as usize].latch(&self.program, &mut self.slots, place, token);
     }
 
+    // Puts a token into the latch of an in of a thread whose turn it isn't. The slots stay.
+    fn keep(&mut self, thread: u32, place: u32, token: u128)
+        requires thread { thread < length self.old.lanes }
+        requires other { self.old.turn ≢ thread }
+        requires may { MayLatch (lane_machine self.old.program (lane_at self.old.lanes thread)) place token }
+        ensures program { self.new.program ≡ self.old.program }
+        ensures lanes { self.new.lanes ≡ slice_set self.old.lanes thread (latched_lane (lane_at self.old.lanes thread) place token) }
+        ensures turn { self.new.turn ≡ self.old.turn }
+    {
+        self.lanes[thread as usize].keep(place, token);
+    }
+
     // Sets the flag of an out of the thread whose turn it is.
     fn flag(&mut self, place: u32)
         requires { place < length (lane_at self.old.lanes self.old.turn).flags }
@@ -343,8 +355,11 @@ impl<'a> Host for Shared<'a> {
         ensures step { machines_of self.new ≡ slice_set (machines_of self.old) thread (with_latch (machine_at (machines_of self.old) thread) place value) }
         ensures unset { unset_of self.new thread ≤ unset_of self.old thread }
     {
-        self.turn_to(thread);
-        self.put(place, value);
+        if self.turn == thread {
+            self.put(place, value);
+        } else {
+            self.keep(thread, place, value);
+        }
     }
 
     fn fire(&mut self, thread: u32, place: u32) -> u128
