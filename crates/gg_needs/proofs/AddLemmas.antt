@@ -1,10 +1,10 @@
 -- Laws of sets of marks.
-use Rattle.std.proofs.Common.{◌≡◌, ◌≢◌, ◌==◌, ℕ, zero, suc, ◌+◌, ◌<◌, List, [], ◌∷◌, ◌++◌, length, map, take, set, Bool, true, false, true≢false, nat_eq, refl, sym, ◌∙◌, ap, subst, inl, inr, ◌⊎◌, arith}
+use Rattle.std.proofs.Common.{◌≡◌, ◌≢◌, ◌==◌, ℕ, zero, suc, ◌+◌, ◌<◌, ◌≤◌, List, [], ◌∷◌, ◌++◌, length, map, take, set, Bool, true, false, true≢false, nat_eq, nat_lt, refl, sym, ◌∙◌, ap, subst, inl, inr, ◌⊎◌, arith}
 use Rattle.std.specs.Prelude.{slice_index_or, bit_or}
 use Rattle.std.specs.Int.{bit_at}
 use Rattle.std.proofs.lemmas.List.{get_or-set_same, get_or-set_other, length-set, take_more}
 use Rattle.std.proofs.lemmas.Nat.Bits.{bit_at-zero, bit_at-lt, bit_at_or}
-use Rattle.std.proofs.lemmas.Bool.Decides.{Decides-eqb}
+use Rattle.std.proofs.lemmas.Bool.Decides.{Decides-eqb, Decides-ltb}
 use Rattle.gg_flat.specs.declared.line.Node.{Node}
 use Rattle.gg_flat.specs.declared.line.Op.TheVariants.{Ref}
 use Rattle.gg_flat.specs.Line.{value_at}
@@ -12,7 +12,7 @@ use Rattle.gg_flat.specs.Reads.{Names}
 use Rattle.gg_flat.proofs.NameLemmas.{Names-push, Names-new, Names-push_cases}
 use Rattle.gg_order.specs.Marks.{is_marked}
 use Rattle.gg_order.proofs.MarkLemmas.{Marks-none, Marks-then}
-use Rattle.gg_needs.specs.Marks.{marks_of, Adds}
+use Rattle.gg_needs.specs.Marks.{marks_of, any_marks, Adds}
 
 -- ---- the marks of one out-signal
 
@@ -26,6 +26,29 @@ bit-marked place marks s is = mark-at place marks s ∙ (Decides-eqb (bit_at (va
 
 pub bit-unmarked : (place : ℕ) (marks : List ℕ) (s : ℕ) → bit_at (value_at marks s) place ≡ 0 → is_marked (marks_of place marks) s ≡ false
 bit-unmarked place marks s is = mark-at place marks s ∙ ap (λ (n : ℕ). n == 1) is
+
+-- a signal has a mark if its set isn't 0
+any-at : (marks : List ℕ) (s : ℕ) → is_marked (any_marks marks) s ≡ nat_lt 0 (value_at marks s)
+any-at [] s = refl
+any-at (x ∷ marks) zero = refl
+any-at (x ∷ marks) (suc s) = any-at marks s
+
+pub any-some : (marks : List ℕ) (s : ℕ) → 0 < value_at marks s → is_marked (any_marks marks) s ≡ true
+any-some marks s some = any-at marks s ∙ (Decides-ltb 0 (value_at marks s)).1 some
+
+pub any-none : (marks : List ℕ) (s : ℕ) → value_at marks s ≤ 0 → is_marked (any_marks marks) s ≡ false
+any-none marks s none = any-at marks s ∙ by (nat_lt 0 (value_at marks s)) refl
+  where
+    by : (b : Bool) → nat_lt 0 (value_at marks s) ≡ b → nat_lt 0 (value_at marks s) ≡ false
+    by true e = let some = (Decides-ltb 0 (value_at marks s)).0 e in absurd (omega (arith, some, none))
+    by false e = e
+
+pub any-marked : (place : ℕ) (marks : List ℕ) (s : ℕ) → is_marked (marks_of place marks) s ≡ true → is_marked (any_marks marks) s ≡ true
+any-marked place marks s is = any-some marks s (some (value_at marks s) ((Decides-eqb (bit_at (value_at marks s) place) 1).0 (sym (mark-at place marks s) ∙ is)))
+  where
+    some : (n : ℕ) → bit_at n place ≡ 1 → 0 < n
+    some zero one = absurd (omega (arith, one, bit_at-zero place))
+    some (suc n) one = omega arith
 
 -- a bit is 1 or 0
 pub bit-cases : (n place : ℕ) → (bit_at n place ≡ 1) ⊎ (bit_at n place ≡ 0)

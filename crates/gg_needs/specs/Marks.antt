@@ -1,12 +1,16 @@
 -- Sets of marks on signals: bit i of a signal's set is the mark of the out-signal at place i of a group.
 -- Source: FIRRTL Specification, "Combinational Loops" (dependency without a register); marks are this program's own.
-use Rattle.std.specs.Prelude.{◌≡◌, ◌==◌, ℕ, List, Bool, length, map}
+use Rattle.std.specs.Prelude.{◌≡◌, ◌==◌, ℕ, List, Bool, length, map, nat_lt}
 use Rattle.std.specs.Int.{bit_at}
 use Rattle.gg_order.specs.Marks.{Marks}
 
 -- the marks of one out-signal
 abbrev pub marks_of : ℕ → List ℕ → List Bool
 marks_of place marks = map (λ set. bit_at set place == 1) marks
+
+-- which signals have a mark
+abbrev pub any_marks : List ℕ → List Bool
+any_marks marks = map (λ set. nat_lt 0 set) marks
 
 -- A set is added to the sets of the named signals. Each out-signal in the set marks these signals too. The marks of
 -- the others don't change.

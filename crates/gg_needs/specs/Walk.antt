@@ -37,6 +37,11 @@ pub record AreMarkedIns (circuit : FlatCircuit) (marks : List Bool) (k : ℕ) (n
   pub ascending : AllPairs (λ a b. a < b) needs
   pub exact : (place : ℕ) → Contains needs place ↔ ((place < k) × (is_marked marks (value_at circuit.ins place) ≡ true))
 
+-- those of these places whose in-signals are marked
+pub record AreMarkedAmong (circuit : FlatCircuit) (marks : List Bool) (places needs : List ℕ) : Type 0 where
+  pub ascending : AllPairs (λ a b. a < b) needs
+  pub exact : (place : ℕ) → Contains needs place ↔ (Contains places place × (is_marked marks (value_at circuit.ins place) ≡ true))
+
 -- ---- the marks of a group
 
 -- each of the first k out-signals of a group marks only itself, and the others mark nothing; `count` is the number of

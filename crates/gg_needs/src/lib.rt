@@ -7,7 +7,8 @@
 //!   ascending.
 //!
 //! It makes one pass over the signals for every 128 out-signals, from the last signal to the first. Each signal has a
-//! set of marks, one for each of those out-signals, and passes its set on to the signals that it reads.
+//! set of marks, one for each of those out-signals, and passes its set on to the signals that it reads. In-signals without
+//! a mark are then left out once for all of those out-signals.
 #![tactic(auto)]
 
 mod groups;

@@ -6,7 +6,7 @@ ghost use Rattle.gg_flat.specs.WellFormed.{IsWellFormed};
 ghost use Rattle.gg_part.specs.InOrder.{IsInOrder};
 ghost use Rattle.gg_needs.specs.Needs.{AreNeedsOfOuts};
 ghost use Rattle.gg_needs.specs.Walk.{AreMarkedIns};
-ghost use Rattle.gg_needs.specs.Marks.{marks_of};
+ghost use Rattle.gg_needs.specs.Marks.{marks_of, any_marks};
 ghost use Rattle.gg_needs.specs.Groups.{AreNeedsSoFar};
 
 use crate::groups::group_from;
@@ -47,24 +47,48 @@ fn add_group(alloc: Global, piece: &Piece, needs: &mut Vec<Ids>) -> Result<(), A
     let first = needs.len();
     let group = group_from(piece.outs(), first);
     let marks = reached(alloc, piece, group)?;
+    let touched = touched_ins(alloc, piece, &marks)?;
     for place in 0..group.len() {
-        let own = marked_ins(alloc, piece, &marks, place)?;
+        let own = marked_ins(alloc, piece, &marks, &touched, place)?;
         needs.push(own)?;
     }
     Ok(())
 }
 
-// The places of the in-signals with the mark of the out-signal at this place of its group.
-fn marked_ins(alloc: Global, piece: &Piece, marks: &[u128], place: usize) -> Result<Ids, AllocError>
+// The places of the in-signals with a mark.
+fn touched_ins(alloc: Global, piece: &Piece, marks: &[u128]) -> Result<Vec<u32>, AllocError>
     requires formed { IsWellFormed piece.now }
     requires count { length marks.now ≡ length piece.now.signals }
+    ensures { IfOk result (λ touched. AreMarkedIns piece.now (any_marks marks.now) (length piece.now.ins) touched.items) }
+{
+    let mut touched = Vec::new(alloc);
+    for signal in piece.ins() {
+        if marks[*signal as usize] > 0 {
+            touched.push(place_of(piece, *signal))?;
+        }
+    }
+    Ok(touched)
+}
+
+// The places of the in-signals with the mark of the out-signal at this place of its group, among those with a mark.
+fn marked_ins(
+    alloc: Global,
+    piece: &Piece,
+    marks: &[u128],
+    touched: &[u32],
+    place: usize,
+) -> Result<Ids, AllocError>
+    requires formed { IsWellFormed piece.now }
+    requires count { length marks.now ≡ length piece.now.signals }
+    requires touched { AreMarkedIns piece.now (any_marks marks.now) (length piece.now.ins) touched.now }
     requires known { place < 128 }
     ensures { IfOk result (λ ins. AreMarkedIns piece.now (marks_of place marks.now) (length piece.now.ins) ins) }
 {
     let mut ins = Vec::new(alloc);
-    for signal in piece.ins() {
-        if has_mark(marks[*signal as usize], place) {
-            ins.push(place_of(piece, *signal))?;
+    for each in touched {
+        let signal = piece.ins()[*each as usize];
+        if has_mark(marks[signal as usize], place) {
+            ins.push(*each)?;
         }
     }
     Ok(Ids::from(ins))

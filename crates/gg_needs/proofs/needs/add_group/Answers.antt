@@ -22,7 +22,7 @@ loop-place-preserved c =
     let at : value_at c.group_from-group.result.now place ≡ value_at circuit.outs n = group.each place lt ∙ ap (λ (l : List ℕ). value_at l n) outs in
     let some : n < length circuit.outs = omega (arith, lt, group.within, ap (λ (l : List ℕ). length l) outs) in
     let marks = marks_of place c.in_ok-marks.marks.items in
-    let marked = subst (λ (l : List ℕ). AreMarkedIns circuit (marks_of place l) (length circuit.ins) own) c.deref.ensures.value c.in_ok-own.ensures in
+    let marked = subst (λ (l : List ℕ). AreMarkedIns circuit (marks_of place l) (length circuit.ins) own) c.deref-in-loop-place.ensures.value c.in_ok-own.ensures in
     let needs : AreNeeds circuit (value_at circuit.outs n) own =
     subst (λ (s : ℕ). AreNeeds circuit s own) at (AreNeeds-marked circuit (value_at c.group_from-group.result.now place) marks own (c.in_ok-marks.ensures.each place lt) marked) in
     let items : c.push.new.self.items ≡ before ++ own ∷ [] = c.in_ok-push.ensures.items in

@@ -1,6 +1,7 @@
-use Rattle.gg_needs.specs.Walk.{AreMarkedIns}
+use Rattle.std.proofs.Common.{take}
+use Rattle.gg_needs.specs.Walk.{AreMarkedAmong}
 use Rattle.gg_needs.specs.Marks.{marks_of}
 use Rattle.gg_needs.proofs.needs.marked_ins.Given as goal
 
-abbrev pub invariant-loop-signal : goal.invariant-loop-signal
-invariant-loop-signal l = AreMarkedIns l.piece (marks_of l.place l.marks) l.signal-index l.ins.items
+abbrev pub invariant-loop-each : goal.invariant-loop-each
+invariant-loop-each l = AreMarkedAmong l.piece (marks_of l.place l.marks) (take l.each-index l.touched) l.ins.items
