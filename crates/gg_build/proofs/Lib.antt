@@ -11,3 +11,4 @@ pub mod ReadyLemmas
 pub mod OpenLemmas
 pub mod AlongLemmas
 pub mod AloneLemmas
+pub mod WorkedSeats
