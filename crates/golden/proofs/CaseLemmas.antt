@@ -22,7 +22,7 @@ use Rattle.gg_paths.proofs.PortLemmas.{have-paths}
 use Rattle.gg_snap_text.specs.Known.{CanSave}
 use Rattle.gg_pipe.specs.Made.{IsFresh, plan_reference}
 use Rattle.gg_bridged.specs.Whole.{CanBridge, plan_circuit}
-use Rattle.gg_bridged.proofs.FoundLemmas.{found-is}
+use Rattle.gg_order.proofs.FoundLemmas.{found-is}
 use Rattle.gg_bridged.proofs.PlanLemmas.{circuit-ordered}
 use Rattle.gg_build.specs.Build.{circuit_order}
 use Rattle.gg_told.specs.Said.{Said}
