@@ -12,6 +12,7 @@ use Rattle.gg_flat.specs.Streams.{Flow}
 use Rattle.gg_flat.proofs.AlongLemmas.{IsRunFrom-along}
 use Rattle.gg_flat.proofs.SinceLemmas.{since-add}
 use Rattle.gg_order.specs.Design.{Ordered}
+use Rattle.gg_order.proofs.FoundLemmas.{found-is}
 use Rattle.gg_partfile.specs.declared.request.Request.{Request}
 use Rattle.gg_cut.specs.declared.plan.Plan.{Plan}
 use Rattle.gg_cut.specs.Seated.{plan_wires}
@@ -26,7 +27,6 @@ use Rattle.gg_pipe.specs.Follows.{plan_token}
 use Rattle.gg_pipe.specs.Made.{plan_reference}
 use Rattle.gg_pipe.proofs.NothingLemmas.{plan-plain}
 use Rattle.gg_bridged.specs.Whole.{CanBridge, plan_begin, plan_circuit}
-use Rattle.gg_bridged.proofs.FoundLemmas.{found-is}
 use Rattle.gg_bridged.proofs.PlanLemmas.{circuit-formed, circuit-ordered}
 use Rattle.gg_bridged.proofs.StateLemmas.{states-with}
 use Rattle.gg_sound.specs.Built.{IsGiven, flow_of}
