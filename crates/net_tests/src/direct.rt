@@ -23,6 +23,7 @@ pub(crate) static DIRECT: [Row; 6] = [
             served: (0, 0, 0),
             kept: &[0x11, 0x83],
             hosts: &[0, 1, 2, 3, 4],
+            calls: "",
         },
     ),
     (
@@ -40,6 +41,7 @@ pub(crate) static DIRECT: [Row; 6] = [
             served: (0, 0, 0),
             kept: &[0, 0xfe, 0xed],
             hosts: &[0, 1, 1, 2, 3, 4],
+            calls: "",
         },
     ),
     (
@@ -57,6 +59,7 @@ pub(crate) static DIRECT: [Row; 6] = [
             served: (0, 0, 0),
             kept: &[0, 0xfe, 0xed],
             hosts: &[0, 1, 2, 3, 4, 5],
+            calls: "",
         },
     ),
     (
@@ -77,6 +80,7 @@ pub(crate) static DIRECT: [Row; 6] = [
             served: (0, 0, 0),
             kept: &[0, 0, 0x101, 0x1212],
             hosts: &[0, 1, 1, 1, 2, 3, 4, 5],
+            calls: "",
         },
     ),
     (
@@ -94,6 +98,7 @@ pub(crate) static DIRECT: [Row; 6] = [
             served: (0, 0, 0),
             kept: &[0, 0, 0x101, 0x1212],
             hosts: &[0, 1, 2, 3, 4, 5, 6, 7],
+            calls: "",
         },
     ),
     (
@@ -111,6 +116,7 @@ pub(crate) static DIRECT: [Row; 6] = [
             served: (0, 0, 0),
             kept: &[0, 1, 0x11],
             hosts: &[0, 1, 2, 3],
+            calls: "",
         },
     ),
 ];

@@ -25,6 +25,10 @@ mod models;
 #[cfg(test)]
 mod networks;
 #[cfg(test)]
+mod notes;
+#[cfg(test)]
+mod orders;
+#[cfg(test)]
 mod pieces;
 #[cfg(test)]
 mod pipes;

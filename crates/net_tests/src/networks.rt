@@ -10,6 +10,7 @@ ghost use Rattle.gg_flat.specs.Run.{IsColumns};
 use crate::circuits::Circuit::{Memory, Whole};
 use crate::circuits::{Circuit, text_of};
 use crate::measures::end_alike;
+use crate::orders::is_in_order;
 use gg_bridge::Echo;
 use gg_build::Node;
 use gg_cut::Plan;
@@ -47,6 +48,9 @@ pub(crate) struct Case {
     pub(crate) kept: &'static [u128],
     // each machine's host
     pub(crate) hosts: &'static [u32],
+    // the first steps of a run to the end, as `is_in_order` reads them: round by round, in each the machines by number, and of each its ins, its
+    // outs, its ports and the end of its cycle, as far as each may be done; none if the order isn't told
+    pub(crate) calls: &'static str,
 }
 
 /// A circuit, partitions of it, a trace, and what is expected for each of these partitions.
@@ -70,6 +74,7 @@ pub(crate) static NETWORKS: [Row; 4] = [
             served: (0, 0, 0),
             kept: &[0, 0, 1, 2],
             hosts: &[0, 1, 2],
+            calls: "0F0 1F0 1E0 2L0 2E0 0L0 0E0 1F0 1E0 0L0 0F0 0E0 1F0 1E0 2L0 2E0 0L0 0F0 0E0 1F0 1E0 2L0 2E0 0L0 0F0 0E0 2L0 2E0",
         },
     ),
     // a memory of latency 0 that is a machine of its own: its data waits for its address
@@ -88,6 +93,7 @@ pub(crate) static NETWORKS: [Row; 4] = [
             served: (2, 1, 3),
             kept: &[0, 7, 7],
             hosts: &[0, 1, 2],
+            calls: "",
         },
     ),
     // two units that feed each other in one cycle
@@ -106,6 +112,7 @@ pub(crate) static NETWORKS: [Row; 4] = [
             served: (0, 0, 0),
             kept: &[0x11, 0x83],
             hosts: &[0, 1, 2, 3, 4],
+            calls: "3F0 3E0 0L0 0F0 1L0 1F0 3F0 3E0 0L1 0F2 2L0 2F0 2E0 0L3 0F1 1L1 1F1 1E0 0L2 0F3 0E0 4L0 4E0 0L0 0F0 1L0 1F0 0L1 0F2 2L0 2F0 2E0 0L3 0F1 1L1 1F1 1E0 0L2 0F3 0E0 4L0 4E0",
         },
     ),
     // a memory whose two writers are served one after the other
@@ -124,6 +131,7 @@ pub(crate) static NETWORKS: [Row; 4] = [
             served: (4, 2, 8),
             kept: &[0, 0xf0, 0, 0],
             hosts: &[0, 1, 2, 3, 4, 5],
+            calls: "0F1 0F5 0F7 0F9 0F11 1L1 1L5 1L7 1L9 1L11 2F0 2E0 3F0 3E0 0L0 0L1 0F0 0F2 0F3 0F4 0F6 0F8 0F10 1L0 1L2 1L3 1L4 1L6 1L8 1L10 1F0 1F1 1S2 1S3 1E0 2F0 2E0 3F0 3E0 0L2 0L3 0F12 0F13 0E0 4L0 4E0 5L0 5E0",
         },
     ),
 ];
@@ -283,7 +291,9 @@ fn is_built<Z: Streams>(
     requires run { IsToRun plan.now inputs.now.columns inputs.now.rows Z.flow }
     requires alone { NeedsNone plan.now }
 {
-    is_built_once::<Z>(alloc, plan, inputs, case) && is_built_twice::<Z>(alloc, plan, inputs, case)
+    is_built_once::<Z>(alloc, plan, inputs, case)
+        && is_built_twice::<Z>(alloc, plan, inputs, case)
+        && is_in_order::<Z>(alloc, plan, inputs, case.calls)
 }
 
 // Whether the network of a design and a request without bridges runs as expected, for channels of capacity 1.

@@ -24,6 +24,7 @@ pub(crate) static PIPED: [Row; 8] = [
             served: (0, 0, 0),
             kept: &[0x0f, 0x9f],
             hosts: &[0, 1, 2, 3, 4],
+            calls: "",
         },
     ),
     (
@@ -41,6 +42,7 @@ pub(crate) static PIPED: [Row; 8] = [
             served: (0, 0, 0),
             kept: &[0, 0x11],
             hosts: &[0, 1, 2, 3, 4],
+            calls: "",
         },
     ),
     (
@@ -58,6 +60,7 @@ pub(crate) static PIPED: [Row; 8] = [
             served: (0, 0, 0),
             kept: &[0, 0x11],
             hosts: &[0, 1, 2, 3, 4],
+            calls: "",
         },
     ),
     (
@@ -75,6 +78,7 @@ pub(crate) static PIPED: [Row; 8] = [
             served: (0, 0, 0),
             kept: &[0x0f, 0x9f],
             hosts: &[0, 1, 2, 3, 4],
+            calls: "",
         },
     ),
     (
@@ -92,6 +96,7 @@ pub(crate) static PIPED: [Row; 8] = [
             served: (0, 0, 0),
             kept: &[0x0f, 0x9f],
             hosts: &[0, 1, 2, 3, 4],
+            calls: "",
         },
     ),
     (
@@ -109,6 +114,7 @@ pub(crate) static PIPED: [Row; 8] = [
             served: (0, 0, 0),
             kept: &[0, 1, 0x10],
             hosts: &[0, 1, 2, 3],
+            calls: "",
         },
     ),
     (
@@ -126,6 +132,7 @@ pub(crate) static PIPED: [Row; 8] = [
             served: (0, 0, 0),
             kept: &[0, 0, 0xfe],
             hosts: &[0, 1, 1, 2, 3, 4],
+            calls: "",
         },
     ),
     (
@@ -143,6 +150,7 @@ pub(crate) static PIPED: [Row; 8] = [
             served: (2, 1, 3),
             kept: &[0, 0, 7],
             hosts: &[0, 1, 2],
+            calls: "",
         },
     ),
 ];

@@ -40,6 +40,7 @@ pub(crate) static SHARES: [Row; 4] = [
             served: (0, 0, 0),
             kept: &[0, 254, 237],
             hosts: &[0, 1, 1, 2, 3, 4],
+            calls: "",
         },
     ),
     (
@@ -62,6 +63,7 @@ pub(crate) static SHARES: [Row; 4] = [
             served: (0, 0, 0),
             kept: &[0, 0xfe, 0xed],
             hosts: &[0, 1, 2, 3, 4, 5],
+            calls: "",
         },
     ),
     (
@@ -82,6 +84,7 @@ pub(crate) static SHARES: [Row; 4] = [
             served: (0, 0, 0),
             kept: &[0, 0x1fef102, 0x11edd122],
             hosts: &[0, 1, 2, 1, 2, 3, 4],
+            calls: "",
         },
     ),
     (
@@ -102,6 +105,7 @@ pub(crate) static SHARES: [Row; 4] = [
             served: (0, 0, 0),
             kept: &[0, 0xfe, 0x11ef, 0x6f8, 0x9275],
             hosts: &[0, 1, 1, 2, 3],
+            calls: "",
         },
     ),
 ];
