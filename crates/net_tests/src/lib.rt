@@ -33,6 +33,8 @@ mod pieces;
 #[cfg(test)]
 mod pipes;
 #[cfg(test)]
+mod refusals;
+#[cfg(test)]
 mod sharing;
 #[cfg(test)]
 mod simulators;

@@ -11,6 +11,7 @@ use crate::circuits::Circuit::{Memory, Whole};
 use crate::circuits::{Circuit, text_of};
 use crate::measures::end_alike;
 use crate::orders::is_in_order;
+use crate::refusals::are_refused;
 use gg_bridge::Echo;
 use gg_build::Node;
 use gg_cut::Plan;
@@ -36,9 +37,8 @@ pub(crate) struct Case {
     pub(crate) end: u64,
     // the number of all steps
     pub(crate) left: u64,
-    // a step that is refused before the first cycle, and why
-    pub(crate) refused: Event,
-    pub(crate) cause: Refusal,
+    // steps, a step that is refused behind them, and why
+    pub(crate) refusals: &'static [(&'static str, Event, Refusal)],
     // The steps of a cycle: the number of a channel with `F` for a token that is given on it and with `L` for one that is taken, that of a
     // port of machine 1 with `S` for an access, and that of a machine with `E` for the end of its cycle.
     pub(crate) steps: &'static str,
@@ -56,6 +56,9 @@ pub(crate) struct Case {
 /// A circuit, partitions of it, a trace, and what is expected for each of these partitions.
 pub(crate) type Row = (Circuit, &'static [&'static str], &'static str, Case);
 
+// The steps of the first cycle up to the data that the two readers of the memory of four ports give.
+const READ: &str = "0F 1F 0L 1L 2F 3F 5F 6F 2L 3L 5L 6L 4F 7F";
+
 /// Networks without direct channels, pipes or hosts that are shared.
 pub(crate) static NETWORKS: [Row; 4] = [
     // the counter: its output goes ahead of its input
@@ -68,8 +71,11 @@ pub(crate) static NETWORKS: [Row; 4] = [
             channels: 2,
             end: 4,
             left: 28,
-            refused: Event::Latch { channel: 0 },
-            cause: Refusal::NoToken { channel: 0 },
+            refusals: &[(
+                "",
+                Event::Latch { channel: 0 },
+                Refusal::NoToken { channel: 0 },
+            )],
             steps: "1F 1L 2E 0F 0L 0E 1E",
             served: (0, 0, 0),
             kept: &[0, 0, 1, 2],
@@ -87,8 +93,11 @@ pub(crate) static NETWORKS: [Row; 4] = [
             channels: 8,
             end: 3,
             left: 60,
-            refused: Event::Fire { channel: 2 },
-            cause: Refusal::NeedsInput { channel: 0 },
+            refusals: &[(
+                "",
+                Event::Fire { channel: 2 },
+                Refusal::NeedsInput { channel: 0 },
+            )],
             steps: "0F 0L 1F 1L 2F 2L 3F 3L 4F 4L 5F 5L 6F 6L 7F 7L 1S 0E 1E 2E",
             served: (2, 1, 3),
             kept: &[0, 7, 7],
@@ -106,8 +115,32 @@ pub(crate) static NETWORKS: [Row; 4] = [
             channels: 8,
             end: 2,
             left: 42,
-            refused: Event::Fire { channel: 6 },
-            cause: Refusal::NeedsInput { channel: 5 },
+            refusals: &[
+                ("", Event::Fire { channel: 8 }, Refusal::Stranger),
+                (
+                    "",
+                    Event::Fire { channel: 6 },
+                    Refusal::NeedsInput { channel: 5 },
+                ),
+                (
+                    "",
+                    Event::Latch { channel: 0 },
+                    Refusal::NoToken { channel: 0 },
+                ),
+                ("0F", Event::Fire { channel: 0 }, Refusal::Fired),
+                ("0F 0L", Event::Latch { channel: 0 }, Refusal::Latched),
+                (
+                    "0F 3E",
+                    Event::Fire { channel: 0 },
+                    Refusal::Full { channel: 0, len: 1 },
+                ),
+                (
+                    "",
+                    Event::Finish { machine: 0 },
+                    Refusal::Unfired { channel: 1 },
+                ),
+                ("0F 3E 0L 0F 3E", Event::Fire { channel: 0 }, Refusal::Ended),
+            ],
             steps: "0F 0L 1F 1L 3F 3L 5F 5L 6F 6L 2F 2L 4F 4L 7F 7L 0E 1E 2E 3E 4E",
             served: (0, 0, 0),
             kept: &[0x11, 0x83],
@@ -125,8 +158,34 @@ pub(crate) static NETWORKS: [Row; 4] = [
             channels: 18,
             end: 4,
             left: 176,
-            refused: Event::Fire { channel: 4 },
-            cause: Refusal::NeedsInput { channel: 2 },
+            refusals: &[
+                (
+                    "",
+                    Event::Fire { channel: 4 },
+                    Refusal::NeedsInput { channel: 2 },
+                ),
+                (
+                    READ,
+                    Event::Finish { machine: 1 },
+                    Refusal::Unserved { port: 2 },
+                ),
+                (
+                    READ,
+                    Event::Serve {
+                        machine: 1,
+                        port: 3,
+                    },
+                    Refusal::Order { due: 2 },
+                ),
+                (
+                    READ,
+                    Event::Serve {
+                        machine: 1,
+                        port: 2,
+                    },
+                    Refusal::NeedsInput { channel: 8 },
+                ),
+            ],
             steps: "0F 0L 1F 1L 2F 2L 3F 3L 4F 4L 5F 5L 6F 6L 7F 7L 8F 8L 9F 9L 10F 10L 11F 11L 12F 12L 13F 13L 14F 14L 15F 15L 16F 16L 17F 17L 2S 3S 0E 1E 2E 3E 4E 5E",
             served: (4, 2, 8),
             kept: &[0, 0xf0, 0, 0],
@@ -149,8 +208,8 @@ fn step_of(letter: u8, number: u32) -> Event {
     }
 }
 
-// Whether the steps of a cycle can be done.
-fn goes_once<Z: Streams>(net: &mut Net<Node<'_, Echo>, Z>, steps: &str) -> bool {
+/// Whether these steps can be done.
+pub(crate) fn goes_once<Z: Streams>(net: &mut Net<Node<'_, Echo>, Z>, steps: &str) -> bool {
     let mut number: u32 = 0;
     for byte in steps.as_bytes() {
         if byte.is_ascii_digit() {
@@ -199,7 +258,6 @@ fn opens<Z: Streams>(net: &Net<Node<'_, Echo>, Z>, case: &Case) -> bool {
         && net.shape().stations.len() == case.machines as usize
         && are_hosts(net, case.hosts)
         && net.end() == case.end
-        && net.test(case.refused) == Err(case.cause)
 }
 
 // Whether all cycles of a machine are done.
@@ -293,6 +351,7 @@ fn is_built<Z: Streams>(
 {
     is_built_once::<Z>(alloc, plan, inputs, case)
         && is_built_twice::<Z>(alloc, plan, inputs, case)
+        && are_refused::<Z>(alloc, plan, inputs, case)
         && is_in_order::<Z>(alloc, plan, inputs, case.calls)
 }
 
