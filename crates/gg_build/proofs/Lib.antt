@@ -11,4 +11,3 @@ pub mod ReadyLemmas
 pub mod OpenLemmas
 pub mod AlongLemmas
 pub mod AloneLemmas
-pub mod WorkedSeats

@@ -15,7 +15,7 @@ use Rattle.gg_net.specs.Seats.{hosted, seated, IsSeated, HasStation, AreSeated}
 use Rattle.gg_sound.specs.Built.{machine_in, nameless}
 use Rattle.gg_build.specs.declared.node.Node.{Node}
 use Rattle.gg_build.specs.declared.node.Node.TheVariants as node
-use Rattle.gg_build.specs.Groups.{group_at, IsMember, AreGroups, HasEarlier}
+use Rattle.gg_build.specs.Groups.{group_at, IsMember, AreGroups}
 use Rattle.gg_build.specs.Bridges.{Table, HasOwn}
 use Rattle.gg_build.specs.Hosts.{AreAllApart, HaveBridges, HaveNames, first_body, CanBuildAll, IsBuiltWith, IsGroup, IsHostOf, AreHosts, IsStation, AreStations, IsSeat, AreSeats, body_at, outs_at}
 use Rattle.gg_build.specs.Node.{machines_of}
@@ -165,22 +165,6 @@ module _ (starts : Body → Start) (columns : List (List ℕ)) (machines : List 
             whole = has-station;
           }
 
-      some-thread : (h : ℕ) (any : Node B) → h < length nodes → 0 < length (machines_of (get_or nodes h any))
-      some-thread h any lt =
-          let low : h < length members = omega (arith, lt, are.total) in
-          let some = groups.some h low in
-          let count = (are.each h any low).count in
-          omega (arith, some, count)
-
-      earlier : (m h : ℕ) (s : Station) → m < length machines → h < (get_or stations m s).host → HasEarlier (λ k. (get_or stations k s).host) h m
-      earlier m h s lt less =
-          let was = groups.ascend m h (omega (arith, lt, number-count machines)) (subst (λ k. h < k) (station-at m s lt).host_is less) in
-          record {
-            machine = was.machine;
-            earlier = was.earlier;
-            host = (station-at was.machine s (omega (arith, was.earlier, lt))).host_is ∙ was.host;
-          }
-
       pub seats-are : (plan : Plan) → machines ≡ plan.machines → AreSeats plan starts columns nodes stations
       seats-are plan same =
           let count : length machines ≡ length plan.machines = ap length same in
@@ -189,8 +173,6 @@ module _ (starts : Body → Start) (columns : List (List ℕ)) (machines : List 
             total = stand.total ∙ count;
             each = λ m s lt. subst (λ (o : planned.Machine). IsSeat starts columns o lists (get_or stations m s)) (own m) (seat m s (omega (arith, lt, count)));
             threads = are-seated;
-            used = some-thread;
-            ascend = λ s m h lt less. earlier m h s (omega (arith, lt, stand.total)) less;
             together = λ m k s t lt less.
                 let low : m < length machines = omega (arith, lt, count) in
                 let high : k < length machines = omega (arith, less, count) in

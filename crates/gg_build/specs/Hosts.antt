@@ -27,7 +27,7 @@ use Rattle.gg_sound.specs.Built.{IsBuilt, IsUnitOf, machine_in, nameless}
 use Rattle.gg_build.specs.declared.node.Node.{Node}
 use Rattle.gg_build.specs.declared.node.Node.TheVariants as node
 use Rattle.gg_build.specs.Bridges.{Table, AreApart, HasOwn}
-use Rattle.gg_build.specs.Groups.{FirstsAscend, group_at}
+use Rattle.gg_build.specs.Groups.{group_at}
 use Rattle.gg_build.specs.Node.{machines_of}
 
 -- ---- what machines of a plan must have to be built
@@ -227,17 +227,9 @@ pub record IsSeat (starts : Body → Start) (columns : List (List ℕ)) (own : p
   pub outs : station.outs ≡ own.outs
   pub ports : station.ports ≡ map entry_of (seated lists station).ports
 
--- The hosts of a plan's machines, and the station of each machine there.
+-- The hosts and the stations of a plan's machines. Two machines have one host exactly if they have one in the plan.
 pub record AreSeats {B : Type 0} (plan : Plan) (starts : Body → Start) (columns : List (List ℕ)) (nodes : List (Node B)) (stations : List Station) : Type 0 where
-  -- Each machine of the plan has a station.
   pub total : length stations ≡ length plan.machines
-  -- The machine at a station is built from that of the plan, and has its channels.
   pub each : (m : ℕ) (any : Station) → m < length plan.machines → IsSeat starts columns (machine_in plan m) (map machines_of nodes) (slice_index_or stations m any)
-  -- Each station is at a thread of a host that there is, no two are at the same thread, and no thread is without a station.
   pub threads : AreSeated (map machines_of nodes) stations
-  -- No host is without a machine.
-  pub used : All (λ node. 0 < length (machines_of node)) nodes
-  -- Two machines have one host exactly if they have one in the plan.
   pub together : (m k : ℕ) (any other : Station) → m < length plan.machines → k < length plan.machines → ((machine_in plan m).host ≡ (machine_in plan k).host) ↔ ((slice_index_or stations m any).host ≡ (slice_index_or stations k other).host)
-  -- The hosts are numbered in the order of their first machines.
-  pub ascend : (any : Station) → FirstsAscend (λ m. (slice_index_or stations m any).host) (length stations)

@@ -45,9 +45,8 @@ fn started<'a, B: Bridge + Send + Drop, Z: Streams>(
 }
 
 /// The network of a plan before its first cycle. Its sources give the columns of a trace, and it has as many cycles to
-/// do as the trace has rows. Its hosts are those of [`seats_of`]: units that the plan puts onto one host share it, a thread each, and each
-/// other machine has a host of its own. The plan's bridges are taken out of those that are handed in, by their names; the others, and all
-/// of them if an allocation fails, are given up.
+/// do as the trace has rows. Units that the plan puts onto one host share it, a thread each. The plan's bridges are taken out of
+/// those that are handed in, by their names; the others, and all of them if an allocation fails, are given up.
 ///
 /// Allocates all the memory that the network will use.
 ///
@@ -74,7 +73,7 @@ pub fn build<'a, B: Bridge + Send + Drop, Z: Streams>(
 }
 
 /// The network of a plan before its first step from there. Its sources give the columns of a trace, from the cycle of `begin` on, and it
-/// has to do the cycles from there up to the trace's last row. Its hosts are those of [`seats_of`].
+/// has to do the cycles from there up to the trace's last row.
 ///
 /// Allocates all the memory that the network will use.
 ///

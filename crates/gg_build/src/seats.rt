@@ -1,4 +1,4 @@
-//! `Seats`: the hosts of a plan's machines, and where each machine is.
+//! The hosts and stations of a plan's machines.
 ghost use Rattle.std.specs.Prelude.{◌≡◌, ◌<◌, ◌≤◌, ◌∷◌, [], ℕ, length, map, All, IfOk, slice_index_or};
 ghost use Rattle.gg_limits.specs.Limits.{cycle_limit};
 ghost use Rattle.gg_flat.specs.Line.{value_at};
@@ -24,12 +24,10 @@ use gg_net::{ServedPort, Station};
 use gg_trace::Trace;
 use std::alloc::{AllocError, Global};
 
-/// The hosts of a plan's machines, and the station of each machine there.
+/// The hosts of a plan's machines, and their stations.
 #[derive(Drop)]
-pub struct Seats<'a, B: Bridge + Drop> {
-    /// The hosts, in the order of their first machines. Each has a machine.
+pub(crate) struct Seats<'a, B: Bridge + Drop> {
     pub hosts: Vec<Node<'a, B>>,
-    /// For each machine of the plan, in the plan's order, its host, its thread there, and its channels.
     pub stations: Vec<Station>,
 }
 
@@ -127,16 +125,13 @@ fn stations_of<B: Bridge + Drop>(
     Ok(stations)
 }
 
-/// The hosts of a plan's machines, and the station of each machine there. Units that the plan puts onto one host share it, a thread each.
-/// Each other machine has a host of its own. The hosts are numbered in the order of their first machines. The plan's bridges are taken out
-/// of those that are handed in.
-///
-/// The networks of [`build`](crate::build) and [`build_from`](crate::build_from) have these hosts.
+/// The hosts and stations of a plan's machines. Units that the plan puts onto one host share it. The plan's bridges are taken out of those
+/// that are handed in.
 ///
 /// # Errors
 ///
 /// Returns `AllocError` if an allocation fails.
-pub fn seats_of<'a, B: Bridge + Drop>(
+pub(crate) fn seats_of<'a, B: Bridge + Drop>(
     alloc: Global,
     plan: &'a Plan,
     trace: &Trace,

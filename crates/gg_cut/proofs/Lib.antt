@@ -4,7 +4,6 @@ pub mod WorkedDirect
 pub mod WorkedSeats
 pub mod PathLemmas
 pub mod FindLemmas
-pub mod NamedLemmas
 pub mod RatioLemmas
 pub mod ChainLemmas
 pub mod CounterpartLemmas

@@ -5,9 +5,16 @@ ghost use Rattle.gg_cut.specs.Listed.{ParentsBefore, unit_or_hub, first_place, o
 ghost use Rattle.gg_cut.specs.Owners.{earlier, above};
 
 use crate::numbering::Numbering;
-use crate::overlap::parent_of;
 use gg_flat::Tree;
 use std::alloc::{AllocError, Global};
+
+/// The parent of an instance.
+pub fn parent_of(tree: &Tree, place: u32) -> Option<u32>
+    requires { place < length tree.now.instances }
+    ensures { result ≡ (instance_at tree.now place).parent }
+{
+    tree.instances()[place as usize].parent
+}
 
 /// The machines of the instances, by their places: that of the unit that an instance is in, else the hub. Units are
 /// instances, and in the tree each instance comes after its parent.

@@ -28,7 +28,8 @@ use gg_names::Namespace;
 use gg_order::{Design, OrderFault, order};
 use gg_read::{ReadFault, read_circuit};
 use gg_shape::{Fault, Refusal, shaped};
-use gg_types::{Typed, typed};
+use gg_types::Typed;
+use gg_types_rules::typed;
 use std::alloc::{AllocError, Global};
 
 /// The design of a circuit file: a well-formed flat circuit that the bytes mean, with the tree of the circuit that

@@ -1,4 +1,3 @@
 pub mod BuildLemmas
 pub mod TableLemmas
 pub mod PipingLemmas
-pub mod FewLemmas

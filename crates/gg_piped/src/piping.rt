@@ -21,7 +21,7 @@ use std::alloc::{AllocError, Global};
 ///
 /// # Errors
 ///
-/// Returns `AllocError` if an allocation fails. What is numbered has numbers of 32 bits (`numbers_suffice`).
+/// Returns `AllocError` if an allocation fails, or if there are 4,294,967,296 machines, or registers and pipes, or more.
 pub fn pipe(alloc: Global, design: &Design, plan: &Plan) -> Result<Design, AllocError>
     requires { CanPipe design.now plan.now }
     ensures circuit { IfOk result (λ made. (can : CanPipe design.now plan.now) → made.circuit ≡ plan_reference design.now can.request) }
@@ -53,6 +53,9 @@ fn circuit_of(
     let _ = design.order();
     let _ = design.tree().memory_count();
     let piece = design.piece();
+    if piece.registers().len() as u128 + pipes.len() as u128 > u32::MAX as u128 {
+        return Err(AllocError);
+    }
     let owned = owned_of(alloc, design, &plan.listed)?;
     let tables = tables_of(alloc, piece, plan.channels.as_slice(), pipes, &owned)?;
     let circuit = made(alloc, piece, &tables, pipes)?;

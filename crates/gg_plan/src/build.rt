@@ -28,9 +28,9 @@ use crate::seats::{Seats, seat_wires, seats_of};
 use gg_bits::Items;
 use gg_clocks::Ratio;
 use gg_closed::listed_apart;
-use gg_cut::{
-    Channel, CutFault, Listed, Machine, Plan, Wire, clock_ratios, judge_bridges, judge_channels,
-    judge_clocks, judge_entries, judge_pipes,
+use gg_cut::{Channel, CutFault, Listed, Machine, Plan, Wire};
+use gg_cut_rules::{
+    clock_ratios, judge_bridges, judge_channels, judge_clocks, judge_entries, judge_pipes,
 };
 use gg_flat::Models;
 use gg_order::Design;

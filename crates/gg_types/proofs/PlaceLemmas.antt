@@ -4,7 +4,7 @@ use Rattle.std.proofs.lemmas.Slice.Eq.{bytes_eq-Decides}
 use Rattle.std.specs.Option.{option_map}
 use Rattle.std.specs.Str.{bytes_eq}
 use Rattle.std.proofs.lemmas.Option.{none-some}
-use Rattle.gg_types.specs.declared.clocks.Way.{Way}
+use Rattle.gg_types.specs.declared.way.Way.{Way}
 use Rattle.gg_types.specs.Named.{find_named}
 use Rattle.gg_types.specs.Places.{place_in, way_at}
 

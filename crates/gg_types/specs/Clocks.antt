@@ -12,8 +12,8 @@ use Rattle.gg_ast.specs.declared.statement.StmtKind.TheVariants as kinds
 use Rattle.gg_ast.specs.Term.{Term, NamedTerm, ConstantTerm, UnaryTerm, BinaryTerm, FixedTerm, MuxTerm}
 use Rattle.gg_ast.specs.Tree.{ModuleTree}
 use Rattle.gg_types.specs.Named.{find_named}
-use Rattle.gg_types.specs.declared.clocks.Way.{Way}
-use Rattle.gg_types.specs.declared.clocks.Way.TheVariants.{FromOutside, FromDriver, Nowhere}
+use Rattle.gg_types.specs.declared.way.Way.{Way}
+use Rattle.gg_types.specs.declared.way.Way.TheVariants.{FromOutside, FromDriver, Nowhere}
 use Rattle.gg_types.specs.Sorts.{is_clock}
 
 -- ---- where the names of a module get a Clock from

@@ -6,5 +6,4 @@ pub mod Owned
 pub mod Clocks
 pub mod Places
 pub mod Types
-pub mod Known
 pub mod Typed

@@ -3,7 +3,7 @@ use Rattle.std.specs.Prelude.{◌≡◌, ℕ, zero, suc, ◌<◌, List, Option, 
 use Rattle.gg_ast.specs.declared.statement.Stmt.{Stmt}
 use Rattle.gg_ast.specs.Places.{place_of}
 use Rattle.gg_types.specs.Named.{find_named}
-use Rattle.gg_types.specs.declared.clocks.Way.{Way}
+use Rattle.gg_types.specs.declared.way.Way.{Way}
 use Rattle.gg_types.specs.Clocks.{is_followed, lead_of}
 
 -- the place of a name

@@ -4,7 +4,7 @@ ghost use Rattle.std.specs.Option.{option_map};
 ghost use Rattle.gg_names.specs.Modules.{module_at, Holds};
 ghost use Rattle.gg_shape.specs.Judged.{IsShaped};
 ghost use Rattle.gg_types.specs.Clocks.{clock_followed};
-ghost use Rattle.gg_types.specs.Typed.{sort};
+ghost use Rattle.gg_types.specs.Typed.{IsTyped, sort};
 ghost use Rattle.gg_types.specs.Types.{sort_named, type_faults};
 ghost use Rattle.gg_walk.specs.Graph.{IsOrderOf};
 
@@ -19,12 +19,12 @@ use std::marker::Model;
 ///
 /// A contract sees the circuit, and the modules' places in that order.
 pub struct Typed<'a> {
-    pub(crate) names: Namespace<'a>,
+    names: Namespace<'a>,
     // For each module, by its place, the type data of its names.
-    pub(crate) own: Vec<Items<Own>>,
+    own: Vec<Items<Own>>,
     // For each module, by its place, the number of the Clock input that each of its names leads to.
-    pub(crate) clocks: Vec<Items<Option<u32>>>,
-    pub(crate) order: Vec<u32>,
+    clocks: Vec<Items<Option<u32>>>,
+    order: Vec<u32>,
 }
 
 impl Drop for Typed<'_> {
@@ -57,6 +57,25 @@ impl<'a> Model for Typed<'a> {
 }
 
 impl<'a> Typed<'a> {
+    /// A circuit without faults, with what is known of the names of each module, by its place: their type data, and the
+    /// numbers of the Clock inputs that they lead to.
+    pub fn new(
+        names: Namespace<'a>,
+        own: Vec<Items<Own>>,
+        clocks: Vec<Items<Option<u32>>>,
+        order: Vec<u32>,
+    ) -> Typed<'a>
+        requires { IsTyped names order.items own.items clocks.items }
+        ensures { result ≡ record { circuit = names; order = order.items } }
+    {
+        Typed {
+            names,
+            own,
+            clocks,
+            order,
+        }
+    }
+
     /// The names of the circuit, and the circuit itself. The circuit has none of the faults F1 to F14.
     pub fn names(&self) -> &Namespace<'a>
         ensures names { result.now ≡ self.now.circuit }

@@ -5,7 +5,7 @@ ghost use Rattle.gg_bits.specs.Value.{number_of, pattern_of};
 ghost use Rattle.gg_types.specs.Literal.{base, digit, digits_number, signed_number, is_number_of, literal_number, literal_value};
 ghost use Rattle.gg_types.specs.Types.{is_width, literal_shape};
 
-use crate::places::is_width;
+use crate::widths::is_width;
 use gg_ast::{Literal, Radix};
 use gg_bits::{Kind, Ty, Val};
 

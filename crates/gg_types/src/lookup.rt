@@ -3,34 +3,13 @@ ghost use Rattle.std.specs.Prelude.{◌≡◌, ◌<◌, Some, length};
 ghost use Rattle.std.specs.Option.{option_map};
 ghost use Rattle.gg_names.specs.Modules.{module_at};
 ghost use Rattle.gg_names.specs.Namespace.{names_in, scope_of};
-ghost use Rattle.gg_types.specs.Known.{roles_seen, traced_seen, owned_seen};
 ghost use Rattle.gg_types.specs.Named.{find_named, owned};
 ghost use Rattle.gg_types.specs.Owned.{known_entry, typed_by, single, field_of};
 
-use crate::known::Known;
 use crate::sort::{Own, Sort, field_sort, sort_of};
 use gg_ast::Reference;
 use gg_bits::Name;
 use gg_names::{Namespace, PortField, Role, first_name};
-
-impl<'b, 'a> Known<'b, 'a> {
-    /// The type of what a reference names, if the type data of its first name is known.
-    pub fn sort(&self, reference: &Reference) -> Option<Sort>
-        ensures { option_map (λ s. Some s) result ≡ known_entry (roles_seen self.now) (owned_seen self.now) reference.now }
-    {
-        sort_of_name(self.names, self.number, self.own.as_slice(), reference)
-    }
-
-    /// Whether a name leads to an input port.
-    pub fn is_traced(&self, name: &Name) -> bool
-        ensures { result ≡ traced_seen self.now name.now }
-    {
-        match self.names.place(self.number, name) {
-            Some(place) if place < self.traced.len() => self.traced[place],
-            Some(_) | None => false,
-        }
-    }
-}
 
 /// The type of what a reference names in a module, given the type data of the first of its declared names.
 pub fn sort_of_name(

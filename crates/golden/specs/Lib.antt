@@ -19,5 +19,4 @@ pub mod Run
 pub mod Runs
 pub mod RunText
 pub mod Saved
-pub mod Stepped
 pub mod Words

@@ -12,7 +12,8 @@ use gg_elab::flatten;
 use gg_flat::Piece;
 use gg_order::{OrderFault, order};
 use gg_shape::shape;
-use gg_types::{Typed, types};
+use gg_types::Typed;
+use gg_types_rules::types;
 use std::alloc::{AllocError, Global};
 
 /// Adds what the calls tell of a circuit that was read, from `shape` on.

@@ -90,7 +90,7 @@ fn ends_so(answer: &Answer, end: &End) -> bool {
 }
 
 /// What follows the first line of a call whose words aren't a command.
-pub(crate) const USAGE: &str =
+const USAGE: &str =
     "\nusage: golden run CIRCUIT PARTITION TRACE [--capacity K] [--workers W] [--mono]\nusage: golden replay CIRCUIT PARTITION TRACE STEPS [--capacity K]\nusage: golden check CIRCUIT PARTITION [--capacity K]\nusage: golden demo SEED SIZE [--workers W]\nusage: golden save CIRCUIT PARTITION TRACE AT [--capacity K] [--workers W]\nusage: golden resume CIRCUIT PARTITION TRACE SNAP [--capacity K] [--workers W]\n";
 
 /// Whether the words of a call weren't a command, with this first line.

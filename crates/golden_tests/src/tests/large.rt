@@ -2,7 +2,7 @@
 use super::calls::Call::OnLarge;
 use super::calls::End::{Prints, Refuses};
 use super::calls::{RESUME, Row};
-use super::large::Large::{Blanks, Chain, Clocks, Nested, Nodes, Outputs, Padded, Rows, Units};
+use super::large::Large::{Blanks, Clocks, Nested, Nodes, Outputs, Padded, Rows, Units};
 use super::steps::REPLAY;
 use gg_io::hold;
 use golden_calls::{
@@ -24,8 +24,6 @@ pub(crate) enum Large {
     Clocks(u64),
     /// These words, on an output that is an instance's behind a hundred nodes.
     Nodes(&'static str),
-    /// These words, on modules in a chain: so many of them below the top, so many instances of the next one in each, and these lines in the last.
-    Chain(&'static str, u32, u32, &'static str),
     /// `run` in each way, on the counter and so many rows.
     Rows(u64),
     /// `run` once, on the counter with blanks behind it, up to so many bytes.
@@ -76,35 +74,6 @@ pub(crate) static LIMITS: [Row; 11] = [
     (OnLarge(Nodes(RUN)), Prints(3, "cycle y\n0 a\n")),
 ];
 
-/// What the last module of a chain declares.
-const WIRE: &str = "wire w : UInt<1>\nw <= UInt<1>(\"h0\")\n";
-
-/// Chains of modules at the limits of depth, signals and instances, and past them.
-pub(crate) static CHAINS: [Row; 7] = [
-    (
-        OnLarge(Chain(CHECK, 17, 2, WIRE)),
-        Prints(2, "machine hub: host 0\n"),
-    ),
-    (OnLarge(Chain(RUN, 17, 2, WIRE)), Prints(3, "cycle\n0\n")),
-    (
-        OnLarge(Chain(RUN, 18, 2, WIRE)),
-        Refuses(1, 1, "golden: circuit: F15 signals 262144\n"),
-    ),
-    (OnLarge(Chain(RUN, 32, 1, WIRE)), Prints(3, "cycle\n0\n")),
-    (
-        OnLarge(Chain(RUN, 33, 2, WIRE)),
-        Refuses(1, 1, "golden: circuit: F15 depth 33\n"),
-    ),
-    (
-        OnLarge(Chain(RUN, 32, 4, WIRE)),
-        Refuses(1, 1, "golden: circuit: F15 signals 18446744073709551615\n"),
-    ),
-    (
-        OnLarge(Chain(CHECK, 32, 2, "")),
-        Refuses(1, 1, "golden: circuit: F15 instances 8589934590\n"),
-    ),
-];
-
 /// Files of blanks, each one byte past its limit; a snapshot of its limit, which is one line without an end; a circuit of its limit; and a trace with a row too many.
 pub(crate) static LARGE_FILES: [Row; 8] = [
     (
@@ -150,9 +119,6 @@ pub(crate) fn ask_large<R: Threads + Sync>(
         Large::Outputs(count) => run_outputs(rt, alloc, *count),
         Large::Clocks(count) => run_clocks(rt, alloc, *count),
         Large::Nodes(line) => ask_nodes(rt, alloc, line),
-        Large::Chain(line, levels, instances, last) => {
-            ask_chain(rt, alloc, line, *levels, *instances, last)
-        }
         Large::Rows(count) => run_rows(rt, alloc, *count),
         Large::Padded(size) => run_padded(rt, alloc, *size),
         Large::Blanks(line, name, size) => ask_blanks(rt, alloc, line, name, *size),
@@ -277,38 +243,6 @@ fn ask_nodes<R: Threads + Sync>(rt: &R, alloc: Global, line: &str) -> Result<Ans
         partition,
         "cycle x\n0 5\n",
     )
-}
-
-/// Modules in a chain.
-fn chain_of_modules(
-    alloc: Global,
-    levels: u32,
-    instances: u32,
-    last: &str,
-) -> Result<String, AllocError> {
-    let mut circuit = String::from_str(alloc, "circuit L0 :\n")?;
-    for level in 0..levels {
-        write!(circuit, "module L{level} :\n")?;
-        let next = level.saturating_add(1);
-        for number in 0..instances {
-            write!(circuit, "inst i{number} of L{next}\n")?;
-        }
-    }
-    write!(circuit, "module L{levels} :\n{last}")?;
-    Ok(circuit)
-}
-
-/// A call with these words on it.
-fn ask_chain<R: Threads + Sync>(
-    rt: &R,
-    alloc: Global,
-    line: &str,
-    levels: u32,
-    instances: u32,
-    last: &str,
-) -> Result<Answer, AllocError> {
-    let circuit = chain_of_modules(alloc, levels, instances, last)?;
-    ask_of(rt, alloc, line, circuit.as_str(), "{}", "cycle\n0\n")
 }
 
 /// `run` in each way, on the counter and so many rows.

@@ -1,5 +1,0 @@
-use Rattle.gg_cut.proofs.PathLemmas.{look-up}
-use Rattle.gg_cut.proofs.bridges.signal_of.Goals as goal
-
-pub returns-clause-place : goal.returns-clause-place
-returns-clause-place c = look-up c.args.piece.now.paths c.args.port.now c.find.result c.signal_count.ensures.distinct c.find.ensures.found c.find.ensures.missing

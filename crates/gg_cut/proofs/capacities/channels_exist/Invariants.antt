@@ -1,7 +1,0 @@
-use Rattle.std.proofs.Common.{◌≡◌, drop}
-use Rattle.gg_cut.specs.Channels.{channel_names}
-use Rattle.gg_cut.specs.Fault.{unknown_channel}
-use Rattle.gg_cut.proofs.capacities.channels_exist.Given as goal
-
-abbrev pub invariant-loop-pair : goal.invariant-loop-pair
-invariant-loop-pair l = unknown_channel (channel_names l.piece l.signals) l.capacities ≡ unknown_channel (channel_names l.piece l.signals) (drop l.pair-index l.capacities)

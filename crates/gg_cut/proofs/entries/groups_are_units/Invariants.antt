@@ -1,6 +1,0 @@
-use Rattle.std.proofs.Common.{◌≡◌, drop}
-use Rattle.gg_cut.specs.Fault.{unshared}
-use Rattle.gg_cut.proofs.entries.groups_are_units.Given as goal
-
-abbrev pub invariant-loop-group : goal.invariant-loop-group
-invariant-loop-group l = unshared l.set l.share ≡ unshared l.set (drop l.group-index l.share)

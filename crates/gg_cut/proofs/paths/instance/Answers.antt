@@ -1,5 +1,0 @@
-use Rattle.gg_cut.proofs.PathLemmas.{look-up}
-use Rattle.gg_cut.proofs.paths.instance.Goals as goal
-
-pub returns : goal.returns
-returns c = look-up c.args.tree.now.paths c.args.path.now c.find.result c.len.ensures.distinct c.find.ensures.found c.find.ensures.missing

@@ -1,5 +1,0 @@
-use Rattle.gg_cut.proofs.PathLemmas.{Includes}
-use Rattle.gg_cut.proofs.paths.set_of.Given as goal
-
-abbrev pub invariant-loop-path : goal.invariant-loop-path
-invariant-loop-path l = Includes l.paths l.path-index l.set

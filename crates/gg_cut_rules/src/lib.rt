@@ -1,0 +1,26 @@
+//! The first fault of a request for a cut, by the definitions of gg_cut.
+//!
+//! The crate promises:
+//!
+//! - `judge_entries` returns what a request lists exactly if its entries have no fault, and else their first fault. With the
+//!   signals of the plan's channels, `judge_channels` tells the first fault of the capacities and of the numbers of units and of
+//!   channels, and `judge_pipes` the first of the pipes. `judge_clocks` tells the first of the clocks. The four together tell
+//!   `first_fault`. With the models that are known, `judge_bridges` tells the first of the bridges, and the five together tell
+//!   `first_fault_with`;
+//! - `clock_ratios` returns the ratios of the circuit's clocks.
+#![tactic(auto)]
+
+mod bridges;
+mod capacities;
+mod clocks;
+mod counterparts;
+mod entries;
+mod overlap;
+mod paths;
+mod pipes;
+mod signals;
+mod verdict;
+
+pub use bridges::judge_bridges;
+pub use clocks::clock_ratios;
+pub use verdict::{judge_channels, judge_clocks, judge_entries, judge_pipes};

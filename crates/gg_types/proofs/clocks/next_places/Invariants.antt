@@ -1,6 +1,0 @@
-use Rattle.std.proofs.Common.{take}
-use Rattle.gg_types.specs.Places.{TellsNext}
-use Rattle.gg_types.proofs.clocks.next_places.Given as goal
-
-abbrev pub invariant-loop-statement : goal.invariant-loop-statement
-invariant-loop-statement l = TellsNext l.ways (take l.statement-index l.statements) l.next.items

@@ -1,0 +1,3 @@
+pub mod WayLemmas
+pub mod TellLemmas
+pub mod KnownLemmas

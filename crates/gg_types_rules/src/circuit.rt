@@ -1,0 +1,144 @@
+//! `types`: the first fault of a circuit's types, or the circuit with its names' types.
+ghost use Rattle.std.specs.Prelude.{◌≡◌, ◌<◌, ◌++◌, ◌∷◌, ℕ, List, [], IfOk, length, flat_map, take};
+ghost use Rattle.gg_names.specs.Modules.{module_at, Holds};
+ghost use Rattle.gg_names.specs.Namespace.{scope_of};
+ghost use Rattle.gg_shape.specs.Faults.{Answers};
+ghost use Rattle.gg_shape.specs.Judged.{IsShaped};
+ghost use Rattle.gg_shape.specs.Rings.{HasNoRing};
+ghost use Rattle.gg_types.specs.Clocks.{leads_to_input};
+ghost use Rattle.gg_types.specs.Typed.{TellsOwn, TellModules, TellsClocks, TellAllClocks};
+ghost use Rattle.gg_types.specs.Types.{module_type_faults, faults_of_module, type_faults};
+ghost use Rattle.gg_walk.specs.Graph.{IsOrderOf, IsRing};
+
+use crate::clocks::{Traces, trace};
+use crate::known::Known;
+use crate::module::judge_all;
+use gg_ast::{Circuit, Module};
+use gg_bits::Items;
+use gg_names::{NamesFault, Namespace};
+use gg_shape::Refusal;
+use gg_types::{Own, Typed};
+use gg_walk::{Graph, WalkFault, walk};
+use std::alloc::{AllocError, Global};
+
+/// What `types` returns in place of Ok.
+pub type TypeFault = Refusal;
+
+/// Checks a circuit for the faults F9 to F14, and returns it with its names' types. The circuit must have none of the
+/// faults F1 to F8: `gg_shape::shape` checks these before.
+///
+/// # Errors
+///
+/// Returns `Refusal::F` with the first of F9 to F14 in the order of the text. Returns `Refusal::NoMemory` if an
+/// allocation fails.
+pub fn types<'a>(alloc: Global, circuit: &'a Circuit) -> Result<Typed<'a>, TypeFault>
+    requires shaped { IsShaped circuit.now }
+    ensures answers { Answers (type_faults circuit.now) result }
+    ensures circuit { IfOk result (λ t. t.circuit ≡ circuit.now) }
+{
+    match Namespace::of(alloc, circuit) {
+        Ok(names) => typed(alloc, names),
+        Err(NamesFault::Repeated(_)) => unreachable!(),
+        Err(NamesFault::NoMemory) => Err(Refusal::NoMemory),
+    }
+}
+
+/// The same as `types`, for a circuit whose names are already collected.
+///
+/// # Errors
+///
+/// Returns `Refusal::F` with the first of F9 to F14 in the order of the text. Returns `Refusal::NoMemory` if an
+/// allocation fails.
+pub fn typed<'a>(alloc: Global, names: Namespace<'a>) -> Result<Typed<'a>, TypeFault>
+    requires shaped { IsShaped names }
+    ensures answers { Answers (type_faults names.entry) result }
+    ensures circuit { IfOk result (λ t. t.circuit ≡ names.entry) }
+{
+    let Tables { own, clocks } = judge_modules(alloc, &names)?;
+    let order = module_order(alloc, &names)?;
+    Ok(Typed::new(names, own, clocks, order))
+}
+
+// The order of the modules, each after all that it has instances of.
+fn module_order(alloc: Global, names: &Namespace) -> Result<Vec<u32>, Refusal>
+    requires free { HasNoRing names.now }
+    ensures order { IfOk result (λ order. IsOrderOf (Holds names.now.modules) (length names.now.modules) order.items) }
+    ensures answers { Answers [] result }
+{
+    match walk(alloc, names) {
+        Ok(order) => Ok(order),
+        Err(WalkFault::Ring(_)) => unreachable!(),
+        Err(WalkFault::NoMemory) => Err(Refusal::NoMemory),
+    }
+}
+
+// Of the names of each module, by its place, the type data, and the Clock inputs that they lead to.
+#[derive(Drop)]
+struct Tables {
+    own: Vec<Items<Own>>,
+    clocks: Vec<Items<Option<u32>>>,
+}
+
+// The same of one module.
+#[derive(Drop)]
+struct Judged {
+    own: Vec<Own>,
+    clocks: Vec<Option<u32>>,
+}
+
+// Returns what is known of the modules' names, or fails with the first fault in the order of the modules.
+fn judge_modules(alloc: Global, names: &Namespace) -> Result<Tables, Refusal>
+    ensures answers { Answers (type_faults names.now) result }
+    ensures own { IfOk result (λ tables. TellModules names.now.modules (length names.now.modules) tables.own.items) }
+    ensures clocks { IfOk result (λ tables. TellAllClocks names.now.modules (length names.now.modules) tables.clocks.items) }
+{
+    let mut own = Vec::new(alloc);
+    let mut clocks = Vec::new(alloc);
+    for number in 0..names.node_count() {
+        let Judged {
+            own: types,
+            clocks: numbers,
+        } = judge_module(alloc, names, number)?;
+        add_list(&mut own, types)?;
+        add_list(&mut clocks, numbers)?;
+    }
+    Ok(Tables { own, clocks })
+}
+
+// Adds a list as the last.
+fn add_list<T: Drop>(lists: &mut Vec<Items<T>>, list: Vec<T>) -> Result<(), AllocError>
+    ensures { IfOk result (λ _. lists.new.items ≡ lists.old.items ++ list.items ∷ []) }
+{
+    lists.push(Items::from(list))?;
+    Ok(())
+}
+
+// Returns what is known of a module's names, or fails with its first fault.
+fn judge_module(alloc: Global, names: &Namespace, number: u32) -> Result<Judged, Refusal>
+    requires { number < length names.now.modules }
+    ensures answers { Answers (faults_of_module names.now.modules (module_at names.now.modules number)) result }
+    ensures own { IfOk result (λ judged. TellsOwn names.now.modules (module_at names.now.modules number) judged.own.items) }
+    ensures clocks { IfOk result (λ judged. TellsClocks (module_at names.now.modules number) judged.clocks.items) }
+{
+    let here = module_of(names, number);
+    let Traces { flags, clocks } = trace(alloc, names, number)?;
+    let mut known = Known {
+        names,
+        number,
+        traced: flags,
+        own: Vec::new(alloc),
+    };
+    judge_all(alloc, &mut known, here.ports(), here.statements())?;
+    Ok(Judged {
+        own: known.own,
+        clocks,
+    })
+}
+
+/// The module at a place.
+pub fn module_of<'a>(names: &Namespace<'a>, number: u32) -> &'a Module
+    requires { number < length names.now.modules }
+    ensures { result.now ≡ module_at names.now.modules number }
+{
+    &names.circuit().modules()[number as usize]
+}

@@ -1,0 +1,33 @@
+//! The fields of a memory (FIRRTL Specification, "Memories").
+ghost use Rattle.std.specs.Prelude.{◌≡◌};
+ghost use Rattle.gg_shape.specs.Faults.{Answers};
+ghost use Rattle.gg_types.specs.Types.{field_faults, memory_type_faults};
+
+use crate::places::stored_type;
+use gg_ast::{Field, MemoryField};
+use gg_shape::{Refusal, Word};
+
+/// Fails at the first type among a memory's fields that is a Clock, or whose width is 0 or above 128.
+pub fn judge_fields(fields: &[Field]) -> Result<(), Refusal>
+    ensures { Answers (memory_type_faults fields.now) result }
+{
+    for field in fields {
+        judge_field(field.line, &field.kind)?;
+    }
+    Ok(())
+}
+
+// Fails if the type in a field is a Clock, or its width is 0 or above 128.
+fn judge_field(line: u64, kind: &MemoryField) -> Result<(), Refusal>
+    ensures { Answers (field_faults line kind.now) result }
+{
+    match kind {
+        MemoryField::DataType(ty) => stored_type(line, Word::Memory, *ty),
+        MemoryField::Depth(_)
+        | MemoryField::ReadLatency(_)
+        | MemoryField::WriteLatency(_)
+        | MemoryField::Readers(_)
+        | MemoryField::Writers(_)
+        | MemoryField::ReadUnderWrite(_) => Ok(()),
+    }
+}
