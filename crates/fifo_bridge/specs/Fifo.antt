@@ -14,9 +14,11 @@ use Rattle.fifo_bridge.specs.declared.model.Place.{Place}
 
 -- ---- the circuit
 
+-- the in-signal at a place
 abbrev pub given : Ty → ℕ → Signal
 given ty place = record { ty = ty; driver = Input place }
 
+-- a signal that has what a register holds
 abbrev pub held : Ty → ℕ → Signal
 held ty register = record { ty = ty; driver = Held register }
 
@@ -53,6 +55,8 @@ fifo_registers bit ty =
     taking bit 3 bit 2 5 ∷ taking bit 3 ty 4 6 ∷ taking bit 5 bit 3 7 ∷ taking bit 5 ty 6 8 ∷ taking bit 7 bit 5 9 ∷ taking bit 7 ty 8 10
     ∷ taking bit 9 bit 7 0 ∷ taking bit 9 ty 10 1 ∷ []
 
+-- The FIFO for values of type `ty`, with `bit` as the type of its flags: three in-signals, a flag and a value for each of four places, and
+-- three out-signals.
 abbrev pub fifo_piece : Ty → Ty → FlatCircuit
 fifo_piece bit ty =
     record {
@@ -67,9 +71,11 @@ fifo_piece bit ty =
 
 -- ---- its state
 
+-- a place without a value
 abbrev pub empty_place : Place
 empty_place = record { full = 0; value = 0 }
 
+-- the state in which the four places have this, from the one that hands on first
 abbrev pub fifo_state : (first second third fourth : Place) → State
 fifo_state first second third fourth =
     record {
@@ -90,6 +96,7 @@ pub record Kept : Type 0 where
   pub third : Place
   pub fourth : Place
 
+-- The circuit is a FIFO of this type, whose flags are one unsigned bit.
 pub record IsFifo (bit ty : Ty) (piece : FlatCircuit) : Type 0 where
   pub is : piece ≡ fifo_piece bit ty
   pub flag : shape bit ≡ uint 1

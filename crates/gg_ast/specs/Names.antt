@@ -25,20 +25,24 @@ begins_name b = is_ascii_alphabetic b || b == 95
 abbrev pub is_name_byte : ℕ → Bool
 is_name_byte b = is_ascii_alphanumeric b || b == 95 || b == 36
 
+-- a letter or `_`, followed by any number of letters, digits, `_` and `$`; the empty text is no name
 abbrev pub is_name : List ℕ → Bool
 is_name [] = false
 is_name (b ∷ bs) = begins_name b && list_all is_name_byte bs
 
+-- the same as a fact
 abbrev pub IsName : List ℕ → Type 0
 IsName text = IsTrue (is_name text)
 
 -- The following definitions say, of each part of a circuit, that its names are names.
 
+-- each part of a reference, as it is between its dots
 abbrev pub AreNamesOfReference : Reference → Type 0
 AreNamesOfReference (Local a) = IsName a
 AreNamesOfReference (PortOf a b) = IsName a × IsName b
 AreNamesOfReference (FieldOf a b c) = IsName a × IsName b × IsName c
 
+-- the references in an expression, on all levels
 abbrev pub AreNamesOfTerm : Term → Type 0
 AreNamesOfTerm (NamedTerm r) = AreNamesOfReference r
 AreNamesOfTerm (ConstantTerm l) = Unit {0}
@@ -47,6 +51,7 @@ AreNamesOfTerm (BinaryTerm o a b) = AreNamesOfTerm a × AreNamesOfTerm b
 AreNamesOfTerm (FixedTerm o a n m) = AreNamesOfTerm a
 AreNamesOfTerm (MuxTerm c a b) = AreNamesOfTerm c × AreNamesOfTerm a × AreNamesOfTerm b
 
+-- the references in a reset's condition and in its value
 abbrev pub AreNamesOfReset : Reset → Type 0
 AreNamesOfReset reset = AreNamesOfTerm reset.condition × AreNamesOfTerm reset.init
 
@@ -60,6 +65,7 @@ AreNamesOfMemoryField (field.ReadLatency n) = Unit {0}
 AreNamesOfMemoryField (field.WriteLatency n) = Unit {0}
 AreNamesOfMemoryField (field.ReadUnderWrite word) = Unit {0}
 
+-- the same of a field of a memory, with its line
 abbrev pub AreNamesOfField : Field → Type 0
 AreNamesOfField f = AreNamesOfMemoryField f.kind
 
@@ -68,6 +74,8 @@ abbrev pub AreNamesOfArgument : Argument → Type 0
 AreNamesOfArgument (Value e) = AreNamesOfTerm e
 AreNamesOfArgument (Text t) = Unit {0}
 
+-- the names of a statement: that which it declares, those in its expressions, the module of an instance, the readers and writers of a
+-- memory, and the label of a stop or a report
 abbrev pub AreNamesOfKind : StmtKind → Type 0
 AreNamesOfKind (Wire name ty) = IsName name
 AreNamesOfKind (Node name value) = IsName name × AreNamesOfTerm value
@@ -80,17 +88,21 @@ AreNamesOfKind Skip = Unit {0}
 AreNamesOfKind (Stop clock condition code label) = AreNamesOfTerm clock × AreNamesOfTerm condition × IfSome label IsName
 AreNamesOfKind (Report word arguments label) = All AreNamesOfArgument arguments × IfSome label IsName
 
+-- the same of a statement with its line
 abbrev pub AreNamesOfStatement : Stmt → Type 0
 AreNamesOfStatement s = AreNamesOfKind s.kind
 
+-- the name of a port
 abbrev pub IsPortNamed : Port → Type 0
 IsPortNamed port = IsName port.name
 
+-- a module's own name, those of its ports, and all names of its statements
 pub record AreNamesOfModule (m : ModuleTree) : Type 0 where
   pub own : IsName m.name
   pub of_ports : All IsPortNamed m.ports
   pub of_statements : All AreNamesOfStatement m.statements
 
+-- a circuit's own name and all names of its modules
 pub record AreNamesOfCircuit (circuit : CircuitTree) : Type 0 where
   pub own : IsName circuit.name
   pub of_modules : All AreNamesOfModule circuit.modules

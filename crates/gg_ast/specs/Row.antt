@@ -8,6 +8,7 @@ use Rattle.gg_ast.specs.declared.statement.MemoryField.{MemoryField}
 use Rattle.gg_ast.specs.declared.statement.Report.{Report}
 use Rattle.gg_ast.specs.Term.{Term}
 
+-- one line, without its number; words in capitals stand for what varies
 pub data Row : Type 0 where
   -- FIRRTL version n . n . n
   VersionRow : ℕ → ℕ → ℕ → Row
@@ -51,5 +52,6 @@ pub record Numbered : Type 0 where
   pub line : ℕ
   pub row : Row
 
+-- a row on the line with this number
 abbrev pub numbered : ℕ → Row → Numbered
 numbered line row = record { line = line; row = row }

@@ -1,4 +1,5 @@
 -- The rows of a circuit: what the lines of its text say, in order, each with its line.
+-- Source: FIRRTL Specification, "Grammar".
 use Rattle.std.specs.Prelude.{ℕ, List, [], ◌∷◌, ◌++◌, Option, None, Some, ◌==◌, if◌then◌else◌, map}
 use Rattle.gg_ast.specs.declared.module.GroundType.{GroundType}
 use Rattle.gg_ast.specs.declared.module.Port.{Port}
@@ -11,9 +12,11 @@ use Rattle.gg_ast.specs.Row.{Numbered, numbered, CircuitRow, ModuleRow, PortRow,
 use Rattle.gg_ast.specs.Term.{Term}
 use Rattle.gg_ast.specs.Tree.{ModuleTree, CircuitTree}
 
+-- the row of a port
 abbrev pub port_row : Port → Numbered
 port_row port = numbered port.line (PortRow port.direction port.name port.ty)
 
+-- the row of a field of a memory
 abbrev pub field_row : Field → Numbered
 field_row field = numbered field.line (FieldRow field.kind)
 
@@ -38,16 +41,20 @@ kind_rows line Skip = numbered line SkipRow ∷ []
 kind_rows line (Stop clock condition code label) = numbered line (StopRow clock condition code label) ∷ []
 kind_rows line (Report word arguments label) = numbered line (ReportRow word arguments label) ∷ []
 
+-- the rows of a statement, the first of them on the statement's line
 abbrev pub statement_rows : Stmt → List Numbered
 statement_rows s = kind_rows s.line s.kind
 
+-- those of the statements, one after another
 abbrev pub rows_of_statements : List Stmt → List Numbered
 rows_of_statements [] = []
 rows_of_statements (s ∷ ss) = statement_rows s ++ rows_of_statements ss
 
+-- the rows of a module: its header, its ports, its statements
 abbrev pub module_rows : ModuleTree → List Numbered
 module_rows m = numbered m.line (ModuleRow m.name) ∷ (map port_row m.ports ++ rows_of_statements m.statements)
 
+-- those of the modules, one after another
 abbrev pub rows_of_modules : List ModuleTree → List Numbered
 rows_of_modules [] = []
 rows_of_modules (m ∷ ms) = module_rows m ++ rows_of_modules ms

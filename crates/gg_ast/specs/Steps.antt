@@ -27,6 +27,7 @@ steps_before (BinaryTerm o a b) rest = steps_before a (steps_before b (BinarySte
 steps_before (FixedTerm o a n m) rest = steps_before a (FixedStep o n m ∷ rest)
 steps_before (MuxTerm c a b) rest = steps_before c (steps_before a (steps_before b (MuxStep ∷ rest)))
 
+-- the steps of a term, the operands of an operation before it
 abbrev pub steps_of : Term → List Step
 steps_of t = steps_before t []
 
@@ -40,14 +41,17 @@ stack_after (FixedStep o n m) (a ∷ ts) = FixedTerm o a n m ∷ ts
 stack_after MuxStep (b ∷ (a ∷ (c ∷ ts))) = MuxTerm c a b ∷ ts
 stack_after other ts = []
 
+-- the stack after all the steps, one after another
 abbrev pub run : List Step → List Term → List Term
 run [] ts = ts
 run (s ∷ ss) ts = run ss (stack_after s ts)
 
+-- what is on top of the stack, its first element; a reference without a name if the stack is empty
 abbrev pub first_of_stack : List Term → Term
 first_of_stack [] = NamedTerm (Local [])
 first_of_stack (t ∷ ts) = t
 
+-- what is on top of the stack after the steps, which began with an empty one
 abbrev pub first_run : List Step → Term
 first_run ss = first_of_stack (run ss [])
 
@@ -64,5 +68,6 @@ run-steps_before (MuxTerm c a b) rest ts =
     ∙ run-steps_before a (steps_before b (MuxStep ∷ rest)) (c ∷ ts)
     ∙ run-steps_before b (MuxStep ∷ rest) (a ∷ (c ∷ ts))
 
+-- the steps of a term lead back to the term
 pub first_run-steps_of : (t : Term) → first_run (steps_of t) ≡ t
 first_run-steps_of t = ap first_of_stack (run-steps_before t [] [])

@@ -32,10 +32,11 @@ module_at modules k = slice_index_or modules k (empty_module 0 [])
 abbrev pub empty_circuit : ℕ → List ℕ → CircuitTree
 empty_circuit line name = record { line = line; name = name; modules = [] }
 
--- the modules' names
+-- the modules' names, in the order of the file
 abbrev pub names_of : List ModuleTree → List (List ℕ)
 names_of modules = map (λ m. m.name) modules
 
+-- the names of a circuit's modules, in order
 abbrev pub module_names : CircuitTree → List (List ℕ)
 module_names circuit = names_of circuit.modules
 
@@ -64,6 +65,7 @@ abbrev pub with_field : Field → StmtKind → StmtKind
 with_field field (Memory name fields) = Memory name (fields ++ field ∷ [])
 with_field field other = other
 
+-- a statement whose memory has one more field; a statement of another kind is as it was
 abbrev pub statement_with_field : Field → Stmt → Stmt
 statement_with_field field s = record s { kind = with_field field s.kind }
 
@@ -71,13 +73,16 @@ statement_with_field field s = record s { kind = with_field field s.kind }
 abbrev pub module_with_field : Field → ModuleTree → ModuleTree
 module_with_field field m = record m { statements = on_last (statement_with_field field) m.statements }
 
+-- a statement of this kind declares a memory
 abbrev pub IsMemory : StmtKind → Type 0
 IsMemory (Memory name fields) = Unit {0}
 IsMemory other = ⊥
 
+-- the statement declares a memory
 abbrev pub IsMemoryStatement : Stmt → Type 0
 IsMemoryStatement s = IsMemory s.kind
 
+-- the module has statements, and the last of them declares a memory
 abbrev pub EndsInMemory : ModuleTree → Type 0
 EndsInMemory m = EndsIn IsMemoryStatement m.statements
 

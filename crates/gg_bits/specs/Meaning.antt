@@ -39,6 +39,8 @@ extended s w a = pattern_of w (number s a)
 
 -- ---- on one value
 
+-- The number that an operation on one value stands for. `asUInt`, `asSInt`, `not` and the reductions read the pattern; `cvt` and `neg` read
+-- the number, which depends on the kind.
 abbrev pub meaning1 : Op1 → Shape → ℕ → ℤ
 meaning1 AsUInt s a = pos a
 meaning1 AsSInt s a = pos a
@@ -55,6 +57,9 @@ value1 op s a = pattern_of (shape1 op s).width (meaning1 op s a)
 
 -- ---- on two values
 
+-- The number that an operation on two values stands for. `cat` reads the patterns, a dynamic shift reads its amount as a pattern, and
+-- `and`, `or` and `xor` read patterns that are extended to the greater width first. `validif` is its second operand, whatever the condition
+-- is.
 abbrev pub meaning2 : Op2 → Shape → ℕ → Shape → ℕ → ℤ
 meaning2 Add s a t b = number s a +ℤ number t b
 meaning2 Sub s a t b = number s a -ℤ number t b
@@ -75,11 +80,14 @@ meaning2 Xor s a t b = pos (bit_xor (extended s (max s.width t.width) a) (extend
 meaning2 Cat s a t b = pos (a * 2 ^ t.width + b)
 meaning2 Validif s a t b = number t b
 
+-- the pattern of the result
 abbrev pub value2 : Op2 → Shape → ℕ → Shape → ℕ → ℕ
 value2 op s a t b = pattern_of (shape2 op s t).width (meaning2 op s a t b)
 
 -- ---- with parameters
 
+-- The number that an operation with one value and parameters stands for. `bits` has the parameters hi and lo; the others have n alone and
+-- ignore m. `bits`, `head` and `tail` read the pattern.
 abbrev pub meaning_const : OpN → Shape → ℕ → ℕ → ℕ → ℤ
 meaning_const Pad s a n m = number s a
 meaning_const Shl s a n m = number s a *ℤ pos (2 ^ n)
@@ -88,13 +96,16 @@ meaning_const Bits s a hi lo = pos (a / 2 ^ lo % 2 ^ (hi - lo + 1))
 meaning_const Head s a n m = pos (a / 2 ^ (s.width - n))
 meaning_const Tail s a n m = pos (a % 2 ^ (s.width - n))
 
+-- the pattern of the result
 abbrev pub value_const : OpN → Shape → ℕ → ℕ → ℕ → ℕ
 value_const op s a n m = pattern_of (shape_const op s n m).width (meaning_const op s a n m)
 
 -- ---- the choice by a condition c
 
+-- the number of the first value where the condition's pattern is 1, otherwise that of the second
 abbrev pub meaning_mux : ℕ → Shape → ℕ → Shape → ℕ → ℤ
 meaning_mux c s a t b = if c == 1 then number s a else number t b
 
+-- the pattern of the result
 abbrev pub value_mux : ℕ → Shape → ℕ → Shape → ℕ → ℕ
 value_mux c s a t b = pattern_of (shape_mux s t).width (meaning_mux c s a t b)

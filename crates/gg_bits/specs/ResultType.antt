@@ -17,10 +17,12 @@ use Rattle.gg_bits.specs.Shape.{Shape, of_kind, uint, sint}
 
 -- ---- which operands are allowed
 
+-- whether a kind is unsigned
 abbrev pub is_uint : kinds.Kind → Bool
 is_uint UInt = true
 is_uint SInt = false
 
+-- whether two kinds are the same
 abbrev pub same_kind : kinds.Kind → kinds.Kind → Bool
 same_kind UInt UInt = true
 same_kind UInt SInt = false
@@ -37,6 +39,8 @@ is_condition s = is_uint s.kind && (s.width == 1)
 abbrev pub within : Shape → Result Shape Bad
 within s = if nat_le 1 s.width && nat_le s.width 128 then Ok s else Err (Width (min s.width 4294967295))
 
+-- The answer, if the kinds are allowed or not, the parameters are allowed or not, and the result would have shape s. A wrong kind is named
+-- before a wrong parameter, and this before a wrong width.
 abbrev pub answer : Bool → Bool → Shape → Result Shape Bad
 answer false params s = Err Kind
 answer true false s = Err Param
@@ -56,6 +60,7 @@ shape1 Andr s = uint 1
 shape1 Orr s = uint 1
 shape1 Xorr s = uint 1
 
+-- the result's shape for an operand of shape s, or what is wrong: only its width can be
 abbrev pub type1 : Op1 → Shape → Result Shape Bad
 type1 op s = answer true true (shape1 op s)
 
@@ -104,6 +109,7 @@ shape2 Xor s t = uint (max s.width t.width)
 shape2 Cat s t = uint (s.width + t.width)
 shape2 Validif s t = t
 
+-- the result's shape for operands of shapes s and t, or what is wrong
 abbrev pub type2 : Op2 → Shape → Shape → Result Shape Bad
 type2 op s t = answer (kinds2 op s t) true (shape2 op s t)
 
@@ -128,13 +134,17 @@ shape_const Bits s hi lo = uint (hi - lo + 1)
 shape_const Head s n m = uint n
 shape_const Tail s n m = uint (s.width - n)
 
+-- the result's shape for an operand of shape s and the parameters n and m, or what is wrong
 abbrev pub type_const : OpN → Shape → ℕ → ℕ → Result Shape Bad
 type_const op s n m = answer true (params_const op s n m) (shape_const op s n m)
 
 -- ---- "Multiplexers": a condition c and two values
 
+-- the shape of a choice between values of shapes s and t: the kind of the first, and the greater width
 abbrev pub shape_mux : Shape → Shape → Shape
 shape_mux s t = of_kind s.kind (max s.width t.width)
 
+-- the result's shape for a condition of shape c and values of shapes s and t, or what is wrong: the condition has one unsigned bit, and the
+-- values are of one kind
 abbrev pub type_mux : Shape → Shape → Shape → Result Shape Bad
 type_mux c s t = answer (is_condition c && same_kind s.kind t.kind) true (shape_mux s t)

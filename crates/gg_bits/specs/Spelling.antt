@@ -59,9 +59,11 @@ written_as text word (op ∷ ops) = if bytes_eq word (text op) then Some op else
 abbrev pub all1 : List Op1
 all1 = AsUInt ∷ (AsSInt ∷ (Cvt ∷ (Neg ∷ (Not ∷ (Andr ∷ (Orr ∷ (Xorr ∷ [])))))))
 
+-- all operations on two values
 abbrev pub all2 : List Op2
 all2 = Add ∷ (Sub ∷ (Mul ∷ (Div ∷ (Rem ∷ (Lt ∷ (Leq ∷ (Gt ∷ (Geq ∷ (Eq ∷ (Neq ∷ (Dshl ∷ (Dshr ∷ (And ∷ (Or ∷ (Xor ∷ (Cat ∷ (Validif ∷ [])))))))))))))))))
 
+-- all operations with parameters
 abbrev pub all_const : List OpN
 all_const = Pad ∷ (Shl ∷ (Shr ∷ (Bits ∷ (Head ∷ (Tail ∷ [])))))
 
@@ -69,8 +71,10 @@ all_const = Pad ∷ (Shl ∷ (Shr ∷ (Bits ∷ (Head ∷ (Tail ∷ [])))))
 abbrev pub named1 : List ℕ → Option Op1
 named1 word = written_as text1 word all1
 
+-- the operation on two values that a word names; none if it names no such operation
 abbrev pub named2 : List ℕ → Option Op2
 named2 word = written_as text2 word all2
 
+-- the operation with parameters that a word names; none if it names no such operation
 abbrev pub named_const : List ℕ → Option OpN
 named_const word = written_as text_const word all_const

@@ -20,6 +20,7 @@ echo_piece ty =
       clocks = 0;
     }
 
+-- the state of an echo that saw this value last
 abbrev pub echo_state : ℕ → State
 echo_state last = record { registers = last ∷ []; banks = [] }
 
@@ -28,6 +29,7 @@ pub record Echoing : Type 0 where
   pub ty : Ty
   pub last : ℕ
 
+-- The piece is an echo of values of this type, and the last that it saw is one of them.
 pub record IsEcho (ty : Ty) (piece : FlatCircuit) (last : ℕ) : Type 0 where
   pub is : piece ≡ echo_piece ty
   pub fits : last < 2 ^ ty.width

@@ -12,6 +12,7 @@ use Rattle.gg_node.specs.Machine.{RunsPiece, Machine, latch_at}
 use Rattle.gg_joined.specs.Model.{IsModel, IsSaid}
 use Rattle.gg_joined.specs.Turned.{turned, AreAllPlaces}
 
+-- the machine of this model, at this moment of its run
 abbrev pub bridge_machine : FlatCircuit → ℕ → State → List (Option ℕ) → List Bool → Machine
 bridge_machine piece cycle state latches flags =
     record {

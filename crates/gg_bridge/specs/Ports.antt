@@ -26,6 +26,7 @@ first_called circuit name (s ∷ signals) = if is_called circuit name s then s e
 
 -- ---- by a table of places
 
+-- the place that a table has for a signal, if there is a signal
 abbrev pub place_by : List (Option ℕ) → Option ℕ → Option ℕ
 place_by places None = None
 place_by places (Some s) = place_at places s
@@ -51,6 +52,7 @@ IsAmong circuit signals name = list_any (is_called circuit name) signals ≡ tru
 abbrev pub seen_at : FlatCircuit → List (List ℕ) → List ℕ
 seen_at circuit sees = map (λ name. first_called circuit name circuit.outs) sees
 
+-- those that it drives at the inputs with these names
 abbrev pub driven_at : FlatCircuit → List (List ℕ) → List ℕ
 driven_at circuit drives = map (λ name. first_called circuit name circuit.ins) drives
 

@@ -74,7 +74,7 @@ CanStandAll models one (entry ∷ entries) =
 
 -- ---- a run of the whole
 
--- the signal of the circuit with a path
+-- the signal of the circuit with a path; 0 if none has it
 abbrev pub signal_called : FlatCircuit → List ℕ → ℕ
 signal_called circuit name = unwrap_or (place_of circuit.paths name) 0
 
@@ -83,6 +83,7 @@ signal_called circuit name = unwrap_or (place_of circuit.paths name) 0
 abbrev pub seen_signal : Ordered → Request → List ℕ → ℕ
 seen_signal design request name = taken_as (plan_hub design.circuit design.tree request) (signal_called design.circuit name)
 
+-- the signal of the input with this name, which a bridge drives
 abbrev pub driven_signal : Ordered → List ℕ → ℕ
 driven_signal design name = signal_called design.circuit name
 
@@ -90,6 +91,7 @@ driven_signal design name = signal_called design.circuit name
 abbrev pub model_first : Ordered → Request → Models → ℕ → ℕ
 model_first design request models k = length (plan_reference design request).signals + sum (map (λ entry. length (model_of models entry).signals) (take k request.bridges))
 
+-- the numbers of all its signals in the whole
 abbrev pub model_signals : Ordered → Request → Models → ℕ → List ℕ
 model_signals design request models k = range_with_len (model_first design request models k) (length (model_of models (entry_at request.bridges k)).signals)
 

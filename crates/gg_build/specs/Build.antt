@@ -43,13 +43,15 @@ pub record IsToRun (plan : Plan) (columns : List (List ℕ)) (n : ℕ) (flow : F
   pub design : Ordered
   pub request : Request
   pub models : Models
+  -- the capacity of the channels that the request doesn't name
   pub default : ℕ
+  -- the run of the plan's circuit
   pub rows : List (List ℕ)
   pub given : IsGiven design request models default plan columns n (plan_start design request) rows
   pub room : default ≤ capacity_limit
   pub flow_is : flow ≡ flow_of design request plan (plan_start design request) rows
 
--- an order of the plan's circuit
+-- the order of the plan's circuit that is found from the circuit alone
 abbrev pub circuit_order : Ordered → Request → Models → List ℕ
 circuit_order design request models = found_order (plan_circuit design request models)
 
@@ -78,11 +80,13 @@ pub record IsToRunFrom (plan : Plan) (start : Start) (columns : List (List ℕ))
   pub request : Request
   pub models : Models
   pub default : ℕ
+  -- the run of the plan's circuit from the start on
   pub rows : List (List ℕ)
   pub given : IsGiven design request models default plan columns n start rows
   pub room : default ≤ capacity_limit
   pub flow_is : flow ≡ flow_of design request plan start rows
 
+-- a run in the first sense as a run from a start, which is cycle 0 with zeros
 abbrev pub run_from_zeros : {plan : Plan} {columns : List (List ℕ)} {n : ℕ} {flow : Flow} (run : IsToRun plan columns n flow) → IsToRunFrom plan (plan_start run.design run.request) columns n flow
 run_from_zeros run = record { design = run.design; request = run.request; models = run.models; default = run.default; rows = run.rows; given = run.given; room = run.room; flow_is = run.flow_is }
 
@@ -108,6 +112,7 @@ pub record IsToBegin (plan : Plan) (begin : Begin) (columns : List (List ℕ)) (
   pub begins : Begins design request plan start begin
   pub flow_is : flow ≡ flow_of design request plan start rows
 
+-- a run from a start that is told as a run from that start
 abbrev pub run_from_begin : {plan : Plan} {begin : Begin} {columns : List (List ℕ)} {n : ℕ} {flow : Flow} (run : IsToBegin plan begin columns n flow) → IsToRunFrom plan run.start columns n flow
 run_from_begin run = record { design = run.design; request = run.request; models = run.models; default = run.default; rows = run.rows; given = run.given; room = run.room; flow_is = run.flow_is }
 

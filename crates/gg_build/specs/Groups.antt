@@ -3,7 +3,7 @@
 use Rattle.std.specs.Prelude.{◌≡◌, ◌↔◌, ◌⊎◌, ℕ, ◌<◌, ◌≤◌, ◌++◌, List, [], ◌∷◌, Option, Some, None, length, slice_index_or, slice_set}
 use Rattle.gg_flat.specs.Line.{value_at}
 
--- the machines of a host, by thread
+-- the machines of a host, by thread; none past the end
 abbrev pub group_at : List (List ℕ) → ℕ → List ℕ
 group_at members h = slice_index_or members h []
 

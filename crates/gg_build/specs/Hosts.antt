@@ -70,7 +70,7 @@ CanBegin starts (Bridge bridge) = ⊤
 abbrev pub body_at : List planned.Machine → ℕ → Body
 body_at machines m = (slice_index_or machines m nameless).body
 
--- the number of channels that machine m of these gives
+-- the number of channels that machine m of these gives; 0 past the end
 abbrev pub outs_at : List planned.Machine → ℕ → ℕ
 outs_at machines m = length (slice_index_or machines m nameless).outs
 

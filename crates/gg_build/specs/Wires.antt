@@ -19,7 +19,7 @@ pub record IsNoted (channels old new : List ℕ) : Type 0 where
   pub placed : (c : ℕ) → Contains channels c → IsPlaceAt channels c (value_at new c)
   pub others : (c : ℕ) → ¬ Contains channels c → value_at new c ≡ value_at old c
 
--- the list at a place
+-- the list at a place; an empty one past the end
 abbrev pub channels_at : List (List ℕ) → ℕ → List ℕ
 channels_at lists m = slice_index_or lists m []
 

@@ -51,6 +51,7 @@ abbrev pub kind_text : Kind → List ℕ
 kind_text UInt = codes "UInt<"
 kind_text SInt = codes "SInt<"
 
+-- how a type is written on a channel's line
 abbrev pub type_text : Shape → List ℕ
 type_text shape = kind_text shape.kind ++ decimal shape.width ++ codes ">"
 
@@ -59,10 +60,12 @@ abbrev pub spaced : List (List ℕ) → List ℕ
 spaced [] = []
 spaced (name ∷ names) = 32 ∷ name ++ spaced names
 
+-- the names of needed channels, each after a blank; ` -` if none is needed
 abbrev pub needs_text : List (List ℕ) → List ℕ
 needs_text [] = codes " -"
 needs_text (name ∷ names) = spaced (name ∷ names)
 
+-- the line of a machine with this name, on the host with this number
 abbrev pub machine_line : (name : List ℕ) (host : ℕ) → List ℕ
 machine_line name host = codes "machine " ++ name ++ codes " host " ++ decimal host ++ codes "\n"
 
@@ -70,6 +73,8 @@ machine_line name host = codes "machine " ++ name ++ codes " host " ++ decimal h
 abbrev pub pipe_text : Bool → List ℕ
 pipe_text pipe = if pipe then codes " pipe" else []
 
+-- the line of a channel: its name, the names of the machines at its ends, its type, its capacity, whether it has a pipe, and the channels
+-- that it needs
 abbrev pub channel_line : (name producer consumer : List ℕ) (shape : Shape) (capacity : ℕ) (pipe : Bool) (needs : List (List ℕ)) → List ℕ
 channel_line name producer consumer shape capacity pipe needs =
     codes "channel " ++ name ++ codes " " ++ producer ++ codes " " ++ consumer ++ codes " " ++ type_text shape ++ codes " capacity " ++ decimal capacity ++ pipe_text pipe ++ codes " needs"
@@ -81,7 +86,7 @@ channel_line name producer consumer shape capacity pipe needs =
 abbrev pub machine_text : Ordered → Request → Listed → ℕ → List ℕ
 machine_text design request listed m = machine_line (path_at (machine_names design request listed) m) (host_of request.units request.share m)
 
--- the name of the channel at a place
+-- the name of the channel at a place: the path of its signal
 abbrev pub channel_name : FlatCircuit → List Wire → ℕ → List ℕ
 channel_name circuit wires c = path_at circuit.paths (wire_at wires c).signal
 
@@ -104,7 +109,7 @@ pub record IsCutText (design : Ordered) (request : Request) (default : ℕ) (lis
   pub is : text ≡ flat_map (machine_text design request listed) (range_with_len 0 (machine_end (plan_bridges design.circuit design.tree request)))
       ++ flat_map (λ c. channel_text design request default listed wires c (slice_index_or needs c [])) (range_with_len 0 (length wires))
 
--- the text of a request's cut
+-- the text of the cut that a request asks for, by what it lists and by the plan's channels
 abbrev pub IsTextOfCut : Ordered → Request → ℕ → List ℕ → Type 0
 IsTextOfCut design request default text =
     IsCutText design request default (listed_of design.tree request) (plan_wires design.circuit design.tree request) text

@@ -13,10 +13,11 @@ use Rattle.gg_check.specs.CheckText.{channel_line, machine_line}
 abbrev pub machine_names : List Machine → List (List ℕ)
 machine_names machines = map (λ machine. machine.name) machines
 
+-- the names of channels, in order
 abbrev pub channel_names : List Channel → List (List ℕ)
 channel_names channels = map (λ channel. channel.name) channels
 
--- the line of a machine
+-- the line of a machine: its name, and the number of its host
 abbrev pub line_of_machine : Machine → List ℕ
 line_of_machine machine = machine_line machine.name machine.host
 
@@ -25,5 +26,6 @@ abbrev pub line_of_channel : List (List ℕ) → List (List ℕ) → Channel →
 line_of_channel machines channels channel =
     channel_line channel.name (path_at machines channel.producer) (path_at machines channel.consumer) (shape channel.ty) channel.capacity channel.pipe (map (path_at channels) channel.needs)
 
+-- the text of a plan: all machines, then all channels
 abbrev pub plan_text : Plan → List ℕ
 plan_text plan = flat_map line_of_machine plan.machines ++ flat_map (line_of_channel (machine_names plan.machines) (channel_names plan.channels)) plan.channels

@@ -119,6 +119,7 @@ deep_at modules k = if nat_lt k (length modules) then deep_in (module_at modules
 
 -- ---- limits
 
+-- this count of this measure, as one that is above its limit
 abbrev pub excess_of : Measure → ℕ → Option Excess
 excess_of measure count = Some (record { measure = measure; count = count })
 

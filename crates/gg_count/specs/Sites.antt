@@ -18,6 +18,7 @@ pub record Held : Type 0 where
   pub name : List ℕ
   pub number : ℕ
 
+-- an instance with this name, of the module at this place
 abbrev pub held : List ℕ → ℕ → Held
 held name number = record { name = name; number = number }
 
@@ -66,6 +67,7 @@ pub record Site : Type 0 where
   pub path : List ℕ
   pub number : ℕ
   pub depth : ℕ
+  -- what holds the instance; nothing for the top
   pub outer : Option Outer
   pub steps : List Step
 

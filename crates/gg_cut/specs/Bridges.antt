@@ -20,12 +20,14 @@ Models = List (List ℕ × FlatCircuit)
 
 -- ---- shapes
 
+-- whether two kinds are the same
 abbrev pub same_kind : Kind → Kind → Bool
 same_kind UInt UInt = true
 same_kind UInt SInt = false
 same_kind SInt UInt = false
 same_kind SInt SInt = true
 
+-- whether two shapes have the same kind and the same width
 abbrev pub same_shape : Shape → Shape → Bool
 same_shape a b = same_kind a.kind b.kind && (a.width == b.width)
 
@@ -60,16 +62,16 @@ abbrev pub wrong_port : (names earlier : List (List ℕ)) → List (List ℕ) �
 wrong_port names earlier [] = None
 wrong_port names earlier (port ∷ ports) = if not (is_among names port) || is_among earlier port then Some port else wrong_port names (earlier ++ port ∷ []) ports
 
--- the model with a name
+-- the first model with this name, if there is one
 abbrev pub model_named : Models → List ℕ → Option FlatCircuit
 model_named models name = option_and_then (slice_get (model_circuits models)) (place_of (model_names models) name)
 
--- a model, or none
+-- a model, or an empty circuit where there is none
 abbrev pub model_or : Option FlatCircuit → FlatCircuit
 model_or None = no_circuit
 model_or (Some model) = model
 
--- the model of an entry
+-- the model with an entry's name; an empty circuit if none has it
 abbrev pub model_of : Models → BridgeEntry → FlatCircuit
 model_of models entry = model_or (model_named models entry.name)
 
@@ -78,6 +80,7 @@ abbrev pub fits_model : FlatCircuit → BridgeEntry → Option FlatCircuit → B
 fits_model circuit entry None = false
 fits_model circuit entry (Some model) = fit_ports circuit entry.sees (shapes_at model model.ins) && fit_ports circuit entry.drives (shapes_at model model.outs)
 
+-- the entry's name, if its ports don't have the shapes of its model's signals, or no model has the name
 abbrev pub unfit_bridge : FlatCircuit → Models → BridgeEntry → Option (List ℕ)
 unfit_bridge circuit models entry = if fits_model circuit entry (model_named models entry.name) then None else Some entry.name
 
@@ -89,9 +92,11 @@ pub record Before : Type 0 where
   pub sees : List (List ℕ)
   pub drives : List (List ℕ)
 
+-- what stands before the first entry
 abbrev pub none_before : Before
 none_before = record { names = []; sees = []; drives = [] }
 
+-- what stands before the next entry, which also has what this entry lists
 abbrev pub before_next : Before → BridgeEntry → Before
 before_next before entry = record { names = before.names ++ entry.name ∷ []; sees = before.sees ++ entry.sees; drives = before.drives ++ entry.drives }
 

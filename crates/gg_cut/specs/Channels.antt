@@ -28,6 +28,7 @@ numbered f n (x ∷ xs) = f n x ++ numbered f (suc n) xs
 abbrev pub port_wire : ℕ → ℕ → InstancePort → Wire
 port_wire outside unit port = if port.is_input then wire port.signal outside unit else wire port.signal unit outside
 
+-- the channels of the ports of a unit: `number` is the unit's machine, `unit` its place in the tree
 abbrev pub port_wires : InstanceTree → List ℕ → ℕ → ℕ → List Wire
 port_wires tree units number unit =
     map (port_wire (owner_of_instance tree units (parent_place (instance_at tree unit).parent)) number) (instance_at tree unit).ports
@@ -41,6 +42,7 @@ abbrev pub writer_wires : ℕ → ℕ → Writer → List Wire
 writer_wires outside memory writer =
     wire writer.addr outside memory ∷ wire writer.en outside memory ∷ wire writer.word outside memory ∷ wire writer.mask outside memory ∷ []
 
+-- the lists that f gives for the items, joined
 abbrev pub flattened : {A B : Type 0} → (A → List B) → List A → List B
 flattened f [] = []
 flattened f (x ∷ xs) = f x ++ flattened f xs
@@ -52,6 +54,7 @@ field_wires circuit tree units number j =
     flattened (reader_wires outside number) (readers_at circuit (memory_at tree j).memory)
     ++ flattened (writer_wires outside number) (writers_at circuit (memory_at tree j).memory)
 
+-- the one channel of a source, which gives its top input to the hub, machine 0
 abbrev pub source_wires : ℕ → ℕ → List Wire
 source_wires number signal = wire signal number 0 ∷ []
 
@@ -68,7 +71,7 @@ wires_of circuit tree listed =
     ++ (numbered (field_wires circuit tree listed.units) (first_memory listed) listed.memories
     ++ numbered (tray_wires circuit tree listed) (first_tray circuit listed) circuit.outs))
 
--- the signals of an instance's ports
+-- the signals of an instance's ports, in port order
 abbrev pub port_signals : InstanceTree → ℕ → List ℕ
 port_signals tree unit = map (λ port. port.signal) (instance_at tree unit).ports
 

@@ -16,7 +16,7 @@ most_ticks = 65535
 abbrev pub is_ratio : (m d : ℕ) → Bool
 is_ratio m d = nat_le 1 m && nat_le m d && nat_le d most_ticks
 
--- an edge in each tick
+-- the ratio 1 of 1: an edge in each tick
 abbrev pub every_tick : Ratio
 every_tick = record { m = 1; d = 1 }
 

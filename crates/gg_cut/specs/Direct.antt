@@ -30,14 +30,17 @@ use Rattle.gg_cut.specs.Channels.{wires_of}
 
 -- ---- what a driver names
 
+-- the signals that a register's connection names; none without a connection
 abbrev pub next_names : Option (List Node) → List ℕ
 next_names None = []
 next_names (Some line) = line_names line
 
+-- the signals that a register's reset names, in its condition and in its value; none without a reset
 abbrev pub reset_names : Option Reset → List ℕ
 reset_names None = []
 reset_names (Some reset) = line_names reset.condition ++ line_names reset.init
 
+-- the signals that a register names; none where there is no register
 abbrev pub register_names : Option Register → List ℕ
 register_names None = []
 register_names (Some register) = reset_names register.reset ++ next_names register.next
@@ -52,6 +55,7 @@ driver_names circuit (Computed line) = line_names line
 
 -- ---- bare references
 
+-- the signal that a node refers to, if it does nothing else
 abbrev pub bare_op : Op → Option ℕ
 bare_op (Ref s) = Some s
 bare_op (Literal value) = None
@@ -60,6 +64,7 @@ bare_op (Two op i j) = None
 bare_op (Fix op i n m) = None
 bare_op (Mux c i j) = None
 
+-- the signal to which a line is a bare reference: its only node refers to the signal
 abbrev pub bare_line : List Node → Option ℕ
 bare_line [] = None
 bare_line (node ∷ []) = bare_op node.op
@@ -73,6 +78,7 @@ bare_of (MemoryWord memory reader addr en) = None
 bare_of (ReadRegister memory reader) = None
 bare_of (Computed line) = bare_line line
 
+-- signal t, if there is one and it is as wide as signal s
 abbrev pub if_wide : FlatCircuit → ℕ → Option ℕ → Option ℕ
 if_wide circuit s None = None
 if_wide circuit s (Some t) = if (shape_at (signal_shapes circuit) t).width == (shape_at (signal_shapes circuit) s).width then Some t else None
@@ -91,10 +97,14 @@ copied circuit s = if_wide circuit s (bare_of (driver_at circuit s))
 -- be direct at all.
 pub record Hub : Type 0 where
   pub circuit : FlatCircuit
+  -- the machine that a signal belongs to; the hub is machine 0
   pub owner : ℕ → ℕ
+  -- the channels before the routing
   pub base : List Wire
+  -- the fields of the memories that belong to the hub
   pub held : List ℕ
   pub stops : List ℕ
+  -- whether a machine is a listed memory
   pub memory : ℕ → Bool
   pub piped : ℕ → Bool
   pub driven : ℕ → Bool
@@ -138,6 +148,7 @@ abbrev pub giver_or : Option Wire → ℕ
 giver_or None = 0
 giver_or (Some w) = w.producer
 
+-- the machine that gives the channel of signal s before the routing; 0 if no channel carries it
 abbrev pub giver : Hub → ℕ → ℕ
 giver hub s = giver_or (find (λ w. w.signal == s) hub.base)
 
@@ -163,6 +174,7 @@ is_direct hub s = list_any (λ w. (w.signal == s) && is_some (direct_of hub w)) 
 abbrev pub kept : Hub → List ℕ
 kept hub = filter (λ s. not (is_own hub s && is_some (origin hub s)) && not (is_direct hub s)) (made hub)
 
+-- whether there is a number and it is x
 abbrev pub is_number : ℕ → Option ℕ → Bool
 is_number x None = false
 is_number x (Some y) = x == y
@@ -171,6 +183,7 @@ is_number x (Some y) = x == y
 abbrev pub has_left : Hub → ℕ → Bool
 has_left hub x = list_any (λ w. is_number x (direct_of hub w)) hub.base && not (list_any (λ t. is_number x (origin hub t)) (named_by hub (kept hub)))
 
+-- whether there is a signal and it is an in-channel that leaves
 abbrev pub left_by : Hub → Option ℕ → Bool
 left_by hub None = false
 left_by hub (Some x) = has_left hub x
@@ -179,10 +192,12 @@ left_by hub (Some x) = has_left hub x
 abbrev pub is_gone : Hub → ℕ → Bool
 is_gone hub s = left_by hub (origin hub s)
 
+-- a channel in whose place in-channel x is given: it goes from the producer of x to its own consumer
 abbrev pub route_by : Hub → Wire → Option ℕ → Wire
 route_by hub w None = w
 route_by hub w (Some x) = record { signal = w.signal; given = x; producer = giver hub x; consumer = w.consumer }
 
+-- a channel as it is routed: direct, or as it was
 abbrev pub route : Hub → Wire → Wire
 route hub w = route_by hub w (direct_of hub w)
 
@@ -196,7 +211,7 @@ hub_fields circuit tree listed =
     flat_map (λ j. memory_fields circuit (memory_at tree j).memory)
     (filter (λ j. memory_owner tree listed j == 0) (range_with_len 0 (length tree.memories)))
 
--- the hub of a cut
+-- what the routing looks at in a cut: which channels are piped, which inputs are driven, and whether channels are to be direct
 abbrev pub hub_of : FlatCircuit → InstanceTree → Listed → (piped driven : ℕ → Bool) → Bool → Hub
 hub_of circuit tree listed piped driven direct =
     record {
@@ -217,6 +232,7 @@ hub_of circuit tree listed piped driven direct =
 abbrev pub is_piped : FlatCircuit → Request → ℕ → Bool
 is_piped circuit request s = is_among request.pipe (path_at circuit.paths s)
 
+-- whether a driver is an input of the circuit
 abbrev pub is_input : Driver → Bool
 is_input (Input place) = true
 is_input (Held register) = false

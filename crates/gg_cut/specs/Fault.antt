@@ -22,6 +22,7 @@ use Rattle.gg_cut.specs.Bridges.{Models, bridge_faults}
 abbrev pub most_units : ℕ
 most_units = 256
 
+-- at most 16,384 channels
 abbrev pub most_channels : ℕ
 most_channels = 16384
 
@@ -30,6 +31,7 @@ abbrev pub or_else : {A : Type 0} → Option A → Option A → Option A
 or_else None later = later
 or_else (Some fault) later = Some fault
 
+-- the first of a list that is there; none if none is
 abbrev pub first_of : {A : Type 0} → List (Option A) → Option A
 first_of [] = None
 first_of (fault ∷ faults) = or_else fault (first_of faults)
@@ -60,6 +62,7 @@ first_clash clash earlier (path ∷ paths) = if list_any (clash path) earlier th
 abbrev pub overlap : InstanceTree → List ℕ → List ℕ → Bool
 overlap tree a b = lies tree (instance_of tree a) (instance_of tree b) || lies tree (instance_of tree b) (instance_of tree a)
 
+-- two paths are equal
 abbrev pub same_path : List ℕ → List ℕ → Bool
 same_path a b = bytes_eq a b
 
@@ -73,9 +76,11 @@ repeated paths = first_clash same_path [] paths
 
 -- ---- lists of units of different modules
 
+-- the module of the instance with a path, by its number in the circuit
 abbrev pub module_of : InstanceTree → List ℕ → ℕ
 module_of tree path = (instance_at tree (instance_of tree path)).«module»
 
+-- the first unit of one list whose module isn't that of the list's first
 abbrev pub other_in : InstanceTree → List (List ℕ) → Option (List ℕ)
 other_in tree group = find (λ path. not (module_of tree path == module_of tree (path_at group 0))) group
 
@@ -86,6 +91,7 @@ other_module tree (group ∷ share) = or_else (other_in tree group) (other_modul
 
 -- ---- memories
 
+-- the first of these that isn't the path of a memory
 abbrev pub unknown_memory : InstanceTree → List (List ℕ) → Option (List ℕ)
 unknown_memory tree memories = find (λ path. not (is_memory_path tree path)) memories
 
@@ -115,12 +121,15 @@ unmatched memories share = find (λ path. list_any (lacks_in memories path) shar
 
 -- ---- capacities
 
+-- the first name with a capacity that isn't the name of a channel
 abbrev pub unknown_channel : List (List ℕ) → List (List ℕ × ℕ) → Option (List ℕ)
 unknown_channel names capacities = option_map (λ pair. pair.0) (find (λ pair. not (is_among names pair.0)) capacities)
 
+-- the first name with a capacity of 0, or one above the limit, with that capacity
 abbrev pub out_of_range : List (List ℕ × ℕ) → Option (List ℕ × ℕ)
 out_of_range capacities = find (λ pair. (pair.1 == 0) || nat_lt capacity_limit pair.1) capacities
 
+-- the same as a fault
 abbrev pub range_fault : List (List ℕ × ℕ) → Option CutFault
 range_fault capacities = option_map (λ pair. OutOfRange pair.0 pair.1) (out_of_range capacities)
 
@@ -130,14 +139,17 @@ range_fault capacities = option_map (λ pair. OutOfRange pair.0 pair.1) (out_of_
 abbrev pub unknown_clock : List (List ℕ) → List (List ℕ × (ℕ × ℕ)) → Option (List ℕ)
 unknown_clock names clocks = option_map (λ pair. pair.0) (find (λ pair. not (is_among names pair.0)) clocks)
 
+-- the first clock with a ratio that is none, as a fault
 abbrev pub ratio_fault : List (List ℕ × (ℕ × ℕ)) → Option CutFault
 ratio_fault clocks = option_map (λ pair. WrongRatio pair.0 pair.1.0 pair.1.1) (find (λ pair. not (is_ratio pair.1.0 pair.1.1)) clocks)
 
 -- ---- limits
 
+-- the number of units and listed memories together, if it is above its limit
 abbrev pub too_many_units : Listed → Option ℕ
 too_many_units listed = if nat_lt most_units (length listed.units + length listed.memories) then Some (length listed.units + length listed.memories) else None
 
+-- the number of channels, if it is above its limit
 abbrev pub too_many_channels : List ℕ → Option ℕ
 too_many_channels signals = if nat_lt most_channels (length signals) then Some (length signals) else None
 
@@ -186,10 +198,11 @@ later_faults circuit tree request =
     ++ (pipe_faults circuit request (plan_signals circuit tree request)
     ++ clock_faults tree request)
 
--- all of them
+-- all of them, in the order of their numbers
 abbrev pub faults_in : FlatCircuit → InstanceTree → Request → List (Option CutFault)
 faults_in circuit tree request = entry_faults tree request ++ later_faults circuit tree request
 
+-- the first of all faults but those of bridges, if there is one
 abbrev pub fault_in : FlatCircuit → InstanceTree → Request → Option CutFault
 fault_in circuit tree request = first_of (faults_in circuit tree request)
 
@@ -204,7 +217,7 @@ first_fault design request = fault_in design.circuit design.tree request
 abbrev pub first_fault_with : Ordered → Models → Request → Option CutFault
 first_fault_with design models request = or_else (first_fault design request) (first_of (bridge_faults design.circuit (length design.tree.stops) models request.bridges))
 
--- the fault in words
+-- a fault: its code P2 to P16, and what it is about
 abbrev pub fault_text : CutFault → List ℕ
 fault_text (UnknownUnit path) = codes "P2 " ++ path
 fault_text (Doubled path) = codes "P3 " ++ path

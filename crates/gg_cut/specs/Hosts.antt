@@ -17,6 +17,7 @@ least_machine units (path ∷ group) least = least_machine units group (min (mac
 abbrev pub group_of : List (List ℕ) → List (List (List ℕ)) → ℕ → Option (List (List ℕ))
 group_of units share machine = find (λ group. list_any (λ path. machine_of units path == machine) group) share
 
+-- the first machine of a machine's host, by the list of `share` that has it, if any
 abbrev pub leader_in : List (List ℕ) → ℕ → Option (List (List ℕ)) → ℕ
 leader_in units machine None = machine
 leader_in units machine (Some group) = least_machine units group machine

@@ -33,13 +33,15 @@ is_lower None = false
 is_lower (Some zero) = false
 is_lower (Some (suc k)) = true
 
+-- whether a path is that of an instance below the top
 abbrev pub is_instance_path : InstanceTree → List ℕ → Bool
 is_instance_path tree path = is_lower (place_of tree.paths path)
 
+-- whether a path is that of a memory
 abbrev pub is_memory_path : InstanceTree → List ℕ → Bool
 is_memory_path tree path = is_some (place_of tree.memory_paths path)
 
--- the instance with a path
+-- the place of the instance with a path; the top's, 0, if there is none
 abbrev pub instance_of : InstanceTree → List ℕ → ℕ
 instance_of tree path = unwrap_or (place_of tree.paths path) 0
 

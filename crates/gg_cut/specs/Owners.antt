@@ -1,4 +1,5 @@
 -- The machine of an instance, from that of its parent.
+-- Source: this program's own way to find the owners of all instances in one pass.
 use Rattle.std.specs.Prelude.{ℕ, zero, suc, List, Option, Some, None, nat_lt, if◌then◌else◌}
 use Rattle.gg_flat.specs.Line.{value_at}
 use Rattle.gg_flat.specs.Tree.{InstanceTree, instance_at}
@@ -14,5 +15,6 @@ abbrev pub above_by : List ℕ → Option ℕ → ℕ
 above_by owners None = 0
 above_by owners (Some parent) = value_at owners parent
 
+-- the machine that instance k's parent belongs to, by a table of the instances before it
 abbrev pub above : InstanceTree → List ℕ → ℕ → ℕ
 above tree owners k = above_by owners (instance_at tree k).parent

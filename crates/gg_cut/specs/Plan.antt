@@ -36,7 +36,7 @@ use Rattle.gg_cut.specs.Alike.{AreAlike}
 
 -- ---- channels by machine
 
--- the channel at a place
+-- the channel at a place; past the end one of signal 0, from the hub to the hub
 abbrev pub wire_at : List Wire → ℕ → Wire
 wire_at wires c = slice_index_or wires c (wire 0 0 0)
 
@@ -72,6 +72,7 @@ Takes wires m s = Contains (signals_of wires (channels_to wires m)) s
 
 -- memory k of the circuit belongs to machine m
 pub record HasMemory (tree : InstanceTree) (listed : Listed) (m k : ℕ) : Type 0 where
+  -- its place among the memories of the tree
   pub place : ℕ
   pub known : place < length tree.memories
   pub is : (memory_at tree place).memory ≡ k
@@ -112,11 +113,11 @@ IsCutBody design listed hub m (Source place) = (place < length design.circuit.in
 IsCutBody design listed hub m Tray = first_tray design.circuit listed ≤ m
 IsCutBody design listed hub m (Bridge bridge) = ⊥
 
--- the place of a port among those that an entry lists
+-- the place of a port among those that an entry lists; 0 if it doesn't list it
 abbrev pub port_place : List (List ℕ) → List ℕ → ℕ
 port_place ports name = unwrap_or (place_of ports name) 0
 
--- the entry at a place
+-- the entry at a place; past the end one without a name and ports
 abbrev pub entry_at : List BridgeEntry → ℕ → BridgeEntry
 entry_at entries k = slice_index_or entries k (record { name = []; sees = []; drives = [] })
 
@@ -162,6 +163,8 @@ open_tray_names design request =
     map (λ s. codes "out:" ++ path_at design.circuit.paths s) (open_outs design.circuit (output_count design) request)
     ++ map (λ s. codes "halt:" ++ path_at design.circuit.paths s) (drop (output_count design) design.circuit.outs)
 
+-- the names of the plan's machines, in order: the hub, the units, the listed memories, the sources of inputs that no bridge drives, the
+-- trays that are left, and the bridges
 abbrev pub machine_names : Ordered → Request → Listed → List (List ℕ)
 machine_names design request listed =
     codes "hub:" ∷ (request.units
@@ -181,8 +184,10 @@ pub record IsCutMachine (design : Ordered) (request : Request) (listed : Listed)
 -- machine m of the plan
 pub record IsMachine (design : Ordered) (request : Request) (models : Models) (listed : Listed) (hub : Hub) (m : ℕ) (machine : Machine) : Type 0 where
   pub name : machine.name ≡ path_at (machine_names design request listed) m
+  -- machines have one host only if one list of `share` has their units
   pub host : machine.host ≡ host_of request.units request.share m
   pub body : IsBody design request models listed hub m machine.body
+  -- the channels that it takes, and those that it gives, in the order of the plan's channels
   pub ins : machine.ins ≡ channels_to (plan_wires design.circuit design.tree request) m
   pub outs : machine.outs ≡ channels_from (plan_wires design.circuit design.tree request) m
 
@@ -190,6 +195,7 @@ pub record IsMachine (design : Ordered) (request : Request) (models : Models) (l
 
 -- An out-signal of a part needs channel c: the channel is at an in-signal that the out-signal reaches by reads.
 pub record IsNeed (part : Part) (channels : List ℕ) (out c : ℕ) : Type 0 where
+  -- the place of the in-signal, and so of its channel among those that the part takes
   pub place : ℕ
   pub known : place < length part.piece.ins
   pub is : value_at channels place ≡ c
@@ -214,9 +220,11 @@ pub record IsChannel (design : Ordered) (capacity : List ℕ → ℕ) (piped : �
   pub type : shape channel.ty ≡ shape_at (signal_shapes design.circuit) w.signal
   pub producer : channel.producer ≡ w.producer
   pub consumer : channel.consumer ≡ w.consumer
+  -- the capacity that the request gives for its name, else the default
   pub bound : channel.capacity ≡ capacity (path_at design.circuit.paths w.signal)
   pub pipe : channel.pipe ≡ piped w.signal
   pub ascending : AllPairs (λ a b. a < b) channel.needs
+  -- what the signal needs by which its producer gives the value
   pub needs : (any : Machine) → NeedsIn (slice_index_or machines w.producer any).body (slice_index_or machines w.producer any).ins w.given channel.needs
 
 -- ---- the plan
@@ -232,6 +240,7 @@ pub record IsPlan (design : Ordered) (request : Request) (models : Models) (defa
   pub channel_total : length plan.channels ≡ length (plan_wires design.circuit design.tree request)
   pub machine : (m : ℕ) (any : Machine) → m < length plan.machines → IsMachine design request models (listed_of design.tree request) (plan_hub design.circuit design.tree request) m (slice_index_or plan.machines m any)
   pub channel : (c : ℕ) (any : Channel) → c < length plan.channels → IsChannel design (capacity_of request.capacity default) (is_piped design.circuit request) plan.machines (wire_at (plan_wires design.circuit design.tree request) c) (slice_index_or plan.channels c any)
+  -- two machines with one host have pieces that are alike
   pub shared : (m n : ℕ) (any other : Machine) → m < length plan.machines → n < length plan.machines → m ≢ n
       → (slice_index_or plan.machines m any).host ≡ (slice_index_or plan.machines n other).host
       → AreAlike (slice_index_or plan.machines m any).body (slice_index_or plan.machines n other).body

@@ -19,13 +19,18 @@ use Rattle.gg_cut.specs.Direct.{plan_routes}
 -- How many machines are no source and no tray, how many inputs and outputs there are, and the bridge that drives an input and that
 -- sees an output.
 pub record Bridges : Type 0 where
+  -- the machines before the sources; the number of the first source
   pub first : ℕ
   pub ins : ℕ
   pub outs : ℕ
+  -- how many bridges there are
   pub count : ℕ
+  -- the bridge that drives the input at a place, if one does
   pub driver : ℕ → Option ℕ
+  -- the bridge that sees the output at a place, if one does
   pub viewer : ℕ → Option ℕ
 
+-- 1 for true, 0 for false
 abbrev pub one_if : Bool → ℕ
 one_if true = 1
 one_if false = 0
@@ -35,15 +40,19 @@ abbrev pub before : (ℕ → Bool) → ℕ → ℕ
 before keeps zero = 0
 before keeps (suc n) = before keeps n + one_if (keeps n)
 
+-- no bridge drives the input at place p
 abbrev pub undriven : Bridges → ℕ → Bool
 undriven b p = is_none (b.driver p)
 
+-- no bridge sees the output at place p
 abbrev pub unseen : Bridges → ℕ → Bool
 unseen b p = is_none (b.viewer p)
 
+-- the number of the first tray that is left, behind the sources that are left
 abbrev pub first_kept_tray : Bridges → ℕ
 first_kept_tray b = b.first + before (undriven b) b.ins
 
+-- the number of the first bridge, behind the trays that are left
 abbrev pub first_bridge : Bridges → ℕ
 first_bridge b = first_kept_tray b + before (unseen b) b.outs
 
@@ -72,6 +81,7 @@ seat_of b m = if nat_lt m b.first then m else if nat_lt m (b.first + b.ins) then
 abbrev pub seated_wire : Bridges → Wire → Wire
 seated_wire b w = record w { producer = seat_of b w.producer; consumer = seat_of b w.consumer }
 
+-- all channels, at their machines' new numbers
 abbrev pub seated : Bridges → List Wire → List Wire
 seated b wires = map (seated_wire b) wires
 
@@ -90,6 +100,7 @@ IsKept b m = seat_of b m < first_bridge b
 pub record IsSeen (b : Bridges) (k m : ℕ) : Type 0 where
   pub place : ℕ
   pub known : place < b.outs
+  -- trays are behind all sources
   pub is : m ≡ b.first + b.ins + place
   pub viewer : b.viewer place ≡ Some k
 
@@ -125,7 +136,7 @@ bridges_of circuit outputs listed entries =
 abbrev pub output_count : Ordered → ℕ
 output_count design = length design.circuit.outs - length design.tree.stops
 
--- the bridges of a request
+-- the bridges of a request: the outputs that they may see are the out-signals but for the stops, which are as many as the tree has
 abbrev pub plan_bridges : FlatCircuit → InstanceTree → Request → Bridges
 plan_bridges circuit tree request = bridges_of circuit (length circuit.outs - length tree.stops) (listed_of tree request) request.bridges
 

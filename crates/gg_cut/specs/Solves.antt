@@ -59,7 +59,7 @@ Answers (Source place) start end given ins outs = All (AgreesFrom start end (sli
 Answers Tray start end given ins outs = outs ≡ []
 Answers (Bridge bridge) start end given ins outs = GivesSaid bridge start end ins outs
 
--- the lists of these channels
+-- the lists of these channels, in this order; an empty one for a channel that has none
 abbrev pub lists_of : List (List ℕ) → List ℕ → List (List ℕ)
 lists_of lists channels = map (λ c. slice_index_or lists c []) channels
 

@@ -16,6 +16,7 @@ pub record IsFitting (circuit : FlatCircuit) (outs : List ℕ) (models : Models)
   pub model : FlatCircuit
   pub known : Contains (model_names models) entry.name
   pub named : model_named models entry.name ≡ Some model
+  -- each port that it sees is one of the outputs, and each port that it drives an input
   pub seen : (i : ℕ) → i < length entry.sees → Contains (channel_names circuit outs) (path_at entry.sees i)
   pub driven : (i : ℕ) → i < length entry.drives → Contains (channel_names circuit circuit.ins) (path_at entry.drives i)
   pub seen_types : fit_ports circuit entry.sees (shapes_at model model.ins) ≡ true
@@ -44,6 +45,7 @@ attached_of seen_at driven_at models entry =
 pub record ArePortsAt (circuit : FlatCircuit) (outs : List ℕ) (one : FlatCircuit) (seen_at driven_at : List ℕ → ℕ) : Type 0 where
   pub seen : (port : List ℕ) → Contains (channel_names circuit outs) port → (seen_at port < length one.signals) × (port_shape circuit port ≡ Some (shape_at (signal_shapes one) (seen_at port)))
   pub driven : (port : List ℕ) → Contains (channel_names circuit circuit.ins) port → Contains one.ins (driven_at port) × (port_shape circuit port ≡ Some (shape_at (signal_shapes one) (driven_at port)))
+  -- no two inputs have one signal
   pub once : (a b : List ℕ) → Contains (channel_names circuit circuit.ins) a → Contains (channel_names circuit circuit.ins) b → driven_at a ≡ driven_at b → a ≡ b
   pub fresh : (s : ℕ) (rest : List ℕ) → s < length one.signals → path_at one.paths s ≢ codes "bridge:" ++ rest
 

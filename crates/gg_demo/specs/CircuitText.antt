@@ -21,9 +21,11 @@ top_ports = codes "module Demo :\ninput clock : Clock\ninput x : UInt<32>\noutpu
 abbrev pub instance_line : ℕ → List ℕ
 instance_line i = codes "inst " ++ (stage i ++ codes " of Stage\n")
 
+-- the line that gives the stage with this number the circuit's clock
 abbrev pub clock_line : ℕ → List ℕ
 clock_line i = stage i ++ codes ".clock <= clock\n"
 
+-- the line that gives the stage with this number what the stage before it gives
 abbrev pub link_line : ℕ → List ℕ
 link_line i = stage i ++ (codes ".a <= " ++ (stage (i - 1) ++ codes ".p\n"))
 

@@ -5,7 +5,7 @@ use Rattle.std.specs.Prelude.{ℕ, ◌+◌, ◌*◌, ◌/◌, List, ◌++◌, co
 use Rattle.std.specs.List.{range_with_len, join_by}
 use Rattle.gg_demo.specs.CircuitText.{stage}
 
--- the name of a stage in quotes
+-- the name of a stage, with a `"` before and behind it
 abbrev pub quoted_stage : ℕ → List ℕ
 quoted_stage i = codes "\"" ++ (stage i ++ codes "\"")
 

@@ -20,6 +20,7 @@ network_line machines channels steps = codes "machines " ++ (decimal machines ++
 abbrev pub last_line : (y z : ℕ) → List ℕ
 last_line y z = codes "last " ++ (eight_digits y ++ (codes " " ++ (eight_digits z ++ codes "\n")))
 
+-- the exclusive or of all values of y, and that of all values of z
 abbrev pub fold_line : (y z : ℕ) → List ℕ
 fold_line y z = codes "fold " ++ (eight_digits y ++ (codes " " ++ (eight_digits z ++ codes "\n")))
 

@@ -22,7 +22,7 @@ use Rattle.gg_cut.specs.Plan.{channels_to, channels_from, givens_of, signals_of,
 abbrev pub unit_first : InstanceTree → Listed → ℕ → ℕ
 unit_first tree listed m = (instance_at tree (value_at listed.units (m - first_unit))).first
 
--- the channels of a cut
+-- the channels of a cut, before any routing
 abbrev pub cut_wires : Ordered → Listed → List Wire
 cut_wires design listed = wires_of design.circuit design.tree listed
 

@@ -27,6 +27,7 @@ IsMade bindings inputs states sink (Holds scope reset next own clock) driver reg
 IsMade bindings inputs states sink (Answers memory place latency addr en) driver register =
     (driver ≡ answer latency (number_of bindings.memories memory) place (number_of bindings.signals.paths addr) (number_of bindings.signals.paths en)) × (register ≡ None)
 
+-- whether a signal is driven from outside
 abbrev pub is_input_driver : Driver → Bool
 is_input_driver (Input place) = true
 is_input_driver (Held register) = false
@@ -60,7 +61,7 @@ pub record IsSoFar (bindings : Bindings) (xs : List FlatSignal) (flat : FlatCirc
 abbrev pub IsSoFarAt : Site → List FlatSignal → FlatCircuit → ℕ → Type 0
 IsSoFarAt site = IsSoFar (table_bindings (types_of site.typed.now.circuit) site.table.now)
 
--- a memory of a site
+-- a memory of a site as a memory of the circuit
 abbrev pub memory_of : Site → OwnMemory → FlatMemory
 memory_of site own = flat_memory site.typed.now.circuit.modules (site_of site.place.now) (own_bank_of own)
 

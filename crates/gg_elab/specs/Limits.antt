@@ -1,4 +1,5 @@
 -- Which count of a circuit is above its limit, if any.
+-- Source: this program's own; the counts and the limits are gg_count's.
 use Rattle.std.specs.Prelude.{◌≡◌, ℕ, suc, List, [], ◌∷◌, Option, Some, None, Result, Ok, Err, length}
 use Rattle.gg_ast.specs.Tree.{ModuleTree}
 use Rattle.gg_count.specs.declared.counts.Excess.{Excess}

@@ -17,6 +17,7 @@ use Rattle.gg_fame5.specs.Fork.{out_of, out_count, AreOuts, forked}
 
 -- Which outs of the program it has, a ratio for each clock, the cycle that it is in, its state, its latches and its flags.
 pub record Laned : Type 0 where
+  -- the places of the program's outs that the lane gives; all of them where there is no list
   pub outs : Option (List ℕ)
   pub ratios : List Ratio
   pub cycle : ℕ
@@ -24,7 +25,7 @@ pub record Laned : Type 0 where
   pub latches : List (Option ℕ)
   pub flags : List Bool
 
--- the machine of a lane
+-- the machine that a lane stands for: it runs the program, with the lane's cycle, state, latches and flags
 abbrev pub lane_machine : Programmed → Laned → Machine
 lane_machine program lane = unit_machine (forked program lane.outs) lane.ratios lane.cycle lane.state lane.latches lane.flags
 

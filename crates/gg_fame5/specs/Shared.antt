@@ -26,11 +26,11 @@ pub record Sharing : Type 0 where
 abbrev pub no_lane : Laned
 no_lane = record { outs = None; ratios = []; cycle = 0; state = no_state; latches = []; flags = [] }
 
--- the lane of a thread
+-- the lane of a thread; past the end an empty one
 abbrev pub lane_at : List Laned → ℕ → Laned
 lane_at lanes t = slice_index_or lanes t no_lane
 
--- the machines of the threads
+-- the machines of the lanes, one for each thread
 abbrev pub machines_of : Sharing → List Machine
 machines_of shared = map (lane_machine shared.program) shared.lanes
 

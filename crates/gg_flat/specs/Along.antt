@@ -1,5 +1,6 @@
 -- The settled row and the rows of a run, computed along an order: a plain program, written as functions. The laws say
 -- that what they compute is settled, and a run.
+-- Source: this program's own way to compute them; what a settled row and a run are is defined without an order.
 use Rattle.std.specs.Prelude.{ℕ, zero, suc, List, [], ◌∷◌, ◌++◌, length, fold, replicate, slice_set}
 use Rattle.gg_flat.specs.Line.{shape_at}
 use Rattle.gg_flat.specs.Circuit.{FlatCircuit, signal_shapes, driver_at}

@@ -28,15 +28,15 @@ pub record FlatCircuit : Type 0 where
 abbrev pub no_circuit : FlatCircuit
 no_circuit = record { paths = []; signals = []; registers = []; memories = []; ins = []; outs = []; clocks = 0 }
 
--- the shapes of the signals
+-- the shapes of the signals, by their numbers
 abbrev pub signal_shapes : FlatCircuit → List Shape
 signal_shapes circuit = map (λ signal. shape signal.ty) circuit.signals
 
--- the driver of a signal
+-- the driver of a signal; past the end that of an input
 abbrev pub driver_at : FlatCircuit → ℕ → Driver
 driver_at circuit s = slice_index_or (map (λ signal. signal.driver) circuit.signals) s (Input 0)
 
--- the shapes of the registers
+-- the shapes of the registers, by their numbers
 abbrev pub register_shapes : FlatCircuit → List Shape
 register_shapes circuit = map (λ register. shape register.ty) circuit.registers
 
@@ -44,10 +44,10 @@ register_shapes circuit = map (λ register. shape register.ty) circuit.registers
 abbrev pub readers_at : FlatCircuit → ℕ → List Reader
 readers_at circuit m = slice_index_or (map (λ memory. memory.readers) circuit.memories) m []
 
--- the read latency of the memory at a place
+-- the read latency of the memory at a place; 0 past the end
 abbrev pub latency_at : FlatCircuit → ℕ → Latency
 latency_at circuit m = slice_index_or (map (λ memory. memory.latency) circuit.memories) m Zero
 
--- the reader at a place
+-- the reader at a place; past the end one of signal 0
 abbrev pub reader_at : List Reader → ℕ → Reader
 reader_at readers r = slice_index_or readers r (record { addr = 0; en = 0; word = 0; clock = None })

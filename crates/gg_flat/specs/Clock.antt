@@ -8,7 +8,7 @@ pub record Ratio : Type 0 where
   pub m : ℕ
   pub d : ℕ
 
--- whether the clock has an edge at tick b
+-- Whether the clock has an edge at tick b. If m is at most d, there are n * m / d edges in the first n ticks, rounded down. If d is 0 there is none.
 abbrev pub edge : Ratio → ℕ → Bool
 edge ratio b = nat_lt (b * ratio.m / ratio.d) (suc b * ratio.m / ratio.d)
 

@@ -18,11 +18,11 @@ shape_at shapes i = slice_index_or shapes i (uint 0)
 abbrev pub value_at : List ℕ → ℕ → ℕ
 value_at values i = slice_index_or values i 0
 
--- the shapes of the nodes
+-- the shapes of the nodes' values, in order
 abbrev pub shapes_of : List Node → List Shape
 shapes_of nodes = map (λ node. shape node.ty) nodes
 
--- what the node at a place does
+-- what the node at a place does; past the end it refers to signal 0
 abbrev pub op_at : List Node → ℕ → Op
 op_at nodes i = slice_index_or (map (λ node. node.op) nodes) i (Ref 0)
 

@@ -18,7 +18,7 @@ port_with (Some name) (Some signal) = Some (record { name = name; ty = signal.ty
 abbrev pub port_at : FlatCircuit → ℕ → Option Port
 port_at circuit s = port_with (slice_get circuit.paths s) (slice_get circuit.signals s)
 
--- these signals as ports
+-- these signals as ports; a number that is no signal has none
 abbrev pub ports_at : FlatCircuit → List ℕ → List Port
 ports_at circuit signals = filter_map (port_at circuit) signals
 
@@ -30,6 +30,6 @@ in_ports circuit = ports_at circuit circuit.ins
 abbrev pub out_ports : FlatCircuit → List Port
 out_ports circuit = ports_at circuit circuit.outs
 
--- the output ports of the top
+-- the top's outputs as ports, in port order
 abbrev pub output_ports : FlatCircuit → InstanceTree → List Port
 output_ports circuit tree = ports_at circuit (output_signals (instance_at tree 0).ports)

@@ -8,7 +8,7 @@ use Rattle.gg_flat.specs.Circuit.{FlatCircuit}
 use Rattle.gg_flat.specs.State.{State, opening, next_state}
 use Rattle.gg_flat.specs.Settled.{Settled, IsInputs}
 
--- row t of a list of rows
+-- row t of a list of rows; an empty one past the end
 abbrev pub row_at : List (List ℕ) → ℕ → List ℕ
 row_at rows t = slice_index_or rows t []
 
@@ -37,7 +37,7 @@ pub record Start : Type 0 where
 abbrev pub clocked_start : FlatCircuit → List Ratio → Start
 clocked_start circuit ratios = record { cycle = 0; state = opening circuit; ratios = ratios }
 
--- the same, where each clock has an edge in each tick
+-- the same without ratios: each clock has an edge in each tick
 abbrev pub opening_start : FlatCircuit → Start
 opening_start circuit = clocked_start circuit []
 

@@ -35,7 +35,7 @@ due_of (One Old) readers writers = by_readers 0 readers ++ by_writers 0 writers
 due_of (One Undefined) readers writers = by_readers 0 readers ++ by_writers 0 writers
 due_of (One New) readers writers = by_writers 0 writers ++ by_readers 0 readers
 
--- the due list of a memory
+-- what is to be served of a memory in a cycle: the accesses, in their order
 abbrev pub due_list : Memory → List Access
 due_list memory = due_of memory.latency memory.readers memory.writers
 

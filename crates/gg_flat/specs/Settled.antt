@@ -25,7 +25,7 @@ pub record Settled (circuit : FlatCircuit) (state : State) (inputs signals : Lis
   pub typed : AreTyped (signal_shapes circuit) signals
   pub driven : (s : ℕ) → s < length circuit.signals → value_at signals s ≡ driver_value state inputs signals (shape_at (signal_shapes circuit) s) (driver_at circuit s)
 
--- the shapes of the in-signals
+-- the shapes of the in-signals, in port order
 abbrev pub in_shapes : FlatCircuit → List Shape
 in_shapes circuit = map (shape_at (signal_shapes circuit)) circuit.ins
 

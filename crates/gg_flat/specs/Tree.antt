@@ -47,12 +47,15 @@ pub record IsJustBelow (outer path : List ℕ) : Type 0 where
 
 -- ---- instances and memories by their places
 
+-- the instance at a place; past the end one without ports, memories and signals
 abbrev pub instance_at : InstanceTree → ℕ → Instance
 instance_at tree k = slice_index_or tree.instances k (record { parent = None; «module» = 0; first = 0; end = 0; ports = []; memories = []; clocks = [] })
 
+-- the memory at a place of the tree; past the end one without ports
 abbrev pub memory_at : InstanceTree → ℕ → MemoryInstance
 memory_at tree k = slice_index_or tree.memories k (record { instance = 0; memory = 0; ports = []; clocks = [] })
 
+-- the stop at a place; past the end one without a clock, of signal 0
 abbrev pub stop_at : InstanceTree → ℕ → StopInstance
 stop_at tree k = slice_index_or tree.stops k (record { instance = 0; signal = 0; clock = None })
 
@@ -71,7 +74,7 @@ pub record IsInnermost (tree : InstanceTree) (k s : ℕ) : Type 0 where
   pub holds : Holds (instance_at tree k) s
   pub deeper : (i : ℕ) → i < length tree.instances → (instance_at tree i).parent ≡ Some k → ¬ Holds (instance_at tree i) s
 
--- how many ports the memory at a place of the circuit has
+-- how many ports the memory at a place of the circuit has; 0 past the end
 abbrev pub port_count : FlatCircuit → ℕ → ℕ
 port_count circuit m = slice_index_or (map (λ memory. length memory.readers + length memory.writers) circuit.memories) m 0
 
@@ -119,6 +122,7 @@ pub record IsTree (circuit : FlatCircuit) (tree : InstanceTree) : Type 0 where
   pub below : (k : ℕ) → 0 < k → k < length tree.instances → IsBelow tree k
   pub named : length tree.paths ≡ length tree.instances
   pub distinct : AllPairs (λ a b. a ≢ b) tree.paths
+  -- the signals of one end where those of the other begin, or before
   pub apart : (i j above : ℕ) → i < j → j < length tree.instances → (instance_at tree i).parent ≡ Some above → (instance_at tree j).parent ≡ Some above → ((instance_at tree i).end ≤ (instance_at tree j).first) ⊎ ((instance_at tree j).end ≤ (instance_at tree i).first)
   pub each : (k : ℕ) → k < length tree.instances → IsInstance circuit (instance_at tree k)
   pub signals : (k s : ℕ) → IsInnermost tree k s → IsWithin (path_at tree.paths k) (path_at circuit.paths s)
@@ -127,4 +131,5 @@ pub record IsTree (circuit : FlatCircuit) (tree : InstanceTree) : Type 0 where
   pub memory_distinct : AllPairs (λ a b. a ≢ b) tree.memory_paths
   pub held : (k : ℕ) → k < length tree.memories → IsHeld circuit tree k
   pub once : AllPairs (λ a b. a.memory ≢ b.memory) tree.memories
+  -- the memories of an instance are before those of later instances
   pub ordered : AllPairs (λ a b. a.instance ≤ b.instance) tree.memories

@@ -53,6 +53,7 @@ pub record IsWriter (Named : ℕ → Shape → Type 0) (word : Shape) (depth : �
 
 -- A memory has a word, and the fields of its ports are signals of the right types.
 pub record IsMemory (Named : ℕ → Shape → Type 0) (memory : Memory) : Type 0 where
+  -- it has at least one word
   pub some : 0 < memory.depth
   pub readers : All (IsReader Named (shape memory.word) memory.depth) memory.readers
   pub writers : All (IsWriter Named (shape memory.word) memory.depth) memory.writers

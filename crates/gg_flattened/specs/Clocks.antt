@@ -23,6 +23,7 @@ clock_of m (BinaryTerm op a b) = None
 clock_of m (FixedTerm op a n k) = None
 clock_of m (MuxTerm c a b) = None
 
+-- the same of what a sink is connected to; without a connection, and by `is invalid`, it follows none
 abbrev pub clock_connected : ModuleTree → Option Connection → Option ℕ
 clock_connected m None = None
 clock_connected m (Some Zeroed) = None
@@ -47,7 +48,7 @@ abbrev pub clocks_around : List ModuleTree → ℕ → List Step → List (Optio
 clocks_around modules number [] = clocks_of_top (module_at modules number)
 clocks_around modules number (step ∷ steps) = clocks_given (module_at modules step.number) step.name (module_at modules number)
 
--- the clock of the circuit
+-- for each of these Clock inputs, the clock of the circuit that it leads to
 abbrev pub clocks_led : List ModuleTree → ℕ → List Step → List (Option ℕ)
 clocks_led modules number [] = clocks_of_top (module_at modules number)
 clocks_led modules number (step ∷ steps) =

@@ -19,9 +19,11 @@ pub record Scope : Type 0 where
   pub path : List ℕ
   pub number : ℕ
 
+-- what is written in the module of a site
 abbrev pub scope_at : Site → Scope
 scope_at site = record { path = site.path; number = site.number }
 
+-- what is written in the module that holds an instance
 abbrev pub scope_around : Outer → Scope
 scope_around outer = record { path = outer.path; number = outer.number }
 
@@ -35,6 +37,7 @@ pub data Drive : Type 0 where
   Holds : Scope → Option Reset → Option Connection → Option ℕ → Option ℕ → Drive
   Answers : List ℕ → ℕ → Latency → List ℕ → List ℕ → Drive
 
+-- A signal of the circuit: its path from the top, its shape, and what gives it its value.
 pub record FlatSignal : Type 0 where
   pub path : List ℕ
   pub shape : Shape
@@ -46,6 +49,7 @@ input_drive modules None name = Outside
 input_drive modules (Some outer) name =
     Gets (scope_around outer) (connection_in (module_at modules outer.number).statements (dotted outer.name name))
 
+-- what gives the signal of this name at a site its value, by what its module says of it
 abbrev pub drive_of : List ModuleTree → Site → List ℕ → Cause → Drive
 drive_of modules site name FromOutside = input_drive modules site.outer name
 drive_of modules site name Connected = Gets (scope_at site) (connection_in (module_at modules site.number).statements name)
@@ -56,6 +60,7 @@ drive_of modules site name (Kept clock reset) =
 drive_of modules site name (Answered memory port place latency) =
     Answers (joined site.path memory) place latency (joined site.path (field_name memory port (codes "addr"))) (joined site.path (field_name memory port (codes "en")))
 
+-- a module's own signal at one of the module's sites
 abbrev pub flat_signal : List ModuleTree → Site → Own → FlatSignal
 flat_signal modules site o =
     record { path = joined site.path o.name; shape = o.shape; drive = drive_of modules site o.name o.cause }
@@ -64,7 +69,7 @@ flat_signal modules site o =
 abbrev pub signals_at : Types → List ModuleTree → Site → List FlatSignal
 signals_at types modules site = map (flat_signal modules site) (own_signals types site.number (module_at modules site.number))
 
--- the signals of all sites
+-- the signals of all sites, those of one site after those of another
 abbrev pub flat_signals : Types → List ModuleTree → List Site → List FlatSignal
 flat_signals types modules all = flat_map (signals_at types modules) all
 
@@ -75,9 +80,12 @@ flat_signals types modules all = flat_map (signals_at types modules) all
 pub record FlatMemory : Type 0 where
   pub path : List ℕ
   pub bank : Bank
+  -- the Clock input of its site that the port of this name follows, if any
   pub own_clock : List ℕ → Option ℕ
+  -- the clock of the circuit that the port of this name follows, if any
   pub clock : List ℕ → Option ℕ
 
+-- a module's own memory at one of the module's sites
 abbrev pub flat_memory : List ModuleTree → Site → OwnBank → FlatMemory
 flat_memory modules site own =
     record {

@@ -45,11 +45,13 @@ pub record IsLineFor (context : Context) (sink : Shape) (c : Option Connection) 
 
 -- A line gives a sink of this shape the value of an expression.
 pub record IsLineOf (context : Context) (sink : Shape) (e : Term) (line : List Node) : Type 0 where
+  -- the line's value is what the sink gets, whatever values the signals have
   pub value : (values : List ℕ) → line_connected values sink line ≡ taken_value context values sink e
   pub names : (s : ℕ) → Names line s ↔ TermNames context s e
+  -- the line's nodes are fixed by the expression
   pub nodes : laid line ≡ taken_line context sink e
 
--- A line is a condition.
+-- A line is a condition: it has its value, and names exactly the signals that the expression names.
 pub record IsConditionOf (context : Context) (e : Term) (line : List Node) : Type 0 where
   pub value : (values : List ℕ) → line_value values line ≡ condition_value context values e
   pub names : (s : ℕ) → Names line s ↔ TermNames context s e
@@ -57,6 +59,7 @@ pub record IsConditionOf (context : Context) (e : Term) (line : List Node) : Typ
 
 -- ---- registers
 
+-- There is a reset just if one is written. Its condition is a condition, and its value is what the register gets from its initial value.
 abbrev pub HasReset : Context → Shape → Option given.Reset → Option kept.Reset → Type 0
 HasReset context sink None reset = reset ≡ None
 HasReset context sink (Some asked) reset =
@@ -67,6 +70,8 @@ abbrev pub HasNext : Context → Shape → Option Connection → Option (List No
 HasNext context sink None next = next ≡ None
 HasNext context sink (Some c) next = MatchOption next ⊥ (IsLineFor context sink (Some c))
 
+-- A register of this shape, with this reset and this connection as they are written in `context`, that follows this clock of the circuit,
+-- if any.
 pub record IsRegisterOf (context : Context) (sink : Shape) (reset : Option given.Reset) (next : Option Connection) (clock : Option ℕ) (register : Register) : Type 0 where
   pub typed : shape register.ty ≡ sink
   pub reset_is : HasReset context sink reset register.reset
@@ -75,23 +80,25 @@ pub record IsRegisterOf (context : Context) (sink : Shape) (reset : Option given
 
 -- ---- numbers
 
--- the number of the signal, or the memory, with a path
+-- the number of the first signal, or the first memory, with a path; 0 if none has it
 abbrev pub number_of : List (List ℕ) → List ℕ → ℕ
 number_of paths path = unwrap_or (place_of path paths) 0
 
+-- whether a signal is an input of the circuit
 abbrev pub is_outside : Drive → Bool
 is_outside Outside = true
 is_outside (Gets scope c) = false
 is_outside (Holds scope reset next own clock) = false
 is_outside (Answers memory place latency addr en) = false
 
+-- whether a signal holds a register's state
 abbrev pub is_register : Drive → Bool
 is_register Outside = false
 is_register (Gets scope c) = false
 is_register (Holds scope reset next own clock) = true
 is_register (Answers memory place latency addr en) = false
 
--- the drive of signal s, as it is listed
+-- the drive of signal s, as it is listed; past the end that of an input
 abbrev pub drive_at : List FlatSignal → ℕ → Drive
 drive_at all s = slice_index_or (map (λ x. x.drive) all) s Outside
 
@@ -137,6 +144,7 @@ IsDriven bindings all flat s =
 abbrev pub field_number : List (List ℕ) → List ℕ → List ℕ → List ℕ → ℕ
 field_number paths memory port field = number_of paths (field_name memory port field)
 
+-- the reader of this name of a memory, by the numbers of its fields and the clock of the circuit that it follows
 abbrev pub reader_of : List (List ℕ) → FlatMemory → List ℕ → Reader
 reader_of paths said port =
     record {
@@ -146,6 +154,7 @@ reader_of paths said port =
       clock = said.clock port;
     }
 
+-- the writer of this name of a memory, by the numbers of its fields and the clock of the circuit that it follows
 abbrev pub writer_of : List (List ℕ) → FlatMemory → List ℕ → Writer
 writer_of paths said port =
     record {
@@ -156,6 +165,7 @@ writer_of paths said port =
       clock = said.clock port;
     }
 
+-- The flat circuit's memory is the one that the fields of a memory make, with the same readers and writers, each in the order of the file.
 pub record IsMemoryOf (paths : List (List ℕ)) (said : FlatMemory) (memory : Memory) : Type 0 where
   pub word : shape memory.word ≡ said.bank.word
   pub depth : memory.depth ≡ said.bank.depth
@@ -165,6 +175,7 @@ pub record IsMemoryOf (paths : List (List ℕ)) (said : FlatMemory) (memory : Me
 
 -- ---- ports
 
+-- whether two directions are the same
 abbrev pub same_direction : Direction → Direction → Bool
 same_direction direction.Input direction.Input = true
 same_direction direction.Input direction.Output = false
@@ -179,7 +190,7 @@ port_name way port = if same_direction way port.direction && is_some (type_shape
 abbrev pub port_names : Direction → List Port → List (List ℕ)
 port_names way ports = filter_map (port_name way) ports
 
--- the ports of the top
+-- the ports of the top; none if there is no top
 abbrev pub top_ports : List ModuleTree → Option ℕ → List Port
 top_ports modules None = []
 top_ports modules (Some k) = (module_at modules k).ports
@@ -190,7 +201,7 @@ top_ports modules (Some k) = (module_at modules k).ports
 abbrev pub signals_of : List FlatSignal → Signals
 signals_of all = record { paths = map (λ x. x.path) all; shapes = map (λ x. x.shape) all }
 
--- the paths of memories
+-- the paths of memories, in order
 abbrev pub memory_paths : List FlatMemory → List (List ℕ)
 memory_paths banks = map (λ x. x.path) banks
 
@@ -209,6 +220,7 @@ pub record IsFlatOf (types : Types) (all : List FlatSignal) (banks : List FlatMe
   pub memory_count : length flat.memories ≡ length banks
   pub memories : (m : ℕ) (said : FlatMemory) (any : Memory) → m < length banks → IsMemoryOf (signals_of all).paths (slice_index_or banks m said) (slice_index_or flat.memories m any)
   pub ins : flat.ins ≡ map (number_of (signals_of all).paths) (port_names direction.Input ports)
+  -- the outputs in port order, and the stops behind them
   pub outs : flat.outs ≡ map (number_of (signals_of all).paths) (port_names direction.Output ports ++ stops)
   pub clocks : flat.clocks ≡ length (clock_inputs ports)
 

@@ -24,6 +24,7 @@ pub record Laid : Type 0 where
   pub shape : Shape
   pub op : Op
 
+-- a node of a line as such: the shape of its type, and what it does
 abbrev pub laid_node : Node → Laid
 laid_node node = record { shape = shape node.ty; op = node.op }
 
@@ -95,6 +96,6 @@ connected_line context sink None = with_number [] sink 0
 connected_line context sink (Some Zeroed) = with_number [] sink 0
 connected_line context sink (Some (ConnectedTo e)) = taken_line context sink e
 
--- the line of a condition
+-- the line of a condition; 0 if the expression isn't a UInt<1>
 abbrev pub condition_line : Context → Term → List Laid
 condition_line context e = cut_line (is_condition (term_shape context e)) (uint 1) (with_term context [] e)

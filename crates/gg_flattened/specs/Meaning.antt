@@ -40,6 +40,7 @@ pub record Context : Type 0 where
   pub bindings : Bindings
   pub scope : Scope
 
+-- what the names stand for where they are written in this scope
 abbrev pub in_scope : Bindings → Scope → Context
 in_scope bindings scope = record { bindings = bindings; scope = scope }
 
@@ -47,22 +48,26 @@ in_scope bindings scope = record { bindings = bindings; scope = scope }
 abbrev pub named_if : Bool → List (List ℕ) → List ℕ → Option ℕ
 named_if known paths path = if known then place_of path paths else None
 
+-- the signal that a reference names, by its place; none if the module doesn't know it or it is no value
 abbrev pub named : Context → Reference → Option ℕ
 named context r =
     named_if (is_some (context.bindings.types context.scope.number r)) context.bindings.signals.paths (joined context.scope.path (written r))
 
+-- the shape of the signal that is named; one unsigned bit if none is
 abbrev pub shape_named : Signals → Option ℕ → Shape
 shape_named signals None = uint 1
 shape_named signals (Some s) = shape_at signals.shapes s
 
+-- the value of the signal that is named; 0 if none is
 abbrev pub value_named : List ℕ → Option ℕ → ℕ
 value_named values None = 0
 value_named values (Some s) = value_at values s
 
--- the shape of a literal
+-- the shape of a literal; one unsigned bit if its number doesn't fit
 abbrev pub shape_of_literal : Literal → Shape
 shape_of_literal l = unwrap_or (literal_shape l) (uint 1)
 
+-- the value of a literal that has this shape; 0 if it has none, since it doesn't fit
 abbrev pub value_of_literal : Option Shape → Literal → ℕ
 value_of_literal None l = 0
 value_of_literal (Some s) l = literal_value l
@@ -72,11 +77,12 @@ abbrev pub accepted : Result Shape Bad → Shape
 accepted (Ok s) = s
 accepted (Err bad) = uint 1
 
+-- this value, if the operation takes its operands; otherwise 0
 abbrev pub value_if : Result Shape Bad → ℕ → ℕ
 value_if (Ok s) value = value
 value_if (Err bad) value = 0
 
--- the shape of an expression
+-- the shape of an expression, from those of its parts
 abbrev pub term_shape : Context → Term → Shape
 term_shape context (NamedTerm r) = shape_named context.bindings.signals (named context r)
 term_shape context (ConstantTerm l) = shape_of_literal l
@@ -136,7 +142,7 @@ ConnectionNames context s None = ⊥
 ConnectionNames context s (Some Zeroed) = ⊥
 ConnectionNames context s (Some (ConnectedTo e)) = TermNames context s e
 
--- the value of a condition, which is a UInt<1>
+-- the value of a condition; 0 if the expression isn't a UInt<1>
 abbrev pub condition_value : Context → List ℕ → Term → ℕ
 condition_value context values e =
     if is_condition (term_shape context e) then term_value context values e else 0

@@ -30,6 +30,7 @@ type_shape Clock = None
 
 -- ---- fields
 
+-- the read latency that a field gives; only `read-latency` gives one
 abbrev pub latency_said : MemoryField → Option ℕ
 latency_said (field.DataType ty) = None
 latency_said (field.Depth n) = None
@@ -39,11 +40,13 @@ latency_said (field.Readers names) = None
 latency_said (field.Writers names) = None
 latency_said (field.ReadUnderWrite said) = None
 
+-- whether a late reader finds the old or the new word where one is written in the same tick, by the word of the text
 abbrev pub under_write : written.ReadUnderWrite → UnderWrite
 under_write word.Old = Old
 under_write word.New = New
 under_write word.Undefined = Undefined
 
+-- what `read-under-write` says; no other field says it
 abbrev pub under_said : MemoryField → Option UnderWrite
 under_said (field.DataType ty) = None
 under_said (field.Depth n) = None
@@ -53,6 +56,7 @@ under_said (field.Readers names) = None
 under_said (field.Writers names) = None
 under_said (field.ReadUnderWrite said) = Some (under_write said)
 
+-- the readers that a field names; only `reader` names some
 abbrev pub readers_said : MemoryField → List (List ℕ)
 readers_said (field.DataType ty) = []
 readers_said (field.Depth n) = []
@@ -62,6 +66,7 @@ readers_said (field.Readers names) = names
 readers_said (field.Writers names) = []
 readers_said (field.ReadUnderWrite said) = []
 
+-- the writers that a field names; only `writer` names some
 abbrev pub writers_said : MemoryField → List (List ℕ)
 writers_said (field.DataType ty) = []
 writers_said (field.Depth n) = []
@@ -82,12 +87,13 @@ pub record Bank : Type 0 where
   pub readers : List (List ℕ)
   pub writers : List (List ℕ)
 
--- a read latency of 0 or 1
+-- a read latency of 0 or 1; with 1 it also says whether a reader finds old or new words; none above 1
 abbrev pub latency_of : UnderWrite → ℕ → Option Latency
 latency_of under zero = Some Zero
 latency_of under (suc zero) = Some (One under)
 latency_of under (suc (suc n)) = None
 
+-- a memory of these parts, if it has a type and a latency and at least one word
 abbrev pub bank_with : Option Shape → ℕ → Option Latency → List (List ℕ) → List (List ℕ) → Option Bank
 bank_with None depth latency readers writers = None
 bank_with (Some word) depth None readers writers = None

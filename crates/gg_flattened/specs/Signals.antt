@@ -34,6 +34,7 @@ pub record Own : Type 0 where
   pub shape : Shape
   pub cause : Cause
 
+-- a signal of this name, with what gives it its value, and with this shape
 abbrev pub own : List ℕ → Cause → Shape → Own
 own name cause shape = record { name = name; shape = shape; cause = cause }
 
@@ -45,10 +46,12 @@ dotted a b = a ++ 46 ∷ b
 abbrev pub field_name : List ℕ → List ℕ → List ℕ → List ℕ
 field_name memory port field = dotted memory (dotted port field)
 
+-- what gives a port its value: the outside for an input; for an output its connection
 abbrev pub cause_of_port : Direction → Cause
 cause_of_port Input = FromOutside
 cause_of_port Output = Connected
 
+-- the signal of a port; none for a Clock
 abbrev pub own_of_port : Port → Option Own
 own_of_port port = option_map (own port.name (cause_of_port port.direction)) (type_shape port.ty)
 
@@ -109,9 +112,11 @@ pub record OwnStop : Type 0 where
   pub name : List ℕ
   pub asked : Asked
 
+-- the name of the stop with this number in its module; no identifier has a colon
 abbrev pub stop_name : ℕ → List ℕ
 stop_name k = codes "stop:" ++ decimal k
 
+-- what a statement asks if it is a stop; nothing otherwise
 abbrev pub stop_of_kind : StmtKind → Option Asked
 stop_of_kind (says.Wire name ty) = None
 stop_of_kind (says.Node name value) = None
@@ -154,9 +159,11 @@ pub record OwnBank : Type 0 where
   pub name : List ℕ
   pub bank : Bank
 
+-- a memory of this name
 abbrev pub own_bank : List ℕ → Bank → OwnBank
 own_bank name bank = record { name = name; bank = bank }
 
+-- the memory that a statement declares, if its fields make one; none for any other statement
 abbrev pub bank_of_kind : StmtKind → Option OwnBank
 bank_of_kind (says.Wire name ty) = None
 bank_of_kind (says.Node name value) = None

@@ -28,6 +28,7 @@ use Rattle.gg_flattened.specs.Meaning.{Signals, Bindings}
 
 -- ---- signals
 
+-- what gives a signal its value, as it is kept
 abbrev pub cause_of : Origin → Cause
 cause_of origin.FromOutside = FromOutside
 cause_of origin.Connected = Connected
@@ -36,11 +37,13 @@ cause_of (origin.Kept clock None) = Kept clock.now None
 cause_of (origin.Kept clock (Some reset)) = Kept clock.now (Some reset.now)
 cause_of (origin.Answered memory port place latency) = Answered memory.now port.now place latency
 
+-- a signal of a module, as it is kept
 abbrev pub own_of : OwnSignal → Own
 own_of signal = record { name = signal.name; shape = shape signal.ty; cause = cause_of signal.origin }
 
 -- ---- memories
 
+-- what the fields of a memory say, as it is kept
 abbrev pub bank_seen : kept.Bank → Bank
 bank_seen b =
     record {
@@ -51,26 +54,32 @@ bank_seen b =
       writers = map (λ n. n.now) b.writers.items;
     }
 
+-- a memory of a module, as it is kept
 abbrev pub own_bank_of : OwnMemory → OwnBank
 own_bank_of memory = record { name = memory.name.now; bank = bank_seen memory.bank }
 
 -- ---- stops
 
+-- a stop of a module, as it is kept
 abbrev pub own_stop_of : kept_stop.OwnStop → OwnStop
 own_stop_of stop = record { name = stop.name; asked = record { clock = stop.clock.now; condition = stop.condition.now } }
 
 -- ---- instances and sites
 
+-- an instance that a module holds, as it is kept
 abbrev pub held_of : Instance → count.Held
 held_of instance = record { name = instance.name.now; number = instance.number }
 
+-- what holds an instance, as it is kept; nothing for the top
 abbrev pub outer_of : Option Around → Option count.Outer
 outer_of None = None
 outer_of (Some around) = Some (record { path = around.path; number = around.number; name = around.name.now })
 
+-- a step from an instance to what holds it, as it is kept
 abbrev pub step_of : kept_step.Step → count.Step
 step_of step = record { number = step.number; name = step.name.now }
 
+-- a site, as it is kept
 abbrev pub site_of : Place → count.Site
 site_of place = record { path = place.path; number = place.number; depth = place.depth; outer = outer_of place.outer; steps = map step_of place.steps.items }
 
@@ -91,10 +100,12 @@ pub record IsPlaceIn (modules : List ModuleTree) (place : Place) : Type 0 where
 
 -- ---- connections
 
+-- what a sink is connected to, as it is kept
 abbrev pub connection : Source → Connection
 connection (Of e) = ConnectedTo e.now
 connection Zero = Zeroed
 
+-- the same of a sink that may have no connection
 abbrev pub seen : Option Source → Option Connection
 seen None = None
 seen (Some source) = Some (connection source)
@@ -132,5 +143,6 @@ pub record AreDigests (types : Types) (modules : List ModuleTree) (digests : Lis
 abbrev pub table_signals : Table → Signals
 table_signals table = record { paths = table.paths; shapes = map (λ t. shape t) table.types.items }
 
+-- what the names stand for, with these types from the checks
 abbrev pub table_bindings : Types → Table → Bindings
 table_bindings types table = record { types = types; signals = table_signals table; memories = table.memories }

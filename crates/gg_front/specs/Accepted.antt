@@ -29,8 +29,11 @@ HasNoLoop circuit = (flat : FlatCircuit) → IsFlat circuit flat → (loop : Lis
 
 -- The circuit has none of the sixteen faults.
 pub record IsAccepted (circuit : CircuitTree) : Type 0 where
+  -- none of F1 to F14
   pub sound : IsSound circuit
+  -- no F15
   pub within : excess_of circuit ≡ None
+  -- no F16
   pub free : HasNoLoop circuit
 
 -- The text spells a circuit, no line of it is at fault, and the circuit is accepted.

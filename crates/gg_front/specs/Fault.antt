@@ -1,4 +1,5 @@
 -- Why the bytes of a circuit file give no design: their fault of reading, or the first fault of the circuit that they spell.
+-- Source: this program's own; what the faults are is defined in the crates that find them.
 use Rattle.std.specs.Prelude.{◌≡◌, ◌≢◌, ℕ, List, Some, None, map, codes, ⊤}
 use Rattle.gg_ast.specs.Tree.{CircuitTree}
 use Rattle.gg_count.specs.declared.counts.Excess.{Excess}

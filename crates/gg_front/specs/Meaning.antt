@@ -1,5 +1,6 @@
 -- What the bytes of a circuit file mean: a flat circuit, and a design: the flat circuit with the tree of the instances
 -- and an order. The bytes mean at most one flat circuit and one tree.
+-- Source: FIRRTL Specification, as the crates cite it that read, check and flatten a circuit.
 use Rattle.std.specs.Prelude.{◌≡◌, ℕ, List}
 use Rattle.gg_flattened.specs.IsFlat.{IsFlat}
 use Rattle.gg_tree.specs.IsTreeOf.{IsTreeOf}

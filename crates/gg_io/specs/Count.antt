@@ -1,4 +1,5 @@
 -- Counts of what went wrong. A count is a `u64`, and stays the same once it is 18,446,744,073,709,551,615.
+-- Source: this program's own.
 use Rattle.std.specs.Prelude.{ℕ, ◌+◌, ◌-◌, ◌^◌, ◌≤◌, min}
 
 -- the count after one more

@@ -1,4 +1,5 @@
 -- Why a load failed.
+-- Source: this program's own.
 use Rattle.std.specs.Prelude.{◌≡◌, ℕ, ◌+◌, ◌<◌, List, length, Option, IfSome, Result, Ok, Err, ⊤}
 use Rattle.gg_io.specs.Count.{Rose, risen}
 use Rattle.gg_io.specs.Told.{Told, CanBeOver}

@@ -1,4 +1,5 @@
 -- What the shelves and outputs in memory have, and which of their calls must fail.
+-- Source: this program's own.
 use Rattle.std.specs.Prelude.{ℕ, ◌==◌, List, [], Option, None, Some, Vec, String, find}
 use Rattle.std.specs.BTreeMap.{BTreeMap, get_by_text}
 use Rattle.std.specs.Option.{option_map}

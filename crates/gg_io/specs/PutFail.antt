@@ -1,4 +1,5 @@
 -- Why a put failed.
+-- Source: this program's own.
 use Rattle.std.specs.Prelude.{◌≡◌, ℕ, ◌≤◌, List, length, take, Option, Result, Ok, Err}
 use Rattle.std.specs.Io.KnownBytes.{append_known}
 use Rattle.gg_io.specs.Count.{Rose, risen}

@@ -1,4 +1,5 @@
 -- What is known of the file of one name.
+-- Source: this program's own.
 use Rattle.std.specs.Prelude.{◌≡◌, ℕ, ◌<◌, List, length, ⊤}
 
 -- the file's contents are unknown; there is no such file; the file has these bytes

@@ -17,7 +17,7 @@ pub record Attached : Type 0 where
   pub sees : List ℕ
   pub drives : List ℕ
 
--- the circuit with one bridge
+-- the circuit with one bridge's model in it
 abbrev pub with_bridge : FlatCircuit → Attached → FlatCircuit
 with_bridge one bridge = joined one bridge.front bridge.model bridge.sees bridge.drives
 
@@ -49,6 +49,7 @@ CanAttachAll one (bridge ∷ bridges) = CanAttach one bridge × CanAttachAll (wi
 pub record CanAttachEach (one : FlatCircuit) (bridges : List Attached) : Type 0 where
   pub each : (k : ℕ) (any : Attached) → k < length bridges → CanAttach one (slice_index_or bridges k any)
   pub once : AllPairs (λ a b. a ≢ b) (flat_map (λ bridge. bridge.drives) bridges)
+  -- no path of one model is one of another
   pub apart : (j k : ℕ) (any : Attached) → j < k → k < length bridges → (a b : List ℕ) → (slice_index_or bridges j any).front ++ a ≢ (slice_index_or bridges k any).front ++ b
 
 -- ---- runs from a start; row 0 is that of the start's cycle
@@ -63,6 +64,7 @@ pub record RunsModelFrom (cycle n : ℕ) (rows : List (List ℕ)) (globals : Lis
   pub run : (inputs : List (List ℕ)) → HasInputs rows inputs cycle n bridge.sees → IsRunFrom bridge.model (record { cycle = cycle; state = opening bridge.model; ratios = [] }) inputs n (part_rows globals rows)
   pub driven : (i : ℕ) → i < length bridge.drives → column rows (value_at bridge.drives i) ≡ column (part_rows globals rows) (value_at bridge.model.outs i)
 
+-- each model runs so, in the circuit with the bridges before it, where its signals stand behind all others
 abbrev pub RunsModelsFrom : (cycle n : ℕ) → List (List ℕ) → FlatCircuit → List Attached → Type 0
 RunsModelsFrom cycle n rows one [] = ⊤
 RunsModelsFrom cycle n rows one (bridge ∷ bridges) = RunsModelFrom cycle n rows (globals_behind one bridge.model) bridge × RunsModelsFrom cycle n rows (with_bridge one bridge) bridges

@@ -36,7 +36,7 @@ pub record HasPlaces (list : List ℕ) (count : ℕ) (places : List (Option ℕ)
   pub many : length places ≡ count
   pub each : (s : ℕ) → s < count → place_at places s ≡ place_among list s
 
--- these without those
+-- the numbers of a list that aren't gone, in order
 abbrev pub without : List ℕ → List ℕ → List ℕ
 without gone list = filter (λ s. not (list_any (λ t. t == s) gone)) list
 
@@ -47,12 +47,15 @@ by_number f n (x ∷ xs) = f n x ∷ by_number f (suc n) xs
 
 -- ---- the numbers of what stands behind
 
+-- the numbers of the model's signals, behind those of the circuit
 abbrev pub globals_behind : (one model : FlatCircuit) → List ℕ
 globals_behind one model = range_with_len (length one.signals) (length model.signals)
 
+-- the numbers of its registers
 abbrev pub held_behind : (one model : FlatCircuit) → List ℕ
 held_behind one model = range_with_len (length one.registers) (length model.registers)
 
+-- the numbers of its memories
 abbrev pub memories_behind : (one model : FlatCircuit) → List ℕ
 memories_behind one model = range_with_len (length one.memories) (length model.memories)
 
@@ -62,7 +65,7 @@ memories_behind one model = range_with_len (length one.memories) (length model.m
 abbrev pub copy_line : Ty → ℕ → List Node
 copy_line ty t = record { ty = ty; op = Ref t } ∷ []
 
--- the driver of a signal that isn't driven by the bridge: an input has its place among those that are left
+-- the driver of a signal that isn't driven by the bridge: an input has its place among those that are left, any other driver stays
 abbrev pub left_at : (left : Option ℕ) → Driver → Driver
 left_at left (Input place) = Input (unwrap_or left 0)
 left_at left (Held register) = Held register
@@ -76,6 +79,7 @@ abbrev pub linked_at : (outs : List ℕ) (left : Option ℕ) → Ty → Driver �
 linked_at outs left ty driver None = left_at left driver
 linked_at outs left ty driver (Some i) = Computed (copy_line ty (value_at outs i))
 
+-- a signal of the circuit with this driver
 abbrev pub linked_signal : (outs : List ℕ) (driven left : Option ℕ) → Signal → Signal
 linked_signal outs driven left signal = record { ty = signal.ty; driver = linked_at outs left signal.ty signal.driver driven }
 
@@ -83,6 +87,7 @@ linked_signal outs driven left signal = record { ty = signal.ty; driver = linked
 abbrev pub linked_driver : (outs left : List ℕ) → ℕ → Ty → Driver → Option ℕ → Driver
 linked_driver outs left s ty driver place = linked_at outs (place_among left s) ty driver place
 
+-- signal s of the circuit, by the signals that the bridge drives and the inputs that are left
 abbrev pub linked : (outs drives left : List ℕ) → ℕ → Signal → Signal
 linked outs drives left s signal = linked_signal outs (place_among drives s) (place_among left s) signal
 
@@ -94,6 +99,7 @@ driver_behind globals held memories sees ty (MemoryWord memory reader addr en) =
 driver_behind globals held memories sees ty (ReadRegister memory reader) = ReadRegister (value_at memories memory) reader
 driver_behind globals held memories sees ty (Computed line) = Computed (renamed_line globals line)
 
+-- a signal of the model, behind the circuit
 abbrev pub signal_behind : (globals held memories sees : List ℕ) → Signal → Signal
 signal_behind globals held memories sees signal = record { ty = signal.ty; driver = driver_behind globals held memories sees signal.ty signal.driver }
 
@@ -134,6 +140,7 @@ pub record CanJoin (one : FlatCircuit) (front : List ℕ) (model : FlatCircuit) 
   pub driven : (i : ℕ) → i < length drives → Contains one.ins (value_at drives i)
   pub driven_type : (i : ℕ) → i < length drives → shape_at (signal_shapes one) (value_at drives i) ≡ shape_at (signal_shapes model) (value_at model.outs i)
   pub once : AllPairs (λ a b. a ≢ b) drives
+  -- no path of the circuit is one that a signal of the model gets
   pub fresh : (s i : ℕ) → s < length one.signals → i < length model.signals → path_at one.paths s ≢ front ++ path_at model.paths i
 
 -- a circuit has an order of evaluation

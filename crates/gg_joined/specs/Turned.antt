@@ -9,7 +9,7 @@ use Rattle.gg_flat.specs.Line.{value_at}
 use Rattle.gg_flat.specs.Circuit.{FlatCircuit}
 use Rattle.gg_joined.specs.Joined.{place_among}
 
--- the place of a place among these
+-- where a place stands among these; 0 if it doesn't
 abbrev pub place_in : List ℕ → ℕ → ℕ
 place_in places place = unwrap_or (place_among places place) 0
 
@@ -21,6 +21,7 @@ turned_driver ins (MemoryWord memory reader addr en) = MemoryWord memory reader 
 turned_driver ins (ReadRegister memory reader) = ReadRegister memory reader
 turned_driver ins (Computed line) = Computed line
 
+-- a signal with the new place in its driver, if it is an in-signal
 abbrev pub turned_signal : List ℕ → Signal → Signal
 turned_signal ins signal = record { ty = signal.ty; driver = turned_driver ins signal.driver }
 

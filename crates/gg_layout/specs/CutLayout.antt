@@ -38,7 +38,7 @@ pub record IsChannelLink (design : Ordered) (request : Request) (default : ℕ) 
 
 -- ---- ports
 
--- the first channel that carries signal s
+-- the first channel that carries signal s; 0 if none does
 abbrev pub channel_of : List Wire → ℕ → ℕ
 channel_of wires s = unwrap_or (first_place (λ w. w.signal == s) wires) 0
 

@@ -10,36 +10,47 @@ use Rattle.gg_lex.specs.declared.bytes.Class.TheVariants.{Blank, WordByte, TailB
 abbrev pub tab : ℕ
 tab = 9
 
+-- the space, which may stand between tokens, as a tab may
 abbrev pub space : ℕ
 space = 32
 
+-- `"`, with which a text begins and ends
 abbrev pub quote : ℕ
 quote = 34
 
+-- `$`, which may be in a word, but not at its beginning
 abbrev pub dollar : ℕ
 dollar = 36
 
+-- `-`, the sign of a number; it may also be in a word's tail
 abbrev pub minus : ℕ
 minus = 45
 
+-- `0`, the first digit of a number that names its radix by a letter
 abbrev pub zero_digit : ℕ
 zero_digit = 48
 
+-- `;`, with which a comment begins
 abbrev pub semicolon : ℕ
 semicolon = 59
 
+-- `@`, the first byte of a file information
 abbrev pub at_sign : ℕ
 at_sign = 64
 
+-- `[`, the second byte of a file information
 abbrev pub open_bracket : ℕ
 open_bracket = 91
 
+-- `\`, by which a quote may stand in a text, and a `]` in a file information
 abbrev pub backslash : ℕ
 backslash = 92
 
+-- `]`, with which a file information ends
 abbrev pub close_bracket : ℕ
 close_bracket = 93
 
+-- `_`, which may stand anywhere in a name
 abbrev pub underscore : ℕ
 underscore = 95
 
@@ -55,9 +66,11 @@ starts_word b = is_ascii_alphabetic b || b == underscore
 abbrev pub begins_number : ℕ → Bool
 begins_number b = b == minus || is_ascii_digit b
 
+-- 0 or 1
 abbrev pub is_binary_digit : ℕ → Bool
 is_binary_digit b = b == 48 || b == 49
 
+-- 0 to 7
 abbrev pub is_octal_digit : ℕ → Bool
 is_octal_digit b = nat_lt 47 b && nat_lt b 56
 

@@ -1,4 +1,5 @@
 -- What the search for file information finds.
+-- Source: FIRRTL Specification, "Notes on Syntax" (file information); how it is searched for is this program's own.
 use Rattle.std.specs.Prelude.{ℕ, ◌<◌, ◌≤◌, List, length, Option, Some, None}
 use Rattle.gg_lex.specs.Lines.{ClosesBehind, IsInfo}
 

@@ -1,4 +1,5 @@
 -- The longest front of some bytes that has a property, such as being a word.
+-- Source: FIRRTL Specification, "Notes on Syntax" (identifiers, literals); that a token is as long as it can be is the usual rule.
 use Rattle.std.specs.Prelude.{◌≡◌, ◌≢◌, ◌<◌, ℕ, false, IsFalse, slice_index, ◌≤◌, ◌==◌, ◌&&◌, if◌then◌else◌, List, [], ◌∷◌, length, take, slice_get, Option, Some, None}
 use Rattle.std.specs.List.{AllPass}
 use Rattle.gg_lex.specs.Bytes.{quote, minus, zero_digit, starts_word, begins_number, is_digit_behind, is_in_class}
@@ -30,7 +31,7 @@ abbrev pub TellsDigits : ℕ → Option Class → Type 0
 TellsDigits letter None = (b : ℕ) → is_digit_behind letter b ≡ false
 TellsDigits letter (Some class) = (b : ℕ) → is_digit_behind letter b ≡ is_in_class class b
 
--- no front has the property
+-- no front of the bytes has the property, not even the empty one
 abbrev pub HasNoFront : (List ℕ → Type 0) → List ℕ → Type 0
 HasNoFront Has bs = (n : ℕ) → n ≤ length bs → Has (take n bs) → ⊥
 

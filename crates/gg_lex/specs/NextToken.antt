@@ -1,4 +1,5 @@
 -- What one step over a line gives: the first token, and the bytes after it.
+-- Source: FIRRTL Specification, "Notes on Syntax".
 use Rattle.std.specs.Prelude.{◌≡◌, ℕ, ◌+◌, List, take, drop, length, Option, Some, None}
 use Rattle.gg_lex.specs.Tokens.{IsFirst}
 use Rattle.gg_lex.specs.Lines.{after_blanks, IsEnd}

@@ -7,7 +7,7 @@ use Rattle.gg_flat.specs.Streams.{Flow}
 
 -- ---- streams
 
--- The stream of a link: the list of a channel, from place `start` on.
+-- The stream of a link: the list of a channel, from place `start` on. A channel without a list has an empty one.
 abbrev pub stream_of : Flow → ℕ → ℕ → List ℕ
 stream_of flow which start = drop start (slice_index_or flow.lists which [])
 
@@ -26,6 +26,7 @@ pub record SeatState : Type 0 where
   pub seen : ℕ
   pub looks : ℕ
 
+-- a seat of these parts, in this order
 abbrev pub seat_state : List ℕ → ℕ → ℕ → ℕ → ℕ → SeatState
 seat_state stream capacity count seen looks = record { stream = stream; capacity = capacity; count = count; seen = seen; looks = looks }
 

@@ -23,6 +23,7 @@ pub record IsLinkOf (frame : Frame) (c : ℕ) (link : Link) : Type 0 where
   pub consumer : link.consumer ≡ (wire_at frame.wires c).consumer
   pub capacity : link.capacity ≡ (wire_at frame.wires c).capacity
   pub piped : link.piped ≡ is_some (wire_at frame.wires c).first
+  -- the ins at which the needed channels are
   pub needs : places_of frame link.needs ≡ needs_at (kind_at frame.kinds (wire_at frame.wires c).producer).needs (wire_at frame.wires c).out
   pub taken : AreTaken frame (wire_at frame.wires c).producer link.needs
 

@@ -17,6 +17,7 @@ abbrev pub step_refusal : Layout → Marking → Option Event → Option Refusal
 step_refusal layout marking None = Some Stranger
 step_refusal layout marking (Some event) = refusal layout marking event
 
+-- the marking after a step; one that isn't an event changes nothing
 abbrev pub after_step : Layout → Marking → Option Event → Marking
 after_step layout marking None = marking
 after_step layout marking (Some event) = after layout marking event

@@ -35,9 +35,11 @@ pub record Layout : Type 0 where
   pub turns : List (List Turn)
   pub end : ℕ
 
+-- the channel with a number; past the end one that can't hold a token
 abbrev pub link_at : Layout → ℕ → Link
 link_at layout c = slice_index_or layout.links c (record { producer = 0; consumer = 0; capacity = 0; needs = []; piped = false })
 
+-- the ports that a machine serves in a cycle, in their order; none past the end
 abbrev pub turns_at : Layout → ℕ → List Turn
 turns_at layout m = slice_index_or layout.turns m []
 
@@ -45,6 +47,7 @@ turns_at layout m = slice_index_or layout.turns m []
 abbrev pub channels_into : Layout → ℕ → List ℕ
 channels_into layout m = filter (λ c. (link_at layout c).consumer == m) (range_with_len 0 (length layout.links))
 
+-- those that it gives
 abbrev pub channels_out_of : Layout → ℕ → List ℕ
 channels_out_of layout m = filter (λ c. (link_at layout c).producer == m) (range_with_len 0 (length layout.links))
 
@@ -58,6 +61,7 @@ pub record Marking : Type 0 where
   pub taken : List Bool
   pub given : List Bool
 
+-- whether channel c is marked; past the end it isn't
 abbrev pub is_set : List Bool → ℕ → Bool
 is_set marks c = slice_index_or marks c false
 
@@ -80,12 +84,15 @@ and_one n true = suc n
 abbrev pub puts : Layout → Marking → ℕ → ℕ
 puts layout marking c = and_one (value_at marking.cycles (link_at layout c).producer) (is_set marking.given c)
 
+-- the tokens that have entered: those that were put, and the one that a piped channel opens with
 abbrev pub entered : Layout → Marking → ℕ → ℕ
 entered layout marking c = and_one (puts layout marking c) (link_at layout c).piped
 
+-- the tokens that were taken: one for each cycle before the consumer's own, and that of its own if it was taken
 abbrev pub takes : Layout → Marking → ℕ → ℕ
 takes layout marking c = and_one (value_at marking.cycles (link_at layout c).consumer) (is_set marking.taken c)
 
+-- the tokens in the queue: those that have entered and weren't taken
 abbrev pub held : Layout → Marking → ℕ → ℕ
 held layout marking c = entered layout marking c - takes layout marking c
 
@@ -110,12 +117,15 @@ naming refusal (Some c) = Some (refusal c)
 abbrev pub first_unmarked : List Bool → List ℕ → Option ℕ
 first_unmarked marks channels = find (λ c. not (is_set marks c)) channels
 
+-- whether a machine has cycles left
 abbrev pub is_below : Layout → Marking → ℕ → Bool
 is_below layout marking m = nat_lt (value_at marking.cycles m) layout.end
 
+-- whether there is a channel of this number
 abbrev pub is_channel : Layout → ℕ → Bool
 is_channel layout c = nat_lt c (length layout.links)
 
+-- whether there is a machine of this number
 abbrev pub is_machine : Layout → ℕ → Bool
 is_machine layout m = nat_lt m (length layout.turns)
 
@@ -123,10 +133,11 @@ is_machine layout m = nat_lt m (length layout.turns)
 abbrev pub port_count : Layout → ℕ → ℕ
 port_count layout m = value_at layout.port_counts m
 
+-- whether a machine's memory has a port of this number
 abbrev pub has_port : Layout → ℕ → ℕ → Bool
 has_port layout m p = nat_lt p (port_count layout m)
 
--- the port that is due
+-- the port that is to be served next in the machine's cycle; none once all are served
 abbrev pub due_turn : Layout → Marking → ℕ → Option Turn
 due_turn layout marking m = slice_get (turns_at layout m) (value_at marking.served m)
 
@@ -196,10 +207,12 @@ refusal layout marking (Finish m) = finish_refusal layout marking m
 abbrev pub cleared : (Link → ℕ) → Layout → ℕ → List Bool → List Bool
 cleared machine_of layout m marks = map (λ c. if machine_of (link_at layout c) == m then false else is_set marks c) (range_with_len 0 (length layout.links))
 
--- one more at a place
+-- the counts, with one more at a place
 abbrev pub one_more : List ℕ → ℕ → List ℕ
 one_more counts m = slice_set counts m (suc (value_at counts m))
 
+-- The marking after an event: a token is taken, or given; a port is served; or a cycle is finished, and then the machine begins its next
+-- one, in which it has taken, given and served nothing.
 abbrev pub after : Layout → Marking → Event → Marking
 after layout marking (Latch c) = record marking { taken = slice_set marking.taken c true }
 after layout marking (Fire c) = record marking { given = slice_set marking.given c true }

@@ -14,7 +14,7 @@ abbrev pub IsStep : Network → Option Event → Network → Type 0
 IsStep old None new = ⊥
 IsStep old (Some event) new = Step old event new
 
--- a step is refused for this cause
+-- a step is refused for this cause; one that isn't an event is a stranger
 abbrev pub StepRefused : Network → Option Event → Refusal → Type 0
 StepRefused net None cause = cause ≡ Stranger
 StepRefused net (Some event) cause = Refused net event cause
@@ -26,6 +26,7 @@ Steps old (event ∷ events) new = (next : Network) × IsStep old event next × 
 
 -- The first of these steps has number k. Some of them are done and lead to a network, and the next one is refused.
 pub record StopsAt (k : ℕ) (old : Network) (events : List (Option Event)) (new : Network) (stopped : Stopped) : Type 0 where
+  -- how many steps were done
   pub done : ℕ
   pub steps : Steps old (take done events) new
   pub event : Option Event

@@ -23,9 +23,11 @@ dues_at net m = length (machine_at net.machines m).ports
 
 -- ---- the measure
 
+-- the puts and the takes of channel c that are left up to the last cycle
 abbrev pub wire_left : Network → ℕ → ℕ
 wire_left net c = (net.end - network.puts net c) + (net.end - network.takes net c)
 
+-- the cycles of machine m that are left, and the ports that it has still to serve in all of them
 abbrev pub machine_left : Network → ℕ → ℕ
 machine_left net m = (net.end - cycle_at net m) + (dues_at net m * net.end - network.serves net m)
 
@@ -39,12 +41,15 @@ AllStandAt cycle net = (m : ℕ) → m < length net.machines → cycle_at net m 
 
 -- ---- which events can't be done
 
+-- no token that machine m takes can be taken now
 abbrev pub NoLatch : Network → ℕ → Type 0
 NoLatch net m = (c : ℕ) → c < length net.wires → (wire_at net.wires c).consumer ≡ m → Ready net (Latch c) → ⊥
 
+-- no token that machine m gives can be given now
 abbrev pub NoFire : Network → ℕ → Type 0
 NoFire net m = (c : ℕ) → c < length net.wires → (wire_at net.wires c).producer ≡ m → Ready net (Fire c) → ⊥
 
+-- no port of machine m can be served now
 abbrev pub NoServe : Network → ℕ → Type 0
 NoServe net m = (p : ℕ) → Ready net (Serve m p) → ⊥
 
@@ -62,7 +67,7 @@ pub record IsAtWork (cycle m : ℕ) (net : Network) : Type 0 where
 
 -- ---- steps one after another
 
--- the machine of an event
+-- the machine that does an event: a channel's consumer takes its token, and its producer gives it
 abbrev pub machine_of : Network → Event → ℕ
 machine_of net (Latch c) = (wire_at net.wires c).consumer
 machine_of net (Fire c) = (wire_at net.wires c).producer

@@ -30,7 +30,9 @@ pub record IsMemoryPiece (piece : FlatCircuit) : Type 0 where
   pub formed : IsWellFormed piece
   pub one : length piece.memories ≡ 1
   pub alone : piece.registers ≡ []
+  -- the in-signals are the first signals
   pub first : (i : ℕ) → i < length piece.ins → value_at piece.ins i ≡ i
+  -- the fields that the ports read are in-signals
   pub readers : All (λ memory. All (LooksAmong (length piece.ins)) memory.readers) piece.memories
   pub writers : All (λ memory. All (WritesAmong (length piece.ins)) memory.writers) piece.memories
   pub few : All (λ memory. length memory.readers + length memory.writers < 2 ^ 32) piece.memories
@@ -45,7 +47,7 @@ port_of readers (ByWriter w writer) = record { number = readers + w; access = By
 abbrev pub ports_by : Latency → List Reader → List Writer → List Port
 ports_by latency readers writers = map (port_of (length readers)) (due_of latency readers writers)
 
--- the writer at a place
+-- the writer at a place; past the end one of signal 0
 abbrev pub writer_at : List Writer → ℕ → Writer
 writer_at writers w = slice_index_or writers w (record { addr = 0; en = 0; word = 0; mask = 0; clock = None })
 

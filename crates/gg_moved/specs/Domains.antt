@@ -15,6 +15,7 @@ abbrev pub apart_from : (is_home : ℕ → Bool) → ℕ → List Instance → L
 apart_from is_home k [] = []
 apart_from is_home k (instance ∷ instances) = (if is_home k then alone instance else instance) ∷ apart_from is_home (suc k) instances
 
+-- the tree of instances in which each home is looked at alone
 abbrev pub tree_apart : (is_home : ℕ → Bool) → InstanceTree → InstanceTree
 tree_apart is_home tree = record tree { instances = apart_from is_home 0 tree.instances }
 

@@ -26,6 +26,7 @@ pub record IsMoved (from to a b : List ℕ) : Type 0 where
 
 -- ---- the same with other numbers
 
+-- an operation of a node; only a reference names a signal, whose number `to` gives
 abbrev pub moved_op : (ℕ → ℕ) → Op → Op
 moved_op to (Ref s) = Ref (to s)
 moved_op to (Literal value) = Literal value
@@ -34,9 +35,11 @@ moved_op to (Two op i j) = Two op i j
 moved_op to (Fix op i n m) = Fix op i n m
 moved_op to (Mux c i j) = Mux c i j
 
+-- a node of a line, with its type
 abbrev pub moved_node : (ℕ → ℕ) → Node → Node
 moved_node to node = record { ty = node.ty; op = moved_op to node.op }
 
+-- a line
 abbrev pub moved_line : (ℕ → ℕ) → List Node → List Node
 moved_line to line = map (λ node. moved_node to node) line
 
@@ -48,14 +51,17 @@ moved_driver to registers memories (MemoryWord m r addr en) = MemoryWord (memori
 moved_driver to registers memories (ReadRegister m r) = ReadRegister (memories m) r
 moved_driver to registers memories (Computed line) = Computed (moved_line to line)
 
+-- a register's reset, if it has one
 abbrev pub moved_reset : (ℕ → ℕ) → Option kept.Reset → Option kept.Reset
 moved_reset to None = None
 moved_reset to (Some reset) = Some (record { condition = moved_line to reset.condition; init = moved_line to reset.init })
 
+-- what a register is connected to, if anything
 abbrev pub moved_next : (ℕ → ℕ) → Option (List Node) → Option (List Node)
 moved_next to None = None
 moved_next to (Some line) = Some (moved_line to line)
 
+-- a register, with the clock that it followed
 abbrev pub moved_register : (ℕ → ℕ) → Register → Register
 moved_register to register = record { ty = register.ty; reset = moved_reset to register.reset; next = moved_next to register.next; clock = register.clock }
 
@@ -63,12 +69,15 @@ moved_register to register = record { ty = register.ty; reset = moved_reset to r
 abbrev pub shifted : ℕ → ℕ → ℕ → ℕ
 shifted from to s = s - from + to
 
+-- a reader of a memory, with the clock that it followed
 abbrev pub moved_reader : (ℕ → ℕ) → Reader → Reader
 moved_reader to reader = record { addr = to reader.addr; en = to reader.en; word = to reader.word; clock = reader.clock }
 
+-- a writer of a memory, with the clock that it followed
 abbrev pub moved_writer : (ℕ → ℕ) → Writer → Writer
 moved_writer to writer = record { addr = to writer.addr; en = to writer.en; word = to writer.word; mask = to writer.mask; clock = writer.clock }
 
+-- a memory with all its ports, and the clocks that they followed
 abbrev pub moved_memory : (ℕ → ℕ) → Memory → Memory
 moved_memory to memory =
     record {
@@ -89,12 +98,15 @@ moved_stop instances to stop = record { instance = instances stop.instance; sign
 abbrev pub unclocked_register : Register → Register
 unclocked_register register = record register { clock = None }
 
+-- a reader without its clock
 abbrev pub unclocked_reader : Reader → Reader
 unclocked_reader reader = record reader { clock = None }
 
+-- a writer without its clock
 abbrev pub unclocked_writer : Writer → Writer
 unclocked_writer writer = record writer { clock = None }
 
+-- a memory whose ports have no clock
 abbrev pub unclocked_memory : Memory → Memory
 unclocked_memory memory =
     record memory {
@@ -104,5 +116,6 @@ unclocked_memory memory =
 
 -- ---- ports
 
+-- a port of an instance, with another number of its signal
 abbrev pub moved_port : (ℕ → ℕ) → InstancePort → InstancePort
 moved_port to port = record { signal = to port.signal; is_input = port.is_input }

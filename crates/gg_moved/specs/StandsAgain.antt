@@ -15,6 +15,7 @@ pub record IsRegisterAgain (whole : FlatCircuit) (signals : ℕ → ℕ) (r othe
   pub within : other < length whole.registers
   pub is : (any : Register) → slice_index_or whole.registers other any ≡ moved_register signals (slice_index_or whole.registers r any)
 
+-- the same of a memory
 pub record IsMemoryAgain (whole : FlatCircuit) (signals : ℕ → ℕ) (m other : ℕ) : Type 0 where
   pub within : other < length whole.memories
   pub is : (any : Memory) → slice_index_or whole.memories other any ≡ moved_memory signals (slice_index_or whole.memories m any)

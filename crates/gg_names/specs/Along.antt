@@ -6,9 +6,11 @@ abbrev pub along_from : {A B : Type 0} → (List A → A → List B) → List A 
 along_from at before [] = []
 along_from at before (x ∷ xs) = at before x ++ along_from at (before ++ x ∷ []) xs
 
+-- the same along a whole list
 abbrev pub along : {A B : Type 0} → (List A → A → List B) → List A → List B
 along at xs = along_from at [] xs
 
+-- the first element of a list, if it has one
 abbrev pub first : {B : Type 0} → List B → Option B
 first [] = None
 first (x ∷ _) = Some x

@@ -10,6 +10,7 @@ use Rattle.gg_names.specs.declared.role.PortKind.TheVariants.{Reader, Writer}
 use Rattle.gg_names.specs.declared.role.PortField.{PortField}
 use Rattle.gg_names.specs.declared.role.PortField.TheVariants.{Addr, En, Clk, Data, Mask}
 
+-- the names of readers that a field gives; only `reader` gives some
 abbrev pub readers_in : fields.MemoryField → List (List ℕ)
 readers_in (Readers names) = names
 readers_in (Writers names) = []
@@ -19,6 +20,7 @@ readers_in (ReadLatency n) = []
 readers_in (WriteLatency n) = []
 readers_in (ReadUnderWrite word) = []
 
+-- the names of writers that a field gives; only `writer` gives some
 abbrev pub writers_in : fields.MemoryField → List (List ℕ)
 writers_in (Readers names) = []
 writers_in (Writers names) = names
@@ -28,6 +30,7 @@ writers_in (ReadLatency n) = []
 writers_in (WriteLatency n) = []
 writers_in (ReadUnderWrite word) = []
 
+-- a name of a port with the kind of the port
 abbrev pub as_port : PortKind → List ℕ → List ℕ × PortKind
 as_port kind name = (name, kind)
 
@@ -37,11 +40,12 @@ memory_ports fs =
     map (as_port Reader) (flat_map (λ (f : Field). readers_in f.kind) fs)
     ++ map (as_port Writer) (flat_map (λ (f : Field). writers_in f.kind) fs)
 
--- the fields of a port, in this order
+-- the fields that a reader has, and those that a writer has, in this order
 abbrev pub port_fields : PortKind → List PortField
 port_fields Reader = Addr ∷ (En ∷ (Clk ∷ (Data ∷ [])))
 port_fields Writer = Addr ∷ (En ∷ (Clk ∷ (Data ∷ (Mask ∷ []))))
 
+-- how a field of a port is written
 abbrev pub field_name : PortField → List ℕ
 field_name Addr = codes "addr"
 field_name En = codes "en"

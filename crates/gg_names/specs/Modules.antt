@@ -22,6 +22,7 @@ held_by_kind modules kinds.Skip = []
 held_by_kind modules (kinds.Stop clock condition code label) = []
 held_by_kind modules (kinds.Report word arguments label) = []
 
+-- the same of a statement with its line
 abbrev pub held_by : List ModuleTree → Stmt → List ℕ
 held_by modules s = held_by_kind modules s.kind
 

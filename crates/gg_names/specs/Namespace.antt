@@ -27,10 +27,12 @@ abbrev pub module_named : List ℕ → List ModuleTree → Option ModuleTree
 module_named name [] = None
 module_named name (m ∷ ms) = if bytes_eq name m.name then Some m else module_named name ms
 
+-- the role of a port in its own module
 abbrev pub role_of_port : Direction → Role
 role_of_port Input = InputPort
 role_of_port Output = OutputPort
 
+-- the role that a port of this direction and type has as a port of an instance
 abbrev pub role_of_instance_port : Direction → GroundType → Role
 role_of_instance_port Input ty = InstanceInput ty
 role_of_instance_port Output ty = InstanceOutput ty
@@ -39,6 +41,7 @@ role_of_instance_port Output ty = InstanceOutput ty
 abbrev pub instance_port : List ℕ → Port → Reference × Role
 instance_port instance port = (PortOf instance port.name, role_of_instance_port port.direction port.ty)
 
+-- an instance's ports, in the order of its module; none if the module doesn't exist
 abbrev pub instance_ports : List ℕ → Option ModuleTree → List (Reference × Role)
 instance_ports instance None = []
 instance_ports instance (Some m) = map (instance_port instance) m.ports
@@ -47,9 +50,11 @@ instance_ports instance (Some m) = map (instance_port instance) m.ports
 abbrev pub port_field : List ℕ → List ℕ → PortKind → PortField → Reference × Role
 port_field memory port kind field = (FieldOf memory port (field_name field), MemoryPort kind field)
 
+-- the fields of one port of a memory, each with its role
 abbrev pub port_entries : List ℕ → List ℕ × PortKind → List (Reference × Role)
 port_entries memory p = map (port_field memory p.0 p.1) (port_fields p.1)
 
+-- the fields of all ports of a memory: those of the readers, then those of the writers
 abbrev pub memory_entries : List ℕ → List Field → List (Reference × Role)
 memory_entries memory fields = flat_map (port_entries memory) (memory_ports fields)
 
@@ -71,6 +76,7 @@ entries_by_kind modules kinds.Skip = []
 entries_by_kind modules (kinds.Stop clock condition code label) = []
 entries_by_kind modules (kinds.Report word arguments label) = []
 
+-- the same of a statement with its line
 abbrev pub entries_by : List ModuleTree → Stmt → List (Reference × Role)
 entries_by modules s = entries_by_kind modules s.kind
 
@@ -101,9 +107,11 @@ name_by_kind kinds.Skip = []
 name_by_kind (kinds.Stop clock condition code label) = []
 name_by_kind (kinds.Report word arguments label) = []
 
+-- the same of a statement with its line
 abbrev pub name_by : Stmt → List (List ℕ)
 name_by s = name_by_kind s.kind
 
+-- the names of these ports, in order
 abbrev pub port_names : List Port → List (List ℕ)
 port_names ports = map (λ (port : Port). port.name) ports
 
@@ -111,6 +119,7 @@ port_names ports = map (λ (port : Port). port.name) ports
 abbrev pub names_after : List Port → List Stmt → List (List ℕ)
 names_after ports statements = port_names ports ++ flat_map name_by statements
 
+-- all names that a module declares, in the order of the file
 abbrev pub names_in : ModuleTree → List (List ℕ)
 names_in m = names_after m.ports m.statements
 
@@ -186,9 +195,11 @@ connected_by_kind kinds.Skip = None
 connected_by_kind (kinds.Stop clock condition code label) = None
 connected_by_kind (kinds.Report word arguments label) = None
 
+-- the same of a statement with its line
 abbrev pub connected_by : Stmt → Option Reference
 connected_by s = connected_by_kind s.kind
 
+-- whether the second, if there is one, is the same reference as the first
 abbrev pub is_reference_to : Reference → Option Reference → Bool
 is_reference_to r None = false
 is_reference_to r (Some q) = same_reference r q

@@ -28,6 +28,7 @@ repeated_in before line name = repetition_if (list_any (bytes_eq name) before) l
 
 -- ---- the ports of a memory: readers and writers have one namespace
 
+-- the names of ports that a field gives, of readers or of writers
 abbrev pub ports_in_field : fields.MemoryField → List (List ℕ)
 ports_in_field (Readers names) = names
 ports_in_field (Writers names) = names
@@ -37,15 +38,18 @@ ports_in_field (ReadLatency n) = []
 ports_in_field (WriteLatency n) = []
 ports_in_field (ReadUnderWrite word) = []
 
+-- a name of a port on this line that an earlier field of the memory has, or that comes before it in its own field
 abbrev pub repeated_port_of : List (List ℕ) → ℕ → List (List ℕ) → List ℕ → List Repetition
 repeated_port_of earlier line before name = repeated_in (earlier ++ before) line name
 
+-- the names of one field that came before, in the fields before it or in the field itself
 abbrev pub repeated_in_field : List Field → Field → List Repetition
 repeated_in_field before f =
     along (repeated_port_of (flat_map (λ (g : Field). ports_in_field g.kind) before) f.line) (ports_in_field f.kind)
 
 -- ---- what a module declares
 
+-- a port with the name of an earlier port
 abbrev pub repeated_port : List Port → Port → List Repetition
 repeated_port before port = repeated_in (names_after before []) port.line port.name
 
@@ -62,14 +66,17 @@ repeated_by_kind names line kinds.Skip = []
 repeated_by_kind names line (kinds.Stop clock condition code label) = []
 repeated_by_kind names line (kinds.Report word arguments label) = []
 
+-- what comes twice at a statement, after the module's ports and the statements before it
 abbrev pub repeated_by : List Port → List Stmt → Stmt → List Repetition
 repeated_by ports before s = repeated_by_kind (names_after ports before) s.line s.kind
 
+-- all that comes twice in one module: at its ports, then at its statements
 abbrev pub repeated_declarations : ModuleTree → List Repetition
 repeated_declarations m = along repeated_port m.ports ++ along (repeated_by m.ports) m.statements
 
 -- ---- modules
 
+-- a module with the name of an earlier one, then what comes twice in it
 abbrev pub repeated_module : List ModuleTree → ModuleTree → List Repetition
 repeated_module before m = repeated_in (names_of before) m.line m.name ++ repeated_declarations m
 

@@ -1,4 +1,5 @@
 -- What the tables of a namespace say of the modules.
+-- Source: FIRRTL Specification, "Namespaces"; the tables are this program's own.
 use Rattle.std.specs.Prelude.{◌≡◌, ℕ, ◌<◌, ◌^◌, ◌||◌, List, [], ◌∷◌, Option, Some, None, map, flat_map, length, take, slice_index_or, if◌then◌else◌}
 use Rattle.std.specs.List.{list_any}
 use Rattle.std.specs.Str.{bytes_eq}
@@ -31,9 +32,11 @@ HaveSame names others = (q : List ℕ) → list_any (bytes_eq q) names ≡ list_
 abbrev pub IsEither : List (List ℕ) → List (List ℕ) → List (List ℕ) → Type 0
 IsEither names words others = (q : List ℕ) → list_any (bytes_eq q) names ≡ list_any (bytes_eq q) words || list_any (bytes_eq q) others
 
+-- all readers of a memory with these fields
 abbrev pub readers_of : List Field → List (List ℕ)
 readers_of fields = flat_map (λ (f : Field). readers_in f.kind) fields
 
+-- all writers of a memory with these fields
 abbrev pub writers_of : List Field → List (List ℕ)
 writers_of fields = flat_map (λ (f : Field). writers_in f.kind) fields
 
@@ -49,9 +52,11 @@ abbrev pub value_of : {A : Type 0} → List ℕ → List (List ℕ × A) → Opt
 value_of name [] = None
 value_of name (e ∷ es) = if bytes_eq name e.0 then Some e.1 else value_of name es
 
+-- the names of a table's entries, in order
 abbrev pub names_told : List (List ℕ × Declared) → List (List ℕ)
 names_told table = map (λ e. e.0) table
 
+-- the role of a declared name itself
 abbrev pub own_role : Declared → Role
 own_role (Plain role) = role
 own_role (Instance k) = roles.Instance
@@ -67,6 +72,7 @@ abbrev pub field_role : PortKind → Option PortField → Option Role
 field_role kind None = None
 field_role kind (Some field) = Some (roles.MemoryPort kind field)
 
+-- the first, if there is one, otherwise the second
 abbrev pub or_else : Option Role → Option Role → Option Role
 or_else None b = b
 or_else (Some a) b = Some a
@@ -88,6 +94,7 @@ through modules (Memory readers writers) (FieldOf memory port field) = role_of_f
 through modules (Plain role) (FieldOf memory port field) = None
 through modules (Instance k) (FieldOf memory port field) = None
 
+-- the same where the first name may not be declared; then the reference names nothing
 abbrev pub through_found : List ModuleTree → Option Declared → Reference → Option Role
 through_found modules None r = None
 through_found modules (Some declared) r = through modules declared r
@@ -103,6 +110,7 @@ IsPlaced modules (Instance None) = Unit {0}
 IsPlaced modules (Plain role) = Unit {0}
 IsPlaced modules (Memory readers writers) = Unit {0}
 
+-- the same of each entry of a table
 abbrev pub ArePlaced : List ModuleTree → List (List ℕ × Declared) → Type 0
 ArePlaced modules [] = Unit {0}
 ArePlaced modules (e ∷ es) = IsPlaced modules e.1 × ArePlaced modules es
@@ -114,6 +122,7 @@ pub record TellsScope (modules : List ModuleTree) (ports : List Port) (statement
   pub placed : ArePlaced modules table
   pub tells : (n : ℕ) (r : Reference) → entry_of r (scope_after modules ports (take n statements)) ≡ found modules (take (length (names_after ports (take n statements))) table) r
 
+-- the table is that of a whole module
 abbrev pub TellsModule : List ModuleTree → ModuleTree → List (List ℕ × Declared) → Type 0
 TellsModule modules m table = TellsScope modules m.ports m.statements table
 

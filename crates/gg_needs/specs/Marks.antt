@@ -8,7 +8,7 @@ use Rattle.gg_order.specs.Marks.{Marks}
 abbrev pub marks_of : ℕ → List ℕ → List Bool
 marks_of place marks = map (λ set. bit_at set place == 1) marks
 
--- which signals have a mark
+-- for each signal, whether any of its marks is set
 abbrev pub any_marks : List ℕ → List Bool
 any_marks marks = map (λ set. nat_lt 0 set) marks
 

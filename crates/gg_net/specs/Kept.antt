@@ -20,11 +20,11 @@ use Rattle.gg_net.specs.Network.{wire_at, IsAtIn, IsAtOut, Network, queue_at, ta
 
 -- ---- lists and rows
 
--- the list of values of a channel
+-- the list of values of the channel with a number; an empty one past the end
 abbrev pub list_at : List (List ℕ) → ℕ → List ℕ
 list_at lists c = slice_index_or lists c []
 
--- the rows of a machine
+-- the rows of the machine with a number; none past the end
 abbrev pub rows_at : List (List (List ℕ)) → ℕ → List (List ℕ)
 rows_at runs m = slice_index_or runs m []
 
@@ -32,7 +32,7 @@ rows_at runs m = slice_index_or runs m []
 abbrev pub ins_of : FlatCircuit → List ℕ → List ℕ
 ins_of piece row = map (value_at row) piece.ins
 
--- the columns of the in-signals
+-- the columns that a piece's in-signals have in these rows, in port order
 abbrev pub in_columns : FlatCircuit → List (List ℕ) → List (List ℕ)
 in_columns piece rows = map (column rows) piece.ins
 
@@ -64,6 +64,7 @@ ServesRows piece start rows end (port ∷ ports) = (t : ℕ) → start.cycle ≤
 pub record RunsRows (piece : FlatCircuit) (kind : Kind) (start : Start) (rows : List (List ℕ)) (end : ℕ) : Type 0 where
   pub formed : IsWellFormed piece
   pub once : SettlesOnce piece
+  -- the ins that an out needs tell its value, whatever the others are
   pub suffice : (o : ℕ) → o < length piece.outs → DependsOn piece (value_at piece.outs o) (needs_at kind.needs o)
   pub ins : kind.ins ≡ length piece.ins
   pub outs : kind.outs ≡ length piece.outs
@@ -108,15 +109,19 @@ pub record Solves (flow : Flow) (frame : Frame) : Type 0 where
 pub record IsWired (frame : Frame) : Type 0 where
   pub some : (c : ℕ) → c < length frame.wires → 0 < (wire_at frame.wires c).capacity
   pub producer : (c : ℕ) → c < length frame.wires → (wire_at frame.wires c).producer < length frame.kinds
+  -- the out of its producer, and below the in of its consumer
   pub out : (c : ℕ) → c < length frame.wires → (wire_at frame.wires c).out < (kind_at frame.kinds (wire_at frame.wires c).producer).outs
   pub consumer : (c : ℕ) → c < length frame.wires → (wire_at frame.wires c).consumer < length frame.kinds
   pub place : (c : ℕ) → c < length frame.wires → (wire_at frame.wires c).place < (kind_at frame.kinds (wire_at frame.wires c).consumer).ins
+  -- each in has a channel, and each out
   pub into : (m i : ℕ) → m < length frame.kinds → i < (kind_at frame.kinds m).ins → (c : ℕ) × IsAtIn frame.wires m i c
   pub from : (m o : ℕ) → m < length frame.kinds → o < (kind_at frame.kinds m).outs → (c : ℕ) × IsAtOut frame.wires m o c
+  -- two channels don't lead to one in
   pub one_in : (c d : ℕ) → c < length frame.wires → d < length frame.wires → (wire_at frame.wires c).consumer ≡ (wire_at frame.wires d).consumer → (wire_at frame.wires c).place ≡ (wire_at frame.wires d).place → c ≡ d
   pub needs : (m o i : ℕ) → m < length frame.kinds → Contains (needs_at (kind_at frame.kinds m).needs o) i → i < (kind_at frame.kinds m).ins
   pub fields : (m : ℕ) → m < length frame.kinds → All (λ port. All (λ i. i < (kind_at frame.kinds m).ins) (fields_of port.access)) (kind_at frame.kinds m).ports
   pub numbers : (m : ℕ) → m < length frame.kinds → All (λ port. port.number < (kind_at frame.kinds m).port_count) (kind_at frame.kinds m).ports
+  -- two channels don't come from one out
   pub one_out : (c d : ℕ) → c < length frame.wires → d < length frame.wires → (wire_at frame.wires c).producer ≡ (wire_at frame.wires d).producer → (wire_at frame.wires c).out ≡ (wire_at frame.wires d).out → c ≡ d
 
 -- Channel c needs channel d in the same cycle: d is at an in that c's out needs.
@@ -198,5 +203,7 @@ pub record MachineAt (flow : Flow) (frame : Frame) (m : ℕ) (machine : Machine)
 pub record Kept (flow : Flow) (net : Network) : Type 0 where
   pub queues : length net.queues ≡ length net.wires
   pub sound : IsSound flow (frame_of net)
+  -- each machine is where its rows of the flow say in its cycle
   pub machines : (m : ℕ) → m < length net.machines → MachineAt flow (frame_of net) m (machine_at net.machines m)
+  -- a queue has the tokens of its channel's list from those that were taken to those that have entered, and no more than its capacity
   pub channels : (c : ℕ) → c < length net.wires → BetweenAt (list_at flow.lists c) (wire_at net.wires c).capacity (takes net c) (entered net c) (queue_at net.queues c)

@@ -24,7 +24,7 @@ abbrev pub net_of : List (List Machine) → List Station → List Wire → List 
 net_of hosts stations wires queues end =
     record { machines = machines_by hosts stations; wires = wires; queues = map (λ queue. queue.tokens) queues; end = end }
 
--- the queue of a channel
+-- the queue of the channel with a number; past the end an empty one without room
 abbrev pub held_at : List Held → ℕ → Held
 held_at queues c = slice_index_or queues c (record { tokens = []; room = 0 })
 
@@ -61,8 +61,10 @@ pub record IsWithinLimits (frame : Frame) : Type 0 where
 
 -- What holds of the parts of a network at all times.
 pub record IsNet (flow : Flow) (hosts : List (List Machine)) (stations : List Station) (wires : List Wire) (queues : List Held) (end : ℕ) : Type 0 where
+  -- each machine is at a thread of a host, and each thread has one
   pub seated : AreSeated hosts stations
   pub listed : AreListed (frame_of (net_of hosts stations wires queues end)) stations
+  -- each queue has memory for as many tokens as its channel may hold
   pub room : HasRoom wires queues
   pub limits : IsWithinLimits (frame_of (net_of hosts stations wires queues end))
   pub kept : Kept flow (net_of hosts stations wires queues end)

@@ -9,7 +9,7 @@ use Rattle.gg_node.specs.Machine.{Behaviour, KeepsLast, Port, Machine, machine_a
 
 -- ---- channels
 
--- the channel with a number
+-- the channel with a number; past the end one that can't hold a token
 abbrev pub wire_at : List Wire → ℕ → Wire
 wire_at wires c = slice_index_or wires c (record { producer = 0; out = 0; consumer = 0; place = 0; capacity = 0; first = None })
 
@@ -34,7 +34,7 @@ pub record Network : Type 0 where
   pub queues : List (List ℕ)
   pub end : ℕ
 
--- the queue of a channel
+-- the queue of the channel with a number; an empty one past the end
 abbrev pub queue_at : List (List ℕ) → ℕ → List ℕ
 queue_at queues c = slice_index_or queues c []
 
@@ -106,7 +106,7 @@ pub record Kind : Type 0 where
   pub ins : ℕ
   pub outs : ℕ
 
--- the kind of a machine
+-- what doesn't change of a machine
 abbrev pub kind_of : Machine → Kind
 kind_of machine =
     record {
@@ -124,7 +124,7 @@ kind_of machine =
 abbrev pub no_kind : Kind
 no_kind = record { behaviour = KeepsLast 0; limit = 0; ratios = []; needs = []; port_count = 0; ports = []; ins = 0; outs = 0 }
 
--- the kind at a place
+-- the kind at a place; past the end one of a machine without ins and outs
 abbrev pub kind_at : List Kind → ℕ → Kind
 kind_at kinds m = slice_index_or kinds m no_kind
 
@@ -134,6 +134,6 @@ pub record Frame : Type 0 where
   pub wires : List Wire
   pub end : ℕ
 
--- the frame of a network
+-- what doesn't change of a network
 abbrev pub frame_of : Network → Frame
 frame_of net = record { kinds = map kind_of net.machines; wires = net.wires; end = net.end }

@@ -7,7 +7,7 @@ use Rattle.gg_node.specs.Token.{IsNextState}
 use Rattle.gg_node.specs.Step.{finished}
 use Rattle.gg_net.specs.declared.shape.Station.{Station}
 
--- the machines of a host
+-- the machines of the host with a number, by thread; none past the end
 abbrev pub hosted : List (List Machine) → ℕ → List Machine
 hosted hosts h = slice_index_or hosts h []
 
@@ -15,7 +15,7 @@ hosted hosts h = slice_index_or hosts h []
 abbrev pub seated : List (List Machine) → Station → Machine
 seated hosts station = machine_at (hosted hosts station.host) station.thread
 
--- the machines at these stations
+-- the machines at these stations, in this order
 abbrev pub machines_by : List (List Machine) → List Station → List Machine
 machines_by hosts stations = map (seated hosts) stations
 

@@ -195,7 +195,7 @@ abbrev pub due_or_count : ℕ → Option ℕ → ℕ
 due_or_count count None = count
 due_or_count count (Some p) = p
 
--- `Latch` is refused
+-- why `Latch` of channel c is refused; each cause but the first is asked only where those before it don't hold
 abbrev pub LatchRefused : Network → ℕ → Refusal → Type 0
 LatchRefused net c Stranger = length net.wires ≤ c
 LatchRefused net c Ended = (c < length net.wires) × ¬ IsBelow net (wire_at net.wires c).consumer
@@ -203,7 +203,7 @@ LatchRefused net c Latched = CanTake net c × IsSome (latch_of net c)
 LatchRefused net c (NoToken d) = CanTake net c × (latch_of net c ≡ None) × (queue_at net.queues c ≡ []) × (d ≡ c)
 LatchRefused net c refusal = ⊥
 
--- `Fire` is refused
+-- why `Fire` of channel c is refused, in the same way
 abbrev pub FireRefused : Network → ℕ → Refusal → Type 0
 FireRefused net c Stranger = length net.wires ≤ c
 FireRefused net c Ended = (c < length net.wires) × ¬ IsBelow net (wire_at net.wires c).producer
@@ -212,7 +212,7 @@ FireRefused net c (NeedsInput d) = CanGive net c × (flag_of net c ≡ false) ×
 FireRefused net c (Full d n) = CanGive net c × (flag_of net c ≡ false) × (missing_of net c ≡ None) × ((wire_at net.wires c).capacity ≤ n) × (n ≡ length (queue_at net.queues c)) × (d ≡ c)
 FireRefused net c refusal = ⊥
 
--- `Serve` is refused
+-- why `Serve` of port p of machine m is refused, in the same way
 abbrev pub ServeRefused : Network → ℕ → ℕ → Refusal → Type 0
 ServeRefused net m p Stranger = ¬ HasPort net m p
 ServeRefused net m p Ended = HasPort net m p × ¬ IsBelow net m
@@ -221,7 +221,7 @@ ServeRefused net m p (Order q) = HasPort net m p × IsBelow net m × AllFired (m
 ServeRefused net m p (NeedsInput d) = HasPort net m p × IsBelow net m × AllFired (machine_at net.machines m) × (due (machine_at net.machines m) ≡ Some p) × IsWanted net m (missing_field net m) d
 ServeRefused net m p refusal = ⊥
 
--- `Finish` is refused
+-- why `Finish` of machine m is refused, in the same way
 abbrev pub FinishRefused : Network → ℕ → Refusal → Type 0
 FinishRefused net m Stranger = length net.machines ≤ m
 FinishRefused net m Ended = (m < length net.machines) × ¬ IsBelow net m

@@ -51,7 +51,7 @@ no_state = record { registers = []; banks = [] }
 abbrev pub no_machine : Machine
 no_machine = record { behaviour = KeepsLast 0; limit = 0; ratios = []; needs = []; port_count = 0; ports = []; cycle = 0; state = no_state; served = 0; latches = []; flags = []; kept = [] }
 
--- the machine at a place
+-- the machine at a place; past the end one that does nothing
 abbrev pub machine_at : List Machine → ℕ → Machine
 machine_at machines t = slice_index_or machines t no_machine
 
@@ -76,7 +76,7 @@ abbrev pub latched_value : Option ℕ → ℕ
 latched_value None = 0
 latched_value (Some value) = value
 
--- the tokens in the latches
+-- the tokens in the latches, in order; 0 for an empty latch
 abbrev pub latched_values : List (Option ℕ) → List ℕ
 latched_values latches = map latched_value latches
 
@@ -94,7 +94,7 @@ first_empty latches (i ∷ ins) = empty_or (latch_at latches i) i (first_empty l
 abbrev pub missing : Machine → ℕ → Option ℕ
 missing machine o = first_empty machine.latches (needs_at machine.needs o)
 
--- the number of a port
+-- the number of a port, if there is one
 abbrev pub port_number : Option Port → Option ℕ
 port_number None = None
 port_number (Some port) = Some port.number

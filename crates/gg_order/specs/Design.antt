@@ -1,4 +1,5 @@
 -- A flat circuit with the tree of its instances and an order of evaluation.
+-- Source: FIRRTL Specification, "Combinational Loops" (a circuit without one has an order), "Instances" (the tree).
 use Rattle.std.specs.Prelude.{ℕ, List}
 use Rattle.gg_flat.specs.Circuit.{FlatCircuit}
 use Rattle.gg_flat.specs.WellFormed.{IsWellFormed}

@@ -9,6 +9,7 @@ use Rattle.gg_flat.specs.declared.line.Op.TheVariants.{Ref, Literal, One, Two, F
 use Rattle.gg_flat.specs.declared.piece.Driver.{Driver}
 use Rattle.gg_flat.specs.declared.piece.Driver.TheVariants.{Input, Held, MemoryWord, ReadRegister, Computed}
 
+-- the signal that a node refers to, if it is a reference; any other operation has operands that are nodes of the same line
 abbrev pub op_names : Op → List ℕ
 op_names (Ref s) = s ∷ []
 op_names (Literal value) = []

@@ -1,5 +1,6 @@
 -- The signals that a driver names, place by place. A line has a place for each node. A read of latency 0 has one for
 -- its address and one for its enable.
+-- Source: this program's own way to go through them.
 use Rattle.std.proofs.Common.{inl, inr}
 use Rattle.std.proofs.Math.Nat.{not-suc-le-zero}
 use Rattle.std.specs.Prelude.{◌≡◌, ◌⊎◌, ℕ, ◌<◌, take}
@@ -29,5 +30,6 @@ none_named_first (MemoryWord memory reader addr en) s (inr h) = not-suc-le-zero 
 none_named_first (ReadRegister memory reader) s h = h
 none_named_first (Computed line) s h = not-suc-le-zero h.1
 
+-- no signal is read below the first place
 pub none_below_first : (circuit : FlatCircuit) (a b : ℕ) → ReadsBelow circuit a 0 b → ⊥
 none_below_first circuit a b h = none_named_first (driver_at circuit a) b h

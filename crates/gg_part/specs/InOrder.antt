@@ -1,4 +1,5 @@
 -- Signals listed in an order of evaluation.
+-- Source: Knuth, The Art of Computer Programming, volume 1, section 2.2.3, "Topological sorting".
 use Rattle.std.specs.Prelude.{◌≡◌, ℕ, ◌<◌, List, length, AllPairs}
 use Rattle.gg_flat.specs.Line.{value_at}
 use Rattle.gg_flat.specs.Circuit.{FlatCircuit}

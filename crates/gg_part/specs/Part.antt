@@ -24,6 +24,7 @@ use Rattle.gg_flat.specs.WellFormed.{IsClock, IsClockedMemory}
 -- ---- the part's things in the numbers of the whole; `globals` has the number in the whole of each signal of the
 -- part, and `clocks` the clock of the whole that each clock of the part follows, if any
 
+-- an operation of a node; only a reference names a signal
 abbrev pub renamed_op : List ℕ → Op → Op
 renamed_op globals (Ref s) = Ref (value_at globals s)
 renamed_op globals (Literal value) = Literal value
@@ -32,32 +33,40 @@ renamed_op globals (Two op i j) = Two op i j
 renamed_op globals (Fix op i n m) = Fix op i n m
 renamed_op globals (Mux c i j) = Mux c i j
 
+-- a node of a line, with its type
 abbrev pub renamed_node : List ℕ → Node → Node
 renamed_node globals node = record { ty = node.ty; op = renamed_op globals node.op }
 
+-- a line
 abbrev pub renamed_line : List ℕ → List Node → List Node
 renamed_line globals line = map (λ node. renamed_node globals node) line
 
+-- what a register is connected to, if anything
 abbrev pub renamed_next : List ℕ → Option (List Node) → Option (List Node)
 renamed_next globals None = None
 renamed_next globals (Some line) = Some (renamed_line globals line)
 
+-- a register's reset, if it has one
 abbrev pub renamed_reset : List ℕ → Option Reset → Option Reset
 renamed_reset globals None = None
 renamed_reset globals (Some reset) = Some (record { condition = renamed_line globals reset.condition; init = renamed_line globals reset.init })
 
+-- a register, with the clock of the whole that it follows
 abbrev pub renamed_register : List ℕ → List (Option ℕ) → Register → Register
 renamed_register globals clocks register =
     record { ty = register.ty; reset = renamed_reset globals register.reset; next = renamed_next globals register.next; clock = clock_at clocks register.clock }
 
+-- a reader of a memory, with the clock of the whole that it follows
 abbrev pub renamed_reader : List ℕ → List (Option ℕ) → Reader → Reader
 renamed_reader globals clocks reader =
     record { addr = value_at globals reader.addr; en = value_at globals reader.en; word = value_at globals reader.word; clock = clock_at clocks reader.clock }
 
+-- a writer of a memory, with the clock of the whole that it follows
 abbrev pub renamed_writer : List ℕ → List (Option ℕ) → Writer → Writer
 renamed_writer globals clocks writer =
     record { addr = value_at globals writer.addr; en = value_at globals writer.en; word = value_at globals writer.word; mask = value_at globals writer.mask; clock = clock_at clocks writer.clock }
 
+-- a memory with all its ports
 abbrev pub renamed_memory : List ℕ → List (Option ℕ) → Memory → Memory
 renamed_memory globals clocks memory =
     record {

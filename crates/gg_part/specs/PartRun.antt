@@ -12,7 +12,7 @@ use Rattle.gg_flat.specs.Run.{Start, column}
 abbrev pub part_row : List ℕ → List ℕ → List ℕ
 part_row globals row = map (value_at row) globals
 
--- the part's rows
+-- the part's rows: of each row of the whole, the values of the part's signals
 abbrev pub part_rows : List ℕ → List (List ℕ) → List (List ℕ)
 part_rows globals rows = map (λ row. part_row globals row) rows
 

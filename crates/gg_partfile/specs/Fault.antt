@@ -1,4 +1,5 @@
 -- What is wrong with a partition file: the key that is reported.
+-- Source: this program's own form; docs/FORMATS.md describes it.
 use Rattle.std.specs.Prelude.{◌≡◌, ℕ, List, ◌++◌, if◌then◌else◌, Option, Some, None, is_some, codes, ◌⊎◌}
 use Rattle.std.specs.Str.{IsUtf8}
 use Rattle.serde_json.specs.Data.{Data}
@@ -13,11 +14,12 @@ abbrev pub IfKey : (List ℕ → Type 0) → PartFault → Type 0
 IfKey P (WrongKey key) = P key
 IfKey P NoMemory = Unit {0}
 
--- the fault in words
+-- a fault: its code P1, and the key that is reported
 abbrev pub fault_text : PartFault → List ℕ
 fault_text (WrongKey key) = codes "P1 " ++ key
 fault_text NoMemory = codes "out of memory"
 
+-- the first key, if there is one, otherwise the later one
 abbrev pub or_else : Option (List ℕ) → Option (List ℕ) → Option (List ℕ)
 or_else None later = later
 or_else (Some key) later = Some key

@@ -1,4 +1,5 @@
 -- The keys of a partition file. Each is optional. A key that isn't listed here is unknown.
+-- Source: this program's own form; docs/FORMATS.md describes it.
 use Rattle.std.specs.Prelude.{ℕ, List, [], ◌∷◌, Bool, true, if◌then◌else◌, Option, Some, None, is_some, map, codes}
 use Rattle.serde_json.specs.Data.{Data}
 use Rattle.serde_json.specs.Find.{get, as_bool}
@@ -22,9 +23,11 @@ keys =
     ∷ record { name = codes "bridges"; fits = λ d. is_some (bridges d) }
     ∷ []
 
+-- the names of all keys, in the same order
 abbrev pub key_names : List (List ℕ)
 key_names = map (λ (key : Key). key.name) keys
 
+-- whether a name is that of a key
 abbrev pub is_known : List ℕ → Bool
 is_known name = is_one_of key_names name
 
@@ -51,5 +54,6 @@ abbrev pub or_default : {A : Type 0} → A → (Data → Option A) → Option Da
 or_default default f None = Some default
 or_default default f (Some d) = f d
 
+-- what f reads of the value under this key; `default` if the key is absent
 abbrev pub under : {A : Type 0} → A → (Data → Option A) → List ℕ → Data → Option A
 under default f name d = or_default default f (held name d)

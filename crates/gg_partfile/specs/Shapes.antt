@@ -14,6 +14,7 @@ abbrev pub each : {A : Type 0} → (Data → Option A) → Items → Option (Lis
 each f no_items = Some []
 each f (item d ds) = option_and_then (λ a. option_map (λ rest. a ∷ rest) (each f ds)) (f d)
 
+-- what f reads of each item of a list; nothing of a value that isn't a list
 abbrev pub list : {A : Type 0} → (Data → Option A) → Data → Option (List A)
 list f d = option_and_then (each f) (as_array d)
 
@@ -27,10 +28,11 @@ groups d = list texts d
 
 -- ---- numbers
 
--- a whole number
+-- a whole number from 0 to 2^64 - 1
 abbrev pub whole : Data → Option ℕ
 whole d = option_and_then as_u64 (as_number d)
 
+-- exactly two whole numbers
 abbrev pub two : Items → Option (ℕ × ℕ)
 two no_items = None
 two (item d no_items) = None
@@ -48,6 +50,7 @@ abbrev pub each_member : {A : Type 0} → (Data → Option A) → Members → Op
 each_member f no_members = Some []
 each_member f (member k d ms) = option_and_then (λ a. option_map (λ rest. (k, a) ∷ rest) (each_member f ms)) (f d)
 
+-- what f reads of each member of an object, with the member's key; nothing of a value that isn't an object
 abbrev pub named : {A : Type 0} → (Data → Option A) → Data → Option (List (List ℕ × A))
 named f d = option_and_then (each_member f) (as_object d)
 
@@ -55,7 +58,7 @@ named f d = option_and_then (each_member f) (as_object d)
 abbrev pub numbers : Data → Option (List (List ℕ × ℕ))
 numbers d = named whole d
 
--- an object of ratios
+-- an object of ratios, each under its name
 abbrev pub ratios : Data → Option (List (List ℕ × (ℕ × ℕ)))
 ratios d = named ratio d
 
@@ -68,6 +71,7 @@ abbrev pub other_member : List (List ℕ) → Members → Option (List ℕ)
 other_member names no_members = None
 other_member names (member k d ms) = if is_one_of names k then other_member names ms else Some k
 
+-- the least key of an object that isn't one of these names; none for a value that isn't an object
 abbrev pub other_key : List (List ℕ) → Data → Option (List ℕ)
 other_key names d = option_and_then (other_member names) (as_object d)
 
@@ -77,6 +81,7 @@ other_key names d = option_and_then (other_member names) (as_object d)
 abbrev pub required : {A : Type 0} → (Data → Option A) → List ℕ → Data → Option A
 required f key d = option_and_then f (get key d)
 
+-- the keys of an entry of `bridges`, all of which have to be there
 abbrev pub bridge_keys : List (List ℕ)
 bridge_keys = codes "name" ∷ codes "sees" ∷ codes "drives" ∷ []
 
@@ -86,6 +91,6 @@ bridge d =
     if is_some (other_key bridge_keys d) then None
     else option_and_then (λ name. option_and_then (λ sees. option_map (λ drives. record { name = name; sees = sees; drives = drives }) (required texts (codes "drives") d)) (required texts (codes "sees") d)) (required as_str (codes "name") d)
 
--- a list of bridges
+-- a list of entries of bridges
 abbrev pub bridges : Data → Option (List BridgeEntry)
 bridges d = list bridge d

@@ -13,6 +13,7 @@ shared share = flat_map (λ group. group) share
 abbrev pub all_seen : List BridgeEntry → List (List ℕ)
 all_seen bridges = flat_map (λ entry. entry.sees) bridges
 
+-- the ports that all entries of `bridges` drive, in order
 abbrev pub all_driven : List BridgeEntry → List (List ℕ)
 all_driven bridges = flat_map (λ entry. entry.drives) bridges
 

@@ -24,6 +24,7 @@ plan_start design request = clocked_start (plan_reference design request) (ratio
 
 -- ---- the token of a pipe
 
+-- what the register of the pipe at place k has, which stands behind the registers of the circuit; 0 if there is no pipe
 abbrev pub token_or : Hub → State → Option ℕ → ℕ
 token_or hub state None = 0
 token_or hub state (Some k) = value_at state.registers (length hub.circuit.registers + k)

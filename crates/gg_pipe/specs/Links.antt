@@ -18,6 +18,7 @@ is_carried hub s = list_any (λ r. r.signal == s) (routes hub)
 abbrev pub pipes_of : Hub → List ℕ
 pipes_of hub = filter (λ s. hub.piped s && is_carried hub s) (range_with_len 0 (length hub.circuit.signals))
 
+-- the number of the pipe at place k, which stands behind `count` signals; s itself if there is no pipe
 abbrev pub pipe_or : ℕ → ℕ → Option ℕ → ℕ
 pipe_or count s None = s
 pipe_or count s (Some k) = count + k
@@ -30,6 +31,7 @@ taken_as hub s = pipe_or (length hub.circuit.signals) s (first_place (λ p. p ==
 abbrev pub seen_by : Hub → ℕ → ℕ → ℕ
 seen_by hub m t = if list_any (λ r. (r.consumer == m) && (r.signal == t)) (routes hub) then taken_as hub t else t
 
+-- the producer of a channel, if there is one
 abbrev pub maker_or : ℕ → Option Wire → ℕ
 maker_or other None = other
 maker_or other (Some w) = w.producer

@@ -22,6 +22,7 @@ abbrev pub by_number : {A B : Type 0} → (ℕ → A → B) → ℕ → List A �
 by_number f n [] = []
 by_number f n (x ∷ xs) = f n x ∷ by_number f (suc n) xs
 
+-- a signal whose driver names the others as the machine sees them in which it stands
 abbrev pub seen_signal : Views → ℕ → Signal → Signal
 seen_signal views s signal = record { ty = signal.ty; driver = driver_by (views.seen (views.maker s)) signal.driver }
 
@@ -33,14 +34,17 @@ pipe_signal r signal = record { ty = signal.ty; driver = Held r }
 abbrev pub pipe_register : ℕ → Signal → Register
 pipe_register c signal = record { ty = signal.ty; reset = None; next = Some (record { ty = signal.ty; op = Ref c } ∷ []); clock = None }
 
+-- the pipes of the channels of these signals, in order; the first of them holds register r, the next the one behind it
 abbrev pub pipe_signals : List Signal → ℕ → List ℕ → List Signal
 pipe_signals signals r [] = []
 pipe_signals signals r (c ∷ cs) = option_to_list (option_map (pipe_signal r) (slice_get signals c)) ++ pipe_signals signals (suc r) cs
 
+-- the registers of these pipes, in the same order
 abbrev pub pipe_registers : List Signal → List ℕ → List Register
 pipe_registers signals [] = []
 pipe_registers signals (c ∷ cs) = option_to_list (option_map (pipe_register c) (slice_get signals c)) ++ pipe_registers signals cs
 
+-- the reference circuit of `one`, where the channels of the signals in `pipes` are piped
 abbrev pub reference_of : FlatCircuit → Views → List ℕ → FlatCircuit
 reference_of one views pipes =
     record {
@@ -73,6 +77,7 @@ IsFresh circuit = (s : ℕ) (path : List ℕ) → s < length circuit.signals →
 
 -- ---- holders and keepers
 
+-- a driver holds register r
 abbrev pub holds : ℕ → Driver → Bool
 holds r (Input place) = false
 holds r (Held register) = register == r
@@ -84,7 +89,7 @@ holds r (Computed line) = false
 abbrev pub holder_of : Hub → ℕ → ℕ
 holder_of hub r = unwrap_or (option_map (maker_of hub) (first_place (λ s. holds r (driver_at hub.circuit s)) (range_with_len 0 (length hub.circuit.signals)))) 0
 
--- the machine of a memory of the circuit
+-- the machine of a memory of the circuit, by the place that the memory has in the tree
 abbrev pub keeper_of : InstanceTree → Listed → ℕ → ℕ
 keeper_of tree listed m = memory_owner tree listed (unwrap_or (first_place (λ memory. memory.memory == m) tree.memories) 0)
 
@@ -93,7 +98,7 @@ keeper_of tree listed m = memory_owner tree listed (unwrap_or (first_place (λ m
 abbrev pub views_in : FlatCircuit → InstanceTree → Listed → (piped driven : ℕ → Bool) → Bool → Views
 views_in circuit tree listed piped driven direct = let hub = hub_of circuit tree listed piped driven direct in views_of hub (holder_of hub) (keeper_of tree listed)
 
--- the reference circuit of the cut
+-- the reference circuit of the cut, whose views are those of its hub
 abbrev pub reference_circuit : FlatCircuit → InstanceTree → Listed → (piped driven : ℕ → Bool) → Bool → FlatCircuit
 reference_circuit circuit tree listed piped driven direct = reference (hub_of circuit tree listed piped driven direct) (holder_of (hub_of circuit tree listed piped driven direct)) (keeper_of tree listed)
 

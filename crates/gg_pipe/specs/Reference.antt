@@ -19,6 +19,7 @@ use Rattle.gg_flat.specs.Tree.{path_at}
 
 -- ---- other names for signals
 
+-- an operation of a node; only a reference names a signal, which has another number by `to`
 abbrev pub op_by : (ℕ → ℕ) → Op → Op
 op_by to (Ref s) = Ref (to s)
 op_by to (Literal value) = Literal value
@@ -27,26 +28,33 @@ op_by to (Two op i j) = Two op i j
 op_by to (Fix op i n m) = Fix op i n m
 op_by to (Mux c i j) = Mux c i j
 
+-- a line, whose nodes keep their types
 abbrev pub line_by : (ℕ → ℕ) → List Node → List Node
 line_by to line = map (λ node. let named : Node = record { ty = node.ty; op = op_by to node.op } in named) line
 
+-- what a register is connected to, if anything
 abbrev pub next_by : (ℕ → ℕ) → Option (List Node) → Option (List Node)
 next_by to None = None
 next_by to (Some line) = Some (line_by to line)
 
+-- a register's reset, if it has one
 abbrev pub reset_by : (ℕ → ℕ) → Option Reset → Option Reset
 reset_by to None = None
 reset_by to (Some reset) = Some (record { condition = line_by to reset.condition; init = line_by to reset.init })
 
+-- a register, with the same clock
 abbrev pub register_by : (ℕ → ℕ) → Register → Register
 register_by to register = record { ty = register.ty; reset = reset_by to register.reset; next = next_by to register.next; clock = register.clock }
 
+-- a reader of a memory, with the same clock
 abbrev pub reader_by : (ℕ → ℕ) → Reader → Reader
 reader_by to reader = record { addr = to reader.addr; en = to reader.en; word = to reader.word; clock = reader.clock }
 
+-- a writer of a memory, with the same clock
 abbrev pub writer_by : (ℕ → ℕ) → Writer → Writer
 writer_by to writer = record { addr = to writer.addr; en = to writer.en; word = to writer.word; mask = to writer.mask; clock = writer.clock }
 
+-- a memory with all its ports
 abbrev pub memory_by : (ℕ → ℕ) → Memory → Memory
 memory_by to memory =
     record {
@@ -57,6 +65,7 @@ memory_by to memory =
       writers = map (λ writer. writer_by to writer) memory.writers;
     }
 
+-- a driver; the place of an input and the numbers of registers, memories and readers stay
 abbrev pub driver_by : (ℕ → ℕ) → Driver → Driver
 driver_by to (Input place) = Input place
 driver_by to (Held register) = Held register
@@ -81,6 +90,7 @@ pub record IsPipeRegister (register : Register) (sink : Shape) (c : ℕ) : Type 
   pub reset : register.reset ≡ None
   pub node : Node
   pub next : register.next ≡ Some (node ∷ [])
+  -- it follows no clock, so it takes a value in each tick
   pub clock : register.clock ≡ None
   pub op : node.op ≡ Ref c
   pub wide : shape node.ty ≡ sink
@@ -90,17 +100,24 @@ pub record IsPipeRegister (register : Register) (sink : Shape) (c : ℕ) : Type 
 pub record IsReference (one all : FlatCircuit) (views : Views) (pipes : List ℕ) : Type 0 where
   pub signals : length all.signals ≡ length one.signals + length pipes
   pub shapes : (s : ℕ) → s < length one.signals → shape_at (signal_shapes all) s ≡ shape_at (signal_shapes one) s
+  -- a driver names the other signals as the machine sees them in which it stands
   pub drivers : (s : ℕ) → s < length one.signals → driver_at all s ≡ driver_by (views.seen (views.maker s)) (driver_at one s)
   pub registers : length all.registers ≡ length one.registers + length pipes
+  -- so does a register, by the machine that holds it
   pub register : (r : ℕ) (any other : Register) → r < length one.registers → slice_index_or all.registers r other ≡ register_by (views.seen (views.holder r)) (slice_index_or one.registers r any)
   pub memories : length all.memories ≡ length one.memories
+  -- and a memory, by the machine that has it
   pub memory : (m : ℕ) (any other : Memory) → m < length one.memories → slice_index_or all.memories m other ≡ memory_by (views.seen (views.keeper m)) (slice_index_or one.memories m any)
   pub paths : all.paths ≡ one.paths ++ map (λ c. codes "pipe:" ++ path_at one.paths c) pipes
   pub ins : all.ins ≡ one.ins
+  -- each out-signal as its tray sees it
   pub outs : all.outs ≡ map views.kept one.outs
   pub clocks : all.clocks ≡ one.clocks
+  -- a pipe has the type of its channel's signal
   pub pipe_shape : (k : ℕ) → k < length pipes → shape_at (signal_shapes all) (length one.signals + k) ≡ shape_at (signal_shapes one) (value_at pipes k)
+  -- its value is that of a register of its own, behind those of `one`
   pub pipe_driver : (k : ℕ) → k < length pipes → driver_at all (length one.signals + k) ≡ Held (length one.registers + k)
+  -- this register takes the value of the channel's signal in each tick
   pub pipe_register : (k : ℕ) (any : Register) → k < length pipes → IsPipeRegister (slice_index_or all.registers (length one.registers + k) any) (shape_at (signal_shapes one) (value_at pipes k)) (value_at pipes k)
 
 -- signal t is seen as pipe k

@@ -25,6 +25,7 @@ kept_in tables s = if value_at tables.pipes s == 0 then s else value_at tables.p
 abbrev pub seen_in : Tables → ℕ → ℕ → ℕ
 seen_in tables m s = if value_at tables.takers s == m then kept_in tables s else s
 
+-- who names what, as the tables have it
 abbrev pub views_by : Tables → Views
 views_by tables =
     record {
@@ -61,6 +62,7 @@ pub record AreHolding (one : FlatCircuit) (makers : List ℕ) (k : ℕ) (before 
 abbrev pub piped_places : List Channel → List ℕ
 piped_places channels = map (λ channel. channel.signal) (filter (λ channel. channel.pipe) channels)
 
+-- those machines, in the same order
 abbrev pub piped_takers : List Channel → List ℕ
 piped_takers channels = map (λ channel. channel.consumer) (filter (λ channel. channel.pipe) channels)
 
@@ -88,6 +90,8 @@ pub record CanFill (one : FlatCircuit) (channels : List Channel) (pipes : List �
   pub wires : All (λ w. w.signal < length owned.signals) owned.wires
   pub wires_once : AllPairs (λ v w. v.signal ≢ w.signal) owned.wires
 
+-- The tables of a circuit's channels: by signal its pipe, the machine that takes it there and the machine that gives it, by register the
+-- machine that holds it, and by memory the machine that has it. A signal without a pipe has 0 in place of one.
 pub record AreTables (one : FlatCircuit) (channels : List Channel) (signals : List ℕ) (owned : Owned) (tables : Tables) : Type 0 where
   pub pipes : IsFilled signals (range_with_len (length one.signals) (length signals)) (length signals) (replicate (length one.signals) 0) tables.pipes
   pub takers : IsFilled (piped_places channels) (piped_takers channels) (length (piped_places channels)) (replicate (length one.signals) 0) tables.takers

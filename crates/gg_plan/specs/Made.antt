@@ -86,6 +86,7 @@ pub record IsServed (wires : List Wire) (part : Part) (taken given : List ℕ) :
   pub ins : map (value_at part.globals) part.piece.ins ≡ signals_of wires taken
   pub outs : map (value_at part.globals) part.piece.outs ≡ givens_of wires given
 
+-- The same of what a machine does: a part of the circuit is served; a source, a tray and a bridge have no needs to compute.
 abbrev pub IsServedBody : List Wire → Body → List ℕ → List ℕ → Type 0
 IsServedBody wires (Cut part) taken given = IsServed wires part taken given
 IsServedBody wires (Memory part) taken given = IsServed wires part taken given

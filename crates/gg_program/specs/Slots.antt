@@ -16,7 +16,7 @@ pub record Slotted : Type 0 where
 abbrev pub IsDone : Slotted → ℕ → Type 0
 IsDone slots s = slice_index_or slots.done s false ≡ true
 
--- no signal is done
+-- the value of no signal is there
 abbrev pub NoneDone : Slotted → Type 0
 NoneDone slots = (s : ℕ) → ¬ IsDone slots s
 

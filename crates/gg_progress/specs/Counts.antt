@@ -26,7 +26,7 @@ dues layout m = length (turns_at layout m)
 abbrev pub early : Layout → ℕ → ℕ
 early layout c = marks.and_one 0 (link_at layout c).piped
 
--- the counts of a marking
+-- how often each step was done to come to a marking
 abbrev pub counts_of : Layout → Marking → Counts
 counts_of layout marking =
     record {
@@ -67,10 +67,14 @@ pub record Flows (counts : Counts) (first capacity c : ℕ) : Type 0 where
 
 -- These counts can come up together: the first clause is on one channel, each other on one machine.
 pub record IsAllowed (layout : Layout) (counts : Counts) : Type 0 where
+  -- no more was taken than has entered, and no more is held than the capacity
   pub flows : (c : ℕ) → c < length layout.links → Flows counts (early layout c) (link_at layout c).capacity c
+  -- of the producer's cycle the token wasn't given yet, or it was and could be
   pub puts : (c : ℕ) → c < length layout.links → (counts.puts c ≡ counts.cycles (link_at layout c).producer) ⊎ WasGiven layout counts c
+  -- of the consumer's cycle the token wasn't taken yet, or it was
   pub takes : (c : ℕ) → c < length layout.links → (counts.takes c ≡ counts.cycles (link_at layout c).consumer) ⊎ (counts.takes c ≡ suc (counts.cycles (link_at layout c).consumer))
   pub serves : (m : ℕ) → m < length layout.turns → (j : ℕ) × HasServed layout counts m j
+  -- nothing goes past the last cycle
   pub cycle_end : (m : ℕ) → m < length layout.turns → counts.cycles m ≤ layout.end
   pub put_end : (c : ℕ) → c < length layout.links → counts.puts c ≤ layout.end
   pub take_end : (c : ℕ) → c < length layout.links → counts.takes c ≤ layout.end
@@ -107,18 +111,21 @@ fires (Fire d) c = one_at d c
 fires (Serve k p) c = 0
 fires (Finish k) c = 0
 
+-- how often an event takes a token from channel c: once or not at all
 abbrev pub latches : Event → ℕ → ℕ
 latches (Latch d) c = one_at d c
 latches (Fire d) c = 0
 latches (Serve k p) c = 0
 latches (Finish k) c = 0
 
+-- how often it finishes a cycle of machine m
 abbrev pub finishes : Event → ℕ → ℕ
 finishes (Latch d) m = 0
 finishes (Fire d) m = 0
 finishes (Serve k p) m = 0
 finishes (Finish k) m = one_at k m
 
+-- how often it serves a port of machine m
 abbrev pub accesses : Event → ℕ → ℕ
 accesses (Latch d) m = 0
 accesses (Fire d) m = 0
@@ -141,12 +148,16 @@ pub record Raises (layout : Layout) (old : Counts) (event : Event) (new : Counts
 
 -- ---- when an event may be done, by counts
 
+-- A token of channel c may be taken: the channel exists, its consumer has cycles left and hasn't taken the token of this cycle, and the
+-- queue holds one.
 pub record FreeLatch (layout : Layout) (counts : Counts) (c : ℕ) : Type 0 where
   pub known : c < length layout.links
   pub below : counts.cycles (link_at layout c).consumer < layout.end
   pub clear : counts.takes c ≡ counts.cycles (link_at layout c).consumer
   pub held : counts.takes c < counts.puts c + early layout c
 
+-- A token of channel c may be given: the channel exists, its producer has cycles left, hasn't given the token of this cycle and has taken
+-- those that the channel needs, and the queue has room.
 pub record FreeFire (layout : Layout) (counts : Counts) (c : ℕ) : Type 0 where
   pub known : c < length layout.links
   pub below : counts.cycles (link_at layout c).producer < layout.end
@@ -154,10 +165,13 @@ pub record FreeFire (layout : Layout) (counts : Counts) (c : ℕ) : Type 0 where
   pub needed : All (WasTaken counts (counts.cycles (link_at layout c).producer)) (link_at layout c).needs
   pub room : counts.puts c + early layout c < counts.takes c + (link_at layout c).capacity
 
+-- Port p of machine m may be served: the machine exists, has cycles left and has given all tokens of this cycle, the port is due, and the
+-- tokens of its fields were taken.
 pub record FreeServe (layout : Layout) (counts : Counts) (m p : ℕ) : Type 0 where
   pub known : m < length layout.turns
   pub below : counts.cycles m < layout.end
   pub given : HasGiven layout counts m (counts.cycles m)
+  -- how many ports were served in this cycle
   pub served : ℕ
   pub count : counts.serves m ≡ dues layout m * counts.cycles m + served
   pub turn : Turn
@@ -165,6 +179,8 @@ pub record FreeServe (layout : Layout) (counts : Counts) (m p : ℕ) : Type 0 wh
   pub number : turn.number ≡ p
   pub fields : All (WasTaken counts (counts.cycles m)) turn.fields
 
+-- Machine m may finish its cycle: it exists, has cycles left, has given all its tokens of this cycle, served all ports that are due in it,
+-- and taken all its tokens.
 pub record FreeFinish (layout : Layout) (counts : Counts) (m : ℕ) : Type 0 where
   pub known : m < length layout.turns
   pub below : counts.cycles m < layout.end
@@ -187,9 +203,12 @@ pub record CanRun (layout : Layout) : Type 0 where
   pub producer : (c : ℕ) → c < length layout.links → (link_at layout c).producer < length layout.turns
   pub consumer : (c : ℕ) → c < length layout.links → (link_at layout c).consumer < length layout.turns
   pub room : (c : ℕ) → c < length layout.links → 1 ≤ (link_at layout c).capacity
+  -- the machine that gives a channel takes those that it needs
   pub needs : (c : ℕ) → c < length layout.links → All (λ d. (d < length layout.links) × ((link_at layout d).consumer ≡ (link_at layout c).producer)) (link_at layout c).needs
+  -- a machine takes the channels of its ports' fields
   pub fields : (m : ℕ) → m < length layout.turns → All (λ turn. All (λ d. (d < length layout.links) × ((link_at layout d).consumer ≡ m)) turn.fields) (turns_at layout m)
   pub numbers : (m : ℕ) → m < length layout.turns → All (λ turn. turn.number < marks.port_count layout m) (turns_at layout m)
+  -- each channel has a rank, and needs only channels of lower ranks, so there is no ring
   pub ranks : ℕ → ℕ
   pub lower : (c : ℕ) → c < length layout.links → All (λ d. ranks d < ranks c) (link_at layout c).needs
 
@@ -200,7 +219,7 @@ pub record IsMarkingOf (layout : Layout) (marking : Marking) : Type 0 where
   pub taken : length marking.taken ≡ length layout.links
   pub given : length marking.given ≡ length layout.links
 
--- the marking of these counts
+-- the marking that these counts lead to
 abbrev pub marking_by : Layout → Counts → Marking
 marking_by layout counts =
     record {

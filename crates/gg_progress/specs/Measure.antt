@@ -17,7 +17,7 @@ left_in layout counts c = (layout.end - counts.puts c) + (layout.end - counts.ta
 abbrev pub left_at : Layout → Counts → ℕ → ℕ
 left_at layout counts m = (layout.end - counts.cycles m) + (dues layout m * layout.end - counts.serves m)
 
--- the measure
+-- the measure: how many steps are left, of all channels and all machines
 abbrev pub left : Layout → Counts → ℕ
 left layout counts = sum_below (left_in layout counts) (length layout.links) + sum_below (left_at layout counts) (length layout.turns)
 

@@ -1,4 +1,5 @@
 -- The fault that a reader returns for a fault line.
+-- Source: this program's own.
 use Rattle.std.specs.Prelude.{◌≡◌, ℕ, List, None, Some}
 use Rattle.gg_lex.specs.declared.token.Tok.{Tok}
 use Rattle.gg_read.specs.declared.text.ReadFault.{ReadFault}

@@ -75,6 +75,7 @@ after_module AfterVersion = None
 after_module AwaitsReset = None
 after_module InFields = Some InPorts
 
+-- a version line may only stand at the beginning
 abbrev pub after_version : LinePlace → Option LinePlace
 after_version AtStart = Some AfterVersion
 after_version AfterVersion = None
@@ -84,6 +85,7 @@ after_version InStatements = None
 after_version AwaitsReset = None
 after_version InFields = None
 
+-- the circuit's line may stand at the beginning, or follow the version line
 abbrev pub after_circuit : LinePlace → Option LinePlace
 after_circuit AtStart = Some AfterCircuit
 after_circuit AfterVersion = Some AfterCircuit
@@ -93,6 +95,7 @@ after_circuit InStatements = None
 after_circuit AwaitsReset = None
 after_circuit InFields = None
 
+-- a port may follow a module's line or another port
 abbrev pub after_port : LinePlace → Option LinePlace
 after_port InPorts = Some InPorts
 after_port AtStart = None
@@ -102,6 +105,7 @@ after_port InStatements = None
 after_port AwaitsReset = None
 after_port InFields = None
 
+-- the second line of a register may only follow its first, and the next line stands as after a statement
 abbrev pub after_reset : LinePlace → Option LinePlace
 after_reset AwaitsReset = Some InStatements
 after_reset AtStart = None
@@ -121,6 +125,7 @@ after_memory AfterVersion = None
 after_memory AfterCircuit = None
 after_memory AwaitsReset = None
 
+-- a field may only follow a memory's line or another field
 abbrev pub after_field : LinePlace → Option LinePlace
 after_field InFields = Some InFields
 after_field AtStart = None
@@ -167,6 +172,7 @@ opened [] = 0
 opened (Symbol mark.OpenParen ∷ ts) = 1 + opened ts
 opened (t ∷ ts) = opened ts
 
+-- how many of the tokens close a bracket
 abbrev pub closed : List Tok → ℕ
 closed [] = 0
 closed (Symbol mark.CloseParen ∷ ts) = 1 + closed ts
@@ -194,6 +200,7 @@ AreRows place n (line ∷ more) rows last =
     (IsBlank line × AreRows place (n + 1) more rows last)
     ⊎ ((row : Row) × (next : LinePlace) × (others : List Numbered) × IsForm place line row next × (rows ≡ numbered n row ∷ others) × AreRows next (n + 1) more others last)
 
+-- whether a row is a version line
 abbrev pub is_version : Row → Bool
 is_version (VersionRow a b c) = true
 is_version other = false
@@ -207,9 +214,12 @@ without_version (r ∷ rows) = if is_version r.row then rows else r ∷ rows
 -- version line above them. If a line is too deep, the text has a fault line too, and no circuit is read.
 pub record Spells (text : List ℕ) (circuit : CircuitTree) : Type 0 where
   pub utf8 : IsUtf8 text
+  -- what each line has
   pub held : List LineTokens
   pub tokens : AreLineTokens (lines text) held
+  -- the position after the last line
   pub last : LinePlace
+  -- the rows of the lines that aren't blank
   pub rows : List Numbered
   pub read : AreRows AtStart 1 held rows last
   pub whole : IsEndPlace last
@@ -231,8 +241,10 @@ AreShallow (line ∷ more) = (IsTooDeep line.tokens → ⊥) × AreShallow more
 -- the fault line of a text: the first line that is at fault at its position; otherwise, if the text is incomplete, the
 -- line after the last, which is blank
 pub record IsFaultLine (text : List ℕ) (n : ℕ) (line : LineTokens) : Type 0 where
+  -- what the lines before it have
   pub before : List LineTokens
   pub tokens : AreLineTokens (take (length before) (lines text)) before
+  -- the rows that these lines are, and the position after them
   pub rows : List Numbered
   pub place : LinePlace
   pub read : AreRows AtStart 1 before rows place

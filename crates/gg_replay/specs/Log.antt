@@ -12,7 +12,7 @@ use Rattle.gg_marking.specs.Steps.{IsStep}
 abbrev pub opening_log : List Wire → List (List ℕ)
 opening_log wires = map (λ wire. opening_queue wire.first) wires
 
--- the tokens of a channel
+-- the tokens of the channel with a number; none past the end
 abbrev pub tokens_at : List (List ℕ) → ℕ → List ℕ
 tokens_at log c = slice_index_or log c []
 

@@ -14,6 +14,7 @@ use Rattle.gg_ring.specs.Views.{spent}
 abbrev pub low_word : ℕ → ℕ → ℕ
 low_word places k = 2 + 2 * (k % places)
 
+-- the word of the upper half; that of the lower half is the one before it
 abbrev pub high_word : ℕ → ℕ → ℕ
 high_word places k = 3 + 2 * (k % places)
 
@@ -21,6 +22,7 @@ high_word places k = 3 + 2 * (k % places)
 abbrev pub low : ℕ → ℕ
 low value = value % 18446744073709551616
 
+-- the upper 64 bits
 abbrev pub high : ℕ → ℕ
 high value = value / 18446744073709551616
 
@@ -28,6 +30,7 @@ high value = value / 18446744073709551616
 abbrev pub StandsLow : List ℕ → ℕ → List ℕ → ℕ → Type 0
 StandsLow words places stream k = slice_index words (low_word places k) ≡ low (slice_index stream k)
 
+-- the upper half of value k stands in its word
 abbrev pub StandsHigh : List ℕ → ℕ → List ℕ → ℕ → Type 0
 StandsHigh words places stream k = slice_index words (high_word places k) ≡ high (slice_index stream k)
 
@@ -38,7 +41,9 @@ pub record Laid (words : List ℕ) (places : ℕ) (stream : List ℕ) (head tail
   pub head_is : slice_index words 0 ≡ head
   pub tail_is : slice_index words 1 ≡ tail
   pub order : head ≤ tail
+  -- no more values are in the ring than it has places
   pub room : tail ≤ head + places
+  -- no more values were put than the stream has
   pub inside : tail ≤ length stream
   pub lows : (k : ℕ) → head ≤ k → k < tail → StandsLow words places stream k
   pub highs : (k : ℕ) → head ≤ k → k < tail → StandsHigh words places stream k
@@ -50,7 +55,9 @@ pub record FitsPut (words : List ℕ) (places : ℕ) (stream : List ℕ) (head t
   pub stream_is : v.stream ≡ stream
   pub capacity_is : v.capacity ≡ places
   pub count : v.put ≡ tail
+  -- it knows of no more takes than there were
   pub seen : v.known_takes ≤ head
+  -- the half that is stored first is the lower one
   pub first : 0 < v.stored → StandsLow words places stream tail
   pub second : 1 < v.stored → StandsHigh words places stream tail
 
@@ -59,6 +66,7 @@ pub record FitsTake (places : ℕ) (stream : List ℕ) (head tail : ℕ) (v : Vi
   pub stream_is : v.stream ≡ stream
   pub capacity_is : v.capacity ≡ places
   pub count : v.taken ≡ head
+  -- it knows of no more puts than there were
   pub seen : v.known_puts ≤ tail
   pub first : 0 < v.loaded → v.low ≡ low (slice_index stream head)
   pub second : 1 < v.loaded → v.high ≡ high (slice_index stream head)
@@ -76,9 +84,11 @@ There may views id = (v : View) × (get_elem? views id ≡ some v) × (may v ≡
 
 -- Just one seat puts and just one takes; while no two threads share the ring, one seat does both.
 pub record Holds (places : ℕ) (s : State (Unit {0}) View) : Type 0 where
+  -- the seat that puts, and the one that takes
   pub putter : ℕ
   pub taker : ℕ
   pub stream : List ℕ
+  -- how many values were taken, and how many were put
   pub head : ℕ
   pub tail : ℕ
   pub laid : Laid s.words places stream head tail

@@ -5,15 +5,19 @@ use Rattle.gg_ring.specs.declared.ring.PutSeat.{PutSeat}
 use Rattle.gg_ring.specs.declared.ring.TakeSeat.{TakeSeat}
 use Rattle.gg_ring.specs.declared.ring.Ring.{Ring}
 
+-- what is seen of a seat that puts: the stream and the capacity of its ring, and its counts
 abbrev pub put_state : PutSeat → SeatState
 put_state s = seat_state s.seat.me.0.stream s.seat.me.0.capacity s.puts s.seen s.seat.me.0.looks
 
+-- the same of a seat that takes
 abbrev pub take_state : TakeSeat → SeatState
 take_state s = seat_state s.seat.me.0.stream s.seat.me.0.capacity s.takes s.seen s.seat.me.0.looks
 
+-- the seat that puts is one of this ring
 abbrev pub IsPutSeatOf : Ring → PutSeat → Type 0
 IsPutSeatOf ring s = (s.seat.table_id ≡ ring.table.shared.table_id) × (s.seat.me.0.capacity ≡ ring.capacity)
 
+-- the seat that takes is one of this ring
 abbrev pub IsTakeSeatOf : Ring → TakeSeat → Type 0
 IsTakeSeatOf ring s = (s.seat.table_id ≡ ring.table.shared.table_id) × (s.seat.me.0.capacity ≡ ring.capacity)
 
@@ -21,6 +25,7 @@ IsTakeSeatOf ring s = (s.seat.table_id ≡ ring.table.shared.table_id) × (s.sea
 abbrev pub put_moves : PutSeat → ℕ
 put_moves s = s.seat.me.0.moves
 
+-- the same of a seat that takes
 abbrev pub take_moves : TakeSeat → ℕ
 take_moves s = s.seat.me.0.moves
 

@@ -27,25 +27,32 @@ spent = record { puts = false; takes = false; stream = []; capacity = 0; put = 0
 
 -- ---- steps of a seat that puts
 
+-- it looked, and saw that n values were taken
 abbrev pub saw_head : View → ℕ → View
 saw_head v n = record v { known_takes = n; looks = v.looks + 1; moves = v.moves + 1 }
 
+-- it has stored one half of the next value, or both
 abbrev pub stored_to : View → ℕ → View
 stored_to v halves = record v { stored = halves; moves = v.moves + 1 }
 
+-- it has counted the next value as put, and has stored nothing of the one after it
 abbrev pub has_put : View → View
 has_put v = record v { put = v.put + 1; stored = 0; moves = v.moves + 1 }
 
 -- ---- steps of a seat that takes
 
+-- it looked, and saw that n values were put
 abbrev pub saw_tail : View → ℕ → View
 saw_tail v n = record v { known_puts = n; looks = v.looks + 1; moves = v.moves + 1 }
 
+-- it has loaded the lower half of the next value, which is n
 abbrev pub loaded_low : View → ℕ → View
 loaded_low v n = record v { loaded = 1; low = n; moves = v.moves + 1 }
 
+-- it has loaded the upper half too, which is n
 abbrev pub loaded_high : View → ℕ → View
 loaded_high v n = record v { loaded = 2; high = n; moves = v.moves + 1 }
 
+-- it has counted the next value as taken, and has loaded nothing of the one after it
 abbrev pub has_taken : View → View
 has_taken v = record v { taken = v.taken + 1; loaded = 0; moves = v.moves + 1 }

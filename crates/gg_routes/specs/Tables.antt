@@ -16,6 +16,7 @@ use Rattle.gg_routes.specs.declared.sides.Side.TheVariants.{Other, Own, Out, In}
 
 -- ---- what a signal is to the hub
 
+-- what a signal is to the hub by a table; past the table's end it is nothing to the hub
 abbrev pub side_at : List Side → ℕ → Side
 side_at sides s = slice_index_or sides s Other
 
@@ -47,6 +48,7 @@ IsSide wires globals s Own = (list_any (λ t. s == t) globals ≡ true) × (list
 IsSide wires globals s Out = IsFromHub wires s
 IsSide wires globals s (In producer) = IsCarried wires s producer 0
 
+-- the table says of each signal what it is to the hub
 abbrev pub AreSides : List Wire → List ℕ → List Side → Type 0
 AreSides wires globals sides = (s : ℕ) → IsSide wires globals s (side_at sides s)
 
@@ -103,10 +105,12 @@ pub record IsSeen (hub : Hub) (circuit : FlatCircuit) (sides : List Side) (marks
   pub is : hub.circuit ≡ circuit
   pub taken : (s : ℕ) → is_taken hub s ≡ is_in (side_at sides s)
   pub own : (s : ℕ) → s < length circuit.signals → is_own hub s ≡ is_inner (side_at sides s)
+  -- the marks are on the signals whose channels are piped, and on those that a bridge drives
   pub barred : (s : ℕ) → (hub.piped s || hub.driven s) ≡ is_marked marks s
 
 -- ---- direct channels
 
+-- in-channel x, if x is one and its producer is no listed memory
 abbrev pub given_by : Listed → ℕ → Side → Option ℕ
 given_by listed x Other = None
 given_by listed x Own = None
@@ -151,6 +155,7 @@ pub record AreGone (circuit : FlatCircuit) (sides : List Side) (made memories : 
 
 -- ---- routed channels
 
+-- the channel as it is given by in-channel x: from the producer of x to the channel's own consumer; unchanged if x is no in-channel
 abbrev pub from_by : Wire → ℕ → Side → Wire
 from_by w x Other = w
 from_by w x Own = w

@@ -42,6 +42,7 @@ are_digits radix (d ∷ ds) = list_all (is_digit_of radix) (d ∷ ds)
 abbrev pub is_natural : List ℕ → Bool
 is_natural digits = are_digits Decimal digits && nat_lt (digits_value 10 digits) (2 ^ 32)
 
+-- the digits are those of a natural number, and n is this number
 pub record IsNatural (digits : List ℕ) (n : ℕ) : Type 0 where
   pub decimal : IsTrue (is_natural digits)
   pub value : digits_value 10 digits ≡ n
@@ -73,6 +74,7 @@ number_token Octal digits = Text (111 ∷ digits)
 number_token Decimal digits = Number digits
 number_token Hexadecimal digits = Text (104 ∷ digits)
 
+-- the byte of the letter that stands for a radix: `b`, `o`, `d` or `h`
 abbrev pub letter_of : Radix → ℕ
 letter_of Binary = 98
 letter_of Octal = 111
@@ -106,7 +108,7 @@ SpellsParameters Shr n m ts rest = (digits : List ℕ) × IsNatural digits n × 
 SpellsParameters Head n m ts rest = (digits : List ℕ) × IsNatural digits n × (m ≡ 0) × (ts ≡ Symbol Comma ∷ (Number digits ∷ (Symbol CloseParen ∷ rest)))
 SpellsParameters Tail n m ts rest = (digits : List ℕ) × IsNatural digits n × (m ≡ 0) × (ts ≡ Symbol Comma ∷ (Number digits ∷ (Symbol CloseParen ∷ rest)))
 
--- an expression
+-- an expression: a reference, a literal, or the word of an operation with its operands and parameters in brackets
 abbrev pub SpellsExpr : Term → List Tok → List Tok → Type 0
 SpellsExpr (NamedTerm r) ts rest = SpellsReference r ts rest
 SpellsExpr (ConstantTerm l) ts rest = SpellsLiteral l ts rest

@@ -1,4 +1,5 @@
 -- The row of a line that was read.
+-- Source: FIRRTL Specification, "Grammar".
 use Rattle.std.specs.Prelude.{◌≡◌, List, Option, None, Some, Result, Ok, Err, MatchOption}
 use Rattle.gg_lex.specs.declared.token.Tok.{Tok}
 use Rattle.gg_ast.specs.declared.statement.StmtKind.{StmtKind}
@@ -40,7 +41,7 @@ row_of (line.Reset condition init) = Some (ResetRow condition init)
 row_of (line.Memory name) = Some (MemoryRow name)
 row_of (line.Field f) = Some (FieldRow f)
 
--- the names in a line are names
+-- the names in a line are words that a name may be
 abbrev pub AreNamesOfLine : LineRow → Type 0
 AreNamesOfLine (line.Version a b c) = Unit {0}
 AreNamesOfLine (line.Circuit name) = IsName name

@@ -19,20 +19,24 @@ use Rattle.gg_row.specs.declared.words.FieldWord.TheVariants as field
 use Rattle.gg_row.specs.declared.words.Keyword.{Keyword}
 use Rattle.gg_row.specs.declared.words.Keyword.TheVariants as keyword
 
+-- how a kind is written in a type or a literal
 abbrev pub kind_text : Kind → List ℕ
 kind_text kind.UInt = codes "UInt"
 kind_text kind.SInt = codes "SInt"
 
+-- the first word of a port's line
 abbrev pub direction_text : Direction → List ℕ
 direction_text direction.Input = codes "input"
 direction_text direction.Output = codes "output"
 
+-- the first word of a statement that reports something
 abbrev pub report_text : Report → List ℕ
 report_text report.Printf = codes "printf"
 report_text report.Assert = codes "assert"
 report_text report.Assume = codes "assume"
 report_text report.Cover = codes "cover"
 
+-- the word after `read-under-write =>`
 abbrev pub read_under_write_text : ReadUnderWrite → List ℕ
 read_under_write_text under_write.Old = codes "old"
 read_under_write_text under_write.New = codes "new"
@@ -66,6 +70,7 @@ head_words =
     (codes "FIRRTL", keyword.Version) ∷ ((codes "circuit", keyword.Circuit) ∷ ((codes "module", keyword.Module) ∷ ((codes "input", keyword.Port direction.Input)
     ∷ ((codes "output", keyword.Port direction.Output) ∷ ((codes "wire", keyword.Wire) ∷ ((codes "node", keyword.Node) ∷ ((codes "reg", keyword.Register) ∷ [])))))))
 
+-- the others of these words
 abbrev pub tail_words : List (List ℕ × Keyword)
 tail_words =
     (codes "reset", keyword.Reset) ∷ ((codes "inst", keyword.Instance) ∷ ((codes "mem", keyword.Memory) ∷ ((codes "skip", keyword.Skip) ∷ ((codes "stop", keyword.Stop)
@@ -83,6 +88,7 @@ abbrev pub second_words : List (List ℕ × Keyword)
 second_words =
     (codes "public", keyword.Public) ∷ ((codes "connect", keyword.Connect) ∷ ((codes "invalidate", keyword.Invalidate) ∷ ((codes "regreset", keyword.Regreset) ∷ [])))
 
+-- the keyword that the first word of a line names, in either spelling; none for any other word
 abbrev pub keyword_of : List ℕ → Option Keyword
 keyword_of word =
     option_or (option_or (option_or (find_word word head_words) (find_word word tail_words)) (find_word word field_words)) (find_word word second_words)

@@ -25,9 +25,11 @@ spent = record { puts = false; takes = false; stream = []; capacity = 0; put = 0
 
 -- ---- steps
 
+-- one more value was put
 abbrev pub has_put : View → View
 has_put v = record v { put = v.put + 1 }
 
+-- one more value was taken
 abbrev pub has_taken : View → View
 has_taken v = record v { taken = v.taken + 1 }
 
@@ -50,11 +52,15 @@ pub record FitsTake (stream : List ℕ) (room head tail : ℕ) (v : View) : Type
 abbrev pub Fits : List ℕ → ℕ → ℕ → ℕ → ℕ → ℕ → ℕ → View → Type 0
 Fits stream room head tail p t id v = (v.puts ≡ true → (id ≡ p) × FitsPut stream room tail v) × (v.takes ≡ true → (id ≡ t) × FitsTake stream room head tail v)
 
+-- What is true of a queue at every moment, by its items and the views of its passes: the items are the values of the stream that were put
+-- and not taken, in order, and no more than it has room for; and each view agrees with them.
 pub record Keeps (items : List ℕ) (views : List View) : Type 0 where
+  -- the seat that puts, and the one that takes
   pub putter : ℕ
   pub taker : ℕ
   pub stream : List ℕ
   pub room : ℕ
+  -- the values that were taken, and those that weren't put yet
   pub done : List ℕ
   pub rest : List ℕ
   pub stream_is : stream ≡ done ++ (items ++ rest)

@@ -29,6 +29,7 @@ out_columns circuit rows = map (column rows) circuit.outs
 abbrev pub shown_columns : FlatCircuit → List Port → (rows : List (List ℕ)) → List (List ℕ)
 shown_columns circuit ports rows = map (column rows) (take (length ports) circuit.outs)
 
+-- the columns of the out-signals behind them, which are the conditions of the stops
 abbrev pub stop_columns : FlatCircuit → List Port → (rows : List (List ℕ)) → List (List ℕ)
 stop_columns circuit ports rows = map (column rows) (drop (length ports) circuit.outs)
 

@@ -25,6 +25,7 @@ told_by (RunsPiece piece) kept = 0
 told_by (GivesColumn column) kept = 0
 told_by (KeepsLast rows) kept = unwrap_or kept 0
 
+-- what a machine tells of this cycle
 abbrev pub told_value : Machine → ℕ → ℕ
 told_value machine cycle = told_by machine.behaviour (kept_value machine cycle)
 

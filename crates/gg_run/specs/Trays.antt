@@ -5,6 +5,7 @@ use Rattle.gg_cut.specs.declared.plan.Body.{Body}
 use Rattle.gg_cut.specs.declared.plan.Body.TheVariants.{Cut, Memory, Source, Tray, Bridge}
 use Rattle.gg_cut.specs.declared.plan.Machine.{Machine}
 
+-- whether what a machine does is neither that of a tray nor that of a bridge
 abbrev pub body_is_inner : Body → Bool
 body_is_inner (Cut part) = true
 body_is_inner (Memory part) = true
@@ -12,6 +13,7 @@ body_is_inner (Source place) = true
 body_is_inner Tray = false
 body_is_inner (Bridge bridge) = false
 
+-- whether what a machine does is that of a tray
 abbrev pub body_is_tray : Body → Bool
 body_is_tray (Cut part) = false
 body_is_tray (Memory part) = false
@@ -23,5 +25,6 @@ body_is_tray (Bridge bridge) = false
 abbrev pub is_inner : Machine → Bool
 is_inner machine = body_is_inner machine.body
 
+-- whether a machine is a tray
 abbrev pub is_tray : Machine → Bool
 is_tray machine = body_is_tray machine.body

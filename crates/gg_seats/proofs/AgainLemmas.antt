@@ -15,7 +15,7 @@ use Rattle.gg_net.specs.Queue.{Held}
 use Rattle.gg_net.specs.Seats.{seated, machines_by}
 use Rattle.gg_net.specs.Net.{IsListed}
 use Rattle.gg_seats.specs.Seats.{SeatCounts, TakeSeatOf, PutSeatOf, Linked}
-use Rattle.gg_seats.specs.Pass.{IsDesk}
+use Rattle.gg_seats.specs.Pass.{HasSeats}
 
 module _ {X S T : Type 0} (takes_from : X → S → Type 0) (puts_into : X → T → Type 0) (taking : S → SeatState) (putting : T → SeatState) (flow : Flow) (net : Network) (machines : List Machine) (links : List X) where
   abbrev frame : Frame
@@ -27,20 +27,20 @@ module _ {X S T : Type 0} (takes_from : X → S → Type 0) (puts_into : X → T
   abbrev IsPutSeat : ℕ → T → Type 0
   IsPutSeat = PutSeatOf takes_from puts_into taking putting flow net links machines
 
-  module _ (m : ℕ) (station : Station) (listed : IsListed net.wires m (kind_at frame.kinds m) station) (take_seats : List S) (put_seats : List T) (desk : IsDesk takes_from puts_into taking putting flow net links m station.ins station.outs (machine_at machines m) take_seats put_seats) where
-    -- the seats of a desk are those of the links of its machine's channels
-    pub desk-takes : (k : ℕ) (s : S) → k < length station.ins → IsTakeSeat (value_at station.ins k) (slice_index_or take_seats k s)
-    desk-takes k s lt =
+  module _ (m : ℕ) (station : Station) (listed : IsListed net.wires m (kind_at frame.kinds m) station) (take_seats : List S) (put_seats : List T) (machine_seats : HasSeats takes_from puts_into taking putting flow net links m station.ins station.outs (machine_at machines m) take_seats put_seats) where
+    -- the seats of a machine are those of the links of its channels
+    pub machine_seats-takes : (k : ℕ) (s : S) → k < length station.ins → IsTakeSeat (value_at station.ins k) (slice_index_or take_seats k s)
+    machine_seats-takes k s lt =
         let c : ℕ = value_at station.ins k in (
-          λ link there. desk.takes.belongs k s link lt there,
-          subst (λ j. SeatCounts flow net c (takes_by frame (machine_at machines j) c) (taking (slice_index_or take_seats k s))) (sym (listed.into k (omega (arith, lt, listed.ins))).machine) (desk.takes.counts k s lt),
+          λ link there. machine_seats.takes.belongs k s link lt there,
+          subst (λ j. SeatCounts flow net c (takes_by frame (machine_at machines j) c) (taking (slice_index_or take_seats k s))) (sym (listed.into k (omega (arith, lt, listed.ins))).machine) (machine_seats.takes.counts k s lt),
         )
 
-    pub desk-puts : (k : ℕ) (s : T) → k < length station.outs → IsPutSeat (value_at station.outs k) (slice_index_or put_seats k s)
-    desk-puts k s lt =
+    pub machine_seats-puts : (k : ℕ) (s : T) → k < length station.outs → IsPutSeat (value_at station.outs k) (slice_index_or put_seats k s)
+    machine_seats-puts k s lt =
         let c : ℕ = value_at station.outs k in (
-          λ link there. desk.puts.belongs k s link lt there,
-          subst (λ j. SeatCounts flow net c (enters_by frame (machine_at machines j) c) (putting (slice_index_or put_seats k s))) (sym (listed.from k (omega (arith, lt, listed.outs))).machine) (desk.puts.counts k s lt),
+          λ link there. machine_seats.puts.belongs k s link lt there,
+          subst (λ j. SeatCounts flow net c (enters_by frame (machine_at machines j) c) (putting (slice_index_or put_seats k s))) (sym (listed.from k (omega (arith, lt, listed.outs))).machine) (machine_seats.puts.counts k s lt),
         )
 
   -- Links for all channels, whose seats are there again, can be closed: the queues are those of the opening.

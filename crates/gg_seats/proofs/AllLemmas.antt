@@ -1,4 +1,4 @@
--- All rows of seats are dealt, machine by machine, and put back.
+-- All rows of seats are taken out, machine by machine, and put back.
 use Rattle.std.proofs.Common.{◌≡◌, ◌≢◌, ℕ, suc, ◌<◌, List, [], ◌∷◌, Option, None, Some, length, map, refl, sym, ap, subst, ◌∙◌, ⊎_elim, arith}
 use Rattle.std.specs.Prelude.{IsSome, slice_index_or}
 use Rattle.std.proofs.lemmas.Bool.{cases_eq}
@@ -9,7 +9,7 @@ use Rattle.gg_net.specs.declared.shape.Station.{Station}
 use Rattle.gg_net.specs.Network.{wire_at, IsAtIn, IsAtOut, kind_at, Frame}
 use Rattle.gg_net.specs.Kept.{IsWired}
 use Rattle.gg_net.specs.Net.{IsListed}
-use Rattle.gg_seats.specs.Deal.{seat_at, AreOnce, RowIsThere, AllThere, RowDealt, RowGathered, AreLeft, IsBack, AreBack}
+use Rattle.gg_seats.specs.SeatLists.{seat_at, AreOnce, RowIsThere, AllThere, RowTakenOut, RowPutBack, AreLeft, IsBack, AreBack}
 
 -- ---- the channels of one machine
 
@@ -44,7 +44,7 @@ module _ (frame : Frame) (wired : IsWired frame) (m : ℕ) (station : Station) (
   pub outs-of : (k : ℕ) → k < length station.outs → (value_at station.outs k < length frame.wires) × ((wire_at frame.wires (value_at station.outs k)).producer ≡ m)
   outs-of k lt = let at = listed.from k (omega (arith, lt, listed.outs)) in (at.known, at.machine)
 
--- ---- dealing, by the machine at one end of each channel
+-- ---- taking out, by the machine at one end of each channel
 
 -- all seats are there at first
 pub left-start : {S : Type 0} (end_of : ℕ → ℕ) (all : List S) → AreLeft end_of 0 all (map (λ seat. Some seat) all)
@@ -63,26 +63,26 @@ module _ {S : Type 0} (end_of : ℕ → ℕ) (m : ℕ) (all : List S) (left : Li
       some-there [] c none is = absurd (omega (arith, none))
       some-there (x ∷ xs) c lt is = subst IsSome (sym (is x)) refl
 
-  module _ (after : List (Option S)) (row : List S) (dealt : RowDealt channels (length channels) left after row) where
+  module _ (after : List (Option S)) (row : List S) (taken_out : RowTakenOut channels (length channels) left after row) where
     -- the row has the seats of the machine's channels
     pub row-is : (k : ℕ) (s : S) → k < length channels → slice_index_or row k s ≡ slice_index_or all (value_at channels k) s
-    row-is k s lt = same_Some (slice_index_or row k s) (slice_index_or all (value_at channels k) s) (sym (dealt.row k s lt) ∙ h.left (value_at channels k) s (omega (arith, (own k lt).1)) (own k lt).0)
+    row-is k s lt = same_Some (slice_index_or row k s) (slice_index_or all (value_at channels k) s) (sym (taken_out.row k s lt) ∙ h.left (value_at channels k) s (omega (arith, (own k lt).1)) (own k lt).0)
 
     -- the seats of the machines behind it are left
     pub left-more : AreLeft end_of (suc m) all after
     left-more =
         record {
-          long = dealt.count ∙ h.long;
-          left = λ c s le lt. dealt.others c (λ k low same. omega (arith, le, (own k low).1, ap end_of same)) ∙ h.left c s (omega (arith, le)) lt;
+          long = taken_out.count ∙ h.long;
+          left = λ c s le lt. taken_out.others c (λ k low same. omega (arith, le, (own k low).1, ap end_of same)) ∙ h.left c s (omega (arith, le)) lt;
         }
 
--- ---- gathering
+-- ---- putting back
 
 pub back-start : {S : Type 0} (end_of : ℕ → ℕ) (P : ℕ → S → Type 0) (seats : List (Option S)) → AreBack end_of P 0 (length seats) seats
 back-start end_of P seats = record { long = refl; back = λ c lt low. absurd (omega (arith, low)) }
 
 module _ {S : Type 0} (end_of : ℕ → ℕ) (P : ℕ → S → Type 0) (m count : ℕ) (seats : List (Option S)) (h : AreBack end_of P m count seats) (channels : List ℕ) (own : (k : ℕ) → k < length channels → end_of (value_at channels k) ≡ m) (every : (c : ℕ) → c < count → end_of c ≡ m → (k : ℕ) × (k < length channels) × (value_at channels k ≡ c))
-    (after : List (Option S)) (row : List S) (long : length row ≡ length channels) (gathered : RowGathered channels (length channels) row seats after) (holds : (k : ℕ) (s : S) → k < length channels → P (value_at channels k) (slice_index_or row k s)) where
+    (after : List (Option S)) (row : List S) (long : length row ≡ length channels) (put_back : RowPutBack channels (length channels) row seats after) (holds : (k : ℕ) (s : S) → k < length channels → P (value_at channels k) (slice_index_or row k s)) where
   at-place : (xs : List S) (k c : ℕ) → k < length xs → value_at channels k ≡ c → ((s : S) → seat_at after c ≡ Some (slice_index_or xs k s)) → ((s : S) → P c (slice_index_or xs k s)) → IsBack P c after
   at-place [] k c none is seat p = absurd (omega (arith, none))
   at-place (x ∷ xs) k c lt is seat p = record { seat = slice_index_or (x ∷ xs) k x; there = seat x; holds = p x }
@@ -90,14 +90,14 @@ module _ {S : Type 0} (end_of : ℕ → ℕ) (P : ℕ → S → Type 0) (m count
   pub back-more : AreBack end_of P (suc m) count after
   back-more =
       record {
-        long = gathered.count ∙ h.long;
+        long = put_back.count ∙ h.long;
         back = λ c lt low. ⊎_elim
             (λ (here : end_of c ≡ m).
             let at = every c lt here in
-            at-place row at.0 c (omega (arith, at.1, long)) at.2 (λ s. ap (seat_at after) (sym at.2) ∙ gathered.given at.0 s at.1) (λ s. subst (λ d. P d (slice_index_or row at.0 s)) at.2 (holds at.0 s at.1)))
+            at-place row at.0 c (omega (arith, at.1, long)) at.2 (λ s. ap (seat_at after) (sym at.2) ∙ put_back.given at.0 s at.1) (λ s. subst (λ d. P d (slice_index_or row at.0 s)) at.2 (holds at.0 s at.1)))
             (λ (other : end_of c ≢ m).
             let old : IsBack P c seats = h.back c lt (omega (arith, low, other)) in
-            record { seat = old.seat; there = gathered.others c (λ k less same. other (ap end_of (sym same) ∙ own k less)) ∙ old.there; holds = old.holds })
+            record { seat = old.seat; there = put_back.others c (λ k less same. other (ap end_of (sym same) ∙ own k less)) ∙ old.there; holds = old.holds })
             (cases_eq (end_of c) m);
       }
 

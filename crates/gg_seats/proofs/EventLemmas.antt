@@ -11,7 +11,7 @@ use Rattle.gg_net.specs.Kept.{Kept}
 use Rattle.gg_net.specs.Net.{IsListed}
 use Rattle.gg_net.specs.Parted.{takes_by}
 use Rattle.gg_seats.specs.Tries.{StandsBelow, ServeIsDue, FinishIsDue}
-use Rattle.gg_seats.specs.Pass.{puts_by, serves_by, MachineWentOn, IsDesk, IsNewDesk, KnownDone, EventsDone}
+use Rattle.gg_seats.specs.Pass.{puts_by, serves_by, MachineWentOn, HasSeats, HasNewSeats, KnownDone, EventsDone}
 use Rattle.gg_seats.proofs.AllLemmas.{in-listed, out-listed}
 
 -- some element of a list that has one
@@ -30,7 +30,7 @@ events-later net m upto y z done went =
     }
 
 module _ {X S T : Type 0} (takes_from : X → S → Type 0) (puts_into : X → T → Type 0) (taking : S → SeatState) (putting : T → SeatState) (flow : Flow) (net : Network) (kept : Kept flow net) (links : List X) (m : ℕ) (station : Station) (listed : IsListed net.wires m (kind_at (frame_of net).kinds m) station) (upto : ℕ)
-    (x : Machine) (take_seats : List S) (put_seats : List T) (desk : IsDesk takes_from puts_into taking putting flow net links m station.ins station.outs x take_seats put_seats) (new : IsNewDesk taking putting net m station.ins station.outs x take_seats put_seats)
+    (x : Machine) (take_seats : List S) (put_seats : List T) (machine_seats : HasSeats takes_from puts_into taking putting flow net links m station.ins station.outs x take_seats put_seats) (new : HasNewSeats taking putting net m station.ins station.outs x take_seats put_seats)
     (y : Machine) (known : KnownDone taking putting (frame_of net) upto station.ins station.outs x take_seats put_seats y) where
   abbrev frame : Frame
   frame = frame_of net
@@ -42,7 +42,7 @@ module _ {X S T : Type 0} (takes_from : X → S → Type 0) (puts_into : X → T
   latch-done c can to below =
       let k : ℕ = (wire_at net.wires c).place in
       let place = in-listed frame kept.sound.wired m station listed c can.can.0 to in
-      let s : S = some-of take_seats k (omega (arith, place.0, desk.takes.long)) in
+      let s : S = some-of take_seats k (omega (arith, place.0, machine_seats.takes.long)) in
       let empty : latch_at x.latches k ≡ None = ap (λ (z : Machine). latch_at z.latches k) new.machine ∙ ap (λ j. latch_at (machine_at net.machines j).latches k) (sym to) ∙ can.empty in
       let seat = new.takes k s place.0 in
       let more : takes_by frame x (value_at station.ins k) < takes_by frame y (value_at station.ins k) =
@@ -54,12 +54,12 @@ module _ {X S T : Type 0} (takes_from : X → S → Type 0) (puts_into : X → T
   fire-done c can from below =
       let k : ℕ = (wire_at net.wires c).out in
       let place = out-listed frame kept.sound.wired m station listed c can.can.0 from in
-      let s : T = some-of put_seats k (omega (arith, place.0, desk.puts.long)) in
+      let s : T = some-of put_seats k (omega (arith, place.0, machine_seats.puts.long)) in
       let clear : flag_at x.flags k ≡ false = ap (λ (z : Machine). flag_at z.flags k) new.machine ∙ ap (λ j. flag_at (machine_at net.machines j).flags k) (sym from) ∙ can.clear in
       let none : missing x k ≡ None = ap (λ (z : Machine). missing z k) new.machine ∙ ap (λ j. missing (machine_at net.machines j) k) (sym from) ∙ can.needed in
       let more : puts_by frame x (value_at station.outs k) < puts_by frame y (value_at station.outs k) =
       known.fire k s place.0 (going below) clear none
-      (omega (arith, new.puts k s place.0, (desk.puts.counts k s place.0).capacity, ap (λ d. length (queue_at net.queues d)) place.1, ap (λ d. (wire_at net.wires d).capacity) place.1, can.room)) in
+      (omega (arith, new.puts k s place.0, (machine_seats.puts.counts k s place.0).capacity, ap (λ d. length (queue_at net.queues d)) place.1, ap (λ d. (wire_at net.wires d).capacity) place.1, can.room)) in
       let here : puts_by frame x c < puts_by frame y c = subst (λ d. puts_by frame x d < puts_by frame y d) place.1 more in
       subst (λ n. n < puts_by frame y c) (ap (λ z. puts_by frame z c) new.machine ∙ ap (λ j. puts_by frame (machine_at net.machines j) c) (sym from)) here
 

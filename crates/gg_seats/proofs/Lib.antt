@@ -6,7 +6,7 @@ pub mod ServeLemmas
 pub mod DoneLemmas
 pub mod WentLemmas
 pub mod PassLemmas
-pub mod DealLemmas
+pub mod SeatListLemmas
 pub mod AllLemmas
 pub mod EventLemmas
 pub mod NetLemmas

@@ -23,7 +23,7 @@ use Rattle.gg_net.proofs.PartLemmas.{takes-finish, enters-finish}
 use Rattle.gg_seats.specs.Seats.{SeatCounts}
 use Rattle.gg_seats.specs.Tries.{StandsBelow, ServeIsDue, FinishIsDue, FinishTried}
 use Rattle.gg_seats.specs.Rows.{SeatsByPlace, AreIns, AreOuts, LatchesTried, FiresTried, ServesTried, NoneServes}
-use Rattle.gg_seats.specs.Pass.{puts_by, serves_by, MachineWentOn, IsDesk, KnownDone}
+use Rattle.gg_seats.specs.Pass.{puts_by, serves_by, MachineWentOn, HasSeats, KnownDone}
 use Rattle.gg_seats.proofs.WentLemmas.{enters-puts, went-further, went-latches, went-fires, went-serves, went-finish, went-nowhere}
 
 -- ---- what stays possible while tokens are latched and given
@@ -69,7 +69,7 @@ record Ended (flow : Flow) (frame : Frame) (m upto : ℕ) (x y : Machine) : Type
   finish : FinishIsDue x → x.cycle < y.cycle
 
 module _ {X S T : Type 0} (takes_from : X → S → Type 0) (puts_into : X → T → Type 0) (taking : S → SeatState) (putting : T → SeatState) (flow : Flow) (net : Network) (kept : Kept flow net) (links : List X) (m : ℕ) (there : m < length (map kind_of net.machines)) (upto : ℕ) (few : upto ≤ net.end) (ins outs : List ℕ)
-    (x : Machine) (take_seats : List S) (put_seats : List T) (desk : IsDesk takes_from puts_into taking putting flow net links m ins outs x take_seats put_seats)
+    (x : Machine) (take_seats : List S) (put_seats : List T) (machine_seats : HasSeats takes_from puts_into taking putting flow net links m ins outs x take_seats put_seats)
     (into : AreIns net m x ins) (from : AreOuts net m x outs) (below : StandsBelow upto x)
     (x1 : Machine) (take_seats1 : List S) (latches : LatchesTried takes_from taking flow net m links ins (length ins) x take_seats x1 take_seats1)
     (x2 : Machine) (put_seats1 : List T) (fires : FiresTried puts_into putting flow net m links outs (length outs) x1 put_seats x2 put_seats1)
@@ -78,7 +78,7 @@ module _ {X S T : Type 0} (takes_from : X → S → Type 0) (puts_into : X → T
   frame = frame_of net
 
   kind-of : (y : Machine) → MachineAt flow frame m y → kind_of y ≡ kind_of x
-  kind-of y at = at.kind ∙ sym desk.machine.kind
+  kind-of y at = at.kind ∙ sym machine_seats.machine.kind
 
   below1 : StandsBelow upto x1
   below1 = subst (λ n. n < upto) (sym (ap (λ (z : Machine). z.cycle) latches.same)) below
@@ -181,8 +181,8 @@ module _ {X S T : Type 0} (takes_from : X → S → Type 0) (puts_into : X → T
     pub pass-went : MachineWentOn frame m upto x y
     pass-went = went-further frame m upto x x1 y went1 (went-further frame m upto x1 x3 y went13 ended.went_on)
 
-    pub pass-desk : IsDesk takes_from puts_into taking putting flow net links m ins outs y take_seats1 put_seats1
-    pass-desk =
+    pub pass-machine_seats : HasSeats takes_from puts_into taking putting flow net links m ins outs y take_seats1 put_seats1
+    pass-machine_seats =
         record {
           machine = ended.machine;
           takes = placed-same takes_from taking flow net (takes_by frame x1) (takes_by frame y) links ins take_seats1
@@ -198,7 +198,7 @@ module _ {X S T : Type 0} (takes_from : X → S → Type 0) (puts_into : X → T
           latch = λ k s lt going empty seen.
               let c : ℕ = value_at ins k in
               let up : takes_by frame x c < takes_by frame x1 c =
-              count-up flow net c (takes_by frame x c) (takes_by frame x1 c) (taking (slice_index_or take_seats k s)) (taking (slice_index_or take_seats1 k s)) (desk.takes.counts k s lt) (latches.placed.counts k s lt) (latches.done k s lt lt empty seen) in
+              count-up flow net c (takes_by frame x c) (takes_by frame x1 c) (taking (slice_index_or take_seats k s)) (taking (slice_index_or take_seats1 k s)) (machine_seats.takes.counts k s lt) (latches.placed.counts k s lt) (latches.done k s lt lt empty seen) in
               omega (arith, up, (rest.takes c (into.at k lt).known (into.at k lt).machine).up);
           fire = λ k s lt going clear needed room.
               let c : ℕ = value_at outs k in
@@ -208,7 +208,7 @@ module _ {X S T : Type 0} (takes_from : X → S → Type 0) (puts_into : X → T
               ∙ still-filled x.latches x1.latches (needs_at x.needs k) latches.grows needed in
               let same : enters_by frame x1 c ≡ enters_by frame x c = ap (λ z. enters_by frame z c) latches.same in
               let up : enters_by frame x c < enters_by frame x2 c =
-              count-up flow net c (enters_by frame x c) (enters_by frame x2 c) (putting (slice_index_or put_seats k s)) (putting (slice_index_or put_seats1 k s)) (desk.puts.counts k s lt) (fires.placed.counts k s lt) (fires.done k s lt lt flag none room) in
+              count-up flow net c (enters_by frame x c) (enters_by frame x2 c) (putting (slice_index_or put_seats k s)) (putting (slice_index_or put_seats1 k s)) (machine_seats.puts.counts k s lt) (fires.placed.counts k s lt) (fires.done k s lt lt flag none room) in
               let more : puts_by frame x c < puts_by frame x2 c = enters-puts (wire_at frame.wires c).first (puts_by frame x c) (puts_by frame x2 c) up in
               omega (arith, more, (went3.puts c (from.at k lt).known (from.at k lt).machine).up, (ended.went_on.puts c (from.at k lt).known (from.at k lt).machine).up);
           serve = λ p going may.

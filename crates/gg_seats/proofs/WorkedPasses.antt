@@ -11,7 +11,7 @@ use Rattle.gg_net.specs.Parted.{takes_by}
 use Rattle.gg_seats.specs.Seats.{SeatCounts}
 use Rattle.gg_seats.specs.Rows.{steps_by, StepsDone}
 use Rattle.gg_seats.specs.Pass.{RisesTo, MachineWentOn}
-use Rattle.gg_seats.specs.Deal.{seat_at, RowDealt}
+use Rattle.gg_seats.specs.SeatLists.{seat_at, RowTakenOut}
 
 -- ---- counts
 
@@ -102,8 +102,8 @@ not-begun s = let long : 2 ≡ 3 = ap length s.stream in omega (arith, long)
 -- ---- rows of seats
 
 -- the seat of channel 1 is taken
-dealt : RowDealt {S = ℕ} (1 ∷ []) 1 (Some 7 ∷ Some 8 ∷ []) (Some 7 ∷ None ∷ []) (8 ∷ [])
-dealt = record { long = refl; count = refl; row = rows; taken = takens; others = beside }
+taken_out : RowTakenOut {S = ℕ} (1 ∷ []) 1 (Some 7 ∷ Some 8 ∷ []) (Some 7 ∷ None ∷ []) (8 ∷ [])
+taken_out = record { long = refl; count = refl; row = rows; taken = takens; others = beside }
   where
     rows : (k s : ℕ) → k < 1 → seat_at {S = ℕ} (Some 7 ∷ Some 8 ∷ []) (value_at (1 ∷ []) k) ≡ Some (slice_index_or (8 ∷ []) k s)
     rows zero s lt = refl
@@ -119,5 +119,5 @@ dealt = record { long = refl; count = refl; row = rows; taken = takens; others =
     beside (suc (suc c)) apart = refl
 
 -- the seat of channel 0 is taken in its place
-not-dealt : RowDealt {S = ℕ} (1 ∷ []) 1 (Some 7 ∷ Some 8 ∷ []) (None ∷ Some 8 ∷ []) (7 ∷ []) → ⊥
-not-dealt r = none-some 8 (sym (r.taken 0 (omega arith)))
+not-taken_out : RowTakenOut {S = ℕ} (1 ∷ []) 1 (Some 7 ∷ Some 8 ∷ []) (None ∷ Some 8 ∷ []) (7 ∷ []) → ⊥
+not-taken_out r = none-some 8 (sym (r.taken 0 (omega arith)))

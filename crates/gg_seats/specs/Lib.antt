@@ -2,4 +2,4 @@ pub mod Seats
 pub mod Tries
 pub mod Rows
 pub mod Pass
-pub mod Deal
+pub mod SeatLists

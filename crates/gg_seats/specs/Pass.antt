@@ -42,14 +42,14 @@ pub record MachineWentOn (frame : Frame) (m upto : ℕ) (old new : Machine) : Ty
 module _ {X S T : Type 0} (takes_from : X → S → Type 0) (puts_into : X → T → Type 0) (taking : S → SeatState) (putting : T → SeatState) (flow : Flow) (net : Network) (links : List X) where
   -- This can be the machine at place m. It has the seats of the channels at its ins and outs, by place, which count what
   -- it counts.
-  pub record IsDesk (m : ℕ) (ins outs : List ℕ) (x : Machine) (take_seats : List S) (put_seats : List T) : Type 0 where
+  pub record HasSeats (m : ℕ) (ins outs : List ℕ) (x : Machine) (take_seats : List S) (put_seats : List T) : Type 0 where
     pub machine : MachineAt flow (frame_of net) m x
     pub takes : SeatsByPlace takes_from taking flow net (takes_by (frame_of net) x) links ins take_seats
     pub puts : SeatsByPlace puts_into putting flow net (enters_by (frame_of net) x) links outs put_seats
 
 module _ {S T : Type 0} (taking : S → SeatState) (putting : T → SeatState) where
   -- The machine is as in the network, and its seats are new: they know how many tokens the network's queues held.
-  pub record IsNewDesk (net : Network) (m : ℕ) (ins outs : List ℕ) (x : Machine) (take_seats : List S) (put_seats : List T) : Type 0 where
+  pub record HasNewSeats (net : Network) (m : ℕ) (ins outs : List ℕ) (x : Machine) (take_seats : List S) (put_seats : List T) : Type 0 where
     pub machine : x ≡ machine_at net.machines m
     pub takes : (k : ℕ) (s : S) → k < length ins → ((taking (slice_index_or take_seats k s)).count ≡ 0) × ((taking (slice_index_or take_seats k s)).seen ≡ length (queue_at net.queues (value_at ins k)))
     pub puts : (k : ℕ) (s : T) → k < length outs → (putting (slice_index_or put_seats k s)).count ≡ length (queue_at net.queues (value_at outs k))

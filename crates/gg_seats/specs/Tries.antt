@@ -30,6 +30,7 @@ pub record HasNotLatched (old : List Machine) (thread place : ℕ) (before : Sea
   pub count : after.count ≡ before.count
   pub cause : latch_at (machine_at old thread).latches place ≡ None → after.seen ≡ after.count
 
+-- what a try of `Latch` did, by whether it latched a token
 abbrev pub LatchTried : List Machine → ℕ → ℕ → SeatState → List Machine → SeatState → Bool → Type 0
 LatchTried old thread place before new after true = HasLatched old thread place before new after
 LatchTried old thread place before new after false = HasNotLatched old thread place before new after
@@ -50,6 +51,7 @@ pub record HasNotFired (old : List Machine) (thread place : ℕ) (before : SeatS
   pub count : after.count ≡ before.count
   pub cause : flag_at (machine_at old thread).flags place ≡ false → missing (machine_at old thread) place ≡ None → after.seen + after.capacity ≡ after.count
 
+-- what a try of `Fire` did, by whether it gave a token
 abbrev pub FireTried : List Machine → ℕ → ℕ → SeatState → List Machine → SeatState → Bool → Type 0
 FireTried old thread place before new after true = HasFired old thread place before new after
 FireTried old thread place before new after false = HasNotFired old thread place before new after
@@ -62,15 +64,18 @@ pub record ServeIsDue (x : Machine) (port : ℕ) : Type 0 where
   pub due : due x ≡ Some port
   pub fields : first_empty x.latches (due_fields x) ≡ None
 
+-- The port that was due was served.
 pub record HasServed (old : List Machine) (thread : ℕ) (new : List Machine) : Type 0 where
   pub port : ℕ
   pub due : ServeIsDue (machine_at old thread) port
   pub step : new ≡ slice_set old thread (with_served (machine_at old thread))
 
+-- Nothing was served, since no port could be served.
 pub record HasNotServed (old : List Machine) (thread : ℕ) (new : List Machine) : Type 0 where
   pub same : new ≡ old
   pub cause : (port : ℕ) → ServeIsDue (machine_at old thread) port → ⊥
 
+-- what a try of `Serve` did, by whether it served a port
 abbrev pub ServeTried : List Machine → ℕ → List Machine → Bool → Type 0
 ServeTried old thread new true = HasServed old thread new
 ServeTried old thread new false = HasNotServed old thread new
@@ -83,16 +88,19 @@ pub record FinishIsDue (x : Machine) : Type 0 where
   pub served : due x ≡ None
   pub latched : AllLatched x
 
+-- The cycle was finished, and the machine took its next state.
 pub record HasFinished (old : List Machine) (thread : ℕ) (new : List Machine) : Type 0 where
   pub whole : FinishIsDue (machine_at old thread)
   pub state : State
   pub is : IsNextState (machine_at old thread) state
   pub step : new ≡ slice_set old thread (finished (machine_at old thread) state)
 
+-- Nothing was finished, since the cycle could not be finished.
 pub record HasNotFinished (old : List Machine) (thread : ℕ) (new : List Machine) : Type 0 where
   pub same : new ≡ old
   pub cause : FinishIsDue (machine_at old thread) → ⊥
 
+-- what a try of `Finish` did, by whether it finished the cycle
 abbrev pub FinishTried : List Machine → ℕ → List Machine → Bool → Type 0
 FinishTried old thread new true = HasFinished old thread new
 FinishTried old thread new false = HasNotFinished old thread new

@@ -1,8 +1,10 @@
 -- How often a key comes, as the check of memories counts.
+-- Source: FIRRTL Specification, "Memories".
 use Rattle.std.specs.Prelude.{ℕ, List, [], ◌∷◌}
 use Rattle.gg_shape.specs.declared.memories.Given.{Given}
 use Rattle.gg_shape.specs.declared.memories.Given.TheVariants.{Never, Once, Often}
 
+-- how often the numbers of a key come, and the number itself if there is one alone
 abbrev pub count_of : List ℕ → Given
 count_of [] = Never
 count_of (n ∷ []) = Once n

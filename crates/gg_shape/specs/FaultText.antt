@@ -41,7 +41,7 @@ key_name keys.ReadLatency = codes "read-latency"
 key_name keys.WriteLatency = codes "write-latency"
 key_name keys.ReadUnderWrite = codes "read-under-write"
 
--- what is counted
+-- the word for what is counted, in fault F15
 abbrev pub limit_name : Limit → List ℕ
 limit_name limits.Depth = codes "depth"
 limit_name limits.Signals = codes "signals"
@@ -59,6 +59,7 @@ on_line code line = code ++ codes " line " ++ decimal line
 abbrev pub behind_blanks : List (List ℕ) → List ℕ
 behind_blanks texts = flat_map (λ text. 32 ∷ text) texts
 
+-- a fault: its code F1 to F16, its line where it has one, and what it is about
 abbrev pub fault_text : Fault → List ℕ
 fault_text (MissingTop name) = codes "F1 " ++ name
 fault_text (RepeatedName line name) = on_line (codes "F2") line ++ 32 ∷ name

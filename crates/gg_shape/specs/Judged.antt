@@ -1,5 +1,6 @@
 -- What the check of a circuit's shape returns: Ok exactly if the circuit has none of the faults F1 to F8, and otherwise
 -- a fault of the least number: for F1 to F6 and F8 the first in the text, for F7 any.
+-- Source: this program's own; what the faults are is defined in Shape, Rings and Memories.
 use Rattle.std.specs.Prelude.{◌≡◌, List, [], ◌++◌, Some, Result, Ok, Err, ◌⊎◌}
 use Rattle.gg_ast.specs.Tree.{CircuitTree}
 use Rattle.gg_shape.specs.declared.fault.Fault.{Fault}
@@ -36,6 +37,7 @@ abbrev pub RefusesFrom : List Fault → CircuitTree → Refusal → Type 0
 RefusesFrom faults circuit (F fault) = (first faults ≡ Some fault) ⊎ (IsInRing faults circuit fault ⊎ IsOfMemory faults circuit fault)
 RefusesFrom faults circuit NoMemory = Unit {0}
 
+-- Ok if there is none of these faults, no ring and no wrong memory; otherwise a refusal as above
 abbrev pub AnswersFrom : {A : Type 0} → List Fault → CircuitTree → Result A Refusal → Type 0
 AnswersFrom faults circuit (Ok _) = IsRight faults circuit
 AnswersFrom faults circuit (Err refusal) = RefusesFrom faults circuit refusal
@@ -57,6 +59,7 @@ abbrev pub RefusesRing : CircuitTree → Refusal → Type 0
 RefusesRing circuit (F fault) = TellsRing circuit fault
 RefusesRing circuit NoMemory = Unit {0}
 
+-- the check of rings returns Ok if there is none
 abbrev pub AnswersRing : {A : Type 0} → CircuitTree → Result A Refusal → Type 0
 AnswersRing circuit (Ok _) = HasNoRing circuit
 AnswersRing circuit (Err refusal) = RefusesRing circuit refusal

@@ -34,6 +34,7 @@ is_one test [] = false
 is_one test (n ∷ []) = test n
 is_one test (n ∷ m ∷ ns) = false
 
+-- no number or one, whatever it is
 abbrev pub is_one_at_most : List ℕ → Bool
 is_one_at_most [] = true
 is_one_at_most (n ∷ []) = true
@@ -47,6 +48,7 @@ is_right ReadLatency ns = is_one (λ n. nat_le n 1) ns
 is_right WriteLatency ns = is_one (λ n. nat_eq n 1) ns
 is_right ReadUnderWrite ns = is_one_at_most ns
 
+-- F8 at the memory's line, if this field of it doesn't come as often as it should, or has a number that isn't valid
 abbrev pub wrong_field : ℕ → List Field → MemoryKey → List Fault
 wrong_field line fs key = fault_if (not (is_right key (given key fs))) (MemoryField line key)
 
@@ -54,9 +56,11 @@ wrong_field line fs key = fault_if (not (is_right key (given key fs))) (MemoryFi
 abbrev pub wrong_times : ℕ → List Field → List Fault
 wrong_times line fs = wrong_field line fs ReadLatency ++ (wrong_field line fs WriteLatency ++ wrong_field line fs ReadUnderWrite)
 
+-- all wrong fields of one memory
 abbrev pub wrong_fields : ℕ → List Field → List Fault
 wrong_fields line fs = wrong_field line fs DataType ++ (wrong_field line fs Depth ++ wrong_times line fs)
 
+-- those of a statement, which has some only if it declares a memory
 abbrev pub wrong_in_kind : ℕ → statements.StmtKind → List Fault
 wrong_in_kind line (kinds.Memory name fs) = wrong_fields line fs
 wrong_in_kind line (kinds.Wire name ty) = []
@@ -69,9 +73,11 @@ wrong_in_kind line kinds.Skip = []
 wrong_in_kind line (kinds.Stop clock condition code label) = []
 wrong_in_kind line (kinds.Report word arguments label) = []
 
+-- the same of a statement with its line
 abbrev pub wrong_by : Stmt → List Fault
 wrong_by s = wrong_in_kind s.line s.kind
 
+-- those of all memories of a module, in the order of the text
 abbrev pub wrong_in_module : ModuleTree → List Fault
 wrong_in_module m = flat_map wrong_by m.statements
 

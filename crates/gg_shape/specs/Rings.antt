@@ -11,13 +11,16 @@ use Rattle.gg_walk.specs.Graph.{IsRing}
 abbrev pub IsRingOf : CircuitTree → List ℕ → Type 0
 IsRingOf circuit ring = IsRing (Holds circuit.modules) (length circuit.modules) ring
 
+-- there are no such modules
 abbrev pub HasNoRing : CircuitTree → Type 0
 HasNoRing circuit = (ring : List ℕ) → ¬ IsRingOf circuit ring
 
+-- the first of the names as a list; none if there are no names
 abbrev pub front : List (List ℕ) → List (List ℕ)
 front [] = []
 front (name ∷ _) = name ∷ []
 
+-- the names, and the first of them once more at the end
 abbrev pub closed : List (List ℕ) → List (List ℕ)
 closed names = names ++ front names
 

@@ -33,6 +33,7 @@ missing_top circuit = fault_if (not (list_any (λ m. bytes_eq circuit.name m.nam
 
 -- ---- F2
 
+-- a name that comes twice, as fault F2
 abbrev pub repeated_name : Repetition → Fault
 repeated_name r = RepeatedName r.line r.name
 
@@ -59,11 +60,13 @@ unknown_in scope line (BinaryTerm o a b) = unknown_in scope line a ++ unknown_in
 unknown_in scope line (FixedTerm o a n m) = unknown_in scope line a
 unknown_in scope line (MuxTerm c a b) = unknown_in scope line c ++ (unknown_in scope line a ++ unknown_in scope line b)
 
+-- those of the expressions among these arguments; a text has none
 abbrev pub unknown_in_arguments : List (Reference × Role) → ℕ → List Argument → List Fault
 unknown_in_arguments scope line [] = []
 unknown_in_arguments scope line (Value e ∷ rest) = unknown_in scope line e ++ unknown_in_arguments scope line rest
 unknown_in_arguments scope line (Text t ∷ rest) = unknown_in_arguments scope line rest
 
+-- those of a reset, on the reset's line: in its condition, then in its value
 abbrev pub unknown_in_reset : List (Reference × Role) → Option Reset → List Fault
 unknown_in_reset scope None = []
 unknown_in_reset scope (Some reset) =
@@ -85,6 +88,7 @@ unknown_in_kind modules scope line (Stop clock condition code label) =
     unknown_in scope line clock ++ unknown_in scope line condition
 unknown_in_kind modules scope line (Report word arguments label) = unknown_in_arguments scope line arguments
 
+-- the same of a statement, after the module's ports and the statements before it
 abbrev pub unknown_by : List ModuleTree → List Port → List Stmt → Stmt → List Fault
 unknown_by modules ports before s = unknown_in_kind modules (scope_after modules ports before) s.line s.kind
 
@@ -98,11 +102,13 @@ unknown_names modules m = along (unknown_by modules m.ports) m.statements
 abbrev pub is_connected : List Stmt → Reference → Bool
 is_connected statements r = list_any (connects r) statements
 
+-- F4 if this reference, where there is one, is a sink that a statement before connects
 abbrev pub second_to : List (Reference × Role) → List Stmt → ℕ → Option Reference → List Fault
 second_to scope before line None = []
 second_to scope before line (Some r) =
     fault_if (is_sink (meaning_of scope r) && is_connected before r) (SecondConnection line (written r))
 
+-- the same of the reference that a statement connects
 abbrev pub second_by : List (Reference × Role) → List Stmt → Stmt → List Fault
 second_by scope before s = second_to scope before s.line (connected_by s)
 
@@ -116,6 +122,7 @@ second_connections modules m = along (second_by (scope_of modules m)) m.statemen
 abbrev pub unconnected_entry : (Reference → Bool) → ℕ → Reference × Role → List Fault
 unconnected_entry connected line e = fault_if (needs_connection e.1 && not (connected e.0)) (Unconnected line (written e.0))
 
+-- F5 if a port must be connected and isn't; only an output must be
 abbrev pub unconnected_port : (Reference → Bool) → Port → List Fault
 unconnected_port connected port = unconnected_entry connected port.line (entry_by_port port)
 
@@ -124,6 +131,7 @@ unconnected_port connected port = unconnected_entry connected port.line (entry_b
 abbrev pub unconnected_by : List ModuleTree → (Reference → Bool) → Stmt → List Fault
 unconnected_by modules connected s = flat_map (unconnected_entry connected s.line) (entries_by modules s)
 
+-- all of a module: its ports, then what its statements declare
 abbrev pub unconnected_among : List ModuleTree → (Reference → Bool) → ModuleTree → List Fault
 unconnected_among modules connected m =
     flat_map (unconnected_port connected) m.ports ++ flat_map (unconnected_by modules connected) m.statements
@@ -134,10 +142,12 @@ unconnected_sinks modules m = unconnected_among modules (is_connected m.statemen
 
 -- ---- F6
 
+-- F6 if this reference, where there is one, is a source
 abbrev pub source_to : List (Reference × Role) → ℕ → Option Reference → List Fault
 source_to scope line None = []
 source_to scope line (Some r) = fault_if (is_source (meaning_of scope r)) (ConnectedSource line (written r))
 
+-- the same of the reference that a statement connects
 abbrev pub source_by : List (Reference × Role) → Stmt → List Fault
 source_by scope s = source_to scope s.line (connected_by s)
 

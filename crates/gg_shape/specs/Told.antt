@@ -1,4 +1,5 @@
 -- What the parts of the check know of a module.
+-- Source: this program's own way to find the faults.
 use denote.Ref.{Bor}
 use Rattle.std.specs.Prelude.{◌≡◌, ℕ, ◌<◌, Bool, List, [], flat_map, filter, length, take, slice_index_or, true, false}
 use Rattle.std.specs.List.{list_any}
@@ -27,9 +28,11 @@ use Rattle.gg_shape.specs.Shape.{unconnected_entry, is_connected}
 
 -- ---- the names before a statement
 
+-- the module at this place of the circuit
 abbrev pub module_of : CircuitTree → ℕ → ModuleTree
 module_of circuit number = module_at circuit.modules number
 
+-- the statements of the position's module that are before it
 abbrev pub statements_before : CircuitTree → Before → List Stmt
 statements_before circuit before = take before.statements (module_of circuit before.number).statements
 
@@ -50,6 +53,7 @@ reference_of (Local a) = references.Local a.now
 reference_of (PortOf a b) = references.PortOf a.now b.now
 reference_of (FieldOf a b c) = references.FieldOf a.now b.now c.now
 
+-- whether one of these references is the same
 abbrev pub is_among : List Reference → Reference → Bool
 is_among connected r = list_any (same_reference r) connected
 
@@ -64,13 +68,16 @@ pub record TellsFirst (modules : List ModuleTree) (count : ℕ) (all : List (Lis
 
 -- ---- what a declaration leaves unconnected
 
+-- whether a direction is that of an input
 abbrev pub is_in : Direction → Bool
 is_in Input = true
 is_in Output = false
 
+-- whether a port is an input
 abbrev pub is_input : Port → Bool
 is_input port = is_in port.direction
 
+-- a module's inputs, in the order of its ports
 abbrev pub inputs_of : ModuleTree → List Port
 inputs_of m = filter is_input m.ports
 
@@ -79,16 +86,20 @@ abbrev pub names_as : PortKind → fields.MemoryField → List (List ℕ)
 names_as Reader field = readers_in field
 names_as Writer field = writers_in field
 
+-- F5 if an instance's input isn't connected, at this line
 abbrev pub unconnected_input : List ℕ → (Reference → Bool) → ℕ → Bor Port → List Fault
 unconnected_input instance connected line port = unconnected_entry connected line (instance_port instance port.now)
 
+-- F5 if a field of a memory's port must be connected and isn't
 abbrev pub unconnected_of_field : PortKind → List ℕ → (Reference → Bool) → ℕ → List ℕ → PortField → List Fault
 unconnected_of_field kind memory connected line port field = unconnected_entry connected line (port_field memory port kind field)
 
+-- the same of all fields of a port
 abbrev pub unconnected_of_port : PortKind → List ℕ → (Reference → Bool) → ℕ → List ℕ → List Fault
 unconnected_of_port kind memory connected line port =
     flat_map (unconnected_of_field kind memory connected line port) (port_fields kind)
 
+-- the same of all ports of one kind that a field of the memory names
 abbrev pub unconnected_in_field : PortKind → List ℕ → (Reference → Bool) → ℕ → Field → List Fault
 unconnected_in_field kind memory connected line field =
     flat_map (unconnected_of_port kind memory connected line) (names_as kind field.kind)

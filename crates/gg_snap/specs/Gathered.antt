@@ -29,7 +29,7 @@ held_by (Source place) = []
 held_by Tray = []
 held_by (Bridge bridge) = []
 
--- its memories
+-- the memories that a machine has, by their numbers in the circuit; only a part has some
 abbrev pub kept_by : Body → List ℕ
 kept_by (Cut part) = part.memories
 kept_by (Memory part) = part.memories

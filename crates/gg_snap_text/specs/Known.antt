@@ -35,6 +35,8 @@ IsAt circuit width count (Register r) = (r < length circuit.registers) × (count
 IsAt circuit width count (Read m r) = (m < length circuit.memories) × (r < read_count (latency_at circuit m) (readers_at circuit m)) × (count ≡ 1) × (width ≡ (shape_at (map (λ memory. shape memory.word) circuit.memories) m).width)
 IsAt circuit width count (Words m) = (m < length circuit.memories) × (count ≡ value_at (map (λ memory. memory.depth) circuit.memories) m) × (width ≡ (shape_at (map (λ memory. shape memory.word) circuit.memories) m).width)
 
+-- A row of which each value can be written on a line and read again: its width is 1 to 128 bits, it has fewer than 2^32 values, its path
+-- has no blank and no line feed, and its values are those of the circuit.
 pub record IsKnown (circuit : FlatCircuit) (row : Row) : Type 0 where
   pub some : 0 < row.width
   pub narrow : row.width ≤ 128
@@ -64,6 +66,7 @@ abbrev pub DiffersFrom : Row → List Row → Type 0
 DiffersFrom row [] = ⊤
 DiffersFrom row (other ∷ rows) = Differ row other × DiffersFrom row rows
 
+-- each of these rows differs from all after it
 abbrev pub AllDiffer : List Row → Type 0
 AllDiffer [] = ⊤
 AllDiffer (row ∷ rows) = DiffersFrom row rows × AllDiffer rows

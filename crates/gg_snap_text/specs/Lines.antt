@@ -39,7 +39,7 @@ head_of row = kind_word row.kind ++ (row.path ++ 32 ∷ [])
 abbrev pub tail_of : Row → (address value : ℕ) → List ℕ
 tail_of row address value = address_text row.at address ++ (hex_digits (digit_count row.width) value ++ 10 ∷ [])
 
--- the line of a value
+-- the line of a value: what tells its row, then what tells its address and the value
 abbrev pub line_of : Row → (address value : ℕ) → List ℕ
 line_of row address value = head_of row ++ tail_of row address value
 
@@ -47,11 +47,11 @@ line_of row address value = head_of row ++ tail_of row address value
 abbrev pub shown : Row → (address value : ℕ) → List (List ℕ)
 shown row address value = if value == 0 then [] else line_of row address value ∷ []
 
--- the lines of a row, by address
+-- the lines of a row, by address; a value 0 has none
 abbrev pub row_lines : State → Row → List (List ℕ)
 row_lines state row = flat_map (λ address. shown row address (value_of state row.at address)) (range_with_len 0 row.count)
 
--- the lines of these rows
+-- the lines of these rows, one row after another
 abbrev pub value_lines : State → List Row → List (List ℕ)
 value_lines state rows = flat_map (row_lines state) rows
 
@@ -59,14 +59,14 @@ value_lines state rows = flat_map (row_lines state) rows
 abbrev pub first_line : List ℕ
 first_line = codes "golden snapshot 1" ++ 10 ∷ []
 
--- the second line: the cycle
+-- the second line: `cycle` and the number of the cycle
 abbrev pub cycle_line : ℕ → List ℕ
 cycle_line cycle = codes "cycle " ++ (decimal cycle ++ 10 ∷ [])
 
--- all lines of a snapshot
+-- all lines of a snapshot: the first, the cycle, and a line for each value other than 0
 abbrev pub snap_lines : List Row → (cycle : ℕ) → State → List (List ℕ)
 snap_lines rows cycle state = first_line ∷ cycle_line cycle ∷ value_lines state rows
 
--- the text of a snapshot
+-- the text of a snapshot: its lines, one after another
 abbrev pub snap_text : List Row → (cycle : ℕ) → State → List ℕ
 snap_text rows cycle state = concat (snap_lines rows cycle state)

@@ -19,7 +19,7 @@ abbrev pub places_from : Row → (a n : ℕ) → List Place
 places_from row a zero = []
 places_from row a (suc n) = record { row = row; address = a } ∷ places_from row (a + 1) n
 
--- the places of these rows
+-- the places of these rows, each row's by address
 abbrev pub places : List Row → List Place
 places [] = []
 places (row ∷ rows) = places_from row 0 row.count ++ places rows
@@ -44,10 +44,12 @@ IsLineOfNone line (place ∷ rest) = IsNoLine line place × IsLineOfNone line re
 
 -- A line was taken: it is that of a value of a place, which is first but for places whose line it can't be.
 pub record IsTaken (before after : List Place) (line : List ℕ) (old new : State) : Type 0 where
+  -- the places that are passed over
   pub skipped : List Place
   pub place : Place
   pub value : ℕ
   pub is : before ≡ skipped ++ place ∷ after
+  -- a value 0 has no line
   pub some : 0 < value
   pub fits : value < 2 ^ place.row.width
   pub reads : line ≡ line_of place.row place.address value
@@ -60,6 +62,8 @@ pub record Skips (line : List ℕ) (before after : List Place) : Type 0 where
   pub is : before ≡ skipped ++ after
   pub none : IsLineOfNone line skipped
 
+-- The search ended at a row: it stands at the new cursor, the line begins with its head, and all values before it were skipped. `rest` is
+-- what follows the head in the line.
 pub record IsFoundAt (rows : List Row) (line : List ℕ) (old new : Cursor) (rest : List ℕ) : Type 0 where
   pub within : new.row < length rows
   pub skips : Skips line (behind rows old) (behind rows new)

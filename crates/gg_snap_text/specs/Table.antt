@@ -72,12 +72,15 @@ signal_row kind.Memory path width driver = []
 abbrev pub signal_rows : Kind → FlatCircuit → List Row
 signal_rows k circuit = flat_map (λ s. signal_row k (path_at circuit.paths s) (shape_at (signal_shapes circuit) s).width (driver_at circuit s)) (range_with_len 0 (length circuit.signals))
 
+-- the rows of all registers that are no pipes, in the order of the signals
 abbrev pub register_rows : FlatCircuit → List Row
 register_rows circuit = signal_rows kind.Register circuit
 
+-- the rows of all read registers, in the order of the signals
 abbrev pub read_rows : FlatCircuit → List Row
 read_rows circuit = signal_rows kind.Read circuit
 
+-- the rows of all pipes, in the order of the signals
 abbrev pub pipe_rows : FlatCircuit → List Row
 pipe_rows circuit = signal_rows kind.Pipe circuit
 
@@ -94,6 +97,7 @@ memory_row circuit path m =
       at = Words m;
     }
 
+-- the rows of all memories, in the order of the tree
 abbrev pub memory_rows : FlatCircuit → InstanceTree → List Row
 memory_rows circuit tree = map (λ place. memory_row circuit (path_at tree.memory_paths place) (memory_at tree place).memory) (range_with_len 0 (length tree.memories))
 

@@ -47,13 +47,13 @@ use Rattle.gg_net.specs.Net.{opening_net}
 abbrev pub nameless : planned.Machine
 nameless = record { name = []; host = 0; body = Tray; ins = []; outs = [] }
 
--- machine m of a plan
+-- machine m of a plan; past the end one without a name and channels
 abbrev pub machine_in : Plan → ℕ → planned.Machine
 machine_in plan m = slice_index_or plan.machines m nameless
 
 -- ---- channels
 
--- the place of a channel among those of a machine
+-- the place of a channel among those of a machine; 0 if it isn't one of them
 abbrev pub place_in : List ℕ → ℕ → ℕ
 place_in channels c = unwrap_or (first_place (λ d. d == c) channels) 0
 

@@ -40,7 +40,7 @@ abbrev pub IsChannelBelow : List Wire → ℕ → ℕ → Option ℕ → Type 0
 IsChannelBelow wires n s None = (c : ℕ) → c < n → ¬ ((wire_at wires c).signal ≡ s)
 IsChannelBelow wires n s (Some c) = (c < n) × ((wire_at wires c).signal ≡ s)
 
--- the channel of each signal
+-- the table has the channel of each signal, or none if no channel carries it
 abbrev pub AreChannels : List Wire → List (Option ℕ) → Type 0
 AreChannels wires channels = (s : ℕ) → s < length channels → IsChannelBelow wires (length wires) s (slice_index_or channels s None)
 
@@ -49,6 +49,7 @@ abbrev pub has_by : List Wire → ℕ → ℕ → Option ℕ → Bool
 has_by wires owner m None = owner == m
 has_by wires owner m (Some c) = ((wire_at wires c).producer == m) || ((wire_at wires c).consumer == m)
 
+-- the same, from tables of owners and of channels
 abbrev pub has : List Wire → List ℕ → List (Option ℕ) → ℕ → ℕ → Bool
 has wires owners channels m s = has_by wires (value_at owners s) m (slice_index_or channels s None)
 

@@ -9,7 +9,7 @@ use Rattle.gg_trace.specs.Fields.{is_blank}
 unfoldable pub words : List ℕ → List (List ℕ)
 words line = slice_split is_blank line
 
--- the words of what is left of a line
+-- the words of what is left of a line; none if nothing is left
 abbrev pub words_left : Option (List ℕ) → List (List ℕ)
 words_left None = []
 words_left (Some line) = words line

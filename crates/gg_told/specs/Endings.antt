@@ -1,4 +1,5 @@
 -- How a command has ended when its function returns: done, or stopped before its whole text was written.
+-- Source: this program's own.
 use Rattle.std.specs.Prelude.{◌≡◌, ℕ, List, Option, Result, Ok, Err, ⊤}
 use Rattle.std.specs.Io.KnownBytes.{append_known}
 use Rattle.gg_io.specs.Count.{Rose}

@@ -1,4 +1,5 @@
 -- How a command with an order of files ends: its status, the text that it wrote on `out`, and its line.
+-- Source: this program's own.
 use Rattle.std.specs.Prelude.{◌≡◌, ℕ, List, [], ◌++◌, ◌⊎◌, Option}
 use Rattle.std.specs.Io.KnownBytes.{append_known}
 use Rattle.gg_io.specs.Count.{Rose}

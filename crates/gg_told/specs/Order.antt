@@ -1,5 +1,6 @@
 -- The order of a command: its files, one after another, each loaded and then checked, and then its text. So it is also
 -- the order of refusals. It doesn't say how a file is checked. A new fault of a file is a new case of `refuses`.
+-- Source: this program's own.
 use Rattle.std.specs.Prelude.{◌≡◌, ℕ, ◌<◌, ◌≤◌, List, length, ◌⊎◌}
 use Rattle.gg_io.specs.Told.{Told, Holds, CanHold, CanBeOver}
 use Rattle.gg_told.specs.Said.{Said, cannot_load, is_over}

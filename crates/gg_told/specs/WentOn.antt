@@ -1,4 +1,5 @@
 -- What holds of a shelf and of an output after a part of a call, for any result.
+-- Source: this program's own.
 use Rattle.std.specs.Prelude.{◌≡◌, ◌≤◌}
 use Rattle.gg_io.specs.declared.files.Shelf
 use Rattle.gg_io.specs.declared.output.Sink

@@ -1,4 +1,5 @@
 -- The value that a field of a trace gives.
+-- Source: this program's own form; docs/FORMATS.md describes it.
 use Rattle.std.specs.Prelude.{◌≡◌, ℕ, ◌+◌, ◌*◌, ◌^◌, ◌<◌, ◌≤◌, List, Option, None, Some, SomeIff}
 use Rattle.std.specs.Str.Parse.{IsNumeral, digits_value}
 use Rattle.gg_trace.specs.declared.cells.CellFault.{CellFault}

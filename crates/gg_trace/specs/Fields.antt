@@ -1,4 +1,5 @@
 -- The fields of one line of a trace.
+-- Source: this program's own form; docs/FORMATS.md describes it.
 use Rattle.std.specs.Prelude.{ℕ, Bool, ◌||◌, ◌==◌, List, [], ◌∷◌, Option, None, Some}
 use Rattle.std.specs.List.{slice_split}
 use Rattle.std.specs.Str.Lines.{lines}
@@ -30,7 +31,7 @@ unfoldable pub fields : List ℕ → List (List ℕ)
 fields [] = []
 fields (b ∷ line) = fields_of_text (b ∷ line)
 
--- the fields of what is left of a line
+-- the fields of what is left of a line; none if nothing is left
 abbrev pub fields_left : Option (List ℕ) → List (List ℕ)
 fields_left None = []
 fields_left (Some text) = fields_of_text text

@@ -1,4 +1,5 @@
 -- A text and its lines as a relation. It allows only the list that `text_lines` computes.
+-- Source: this program's own form; docs/FORMATS.md describes it.
 use Rattle.std.specs.Prelude.{◌≡◌, ◌≢◌, ℕ, ◌-◌, ◌<◌, List, [], ◌∷◌, ◌++◌, length, slice_index, ◌⊎◌}
 
 -- no byte is a line feed

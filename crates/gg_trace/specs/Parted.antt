@@ -1,4 +1,5 @@
 -- A line and its fields as a relation. It allows only the list that `fields` computes.
+-- Source: this program's own form; docs/FORMATS.md describes it.
 use Rattle.std.specs.Prelude.{◌≡◌, ℕ, ◌<◌, true, false, List, [], ◌∷◌, ◌++◌, length, slice_index}
 use Rattle.gg_trace.specs.Fields.{is_blank}
 

@@ -10,11 +10,11 @@ names ports = map (λ p. p.name) ports
 abbrev pub widths : List Port → List ℕ
 widths ports = map (λ p. p.ty.width) ports
 
--- the name of port i
+-- the name of port i; an empty one past the end
 abbrev pub name_at : List Port → ℕ → List ℕ
 name_at ports i = slice_index_or (names ports) i []
 
--- the width of port i
+-- the width of port i; 0 past the end
 abbrev pub width_at : List Port → ℕ → ℕ
 width_at ports i = slice_index (widths ports) i
 

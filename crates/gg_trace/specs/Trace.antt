@@ -1,4 +1,5 @@
 -- The text of an input trace: its columns, or its first fault.
+-- Source: this program's own form; docs/FORMATS.md describes it.
 use Rattle.std.specs.Prelude.{◌≡◌, ◌≢◌, ℕ, ◌<◌, ◌≤◌, ◌^◌, List, [], length, map, drop, decimal, slice_index, slice_index_or}
 use Rattle.gg_limits.specs.Limits.{cycle_limit}
 use Rattle.gg_flat.specs.declared.ports.Port.{Port}
@@ -9,7 +10,7 @@ use Rattle.gg_trace.specs.Cells.{IsHexadecimal, hexadecimal, IsCell}
 use Rattle.gg_trace.specs.Ports.{IsNamed, width_at}
 use Rattle.gg_trace.specs.Header.{field, IsHeader, HasHeaderFault}
 
--- the fields of each line
+-- for each line of the text its fields
 abbrev pub line_fields : List ℕ → List (List (List ℕ))
 line_fields bytes = map fields (text_lines bytes)
 
@@ -21,7 +22,7 @@ header_of bytes = slice_index_or (line_fields bytes) 0 []
 abbrev pub rows_of : List ℕ → List (List (List ℕ))
 rows_of bytes = drop 1 (line_fields bytes)
 
--- the fields of row r
+-- the fields of row r; none past the end
 abbrev pub row_at : List ℕ → ℕ → List (List ℕ)
 row_at bytes r = slice_index_or (rows_of bytes) r []
 

@@ -38,9 +38,11 @@ Pairwise R (x ∷ xs) (y ∷ ys) = R x y × Pairwise R xs ys
 abbrev pub site_paths : CircuitTree → List (List ℕ)
 site_paths circuit = map (λ s. s.path) (sites_of circuit)
 
+-- the paths of all signals of the circuit, in order
 abbrev pub signal_paths : CircuitTree → List (List ℕ)
 signal_paths circuit = map (λ s. s.path) (flat_signals (types_of circuit) circuit.modules (sites_of circuit))
 
+-- all memories of the circuit, in the order of the sites
 abbrev pub memories_of : CircuitTree → List FlatMemory
 memories_of circuit = flat_memories circuit.modules (sites_of circuit)
 
@@ -57,6 +59,7 @@ IsParent circuit (Some outer) (Some parent) = IsAt (site_paths circuit) outer.pa
 abbrev pub signal_ports : ModuleTree → List Port
 signal_ports m = filter (λ port. is_some (type_shape port.ty)) m.ports
 
+-- whether a direction is that of an input
 abbrev pub is_input : Direction → Bool
 is_input Input = true
 is_input Output = false
@@ -66,10 +69,11 @@ pub record IsPortFor (circuit : CircuitTree) (site : Site) (port : Port) (found 
   pub signal : IsAt (signal_paths circuit) (joined site.path port.name) found.signal
   pub goes : found.is_input ≡ is_input port.direction
 
+-- The number m of a memory is the place of its path among the memories' paths.
 pub record IsMemoryAt (circuit : CircuitTree) (said : FlatMemory) (m : ℕ) : Type 0 where
   pub number : IsAt (memory_paths (memories_of circuit)) said.path m
 
--- how many signals these sites have
+-- how many signals these sites have together
 abbrev pub signal_count : CircuitTree → List Site → ℕ
 signal_count circuit all = length (flat_signals (types_of circuit) circuit.modules all)
 
@@ -112,9 +116,11 @@ pub record HeldMemory : Type 0 where
   pub site : Site
   pub said : FlatMemory
 
+-- this memory with its site
 abbrev pub held_memory : Site → FlatMemory → HeldMemory
 held_memory site said = record { site = site; said = said }
 
+-- the memories of a site, in the order of the file
 abbrev pub held_memories : List ModuleTree → Site → List HeldMemory
 held_memories modules site = map (held_memory site) (memories_at modules site)
 
@@ -144,9 +150,11 @@ pub record HeldStop : Type 0 where
   pub site : Site
   pub said : OwnStop
 
+-- this stop with its site
 abbrev pub held_stop : Site → OwnStop → HeldStop
 held_stop site said = record { site = site; said = said }
 
+-- the stops of a site, in the order of the file
 abbrev pub held_stops : List ModuleTree → Site → List HeldStop
 held_stops modules site = map (held_stop site) (own_stops (module_at modules site.number).statements)
 

@@ -21,10 +21,11 @@ use Rattle.gg_flattened.specs.Known.{types_of}
 use Rattle.gg_flattened.specs.Memories.{type_shape}
 use Rattle.gg_flattened.specs.Views.{site_of, own_bank_of, own_stop_of}
 
--- the ports that are signals
+-- whether a port is a signal: a Clock isn't one, nor is what has a width that is 0 or above 128
 abbrev pub is_signal : Port → Bool
 is_signal port = is_some (type_shape port.ty)
 
+-- those of these ports that are signals, in order
 abbrev pub signals_among : List Port → List Port
 signals_among ports = filter is_signal ports
 
@@ -44,6 +45,7 @@ IsHolder paths None (Some parent) = ⊥
 IsHolder paths (Some around) None = ⊥
 IsHolder paths (Some around) (Some parent) = IsAt paths around.path parent
 
+-- the paths of these sites, in order
 abbrev pub place_paths : List Place → List (List ℕ)
 place_paths places = map (λ p. p.path) places
 
@@ -72,6 +74,7 @@ pub record IsMemoryPart (paths memories : List (List ℕ)) (m : ModuleTree) (out
 abbrev pub held_at_place : List ModuleTree → Place → OwnMemory → HeldMemory
 held_at_place modules place own = held_memory (site_of place) (flat_memory modules (site_of place) (own_bank_of own))
 
+-- what is made is the tree's entry for this memory of this site
 abbrev pub IsHeldFor : CircuitTree → HeldMemory → MemoryInstance → Type 0
 IsHeldFor circuit h memory = IsMemoryFor circuit h.site h.said memory
 
@@ -89,26 +92,32 @@ pub record IsStopPart (paths signals : List (List ℕ)) (m : ModuleTree) (outer 
   pub signal : IsAt signals (joined outer own.name) made.signal
   pub clock_is : made.clock ≡ clock_of m own.clock.now
 
--- a stop with the site that has it
+-- a stop as it is kept, with its site
 abbrev pub stop_at_place : Place → kept_stop.OwnStop → HeldStop
 stop_at_place place own = held_stop (site_of place) (own_stop_of own)
 
+-- what is made is the tree's entry for this stop of this site
 abbrev pub IsAskedFor : CircuitTree → HeldStop → StopInstance → Type 0
 IsAskedFor circuit h stop = IsStopFor circuit h.site h.said stop
 
 -- ---- a tree with other parts
 
+-- with these instances, and their paths
 abbrev pub with_instances : InstanceTree → List (List ℕ) → List Instance → InstanceTree
 with_instances tree paths instances = record tree { paths = paths; instances = instances }
 
+-- with these memories, and their paths
 abbrev pub with_memories : InstanceTree → List (List ℕ) → List MemoryInstance → InstanceTree
 with_memories tree paths memories = record tree { memory_paths = paths; memories = memories }
 
+-- with these stops
 abbrev pub with_stops : InstanceTree → List StopInstance → InstanceTree
 with_stops tree stops = record tree { stops = stops }
 
+-- with what the registers follow, in the order of the signals
 abbrev pub with_register_clocks : InstanceTree → List (Option ℕ) → InstanceTree
 with_register_clocks tree clocks = record tree { register_clocks = clocks }
 
+-- with these names of the top's Clock inputs
 abbrev pub with_clocks : InstanceTree → List (List ℕ) → InstanceTree
 with_clocks tree clocks = record tree { clocks = clocks }

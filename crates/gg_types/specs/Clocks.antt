@@ -23,6 +23,7 @@ abbrev pub way_of_port : Direction → Way
 way_of_port directions.Input = FromOutside
 way_of_port directions.Output = Nowhere
 
+-- a port's name, and where it gets a Clock from
 abbrev pub port_way : Port → List ℕ × Way
 port_way port = (port.name, way_of_port port.direction)
 
@@ -39,15 +40,18 @@ ways_by kinds.Skip = []
 ways_by (kinds.Stop clock condition code label) = []
 ways_by (kinds.Report word arguments label) = []
 
+-- the same of all names of a module: the ports, then what the statements declare
 abbrev pub ways_of : ModuleTree → List (List ℕ × Way)
 ways_of m = map port_way m.ports ++ flat_map (λ s. ways_by s.kind) m.statements
 
+-- whether a name gets a Clock from outside the module; a name that isn't declared does not
 abbrev pub is_outside : Option Way → Bool
 is_outside None = false
 is_outside (Some FromOutside) = true
 is_outside (Some FromDriver) = false
 is_outside (Some Nowhere) = false
 
+-- whether a name gets a Clock from its driver, so that it leads on; a name that isn't declared does not
 abbrev pub is_followed : Option Way → Bool
 is_followed None = false
 is_followed (Some FromOutside) = false
@@ -63,6 +67,7 @@ bare_reference (references.Local name) = Some name
 bare_reference (references.PortOf instance port) = None
 bare_reference (references.FieldOf memory port field) = None
 
+-- the name that an expression leads to; only an expression that is a bare reference leads on
 abbrev pub bare : Term → Option (List ℕ)
 bare (NamedTerm r) = bare_reference r
 bare (ConstantTerm l) = None
@@ -78,6 +83,7 @@ driven_reference (references.Local name) lead = Some (name, lead)
 driven_reference (references.PortOf instance port) lead = None
 driven_reference (references.FieldOf memory port field) lead = None
 
+-- the name that a statement drives, and where it leads: a node, and the sink of a connection
 abbrev pub driven_by : statements.StmtKind → Option (List ℕ × Option (List ℕ))
 driven_by (kinds.Wire name ty) = None
 driven_by (kinds.Node name value) = Some (name, bare value)
@@ -95,6 +101,7 @@ abbrev pub led_on : List ℕ → Option (List ℕ) → Option (List ℕ × Optio
 led_on name so_far None = so_far
 led_on name so_far (Some d) = if bytes_eq name d.0 then d.1 else so_far
 
+-- where a name leads after these statements, from where it led before them: the last that drives it counts
 abbrev pub lead_from : List ℕ → Option (List ℕ) → List Stmt → Option (List ℕ)
 lead_from name so_far [] = so_far
 lead_from name so_far (s ∷ ss) = lead_from name (led_on name so_far (driven_by s.kind)) ss
@@ -114,6 +121,7 @@ abbrev pub stay_or : List ℕ → Option (List ℕ) → List ℕ
 stay_or name None = name
 stay_or name (Some other) = other
 
+-- the name that n steps from this one lead to
 abbrev pub followed : List (List ℕ × Way) → List Stmt → ℕ → List ℕ → List ℕ
 followed ways statements zero name = name
 followed ways statements (suc n) name = followed ways statements n (stay_or name (next_of ways statements name))
@@ -123,15 +131,18 @@ followed ways statements (suc n) name = followed ways statements n (stay_or name
 abbrev pub leads : List (List ℕ × Way) → List Stmt → List ℕ → Bool
 leads ways statements name = is_outside (find_named (followed ways statements (length ways) name) ways)
 
+-- whether a name of a module leads to one of the module's inputs
 abbrev pub leads_to_input : ModuleTree → List ℕ → Bool
 leads_to_input m name = leads (ways_of m) m.statements name
 
 -- ---- which Clock input
 
+-- whether a direction is that of an input
 abbrev pub is_input : Direction → Bool
 is_input directions.Input = true
 is_input directions.Output = false
 
+-- whether a port is an input of type Clock
 abbrev pub is_clock_input : Port → Bool
 is_clock_input port = is_clock port.ty && is_input port.direction
 
@@ -143,6 +154,7 @@ clock_inputs ports = map (λ port. port.name) (filter is_clock_input ports)
 abbrev pub counted_clock : ℕ → Port → ℕ
 counted_clock count port = if is_clock_input port then suc count else count
 
+-- the port's number, if it is a Clock input and `count` of them are before it
 abbrev pub clock_number : ℕ → Port → Option ℕ
 clock_number count port = if is_clock_input port then Some count else None
 

@@ -11,6 +11,7 @@ abbrev pub or_later : {A : Type 0} → Option A → Option A → Option A
 or_later None later = later
 or_later (Some x) later = Some x
 
+-- what the first field says that says something
 abbrev pub first_said : {A : Type 0} → (MemoryField → Option A) → List Field → Option A
 first_said said [] = None
 first_said said (f ∷ fs) = or_later (said f.kind) (first_said said fs)

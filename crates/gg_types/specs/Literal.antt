@@ -30,7 +30,7 @@ digit c = count_before (to_ascii_lowercase c) (codes "0123456789abcdef")
 abbrev pub digits_number : ℕ → List ℕ → ℕ
 digits_number radix digits = fold (λ n c. n * radix + digit c) 0 digits
 
--- a number with a sign
+-- the number n, or its negative
 abbrev pub signed_number : Bool → ℕ → ℤ
 signed_number negative n = if negative then neg_ℤ (pos n) else pos n
 
@@ -38,7 +38,7 @@ signed_number negative n = if negative then neg_ℤ (pos n) else pos n
 abbrev pub literal_number : Literal → ℤ
 literal_number l = signed_number l.negative (digits_number (base l.radix) l.digits)
 
--- the pattern of a literal
+-- the pattern that a literal's number has in its width
 abbrev pub literal_value : Literal → ℕ
 literal_value l = pattern_of l.width (literal_number l)
 

@@ -34,19 +34,21 @@ field_sort word depth Mask = Some (bits (uint 1))
 
 -- ---- the type data of a declared name
 
--- a port
+-- a port: its name, and the type that it is declared with
 abbrev pub port_own : Port → List ℕ × Option Own
 port_own port = (port.name, Some (own.Single (sort_of port.ty)))
 
--- a memory
+-- a memory: the type and the number of its words, as its fields say
 abbrev pub memory_own : List Field → Own
 memory_own fields = own.Memory (first_said type_said fields) (first_said depth_said fields)
 
+-- the type of a name that has one itself; an instance and a memory have none
 abbrev pub single : Own → Option Sort
 single (own.Single s) = Some s
 single own.Instance = None
 single (own.Memory word depth) = None
 
+-- the type of a memory's field; nothing if the name isn't a memory's
 abbrev pub field_of : Own → PortField → Option Sort
 field_of (own.Single s) field = None
 field_of own.Instance field = None
@@ -67,6 +69,8 @@ typed_by o (roles.InstanceInput ty) = Some (sort_of ty)
 typed_by o (roles.InstanceOutput ty) = Some (sort_of ty)
 typed_by o (roles.MemoryPort kind field) = field_of o field
 
+-- The type of what a reference names, from the type data of its first name and from its role. Nothing if its first name isn't declared; no
+-- type if that is a node without one.
 abbrev pub typed : Option (Option Own) → Option Role → Option (Option Sort)
 typed None role = None
 typed (Some None) role = Some None
@@ -83,5 +87,6 @@ abbrev pub known_sort : Option (Option Sort) → Option Sort
 known_sort None = None
 known_sort (Some s) = s
 
+-- the type of what a reference names, if it names something that has one
 abbrev pub sort_of_reference : List (Reference × Role) → List (List ℕ × Option Own) → Reference → Option Sort
 sort_of_reference roles known r = known_sort (known_entry roles known r)

@@ -1,4 +1,5 @@
 -- Drivers by the places of names.
+-- Source: FIRRTL Specification, "Clock Type"; the places are this program's own way to follow drivers.
 use Rattle.std.specs.Prelude.{◌≡◌, ℕ, zero, suc, ◌<◌, List, Option, Some, None, length, map, option_map, slice_get, slice_index, slice_set, if◌then◌else◌, unwrap_or}
 use Rattle.gg_ast.specs.declared.statement.Stmt.{Stmt}
 use Rattle.gg_ast.specs.Places.{place_of}
@@ -6,7 +7,7 @@ use Rattle.gg_types.specs.Named.{find_named}
 use Rattle.gg_types.specs.declared.way.Way.{Way}
 use Rattle.gg_types.specs.Clocks.{is_followed, lead_of}
 
--- the place of a name
+-- the place of a name among all names of the module, if it is declared
 abbrev pub place_in : List ℕ → List (List ℕ × Way) → Option ℕ
 place_in name ways = place_of name (map (λ w. w.0) ways)
 
@@ -15,6 +16,7 @@ abbrev pub next_at : List (List ℕ × Way) → ℕ → Option (List ℕ) → �
 next_at ways place None = place
 next_at ways place (Some name) = unwrap_or (place_in name ways) place
 
+-- the place that a name at this place leads to by these statements; the same place if its driver isn't followed
 abbrev pub next_place : List (List ℕ × Way) → List Stmt → List ℕ → ℕ → ℕ
 next_place ways statements name place =
     if is_followed (find_named name ways) then next_at ways place (lead_of name statements) else place
@@ -29,6 +31,8 @@ pub record TellsNext (ways : List (List ℕ × Way)) (statements : List Stmt) (n
   pub places : ArePlaces (length ways) next
   pub told : (name : List ℕ) (place : ℕ) → place_in name ways ≡ Some place → slice_index next place ≡ next_place ways statements name place
 
+-- the places after a statement drives the name d.0, whose place is given: that place now leads where d.1 leads, if the name's driver is
+-- followed
 abbrev pub set_next : List (List ℕ × Way) → List ℕ → List ℕ × Option (List ℕ) → Option ℕ → List ℕ
 set_next ways next d None = next
 set_next ways next d (Some place) =

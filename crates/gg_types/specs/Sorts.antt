@@ -17,6 +17,7 @@ sort_of types.Clock = Clock
 abbrev pub bits : Shape → Sort
 bits s = Bits s.kind s.width
 
+-- whether a written type is Clock
 abbrev pub is_clock : GroundType → Bool
 is_clock (types.UInt w) = false
 is_clock (types.SInt w) = false

@@ -77,12 +77,14 @@ result1 op None = None
 result1 op (Some (Bits k w)) = Some (op (of_kind k w))
 result1 op (Some Clock) = Some (Err bads.Kind)
 
+-- the same of two operands: a Clock among them is a wrong kind, once both have a type
 abbrev pub result2 : (Shape → Shape → Result Shape Bad) → Option Sort → Option Sort → Option (Result Shape Bad)
 result2 op None b = None
 result2 op (Some (Bits k w)) b = result1 (op (of_kind k w)) b
 result2 op (Some Clock) None = None
 result2 op (Some Clock) (Some b) = Some (Err bads.Kind)
 
+-- the same of three operands
 abbrev pub result3 : (Shape → Shape → Shape → Result Shape Bad) → Option Sort → Option Sort → Option Sort → Option (Result Shape Bad)
 result3 op None b c = None
 result3 op (Some (Bits k w)) b c = result2 (op (of_kind k w)) b c
@@ -90,6 +92,7 @@ result3 op (Some Clock) None c = None
 result3 op (Some Clock) (Some b) None = None
 result3 op (Some Clock) (Some b) (Some c) = Some (Err bads.Kind)
 
+-- what is wrong with an operation, as a fault on this line: F9, F10 or F11
 abbrev pub bad_faults : ℕ → Word → Bad → List Fault
 bad_faults line word bads.Kind = WrongKind line word ∷ []
 bad_faults line word (bads.Width w) = WrongWidth line w ∷ []
@@ -101,6 +104,7 @@ result_faults line word None = []
 result_faults line word (Some (Ok s)) = []
 result_faults line word (Some (Err bad)) = bad_faults line word bad
 
+-- the type of a result, if there is one and nothing is wrong with it
 abbrev pub result_sort : Option (Result Shape Bad) → Option Sort
 result_sort None = None
 result_sort (Some (Ok s)) = Some (bits s)
@@ -108,9 +112,11 @@ result_sort (Some (Err bad)) = None
 
 -- ---- literals and declared types: a width is 1 to 128
 
+-- a width from 1 to 128
 abbrev pub is_width : ℕ → Bool
 is_width w = nat_le 1 w && nat_le w 128
 
+-- a literal's width is wrong (F10), or else its number doesn't fit its width (F12)
 abbrev pub literal_faults : ℕ → Literal → List Fault
 literal_faults line l =
     if is_width l.width then fault_if (not (literal_fits l)) (LiteralTooLarge line) else WrongWidth line l.width ∷ []
@@ -119,9 +125,11 @@ literal_faults line l =
 abbrev pub literal_shape : Literal → Option Shape
 literal_shape l = if is_width l.width && literal_fits l then Some (of_kind l.kind l.width) else None
 
+-- the type of a literal, if its width is 1 to 128 and its number fits
 abbrev pub literal_sort : Literal → Option Sort
 literal_sort l = if is_width l.width && literal_fits l then Some (Bits l.kind l.width) else None
 
+-- F10, if a written type's width is not 1 to 128; a Clock has no width
 abbrev pub width_faults : ℕ → GroundType → List Fault
 width_faults line (types.UInt w) = fault_if (not (is_width w)) (WrongWidth line w)
 width_faults line (types.SInt w) = fault_if (not (is_width w)) (WrongWidth line w)
@@ -135,7 +143,7 @@ clock_position line word None = []
 clock_position line word (Some (Bits k w)) = WrongKind line word ∷ []
 clock_position line word (Some Clock) = []
 
--- a condition is UInt<1>
+-- F9, if a condition's type isn't UInt<1>; nothing is said where it isn't known
 abbrev pub condition_position : ℕ → Word → Option Sort → List Fault
 condition_position line word None = []
 condition_position line word (Some (Bits k w)) = fault_if (not (is_condition (of_kind k w))) (WrongKind line word)
@@ -148,6 +156,7 @@ bits_connected line word sink_kind sink source_kind source =
     then fault_if (nat_lt sink source) (TooWide line source sink)
     else WrongKind line word ∷ []
 
+-- F9 or F13, if a source of this type can't be connected to a sink of that type; nothing is said where one of the types isn't known
 abbrev pub connected : ℕ → Word → Option Sort → Option Sort → List Fault
 connected line word None source = []
 connected line word (Some sink) None = []
@@ -172,6 +181,7 @@ field_faults line (field.Readers names) = []
 field_faults line (field.Writers names) = []
 field_faults line (field.ReadUnderWrite word) = []
 
+-- the same of all fields of a memory
 abbrev pub memory_type_faults : List Field → List Fault
 memory_type_faults fields = flat_map (λ f. field_faults f.line f.kind) fields
 
@@ -213,9 +223,11 @@ module _ (roles : List (Reference × Role)) (traced : List ℕ → Bool) where
       ++ (faults_in known line b
       ++ result_faults line words.Mux (result3 type_mux (sort_in known c) (sort_in known a) (sort_in known b))))
 
+  -- the faults of an expression that stands in a clock position
   abbrev pub clock_faults_in : List (List ℕ × Option Own) → ℕ → Word → Term → List Fault
   clock_faults_in known line word t = faults_in known line t ++ clock_position line word (sort_in known t)
 
+  -- the faults of an expression that stands as a condition
   abbrev pub condition_faults_in : List (List ℕ × Option Own) → ℕ → Word → Term → List Fault
   condition_faults_in known line word t = faults_in known line t ++ condition_position line word (sort_in known t)
 
@@ -290,6 +302,7 @@ module _ (roles : List (Reference × Role)) (traced : List ℕ → Bool) where
   known_after known [] = known
   known_after known (s ∷ ss) = known_after (known ++ own_by known s.kind) ss
 
+  -- the faults of a statement, after the ports and the statements before it
   abbrev pub faults_of : List (List ℕ × Option Own) → List Stmt → Stmt → List Fault
   faults_of ports before s = faults_of_kind (known_after ports before) s.line s.kind
 
@@ -304,6 +317,7 @@ port_faults port =
 
 -- ---- all of them
 
+-- the faults of a module: those of its ports, then those of its statements
 abbrev pub module_type_faults : List (Reference × Role) → (List ℕ → Bool) → ModuleTree → List Fault
 module_type_faults roles traced m = flat_map port_faults m.ports ++ along (faults_of roles traced (map port_own m.ports)) m.statements
 

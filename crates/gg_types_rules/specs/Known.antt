@@ -13,9 +13,11 @@ use Rattle.gg_types.specs.Named.{owned, flagged}
 abbrev pub module_seen : Known → ModuleTree
 module_seen k = module_at k.names.now.modules k.number
 
+-- the names that the module declares, in the order of the file
 abbrev pub names_seen : Known → List (List ℕ)
 names_seen k = names_in (module_seen k)
 
+-- all that can be written in the module, each with its role
 abbrev pub roles_seen : Known → List (Reference × Role)
 roles_seen k = scope_of k.names.now.modules (module_seen k)
 

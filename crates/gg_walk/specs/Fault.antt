@@ -1,4 +1,5 @@
 -- What a walk's fault says.
+-- Source: this program's own.
 use Rattle.std.specs.Prelude.{ℕ, List, codes}
 use Rattle.gg_walk.specs.declared.fault.WalkFault.{WalkFault}
 use Rattle.gg_walk.specs.declared.fault.WalkFault.TheVariants.{Ring, NoMemory}
@@ -8,7 +9,7 @@ abbrev pub IfRing : (List ℕ → Type 0) → WalkFault → Type 0
 IfRing P (Ring ring) = P ring.items
 IfRing P NoMemory = Unit {0}
 
--- the fault in words
+-- how a value of `WalkFault` is printed
 abbrev pub fault_text : WalkFault → List ℕ
 fault_text (Ring ring) = codes "the graph has a ring"
 fault_text NoMemory = codes "out of memory"

@@ -3,7 +3,7 @@
 -- Source: Knuth, The Art of Computer Programming, volume 1, section 2.2.3, "Topological sorting".
 use Rattle.std.specs.Prelude.{◌≢◌, ℕ, ◌<◌, List, [], ◌∷◌, length, take, Contains, AllPairs, slice_index_or}
 
--- the node at a place of a list
+-- the node at a place of a list; 0 past the end
 abbrev pub node_at : List ℕ → ℕ → ℕ
 node_at nodes i = slice_index_or nodes i 0
 

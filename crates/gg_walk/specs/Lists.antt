@@ -2,6 +2,7 @@
 use Rattle.std.proofs.Math.Nat.{not-suc-le-zero}
 use Rattle.std.specs.Prelude.{ℕ, ◌<◌, List, [], length, take, Contains, slice_index_or}
 
+-- the targets of node s, in order; none for a number that is not a node
 abbrev pub targets_of : List (List ℕ) → ℕ → List ℕ
 targets_of lists s = slice_index_or lists s []
 

@@ -5,7 +5,7 @@ use Rattle.gg_walk.specs.declared.state.Stage.{Stage}
 use Rattle.gg_walk.specs.declared.state.Stage.TheVariants.{New, Open, Done}
 use Rattle.gg_walk.specs.declared.state.Progress.{Progress}
 
--- the stage of a node
+-- the stage of a node; past the end it is new
 abbrev pub stage_at : List Stage → ℕ → Stage
 stage_at stages s = slice_index_or stages s New
 
@@ -33,16 +33,20 @@ StandsAfter Edge order = (i t : ℕ) → i < length order → Edge (node_at orde
 pub record Walks (Edge : ℕ → ℕ → Type 0) (EdgeBelow : ℕ → ℕ → ℕ → Type 0) (count : ℕ) (path : List ℕ) (stages : List Stage) (places order : List ℕ) : Type 0 where
   pub stage_count : length stages ≡ count
   pub place_count : length places ≡ count
+  -- the nodes that are done are just those of the order
   pub finished : (s : ℕ) → stage_at stages s ≡ Done → Contains order s
   pub ordered : (s : ℕ) → Contains order s → stage_at stages s ≡ Done
+  -- the open nodes are just those of the path
   pub on_path : (s : ℕ) → stage_at stages s ≡ Open → Contains path s
   pub opened : (s : ℕ) → Contains path s → stage_at stages s ≡ Open
   pub order_once : AllPairs (λ a b. a ≢ b) order
   pub path_once : AllPairs (λ a b. a ≢ b) path
   pub after : StandsAfter Edge order
   pub chain : IsChain Edge path
+  -- a node's targets before the place up to which it was looked at are done
   pub scanned : (s t : ℕ) → EdgeBelow s (node_at places s) t → stage_at stages t ≡ Done
 
+-- the same of the lists that a walk keeps
 abbrev pub IsUnderWay : (ℕ → ℕ → Type 0) → (ℕ → ℕ → ℕ → Type 0) → ℕ → List ℕ → Progress → Type 0
 IsUnderWay Edge EdgeBelow count path walk = Walks Edge EdgeBelow count path walk.stages.items walk.places.items walk.order.items
 

@@ -49,25 +49,31 @@ resume_rules =
     word_rule (codes "circuit") ∷ word_rule (codes "partition") ∷ word_rule (codes "trace") ∷ word_rule (codes "snap")
     ∷ value_rule (codes "capacity") ∷ value_rule (codes "workers") ∷ []
 
--- a command of the program
+-- a command with this name, which takes what these rules say
 abbrev pub command_shape : Text → List Rule → Shape
 command_shape name rules = record (new_shape name) { rules = rules }
 
+-- `run`, with its rules
 abbrev pub run_shape : Shape
 run_shape = command_shape (codes "run") run_rules
 
+-- `replay`, with its rules
 abbrev pub replay_shape : Shape
 replay_shape = command_shape (codes "replay") replay_rules
 
+-- `check`, with its rules
 abbrev pub check_shape : Shape
 check_shape = command_shape (codes "check") check_rules
 
+-- `demo`, with its rules
 abbrev pub demo_shape : Shape
 demo_shape = command_shape (codes "demo") demo_rules
 
+-- `save`, with its rules
 abbrev pub save_shape : Shape
 save_shape = command_shape (codes "save") save_rules
 
+-- `resume`, with its rules
 abbrev pub resume_shape : Shape
 resume_shape = command_shape (codes "resume") resume_rules
 

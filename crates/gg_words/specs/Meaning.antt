@@ -94,6 +94,7 @@ CommandSays name rows said = cond (bytes_eq name (codes "run")) (said ≡ run_of
     (cond (bytes_eq name (codes "save")) (said ≡ save_of rows)
     (cond (bytes_eq name (codes "resume")) (said ≡ resume_of rows) ⊥)))))
 
+-- a command was found, and says this
 abbrev pub FoundSays : Option (Text × List Row) → Result Cmd Text → Type 0
 FoundSays None said = ⊥
 FoundSays (Some found) said = CommandSays found.0 found.1 said
@@ -103,7 +104,7 @@ pub record Says (words : List Text) (said : Result Cmd Text) : Type 0 where
   pub taken : fault_of golden_app words ≡ []
   pub found : FoundSays (subcommand_of golden_app words) said
 
--- the words are this command
+-- `clap` takes the words, and what it finds in them is this command
 abbrev pub IsCommand : List Text → Cmd → Type 0
 IsCommand words cmd = Says words (Ok cmd)
 
@@ -132,7 +133,7 @@ SaysFault NoMemory said = ⊤
 abbrev pub Answers : {T : Type 0} → Result T WordFault → Result T Text → Type 0
 Answers result said = MatchResult result (λ x. said ≡ Ok x) (λ fault. SaysFault fault said)
 
--- each of these arguments has a text
+-- for each of these arguments a text was found
 abbrev pub HaveTexts : List Text → List Row → Type 0
 HaveTexts [] rows = ⊤
 HaveTexts (id ∷ ids) rows = (is_some (first_of id rows) ≡ true) × HaveTexts ids rows
@@ -141,18 +142,23 @@ HaveTexts (id ∷ ids) rows = (is_some (first_of id rows) ≡ true) × HaveTexts
 abbrev pub run_files : List Text
 run_files = codes "circuit" ∷ codes "partition" ∷ codes "trace" ∷ []
 
+-- the files of `replay`
 abbrev pub replay_files : List Text
 replay_files = codes "circuit" ∷ codes "partition" ∷ codes "trace" ∷ codes "steps" ∷ []
 
+-- the files of `check`
 abbrev pub check_files : List Text
 check_files = codes "circuit" ∷ codes "partition" ∷ []
 
+-- the numbers of `demo`
 abbrev pub demo_numbers : List Text
 demo_numbers = codes "seed" ∷ codes "size" ∷ []
 
+-- the files of `save`, and the cycle of the snapshot
 abbrev pub save_words : List Text
 save_words = codes "circuit" ∷ codes "partition" ∷ codes "trace" ∷ codes "at" ∷ []
 
+-- the files of `resume`
 abbrev pub resume_files : List Text
 resume_files = codes "circuit" ∷ codes "partition" ∷ codes "trace" ∷ codes "snap" ∷ []
 

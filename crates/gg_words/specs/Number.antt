@@ -1,4 +1,5 @@
 -- Numbers among the words.
+-- Source: this program's own command line; docs/FORMATS.md describes it.
 use Rattle.std.specs.Prelude.{ℕ, ◌&&◌, nat_lt, nat_le, if◌then◌else◌, List, length, Option, None, Some, Result, Ok, Err}
 use Rattle.std.specs.Option.{option_map_or}
 use Rattle.std.specs.Str.{all_ascii_digits}

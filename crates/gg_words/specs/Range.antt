@@ -9,7 +9,7 @@ use Rattle.gg_words.specs.declared.command.Cmd.TheVariants.{Run, Replay, Check, 
 abbrev pub IsWithin : (least most : ℕ) → ℕ → Type 0
 IsWithin least most n = (least ≤ n) × (n ≤ most)
 
--- the most workers
+-- the most workers that may be asked for
 abbrev pub most_workers : ℕ
 most_workers = 64
 
@@ -21,7 +21,7 @@ greatest_seed = 4294967295
 abbrev pub most_stages : ℕ
 most_stages = 64
 
--- a capacity: at least 1
+-- a capacity that may be asked for: 1 to 4,096
 abbrev pub IsCapacity : ℕ → Type 0
 IsCapacity n = IsWithin 1 capacity_limit n
 

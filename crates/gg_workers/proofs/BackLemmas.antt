@@ -14,8 +14,8 @@ use Rattle.gg_net.specs.Net.{AreListed, AreParts, joined}
 use Rattle.gg_seats.specs.Pass.{MachineWentOn, EventsDone}
 use Rattle.gg_seats.specs.Seats.{Linked, MayStand, TakeSeatOf, PutSeatOf}
 use Rattle.gg_seats.proofs.AgainLemmas.{linked-again}
-use Rattle.gg_workers.specs.declared.booth.Booth.{Booth}
-use Rattle.gg_workers.specs.Booths.{DoneAt, AreBooths, AreNumbered}
+use Rattle.gg_workers.specs.declared.worker.LinkedHost.{LinkedHost}
+use Rattle.gg_workers.specs.LinkedHosts.{DoneAt, AreLinkedHosts, AreNumbered}
 use Rattle.gg_workers.specs.Apart.{WereSeated, WasJoined, WereLinked, AreSeats}
 use Rattle.gg_workers.specs.Work.{IsLater}
 use Rattle.gg_workers.proofs.WorkLemmas as work
@@ -46,14 +46,14 @@ module _ {flow : Flow} {net : Network} {shape : Shape} {threads : List ℕ} (j :
         (λ c put lt. puts.each c put (omega (arith, lt, were.all)))
         (λ c take lt. takes.each c take (omega (arith, lt, were.all)))
 
-    module _ (bs : List (Booth H S T)) (are : AreBooths machines threads (DoneAt takes_from puts_into taking putting flow net stations links upto) bs) (numbered : AreNumbered bs) (count : length bs ≡ length threads) where
+    module _ (bs : List (LinkedHost H S T)) (are : AreLinkedHosts machines threads (DoneAt takes_from puts_into taking putting flow net stations links upto) bs) (numbered : AreNumbered bs) (count : length bs ≡ length threads) where
       abbrev after : List (List Machine)
-      after = map machines (map (λ (b : Booth H S T). b.host) bs)
+      after = map machines (map (λ (b : LinkedHost H S T). b.host) bs)
 
       as-many : length bs ≡ length j.hosts
       as-many = count ∙ ap (λ l. length l) j.sizes ∙ length-map j.hosts (λ (l : List Machine). length l)
 
-      pub stand-back : (hs : List H) → hs ≡ map (λ (b : Booth H S T). b.host) bs → MayStand flow net (machines_by (map machines hs) stations)
+      pub stand-back : (hs : List H) → hs ≡ map (λ (b : LinkedHost H S T). b.host) bs → MayStand flow net (machines_by (map machines hs) stations)
       stand-back hs is = subst (λ (l : List H). MayStand flow net (machines_by (map machines l) stations)) (sym is) (work.may-stand machines takes_from puts_into taking putting flow net stations links upto threads j.hosts j.parts.seated bs are numbered as-many j.sizes count-start)
 
       run : (m : ℕ) → m < length stations → work.HasRun machines takes_from puts_into taking putting flow net stations links upto threads j.hosts j.parts.seated bs are numbered as-many j.sizes m (machine_at (machines_by after stations) m)
@@ -76,7 +76,7 @@ module _ {flow : Flow} {net : Network} {shape : Shape} {threads : List ℕ} (j :
           ))
           (λ m lt. (run m lt).own) closed (λ m lt. (run m lt).went) (λ m lt. (run m lt).done)
 
-      module _ (hs : List H) (is : hs ≡ map (λ (b : Booth H S T). b.host) bs) (left : List Held) (closed : Linked takes_from puts_into taking putting flow net (machines_by (map machines hs) stations) [] [] [] left) where
+      module _ (hs : List H) (is : hs ≡ map (λ (b : LinkedHost H S T). b.host) bs) (left : List Held) (closed : Linked takes_from puts_into taking putting flow net (machines_by (map machines hs) stations) [] [] [] left) where
         closed-here : Linked takes_from puts_into taking putting flow net (machines_by after stations) [] [] [] left
         closed-here = subst (λ (l : List H). Linked takes_from puts_into taking putting flow net (machines_by (map machines l) stations) [] [] [] left) is closed
 
@@ -91,6 +91,6 @@ pub seats-lent : {X H : Type 0} (R : List X → List H → List Station → Type
 seats-lent {X} {H} R links ls moved hs stations given lent are_links are_hosts are_given are_lent r =
     subst (R links hs) (sym are_lent) (subst (λ (l : List H). R links l stations) (sym are_hosts) (subst (R links moved) are_given (subst (λ (l : List X). R l moved given) are_links r)))
 
-pub booths-lent : {A B C : Type 0} (R : List A → List B → List C → Type 0) {threads lent_threads : List A} {stations lent_stations : List B} {links lent_links : List C} → threads ≡ lent_threads → stations ≡ lent_stations → links ≡ lent_links → R threads stations links → R lent_threads lent_stations lent_links
-booths-lent R {threads} {lent_threads} {stations} {lent_stations} {links} {lent_links} one two three r =
+pub linked_hosts-lent : {A B C : Type 0} (R : List A → List B → List C → Type 0) {threads lent_threads : List A} {stations lent_stations : List B} {links lent_links : List C} → threads ≡ lent_threads → stations ≡ lent_stations → links ≡ lent_links → R threads stations links → R lent_threads lent_stations lent_links
+linked_hosts-lent R {threads} {lent_threads} {stations} {lent_stations} {links} {lent_links} one two three r =
     subst (R lent_threads lent_stations) three (subst (λ s. R lent_threads s links) two (subst (λ t. R t stations links) one r))

@@ -3,7 +3,7 @@ use Rattle.std.proofs.Common.{◌≡◌, ℕ, zero, suc, ◌+◌, ◌<◌, ◌�
 use Rattle.std.proofs.lemmas.Bool.{cases_eq}
 use Rattle.std.proofs.lemmas.List.{get_or_append_left}
 use Rattle.std.specs.Prelude.{if◌then◌else◌}
-use Rattle.gg_workers.specs.Deal.{cards}
+use Rattle.gg_workers.specs.Assigned.{share_of}
 use Rattle.gg_workers.specs.Turns.{Falls}
 use Rattle.gg_workers.proofs.ListLemmas.{last_is}
 
@@ -39,10 +39,10 @@ grown-falls true l h low falls i k d lt le =
     ]
 grown-falls false l h low falls i k d lt le = subst Falls (sym (append-nil l)) falls i k d lt le
 
-cards-low : (w j h d : ℕ) → NoneBelow h (cards w j h d)
-cards-low w j h zero k e lt = absurd (omega (arith, lt))
-cards-low w j h (suc d) k e lt = grown-low (nat_eq (h % w) j) (cards w j (h + 1) d) h (cards-low w j (h + 1) d) k e lt
+share-low : (w j h d : ℕ) → NoneBelow h (share_of w j h d)
+share-low w j h zero k e lt = absurd (omega (arith, lt))
+share-low w j h (suc d) k e lt = grown-low (nat_eq (h % w) j) (share_of w j (h + 1) d) h (share-low w j (h + 1) d) k e lt
 
-pub cards-fall : (w j h d : ℕ) → Falls (cards w j h d)
-cards-fall w j h zero i k e lt le = absurd (omega (arith, le))
-cards-fall w j h (suc d) i k e lt le = grown-falls (nat_eq (h % w) j) (cards w j (h + 1) d) h (cards-low w j (h + 1) d) (cards-fall w j (h + 1) d) i k e lt le
+pub share-falls : (w j h d : ℕ) → Falls (share_of w j h d)
+share-falls w j h zero i k e lt le = absurd (omega (arith, le))
+share-falls w j h (suc d) i k e lt le = grown-falls (nat_eq (h % w) j) (share_of w j (h + 1) d) h (share-low w j (h + 1) d) (share-falls w j (h + 1) d) i k e lt le

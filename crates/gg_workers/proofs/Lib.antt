@@ -1,12 +1,12 @@
 mod ListLemmas
-mod DealLemmas
-mod DeskLemmas
+mod AssignLemmas
+mod HostSeatsLemmas
 mod FillLemmas
 mod MakingLemmas
 mod StepLemmas
 mod FallLemmas
 mod TurnLemmas
-mod WorkedDesks
+mod WorkedSeats
 mod WorkedRuns
 mod TogetherLemmas
 mod ApartLemmas

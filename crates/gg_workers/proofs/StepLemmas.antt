@@ -5,7 +5,7 @@ use Rattle.std.proofs.lemmas.List.{map-set, set-get_or, get_or-map, length-map}
 use Rattle.std.proofs.lemmas.List.Sums.{sum_by-set}
 use Rattle.gg_node.specs.Machine.{Machine, no_machine, machine_at}
 use Rattle.gg_seats.specs.Rows.{steps_by, StepsDone}
-use Rattle.gg_workers.specs.declared.booth.Booth.{Booth}
+use Rattle.gg_workers.specs.declared.worker.LinkedHost.{LinkedHost}
 use Rattle.gg_workers.specs.Turns.{host_steps, steps_of, machines_in, StepsTold}
 
 -- ---- one list of which an element changes
@@ -41,8 +41,8 @@ told-machines first xs ys t there alone true true told done = told-more host_ste
 
 -- ---- several hosts
 
-module _ {H S T : Type 0} (machines : H → List Machine) (bs : List (Booth H S T)) (k : ℕ) (p q : Booth H S T) (inside : k < length bs) (was : (d : Booth H S T) → slice_index_or bs k d ≡ p) where
-  abbrev own : Booth H S T → List Machine
+module _ {H S T : Type 0} (machines : H → List Machine) (bs : List (LinkedHost H S T)) (k : ℕ) (p q : LinkedHost H S T) (inside : k < length bs) (was : (d : LinkedHost H S T) → slice_index_or bs k d ≡ p) where
+  abbrev own : LinkedHost H S T → List Machine
   own b = machines b.host
 
   there : k < length (machines_in machines bs)

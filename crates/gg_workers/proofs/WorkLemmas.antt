@@ -1,4 +1,4 @@
--- Booths whose machines have run are a network again.
+-- Hosts that have run are a network again.
 use Rattle.std.proofs.Common.{◌≡◌, ℕ, ◌<◌, List, [], Option, Some, length, map, sym, ap, subst, ◌∙◌, arith}
 use Rattle.std.specs.Prelude.{slice_index_or}
 use Rattle.std.proofs.Math.ListN as exact
@@ -15,42 +15,42 @@ use Rattle.gg_net.specs.Queue.{Held}
 use Rattle.gg_net.specs.Seats.{hosted, seated, machines_by, IsSeated, AreSeated}
 use Rattle.gg_net.specs.Net.{net_of, IsNet}
 use Rattle.gg_net.proofs.PartLemmas.{frame-rejoined}
-use Rattle.gg_seats.specs.Deal.{AllThere, AreBack}
-use Rattle.gg_seats.specs.Pass.{IsDesk, MachineWentOn, EventsDone}
+use Rattle.gg_seats.specs.SeatLists.{AllThere, AreBack}
+use Rattle.gg_seats.specs.Pass.{HasSeats, MachineWentOn, EventsDone}
 use Rattle.gg_seats.specs.Seats.{Linked, MayStand}
-use Rattle.gg_seats.specs.declared.desk.Desk.{Desk}
+use Rattle.gg_seats.specs.declared.machine_seats.MachineSeats.{MachineSeats}
 use Rattle.gg_seats.proofs.AgainLemmas.{machine-seated}
 use Rattle.gg_seats.proofs.AllLemmas.{all-back, all-hold}
 use Rattle.gg_seats.proofs.EventLemmas.{some-of}
 use Rattle.gg_seats.proofs.NetLemmas.{closed-net}
 use Rattle.gg_seats.proofs.LaterLemmas.{cycles-rise, serves-rise, puts-rise, takes-rise, latch-rises, fire-rises, serve-rises, finish-rises}
-use Rattle.gg_workers.specs.declared.booth.Booth.{Booth}
-use Rattle.gg_workers.specs.declared.desks.HostDesks.{HostDesks}
-use Rattle.gg_workers.specs.Booths.{DoneAt, AreBooths, AreNumbered}
-use Rattle.gg_workers.specs.Apart.{row_of, RowsBack, IsStaffed, AllStaffed, AreSeats}
+use Rattle.gg_workers.specs.declared.worker.LinkedHost.{LinkedHost}
+use Rattle.gg_workers.specs.declared.host_seats.HostSeats.{HostSeats}
+use Rattle.gg_workers.specs.LinkedHosts.{DoneAt, AreLinkedHosts, AreNumbered}
+use Rattle.gg_workers.specs.Apart.{row_of, AllBack, IsOwned, AllOwned, AreSeats}
 use Rattle.gg_workers.specs.Work.{IsLater}
 
-module _ {H X S T : Type 0} (machines : H → List Machine) (takes_from : X → S → Type 0) (puts_into : X → T → Type 0) (taking : S → SeatState) (putting : T → SeatState) (flow : Flow) (net : Network) (stations : List Station) (links : List X) (upto : ℕ) (threads : List ℕ) (hosts : List (List Machine)) (placed : AreSeated hosts stations) (bs : List (Booth H S T))
-    (are : AreBooths machines threads (DoneAt takes_from puts_into taking putting flow net stations links upto) bs) (numbered : AreNumbered bs) (count : length bs ≡ length hosts) (sizes : threads ≡ map (λ (l : List Machine). length l) hosts) where
+module _ {H X S T : Type 0} (machines : H → List Machine) (takes_from : X → S → Type 0) (puts_into : X → T → Type 0) (taking : S → SeatState) (putting : T → SeatState) (flow : Flow) (net : Network) (stations : List Station) (links : List X) (upto : ℕ) (threads : List ℕ) (hosts : List (List Machine)) (placed : AreSeated hosts stations) (bs : List (LinkedHost H S T))
+    (are : AreLinkedHosts machines threads (DoneAt takes_from puts_into taking putting flow net stations links upto) bs) (numbered : AreNumbered bs) (count : length bs ≡ length hosts) (sizes : threads ≡ map (λ (l : List Machine). length l) hosts) where
   -- the machines of the hosts after the run
   abbrev pub after : List (List Machine)
-  after = map machines (map (λ (b : Booth H S T). b.host) bs)
+  after = map machines (map (λ (b : LinkedHost H S T). b.host) bs)
 
   abbrev pub now : List Machine
   now = machines_by after stations
 
-  hosted-is : (h : ℕ) (b : Booth H S T) → h < length bs → hosted after h ≡ machines (slice_index_or bs h b).host
+  hosted-is : (h : ℕ) (b : LinkedHost H S T) → h < length bs → hosted after h ≡ machines (slice_index_or bs h b).host
   hosted-is h b lt =
       let x : H = (slice_index_or bs h b).host in
-      get_or-map machines (map (λ (b : Booth H S T). b.host) bs) h x [] (omega (arith, lt, length-map bs (λ (b : Booth H S T). b.host)))
-      ∙ ap machines (get_or-map (λ (b : Booth H S T). b.host) bs h b x lt)
+      get_or-map machines (map (λ (b : LinkedHost H S T). b.host) bs) h x [] (omega (arith, lt, length-map bs (λ (b : LinkedHost H S T). b.host)))
+      ∙ ap machines (get_or-map (λ (b : LinkedHost H S T). b.host) bs h b x lt)
 
   pub after-long : length after ≡ length hosts
-  after-long = length-map (map (λ (b : Booth H S T). b.host) bs) machines ∙ length-map bs (λ (b : Booth H S T). b.host) ∙ count
+  after-long = length-map (map (λ (b : LinkedHost H S T). b.host) bs) machines ∙ length-map bs (λ (b : LinkedHost H S T). b.host) ∙ count
 
-  -- a booth has as many desks as its host had threads
-  desk-count : (h : ℕ) (b : Booth H S T) → h < length bs → length (slice_index_or bs h b).desks.items ≡ length (hosted hosts h)
-  desk-count h b lt = (are h b lt).count ∙ ap (value_at threads) (numbered h b lt) ∙ ap (λ l. value_at l h) sizes ∙ exact.get_or-map (λ (l : List Machine). length l) hosts h []
+  -- a host has the seats of as many machines as it had threads
+  machine_seats-count : (h : ℕ) (b : LinkedHost H S T) → h < length bs → length (slice_index_or bs h b).by_thread.items ≡ length (hosted hosts h)
+  machine_seats-count h b lt = (are h b lt).count ∙ ap (value_at threads) (numbered h b lt) ∙ ap (λ l. value_at l h) sizes ∙ exact.get_or-map (λ (l : List Machine). length l) hosts h []
 
   lengths : map (λ (l : List Machine). length l) after ≡ map (λ (l : List Machine). length l) hosts
   lengths =
@@ -58,77 +58,77 @@ module _ {H X S T : Type 0} (machines : H → List Machine) (takes_from : X → 
       (length-map after (λ (l : List Machine). length l) ∙ after-long ∙ sym (length-map hosts (λ (l : List Machine). length l)))
       (λ h lt.
       let inside : h < length bs = omega (arith, lt, length-map after (λ (l : List Machine). length l), after-long, count) in
-      let b : Booth H S T = some-of bs h inside in
+      let b : LinkedHost H S T = some-of bs h inside in
       exact.get_or-map (λ (l : List Machine). length l) after h []
       ∙ ap (λ (l : List Machine). length l) (hosted-is h b inside)
-      ∙ sym (are h b inside).desks.count
-      ∙ desk-count h b inside
+      ∙ sym (are h b inside).by_thread.count
+      ∙ machine_seats-count h b inside
       ∙ sym (exact.get_or-map (λ (l : List Machine). length l) hosts h []))
 
   pub threads-same : (h : ℕ) → length (hosted after h) ≡ length (hosted hosts h)
   threads-same h = sym (exact.get_or-map (λ (l : List Machine). length l) after h []) ∙ ap (λ l. value_at l h) lengths ∙ exact.get_or-map (λ (l : List Machine). length l) hosts h []
 
-  -- ---- the desk of a thread
+  -- ---- the seats at a thread
 
-  module _ (h t : ℕ) (b : Booth H S T) (d : Desk S T) (lt : h < length bs) (le : t < length (slice_index_or bs h b).desks.items) where
-    abbrev desk : Desk S T
-    desk = slice_index_or (slice_index_or bs h b).desks.items t d
+  module _ (h t : ℕ) (b : LinkedHost H S T) (d : MachineSeats S T) (lt : h < length bs) (le : t < length (slice_index_or bs h b).by_thread.items) where
+    abbrev machine_seats : MachineSeats S T
+    machine_seats = slice_index_or (slice_index_or bs h b).by_thread.items t d
 
-    pub done-here : DoneAt takes_from puts_into taking putting flow net stations links upto (slice_index_or bs h b).number t (machine_at (machines (slice_index_or bs h b).host) t) desk
-    done-here = (are h b lt).desks.each t d le
+    pub done-here : DoneAt takes_from puts_into taking putting flow net stations links upto (slice_index_or bs h b).number t (machine_at (machines (slice_index_or bs h b).host) t) machine_seats
+    done-here = (are h b lt).by_thread.each t d le
 
-    -- the machine of the desk is that of the thread
-    pub machine-here : machine_at now desk.machine ≡ machine_at (machines (slice_index_or bs h b).host) t
+    -- they are those of the thread's machine
+    pub machine-here : machine_at now machine_seats.machine ≡ machine_at (machines (slice_index_or bs h b).host) t
     machine-here =
-        let s : Station = some-of stations desk.machine done-here.at.known in
-        machine-seated after stations desk.machine s done-here.at.known
-        ∙ ap (λ j. machine_at (hosted after j) (slice_index_or stations desk.machine s).thread) (done-here.at.host s ∙ numbered h b lt)
+        let s : Station = some-of stations machine_seats.machine done-here.at.known in
+        machine-seated after stations machine_seats.machine s done-here.at.known
+        ∙ ap (λ j. machine_at (hosted after j) (slice_index_or stations machine_seats.machine s).thread) (done-here.at.host s ∙ numbered h b lt)
         ∙ ap (λ j. machine_at (hosted after h) j) (done-here.at.thread s)
         ∙ ap (λ l. machine_at l t) (hosted-is h b lt)
 
-    pub staffed-here : IsStaffed takes_from puts_into taking putting flow net links now stations desk
-    staffed-here =
+    pub owned-here : IsOwned takes_from puts_into taking putting flow net links now stations machine_seats
+    owned-here =
         record {
           known = done-here.at.known;
-          seats = λ s. subst (λ (x : Machine). IsDesk takes_from puts_into taking putting flow net links desk.machine (slice_index_or stations desk.machine s).ins (slice_index_or stations desk.machine s).outs x desk.takes.items desk.puts.items) (sym machine-here) (done-here.at.seats s);
+          seats = λ s. subst (λ (x : Machine). HasSeats takes_from puts_into taking putting flow net links machine_seats.machine (slice_index_or stations machine_seats.machine s).ins (slice_index_or stations machine_seats.machine s).outs x machine_seats.takes.items machine_seats.puts.items) (sym machine-here) (done-here.at.seats s);
         }
 
-  pub all-staffed : AllStaffed takes_from puts_into taking putting flow net links now stations (map row_of bs)
-  all-staffed j r lt k d le =
+  pub all-owned : AllOwned takes_from puts_into taking putting flow net links now stations (map row_of bs)
+  all-owned j r lt k d le =
       let inside : j < length bs = omega (arith, lt, length-map bs row_of) in
-      let b : Booth H S T = some-of bs j inside in
+      let b : LinkedHost H S T = some-of bs j inside in
       let at = get_or-map row_of bs j b r inside in
-      subst (λ v. IsStaffed takes_from puts_into taking putting flow net links now stations (slice_index_or v.desks.items k d)) (sym at) (staffed-here j k b d inside (subst (λ v. k < length v.desks.items) at le))
+      subst (λ v. IsOwned takes_from puts_into taking putting flow net links now stations (slice_index_or v.by_thread.items k d)) (sym at) (owned-here j k b d inside (subst (λ v. k < length v.by_thread.items) at le))
 
-  -- ---- the desk of a machine
+  -- ---- the seats of a machine
 
-  pub record HasDesk (m : ℕ) : Type 0 where
+  pub record HasItsSeats (m : ℕ) : Type 0 where
     pub host : ℕ
     pub thread : ℕ
-    pub booth : Booth H S T
-    pub desk : Desk S T
+    pub linked_host : LinkedHost H S T
+    pub machine_seats : MachineSeats S T
     pub known : host < length bs
-    pub there : thread < length (slice_index_or bs host booth).desks.items
-    pub is : (slice_index_or (slice_index_or bs host booth).desks.items thread desk).machine ≡ m
+    pub there : thread < length (slice_index_or bs host linked_host).by_thread.items
+    pub is : (slice_index_or (slice_index_or bs host linked_host).by_thread.items thread machine_seats).machine ≡ m
 
-  pub has-desk : (m : ℕ) → m < length stations → HasDesk m
-  has-desk m lt =
+  pub has-machine_seats : (m : ℕ) → m < length stations → HasItsSeats m
+  has-machine_seats m lt =
       let e : Station = some-of stations m lt in
       let s : Station = slice_index_or stations m e in
       let seat : IsSeated hosts s = placed.each m e lt in
       let known : s.host < length bs = omega (arith, seat.host, count) in
-      let b : Booth H S T = some-of bs s.host known in
-      let there : s.thread < length (slice_index_or bs s.host b).desks.items = omega (arith, seat.thread, desk-count s.host b known) in
-      let d : Desk S T = some-of (slice_index_or bs s.host b).desks.items s.thread there in
+      let b : LinkedHost H S T = some-of bs s.host known in
+      let there : s.thread < length (slice_index_or bs s.host b).by_thread.items = omega (arith, seat.thread, machine_seats-count s.host b known) in
+      let d : MachineSeats S T = some-of (slice_index_or bs s.host b).by_thread.items s.thread there in
       let done = done-here s.host s.thread b d known there in
       record {
         host = s.host;
         thread = s.thread;
-        booth = b;
-        desk = d;
+        linked_host = b;
+        machine_seats = d;
         known = known;
         there = there;
-        is = placed.alone (slice_index_or (slice_index_or bs s.host b).desks.items s.thread d).machine m e e done.at.known lt (done.at.host e ∙ numbered s.host b known) (done.at.thread e);
+        is = placed.alone (slice_index_or (slice_index_or bs s.host b).by_thread.items s.thread d).machine m e e done.at.known lt (done.at.host e ∙ numbered s.host b known) (done.at.thread e);
       }
 
   -- what a machine is after the run
@@ -139,13 +139,13 @@ module _ {H X S T : Type 0} (machines : H → List Machine) (takes_from : X → 
 
   pub has-run : (m : ℕ) → m < length stations → HasRun m (machine_at now m)
   has-run m lt =
-      let at : HasDesk m = has-desk m lt in
-      let done = done-here at.host at.thread at.booth at.desk at.known at.there in
-      let desk : Desk S T = slice_index_or (slice_index_or bs at.host at.booth).desks.items at.thread at.desk in
+      let at : HasItsSeats m = has-machine_seats m lt in
+      let done = done-here at.host at.thread at.linked_host at.machine_seats at.known at.there in
+      let machine_seats : MachineSeats S T = slice_index_or (slice_index_or bs at.host at.linked_host).by_thread.items at.thread at.machine_seats in
       let s : Station = some-of stations m lt in
-      let x : Machine = machine_at (machines (slice_index_or bs at.host at.booth).host) at.thread in
-      let run : HasRun desk.machine x = record { own = (done.at.seats s).machine; went = done.at.went_on; done = done.done } in
-      subst (λ j. HasRun j (machine_at now j)) at.is (subst (HasRun desk.machine) (sym (machine-here at.host at.thread at.booth at.desk at.known at.there)) run)
+      let x : Machine = machine_at (machines (slice_index_or bs at.host at.linked_host).host) at.thread in
+      let run : HasRun machine_seats.machine x = record { own = (done.at.seats s).machine; went = done.at.went_on; done = done.done } in
+      subst (λ j. HasRun j (machine_at now j)) at.is (subst (HasRun machine_seats.machine) (sym (machine-here at.host at.thread at.linked_host at.machine_seats at.known at.there)) run)
 
   pub may-stand : length stations ≡ length net.machines → MayStand flow net now
   may-stand same =
@@ -156,17 +156,17 @@ module _ {H X S T : Type 0} (machines : H → List Machine) (takes_from : X → 
 
   -- ---- all seats are back
 
-  module _ {A : Type 0} (end_of : ℕ → ℕ) (P : ℕ → A → Type 0) (wide : ℕ) (old new : List (Option A)) (rows : RowsBack end_of P wide (map row_of bs) old new) (long : length old ≡ wide) (within : (c : ℕ) → c < wide → end_of c < length stations) where
+  module _ {A : Type 0} (end_of : ℕ → ℕ) (P : ℕ → A → Type 0) (wide : ℕ) (old new : List (Option A)) (rows : AllBack end_of P wide (map row_of bs) old new) (long : length old ≡ wide) (within : (c : ℕ) → c < wide → end_of c < length stations) where
     are-back : AreBack end_of P (length stations) wide new
     are-back =
         record {
           long = rows.long ∙ long;
           back = λ c lt low.
-              let at : HasDesk (end_of c) = has-desk (end_of c) low in
-              let v = row_of (slice_index_or bs at.host at.booth) in
-              let is = get_or-map row_of bs at.host at.booth v at.known in
-              rows.back c at.host at.thread v at.desk lt (omega (arith, at.known, length-map bs row_of)) (subst (λ (w : HostDesks S T). at.thread < length w.desks.items) (sym is) at.there)
-              (sym at.is ∙ ap (λ (w : HostDesks S T). (slice_index_or w.desks.items at.thread at.desk).machine) (sym is));
+              let at : HasItsSeats (end_of c) = has-machine_seats (end_of c) low in
+              let v = row_of (slice_index_or bs at.host at.linked_host) in
+              let is = get_or-map row_of bs at.host at.linked_host v at.known in
+              rows.back c at.host at.thread v at.machine_seats lt (omega (arith, at.known, length-map bs row_of)) (subst (λ (w : HostSeats S T). at.thread < length w.by_thread.items) (sym is) at.there)
+              (sym at.is ∙ ap (λ (w : HostSeats S T). (slice_index_or w.by_thread.items at.thread at.machine_seats).machine) (sym is));
         }
 
     pub seats-there : AllThere new
@@ -180,23 +180,23 @@ module _ {H X S T : Type 0} (machines : H → List Machine) (takes_from : X → 
 
   -- the same, of hosts and rows as they were moved
 
-  pub rows-staffed : (hs : List H) (rows : List (HostDesks S T)) → hs ≡ map (λ (b : Booth H S T). b.host) bs → rows ≡ map row_of bs → AllStaffed takes_from puts_into taking putting flow net links (machines_by (map machines hs) stations) stations rows
-  rows-staffed hs rows are_hosts are_rows =
-      subst (λ (l : List H). AllStaffed takes_from puts_into taking putting flow net links (machines_by (map machines l) stations) stations rows) (sym are_hosts)
-      (subst (λ (l : List (HostDesks S T)). AllStaffed takes_from puts_into taking putting flow net links now stations l) (sym are_rows) all-staffed)
+  pub rows-owned : (hs : List H) (rows : List (HostSeats S T)) → hs ≡ map (λ (b : LinkedHost H S T). b.host) bs → rows ≡ map row_of bs → AllOwned takes_from puts_into taking putting flow net links (machines_by (map machines hs) stations) stations rows
+  rows-owned hs rows are_hosts are_rows =
+      subst (λ (l : List H). AllOwned takes_from puts_into taking putting flow net links (machines_by (map machines l) stations) stations rows) (sym are_hosts)
+      (subst (λ (l : List (HostSeats S T)). AllOwned takes_from puts_into taking putting flow net links now stations l) (sym are_rows) all-owned)
 
-  module _ {A : Type 0} (end_of : ℕ → ℕ) (Q : List H → ℕ → A → Type 0) (wide : ℕ) (hs : List H) (rows : List (HostDesks S T)) (are_hosts : hs ≡ map (λ (b : Booth H S T). b.host) bs) (are_rows : rows ≡ map row_of bs) (old new : List (Option A)) (back : RowsBack end_of (Q hs) wide rows old new) (long : length old ≡ wide) (within : (c : ℕ) → c < wide → end_of c < length stations) where
-    back-here : RowsBack end_of (Q (map (λ (b : Booth H S T). b.host) bs)) wide (map row_of bs) old new
-    back-here = subst (λ (l : List (HostDesks S T)). RowsBack end_of (Q (map (λ (b : Booth H S T). b.host) bs)) wide l old new) are_rows (subst (λ (l : List H). RowsBack end_of (Q l) wide rows old new) are_hosts back)
+  module _ {A : Type 0} (end_of : ℕ → ℕ) (Q : List H → ℕ → A → Type 0) (wide : ℕ) (hs : List H) (rows : List (HostSeats S T)) (are_hosts : hs ≡ map (λ (b : LinkedHost H S T). b.host) bs) (are_rows : rows ≡ map row_of bs) (old new : List (Option A)) (back : AllBack end_of (Q hs) wide rows old new) (long : length old ≡ wide) (within : (c : ℕ) → c < wide → end_of c < length stations) where
+    back-here : AllBack end_of (Q (map (λ (b : LinkedHost H S T). b.host) bs)) wide (map row_of bs) old new
+    back-here = subst (λ (l : List (HostSeats S T)). AllBack end_of (Q (map (λ (b : LinkedHost H S T). b.host) bs)) wide l old new) are_rows (subst (λ (l : List H). AllBack end_of (Q l) wide rows old new) are_hosts back)
 
     pub all-there : AllThere new
-    all-there = seats-there end_of (Q (map (λ (b : Booth H S T). b.host) bs)) wide old new back-here long within
+    all-there = seats-there end_of (Q (map (λ (b : LinkedHost H S T). b.host) bs)) wide old new back-here long within
 
-    pub are-seats : (all : List A) → map (λ seat. Some seat) all ≡ new → AreSeats (Q (map (λ (b : Booth H S T). b.host) bs)) wide all
+    pub are-seats : (all : List A) → map (λ seat. Some seat) all ≡ new → AreSeats (Q (map (λ (b : LinkedHost H S T). b.host) bs)) wide all
     are-seats all is =
         record {
-          long = seats-long end_of (Q (map (λ (b : Booth H S T). b.host) bs)) wide old new back-here long within all is;
-          each = seats-hold end_of (Q (map (λ (b : Booth H S T). b.host) bs)) wide old new back-here long within all is;
+          long = seats-long end_of (Q (map (λ (b : LinkedHost H S T). b.host) bs)) wide old new back-here long within all is;
+          each = seats-hold end_of (Q (map (λ (b : LinkedHost H S T). b.host) bs)) wide old new back-here long within all is;
         }
 
 -- ---- the network

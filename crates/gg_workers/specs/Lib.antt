@@ -1,8 +1,8 @@
-pub mod Booths
+pub mod LinkedHosts
 pub mod Turns
-pub mod Deal
+pub mod Assigned
 pub mod Work
 pub mod Apart
 pub mod Opened
-pub mod Desks
+pub mod HostSeats
 pub mod Making

@@ -3,7 +3,7 @@
 use Rattle.std.specs.Prelude.{◌≡◌, ℕ, ◌<◌, List, Bool, true, false, length, map, slice_index_or, sum_by}
 use Rattle.gg_node.specs.Machine.{Machine}
 use Rattle.gg_seats.specs.Rows.{steps_by}
-use Rattle.gg_workers.specs.declared.booth.Booth.{Booth}
+use Rattle.gg_workers.specs.declared.worker.LinkedHost.{LinkedHost}
 
 -- Each number is less than all before it. A worker's hosts lie so, and a turn goes through them from the last.
 abbrev pub Falls : List ℕ → Type 0
@@ -17,9 +17,9 @@ host_steps machines = sum_by steps_by machines
 abbrev pub steps_of : List (List Machine) → ℕ
 steps_of hosts = sum_by host_steps hosts
 
--- the machines of these hosts
-abbrev pub machines_in : {H S T : Type 0} → (H → List Machine) → List (Booth H S T) → List (List Machine)
-machines_in {H} {S} {T} machines booths = map (λ (b : Booth H S T). machines b.host) booths
+-- the machines of these hosts, a list for each host
+abbrev pub machines_in : {H S T : Type 0} → (H → List Machine) → List (LinkedHost H S T) → List (List Machine)
+machines_in {H} {S} {T} machines linked_hosts = map (λ (b : LinkedHost H S T). machines b.host) linked_hosts
 
 -- Steps were done, or nothing has changed. `steps` counts all that were done.
 abbrev pub StepsTold : {A : Type 0} → (A → ℕ) → A → A → Bool → Type 0

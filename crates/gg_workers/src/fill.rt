@@ -1,64 +1,64 @@
-// The desks of the machines of a network get their seats.
+// The machines of a network get their seats.
 ghost use Rattle.std.specs.Prelude.{◌≡◌, ℕ, ◌<◌, ◌≤◌, [], length, map, slice_index_or, slice_set};
 ghost use Rattle.std.specs.Vec.{vec_capacity};
 ghost use Rattle.gg_net.specs.Network.{frame_of};
 ghost use Rattle.gg_net.specs.Kept.{IsWired};
 ghost use Rattle.gg_net.specs.Seats.{AreSeated};
 ghost use Rattle.gg_net.specs.Net.{AreListed};
-ghost use Rattle.gg_seats.specs.Deal.{AreOnce, RowIsThere, RowDealt};
-ghost use Rattle.gg_seats.specs.declared.desk.Desk.{Desk};
-ghost use Rattle.gg_workers.specs.Desks.{IsEmptyDesk, IsFullDesk, HasPlaces, AreLaid};
+ghost use Rattle.gg_seats.specs.SeatLists.{AreOnce, RowIsThere, RowTakenOut};
+ghost use Rattle.gg_seats.specs.declared.machine_seats.MachineSeats.{MachineSeats};
+ghost use Rattle.gg_workers.specs.HostSeats.{IsEmptyFor, IsFilledFor, HasPlaces, EachMachine};
 
-use crate::desks::HostDesks;
+use crate::host_seats::HostSeats;
 use gg_net::Station;
 use gg_node::Host;
-use gg_seats::{Desk, Era, deal_row, wrap_all};
+use gg_seats::{Era, MachineSeats, take_out, wrap_all};
 
-// Moves the seats of the channels at a station into its desk.
-fn fill_desk<S: Drop, T: Drop>(
-    desk: &mut Desk<S, T>,
+// Moves the seats of the channels at a station into the lists of its machine.
+fn fill_seats<S: Drop, T: Drop>(
+    machine_seats: &mut MachineSeats<S, T>,
     station: &Station,
     takes: &mut Vec<Option<S>>,
     puts: &mut Vec<Option<T>>,
 )
     requires once { AreOnce station.now.ins × AreOnce station.now.outs }
     requires there { RowIsThere station.now.ins takes.old.items × RowIsThere station.now.outs puts.old.items }
-    requires empty { IsEmptyDesk desk.old.machine station.now desk.old }
-    ensures machine { desk.new.machine ≡ desk.old.machine }
-    ensures takes { RowDealt station.now.ins (length station.now.ins) takes.old.items takes.new.items desk.new.takes.items }
-    ensures puts { RowDealt station.now.outs (length station.now.outs) puts.old.items puts.new.items desk.new.puts.items }
+    requires empty { IsEmptyFor machine_seats.old.machine station.now machine_seats.old }
+    ensures machine { machine_seats.new.machine ≡ machine_seats.old.machine }
+    ensures takes { RowTakenOut station.now.ins (length station.now.ins) takes.old.items takes.new.items machine_seats.new.takes.items }
+    ensures puts { RowTakenOut station.now.outs (length station.now.outs) puts.old.items puts.new.items machine_seats.new.puts.items }
 {
-    deal_row(station.ins.as_slice(), takes, &mut desk.takes);
-    deal_row(station.outs.as_slice(), puts, &mut desk.puts);
+    take_out(station.ins.as_slice(), takes, &mut machine_seats.takes);
+    take_out(station.outs.as_slice(), puts, &mut machine_seats.puts);
 }
 
-// Moves the seats of the channels at a station into its desk, at its thread.
+// Moves the seats of the channels at a station into the lists at its thread.
 fn fill_row<S: Drop, T: Drop>(
-    row: &mut HostDesks<S, T>,
+    row: &mut HostSeats<S, T>,
     _machine: usize,
     station: &Station,
     takes: &mut Vec<Option<S>>,
     puts: &mut Vec<Option<T>>,
 )
-    requires thread { station.now.thread < length row.old.desks.items }
+    requires thread { station.now.thread < length row.old.by_thread.items }
     requires once { AreOnce station.now.ins × AreOnce station.now.outs }
     requires there { RowIsThere station.now.ins takes.old.items × RowIsThere station.now.outs puts.old.items }
-    requires empty { (d : Desk S T) → IsEmptyDesk _machine station.now (slice_index_or row.old.desks.items station.now.thread d) }
-    ensures { (q : Desk S T) × (row.new.desks.items ≡ slice_set row.old.desks.items station.now.thread q) × (q.machine ≡ _machine) × RowDealt station.now.ins (length station.now.ins) takes.old.items takes.new.items q.takes.items × RowDealt station.now.outs (length station.now.outs) puts.old.items puts.new.items q.puts.items }
+    requires empty { (d : MachineSeats S T) → IsEmptyFor _machine station.now (slice_index_or row.old.by_thread.items station.now.thread d) }
+    ensures { (q : MachineSeats S T) × (row.new.by_thread.items ≡ slice_set row.old.by_thread.items station.now.thread q) × (q.machine ≡ _machine) × RowTakenOut station.now.ins (length station.now.ins) takes.old.items takes.new.items q.takes.items × RowTakenOut station.now.outs (length station.now.outs) puts.old.items puts.new.items q.puts.items }
 {
-    fill_desk(
-        &mut row.desks[station.thread as usize],
+    fill_seats(
+        &mut row.by_thread[station.thread as usize],
         station,
         takes,
         puts,
     );
 }
 
-// Moves the seats of all channels into the desks of their machines, by place.
+// Moves the seats of all channels into the lists of their machines, by place.
 pub(crate) fn fill_all<H: Host, S: Drop, T: Drop, E: Era>(
     _hosts: &[H],
     stations: &[Station],
-    rows: &mut Vec<HostDesks<S, T>>,
+    rows: &mut Vec<HostSeats<S, T>>,
     take_seats: Vec<S>,
     put_seats: Vec<T>,
     takes: &mut Vec<Option<S>>,
@@ -69,11 +69,11 @@ pub(crate) fn fill_all<H: Host, S: Drop, T: Drop, E: Era>(
     requires listed { AreListed (frame_of E.start) stations.now }
     requires long { (length take_seats.items ≡ length E.start.wires) × (length put_seats.items ≡ length E.start.wires) }
     requires places { HasPlaces (map H.machines _hosts.now) rows.old.items }
-    requires empty { AreLaid IsEmptyDesk stations.now 0 (length stations.now) rows.old.items }
+    requires empty { EachMachine IsEmptyFor stations.now 0 (length stations.now) rows.old.items }
     requires none { (takes.old.items ≡ []) × (puts.old.items ≡ []) }
     requires room { (length take_seats.items ≤ vec_capacity takes.old) × (length put_seats.items ≤ vec_capacity puts.old) }
     ensures places { HasPlaces (map H.machines _hosts.now) rows.new.items }
-    ensures full { AreLaid (IsFullDesk take_seats.items put_seats.items) stations.now 0 (length stations.now) rows.new.items }
+    ensures full { EachMachine (IsFilledFor take_seats.items put_seats.items) stations.now 0 (length stations.now) rows.new.items }
     ensures lists { (length takes.new.items ≡ length take_seats.items) × (length puts.new.items ≡ length put_seats.items) }
 {
     wrap_all(take_seats, takes);

@@ -6,9 +6,9 @@
 //!   risen past `upto` and what it was.
 //! - Each event that could be done in the network handed in, of a machine below `upto`, was done.
 //!
-//! Each host has a booth: the host, and a desk for each of its machines with the seats of the machine's channels. The booths
-//! are dealt to workers, host h to worker h mod the number of workers. Each worker runs in a thread of its own. Then the
-//! booths are gathered again, in the order of their numbers.
+//! Each host is given the seats of the channels of its machines. Then the hosts are assigned to workers, host h to worker h mod
+//! the number of workers. Each worker runs in a thread of its own. At the end the hosts are collected, in the order of their
+//! numbers.
 //!
 //! A turn of a worker is one pass over its machines, from the host with the least number on; the gate is passed at its
 //! start. A worker ends before a turn where none of its machines is below `upto`, or after 1,024 turns in a row without a
@@ -18,20 +18,20 @@
 #![tactic(auto)]
 
 mod apart;
+mod assign;
+mod assigned;
 mod back;
-mod booth;
-mod deal;
-mod dealt;
-mod desks;
 mod fill;
-mod furnish;
+mod host_seats;
 mod laws;
+mod link_hosts;
 mod links;
 mod opened;
-mod room;
 mod run;
+mod setup;
 mod threads;
 mod turns;
+mod worker;
 
 pub use laws::later_by_steps;
 pub use run::work;

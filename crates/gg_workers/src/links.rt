@@ -5,9 +5,9 @@ ghost use Rattle.gg_flat.specs.Line.{value_at};
 ghost use Rattle.gg_net.specs.Network.{takes};
 ghost use Rattle.gg_net.specs.Net.{AreParts, joined};
 ghost use Rattle.gg_seats.specs.Seats.{Linked, AreNew};
-ghost use Rattle.gg_workers.specs.Apart.{IsSpare};
+ghost use Rattle.gg_workers.specs.Apart.{AreReturnLists};
 
-use crate::back::Spare;
+use crate::back::ReturnLists;
 use gg_flat::Streams;
 use gg_link::Link;
 use gg_net::{Net, Queue, Shape};
@@ -31,14 +31,14 @@ pub(crate) fn take_counts<H: Host, Z: Streams>(
 }
 
 // Lists with room for so many hosts and channels.
-pub(crate) fn new_spare<H: Drop, S: Drop, T: Drop>(
+pub(crate) fn new_return_lists<H: Drop, S: Drop, T: Drop>(
     alloc: Global,
     hosts: usize,
     channels: usize,
-) -> Result<Spare<H, S, T>, AllocError>
-    ensures { IfOk result (λ spare. IsSpare hosts channels spare) }
+) -> Result<ReturnLists<H, S, T>, AllocError>
+    ensures { IfOk result (λ return_lists. AreReturnLists hosts channels return_lists) }
 {
-    Ok(Spare {
+    Ok(ReturnLists {
         hosts: Vec::with_capacity(alloc, hosts)?,
         rows: Vec::with_capacity(alloc, hosts)?,
         takes: Vec::with_capacity(alloc, channels)?,

@@ -7,14 +7,14 @@ ghost use Rattle.gg_net.specs.Kept.{Kept};
 ghost use Rattle.gg_net.specs.Net.{AreListed, AreParts, joined};
 ghost use Rattle.gg_net.specs.Seats.{machines_by, AreSeated};
 ghost use Rattle.gg_seats.specs.Seats.{Linked, AreNew};
-ghost use Rattle.gg_workers.specs.Apart.{WasJoined, IsSpare};
+ghost use Rattle.gg_workers.specs.Apart.{WasJoined, AreReturnLists};
 ghost use Rattle.gg_workers.specs.Making.{IsReserved};
 ghost use Rattle.gg_workers.specs.Opened.{IsOpened};
 
-use crate::back::Spare;
-use crate::booth::{Booth, Worker};
-use crate::links::{new_spare, open_links};
-use crate::room::{Room, make, reserve};
+use crate::back::ReturnLists;
+use crate::links::{new_return_lists, open_links};
+use crate::setup::{Setup, make, reserve};
+use crate::worker::{LinkedHost, Worker};
 use gg_flat::Streams;
 use gg_link::Link;
 use gg_net::{Parts, Queue, Shape};
@@ -25,10 +25,10 @@ use std::alloc::{AllocError, Global};
 // All memory that an opening takes, but for the links' own. `X` are the links.
 #[derive(Drop)]
 struct Reserve<H, X, S, T> {
-    // What booths and workers need.
-    room: Room<H, S, T>,
+    // What hosts and workers need.
+    setup: Setup<H, S, T>,
     // The lists for the way back.
-    spare: Spare<H, S, T>,
+    return_lists: ReturnLists<H, S, T>,
     // With room for the link of each channel.
     links: Vec<X>,
     // With room for the seat of each channel that puts.
@@ -37,7 +37,7 @@ struct Reserve<H, X, S, T> {
     take_seats: Vec<S>,
 }
 
-// A network with links in place of queues, and booths in place of hosts. `X` are the links.
+// A network with links in place of queues, and hosts with the seats of their machines. `X` are the links.
 #[derive(Drop)]
 pub(crate) struct Opened<H, X, S, T> {
     // How the machines are connected.
@@ -48,16 +48,16 @@ pub(crate) struct Opened<H, X, S, T> {
     pub(crate) links: Vec<X>,
     // The number of threads of each host.
     pub(crate) threads: Vec<u32>,
-    // The booth of each host.
-    pub(crate) booths: Vec<Booth<H, S, T>>,
-    // The workers, without booths.
+    // The hosts with the seats of their machines.
+    pub(crate) linked_hosts: Vec<LinkedHost<H, S, T>>,
+    // The workers, without hosts.
     pub(crate) workers: Vec<Worker<H, S, T>>,
     // As long as the channels, for the seats that take.
     pub(crate) takes: Vec<Option<S>>,
     // As long as the channels, for the seats that put.
     pub(crate) puts: Vec<Option<T>>,
     // The lists for the way back.
-    pub(crate) spare: Spare<H, S, T>,
+    pub(crate) return_lists: ReturnLists<H, S, T>,
 }
 
 // Takes the memory for the opening of a network of these hosts.
@@ -69,17 +69,17 @@ fn reserve_all<H: Host, L: Link>(
 ) -> Result<Reserve<H, L, L::TakeSeat, L::PutSeat>, AllocError>
     requires seated { AreSeated (map H.machines hosts.now) shape.now.stations.items }
     requires few { length shape.now.stations.items < 2 ^ 32 }
-    ensures room { IfOk result (λ r. IsReserved (map H.machines hosts.now) shape.now.stations.items (length shape.now.wires.items) workers r.room) }
-    ensures spare { IfOk result (λ r. IsSpare (length hosts.now) (length shape.now.wires.items) r.spare) }
+    ensures setup { IfOk result (λ r. IsReserved (map H.machines hosts.now) shape.now.stations.items (length shape.now.wires.items) workers r.setup) }
+    ensures return_lists { IfOk result (λ r. AreReturnLists (length hosts.now) (length shape.now.wires.items) r.return_lists) }
     ensures none { IfOk result (λ r. (r.links.items ≡ []) × (r.put_seats.items ≡ []) × (r.take_seats.items ≡ [])) }
     ensures wide { IfOk result (λ r. (length shape.now.wires.items ≤ vec_capacity r.links) × (length shape.now.wires.items ≤ vec_capacity r.put_seats) × (length shape.now.wires.items ≤ vec_capacity r.take_seats)) }
 {
     let channels = shape.wires.len();
-    let room = reserve(alloc, hosts, &shape.stations, channels, workers)?;
-    let spare = new_spare(alloc, hosts.len(), channels)?;
+    let setup = reserve(alloc, hosts, &shape.stations, channels, workers)?;
+    let return_lists = new_return_lists(alloc, hosts.len(), channels)?;
     Ok(Reserve {
-        room,
-        spare,
+        setup,
+        return_lists,
         links: Vec::with_capacity(alloc, channels)?,
         put_seats: Vec::with_capacity(alloc, channels)?,
         take_seats: Vec::with_capacity(alloc, channels)?,
@@ -101,14 +101,14 @@ fn assemble<H: Host, L: Link, Z: Streams, E: Era>(
     requires linked { Linked L.takes_from L.puts_into L.taking L.putting Z.flow E.start E.start.machines reserve.links.items reserve.put_seats.items reserve.take_seats.items parts.queues.items }
     requires all { length reserve.links.items ≡ length E.start.wires }
     requires new { AreNew L.taking L.putting E.start (length reserve.links.items) reserve.put_seats.items reserve.take_seats.items }
-    requires room { IsReserved (map H.machines parts.hosts.items) parts.shape.stations.items (length E.start.wires) workers reserve.room }
-    requires spare { IsSpare (length parts.hosts.items) (length E.start.wires) reserve.spare }
+    requires setup { IsReserved (map H.machines parts.hosts.items) parts.shape.stations.items (length E.start.wires) workers reserve.setup }
+    requires return_lists { AreReturnLists (length parts.hosts.items) (length E.start.wires) reserve.return_lists }
     requires few { (0 < workers) × (workers ≤ 64) }
     ensures { IsOpened H.machines L.takes_from L.puts_into L.taking L.putting Z.flow E.start result }
 {
     let Reserve {
-        mut room,
-        spare,
+        mut setup,
+        return_lists,
         links,
         put_seats,
         take_seats,
@@ -123,26 +123,26 @@ fn assemble<H: Host, L: Link, Z: Streams, E: Era>(
         take_seats,
         &parts.queues,
         workers,
-        &mut room,
+        &mut setup,
     );
-    let Room {
+    let Setup {
         threads,
         rows: _,
         takes,
         puts,
-        booths,
+        linked_hosts,
         workers,
-    } = room;
+    } = setup;
     Opened {
         shape: parts.shape,
         queues: parts.queues,
         links,
         threads,
-        booths,
+        linked_hosts,
         workers,
         takes,
         puts,
-        spare,
+        return_lists,
     }
 }
 

@@ -6,8 +6,8 @@ ghost use Rattle.gg_net.specs.Net.{AreParts, joined};
 ghost use Rattle.gg_workers.specs.Opened.{IsOpened};
 ghost use Rattle.gg_workers.specs.Work.{IsLater};
 
-use crate::back::close_booths;
-use crate::dealt::run_dealt;
+use crate::assigned::run_assigned;
+use crate::back::close_hosts;
 use crate::links::take_counts;
 use crate::opened::{Opened, open_net};
 use gg_flat::Streams;
@@ -38,24 +38,33 @@ fn run_opened<R: Threads + Sync, H: Host, L: Link, Z: Streams, E: Era, G: Gate +
         queues,
         links,
         threads,
-        mut booths,
+        mut linked_hosts,
         mut workers,
         takes,
         puts,
-        spare,
+        return_lists,
     } = opened;
-    run_dealt::<R, H, L, Z, E, G>(
+    run_assigned::<R, H, L, Z, E, G>(
         rt,
         &links,
         &shape.stations,
         &threads,
-        &mut booths,
+        &mut linked_hosts,
         &mut workers,
         upto,
         gate,
     );
-    close_booths::<H, L, Z, E>(
-        alloc, shape, &threads, upto, booths, takes, puts, spare, links, queues,
+    close_hosts::<H, L, Z, E>(
+        alloc,
+        shape,
+        &threads,
+        upto,
+        linked_hosts,
+        takes,
+        puts,
+        return_lists,
+        links,
+        queues,
     )
 }
 

@@ -3,11 +3,11 @@ ghost use Rattle.std.specs.Prelude.{◌≡◌, ℕ, ◌<◌, ◌≤◌, length, 
 ghost use Rattle.gg_net.specs.Network.{frame_of};
 ghost use Rattle.gg_net.specs.Kept.{Kept};
 ghost use Rattle.gg_net.specs.Net.{AreListed};
-ghost use Rattle.gg_workers.specs.Booths.{ReadyAt, DoneAt, AreBooths};
+ghost use Rattle.gg_workers.specs.LinkedHosts.{ReadyAt, DoneAt, AreLinkedHosts};
 ghost use Rattle.gg_workers.specs.Turns.{Falls};
 
-use crate::booth::Worker;
 use crate::turns::run_worker;
+use crate::worker::Worker;
 use gg_flat::Streams;
 use gg_io::Gate;
 use gg_link::Link;
@@ -31,21 +31,21 @@ pub(crate) fn run_all<R: Threads + Sync, H: Host, L: Link, Z: Streams, E: Era, G
     requires kept { Kept Z.flow E.start }
     requires here { (length links.now ≡ length E.start.wires) × (upto ≤ E.start.end) }
     requires listed { (length stations.now ≡ length E.start.machines) × AreListed (frame_of E.start) stations.now }
-    requires booths { All (λ w. AreBooths H.machines threads.now (ReadyAt L.takes_from L.puts_into L.taking L.putting Z.flow E.start stations.now links.now upto) w.booths.items) workers.old }
-    requires falls { All (λ w. Falls (map (λ b. b.number) w.booths.items)) workers.old }
-    ensures booths { (j : ℕ) (w : _) → j < length workers.old → AreBooths H.machines threads.now (DoneAt L.takes_from L.puts_into L.taking L.putting Z.flow E.start stations.now links.now upto) (slice_index_or workers.new j w).booths.items }
-    ensures numbers { (j : ℕ) (w : _) → j < length workers.old → map (λ b. b.number) (slice_index_or workers.new j w).booths.items ≡ map (λ b. b.number) (slice_index_or workers.old j w).booths.items }
+    requires linked_hosts { All (λ w. AreLinkedHosts H.machines threads.now (ReadyAt L.takes_from L.puts_into L.taking L.putting Z.flow E.start stations.now links.now upto) w.linked_hosts.items) workers.old }
+    requires falls { All (λ w. Falls (map (λ b. b.number) w.linked_hosts.items)) workers.old }
+    ensures linked_hosts { (j : ℕ) (w : _) → j < length workers.old → AreLinkedHosts H.machines threads.now (DoneAt L.takes_from L.puts_into L.taking L.putting Z.flow E.start stations.now links.now upto) (slice_index_or workers.new j w).linked_hosts.items }
+    ensures numbers { (j : ℕ) (w : _) → j < length workers.old → map (λ b. b.number) (slice_index_or workers.new j w).linked_hosts.items ≡ map (λ b. b.number) (slice_index_or workers.old j w).linked_hosts.items }
 {
     let count = workers.len();
     let turns = |number: usize, worker: &mut Worker<H, L::TakeSeat, L::PutSeat>|
-        requires { (number < 64) × Kept Z.flow E.start × (length links.now ≡ length E.start.wires) × (upto ≤ E.start.end) × (length stations.now ≡ length E.start.machines) × AreListed (frame_of E.start) stations.now × AreBooths H.machines threads.now (ReadyAt L.takes_from L.puts_into L.taking L.putting Z.flow E.start stations.now links.now upto) worker.now.booths.items × Falls (map (λ b. b.number) worker.now.booths.items) }
-        ensures { AreBooths H.machines threads.entry.now (DoneAt L.takes_from L.puts_into L.taking L.putting Z.flow E.start stations.entry.now links.entry.now upto) worker.exit.now.booths.items × (map (λ b. b.number) worker.exit.now.booths.items ≡ map (λ b. b.number) worker.entry.now.booths.items) }
+        requires { (number < 64) × Kept Z.flow E.start × (length links.now ≡ length E.start.wires) × (upto ≤ E.start.end) × (length stations.now ≡ length E.start.machines) × AreListed (frame_of E.start) stations.now × AreLinkedHosts H.machines threads.now (ReadyAt L.takes_from L.puts_into L.taking L.putting Z.flow E.start stations.now links.now upto) worker.now.linked_hosts.items × Falls (map (λ b. b.number) worker.now.linked_hosts.items) }
+        ensures { AreLinkedHosts H.machines threads.entry.now (DoneAt L.takes_from L.puts_into L.taking L.putting Z.flow E.start stations.entry.now links.entry.now upto) worker.exit.now.linked_hosts.items × (map (λ b. b.number) worker.exit.now.linked_hosts.items ≡ map (λ b. b.number) worker.entry.now.linked_hosts.items) }
     {
         let _turns = run_worker::<H, L, Z, E, G>(
             links,
             stations,
             threads,
-            &mut worker.booths,
+            &mut worker.linked_hosts,
             upto,
             gate,
             number as u32,

@@ -4,16 +4,16 @@ ghost use Rattle.gg_node.specs.Machine.{machine_at};
 ghost use Rattle.gg_net.specs.Network.{frame_of};
 ghost use Rattle.gg_net.specs.Kept.{Kept};
 ghost use Rattle.gg_net.specs.Net.{AreListed};
-ghost use Rattle.gg_workers.specs.Booths.{ReadyAt, DoneAt, AreDesks, IsBooth, AreBooths, AllEnded};
+ghost use Rattle.gg_workers.specs.LinkedHosts.{ReadyAt, DoneAt, EachThread, IsLinkedHost, AreLinkedHosts, AllEnded};
 ghost use Rattle.gg_workers.specs.Turns.{Falls, host_steps, steps_of, machines_in, StepsTold};
 
-use crate::booth::Booth;
+use crate::worker::LinkedHost;
 use gg_flat::Streams;
 use gg_io::Gate;
 use gg_link::Link;
 use gg_net::Station;
 use gg_node::Host;
-use gg_seats::{Desk, Era, pass};
+use gg_seats::{Era, MachineSeats, pass};
 use std::{hint, thread};
 
 // A worker ends after so many turns in a row without a step.
@@ -28,47 +28,47 @@ fn pass_threads<H: Host, L: Link, Z: Streams, E: Era>(
     stations: &[Station],
     _number: usize,
     host: &mut H,
-    desks: &mut Vec<Desk<L::TakeSeat, L::PutSeat>>,
+    by_thread: &mut Vec<MachineSeats<L::TakeSeat, L::PutSeat>>,
     upto: u64,
 ) -> bool
     requires kept { Kept Z.flow E.start }
     requires here { (length links.now ≡ length E.start.wires) × (upto ≤ E.start.end) }
     requires listed { (length stations.now ≡ length E.start.machines) × AreListed (frame_of E.start) stations.now }
-    requires desks { AreDesks (ReadyAt L.takes_from L.puts_into L.taking L.putting Z.flow E.start stations.now links.now upto) _number (H.machines host.old) desks.old.items }
-    ensures desks { AreDesks (DoneAt L.takes_from L.puts_into L.taking L.putting Z.flow E.start stations.now links.now upto) _number (H.machines host.new) desks.new.items }
-    ensures count { length desks.new.items ≡ length desks.old.items }
+    requires by_thread { EachThread (ReadyAt L.takes_from L.puts_into L.taking L.putting Z.flow E.start stations.now links.now upto) _number (H.machines host.old) by_thread.old.items }
+    ensures by_thread { EachThread (DoneAt L.takes_from L.puts_into L.taking L.putting Z.flow E.start stations.now links.now upto) _number (H.machines host.new) by_thread.new.items }
+    ensures count { length by_thread.new.items ≡ length by_thread.old.items }
     ensures told { StepsTold host_steps (H.machines host.old) (H.machines host.new) result }
 {
     let mut stepped = false;
-    for thread in 0..desks.len() {
-        let desk = &mut desks[thread];
-        let station = &stations[desk.machine as usize];
-        stepped |= pass::<H, L, Z, E>(links, station, host, desk, upto);
+    for thread in 0..by_thread.len() {
+        let machine_seats = &mut by_thread[thread];
+        let station = &stations[machine_seats.machine as usize];
+        stepped |= pass::<H, L, Z, E>(links, station, host, machine_seats, upto);
     }
     stepped
 }
 
-fn pass_booth<H: Host, L: Link, Z: Streams, E: Era>(
+fn pass_host<H: Host, L: Link, Z: Streams, E: Era>(
     links: &[L],
     stations: &[Station],
     _threads: &[u32],
-    booth: &mut Booth<H, L::TakeSeat, L::PutSeat>,
+    linked_host: &mut LinkedHost<H, L::TakeSeat, L::PutSeat>,
     upto: u64,
 ) -> bool
     requires kept { Kept Z.flow E.start }
     requires here { (length links.now ≡ length E.start.wires) × (upto ≤ E.start.end) }
     requires listed { (length stations.now ≡ length E.start.machines) × AreListed (frame_of E.start) stations.now }
-    requires booth { IsBooth H.machines _threads.now (ReadyAt L.takes_from L.puts_into L.taking L.putting Z.flow E.start stations.now links.now upto) booth.old }
-    ensures booth { IsBooth H.machines _threads.now (DoneAt L.takes_from L.puts_into L.taking L.putting Z.flow E.start stations.now links.now upto) booth.new }
-    ensures number { booth.new.number ≡ booth.old.number }
-    ensures told { StepsTold host_steps (H.machines booth.old.host) (H.machines booth.new.host) result }
+    requires linked_host { IsLinkedHost H.machines _threads.now (ReadyAt L.takes_from L.puts_into L.taking L.putting Z.flow E.start stations.now links.now upto) linked_host.old }
+    ensures linked_host { IsLinkedHost H.machines _threads.now (DoneAt L.takes_from L.puts_into L.taking L.putting Z.flow E.start stations.now links.now upto) linked_host.new }
+    ensures number { linked_host.new.number ≡ linked_host.old.number }
+    ensures told { StepsTold host_steps (H.machines linked_host.old.host) (H.machines linked_host.new.host) result }
 {
     pass_threads::<H, L, Z, E>(
         links,
         stations,
-        booth.number,
-        &mut booth.host,
-        &mut booth.desks,
+        linked_host.number,
+        &mut linked_host.host,
+        &mut linked_host.by_thread,
         upto,
     )
 }
@@ -78,21 +78,21 @@ fn pass_all<H: Host, L: Link, Z: Streams, E: Era>(
     links: &[L],
     stations: &[Station],
     threads: &[u32],
-    booths: &mut Vec<Booth<H, L::TakeSeat, L::PutSeat>>,
+    linked_hosts: &mut Vec<LinkedHost<H, L::TakeSeat, L::PutSeat>>,
     upto: u64,
 ) -> bool
     requires kept { Kept Z.flow E.start }
     requires here { (length links.now ≡ length E.start.wires) × (upto ≤ E.start.end) }
     requires listed { (length stations.now ≡ length E.start.machines) × AreListed (frame_of E.start) stations.now }
-    requires booths { AreBooths H.machines threads.now (ReadyAt L.takes_from L.puts_into L.taking L.putting Z.flow E.start stations.now links.now upto) booths.old.items }
-    requires falls { Falls (map (λ b. b.number) booths.old.items) }
-    ensures booths { AreBooths H.machines threads.now (DoneAt L.takes_from L.puts_into L.taking L.putting Z.flow E.start stations.now links.now upto) booths.new.items }
-    ensures numbers { map (λ b. b.number) booths.new.items ≡ map (λ b. b.number) booths.old.items }
-    ensures told { StepsTold steps_of (machines_in H.machines booths.old.items) (machines_in H.machines booths.new.items) result }
+    requires linked_hosts { AreLinkedHosts H.machines threads.now (ReadyAt L.takes_from L.puts_into L.taking L.putting Z.flow E.start stations.now links.now upto) linked_hosts.old.items }
+    requires falls { Falls (map (λ b. b.number) linked_hosts.old.items) }
+    ensures linked_hosts { AreLinkedHosts H.machines threads.now (DoneAt L.takes_from L.puts_into L.taking L.putting Z.flow E.start stations.now links.now upto) linked_hosts.new.items }
+    ensures numbers { map (λ b. b.number) linked_hosts.new.items ≡ map (λ b. b.number) linked_hosts.old.items }
+    ensures told { StepsTold steps_of (machines_in H.machines linked_hosts.old.items) (machines_in H.machines linked_hosts.new.items) result }
 {
     let mut stepped = false;
-    for k in (0..booths.len()).rev() {
-        stepped |= pass_booth::<H, L, Z, E>(links, stations, threads, &mut booths[k], upto);
+    for k in (0..linked_hosts.len()).rev() {
+        stepped |= pass_host::<H, L, Z, E>(links, stations, threads, &mut linked_hosts[k], upto);
     }
     stepped
 }
@@ -110,11 +110,11 @@ fn has_ended<H: Host>(host: &H, upto: u64) -> bool
 }
 
 // Whether no machine of these hosts is below this cycle.
-fn have_ended<H: Host, S, T>(booths: &[Booth<H, S, T>], upto: u64) -> bool
-    ensures { (result ≡ true) ↔ AllEnded H.machines upto booths.now }
+fn have_ended<H: Host, S, T>(linked_hosts: &[LinkedHost<H, S, T>], upto: u64) -> bool
+    ensures { (result ≡ true) ↔ AllEnded H.machines upto linked_hosts.now }
 {
-    for booth in booths {
-        if !has_ended(&booth.host, upto) {
+    for linked_host in linked_hosts {
+        if !has_ended(&linked_host.host, upto) {
             return false;
         }
     }
@@ -147,7 +147,7 @@ fn more_turns<H: Host, L: Link, Z: Streams, E: Era, G: Gate>(
     links: &[L],
     stations: &[Station],
     threads: &[u32],
-    booths: &mut Vec<Booth<H, L::TakeSeat, L::PutSeat>>,
+    linked_hosts: &mut Vec<LinkedHost<H, L::TakeSeat, L::PutSeat>>,
     upto: u64,
     gate: &G,
     worker: u32,
@@ -156,26 +156,26 @@ fn more_turns<H: Host, L: Link, Z: Streams, E: Era, G: Gate>(
     requires kept { Kept Z.flow E.start }
     requires here { (length links.now ≡ length E.start.wires) × (upto ≤ E.start.end) }
     requires listed { (length stations.now ≡ length E.start.machines) × AreListed (frame_of E.start) stations.now }
-    requires booths { AreBooths H.machines threads.now (DoneAt L.takes_from L.puts_into L.taking L.putting Z.flow E.start stations.now links.now upto) booths.old.items }
-    requires falls { Falls (map (λ b. b.number) booths.old.items) }
+    requires linked_hosts { AreLinkedHosts H.machines threads.now (DoneAt L.takes_from L.puts_into L.taking L.putting Z.flow E.start stations.now links.now upto) linked_hosts.old.items }
+    requires falls { Falls (map (λ b. b.number) linked_hosts.old.items) }
     requires idle { idle_before ≤ 1 }
-    ensures booths { AreBooths H.machines threads.now (DoneAt L.takes_from L.puts_into L.taking L.putting Z.flow E.start stations.now links.now upto) booths.new.items }
-    ensures numbers { map (λ b. b.number) booths.new.items ≡ map (λ b. b.number) booths.old.items }
-    ensures up { steps_of (machines_in H.machines booths.old.items) ≤ steps_of (machines_in H.machines booths.new.items) }
-    ensures turns { result + idle_before + 1024 * steps_of (machines_in H.machines booths.old.items) ≤ 1024 * steps_of (machines_in H.machines booths.new.items) + 1025 }
-    ensures ended { AllEnded H.machines upto booths.new.items ⊎ (1024 ≤ result) }
+    ensures linked_hosts { AreLinkedHosts H.machines threads.now (DoneAt L.takes_from L.puts_into L.taking L.putting Z.flow E.start stations.now links.now upto) linked_hosts.new.items }
+    ensures numbers { map (λ b. b.number) linked_hosts.new.items ≡ map (λ b. b.number) linked_hosts.old.items }
+    ensures up { steps_of (machines_in H.machines linked_hosts.old.items) ≤ steps_of (machines_in H.machines linked_hosts.new.items) }
+    ensures turns { result + idle_before + 1024 * steps_of (machines_in H.machines linked_hosts.old.items) ≤ 1024 * steps_of (machines_in H.machines linked_hosts.new.items) + 1025 }
+    ensures ended { AllEnded H.machines upto linked_hosts.new.items ⊎ (1024 ≤ result) }
 {
     let mut idle = idle_before;
     for turn in 1..u64::MAX {
         if idle >= IDLE_TURNS {
             return turn;
         }
-        let ended = have_ended(booths, upto);
+        let ended = have_ended(linked_hosts, upto);
         if ended {
             return turn;
         }
         gate.pass(worker, turn);
-        let stepped = pass_all::<H, L, Z, E>(links, stations, threads, booths, upto);
+        let stepped = pass_all::<H, L, Z, E>(links, stations, threads, linked_hosts, upto);
         idle = idle_after(stepped, idle);
     }
     u64::MAX
@@ -187,7 +187,7 @@ pub(crate) fn run_worker<H: Host, L: Link, Z: Streams, E: Era, G: Gate>(
     links: &[L],
     stations: &[Station],
     threads: &[u32],
-    booths: &mut Vec<Booth<H, L::TakeSeat, L::PutSeat>>,
+    linked_hosts: &mut Vec<LinkedHost<H, L::TakeSeat, L::PutSeat>>,
     upto: u64,
     gate: &G,
     worker: u32,
@@ -195,18 +195,27 @@ pub(crate) fn run_worker<H: Host, L: Link, Z: Streams, E: Era, G: Gate>(
     requires kept { Kept Z.flow E.start }
     requires here { (length links.now ≡ length E.start.wires) × (upto ≤ E.start.end) }
     requires listed { (length stations.now ≡ length E.start.machines) × AreListed (frame_of E.start) stations.now }
-    requires booths { AreBooths H.machines threads.now (ReadyAt L.takes_from L.puts_into L.taking L.putting Z.flow E.start stations.now links.now upto) booths.old.items }
-    requires falls { Falls (map (λ b. b.number) booths.old.items) }
-    ensures booths { AreBooths H.machines threads.now (DoneAt L.takes_from L.puts_into L.taking L.putting Z.flow E.start stations.now links.now upto) booths.new.items }
-    ensures numbers { map (λ b. b.number) booths.new.items ≡ map (λ b. b.number) booths.old.items }
-    ensures turns { result + 1024 * steps_of (machines_in H.machines booths.old.items) ≤ 1024 * (steps_of (machines_in H.machines booths.new.items) + 1) }
-    ensures ended { AllEnded H.machines upto booths.new.items ⊎ (1024 ≤ result) }
+    requires linked_hosts { AreLinkedHosts H.machines threads.now (ReadyAt L.takes_from L.puts_into L.taking L.putting Z.flow E.start stations.now links.now upto) linked_hosts.old.items }
+    requires falls { Falls (map (λ b. b.number) linked_hosts.old.items) }
+    ensures linked_hosts { AreLinkedHosts H.machines threads.now (DoneAt L.takes_from L.puts_into L.taking L.putting Z.flow E.start stations.now links.now upto) linked_hosts.new.items }
+    ensures numbers { map (λ b. b.number) linked_hosts.new.items ≡ map (λ b. b.number) linked_hosts.old.items }
+    ensures turns { result + 1024 * steps_of (machines_in H.machines linked_hosts.old.items) ≤ 1024 * (steps_of (machines_in H.machines linked_hosts.new.items) + 1) }
+    ensures ended { AllEnded H.machines upto linked_hosts.new.items ⊎ (1024 ≤ result) }
 {
-    if have_ended(booths, upto) {
+    if have_ended(linked_hosts, upto) {
         return 0;
     }
     gate.pass(worker, 0);
-    let stepped = pass_all::<H, L, Z, E>(links, stations, threads, booths, upto);
+    let stepped = pass_all::<H, L, Z, E>(links, stations, threads, linked_hosts, upto);
     let idle = idle_after(stepped, 0);
-    more_turns::<H, L, Z, E, G>(links, stations, threads, booths, upto, gate, worker, idle)
+    more_turns::<H, L, Z, E, G>(
+        links,
+        stations,
+        threads,
+        linked_hosts,
+        upto,
+        gate,
+        worker,
+        idle,
+    )
 }

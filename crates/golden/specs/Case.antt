@@ -1,4 +1,5 @@
 -- What the code has once the first files of a command are read.
+-- Source: this program's own.
 use Rattle.std.specs.Prelude.{ℕ, ◌≤◌, IfOk, List, Result}
 use Rattle.gg_limits.specs.Limits.{cycle_limit}
 use Rattle.gg_bridged.specs.Whole.{plan_circuit}
@@ -42,6 +43,7 @@ pub record IsCase (known : Known) (circuit partition : List ℕ) (capacity : ℕ
 
 -- the case is that of bytes that the first two files can have
 pub record CaseRead (known : Known) (files : List ℕ → Told) (asked : Asked) (case : Case) : Type 0 where
+  -- bytes that the two files can have
   pub circuit : List ℕ
   pub partition : List ℕ
   pub at_circuit : CanBe files (circuit_file asked.circuit) circuit
@@ -85,5 +87,6 @@ pub record FedRead (known : Known) (files : List ℕ → Told) (asked : Asked) (
 abbrev pub case_order : Known → Asked → Order
 case_order known asked = read_order known asked (λ c p. Write (λ text. Unit {0}))
 
+-- the same for the first three files; whatever it writes then is in order
 abbrev pub trace_order : Known → Asked → (trace : List ℕ) → Order
 trace_order known asked trace = fed_order known asked trace (λ c p t. Write (λ text. Unit {0}))

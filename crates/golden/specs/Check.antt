@@ -1,4 +1,5 @@
 -- The text that `check` writes.
+-- Source: this program's own.
 use Rattle.std.specs.Prelude.{ℕ, List}
 use Rattle.gg_front.specs.Meaning.{MeansDesign}
 use Rattle.gg_order.specs.Design.{Ordered}

@@ -1,5 +1,6 @@
 -- The order of each command: its files, one after another, and then its text. All that have files begin with a circuit and
 -- a partition.
+-- Source: this program's own.
 use Rattle.std.specs.Prelude.{ℕ, List, [], Option, Some, None}
 use Rattle.gg_cut.specs.Bridges.{Models}
 use Rattle.gg_words.specs.declared.command.Cmd.{Cmd}
@@ -20,6 +21,7 @@ pub record Asked : Type 0 where
   pub partition : List ℕ
   pub capacity : ℕ
 
+-- these names and this capacity
 abbrev pub asking : (circuit partition : List ℕ) (capacity : ℕ) → Asked
 asking circuit partition capacity = record { circuit = circuit; partition = partition; capacity = capacity }
 
@@ -41,7 +43,7 @@ asked_by (Demo seed size workers) = None
 asked_by (Save circuit partition trace at capacity workers) = Some (asking circuit partition capacity)
 asked_by (Resume circuit partition trace snap capacity workers) = Some (asking circuit partition capacity)
 
--- the name of its trace, if it has one
+-- the name of a command's trace; `check` and `demo` have none
 abbrev pub trace_of : Cmd → Option (List ℕ)
 trace_of (Run circuit partition trace capacity workers mono) = Some trace
 trace_of (Replay circuit partition trace steps capacity) = Some trace

@@ -37,7 +37,7 @@ refused_words k = words_said (codes ": " ++ cause_text k ++ usage)
 abbrev pub bad_number : List ℕ → Said
 bad_number value = words_said (codes ": '" ++ value ++ codes "' is not a number in its range: --capacity takes 1 to 4096, --workers 0 to 64, SEED 0 to 4294967295, SIZE 1 to 64, AT 0 to 1000000")
 
--- the circuit has the fault with this text
+-- status 1, and the line that says which fault the circuit has
 abbrev pub circuit_fault : List ℕ → Said
 circuit_fault text = record { status = 1; line = line_of (codes "golden: circuit: " ++ text) }
 
@@ -45,11 +45,11 @@ circuit_fault text = record { status = 1; line = line_of (codes "golden: circuit
 abbrev pub TellsUnread : ReadFault → Said → Type 0
 TellsUnread fault said = (fault ≢ NoMemory) × (said ≡ circuit_fault (fault_text fault))
 
--- the partition has the fault with this text
+-- status 6, and the line that says which fault the partition has
 abbrev pub partition_fault : List ℕ → Said
 partition_fault text = record { status = 6; line = line_of (codes "golden: partition: " ++ text) }
 
--- the trace has the fault with this text
+-- status 7, and the line that says which fault the trace has
 abbrev pub trace_fault : List ℕ → Said
 trace_fault text = record { status = 7; line = line_of (codes "golden: trace: " ++ text) }
 

@@ -1,4 +1,5 @@
 -- How a call ends: its status, the text that it wrote on `out`, and its line.
+-- Source: this program's own.
 use Rattle.std.specs.Prelude.{◌≡◌, ℕ, List, [], Result}
 use Rattle.std.specs.Io.KnownBytes.{append_known}
 use Rattle.gg_told.specs.Said.{Said, out_of_memory}

@@ -27,6 +27,7 @@ pub record Known : Type 0 where
 abbrev pub to_save : Models → Known
 to_save models = record { models = models; saves = true }
 
+-- for all other commands
 abbrev pub to_run : Models → Known
 to_run models = record { models = models; saves = false }
 
@@ -34,6 +35,7 @@ to_run models = record { models = models; saves = false }
 pub record Cuts (known : Known) (design : Ordered) (bytes : List ℕ) (request : Request) : Type 0 where
   pub asks : IsPartition bytes request
   pub faultless : cut.first_fault_with design known.models request ≡ None
+  -- a command that saves or resumes allows no bridge
   pub alone : known.saves ≡ true → request.bridges ≡ []
 
 -- The bytes have the fault with this text: they hold no request (P1); or this is the first fault that the request that
@@ -45,7 +47,7 @@ pub data HasFault (known : Known) (design : Ordered) (bytes text : List ℕ) : T
   OfBridges : (request : Request) (asks : IsPartition bytes request) (none : cut.first_fault_with design known.models request ≡ None) (saves : known.saves ≡ true) (some : request.bridges ≢ []) (is : text ≡ codes "P17")
       → HasFault known design bytes text
 
--- a partition of a design
+-- bytes that hold a request without a fault for a design
 abbrev pub IsPartitionOf : Known → (design : Ordered) (bytes : List ℕ) → Type 0
 IsPartitionOf known design bytes = (request : Request) × Cuts known design bytes request
 
@@ -53,7 +55,7 @@ IsPartitionOf known design bytes = (request : Request) × Cuts known design byte
 abbrev pub TellsPartitionOf : Known → (design : Ordered) (bytes : List ℕ) → Said → Type 0
 TellsPartitionOf known design bytes said = (text : List ℕ) × HasFault known design bytes text × (said ≡ partition_fault text)
 
--- a partition's file
+-- a partition's file, which may have 1 MiB, with these bytes accepted and this reported for others
 abbrev pub partition_file : (name : List ℕ) (IsGood : List ℕ → Type 0) (TellsFault : List ℕ → Said → Type 0) → File
 partition_file name IsGood TellsFault = record { name = name; limit = partition_limit; accepts = IsGood; refuses = TellsFault }
 

@@ -1,4 +1,5 @@
 -- What the program promises for each call: how it ends, why, and what has to be reported.
+-- Source: this program's own.
 use Rattle.std.specs.Prelude.{◌≡◌, ◌≢◌, ℕ, ◌≤◌, ◌⊎◌, Bool, Err, List, [], Some, false, length}
 use Rattle.std.specs.Io.KnownBytes.{append_known}
 use Rattle.gg_io.specs.Told.{Holds, Told}

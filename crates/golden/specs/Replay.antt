@@ -74,6 +74,7 @@ naming_by design request listed wires =
       ports = map (port_names design.tree listed) (range_with_len 0 (machine_end (plan_bridges design.circuit design.tree request)));
     }
 
+-- the names of a request's cut, whose channels are those of the plan
 abbrev pub naming_of : Ordered → Request → Naming
 naming_of design request = naming_by design request (listed_of design.tree request) (plan_wires design.circuit design.tree request)
 
@@ -92,6 +93,7 @@ AreDone known circuit partition trace capacity steps =
 abbrev pub stopped_by : Naming → (events : List (Option Event)) → Stopped → Said
 stopped_by naming events stopped = step_fault stopped.step (cause_text naming (slice_index_or events (stopped.step - 1) None) stopped.cause)
 
+-- the same with the names of the setting's cut
 abbrev pub stopped_said : Setting → (steps : List ℕ) → Stopped → Said
 stopped_said setting steps stopped = stopped_by (naming_of setting.design setting.request) (steps_of (naming_of setting.design setting.request) steps) stopped
 
@@ -101,7 +103,7 @@ TellsSteps known circuit partition trace capacity steps said =
     (setting : Setting) × IsSetting known circuit partition trace capacity setting
     × ((stopped : Stopped) × (replayed setting steps ≡ Err stopped) × (said ≡ stopped_said setting steps stopped))
 
--- a steps file
+-- a steps file: accepted if each of its steps may be done, one after another
 abbrev pub steps_file_for : Known → (circuit partition trace : List ℕ) (capacity : ℕ) (name : List ℕ) → File
 steps_file_for known circuit partition trace capacity name =
     record { name = name; limit = steps_limit; accepts = AreDone known circuit partition trace capacity; refuses = TellsSteps known circuit partition trace capacity }
@@ -134,6 +136,7 @@ channel_told setting marking wires c =
     (puts setting.layout marking c) (takes setting.layout marking c)
     (take (entered setting.layout marking c) (stream 0 0 (is_piped setting.design.circuit setting.request (wire_at wires c).signal) (column setting.rows (wire_at wires c).signal)))
 
+-- the lines of all channels
 abbrev pub lines_told : Setting → Marking → List Wire → List ℕ
 lines_told setting marking wires = flat_map (channel_told setting marking wires) (range_with_len 0 (length wires))
 

@@ -1,4 +1,5 @@
 -- The network of a plan on a trace: where the steps of a file lead it, and what is then printed or reported.
+-- Source: this program's own.
 use Rattle.std.specs.Prelude.{◌≡◌, ℕ, ◌<◌, ◌^◌, List, Option, flat_map, length, map, take}
 use Rattle.std.specs.List.{range_with_len}
 use Rattle.gg_flat.specs.Line.{value_at}
@@ -49,6 +50,7 @@ case_naming case = plan_naming case.cut.plan case.design.tree
 abbrev pub name_in : Plan → ℕ → List ℕ
 name_in plan c = path_at (map (λ channel. channel.name) plan.channels) c
 
+-- the width of the channel with number c; 0 if there is none
 abbrev pub width_in : Plan → ℕ → ℕ
 width_in plan c = value_at (map (λ channel. channel.ty.width) plan.channels) c
 
@@ -91,6 +93,7 @@ pub record IsNetText (fed : Fed) (flow : Flow) (events : List (Option Event)) (t
 pub record TellsStop (fed : Fed) (flow : Flow) (naming : Naming) (events : List (Option Event)) (said : Said) : Type 0 where
   pub machines : List Machine
   pub opened : Opened fed flow machines
+  -- the network before the step that is refused
   pub net : Network
   pub stopped : Stopped
   pub stops : StopsAt 1 (fed_opening fed machines) events net stopped

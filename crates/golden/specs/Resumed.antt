@@ -39,7 +39,7 @@ TellsLate known circuit partition trace snap said =
     (meant : Meant) × (cycle : ℕ) × (state : State) × AreMeant known circuit partition trace meant × IsSnap (meant_reference meant) meant.design.tree snap cycle state
     × (meant.cycles < cycle) × (said ≡ few_rows cycle meant.cycles)
 
--- the file of a snapshot
+-- a snapshot's file: accepted if the run can be resumed from it
 abbrev pub snap_file_for : Known → (circuit partition trace name : List ℕ) → File
 snap_file_for known circuit partition trace name =
     record {

@@ -1,4 +1,5 @@
 -- The files of a circuit and of a trace, and the text that `run` writes.
+-- Source: this program's own, by the crates that define circuits, traces and runs.
 use Rattle.std.specs.Prelude.{◌≡◌, ◌≢◌, ℕ, List, []}
 use Rattle.gg_flat.specs.Circuit.{FlatCircuit}
 use Rattle.gg_flat.specs.Run.{IsRun}
@@ -30,7 +31,7 @@ abbrev pub TellsCircuit : (bytes : List ℕ) → Said → Type 0
 TellsCircuit bytes said =
     (fault : FrontFault) × HasFrontFault bytes fault × (fault ≢ front.NoMemory) × (said ≡ circuit_fault (front_text fault))
 
--- the circuit's file
+-- the circuit's file, which may have 4 MiB: accepted if it spells a circuit without a fault
 abbrev pub circuit_file : (name : List ℕ) → File
 circuit_file name = record { name = name; limit = circuit_limit; accepts = IsAcceptedText; refuses = TellsCircuit }
 
@@ -38,7 +39,7 @@ circuit_file name = record { name = name; limit = circuit_limit; accepts = IsAcc
 abbrev pub TellsTraceOf : (flat : FlatCircuit) (request : Request) (trace : List ℕ) → Said → Type 0
 TellsTraceOf flat request trace said = (fault : TraceFault) × IsFirstFault (fed_ports flat request) trace fault × (said ≡ trace_fault (fault_words fault))
 
--- a trace's file
+-- a trace's file, which may have 64 MiB, with these bytes accepted and this reported for others
 abbrev pub trace_file : (name : List ℕ) (IsTrace : List ℕ → Type 0) (TellsFault : List ℕ → Said → Type 0) → File
 trace_file name IsTrace TellsFault = record { name = name; limit = trace_limit; accepts = IsTrace; refuses = TellsFault }
 

@@ -27,7 +27,7 @@ use Rattle.gg_run.specs.Printed.{plan_stops}
 abbrev pub outputs_of : InstanceTree → List ℕ
 outputs_of tree = output_signals (instance_at tree 0).ports
 
--- the columns of these signals
+-- the columns that these signals have in the rows, in this order
 abbrev pub columns_of : List ℕ → List (List ℕ) → List (List ℕ)
 columns_of signals rows = map (column rows) signals
 

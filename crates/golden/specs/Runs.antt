@@ -42,6 +42,7 @@ pub record IsUpto (whole : Fed) (at : ℕ) (fed : Fed) : Type 0 where
   pub is : fed ≡ upto fed.trace.rows whole
   pub within : fed.trace.rows ≤ whole.trace.rows
   pub below : fed.trace.rows ≤ at
+  -- no more rows than `at`, and all that the trace has of these
   pub most : (fed.trace.rows ≡ at) ⊎ (fed.trace.rows ≡ whole.trace.rows)
 
 -- ---- `save`

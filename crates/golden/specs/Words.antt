@@ -1,5 +1,6 @@
 -- What is reported for words that aren't a command. gg_words defines, by `clap`'s own definitions, which words are which
 -- command.
+-- Source: this program's own.
 use Rattle.std.specs.Prelude.{◌≡◌, ℕ, List}
 use Rattle.gg_words.specs.Meaning.{IsCommand, IsWordFault}
 use Rattle.gg_words.specs.declared.command.Cmd.{Cmd}
@@ -8,7 +9,7 @@ use Rattle.gg_words.specs.declared.command.WordFault.TheVariants.{Unexpected, Re
 use Rattle.gg_told.specs.Said.{Said}
 use Rattle.golden.specs.Lines.{bad_number, refused_words, unexpected_word}
 
--- the words are a command
+-- the words are some command
 abbrev pub AskForCommand : List (List ℕ) → Type 0
 AskForCommand words = (cmd : Cmd) × IsCommand words cmd
 

@@ -1,1 +1,1 @@
-pub mod LodgeLemmas
+pub mod OptionalNodeLemmas

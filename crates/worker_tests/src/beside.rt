@@ -14,7 +14,7 @@ static BOTH: Table = Table {
     circuit: PAIR,
     partition: "{\"units\":[\"a\",\"b\"]}",
     trace: PAIR_TRACE,
-    lodge: false,
+    beside: false,
     kept: &[0x11, 0x83],
     rows: &[RUN],
 };

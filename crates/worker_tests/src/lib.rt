@@ -5,7 +5,7 @@
 #[cfg(test)]
 mod beside;
 #[cfg(test)]
-mod lodge;
+mod optional_node;
 #[cfg(test)]
 mod runs;
 #[cfg(test)]

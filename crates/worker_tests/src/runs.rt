@@ -7,7 +7,7 @@ ghost use Rattle.gg_moved.specs.KeepsToTree.{KeepsToTree};
 ghost use Rattle.gg_cut.specs.Held.{AreHeldOnce};
 ghost use Rattle.gg_bridged.specs.Whole.{HasFreeFronts};
 
-use crate::lodge::{Lodge, beside_none};
+use crate::optional_node::{OptionalNode, beside_none};
 use gg_bridge::Echo;
 use gg_build::Node;
 use gg_cut::Plan;
@@ -36,7 +36,7 @@ pub(crate) struct Table {
     pub(crate) partition: &'static str,
     pub(crate) trace: &'static str,
     // whether a host without threads is beside the others
-    pub(crate) lodge: bool,
+    pub(crate) beside: bool,
     // what the last machine, a tray, keeps at the end
     pub(crate) kept: &'static [u128],
     pub(crate) rows: &'static [Row],
@@ -58,7 +58,7 @@ fn ends<Z: Streams>(net: &mut Net<Node<'_, Echo>, Z>, table: &Table, row: Row) -
 }
 
 // Whether the last machine keeps these values, one for each cycle from 0 on.
-fn keeps_beside<Z: Streams>(net: &Net<Lodge<'_>, Z>, values: &[u128]) -> bool {
+fn keeps_beside<Z: Streams>(net: &Net<OptionalNode<'_>, Z>, values: &[u128]) -> bool {
     net.within_limits();
     let machines = net.machines();
     if machines == 0 {
@@ -74,7 +74,7 @@ fn keeps_beside<Z: Streams>(net: &Net<Lodge<'_>, Z>, values: &[u128]) -> bool {
 }
 
 // Whether such a network is as expected after a run, and at its end.
-fn ends_beside<Z: Streams>(net: &mut Net<Lodge<'_>, Z>, table: &Table, row: Row) -> bool {
+fn ends_beside<Z: Streams>(net: &mut Net<OptionalNode<'_>, Z>, table: &Table, row: Row) -> bool {
     let (_, _, _, least, most) = row;
     let rest = left(net);
     run_to_end(net);
@@ -86,14 +86,14 @@ fn goes_beside<R: Threads + Sync, L: Link, Z: Streams, G: Gate + Sync>(
     rt: &R,
     home: L::Home,
     alloc: Global,
-    net: Net<Lodge<'_>, Z>,
+    net: Net<OptionalNode<'_>, Z>,
     table: &Table,
     row: Row,
     gate: &G,
 ) -> bool {
     let (_, workers, upto, _, _) = row;
     let workers = workers.min(64);
-    match work::<R, Lodge<'_>, L, Z, G>(rt, home, alloc, net, workers, upto, gate) {
+    match work::<R, OptionalNode<'_>, L, Z, G>(rt, home, alloc, net, workers, upto, gate) {
         Ok(mut net) => ends_beside(&mut net, table, row),
         Err(_) => false,
     }
@@ -111,7 +111,7 @@ fn goes<R: Threads + Sync, L: Link, Z: Streams, G: Gate + Sync>(
 ) -> bool {
     let (begin, workers, upto, _, _) = row;
     bring(&mut net, begin);
-    if table.lodge {
+    if table.beside {
         return match beside_none::<Z>(alloc, net) {
             Ok(net) => goes_beside::<R, L, Z, G>(rt, home, alloc, net, table, row, gate),
             Err(_) => false,

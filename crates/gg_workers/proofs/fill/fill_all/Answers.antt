@@ -1,8 +1,8 @@
 use Rattle.std.proofs.Common.{◌+◌, length, map, arith}
 use Rattle.gg_net.specs.Network.{frame_of}
-use Rattle.gg_workers.specs.Desks.{IsEmptyDesk, IsFullDesk}
+use Rattle.gg_workers.specs.HostSeats.{IsEmptyFor, IsFilledFor}
 use Rattle.gg_workers.proofs.ListLemmas.{read_at}
-use Rattle.gg_workers.proofs.DeskLemmas.{host-within, places-kept, laid-kept, laid-more}
+use Rattle.gg_workers.proofs.HostSeatsLemmas.{host-within, places-kept, each-kept, each-more}
 use Rattle.gg_workers.proofs.FillLemmas.{rows-there, full-here, takes-left, puts-left}
 use Rattle.gg_workers.proofs.fill.fill_all.Goals as goal
 
@@ -37,8 +37,8 @@ loop-machine-preserved g c =
     let full = full-here frame c.requires.wired stations c.requires.listed c.args.take_seats.items c.args.put_seats.items c.requires.long.0 c.requires.long.1 m known station at takes puts inv.takes inv.puts c.fill_row.new.takes.items c.fill_row.new.puts.items q done.3 done.4 done.2 in
     record {
       places = places-kept stations machines c.requires.seated rows inv.places m known station at old was new q done.1;
-      empty = laid-kept stations machines c.requires.seated rows inv.places m known station at old was new q done.1 IsEmptyDesk (m + 1) (length stations) (omega arith) (λ k low high same. omega (arith, low, same)) (λ k s r d low high. inv.empty k s r d (omega (arith, low)) high);
-      full = laid-more stations machines c.requires.seated rows inv.places m known station at old was new q done.1 (IsFullDesk c.args.take_seats.items c.args.put_seats.items) full inv.full;
+      empty = each-kept stations machines c.requires.seated rows inv.places m known station at old was new q done.1 IsEmptyFor (m + 1) (length stations) (omega arith) (λ k low high same. omega (arith, low, same)) (λ k s r d low high. inv.empty k s r d (omega (arith, low)) high);
+      full = each-more stations machines c.requires.seated rows inv.places m known station at old was new q done.1 (IsFilledFor c.args.take_seats.items c.args.put_seats.items) full inv.full;
       takes = takes-left frame c.requires.wired stations c.requires.listed c.args.take_seats.items c.args.put_seats.items c.requires.long.0 c.requires.long.1 m known station at takes puts inv.takes inv.puts c.fill_row.new.takes.items c.fill_row.new.puts.items q done.3 done.4;
       puts = puts-left frame c.requires.wired stations c.requires.listed c.args.take_seats.items c.args.put_seats.items c.requires.long.0 c.requires.long.1 m known station at takes puts inv.takes inv.puts c.fill_row.new.takes.items c.fill_row.new.puts.items q done.3 done.4;
     }

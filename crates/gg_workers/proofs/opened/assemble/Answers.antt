@@ -1,8 +1,8 @@
 use Rattle.std.proofs.Common.{length, map, refl, sym, ap, subst, ◌∙◌, arith}
 use Rattle.std.proofs.lemmas.List.{length-map}
 use Rattle.gg_workers.specs.Apart.{WasJoined}
-use Rattle.gg_workers.specs.Booths.{ReadyAt, AreBooths}
-use Rattle.gg_workers.proofs.BackLemmas.{booths-lent}
+use Rattle.gg_workers.specs.LinkedHosts.{ReadyAt, AreLinkedHosts}
+use Rattle.gg_workers.proofs.BackLemmas.{linked_hosts-lent}
 use Rattle.gg_workers.proofs.opened.assemble.Goals as goal
 
 pub returns : goal.returns
@@ -10,18 +10,18 @@ returns g c =
     let hosts = c.args.parts.hosts.items in
     let machines = map g.H.Host.machines hosts in
     let count = c.make.ensures.count in
-    let spare = c.requires.spare in
+    let return_lists = c.requires.return_lists in
     record {
       joined = subst (λ threads. WasJoined g.Z.Streams.flow g.E.Era.start c.args.parts.shape threads) (sym c.make.ensures.threads) c.requires.joined;
       linked = record { put_seats = c.args.reserve.put_seats.items; take_seats = c.args.reserve.take_seats.items; linked = c.requires.linked; all = c.requires.all };
       count = count ∙ sym (ap length c.make.ensures.threads ∙ length-map machines (λ own. length own) ∙ length-map hosts g.H.Host.machines);
       numbered = c.make.ensures.numbered;
-      booths = λ upto. booths-lent (λ threads stations links. AreBooths g.H.Host.machines threads (ReadyAt g.L.Link.takes_from g.L.Link.puts_into g.L.Link.taking g.L.Link.putting g.Z.Streams.flow g.E.Era.start stations links upto) c.make.new.room.booths.items) refl c.deref.ensures.value c.deref-2.ensures.value (c.make.ensures.booths upto);
+      linked_hosts = λ upto. linked_hosts-lent (λ threads stations links. AreLinkedHosts g.H.Host.machines threads (ReadyAt g.L.Link.takes_from g.L.Link.puts_into g.L.Link.taking g.L.Link.putting g.Z.Streams.flow g.E.Era.start stations links upto) c.make.new.room.linked_hosts.items) refl c.deref.ensures.value c.deref-2.ensures.value (c.make.ensures.linked_hosts upto);
       few = (omega (arith, c.make.ensures.workers, c.requires.few.0), omega (arith, c.make.ensures.workers, c.requires.few.1));
-      ready = c.make.ensures.dealing;
+      ready = c.make.ensures.assigning;
       long = c.make.ensures.lists;
-      spare = record {
-        none = spare.none;
-        room = (omega (arith, spare.room.0, count), omega (arith, spare.room.1, count), spare.room.2, spare.room.3);
+      return_lists = record {
+        none = return_lists.none;
+        room = (omega (arith, return_lists.room.0, count), omega (arith, return_lists.room.1, count), return_lists.room.2, return_lists.room.3);
       };
     }

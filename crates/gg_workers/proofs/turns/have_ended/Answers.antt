@@ -5,5 +5,5 @@ use Rattle.gg_workers.proofs.turns.have_ended.Goals as goal
 pub returns-then-not-has_ended : goal.returns-then-not-has_ended
 returns-then-not-has_ended g c = (
   λ e. absurd (true≢false (sym e)),
-  λ all. absurd (true≢false (sym (c.has_ended.ensures.1 (one-ended g.H.Host.machines c.args.upto c.args.booths.now c.loop-booth.booth-index c.booth-item.result c.booth-item.is c.loop-booth-test.true all)) ∙ c.if-not-has_ended.true)),
+  λ all. absurd (true≢false (sym (c.has_ended.ensures.1 (one-ended g.H.Host.machines c.args.upto c.args.linked_hosts.now c.loop-linked_host.linked_host-index c.linked_host-item.result c.linked_host-item.is c.loop-linked_host-test.true all)) ∙ c.if-not-has_ended.true)),
 )

@@ -1,4 +1,4 @@
-use Rattle.gg_workers.specs.Booths.{ReadyAt, DoneAt}
+use Rattle.gg_workers.specs.LinkedHosts.{ReadyAt, DoneAt}
 use Rattle.gg_workers.specs.Turns.{steps_of, machines_in, StepsTold}
 use Rattle.gg_workers.proofs.TurnLemmas.{ArePassing, done-ready}
 use Rattle.gg_workers.proofs.turns.pass_all.Given as goal
@@ -8,5 +8,5 @@ invariant-loop-k g l =
     ArePassing g.H.Host.machines l.threads (ReadyAt g.L.Link.takes_from g.L.Link.puts_into g.L.Link.taking g.L.Link.putting g.Z.Streams.flow g.E.Era.start l.stations l.links l.upto)
     (DoneAt g.L.Link.takes_from g.L.Link.puts_into g.L.Link.taking g.L.Link.putting g.Z.Streams.flow g.E.Era.start l.stations l.links l.upto)
     (done-ready g.L.Link.takes_from g.L.Link.puts_into g.L.Link.taking g.L.Link.putting g.Z.Streams.flow g.E.Era.start l.stations l.links l.upto)
-    l.k l.initial.booths.items l.booths.items
-    × StepsTold steps_of (machines_in g.H.Host.machines l.initial.booths.items) (machines_in g.H.Host.machines l.booths.items) l.stepped
+    l.k l.initial.linked_hosts.items l.linked_hosts.items
+    × StepsTold steps_of (machines_in g.H.Host.machines l.initial.linked_hosts.items) (machines_in g.H.Host.machines l.linked_hosts.items) l.stepped

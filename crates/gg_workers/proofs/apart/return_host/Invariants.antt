@@ -1,0 +1,10 @@
+use Rattle.std.proofs.Common.{length, map}
+use Rattle.gg_net.specs.Seats.{machines_by}
+use Rattle.gg_seats.specs.Seats.{TakeSeatOf, PutSeatOf}
+use Rattle.gg_workers.specs.Apart.{consumer_in, producer_in, HostBack}
+use Rattle.gg_workers.proofs.apart.return_host.Given as goal
+
+abbrev pub invariant-loop-machine_seats : goal.invariant-loop-machine_seats
+invariant-loop-machine_seats g l =
+    HostBack (consumer_in g.E.Era.start) (TakeSeatOf g.L.Link.takes_from g.L.Link.puts_into g.L.Link.taking g.L.Link.putting g.Z.Streams.flow g.E.Era.start l.links (machines_by (map g.H.Host.machines l.hosts) l.stations)) (length g.E.Era.start.wires) l.yielded l.initial.takes.items l.takes.items
+    × HostBack (producer_in g.E.Era.start) (PutSeatOf g.L.Link.takes_from g.L.Link.puts_into g.L.Link.taking g.L.Link.putting g.Z.Streams.flow g.E.Era.start l.links (machines_by (map g.H.Host.machines l.hosts) l.stations)) (length g.E.Era.start.wires) l.yielded l.initial.puts.items l.puts.items

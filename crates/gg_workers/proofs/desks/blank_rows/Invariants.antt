@@ -1,9 +1,0 @@
-use Rattle.std.proofs.Common.{◌≡◌, ℕ, ◌<◌, length, map, slice_index_or}
-use Rattle.gg_net.specs.Seats.{hosted}
-use Rattle.gg_workers.proofs.desks.blank_rows.Given as goal
-
-abbrev pub invariant-loop-host : goal.invariant-loop-host
-invariant-loop-host g l = record {
-  count : length l.rows.items ≡ l.host-index;
-  each : (h : ℕ) (r : _) → h < l.host-index → length (slice_index_or l.rows.items h r).desks.items ≡ length (hosted (map g.H.Host.machines l.hosts) h);
-}

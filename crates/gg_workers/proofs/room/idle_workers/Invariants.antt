@@ -1,5 +1,0 @@
-use Rattle.gg_workers.specs.Making.{AreIdle}
-use Rattle.gg_workers.proofs.room.idle_workers.Given as goal
-
-abbrev pub invariant-loop : goal.invariant-loop
-invariant-loop g l = AreIdle l.counter l.hosts l.workers.items

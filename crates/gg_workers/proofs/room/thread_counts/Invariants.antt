@@ -1,5 +1,0 @@
-use Rattle.std.proofs.Common.{◌≡◌, length, map, take}
-use Rattle.gg_workers.proofs.room.thread_counts.Given as goal
-
-abbrev pub invariant-loop-host : goal.invariant-loop-host
-invariant-loop-host g l = l.counts.items ≡ map (λ machines. length machines) (map g.H.Host.machines (take l.host-index l.hosts))

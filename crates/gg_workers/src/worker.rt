@@ -1,0 +1,20 @@
+// `LinkedHost` and `Worker`: what one host and one thread of the system have.
+use gg_seats::MachineSeats;
+
+// A host with the seats of its machines, by thread. `S` are the seats that take, `T` those that put.
+#[derive(Drop)]
+pub(crate) struct LinkedHost<H, S, T> {
+    // The number of the host.
+    pub(crate) number: usize,
+    // The host.
+    pub(crate) host: H,
+    // The seats of the machine at each thread.
+    pub(crate) by_thread: Vec<MachineSeats<S, T>>,
+}
+
+// The hosts that one thread of the system steps.
+#[derive(Drop)]
+pub(crate) struct Worker<H, S, T> {
+    // The hosts, in falling order of their numbers.
+    pub(crate) linked_hosts: Vec<LinkedHost<H, S, T>>,
+}
