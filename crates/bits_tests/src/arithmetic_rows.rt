@@ -4,7 +4,7 @@ use crate::calls::Row;
 use gg_bits::Kind::{SInt, UInt};
 use gg_bits::Op2::{Add, Div, Mul, Rem, Sub};
 
-pub static ARITHMETIC: [Row; 31] = [
+pub(crate) static ARITHMETIC: [Row; 31] = [
     (
         Two(
             Add,

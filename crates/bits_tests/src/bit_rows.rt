@@ -4,7 +4,7 @@ use crate::calls::Row;
 use gg_bits::Kind::{SInt, UInt};
 use gg_bits::Op2::{And, Cat, Dshl, Dshr, Eq, Geq, Gt, Leq, Lt, Neq, Or, Validif, Xor};
 
-pub static COMPARISONS_SHIFTS_AND_BITS: [Row; 47] = [
+pub(crate) static COMPARISONS_SHIFTS_AND_BITS: [Row; 47] = [
     (Two(Lt, (SInt, 4, 0xf), (SInt, 64, 0x0)), Ok((UInt, 1, 0x1))),
     (
         Two(

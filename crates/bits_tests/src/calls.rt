@@ -7,31 +7,31 @@ use gg_bits::{
     result_mux, result1, result2,
 };
 
-/// A kind, a width and a pattern.
-pub type Typed = (Kind, u32, u128);
+// A kind, a width and a pattern.
+pub(crate) type Typed = (Kind, u32, u128);
 
-/// What a call answers: the type and the pattern of its result, or the first thing that is wrong.
-pub type Answer = Result<Typed, Bad>;
+// What a call answers: the type and the pattern of its result, or the first thing that is wrong.
+pub(crate) type Answer = Result<Typed, Bad>;
 
-/// A call and its answer.
-pub type Row = (Call, Answer);
+// A call and its answer.
+pub(crate) type Row = (Call, Answer);
 
-/// A call of an operation.
+// A call of an operation.
 #[derive(Clone, Copy)]
-pub enum Call {
-    /// An operation on one value.
+pub(crate) enum Call {
+    // An operation on one value.
     One(Op1, Typed),
-    /// An operation on two values.
+    // An operation on two values.
     Two(Op2, Typed, Typed),
-    /// An operation with two parameters.
+    // An operation with two parameters.
     Const(OpN, Typed, u32, u32),
-    /// A choice of two values by a condition.
+    // A choice of two values by a condition.
     Mux(Typed, Typed, Typed),
-    /// A value, extended to a width.
+    // A value, extended to a width.
     Extend(Typed, u32),
 }
 
-/// The type and the value of an operand, if there are such.
+// The type and the value of an operand, if there are such.
 fn operand(a: Typed) -> Option<(Ty, Val)>
     ensures { IfSome result (λ operand. Fits (shape operand.0) operand.1.0) }
 {
@@ -89,8 +89,8 @@ fn of_extend(a: Typed, width: u32) -> Option<Answer> {
     Some(Ok((ty.kind, width, extend(x, ty, width).0)))
 }
 
-/// What a call answers. None if an operand doesn't fit its type.
-pub fn answer(call: &Call) -> Option<Answer> {
+// What a call answers. None if an operand doesn't fit its type.
+pub(crate) fn answer(call: &Call) -> Option<Answer> {
     match *call {
         Call::One(op, a) => of_one(op, a),
         Call::Two(op, a, b) => of_two(op, a, b),

@@ -3,7 +3,7 @@ use crate::calls::Call::{Extend, Mux};
 use crate::calls::Row;
 use gg_bits::Kind::{SInt, UInt};
 
-pub static CHOICES_AND_EXTENSIONS: [Row; 4] = [
+pub(crate) static CHOICES_AND_EXTENSIONS: [Row; 4] = [
     (
         Mux((UInt, 1, 1), (SInt, 2, 2), (SInt, 8, 5)),
         Ok((SInt, 8, 0xfe)),

@@ -13,7 +13,7 @@ const WIDE: Typed = (UInt, 128, 0);
 
 const SIGNED: Typed = (SInt, 128, 0);
 
-pub static FAULTS: [Row; 16] = [
+pub(crate) static FAULTS: [Row; 16] = [
     (One(Neg, WIDE), Err(Width(129))),
     (Two(Add, BIT, SIGNED), Err(Bad::Kind)),
     (Two(Mul, WIDE, WIDE), Err(Width(256))),

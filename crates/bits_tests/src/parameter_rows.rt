@@ -4,7 +4,7 @@ use crate::calls::Row;
 use gg_bits::Kind::{SInt, UInt};
 use gg_bits::OpN::{Bits, Head, Pad, Shl, Shr, Tail};
 
-pub static PARAMETERS: [Row; 32] = [
+pub(crate) static PARAMETERS: [Row; 32] = [
     (Const(Pad, (SInt, 4, 0xd), 8, 0), Ok((SInt, 8, 0xfd))),
     (Const(Pad, (SInt, 4, 0xd), 2, 0), Ok((SInt, 4, 0xd))),
     (

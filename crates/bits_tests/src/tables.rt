@@ -9,12 +9,12 @@ use crate::unary_rows::ONE_VALUE;
 use std::fmt::Debug;
 use std::process::Abort;
 
-/// This holds. If not, the test fails, and shows what it is about.
-pub fn check(rt: &impl Abort, holds: bool, about: &impl Debug) {
+// This holds. If not, the test fails, and shows what it is about.
+pub(crate) fn check(rt: &impl Abort, holds: bool, about: &impl Debug) {
     assert!(rt; holds, "{about:?}");
 }
 
-/// Each row holds. One that fails is shown by its place, what its call answered, and what it should have.
+// Each row holds. One that fails is shown by its place, what its call answered, and what it should have.
 fn check_rows(rt: &impl Abort, rows: &[Row]) {
     for (place, row) in rows.iter().enumerate() {
         let answered = answer(&row.0);

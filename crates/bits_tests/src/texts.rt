@@ -3,14 +3,14 @@ use crate::tables::check;
 use gg_bits::{Ids, Items, Name, Names};
 use std::alloc::{AllocError, Global};
 
-/// A list of two names with this text: one that is made of a `String`, and its copy.
+// A list of two names with this text: one that is made of a `String`, and its copy.
 fn two_names(alloc: Global, text: &str) -> Result<Names, AllocError> {
     let name = Name::from(String::from_str(alloc, text)?);
     let copy = name.clone()?;
     Ok(Names::from(vec![in alloc; name, copy]?))
 }
 
-/// Whether a list is equal to its copy.
+// Whether a list is equal to its copy.
 fn is_copied<T: Clone + PartialEq + Drop>(list: &Items<T>) -> bool {
     match list.clone() {
         Ok(copy) => copy == *list,
@@ -18,12 +18,12 @@ fn is_copied<T: Clone + PartialEq + Drop>(list: &Items<T>) -> bool {
     }
 }
 
-/// Whether these are two equal names with this text.
+// Whether these are two equal names with this text.
 fn are_equal(names: &[Name], text: &str) -> bool {
     names.len() == 2 && names[0].as_str() == text && names[1] == names[0]
 }
 
-/// Whether a list of two names with this text is equal to its copy, and gives both names back.
+// Whether a list of two names with this text is equal to its copy, and gives both names back.
 fn are_names(alloc: Global, text: &str) -> bool {
     match two_names(alloc, text) {
         Ok(names) => is_copied(&names) && are_equal(&names.into_vec(), text),
@@ -31,7 +31,7 @@ fn are_names(alloc: Global, text: &str) -> bool {
     }
 }
 
-/// Whether a list of these numbers is equal to its copy, and gives all of them back.
+// Whether a list of these numbers is equal to its copy, and gives all of them back.
 fn are_numbers(alloc: Global, numbers: &[u32]) -> bool {
     match Vec::from_slice(alloc, numbers) {
         Ok(items) => {

@@ -4,7 +4,7 @@ use crate::calls::Row;
 use gg_bits::Kind::{SInt, UInt};
 use gg_bits::Op1::{Andr, AsSInt, AsUInt, Cvt, Neg, Not, Orr, Xorr};
 
-pub static ONE_VALUE: [Row; 53] = [
+pub(crate) static ONE_VALUE: [Row; 53] = [
     (One(AsUInt, (UInt, 1, 0x1)), Ok((UInt, 1, 0x1))),
     (One(AsUInt, (SInt, 2, 0x2)), Ok((UInt, 2, 0x2))),
     (

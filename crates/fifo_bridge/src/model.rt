@@ -7,12 +7,12 @@ use gg_bits::{Name, Ty};
 use gg_flat::{Driver, Line, Node, Op, Piece, Register, Reset, Signal};
 use std::alloc::{AllocError, Global};
 
-/// A place of a FIFO.
+// A place of a FIFO.
 #[derive(Clone, Copy)]
 pub(crate) struct Place {
-    /// 1 if there is a value in it, else 0.
+    // 1 if there is a value in it, else 0.
     pub(crate) full: u128,
-    /// The value.
+    // The value.
     pub(crate) value: u128,
 }
 
@@ -134,7 +134,7 @@ fn add_registers(alloc: Global, piece: &mut Piece, bit: Ty, ty: Ty) -> Result<()
     add_place_registers(alloc, piece, bit, ty, 9, 10, 7, 0, 1)
 }
 
-/// The flat circuit of a FIFO.
+// The flat circuit of a FIFO.
 pub(crate) fn piece_of(alloc: Global, bit: Ty, ty: Ty) -> Result<Piece, AllocError>
     ensures { IfOk result (λ piece. piece ≡ fifo_piece bit ty) }
 {

@@ -97,6 +97,7 @@ impl Circuit {
     pub fn names_are_words(&self)
         ensures { AreNamesOfCircuit self.now }
     {
+        // for the invariant alone
         let _ = &self.line;
     }
 
@@ -192,7 +193,7 @@ impl Circuit {
     }
 }
 
-/// Records this place of a list as the name's, unless the name has an earlier one.
+// Records this place of a list as the name's, unless the name has an earlier one.
 fn note_place(
     places: &mut IndexMap<String, usize>,
     alloc: Global,

@@ -86,7 +86,7 @@ impl Model for Module {
 }
 
 impl Module {
-    /// A module without ports and statements that begins on this line.
+    // A module without ports and statements that begins on this line.
     pub(crate) fn new(alloc: Global, line: u64, name: Name) -> Module
         ensures { result ≡ empty_module line name }
     {
@@ -126,7 +126,7 @@ impl Module {
         self.statements.as_slice()
     }
 
-    /// Adds a port as the last. If an allocation fails the module stays as it was.
+    // Adds a port as the last. If an allocation fails the module stays as it was.
     pub(crate) fn push_port(&mut self, port: Port) -> Result<(), AllocError>
         ensures { self.new ≡ (if is_ok result then with_port port self.old else self.old) }
     {
@@ -134,7 +134,7 @@ impl Module {
         Ok(())
     }
 
-    /// Adds a statement as the last. If an allocation fails the module stays as it was.
+    // Adds a statement as the last. If an allocation fails the module stays as it was.
     pub(crate) fn push_statement(&mut self, statement: Stmt) -> Result<(), AllocError>
         ensures { self.new ≡ (if is_ok result then with_statement statement self.old else self.old) }
     {
@@ -142,8 +142,8 @@ impl Module {
         Ok(())
     }
 
-    /// Adds a field to the last statement, if that is a memory, as its last. There has to be a statement. If an
-    /// allocation fails the module stays as it was.
+    // Adds a field to the last statement, if that is a memory, as its last. There has to be a statement. If an
+    // allocation fails the module stays as it was.
     pub(crate) fn push_field(&mut self, field: Field) -> Result<(), AllocError>
         requires { 0 < length self.old.statements }
         ensures { self.new ≡ (if is_ok result then module_with_field field self.old else self.old) }

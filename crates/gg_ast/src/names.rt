@@ -15,14 +15,14 @@ pub fn is_name(text: &str) -> bool
     }
 }
 
-/// Whether each of the bytes may be in a name.
+// Whether each of the bytes may be in a name.
 fn are_name_bytes(bytes: &[u8]) -> bool
     ensures { result ≡ list_all is_name_byte bytes.now }
 {
     bytes.iter().all(|byte| is_name_byte(*byte))
 }
 
-/// A letter, a digit, `_` or `$`.
+// A letter, a digit, `_` or `$`.
 fn is_name_byte(byte: u8) -> bool
     ensures { result ≡ is_name_byte byte }
 {

@@ -24,8 +24,8 @@ impl Drop for Stmt {
 }
 
 impl Stmt {
-    /// Adds a field to a memory, as its last. Any other statement stays as it is. If an allocation fails the memory
-    /// stays as it was.
+    // Adds a field to a memory, as its last. Any other statement stays as it is. If an allocation fails the memory
+    // stays as it was.
     pub(crate) fn push_field(&mut self, field: Field) -> Result<(), AllocError>
         ensures { self.new ≡ (if is_ok result then statement_with_field field self.old else self.old) }
     {
@@ -223,7 +223,11 @@ impl Arguments {
         self.items.as_slice()
     }
 
-    /// Adds an argument as the last. If an allocation fails they stay as they were.
+    /// Adds an argument as the last.
+    ///
+    /// # Errors
+    ///
+    /// Returns `AllocError` if an allocation fails. The arguments stay as they were.
     pub fn push(&mut self, argument: Argument) -> Result<(), AllocError>
         ensures { self.new ≡ (if is_ok result then self.old ++ argument ∷ [] else self.old) }
     {
@@ -270,7 +274,11 @@ impl Fields {
         self.items.as_slice()
     }
 
-    /// Adds a field as the last. If an allocation fails they stay as they were.
+    /// Adds a field as the last.
+    ///
+    /// # Errors
+    ///
+    /// Returns `AllocError` if an allocation fails. The fields stay as they were.
     pub fn push(&mut self, field: Field) -> Result<(), AllocError>
         ensures { self.new ≡ (if is_ok result then self.old ++ field ∷ [] else self.old) }
     {

@@ -149,26 +149,31 @@ impl<B: Bridge + Send + Drop> Host for Hosted<B> {
     }
 
     fn missing(&self, thread: u32, place: u32) -> Option<u32> {
+        // for the invariant alone
         let _ = &self.cycle;
         None
     }
 
     fn due(&self, thread: u32) -> Option<u32> {
+        // for the invariant alone
         let _ = &self.cycle;
         None
     }
 
     fn served(&self, thread: u32) -> u32 {
+        // for the invariant alone
         let _ = &self.cycle;
         0
     }
 
     fn dues(&self, thread: u32) -> u32 {
+        // for the invariant alone
         let _ = &self.cycle;
         0
     }
 
     fn port_count(&self, thread: u32) -> u32 {
+        // for the invariant alone
         let _ = &self.cycle;
         0
     }
@@ -188,6 +193,7 @@ impl<B: Bridge + Send + Drop> Host for Hosted<B> {
     }
 
     fn serve(&mut self, thread: u32, port: u32) {
+        // for the invariant alone
         let _ = &self.cycle;
     }
 

@@ -26,14 +26,21 @@ pub fn circuit_is_formed()
 /// has the clocks of the design.
 pub fn circuit_has_ports()
     ensures ins { (design : Ordered) (request : Request) (models : Models) → CanBridge design request models → (plan_circuit design request models).ins ≡ open_ins design.circuit request }
-    ensures outs { (design : Ordered) (request : Request) (models : Models) → CanBridge design request models → (plan_circuit design request models).outs ≡ map (taken_as (plan_hub design.circuit design.tree request)) (open_outs design.circuit (output_count design) request ++ drop (output_count design) design.circuit.outs) }
+    ensures outs { (design : Ordered) (request : Request) (models : Models) → CanBridge design request models
+        → (plan_circuit design request models).outs
+        ≡ map (taken_as (plan_hub design.circuit design.tree request))
+        (open_outs design.circuit (output_count design) request ++ drop (output_count design) design.circuit.outs) }
     ensures clocks { (design : Ordered) (request : Request) (models : Models) → CanBridge design request models → (plan_circuit design request models).clocks ≡ design.circuit.clocks }
 {}
 
 /// A run of the circuit, from any state of the reference circuit and zeros of the models, is a run of the reference circuit and of each
 /// model.
 pub fn circuit_runs()
-    ensures { (design : Ordered) (request : Request) (models : Models) (start : Start) (columns : List (List ℕ)) (end : ℕ) (rows : List (List ℕ)) → CanBridge design request models → IsState (plan_reference design request) start.state → IsColumns (plan_circuit design request models) end columns → AreRows (plan_circuit design request models) (plan_begin design request models start) columns end rows → RunsWhole design request models start columns end rows }
+    ensures { (design : Ordered) (request : Request) (models : Models) (start : Start) (columns : List (List ℕ)) (end : ℕ)
+        (rows : List (List ℕ)) → CanBridge design request models → IsState (plan_reference design request) start.state
+        → IsColumns (plan_circuit design request models) end columns
+        → AreRows (plan_circuit design request models) (plan_begin design request models start) columns end rows
+        → RunsWhole design request models start columns end rows }
 {}
 
 /// The bridges of a request can stand at their ports, one after another.
@@ -43,10 +50,14 @@ pub fn bridges_stand()
 
 /// Where the reference circuit starts with zeros, so does the whole.
 pub fn zeros_stay()
-    ensures { (design : Ordered) (request : Request) (models : Models) → plan_begin design request models (plan_start design request) ≡ clocked_start (plan_circuit design request models) (ratios_of design.tree request) }
+    ensures { (design : Ordered) (request : Request) (models : Models)
+        → plan_begin design request models (plan_start design request)
+        ≡ clocked_start (plan_circuit design request models) (ratios_of design.tree request) }
 {}
 
 /// The state in which the whole starts is one that it can be in, if the reference circuit's is one.
 pub fn starts_are_typed()
-    ensures { (design : Ordered) (request : Request) (models : Models) (start : Start) → CanBridge design request models → IsState (plan_reference design request) start.state → IsState (plan_circuit design request models) (plan_begin design request models start).state }
+    ensures { (design : Ordered) (request : Request) (models : Models) (start : Start) → CanBridge design request models
+        → IsState (plan_reference design request) start.state
+        → IsState (plan_circuit design request models) (plan_begin design request models start).state }
 {}

@@ -5,7 +5,7 @@ use Rattle.std.proofs.lemmas.Bool.{cases_eq}
 use Rattle.std.proofs.lemmas.List.{get_or_push, get_or_append_left, get_or-set_same, get_or-set_other, get_or-map, length-append, length-set, map-set}
 use Rattle.std.proofs.lemmas.Option.{none-some, same_Some}
 use Rattle.gg_flat.specs.Line.{value_at}
-use Rattle.gg_build.specs.Groups.{group_at, IsMember, AreGrouped, AllHaveSome, AreGroups, host_for, AreNumbered, AreSoFar, IsHostFor}
+use Rattle.gg_build.specs.Groups.{group_at, IsMember, AreGrouped, AllHaveSome, AreGroups, host_for, AreNumbered, AreSoFar, IsHostFor, FirstsAscend, HasEarlier}
 
 -- ---- a host more
 
@@ -175,6 +175,22 @@ module _ (count host : ℕ) (hosts threads : List ℕ) (members : List (List ℕ
         once = are.once;
       }
 
+  -- a host below that of the new machine has one already, its first
+  pub ascend-join : ((h : ℕ) → h < length members → h ≢ host → 0 < length (group_at members h)) → FirstsAscend (value_at hosts) count → FirstsAscend (value_at (hosts ++ host ∷ [])) (count + 1)
+  ascend-join some are = λ m h lt. below_more (λ m. (h : ℕ) → h < value_at (hosts ++ host ∷ []) m → HasEarlier (value_at (hosts ++ host ∷ [])) h m) count before now m lt h
+    where
+      before : (m : ℕ) → m < count → (h : ℕ) → h < value_at (hosts ++ host ∷ []) m → HasEarlier (value_at (hosts ++ host ∷ [])) h m
+      before m lt h less =
+          let old = are m h lt (subst (λ k. h < k) (host-before m lt) less) in
+          record { machine = old.machine; earlier = old.earlier; host = host-before old.machine (omega (arith, old.earlier, lt)) ∙ old.host }
+
+      now : (h : ℕ) → h < value_at (hosts ++ host ∷ []) count → HasEarlier (value_at (hosts ++ host ∷ [])) h count
+      now h less =
+          let low : h < host = subst (λ k. h < k) host-now less in
+          let have = some h (omega (arith, low, known)) (λ same. absurd (omega (arith, low, same))) in
+          let first = value_at (group_at members h) 0 in
+          record { machine = first; earlier = was.known h 0 have; host = host-before first (was.known h 0 have) ∙ (was.back h 0 have).0 }
+
 -- ---- all machines
 
 module _ (planned : List ℕ) (count host : ℕ) (numbers changed : List (Option ℕ)) (hosts threads : List ℕ) (members grown : List (List ℕ)) (lt : count < length planned) (few : value_at planned count < length planned) (was : AreSoFar planned count numbers hosts threads members) where
@@ -231,6 +247,7 @@ module _ (planned : List ℕ) (count host : ℕ) (numbers changed : List (Option
         some = some-join count host hosts threads grown now.low now.grouped now.some;
         numbered = subst (AreNumbered planned (count + 1) changed (hosts ++ host ∷ [])) (sym (length-set grown host (group_at grown host ++ count ∷ [])))
             (numbered-join count host hosts threads grown now.low now.grouped planned changed (length grown) now.found now.numbered);
+        ascend = ascend-join count host hosts threads grown now.low now.grouped now.some was.ascend;
         size = now.size;
         most = let most = now.most in omega (arith, most, length-set grown host (group_at grown host ++ count ∷ []));
       })))
@@ -240,6 +257,7 @@ so-far-all planned count numbers hosts threads members all are =
     record {
       grouped = subst (λ k. AreGrouped k hosts threads members) all are.grouped;
       some = are.some;
+      ascend = subst (FirstsAscend (value_at hosts)) all are.ascend;
       together = λ m k low less.
           let one = are.numbered.each m (omega (arith, low, all)) in
           let other = are.numbered.each k (omega (arith, less, all)) in (

@@ -6,8 +6,9 @@ pub mod HostLemmas
 pub mod PortLemmas
 pub mod PlaceLemmas
 pub mod WireLemmas
-pub mod SeatLemmas
+pub mod PlacementLemmas
 pub mod ReadyLemmas
 pub mod OpenLemmas
 pub mod AlongLemmas
 pub mod AloneLemmas
+pub mod WorkedPlacement

@@ -11,7 +11,7 @@ use Rattle.gg_node.specs.Machine.{Machine, machine_at, no_machine}
 use Rattle.gg_net.specs.declared.shape.Wire.{Wire}
 use Rattle.gg_net.specs.declared.shape.Station.{Station}
 use Rattle.gg_net.specs.Network.{Network, Kind, kind_of, kind_at, IsAtIn, IsAtOut}
-use Rattle.gg_net.specs.Seats.{seated, machines_by}
+use Rattle.gg_net.specs.Stations.{stationed, machines_by}
 use Rattle.gg_net.specs.Kept.{IsSound}
 use Rattle.gg_net.specs.Net.{entry_of, IsListed, opening_net, Opens}
 use Rattle.gg_bridged.proofs.PortLemmas.{plan-ins}
@@ -27,10 +27,10 @@ use Rattle.gg_build.specs.Node.{machines_of}
 use Rattle.gg_build.specs.declared.begin.Begin.{Begin}
 use Rattle.gg_build.specs.Begin.{AreTokens, starts_of}
 use Rattle.gg_build.specs.Build.{IsStarted, IsToStart}
-use Rattle.gg_build.specs.Hosts.{AreSeats, IsBuiltWith}
-use Rattle.gg_build.proofs.SeatLemmas.{no_station}
+use Rattle.gg_build.specs.Hosts.{IsPlacement, IsBuiltWith}
+use Rattle.gg_build.proofs.PlacementLemmas.{no_station}
 
-module _ {B : Type 0} (plan : Plan) (begin : Begin) (columns : List (List ℕ)) (n : ℕ) (hosts : List (Node B)) (stations : List Station) (are : AreSeats plan (starts_of plan.ratios begin) columns hosts stations) where
+module _ {B : Type 0} (plan : Plan) (begin : Begin) (columns : List (List ℕ)) (n : ℕ) (hosts : List (Node B)) (stations : List Station) (are : IsPlacement plan (starts_of plan.ratios begin) columns hosts stations) where
   abbrev pub lists_of : List (List Machine)
   lists_of = map machines_of hosts
 
@@ -42,13 +42,13 @@ module _ {B : Type 0} (plan : Plan) (begin : Begin) (columns : List (List ℕ)) 
 
   -- ---- machines
 
-  machine-is : (m : ℕ) (s : Station) → m < length plan.machines → machine_at machines m ≡ seated lists_of (get_or stations m s)
-  machine-is m s lt = get_or-map (seated lists_of) stations m s no_machine (omega (arith, lt, are.total))
+  machine-is : (m : ℕ) (s : Station) → m < length plan.machines → machine_at machines m ≡ stationed lists_of (get_or stations m s)
+  machine-is m s lt = get_or-map (stationed lists_of) stations m s no_machine (omega (arith, lt, are.total))
 
   pub are-built : AreBuilt plan starts columns machines
   are-built =
       record {
-        count = length-map stations (seated lists_of) ∙ are.total;
+        count = length-map stations (stationed lists_of) ∙ are.total;
         each = λ m lt. subst (IsBuiltWith starts columns (length (machine_in plan m).outs) (machine_in plan m).body) (sym (machine-is m no_station lt)) (are.each m no_station lt).built;
       }
 
@@ -60,15 +60,15 @@ module _ {B : Type 0} (plan : Plan) (begin : Begin) (columns : List (List ℕ)) 
 
     is-listed : (m : ℕ) (s : Station) → m < length plan.machines → IsListed (wires_of_plan token plan) m (kind_at (map kind_of machines) m) (get_or stations m s)
     is-listed m s lt =
-        let seat = are.each m s lt in
+        let there = are.each m s lt in
         let at = plan-listed is.design is.request is.models is.default plan columns n is.start is.rows token starts machines is.given are-built m lt in
-        let kind : kind_at (map kind_of machines) m ≡ kind_of (seated lists_of (get_or stations m s)) = kind-is machines m (omega (arith, lt, are-built.count)) ∙ ap kind_of (machine-is m s lt) in
+        let kind : kind_at (map kind_of machines) m ≡ kind_of (stationed lists_of (get_or stations m s)) = kind-is machines m (omega (arith, lt, are-built.count)) ∙ ap kind_of (machine-is m s lt) in
         record {
-          ins = ap length seat.ins ∙ at.ins;
-          into = λ i low. subst (λ (l : List ℕ). IsAtIn (wires_of_plan token plan) m i (value_at l i)) (sym seat.ins) (at.into i low);
-          outs = ap length seat.outs ∙ at.outs;
-          from = λ o low. subst (λ (l : List ℕ). IsAtOut (wires_of_plan token plan) m o (value_at l o)) (sym seat.outs) (at.from o low);
-          ports = seat.ports ∙ sym (ap (λ (k : Kind). map entry_of k.ports) kind);
+          ins = ap length there.ins ∙ at.ins;
+          into = λ i low. subst (λ (l : List ℕ). IsAtIn (wires_of_plan token plan) m i (value_at l i)) (sym there.ins) (at.into i low);
+          outs = ap length there.outs ∙ at.outs;
+          from = λ o low. subst (λ (l : List ℕ). IsAtOut (wires_of_plan token plan) m o (value_at l o)) (sym there.outs) (at.from o low);
+          ports = there.ports ∙ sym (ap (λ (k : Kind). map entry_of k.ports) kind);
           few = at.few;
         }
 
@@ -91,8 +91,8 @@ module _ {B : Type 0} (plan : Plan) (begin : Begin) (columns : List (List ℕ)) 
     opens-plan : Opens (flow_of is.design is.request plan is.start is.rows) lists_of stations (wires_of_plan token plan) n
     opens-plan =
         record {
-          seated = are.threads;
-          opening = λ m lt. built-opening is.design is.request is.models is.default plan columns n is.start is.rows machines is.given begins m (omega (arith, lt, length-map stations (seated lists_of)));
+          stationed = are.threads;
+          opening = λ m lt. built-opening is.design is.request is.models is.default plan columns n is.start is.rows machines is.given begins m (omega (arith, lt, length-map stations (stationed lists_of)));
           listed = λ m s lt. is-listed m s (omega (arith, lt, are.total));
           limits = plan-within is.design is.request is.models is.default plan columns n is.start is.rows token starts machines is.given are-built is.room;
           sound = is-sound;

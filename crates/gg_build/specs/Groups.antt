@@ -30,11 +30,23 @@ AllHaveSome members = (h : ℕ) → h < length members → 0 < length (group_at 
 abbrev pub AreTogether : List ℕ → List ℕ → Type 0
 AreTogether planned hosts = (m k : ℕ) → m < length planned → k < length planned → (value_at planned m ≡ value_at planned k) ↔ (value_at hosts m ≡ value_at hosts k)
 
+-- a machine before machine m has host h
+pub record HasEarlier (host_at : ℕ → ℕ) (h m : ℕ) : Type 0 where
+  pub machine : ℕ
+  pub earlier : machine < m
+  pub host : host_at machine ≡ h
+
+-- The hosts of the first `count` machines are numbered in the order of their first machines: a host with a smaller number than that of a
+-- machine has an earlier machine.
+abbrev pub FirstsAscend : (ℕ → ℕ) → ℕ → Type 0
+FirstsAscend host_at count = (m h : ℕ) → m < count → h < host_at m → HasEarlier host_at h m
+
 -- the machines of a plan by hosts
 pub record AreGroups (planned hosts threads : List ℕ) (members : List (List ℕ)) : Type 0 where
   pub grouped : AreGrouped (length planned) hosts threads members
   pub some : AllHaveSome members
   pub together : AreTogether planned hosts
+  pub ascend : FirstsAscend (value_at hosts) (length planned)
 
 -- ---- machine by machine
 
@@ -53,6 +65,7 @@ pub record AreSoFar (planned : List ℕ) (count : ℕ) (numbers : List (Option �
   pub grouped : AreGrouped count hosts threads members
   pub some : AllHaveSome members
   pub numbered : AreNumbered planned count numbers hosts (length members)
+  pub ascend : FirstsAscend (value_at hosts) count
   pub size : length numbers ≡ length planned
   pub most : length members ≤ count
 

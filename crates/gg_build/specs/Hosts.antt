@@ -21,13 +21,13 @@ use Rattle.gg_memunit.specs.MemoryUnit.{IsMemoryPiece, started_unit}
 use Rattle.gg_node.specs.Machine.{Machine, machine_at}
 use Rattle.gg_net.specs.declared.shape.Station.{Station}
 use Rattle.gg_net.specs.Net.{entry_of}
-use Rattle.gg_net.specs.Seats.{AreSeated, seated}
+use Rattle.gg_net.specs.Stations.{AreStationed, stationed}
 use Rattle.gg_sound.specs.Alone.{IsCutAgain}
 use Rattle.gg_sound.specs.Built.{IsBuilt, IsUnitOf, machine_in, nameless}
 use Rattle.gg_build.specs.declared.node.Node.{Node}
 use Rattle.gg_build.specs.declared.node.Node.TheVariants as node
 use Rattle.gg_build.specs.Bridges.{Table, AreApart, HasOwn}
-use Rattle.gg_build.specs.Groups.{group_at}
+use Rattle.gg_build.specs.Groups.{FirstsAscend, group_at}
 use Rattle.gg_build.specs.Node.{machines_of}
 
 -- ---- what machines of a plan must have to be built
@@ -220,16 +220,24 @@ pub record AreStations {B : Type 0} (machines : List planned.Machine) (hosts thr
   pub each : (m : ℕ) (any : Node B) (other : Station) → m < count
       → IsStation (slice_index_or machines m nameless) (value_at hosts m) (value_at threads m) (machine_at (machines_of (slice_index_or nodes (value_at hosts m) any)) (value_at threads m)) (slice_index_or stations m other)
 
--- The station of a machine of a plan. The machine that is seated there is built from it.
-pub record IsSeat (starts : Body → Start) (columns : List (List ℕ)) (own : planned.Machine) (lists : List (List Machine)) (station : Station) : Type 0 where
-  pub built : IsBuiltWith starts columns (length own.outs) own.body (seated lists station)
+-- The station of a machine of a plan. The machine that is stationed there is built from it.
+pub record IsPlaced (starts : Body → Start) (columns : List (List ℕ)) (own : planned.Machine) (lists : List (List Machine)) (station : Station) : Type 0 where
+  pub built : IsBuiltWith starts columns (length own.outs) own.body (stationed lists station)
   pub ins : station.ins ≡ own.ins
   pub outs : station.outs ≡ own.outs
-  pub ports : station.ports ≡ map entry_of (seated lists station).ports
+  pub ports : station.ports ≡ map entry_of (stationed lists station).ports
 
--- The hosts and the stations of a plan's machines. Two machines have one host exactly if they have one in the plan.
-pub record AreSeats {B : Type 0} (plan : Plan) (starts : Body → Start) (columns : List (List ℕ)) (nodes : List (Node B)) (stations : List Station) : Type 0 where
+-- The hosts of a plan's machines, and the station of each machine there.
+pub record IsPlacement {B : Type 0} (plan : Plan) (starts : Body → Start) (columns : List (List ℕ)) (nodes : List (Node B)) (stations : List Station) : Type 0 where
+  -- Each machine of the plan has a station.
   pub total : length stations ≡ length plan.machines
-  pub each : (m : ℕ) (any : Station) → m < length plan.machines → IsSeat starts columns (machine_in plan m) (map machines_of nodes) (slice_index_or stations m any)
-  pub threads : AreSeated (map machines_of nodes) stations
+  -- The machine at a station is built from that of the plan, and has its channels.
+  pub each : (m : ℕ) (any : Station) → m < length plan.machines → IsPlaced starts columns (machine_in plan m) (map machines_of nodes) (slice_index_or stations m any)
+  -- Each station is at a thread of a host that there is, no two are at the same thread, and no thread is without a station.
+  pub threads : AreStationed (map machines_of nodes) stations
+  -- No host is without a machine.
+  pub used : All (λ node. 0 < length (machines_of node)) nodes
+  -- Two machines have one host exactly if they have one in the plan.
   pub together : (m k : ℕ) (any other : Station) → m < length plan.machines → k < length plan.machines → ((machine_in plan m).host ≡ (machine_in plan k).host) ↔ ((slice_index_or stations m any).host ≡ (slice_index_or stations k other).host)
+  -- The hosts are numbered in the order of their first machines.
+  pub ascend : (any : Station) → FirstsAscend (λ m. (slice_index_or stations m any).host) (length stations)

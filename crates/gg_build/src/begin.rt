@@ -71,11 +71,11 @@ fn banks_at(alloc: Global, memories: &[u32], banks: &[Bank]) -> Result<Vec<Bank>
     Ok(own)
 }
 
-/// What a part has of a state.
-///
-/// # Errors
-///
-/// Returns `AllocError` if an allocation fails.
+// What a part has of a state.
+//
+// # Errors
+//
+// Returns `AllocError` if an allocation fails.
 pub(crate) fn part_of_state(alloc: Global, part: &Part, state: &State) -> Result<State, AllocError>
     ensures { IfOk result (λ own. own ≡ part_state part.now.held part.now.memories state.now) }
 {
@@ -84,11 +84,11 @@ pub(crate) fn part_of_state(alloc: Global, part: &Part, state: &State) -> Result
     Ok(State::of(registers, banks))
 }
 
-/// The state in which a part begins.
-///
-/// # Errors
-///
-/// Returns `AllocError` if an allocation fails.
+// The state in which a part begins.
+//
+// # Errors
+//
+// Returns `AllocError` if an allocation fails.
 pub(crate) fn own_state(alloc: Global, part: &Part, begin: &Begin) -> Result<State, AllocError>
     ensures { IfOk result (λ own. own ≡ state_from part.now begin.now.state) }
 {

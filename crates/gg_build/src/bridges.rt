@@ -14,11 +14,11 @@ use gg_cut::BridgeBody;
 use std::alloc::{AllocError, Global};
 use std::collections::HashMap;
 
-/// A table of bridges by their names.
-///
-/// # Errors
-///
-/// Returns `AllocError` if an allocation fails.
+// A table of bridges by their names.
+//
+// # Errors
+//
+// Returns `AllocError` if an allocation fails.
 pub(crate) fn table_of<B: Bridge + Drop>(
     alloc: Global,
     bridges: Vec<(Name, B)>,
@@ -34,22 +34,22 @@ pub(crate) fn table_of<B: Bridge + Drop>(
     Ok(table)
 }
 
-/// A copy of these numbers.
-///
-/// # Errors
-///
-/// Returns `AllocError` if an allocation fails.
+// A copy of these numbers.
+//
+// # Errors
+//
+// Returns `AllocError` if an allocation fails.
 pub(crate) fn copied(alloc: Global, numbers: &[u32]) -> Result<Ids, AllocError>
     ensures { IfOk result (λ copy. copy ≡ numbers.now) }
 {
     Ok(Ids::from(Vec::from_slice(alloc, numbers)?))
 }
 
-/// The host of a bridge's machine. The bridge with its name is taken out of the table.
-///
-/// # Errors
-///
-/// Returns `AllocError` if an allocation fails.
+// The host of a bridge's machine. The bridge with its name is taken out of the table.
+//
+// # Errors
+//
+// Returns `AllocError` if an allocation fails.
 pub(crate) fn bridge_host<'a, B: Bridge + Drop>(
     alloc: Global,
     body: &BridgeBody,

@@ -5,14 +5,14 @@ ghost use Rattle.gg_build.specs.Groups.{AreGroups, IsHostFor, group_at};
 use gg_cut::Machine;
 use std::alloc::{AllocError, Global};
 
-/// The machines of a plan by hosts.
+// The machines of a plan by hosts.
 pub(crate) struct Groups {
-    /// The host of each machine.
-    pub hosts: Vec<u32>,
-    /// The thread of each machine at its host.
-    pub threads: Vec<u32>,
-    /// The machines of each host, by thread.
-    pub members: Vec<Vec<u32>>,
+    // The host of each machine.
+    pub(crate) hosts: Vec<u32>,
+    // The thread of each machine at its host.
+    pub(crate) threads: Vec<u32>,
+    // The machines of each host, by thread.
+    pub(crate) members: Vec<Vec<u32>>,
 }
 
 impl Drop for Groups {
@@ -55,7 +55,9 @@ fn join(host: u32, machine: u32, members: &mut Vec<Vec<u32>>) -> Result<u32, All
     requires known { host < length members.old.items }
     requires few { length (group_at (map (λ list. list.items) members.old.items) host) < 2 ^ 32 }
     ensures thread { IfOk result (λ thread. thread ≡ length (group_at (map (λ list. list.items) members.old.items) host)) }
-    ensures members { OnOk result (map (λ list. list.items) members.new.items ≡ slice_set (map (λ list. list.items) members.old.items) host (group_at (map (λ list. list.items) members.old.items) host ++ machine ∷ [])) }
+    ensures members { OnOk result (map (λ list. list.items) members.new.items
+        ≡ slice_set (map (λ list. list.items) members.old.items) host
+        (group_at (map (λ list. list.items) members.old.items) host ++ machine ∷ [])) }
 {
     let own = &mut members[host as usize];
     let thread = own.len() as u32;
@@ -63,11 +65,11 @@ fn join(host: u32, machine: u32, members: &mut Vec<Vec<u32>>) -> Result<u32, All
     Ok(thread)
 }
 
-/// The machines of a plan by hosts. The hosts are numbered in the order of their first machines.
-///
-/// # Errors
-///
-/// Returns `AllocError` if an allocation fails.
+// The machines of a plan by hosts. The hosts are numbered in the order of their first machines.
+//
+// # Errors
+//
+// Returns `AllocError` if an allocation fails.
 pub(crate) fn groups_of(alloc: Global, machines: &[Machine]) -> Result<Groups, AllocError>
     requires few { length machines.now < 2 ^ 32 }
     requires known { All (λ machine. machine.host < length machines.now) machines.now }

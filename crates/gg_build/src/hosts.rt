@@ -242,12 +242,12 @@ fn host_of<'a, B: Bridge + Drop>(
     }
 }
 
-/// The hosts of these groups of a plan's machines, where the circuit's clocks have these ratios. The plan's bridges are taken out of the
-/// table.
-///
-/// # Errors
-///
-/// Returns `AllocError` if an allocation fails.
+// The hosts of these groups of a plan's machines, where the circuit's clocks have these ratios. The plan's bridges are taken out of the
+// table.
+//
+// # Errors
+//
+// Returns `AllocError` if an allocation fails.
 pub(crate) fn hosts_of<'a, B: Bridge + Drop>(
     alloc: Global,
     trace: &Trace,

@@ -8,7 +8,7 @@ ghost use Rattle.gg_build.specs.Build.{Begins, HasBridges, IsOpeningFrom, IsOpen
 
 use crate::begin::Begin;
 use crate::node::Node;
-use crate::seats::{Seats, seats_of};
+use crate::placement::{Placement, placement_of};
 use crate::wires::wires_of;
 use gg_bits::Name;
 use gg_bridge::Bridge;
@@ -29,7 +29,7 @@ fn started<'a, B: Bridge + Send + Drop, Z: Streams>(
     requires bridges { HasBridges B.piece B.state plan.now bridges.items }
     ensures { IfOk result (λ net. IsStarted plan.now begin.now trace.now.columns trace.now.rows net) }
 {
-    let Seats { hosts, stations } = seats_of(alloc, plan, trace, begin, bridges)?;
+    let Placement { hosts, stations } = placement_of(alloc, plan, trace, begin, bridges)?;
     let wires = wires_of(alloc, plan, &begin.tokens)?;
     let end = trace.rows();
     let net = Net::new(
@@ -45,8 +45,9 @@ fn started<'a, B: Bridge + Send + Drop, Z: Streams>(
 }
 
 /// The network of a plan before its first cycle. Its sources give the columns of a trace, and it has as many cycles to
-/// do as the trace has rows. Units that the plan puts onto one host share it, a thread each. The plan's bridges are taken out of
-/// those that are handed in, by their names; the others, and all of them if an allocation fails, are given up.
+/// do as the trace has rows. Its hosts are those of [`placement_of`]: units that the plan puts onto one host share it, a thread each, and each
+/// other machine has a host of its own. The plan's bridges are taken out of those that are handed in, by their names; the others, and all
+/// of them if an allocation fails, are given up.
 ///
 /// Allocates all the memory that the network will use.
 ///
@@ -73,7 +74,7 @@ pub fn build<'a, B: Bridge + Send + Drop, Z: Streams>(
 }
 
 /// The network of a plan before its first step from there. Its sources give the columns of a trace, from the cycle of `begin` on, and it
-/// has to do the cycles from there up to the trace's last row.
+/// has to do the cycles from there up to the trace's last row. Its hosts are those of [`placement_of`].
 ///
 /// Allocates all the memory that the network will use.
 ///
@@ -89,7 +90,9 @@ pub fn build_from<'a, B: Bridge + Send + Drop, Z: Streams>(
 ) -> Result<Net<Node<'a, B>, Z>, AllocError>
     requires run { IsToBegin plan.now begin.now trace.now.columns trace.now.rows Z.flow }
     requires bridges { HasBridges B.piece B.state plan.now bridges.items }
-    ensures { IfOk result (λ net. (design : Ordered) (request : Request) (start : Start) → Begins design request plan.now start begin.now → IsOpeningFrom plan.now start (plan_token design request start.state) trace.now.columns trace.now.rows net) }
+    ensures { IfOk result (λ net. (design : Ordered) (request : Request) (start : Start)
+        → Begins design request plan.now start begin.now
+        → IsOpeningFrom plan.now start (plan_token design request start.state) trace.now.columns trace.now.rows net) }
 {
     let net = started::<B, Z>(alloc, plan, trace, begin, bridges)?;
     Ok(net)

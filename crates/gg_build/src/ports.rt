@@ -75,11 +75,11 @@ fn add_ports(
     }
 }
 
-/// The ports of a memory that are served in a cycle, in their order.
-///
-/// # Errors
-///
-/// Returns `AllocError` if an allocation fails.
+// The ports of a memory that are served in a cycle, in their order.
+//
+// # Errors
+//
+// Returns `AllocError` if an allocation fails.
 pub(crate) fn ports_of(alloc: Global, memory: &Memory) -> Result<Vec<ServedPort>, AllocError>
     requires { length memory.now.readers + length memory.now.writers < 2 ^ 32 }
     ensures { IfOk result (λ ports. ports.items ≡ map entry_of (ports_by memory.now.latency memory.now.readers memory.now.writers)) }

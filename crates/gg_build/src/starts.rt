@@ -11,11 +11,11 @@ use gg_flat::State;
 use gg_part::Part;
 use std::alloc::{AllocError, Global};
 
-/// The ratios of a part's own clocks, where the circuit's clocks have these ratios.
-///
-/// # Errors
-///
-/// Returns `AllocError` if an allocation fails.
+// The ratios of a part's own clocks, where the circuit's clocks have these ratios.
+//
+// # Errors
+//
+// Returns `AllocError` if an allocation fails.
 pub(crate) fn own_ratios(alloc: Global, part: &Part, ratios: &[Ratio]) -> Result<Ratios, AllocError>
     ensures { IfOk result (λ own. own ≡ part_ratios part.now.clocks ratios.now) }
 {
@@ -28,11 +28,10 @@ fn body_ratios(
     alloc: Global,
     body: &Body,
     ratios: &[Ratio],
-    begin: &Begin,
+    _begin: &Begin,
 ) -> Result<Ratios, AllocError>
-    ensures { IfOk result (λ own. own ≡ (starts_of ratios.now begin.now body.now).ratios) }
+    ensures { IfOk result (λ own. own ≡ (starts_of ratios.now _begin.now body.now).ratios) }
 {
-    let _ = begin;
     match body {
         Body::Cut(part) => own_ratios(alloc, part, ratios),
         Body::Memory(part) => own_ratios(alloc, part, ratios),
@@ -44,12 +43,11 @@ fn body_ratios(
 fn body_state(
     alloc: Global,
     body: &Body,
-    ratios: &[Ratio],
+    _ratios: &[Ratio],
     begin: &Begin,
 ) -> Result<State, AllocError>
-    ensures { IfOk result (λ own. own ≡ (starts_of ratios.now begin.now body.now).state) }
+    ensures { IfOk result (λ own. own ≡ (starts_of _ratios.now begin.now body.now).state) }
 {
-    let _ = ratios;
     match body {
         Body::Cut(part) => own_state(alloc, part, begin),
         Body::Memory(part) => own_state(alloc, part, begin),
@@ -58,11 +56,11 @@ fn body_state(
     }
 }
 
-/// For each of these machines of a plan the ratios of its own clocks, where the circuit's clocks have these ratios.
-///
-/// # Errors
-///
-/// Returns `AllocError` if an allocation fails.
+// For each of these machines of a plan the ratios of its own clocks, where the circuit's clocks have these ratios.
+//
+// # Errors
+//
+// Returns `AllocError` if an allocation fails.
 pub(crate) fn all_ratios(
     alloc: Global,
     machines: &[Machine],
@@ -83,11 +81,11 @@ pub(crate) fn all_ratios(
     Ok(lists)
 }
 
-/// For each of these machines of a plan the state in which it begins.
-///
-/// # Errors
-///
-/// Returns `AllocError` if an allocation fails.
+// For each of these machines of a plan the state in which it begins.
+//
+// # Errors
+//
+// Returns `AllocError` if an allocation fails.
 pub(crate) fn all_states(
     alloc: Global,
     machines: &[Machine],

@@ -46,13 +46,12 @@ fn picked(alloc: Global, values: &[u32], places: &[u32]) -> Result<Ids, AllocErr
 }
 
 // The places of a unit's out-signals among those of a piece like its own.
-fn outs_of(alloc: Global, piece: &Piece, places: &[u32], body: &Body) -> Result<Ids, AllocError>
-    requires formed { IsWellFormed piece.now }
-    requires places { IsNoted piece.now.outs (replicate (length piece.now.signals) 0) places.now }
-    requires like { IsLike piece.now body.now }
-    ensures { IfOk result (λ outs. ArePickedFor piece.now.outs body.now outs) }
+fn outs_of(alloc: Global, _piece: &Piece, places: &[u32], body: &Body) -> Result<Ids, AllocError>
+    requires formed { IsWellFormed _piece.now }
+    requires places { IsNoted _piece.now.outs (replicate (length _piece.now.signals) 0) places.now }
+    requires like { IsLike _piece.now body.now }
+    ensures { IfOk result (λ outs. ArePickedFor _piece.now.outs body.now outs) }
 {
-    let _ = piece;
     match body {
         Body::Cut(part) => {
             let outs = picked(alloc, places, part.piece.outs())?;
@@ -85,11 +84,11 @@ fn all_outs(
     Ok(outs)
 }
 
-/// The units of these machines of a plan, a thread each. They run the piece of the first one's part, each from where it begins.
-///
-/// # Errors
-///
-/// Returns `NoMemory` if an allocation fails.
+// The units of these machines of a plan, a thread each. They run the piece of the first one's part, each from where it begins.
+//
+// # Errors
+//
+// Returns `NoMemory` if an allocation fails.
 pub(crate) fn units_of<'a>(
     alloc: Global,
     part: &'a Part,

@@ -26,7 +26,7 @@ impl Drop for Places {
     }
 }
 
-/// Writes for each of these numbers its place in this list.
+// Writes for each of these numbers its place in this list.
 pub(crate) fn note(numbers: &[u32], places: &mut Vec<u32>)
     requires few { length numbers.now ≤ 2 ^ 32 }
     requires known { All (λ c. c < length places.old.items) numbers.now }
@@ -93,11 +93,11 @@ fn wires_at(
     Ok(wires)
 }
 
-/// The channels of the network of a plan, where these are the tokens of the pipes by channel.
-///
-/// # Errors
-///
-/// Returns `AllocError` if an allocation fails.
+// The channels of the network of a plan, where these are the tokens of the pipes by channel.
+//
+// # Errors
+//
+// Returns `AllocError` if an allocation fails.
 pub(crate) fn wires_of(alloc: Global, plan: &Plan, tokens: &[u128]) -> Result<Vec<Wire>, AllocError>
     requires { IsFaultless plan.now }
     ensures { IfOk result (λ wires. (token : ℕ → ℕ) → AreTokens plan.now.channels token tokens.now → wires.items ≡ wires_of_plan token plan.now) }

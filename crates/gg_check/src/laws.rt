@@ -15,7 +15,11 @@ ghost use Rattle.gg_check.specs.PlanText.{plan_text};
 
 /// What a channel of a plan needs is exactly what it needs in the circuit.
 pub fn needs_are_told()
-    ensures { (design : Ordered) (request : Request) (models : Models) (default : ℕ) (plan : Plan) → IsPlan design request models default plan → (c : ℕ) (any : Channel) → c < length (plan_wires design.circuit design.tree request) → AreChannelNeeds design.circuit (listed_of design.tree request) (plan_wires design.circuit design.tree request) c (slice_index_or plan.channels c any).needs }
+    ensures { (design : Ordered) (request : Request) (models : Models) (default : ℕ) (plan : Plan)
+        → IsPlan design request models default plan → (c : ℕ) (any : Channel)
+        → c < length (plan_wires design.circuit design.tree request)
+        → AreChannelNeeds design.circuit (listed_of design.tree request) (plan_wires design.circuit design.tree request) c
+        (slice_index_or plan.channels c any).needs }
 {}
 
 /// The text of a plan is the text of its cut.
@@ -32,5 +36,6 @@ pub fn one_fault()
 
 /// For all designs that are alike, the cut of a request has the same text.
 pub fn one_text()
-    ensures { (one other : Ordered) (request : Request) (default : ℕ) (text others : List ℕ) → AreAlike one other → IsTextOfCut one request default text → IsTextOfCut other request default others → text ≡ others }
+    ensures { (one other : Ordered) (request : Request) (default : ℕ) (text others : List ℕ) → AreAlike one other
+        → IsTextOfCut one request default text → IsTextOfCut other request default others → text ≡ others }
 {}

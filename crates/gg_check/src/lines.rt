@@ -23,6 +23,10 @@ fn type_text(alloc: Global, ty: Ty) -> Result<String, AllocError>
 }
 
 /// The line of a machine: its name and its host's number.
+///
+/// # Errors
+///
+/// Returns `AllocError` if an allocation fails.
 pub fn machine_line(alloc: Global, machine: &Machine) -> Result<String, AllocError>
     ensures { IfOk result (λ line. string_bytes line ≡ line_of_machine machine.now) }
 {
@@ -83,6 +87,10 @@ fn push_rest(
 
 /// The line of a channel of a plan with these machines and channels. It has the channel's name, its two machines, its
 /// type, its capacity, the word `pipe` if it has a pipe, and the names of the channels that it needs, or `-`.
+///
+/// # Errors
+///
+/// Returns `AllocError` if an allocation fails.
 pub fn channel_line(
     alloc: Global,
     machines: &[Machine],

@@ -5,7 +5,7 @@ ghost use Rattle.gg_check.specs.PlanText.{channel_names, machine_names};
 
 use gg_cut::{Channel, Machine};
 
-/// The name of a machine; empty if there is none with this number.
+// The name of a machine; empty if there is none with this number.
 pub(crate) fn machine_name(machines: &[Machine], number: u32) -> &str
     ensures { result.now ≡ path_at (machine_names machines.now) number }
 {
@@ -15,7 +15,7 @@ pub(crate) fn machine_name(machines: &[Machine], number: u32) -> &str
     }
 }
 
-/// The name of a channel; empty if there is none with this number.
+// The name of a channel; empty if there is none with this number.
 pub(crate) fn channel_name(channels: &[Channel], number: u32) -> &str
     ensures { result.now ≡ path_at (channel_names channels.now) number }
 {

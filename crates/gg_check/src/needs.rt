@@ -20,7 +20,7 @@ fn spaced(alloc: Global, channels: &[Channel], needs: &[u32]) -> Result<String, 
     Ok(text)
 }
 
-/// What a channel needs.
+// What a channel needs.
 pub(crate) fn needs_text(
     alloc: Global,
     channels: &[Channel],

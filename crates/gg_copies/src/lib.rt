@@ -1,4 +1,4 @@
-//! Instances of one module are copies of each other. A law alone: the crate's function computes nothing.
+//! Instances of one module are copies of each other. The crate has laws alone: its functions compute nothing.
 //!
 //! - `copies`: in the flat circuit of a circuit that passed the checks, any two instances of one module have the same
 //!   signals, drivers, registers, memories and instances below them, but for a shift of their numbers and the front of

@@ -49,7 +49,7 @@ pub struct Counts {
 }
 
 impl Counts {
-    /// The first count above its limit, in the order of the variants of `Measure`.
+    /// The first count above its limit, in the order of the variants of `Measure`. None if no count is.
     pub fn excess(&self) -> Option<Excess>
         ensures { result ≡ first_excess self.now }
     {

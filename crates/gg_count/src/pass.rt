@@ -6,14 +6,14 @@ ghost use Rattle.gg_count.specs.Graph.{gathered, gathered_over, value_below};
 
 use gg_ast::{Circuit, Stmt, StmtKind};
 
-/// How a module's value is made from its own value and those of the modules that it holds.
+// How a module's value is made from its own value and those of the modules that it holds.
 #[derive(Clone, Copy)]
 pub(crate) enum Gathering {
-    /// The sum, which saturates.
+    // The sum, which saturates.
     Sum,
-    /// The greatest of the module's own value and, for each module that it holds, one more than that module's value.
+    // The greatest of the module's own value and, for each module that it holds, one more than that module's value.
     Height,
-    /// The least.
+    // The least.
     Least,
 }
 
@@ -30,8 +30,8 @@ impl Gathering {
     }
 }
 
-/// A module's own value, combined with those of the instances that these statements make. `values` has a value for
-/// each module.
+// A module's own value, combined with those of the instances that these statements make. `values` has a value for
+// each module.
 pub(crate) fn gather_over(
     circuit: &Circuit,
     statements: &[Stmt],
@@ -65,15 +65,16 @@ fn gather_kind(circuit: &Circuit, kind: &StmtKind, values: &[u64], how: Gatherin
     }
 }
 
-/// The value of each module, with those of all modules below it. `own` has each module's own value. The order has
-/// each module after all modules that it holds. This holds for every number of levels that is at least the number of
-/// modules minus one.
+// The value of each module, with those of all modules below it. `own` has each module's own value. The order has
+// each module after all modules that it holds. This holds for every number of levels that is at least the number of
+// modules minus one.
 pub(crate) fn gather(circuit: &Circuit, order: &[u32], how: Gathering, own: Vec<u64>) -> Vec<u64>
     requires few { length circuit.now.modules < 2 ^ 32 }
     requires order { IsOrderOf (HoldsModule circuit.now.modules) (length circuit.now.modules) order.now }
     requires own { length own.items ≡ length circuit.now.modules }
     ensures count { length result.items ≡ length circuit.now.modules }
-    ensures values { (k levels : ℕ) → k < length circuit.now.modules → length circuit.now.modules ≤ suc levels → slice_index_or result.items k 0 ≡ value_below how circuit.now.modules (λ i. slice_index_or own.items i 0) levels k }
+    ensures values { (k levels : ℕ) → k < length circuit.now.modules → length circuit.now.modules ≤ suc levels
+        → slice_index_or result.items k 0 ≡ value_below how circuit.now.modules (λ i. slice_index_or own.items i 0) levels k }
 {
     let mut values = own;
     let modules = circuit.modules();

@@ -8,7 +8,7 @@ use crate::numbering::Numbering;
 use gg_flat::Tree;
 use std::alloc::{AllocError, Global};
 
-/// The parent of an instance.
+/// The parent of an instance. The top has none.
 pub fn parent_of(tree: &Tree, place: u32) -> Option<u32>
     requires { place < length tree.now.instances }
     ensures { result ≡ (instance_at tree.now place).parent }

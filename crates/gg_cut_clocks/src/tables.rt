@@ -12,11 +12,11 @@ ghost use Rattle.gg_moved.specs.Domains.{inner_clocks};
 use gg_flat::{ClockNumbers, Driver, Instance, MemoryInstance, Piece, Tree, clock_at, clocks_at};
 use std::alloc::{AllocError, Global};
 
-/// As many numbered clocks.
-///
-/// # Errors
-///
-/// Returns `AllocError` if an allocation fails.
+// As many numbered clocks.
+//
+// # Errors
+//
+// Returns `AllocError` if an allocation fails.
 pub(crate) fn numbered(alloc: Global, count: u32) -> Result<ClockNumbers, AllocError>
     ensures clocks { IfOk result (λ clocks. clocks ≡ clocks_from 0 count) }
     ensures few { IfOk result (λ clocks. length clocks < 2 ^ 32) }
@@ -46,7 +46,8 @@ fn inner_of(
     is_home: bool,
 ) -> Result<ClockNumbers, AllocError>
     requires { (above : ℕ) → instance.now.parent ≡ Some above → above < length before.now }
-    ensures { IfOk result (λ clocks. clocks ≡ (if is_home then clocks_from 0 (length instance.now.clocks) else through_parent (λ parent. slice_index_or before.now parent []) instance.now.parent instance.now.clocks)) }
+    ensures { IfOk result (λ clocks. clocks ≡ (if is_home then clocks_from 0 (length instance.now.clocks) else through_parent
+        (λ parent. slice_index_or before.now parent []) instance.now.parent instance.now.clocks)) }
 {
     if is_home {
         return numbered_for(alloc, instance.clocks.as_slice());
@@ -61,12 +62,12 @@ fn inner_of(
     }
 }
 
-/// For each instance, in order, the Clock inputs of its home that its Clock inputs follow. `homes` tells which instances are
-/// homes.
-///
-/// # Errors
-///
-/// Returns `AllocError` if an allocation fails, or if a home has more than 4,294,967,295 Clock inputs.
+// For each instance, in order, the Clock inputs of its home that its Clock inputs follow. `homes` tells which instances are
+// homes.
+//
+// # Errors
+//
+// Returns `AllocError` if an allocation fails, or if a home has more than 4,294,967,295 Clock inputs.
 pub(crate) fn inner_table(
     alloc: Global,
     tree: &Tree,
@@ -102,16 +103,17 @@ fn paint(places: &mut [u32], first: u32, end: u32, place: u32)
     }
 }
 
-/// For each of `count` signals the place of the last instance that has it: the innermost one, since what an instance holds comes
-/// behind it.
-///
-/// # Errors
-///
-/// Returns `AllocError` if an allocation fails.
+// For each of `count` signals the place of the last instance that has it: the innermost one, since what an instance holds comes
+// behind it.
+//
+// # Errors
+//
+// Returns `AllocError` if an allocation fails.
 pub(crate) fn innermost(alloc: Global, tree: &Tree, count: usize) -> Result<Vec<u32>, AllocError>
     requires { (k : ℕ) → k < length tree.now.instances → ((instance_at tree.now k).first ≤ (instance_at tree.now k).end) × ((instance_at tree.now k).end ≤ count) }
     ensures count { IfOk result (λ places. length places.items ≡ count) }
-    ensures last { IfOk result (λ places. (s k : ℕ) → k < length tree.now.instances → (instance_at tree.now k).first ≤ s → s < (instance_at tree.now k).end → IsLast tree.now (length tree.now.instances) s (value_at places.items s)) }
+    ensures last { IfOk result (λ places. (s k : ℕ) → k < length tree.now.instances → (instance_at tree.now k).first ≤ s
+        → s < (instance_at tree.now k).end → IsLast tree.now (length tree.now.instances) s (value_at places.items s)) }
 {
     let mut places = vec![in alloc; 0u32; count]?;
     let instances = tree.instances();
@@ -177,12 +179,12 @@ fn fill_registers(
     }
 }
 
-/// For each register that a signal holds the Clock input of its home that it follows, if any. `inner` has what the Clock inputs of each
-/// instance follow, and `places` the innermost instance of each signal.
-///
-/// # Errors
-///
-/// Returns `AllocError` if an allocation fails.
+// For each register that a signal holds the Clock input of its home that it follows, if any. `inner` has what the Clock inputs of each
+// instance follow, and `places` the innermost instance of each signal.
+//
+// # Errors
+//
+// Returns `AllocError` if an allocation fails.
 pub(crate) fn register_table(
     alloc: Global,
     piece: &Piece,
@@ -202,11 +204,11 @@ pub(crate) fn register_table(
     Ok(table)
 }
 
-/// For each memory the Clock inputs of its home that its ports follow, if any. `inner` has what the Clock inputs of each instance follow.
-///
-/// # Errors
-///
-/// Returns `AllocError` if an allocation fails.
+// For each memory the Clock inputs of its home that its ports follow, if any. `inner` has what the Clock inputs of each instance follow.
+//
+// # Errors
+//
+// Returns `AllocError` if an allocation fails.
 pub(crate) fn port_table(
     alloc: Global,
     memories: &[MemoryInstance],

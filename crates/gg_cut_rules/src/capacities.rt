@@ -11,11 +11,11 @@ use gg_cut::CutFault;
 use gg_flat::Piece;
 use gg_limits::CAPACITY_LIMIT;
 
-/// Checks that each name is that of a channel. The channels have these signals.
-///
-/// # Errors
-///
-/// Returns `UnknownChannel` with the first name that isn't that of a channel, or `NoMemory` if an allocation fails.
+// Checks that each name is that of a channel. The channels have these signals.
+//
+// # Errors
+//
+// Returns `UnknownChannel` with the first name that isn't that of a channel, or `NoMemory` if an allocation fails.
 pub(crate) fn channels_exist(
     piece: &Piece,
     signals: &[u32],
@@ -35,14 +35,14 @@ pub(crate) fn channels_exist(
     Ok(())
 }
 
-/// Whether a name is that of a channel.
-pub(crate) fn is_channel(piece: &Piece, signals: &[u32], marks: &[bool], name: &Name) -> bool
-    requires known { All (λ s. s < length piece.now.signals) signals.now }
-    requires marks { AreMarks signals.now marks.now }
+// Whether a name is that of a channel.
+pub(crate) fn is_channel(piece: &Piece, _signals: &[u32], marks: &[bool], name: &Name) -> bool
+    requires known { All (λ s. s < length piece.now.signals) _signals.now }
+    requires marks { AreMarks _signals.now marks.now }
     requires count { length marks.now ≡ length piece.now.signals }
-    ensures { result ≡ is_among (channel_names piece.now signals.now) name.now }
+    ensures { result ≡ is_among (channel_names piece.now _signals.now) name.now }
 {
-    let _ = signals;
+    // for the invariant alone
     let _ = piece.signal_count();
     match piece.find(name) {
         Some(signal) => marks[signal as usize],
@@ -50,11 +50,11 @@ pub(crate) fn is_channel(piece: &Piece, signals: &[u32], marks: &[bool], name: &
     }
 }
 
-/// Checks that each capacity is from 1 to 4,096.
-///
-/// # Errors
-///
-/// Returns `OutOfRange` with the first capacity that isn't and its name, or `NoMemory` if an allocation fails.
+// Checks that each capacity is from 1 to 4,096.
+//
+// # Errors
+//
+// Returns `OutOfRange` with the first capacity that isn't and its name, or `NoMemory` if an allocation fails.
 pub(crate) fn capacities_in_range(capacities: &[(Name, u64)]) -> Result<(), CutFault>
     ensures { Tells (range_fault capacities.now) result }
 {

@@ -12,12 +12,12 @@ use gg_cut::CutFault;
 use gg_flat::{AddError, Paths, Tree};
 use std::alloc::{AllocError, Global};
 
-/// Checks that each name is that of a Clock input of the top.
-///
-/// # Errors
-///
-/// Returns `UnknownClock` with the first name that isn't, or `NoMemory` if an allocation fails or the top has 4,294,967,295 Clock
-/// inputs or more.
+// Checks that each name is that of a Clock input of the top.
+//
+// # Errors
+//
+// Returns `UnknownClock` with the first name that isn't, or `NoMemory` if an allocation fails or the top has 4,294,967,295 Clock
+// inputs or more.
 pub(crate) fn clocks_exist(
     alloc: Global,
     tree: &Tree,
@@ -45,11 +45,11 @@ fn clocks_among(set: &Paths, clocks: &[(Name, (u64, u64))]) -> Result<(), CutFau
     Ok(())
 }
 
-/// Checks that each ratio has edges in at least one of its ticks and in no more than all, and that its ticks are at most 65,535.
-///
-/// # Errors
-///
-/// Returns `WrongRatio` with the first ratio that doesn't and its name, or `NoMemory` if an allocation fails.
+// Checks that each ratio has edges in at least one of its ticks and in no more than all, and that its ticks are at most 65,535.
+//
+// # Errors
+//
+// Returns `WrongRatio` with the first ratio that doesn't and its name, or `NoMemory` if an allocation fails.
 pub(crate) fn ratios_in_range(clocks: &[(Name, (u64, u64))]) -> Result<(), CutFault>
     ensures { Tells (ratio_fault clocks.now) result }
 {
@@ -86,7 +86,9 @@ fn add_named(
 ) -> Result<(), AllocError>
     requires range { is_ratio pair.now.1.0 pair.now.1.1 ≡ true }
     requires few { length names.old < 2 ^ 32 - 1 }
-    ensures { (clocks : List (List ℕ × (ℕ × ℕ))) (i : ℕ) → IfOk result (λ done. i < length clocks → slice_get clocks i ≡ Some pair.now → AreNamed clocks i names.old ratios.old.items → AreNamed clocks (i + 1) names.new ratios.new.items) }
+    ensures { (clocks : List (List ℕ × (ℕ × ℕ))) (i : ℕ)
+        → IfOk result (λ done. i < length clocks → slice_get clocks i ≡ Some pair.now
+        → AreNamed clocks i names.old ratios.old.items → AreNamed clocks (i + 1) names.new ratios.new.items) }
 {
     let ratio = ratio_with(pair.1);
     match names.add(pair.0.clone()?) {

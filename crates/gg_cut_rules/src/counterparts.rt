@@ -12,12 +12,12 @@ use gg_cut::CutFault;
 use gg_flat::Paths;
 use std::alloc::{AllocError, Global};
 
-/// Checks the counterparts of listed memories. For each listed memory in a shared unit, its counterpart in each unit
-/// of the unit's list has to be listed too.
-///
-/// # Errors
-///
-/// Returns `Unmatched` with the first memory that lacks a counterpart, or `NoMemory` if an allocation fails.
+// Checks the counterparts of listed memories. For each listed memory in a shared unit, its counterpart in each unit
+// of the unit's list has to be listed too.
+//
+// # Errors
+//
+// Returns `Unmatched` with the first memory that lacks a counterpart, or `NoMemory` if an allocation fails.
 pub(crate) fn memories_matched(
     alloc: Global,
     memories: &[Name],

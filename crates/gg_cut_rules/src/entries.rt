@@ -10,11 +10,11 @@ use gg_cut::CutFault;
 use gg_flat::{AddError, Paths, Tree};
 use std::alloc::Global;
 
-/// Checks that each unit is an instance.
-///
-/// # Errors
-///
-/// Returns `UnknownUnit` with the first unit that isn't an instance, or `NoMemory` if an allocation fails.
+// Checks that each unit is an instance.
+//
+// # Errors
+//
+// Returns `UnknownUnit` with the first unit that isn't an instance, or `NoMemory` if an allocation fails.
 pub(crate) fn units_exist(tree: &Tree, units: &[Name]) -> Result<(), CutFault>
     ensures { Tells (option_map UnknownUnit (unknown_unit tree.now units.now)) result }
 {
@@ -26,11 +26,11 @@ pub(crate) fn units_exist(tree: &Tree, units: &[Name]) -> Result<(), CutFault>
     Ok(())
 }
 
-/// Checks that each listed memory exists.
-///
-/// # Errors
-///
-/// Returns `UnknownMemory` with the first one that doesn't, or `NoMemory` if an allocation fails.
+// Checks that each listed memory exists.
+//
+// # Errors
+//
+// Returns `UnknownMemory` with the first one that doesn't, or `NoMemory` if an allocation fails.
 pub(crate) fn memories_exist(tree: &Tree, memories: &[Name]) -> Result<(), CutFault>
     ensures { Tells (option_map UnknownMemory (unknown_memory tree.now memories.now)) result }
 {
@@ -42,11 +42,11 @@ pub(crate) fn memories_exist(tree: &Tree, memories: &[Name]) -> Result<(), CutFa
     Ok(())
 }
 
-/// Checks that each entry of the lists is one of the units.
-///
-/// # Errors
-///
-/// Returns `UnknownUnit` with the first entry that isn't, or `NoMemory` if an allocation fails.
+// Checks that each entry of the lists is one of the units.
+//
+// # Errors
+//
+// Returns `UnknownUnit` with the first entry that isn't, or `NoMemory` if an allocation fails.
 pub(crate) fn shared_are_units(
     alloc: Global,
     units: &[Name],
@@ -81,11 +81,11 @@ fn group_is_units(set: &Paths, group: &[Name]) -> Result<(), CutFault>
     Ok(())
 }
 
-/// Checks that no path equals an earlier one.
-///
-/// # Errors
-///
-/// Returns `Doubled` with the first path that does, or `NoMemory` if an allocation fails.
+// Checks that no path equals an earlier one.
+//
+// # Errors
+//
+// Returns `Doubled` with the first path that does, or `NoMemory` if an allocation fails.
 pub(crate) fn none_repeated(alloc: Global, paths: &[Name]) -> Result<(), CutFault>
     requires few { length paths.now < 2 ^ 32 }
     ensures { Tells (option_map Doubled (repeated paths.now)) result }
@@ -119,7 +119,7 @@ fn add_one(seen: &mut Paths, path: &Name) -> Result<(), CutFault>
     }
 }
 
-/// The fault of a path that occurs twice.
+// The fault of a path that occurs twice.
 pub(crate) fn doubled(path: &Name) -> CutFault
     ensures { IsTold (Some (Doubled path.now)) result }
 {
@@ -129,11 +129,11 @@ pub(crate) fn doubled(path: &Name) -> CutFault
     }
 }
 
-/// Checks that no entry of the lists equals an earlier one, of the same list or another.
-///
-/// # Errors
-///
-/// Returns `Doubled` with the first entry that does, or `NoMemory` if an allocation fails.
+// Checks that no entry of the lists equals an earlier one, of the same list or another.
+//
+// # Errors
+//
+// Returns `Doubled` with the first entry that does, or `NoMemory` if an allocation fails.
 pub(crate) fn shared_once(alloc: Global, share: &[Names]) -> Result<(), CutFault>
     requires few { length (entries share.now) < 2 ^ 32 }
     ensures { Tells (option_map Doubled (repeated (entries share.now))) result }
@@ -148,12 +148,12 @@ pub(crate) fn shared_once(alloc: Global, share: &[Names]) -> Result<(), CutFault
     Ok(())
 }
 
-/// Checks that the units of each list have the same module.
-///
-/// # Errors
-///
-/// Returns `OtherModule` with the first entry of a list whose module isn't that of the list's first entry, or
-/// `NoMemory` if an allocation fails.
+// Checks that the units of each list have the same module.
+//
+// # Errors
+//
+// Returns `OtherModule` with the first entry of a list whose module isn't that of the list's first entry, or
+// `NoMemory` if an allocation fails.
 pub(crate) fn one_module_each(tree: &Tree, share: &[Names]) -> Result<(), CutFault>
     ensures { Tells (option_map OtherModule (other_module tree.now share.now)) result }
 {

@@ -14,13 +14,13 @@ use gg_cut::{CutFault, parent_of, unmarked};
 use gg_flat::Tree;
 use std::alloc::Global;
 
-/// Checks that no unit holds an earlier one, is in an earlier one or equals one.
-///
-/// In the tree each instance comes after its parent.
-///
-/// # Errors
-///
-/// Returns `Doubled` with the first unit that does, or `NoMemory` if an allocation fails.
+// Checks that no unit holds an earlier one, is in an earlier one or equals one.
+//
+// In the tree each instance comes after its parent.
+//
+// # Errors
+//
+// Returns `Doubled` with the first unit that does, or `NoMemory` if an allocation fails.
 pub(crate) fn none_overlap(alloc: Global, tree: &Tree, units: &[Name]) -> Result<(), CutFault>
     requires some { 0 < length tree.now.instances }
     requires parents { ParentsBefore tree.now }
@@ -70,12 +70,13 @@ fn overlaps(tree: &Tree, own: &[bool], above: &[bool], place: u32) -> bool
     lies_in_marked(tree, own, place) || above[place as usize]
 }
 
-/// The place of the instance with a path, or of the top if there is none.
+// The place of the instance with a path, or of the top if there is none.
 pub(crate) fn place(tree: &Tree, path: &Name) -> u32
     requires some { 0 < length tree.now.instances }
     ensures place { result ≡ instance_of tree.now path.now }
     ensures within { result < length tree.now.instances }
 {
+    // for the invariant alone
     let _ = tree.len();
     match instance(tree, path) {
         Some(place) => place,

@@ -8,23 +8,25 @@ use gg_cut::CutFault;
 use gg_flat::{AddError, Paths, Tree};
 use std::alloc::Global;
 
-/// The place of the instance with a path.
+// The place of the instance with a path.
 pub(crate) fn instance(tree: &Tree, path: &Name) -> Option<u32>
     ensures { result ≡ place_of tree.now.paths path.now }
 {
+    // for the invariant alone
     let _ = tree.len();
     tree.find(path)
 }
 
-/// The place in the tree of the memory with a path.
+// The place in the tree of the memory with a path.
 pub(crate) fn memory(tree: &Tree, path: &Name) -> Option<u32>
     ensures { result ≡ place_of tree.now.memory_paths path.now }
 {
+    // for the invariant alone
     let _ = tree.memory_count();
     tree.find_memory(path)
 }
 
-/// Whether a path is that of an instance. The top's path isn't.
+// Whether a path is that of an instance. The top's path isn't.
 pub(crate) fn is_instance(tree: &Tree, path: &Name) -> bool
     ensures { result ≡ is_instance_path tree.now path.now }
 {
@@ -34,14 +36,14 @@ pub(crate) fn is_instance(tree: &Tree, path: &Name) -> bool
     }
 }
 
-/// Whether a path is that of a memory.
+// Whether a path is that of a memory.
 pub(crate) fn is_memory(tree: &Tree, path: &Name) -> bool
     ensures { result ≡ is_memory_path tree.now path.now }
 {
     memory(tree, path).is_some()
 }
 
-/// Whether a path is in a set.
+// Whether a path is in a set.
 pub(crate) fn has(set: &Paths, path: &Name) -> bool
     ensures { result ≡ is_among set.now path.now }
 {
@@ -51,11 +53,11 @@ pub(crate) fn has(set: &Paths, path: &Name) -> bool
     }
 }
 
-/// The paths of a list, as a set.
-///
-/// # Errors
-///
-/// Returns `NoMemory` if an allocation fails.
+// The paths of a list, as a set.
+//
+// # Errors
+//
+// Returns `NoMemory` if an allocation fails.
 pub(crate) fn set_of(alloc: Global, paths: &[Name]) -> Result<Paths, CutFault>
     requires few { length paths.now < 2 ^ 32 }
     ensures same { IfOk result (λ set. (path : List ℕ) → is_among set path ≡ is_among paths.now path) }
@@ -81,11 +83,11 @@ fn include(set: &mut Paths, path: &Name) -> Result<(), CutFault>
     }
 }
 
-/// A copy of a path.
-///
-/// # Errors
-///
-/// Returns `NoMemory` if an allocation fails.
+// A copy of a path.
+//
+// # Errors
+//
+// Returns `NoMemory` if an allocation fails.
 pub(crate) fn copied(path: &Name) -> Result<Name, CutFault>
     ensures copy { IfOk result (λ copy. copy ≡ path.now) }
     ensures err { IfErr result (λ cause. cause ≡ NoMemory) }

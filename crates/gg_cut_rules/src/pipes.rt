@@ -12,11 +12,11 @@ use gg_cut::CutFault;
 use gg_flat::Piece;
 use std::alloc::Global;
 
-/// Checks that each name is that of a channel. The channels have these signals.
-///
-/// # Errors
-///
-/// Returns `UnknownPipe` with the first name that isn't that of a channel, or `NoMemory` if an allocation fails.
+// Checks that each name is that of a channel. The channels have these signals.
+//
+// # Errors
+//
+// Returns `UnknownPipe` with the first name that isn't that of a channel, or `NoMemory` if an allocation fails.
 pub(crate) fn pipes_exist(
     piece: &Piece,
     signals: &[u32],
@@ -36,11 +36,11 @@ pub(crate) fn pipes_exist(
     Ok(())
 }
 
-/// Checks that no name equals an earlier one.
-///
-/// # Errors
-///
-/// Returns `DoubledPipe` with the first name that does, or `NoMemory` if an allocation fails.
+// Checks that no name equals an earlier one.
+//
+// # Errors
+//
+// Returns `DoubledPipe` with the first name that does, or `NoMemory` if an allocation fails.
 pub(crate) fn pipes_once(alloc: Global, pipes: &[Name]) -> Result<(), CutFault>
     requires few { length pipes.now < 2 ^ 32 }
     ensures { Tells (option_map DoubledPipe (repeated pipes.now)) result }

@@ -12,11 +12,11 @@ use gg_cut::CutFault;
 use gg_flat::{Paths, Tree};
 use std::alloc::{AllocError, Global};
 
-/// The instances with these paths.
-///
-/// # Errors
-///
-/// Returns `AllocError` if an allocation fails.
+// The instances with these paths.
+//
+// # Errors
+//
+// Returns `AllocError` if an allocation fails.
 pub(crate) fn listed_units(
     alloc: Global,
     tree: &Tree,
@@ -32,11 +32,11 @@ pub(crate) fn listed_units(
     Ok(found)
 }
 
-/// The places of the listed memories, in the order of the tree.
-///
-/// # Errors
-///
-/// Returns `NoMemory` if an allocation fails.
+// The places of the listed memories, in the order of the tree.
+//
+// # Errors
+//
+// Returns `NoMemory` if an allocation fails.
 pub(crate) fn listed_memories(
     alloc: Global,
     tree: &Tree,

@@ -22,10 +22,10 @@ use gg_order::Design;
 use gg_partfile::Request;
 use std::alloc::Global;
 
-/// The most units and listed memories together.
+// The most units and listed memories together.
 const MOST_UNITS: u64 = 256;
 
-/// The most channels.
+// The most channels.
 const MOST_CHANNELS: u64 = 16384;
 
 /// Judges the entries of a request for a design whose circuit keeps to its tree: which name nothing or occur twice, lists of
@@ -69,15 +69,14 @@ fn judge_listed(
 // memories.
 fn check_entries(
     alloc: Global,
-    piece: &Piece,
+    _piece: &Piece,
     tree: &Tree,
     request: &Request,
 ) -> Result<(), CutFault>
     requires small { IsSmall request.now }
-    requires fitting { IsTree piece.now tree.now }
+    requires fitting { IsTree _piece.now tree.now }
     ensures { Tells (first_of (entry_faults tree.now request.now)) result }
 {
-    let _ = piece;
     units_exist(tree, request.units.as_slice())?;
     shared_are_units(alloc, request.units.as_slice(), request.share.as_slice())?;
     none_overlap(alloc, tree, request.units.as_slice())?;
@@ -90,15 +89,14 @@ fn check_entries(
 }
 
 // What is listed, by places in the tree.
-fn list(alloc: Global, piece: &Piece, tree: &Tree, request: &Request) -> Result<Listed, CutFault>
+fn list(alloc: Global, _piece: &Piece, tree: &Tree, request: &Request) -> Result<Listed, CutFault>
     requires small { IsSmall request.now }
-    requires fitting { IsTree piece.now tree.now }
+    requires fitting { IsTree _piece.now tree.now }
     ensures listed { IfOk result (λ listed. listed ≡ listed_of tree.now request.now) }
     ensures few_units { IfOk result (λ listed. length listed.units < 2 ^ 32) }
     ensures few_memories { IfOk result (λ listed. length listed.memories < 2 ^ 32) }
     ensures err { IfErr result (λ cause. cause ≡ NoMemory) }
 {
-    let _ = piece;
     let units = listed_units(alloc, tree, request.units.as_slice())?;
     let memories = listed_memories(alloc, tree, request.memories.as_slice())?;
     Ok(Listed {

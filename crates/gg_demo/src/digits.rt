@@ -4,7 +4,7 @@ ghost use Rattle.gg_demo.specs.TraceText.{eight_digits};
 
 use std::alloc::{AllocError, Global};
 
-/// The last eight hexadecimal digits of a value, in lower case.
+// The last eight hexadecimal digits of a value, in lower case.
 pub(crate) fn eight_digits(alloc: Global, value: u128) -> Result<String, AllocError>
     ensures { IfOk result (λ text. string_bytes text ≡ eight_digits value) }
 {

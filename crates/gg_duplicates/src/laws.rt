@@ -12,5 +12,9 @@ ghost use Rattle.gg_duplicates.specs.Again.{IsUnitAgain};
 /// Let a request have no fault. If two machines have the same leader, the first machine of their host, they are units, and
 /// each has what the other has, with other numbers.
 pub fn units_stand_again()
-    ensures { (design : Ordered) (request : Request) (m n : ℕ) → IsDesign design → KeepsToTree design.circuit design.tree → first_fault design request ≡ None → m < machine_count design.circuit (listed_of design.tree request) → n < machine_count design.circuit (listed_of design.tree request) → m ≢ n → leader request.units request.share m ≡ leader request.units request.share n → IsUnitAgain design (listed_of design.tree request) m n }
+    ensures { (design : Ordered) (request : Request) (m n : ℕ) → IsDesign design → KeepsToTree design.circuit design.tree
+        → first_fault design request ≡ None → m < machine_count design.circuit (listed_of design.tree request)
+        → n < machine_count design.circuit (listed_of design.tree request) → m ≢ n
+        → leader request.units request.share m ≡ leader request.units request.share n
+        → IsUnitAgain design (listed_of design.tree request) m n }
 {}

@@ -1,4 +1,4 @@
-//! Duplicate units. Laws alone: the crate's function computes nothing.
+//! Duplicate units. The crate has laws alone: its functions compute nothing.
 //!
 //! Two units that share a host by a list of the request are instances of one module. For a design that keeps to its tree and
 //! a request without a fault, the crate promises:

@@ -29,7 +29,7 @@ use gg_flattened::{
 use gg_types::Typed;
 use std::alloc::{AllocError, Global};
 
-/// A signal's driver, and the register that the signal holds, if any.
+// A signal's driver, and the register that the signal holds, if any.
 #[derive(Drop)]
 pub(crate) struct Made {
     pub(crate) driver: Driver,
@@ -98,13 +98,12 @@ fn computed(
     scope: &Scope,
     source: Option<Source>,
     ty: Ty,
-    inputs: u32,
-    states: u32,
+    _inputs: u32,
+    _states: u32,
 ) -> Result<Made, AllocError>
     ensures fits { IfOk result (λ made. IsFitting (context_of scope.now).bindings.signals.shapes (shape ty) made.driver made.register) }
-    ensures made { IfOk result (λ made. IsMade (context_of scope.now).bindings inputs states (shape ty) (Gets (context_of scope.now).scope (seen source.entry)) made.driver made.register) }
+    ensures made { IfOk result (λ made. IsMade (context_of scope.now).bindings _inputs _states (shape ty) (Gets (context_of scope.now).scope (seen source.entry)) made.driver made.register) }
 {
-    let _ = (inputs, states);
     Ok(Made {
         driver: Driver::Computed(source_line(alloc, scope, source, ty)?),
         register: None,
@@ -121,7 +120,12 @@ fn answer(
     latency: Latency,
 ) -> Result<Driver, AllocError>
     ensures fits { IfOk result (λ driver. (shapes : List Shape) (sink : Shape) → FitsDriver shapes sink driver) }
-    ensures answer { IfOk result (λ driver. driver ≡ answer_of latency (number_of scope.now.table.now.memories (joined_text scope.now.path.now memory.now)) reader (number_of scope.now.table.now.paths (joined_text scope.now.path.now (field_text memory.now port.now (codes "addr")))) (number_of scope.now.table.now.paths (joined_text scope.now.path.now (field_text memory.now port.now (codes "en"))))) }
+    ensures answer { IfOk result (λ driver. driver
+        ≡ answer_of latency (number_of scope.now.table.now.memories (joined_text scope.now.path.now memory.now)) reader
+        (number_of scope.now.table.now.paths (joined_text scope.now.path.now
+        (field_text memory.now port.now (codes "addr"))))
+        (number_of scope.now.table.now.paths (joined_text scope.now.path.now
+        (field_text memory.now port.now (codes "en"))))) }
 {
     let memory_number = number(&scope.table.memories, &joined(alloc, scope.path, memory)?);
     match latency {
@@ -146,7 +150,9 @@ fn input(
     states: u32,
 ) -> Result<Made, AllocError>
     ensures fits { IfOk result (λ made. IsFitting (table_signals site.now.table.now).shapes (shape ty) made.driver made.register) }
-    ensures made { IfOk result (λ made. IsMade (table_bindings (types_of site.now.typed.now.circuit) site.now.table.now) inputs states (shape ty) (input_drive site.now.typed.now.circuit.modules (site_of site.now.place.now).outer name.now) made.driver made.register) }
+    ensures made { IfOk result (λ made. IsMade (table_bindings (types_of site.now.typed.now.circuit) site.now.table.now) inputs
+        states (shape ty) (input_drive site.now.typed.now.circuit.modules (site_of site.now.place.now).outer name.now)
+        made.driver made.register) }
 {
     match &site.place.outer {
         None => Ok(Made {
@@ -169,7 +175,8 @@ fn input(
 
 // The clock of the circuit that a register of a site follows, of what is written for its clock.
 fn followed(site: &Site, written: &Expr) -> Option<u32>
-    ensures { result ≡ clock_at_number (site_clocks site.now.typed.now.circuit.modules (site_of site.now.place.now)) (clock_of_term (module_at site.now.typed.now.circuit.modules site.now.place.now.number) written.now) }
+    ensures { result ≡ clock_at_number (site_clocks site.now.typed.now.circuit.modules (site_of site.now.place.now))
+        (clock_of_term (module_at site.now.typed.now.circuit.modules site.now.place.now.number) written.now) }
 {
     let own = clock_of(site.typed, site.place.number, written);
     clock_at(site.place.clocks.as_slice(), own)
@@ -185,7 +192,9 @@ fn make(
     states: u32,
 ) -> Result<Made, AllocError>
     ensures fits { IfOk result (λ made. IsFitting (table_signals site.now.table.now).shapes (shape signal.now.ty) made.driver made.register) }
-    ensures made { IfOk result (λ made. IsMade (table_bindings (types_of site.now.typed.now.circuit) site.now.table.now) inputs states (shape signal.now.ty) (drive_of site.now.typed.now.circuit.modules (site_of site.now.place.now) signal.now.name (cause_of signal.now.origin)) made.driver made.register) }
+    ensures made { IfOk result (λ made. IsMade (table_bindings (types_of site.now.typed.now.circuit) site.now.table.now) inputs
+        states (shape signal.now.ty) (drive_of site.now.typed.now.circuit.modules
+        (site_of site.now.place.now) signal.now.name (cause_of signal.now.origin)) made.driver made.register) }
 {
     let scope = Scope {
         typed: site.typed,
@@ -265,7 +274,9 @@ fn add_signal(
 ) -> Result<u32, AllocError>
     requires { ¬ Contains piece.old.paths (joined_text site.now.place.now.path signal.now.name) }
     ensures paths { IfOk result (λ _. piece.new.paths ≡ piece.old.paths ++ joined_text site.now.place.now.path signal.now.name ∷ []) }
-    ensures so_far { IfOk result (λ more. (xs : List FlatSignal) → IsSoFarAt site.now xs piece.old inputs → IsSoFarAt site.now (xs ++ flat_signal site.now.typed.now.circuit.modules (site_of site.now.place.now) (own_of signal.now) ∷ []) piece.new more) }
+    ensures so_far { IfOk result (λ more. (xs : List FlatSignal) → IsSoFarAt site.now xs piece.old inputs
+        → IsSoFarAt site.now (xs ++ flat_signal site.now.typed.now.circuit.modules (site_of site.now.place.now)
+        (own_of signal.now) ∷ []) piece.new more) }
 {
     let states = match u32::try_from(piece.registers().len()) {
         Ok(states) => states,
@@ -284,7 +295,9 @@ fn add_signal(
 // Adds the signals of a site.
 fn add_site(alloc: Global, site: &Site, inputs: u32, piece: &mut Piece) -> Result<u32, AllocError>
     requires { AllPairs (λ a b. a ≢ b) (piece.old.paths ++ map (λ x. x.path) (signals_at (types_of site.now.typed.now.circuit) site.now.typed.now.circuit.modules (site_of site.now.place.now))) }
-    ensures { IfOk result (λ more. (xs : List FlatSignal) → IsSoFarAt site.now xs piece.old inputs → IsSoFarAt site.now (xs ++ signals_at (types_of site.now.typed.now.circuit) site.now.typed.now.circuit.modules (site_of site.now.place.now)) piece.new more) }
+    ensures { IfOk result (λ more. (xs : List FlatSignal) → IsSoFarAt site.now xs piece.old inputs
+        → IsSoFarAt site.now (xs ++ signals_at (types_of site.now.typed.now.circuit) site.now.typed.now.circuit.modules
+        (site_of site.now.place.now)) piece.new more) }
 {
     let mut inputs = inputs;
     let signals = site.digests[site.place.number as usize].signals.as_slice();
@@ -294,7 +307,7 @@ fn add_site(alloc: Global, site: &Site, inputs: u32, piece: &mut Piece) -> Resul
     Ok(inputs)
 }
 
-/// Adds the signals of all sites.
+// Adds the signals of all sites.
 pub(crate) fn add_sites<'a>(
     alloc: Global,
     typed: &Typed<'a>,
@@ -308,7 +321,8 @@ pub(crate) fn add_sites<'a>(
     requires places { All (IsPlaceIn typed.now.circuit.modules) places.now }
     requires empty { piece.old ≡ no_circuit }
     requires distinct { AllPairs (λ a b. a ≢ b) (map (λ x. x.path) (flat_signals (types_of typed.now.circuit) typed.now.circuit.modules (map site_of places.now))) }
-    ensures { OnOk result ((inputs : ℕ) × IsSoFar (table_bindings (types_of typed.now.circuit) table.now) (flat_signals (types_of typed.now.circuit) typed.now.circuit.modules (map site_of places.now)) piece.new inputs) }
+    ensures { OnOk result ((inputs : ℕ) × IsSoFar (table_bindings (types_of typed.now.circuit) table.now)
+        (flat_signals (types_of typed.now.circuit) typed.now.circuit.modules (map site_of places.now)) piece.new inputs) }
 {
     let mut inputs = 0u32;
     for place in places {

@@ -13,12 +13,12 @@ use gg_flat::{Line, Node, Op};
 use gg_types::literal;
 use std::alloc::{AllocError, Global};
 
-/// The node of a line that stands for an expression.
+// The node of a line that stands for an expression.
 #[derive(Clone, Copy)]
 pub(crate) struct Stand {
-    /// Its place in the line.
+    // Its place in the line.
     pub(crate) node: u32,
-    /// The expression's type.
+    // The expression's type.
     pub(crate) ty: Ty,
 }
 
@@ -70,17 +70,17 @@ fn add_reference(
 }
 
 // Adds the node of a literal.
-fn add_literal(scope: &Scope, line: &mut Line, constant: &Literal) -> Result<Stand, AllocError>
-    ensures { IfOk result (λ stand. Added (context_of scope.now) line.old line.new (ConstantTerm constant.now) stand.node × (shape stand.ty ≡ term_shape (context_of scope.now) (ConstantTerm constant.now))) }
+fn add_literal(_scope: &Scope, line: &mut Line, constant: &Literal) -> Result<Stand, AllocError>
+    ensures { IfOk result (λ stand. Added (context_of _scope.now) line.old line.new (ConstantTerm constant.now) stand.node
+        × (shape stand.ty ≡ term_shape (context_of _scope.now) (ConstantTerm constant.now))) }
 {
-    let _ = scope;
     match literal(constant) {
         Some((ty, value)) => add_node(line, ty, Op::Literal(value)),
         None => add_zero(line),
     }
 }
 
-/// Adds the nodes of an expression; the last stands for it.
+// Adds the nodes of an expression; the last stands for it.
 pub(crate) fn add_expression(
     alloc: Global,
     scope: &Scope,

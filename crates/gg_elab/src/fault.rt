@@ -54,8 +54,7 @@ pub fn limit_of(measure: Measure) -> Limit
 impl From<AllocError> for ElabFault {
     ghost from_gives = { λ error fault. fault ≡ NoMemory };
 
-    fn from(error: AllocError) -> ElabFault {
-        let _ = error;
+    fn from(_error: AllocError) -> ElabFault {
         ElabFault::NoMemory
     }
 }

@@ -54,7 +54,7 @@ fn cut(line: Line, taken: bool, sink: Ty) -> Result<Line, AllocError>
     Ok(line)
 }
 
-/// The line that gives a sink of this type the value of an expression.
+// The line that gives a sink of this type the value of an expression.
 pub(crate) fn value_line(alloc: Global, scope: &Scope, e: &Expr, ty: Ty) -> Result<Line, AllocError>
     ensures stands { IfOk result (IsLineOf (context_of scope.now) (shape ty) e.now) }
     ensures fits { IfOk result (IsSource (HasType (context_of scope.now).bindings.signals.shapes) (shape ty)) }
@@ -64,7 +64,7 @@ pub(crate) fn value_line(alloc: Global, scope: &Scope, e: &Expr, ty: Ty) -> Resu
     cut(line, takes(ty, stand.ty), ty)
 }
 
-/// The line that gives a sink of this type what it is connected to.
+// The line that gives a sink of this type what it is connected to.
 pub(crate) fn source_line(
     alloc: Global,
     scope: &Scope,
@@ -86,6 +86,7 @@ fn zero_line(alloc: Global, scope: &Scope, ty: Ty) -> Result<Line, AllocError>
     ensures zeroed { IfOk result (IsLineFor (context_of scope.now) (shape ty) (Some Zeroed)) }
     ensures fits { IfOk result (IsSource (HasType (context_of scope.now).bindings.signals.shapes) (shape ty)) }
 {
+    // for the invariant alone
     let _ = scope.number;
     let mut line = Line::new(alloc);
     add_zero_of(&mut line, ty)?;
@@ -103,7 +104,7 @@ fn given_line(alloc: Global, scope: &Scope, source: Source, ty: Ty) -> Result<Li
     }
 }
 
-/// The line of a condition.
+// The line of a condition.
 pub(crate) fn condition_line(alloc: Global, scope: &Scope, e: &Expr) -> Result<Line, AllocError>
     ensures stands { IfOk result (IsConditionOf (context_of scope.now) e.now) }
     ensures fits { IfOk result (IsCondition (HasType (context_of scope.now).bindings.signals.shapes)) }

@@ -9,7 +9,7 @@ use gg_flattened::{joined, value_type};
 use gg_names::written;
 use std::alloc::{AllocError, Global};
 
-/// The signal that a reference names, by its number.
+// The signal that a reference names, by its number.
 pub(crate) fn find(
     alloc: Global,
     scope: &Scope,
@@ -22,6 +22,7 @@ pub(crate) fn find(
     }
     let name = written(alloc, reference)?;
     let path = joined(alloc, scope.path, &name)?;
+    // for the invariant alone
     let _ = scope.table.paths.len();
     Ok(scope.table.paths.find(&path))
 }

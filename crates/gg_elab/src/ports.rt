@@ -37,7 +37,9 @@ fn field(
 
 // The clock of the circuit that a port of a memory of a site follows.
 fn clock(alloc: Global, site: &Site, memory: &Name, port: &Name) -> Result<Option<u32>, AllocError>
-    ensures { IfOk result (λ clock. clock ≡ clock_at_number (site_clocks site.now.typed.now.circuit.modules (site_of site.now.place.now)) (clock_of_port (module_at site.now.typed.now.circuit.modules site.now.place.now.number) memory.now port.now)) }
+    ensures { IfOk result (λ clock. clock ≡ clock_at_number
+        (site_clocks site.now.typed.now.circuit.modules (site_of site.now.place.now))
+        (clock_of_port (module_at site.now.typed.now.circuit.modules site.now.place.now.number) memory.now port.now)) }
 {
     let number = site.place.number;
     let own = port_clock(alloc, site.typed, site.digests, number, memory, port)?;
@@ -147,7 +149,8 @@ fn add_memories(
     memories: &[OwnMemory],
     piece: &mut Piece,
 ) -> Result<(), AllocError>
-    ensures { OnOk result ((said : List FlatMemory) → HasMemories site.now.table.now.paths said piece.old piece.old → HasMemories site.now.table.now.paths (said ++ map (memory_of site.now) memories.now) piece.old piece.new) }
+    ensures { OnOk result ((said : List FlatMemory) → HasMemories site.now.table.now.paths said piece.old piece.old
+        → HasMemories site.now.table.now.paths (said ++ map (memory_of site.now) memories.now) piece.old piece.new) }
 {
     for own in memories {
         let made = memory(alloc, site, own)?;
@@ -156,7 +159,7 @@ fn add_memories(
     Ok(())
 }
 
-/// Adds the memories of all sites.
+// Adds the memories of all sites.
 pub(crate) fn add_all_memories<'a>(
     alloc: Global,
     typed: &Typed<'a>,
@@ -200,7 +203,7 @@ fn add_port(paths: &Paths, port: &Port, piece: &mut Piece) -> Result<(), AllocEr
     }
 }
 
-/// Adds the ports of the top.
+// Adds the ports of the top.
 pub(crate) fn add_ports(paths: &Paths, ports: &[Port], piece: &mut Piece) -> Result<(), AllocError>
     ensures ins { OnOk result (piece.new.ins ≡ piece.old.ins ++ map (number_of paths.now) (port_names direction.Input ports.now)) }
     ensures outs { OnOk result (piece.new.outs ≡ piece.old.outs ++ map (number_of paths.now) (port_names direction.Output ports.now)) }
@@ -229,18 +232,18 @@ fn add_site_stops(
     Ok(())
 }
 
-/// Adds the stops of all sites to the ports.
+// Adds the stops of all sites to the ports.
 pub(crate) fn add_stops(
     alloc: Global,
-    typed: &Typed,
+    _typed: &Typed,
     paths: &Paths,
     digests: &[Digest],
     places: &[Place],
     piece: &mut Piece,
 ) -> Result<(), AllocError>
-    requires digests { AreDigests (types_of typed.now.circuit) typed.now.circuit.modules digests.now }
-    requires places { All (IsPlaceIn typed.now.circuit.modules) places.now }
-    ensures { OnOk result (piece.new ≡ record piece.old { outs = piece.old.outs ++ map (number_of paths.now) (stop_paths typed.now.circuit.modules (map site_of places.now)) }) }
+    requires digests { AreDigests (types_of _typed.now.circuit) _typed.now.circuit.modules digests.now }
+    requires places { All (IsPlaceIn _typed.now.circuit.modules) places.now }
+    ensures { OnOk result (piece.new ≡ record piece.old { outs = piece.old.outs ++ map (number_of paths.now) (stop_paths _typed.now.circuit.modules (map site_of places.now)) }) }
 {
     for place in places {
         let digest = &digests[place.number as usize];

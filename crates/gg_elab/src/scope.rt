@@ -5,8 +5,8 @@ use gg_bits::Name;
 use gg_flattened::Table;
 use gg_types::Typed;
 
-/// What gives an expression its meaning: what the type checks say, the circuit's signals, the site's path, and the
-/// place of the site's module.
+// What gives an expression its meaning: what the type checks say, the circuit's signals, the site's path, and the
+// place of the site's module.
 #[derive(Clone, Copy)]
 pub(crate) struct Scope<'a> {
     pub(crate) typed: &'a Typed<'a>,

@@ -9,8 +9,8 @@ ghost use Rattle.gg_flattened.specs.Views.{AreDigests, IsPlaceIn};
 use gg_flattened::{Digest, Place, Table};
 use gg_types::Typed;
 
-/// A site, and what gives its signals their drivers: what the type checks say, the circuit's signals, and what each
-/// module says.
+// A site, and what gives its signals their drivers: what the type checks say, the circuit's signals, and what each
+// module says.
 #[derive(Clone, Copy)]
 pub(crate) struct Site<'s, 'a> {
     pub(crate) typed: &'s Typed<'a>,

@@ -23,8 +23,8 @@ use std::alloc::{AllocError, Global};
 use std::marker::Model;
 use std::sync::ledger::Ledger;
 
-/// What one thread has of its own: which out of the program each of its outs is, its clocks and its cycle, its state, a
-/// latch for each in and a flag for each out. Threads share slots. A call that uses slots wants them to hold the lane.
+// What one thread has of its own: which out of the program each of its outs is, its clocks and its cycle, its state, a
+// latch for each in and a flag for each out. Threads share slots. A call that uses slots wants them to hold the lane.
 pub(crate) struct Lane {
     // None: all outs of the program, in order
     outs: Option<Ids>,
@@ -77,11 +77,11 @@ fn count_outs(piece: &Piece, outs: &Option<Ids>) -> usize
 }
 
 impl Lane {
-    /// A lane of a program that begins in this state, with this cycle.
-    ///
-    /// # Errors
-    ///
-    /// Returns `NoMemory` if an allocation fails.
+    // A lane of a program that begins in this state, with this cycle.
+    //
+    // # Errors
+    //
+    // Returns `NoMemory` if an allocation fails.
     pub(crate) fn new(
         alloc: Global,
         program: &Program<'_>,
@@ -111,21 +111,21 @@ impl Lane {
         })
     }
 
-    /// The cycle that it is in.
+    // The cycle that it is in.
     pub(crate) fn cycle(&self) -> u64
         ensures { result ≡ self.now.cycle }
     {
         self.timing.tick()
     }
 
-    /// The state before this cycle.
+    // The state before this cycle.
     pub(crate) fn state(&self) -> &State
         ensures { result.now ≡ self.now.state }
     {
         &self.state
     }
 
-    /// Whether an in has its token of this cycle.
+    // Whether an in has its token of this cycle.
     pub(crate) fn latched(&self, place: u32) -> bool
         requires { place < length self.now.latches }
         ensures { result ≡ is_some (latch_at self.now.latches place) }
@@ -133,7 +133,7 @@ impl Lane {
         self.latches[place as usize].is_some()
     }
 
-    /// Whether an out has given its token of this cycle.
+    // Whether an out has given its token of this cycle.
     pub(crate) fn fired(&self, place: u32) -> bool
         requires { place < length self.now.flags }
         ensures { result ≡ flag_at self.now.flags place }
@@ -142,21 +142,20 @@ impl Lane {
     }
 
     // Which out of the program an out is.
-    fn out(&self, program: &Program<'_>, place: u32) -> u32
-        requires lane { IsLane program.now.circuit self.now }
+    fn out(&self, _program: &Program<'_>, place: u32) -> u32
+        requires lane { IsLane _program.now.circuit self.now }
         requires place { place < length self.now.flags }
-        ensures known { result < length program.now.circuit.outs }
+        ensures known { result < length _program.now.circuit.outs }
         ensures out { result ≡ out_of self.now.outs place }
     {
-        let _ = program;
         match &self.outs {
             None => place,
             Some(outs) => outs.as_slice()[place as usize],
         }
     }
 
-    /// The first in that an out needs and that has no token yet, if there is one. If no latch is empty, none is looked
-    /// at.
+    // The first in that an out needs and that has no token yet, if there is one. If no latch is empty, none is looked
+    // at.
     pub(crate) fn missing(&self, program: &Program<'_>, place: u32) -> Option<u32>
         requires lane { IsLane program.now.circuit self.now }
         requires place { place < length self.now.flags }
@@ -170,7 +169,7 @@ impl Lane {
         }
     }
 
-    /// The token of an out.
+    // The token of an out.
     pub(crate) fn token<L: Ledger>(
         &self,
         program: &Program<'_>,
@@ -187,12 +186,12 @@ impl Lane {
         ensures cone { IsConeDone program.now.circuit (out_signal program.now.circuit self.now place) slots.new }
         ensures still { IsConeDone program.now.circuit (out_signal program.now.circuit self.now place) slots.old → steps.new ≡ steps.old }
     {
-        // for the program's invariant on its needs
+        // for the invariant alone
         let _ = program.piece();
         program.cone_once(&self.state, slots, self.out(program, place), steps)
     }
 
-    /// Puts a token into the latch of an in, and into the slots.
+    // Puts a token into the latch of an in, and into the slots.
     pub(crate) fn latch(
         &mut self,
         program: &Program<'_>,
@@ -208,13 +207,13 @@ impl Lane {
         ensures held { Hold program.now.circuit slots.new self.new }
         ensures unset { unset program.now.circuit slots.new ≤ unset program.now.circuit slots.old }
     {
-        // for the program's invariant on its circuit
+        // for the invariant alone
         let _ = program.piece();
         program.put(slots, place, token);
         self.keep(place, token);
     }
 
-    /// Puts a token into the latch of an in, and into no slots.
+    // Puts a token into the latch of an in, and into no slots.
     pub(crate) fn keep(&mut self, place: u32, token: u128)
         requires there { place < length self.old.latches }
         requires empty { latch_at self.old.latches place ≡ None }
@@ -225,7 +224,7 @@ impl Lane {
         self.empty -= 1;
     }
 
-    /// Sets the flag of an out.
+    // Sets the flag of an out.
     pub(crate) fn set_flag(&mut self, place: u32)
         requires { place < length self.old.flags }
         ensures { self.new ≡ fired_lane self.old place }
@@ -233,7 +232,7 @@ impl Lane {
         self.flags[place as usize] = true;
     }
 
-    /// Advances to the next cycle, by the edges of this cycle's tick.
+    // Advances to the next cycle, by the edges of this cycle's tick.
     pub(crate) fn finish<L: Ledger>(
         &mut self,
         program: &Program<'_>,
@@ -249,7 +248,7 @@ impl Lane {
         ensures held { Hold program.now.circuit slots.new self.new }
         ensures steps { steps.new ≤ steps.old + unset program.now.circuit slots.old }
     {
-        // for the program's invariant on its circuit
+        // for the invariant alone
         let _ = program.piece();
         settled_once();
         program.next_once(&mut self.state, slots, self.timing.edges(), steps);
@@ -258,7 +257,7 @@ impl Lane {
         self.timing.advance();
     }
 
-    /// Makes slots hold this lane: those inputs are put that have tokens, and nothing else is done.
+    // Makes slots hold this lane: those inputs are put that have tokens, and nothing else is done.
     pub(crate) fn load(&self, program: &Program<'_>, slots: &mut Slots)
         requires lane { IsLane program.now.circuit self.now }
         requires slots { AreSlots program.now.circuit slots.old }

@@ -13,7 +13,7 @@ use gg_flat::{Piece, State};
 use gg_program::{NoMemory, Program};
 use std::alloc::{AllocError, Global};
 
-/// This many states of a piece before the first cycle.
+// This many states of a piece before the first cycle.
 pub(crate) fn opening_states(
     alloc: Global,
     piece: &Piece,
@@ -46,7 +46,9 @@ fn add_lane(
     requires typed { IsState program.now.circuit state }
     requires cycle { cycle ≤ cycle_limit }
     requires room { length outs.now ≤ vec_capacity lanes.old }
-    ensures lanes { IfOk result (λ _. lanes.new.items ≡ lanes.old.items ++ started_lane program.now.circuit (Some (slice_index_or outs.now (length lanes.old.items) [])) (slice_index_or ratios.now (length lanes.old.items) []) state cycle ∷ []) }
+    ensures lanes { IfOk result (λ _. lanes.new.items ≡ lanes.old.items
+        ++ started_lane program.now.circuit (Some (slice_index_or outs.now (length lanes.old.items) []))
+        (slice_index_or ratios.now (length lanes.old.items) []) state cycle ∷ []) }
     ensures each { IfOk result (λ _. All (IsLane program.now.circuit) lanes.old.items → All (IsLane program.now.circuit) lanes.new.items) }
     ensures room { IfOk result (λ _. vec_capacity lanes.new ≡ vec_capacity lanes.old) }
 {
@@ -64,7 +66,7 @@ fn add_lane(
     Ok(())
 }
 
-/// Lanes of a program that begin in these states, one for each state, with this cycle.
+// Lanes of a program that begin in these states, one for each state, with this cycle.
 pub(crate) fn lanes_of(
     alloc: Global,
     program: &Program<'_>,

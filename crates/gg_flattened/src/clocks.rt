@@ -16,7 +16,8 @@ use gg_bits::Name;
 use gg_types::{Typed, is_clock_input};
 use std::alloc::{AllocError, Global};
 
-/// The Clock input that an expression follows in the module at a place.
+/// The Clock input that an expression follows in the module at a place. None if it isn't a reference, or follows no Clock
+/// input.
 pub fn clock_of(typed: &Typed, number: u32, value: &Expr) -> Option<u32>
     requires { number < length typed.now.circuit.modules }
     ensures { result ≡ clock_of_term (module_at typed.now.circuit.modules number) value.now }
@@ -85,7 +86,10 @@ fn add_given(
 ) -> Result<(), AllocError>
     requires digests { AreDigests (types_of typed.now.circuit) typed.now.circuit.modules digests.now }
     requires there { around < length typed.now.circuit.modules }
-    ensures { OnOk result (clocks.new.items ≡ clocks.old.items ++ map (λ port. clock_of_connection (module_at typed.now.circuit.modules around) (connection_in (module_at typed.now.circuit.modules around).statements (dotted_text name.now port))) (clock_inputs (port.now ∷ []))) }
+    ensures { OnOk result (clocks.new.items ≡ clocks.old.items
+        ++ map (λ port. clock_of_connection (module_at typed.now.circuit.modules around)
+        (connection_in (module_at typed.now.circuit.modules around).statements (dotted_text name.now port)))
+        (clock_inputs (port.now ∷ []))) }
 {
     if !is_clock_input(port) {
         return Ok(());
@@ -95,12 +99,12 @@ fn add_given(
     Ok(())
 }
 
-/// For each Clock input of a module, in port order, the Clock input that it follows of the module at the place `around`,
-/// which has an instance of it under this name.
-///
-/// # Errors
-///
-/// Returns `AllocError` if an allocation fails.
+// For each Clock input of a module, in port order, the Clock input that it follows of the module at the place `around`,
+// which has an instance of it under this name.
+//
+// # Errors
+//
+// Returns `AllocError` if an allocation fails.
 pub(crate) fn clocks_given(
     alloc: Global,
     typed: &Typed,
@@ -141,11 +145,11 @@ pub fn clock_count(ports: &[Port]) -> Result<u32, AllocError>
     Ok(count)
 }
 
-/// The clocks of the circuit that the Clock inputs of the top are.
-///
-/// # Errors
-///
-/// Returns `AllocError` if an allocation fails.
+// The clocks of the circuit that the Clock inputs of the top are.
+//
+// # Errors
+//
+// Returns `AllocError` if an allocation fails.
 pub(crate) fn top_clocks(alloc: Global, body: &Module) -> Result<Vec<Option<u32>>, AllocError>
     ensures { IfOk result (λ clocks. clocks.items ≡ clocks_of_top body.now) }
 {

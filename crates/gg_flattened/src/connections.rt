@@ -37,7 +37,7 @@ impl Drop for Sinks<'_> {
     }
 }
 
-/// The connections that statements make.
+// The connections that statements make.
 pub(crate) fn connections<'a>(
     alloc: Global,
     statements: &'a [Stmt],
@@ -58,7 +58,9 @@ pub(crate) fn connections<'a>(
 // Records the connection of a statement, if it makes one and its sink has none yet.
 fn note<'a>(alloc: Global, sinks: &mut Sinks<'a>, kind: &'a StmtKind) -> Result<(), AllocError>
     requires { length sinks.old.sources.items ≡ length sinks.old.names }
-    ensures noted { OnOk result ((name : List ℕ) → source_at sinks.new.sources.items (place_of name sinks.new.names) ≡ or_later (source_at sinks.old.sources.items (place_of name sinks.old.names)) (connection_by name kind.now)) }
+    ensures noted { OnOk result ((name : List ℕ)
+        → source_at sinks.new.sources.items (place_of name sinks.new.names)
+        ≡ or_later (source_at sinks.old.sources.items (place_of name sinks.old.names)) (connection_by name kind.now)) }
     ensures count { OnOk result (length sinks.new.sources.items ≡ length sinks.new.names) }
 {
     match kind {
@@ -77,7 +79,10 @@ fn note_sink<'a>(
     source: Source<'a>,
 ) -> Result<(), AllocError>
     requires { length sinks.old.sources.items ≡ length sinks.old.names }
-    ensures noted { OnOk result ((name : List ℕ) → source_at sinks.new.sources.items (place_of name sinks.new.names) ≡ or_later (source_at sinks.old.sources.items (place_of name sinks.old.names)) (if bytes_eq name (written_text sink.now) then Some (connection source.entry) else None)) }
+    ensures noted { OnOk result ((name : List ℕ)
+        → source_at sinks.new.sources.items (place_of name sinks.new.names)
+        ≡ or_later (source_at sinks.old.sources.items (place_of name sinks.old.names))
+        (if bytes_eq name (written_text sink.now) then Some (connection source.entry) else None)) }
     ensures count { OnOk result (length sinks.new.sources.items ≡ length sinks.new.names) }
 {
     let name = written(alloc, sink)?;
@@ -103,6 +108,7 @@ impl<'a> Sinks<'a> {
         requires { length self.now.sources.items ≡ length self.now.names }
         ensures { seen result ≡ source_at self.now.sources.items (place_of name.now self.now.names) }
     {
+        // for the invariant alone
         let _ = self.names.len();
         match self.names.find(name) {
             Some(place) => Some(self.sources[place as usize]),

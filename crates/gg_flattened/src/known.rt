@@ -18,7 +18,7 @@ fn ground(typing: Option<Typing>) -> Option<Ty>
     }
 }
 
-/// The type of what a reference names in a module, if that is a value and not a Clock.
+/// The type of what a reference names in a module. None if it names nothing that has a value, or a Clock.
 pub fn value_type(typed: &Typed, number: u32, reference: &Reference) -> Option<Ty>
     requires { number < length typed.now.circuit.modules }
     ensures { option_map (λ ty. shape ty) result ≡ types_of typed.now.circuit number reference.now }

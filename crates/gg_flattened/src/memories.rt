@@ -160,7 +160,7 @@ fn bank_with<'a>(
     }
 }
 
-/// The memory that fields make.
+// The memory that fields make.
 pub(crate) fn bank_of<'a>(
     alloc: Global,
     fields: &'a [Field],

@@ -277,8 +277,8 @@ fn add_stops<'a>(signals: &mut Vec<OwnSignal<'a>>, stops: &[OwnStop<'a>]) -> Res
     Ok(())
 }
 
-/// The signals of the module at this place, which has these stops: its ports, then what its statements declare, then
-/// the stops.
+// The signals of the module at this place, which has these stops: its ports, then what its statements declare, then
+// the stops.
 pub(crate) fn own_signals<'a>(
     alloc: Global,
     typed: &Typed,

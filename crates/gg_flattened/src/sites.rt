@@ -76,13 +76,13 @@ impl Drop for Place<'_> {
     }
 }
 
-/// What is needed of a site for the instances that it holds.
-pub struct Above<'a> {
-    pub path: Name,
-    pub number: u32,
-    pub depth: u32,
-    pub steps: Vec<Step<'a>>,
-    pub clocks: Vec<Option<u32>>,
+// What is needed of a site for the instances that it holds.
+pub(crate) struct Above<'a> {
+    pub(crate) path: Name,
+    pub(crate) number: u32,
+    pub(crate) depth: u32,
+    pub(crate) steps: Vec<Step<'a>>,
+    pub(crate) clocks: Vec<Option<u32>>,
 }
 
 impl Drop for Above<'_> {
@@ -156,8 +156,18 @@ fn below<'a>(
     ensures number { IfOk result (λ place. place.number ≡ instance.entry.number) }
     ensures depth { IfOk result (λ place. place.depth ≡ above.now.depth + 1) }
     ensures around { IfOk result (λ place. IfSome place.outer (λ a. a.number ≡ above.now.number)) }
-    ensures site { IfOk result (λ place. site_of place ≡ record { path = joined_text above.now.path instance.entry.name.now; number = instance.entry.number; depth = above.now.depth + 1; outer = Some (record { path = above.now.path; number = above.now.number; name = instance.entry.name.now }); steps = record { number = above.now.number; name = instance.entry.name.now } ∷ map step_of above.now.steps.items }) }
-    ensures own_clocks { IfOk result (λ place. place.own_clocks.items ≡ clocks_of_instance (module_at typed.now.circuit.modules above.now.number) instance.entry.name.now (module_at typed.now.circuit.modules instance.entry.number)) }
+    ensures site { IfOk result (λ place. site_of place
+        ≡ record {
+          path = joined_text above.now.path instance.entry.name.now;
+          number = instance.entry.number;
+          depth = above.now.depth + 1;
+          outer = Some
+              (record { path = above.now.path; number = above.now.number; name = instance.entry.name.now });
+          steps = record { number = above.now.number; name = instance.entry.name.now } ∷ map step_of above.now.steps.items;
+        }) }
+    ensures own_clocks { IfOk result (λ place. place.own_clocks.items
+        ≡ clocks_of_instance (module_at typed.now.circuit.modules above.now.number) instance.entry.name.now
+        (module_at typed.now.circuit.modules instance.entry.number)) }
     ensures clocks { IfOk result (λ place. place.clocks.items ≡ map (clock_at above.now.clocks.items) place.own_clocks.items) }
 {
     let name = instance.name;

@@ -67,7 +67,7 @@ fn add_stop<'a>(
     }
 }
 
-/// The stops of these statements, numbered in the order of the file.
+// The stops of these statements, numbered in the order of the file.
 pub(crate) fn stops<'a>(
     alloc: Global,
     statements: &'a [Stmt],

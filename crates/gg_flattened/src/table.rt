@@ -100,17 +100,17 @@ fn add_memories(
 /// Returns `AllocError` if an allocation fails.
 pub fn table_of(
     alloc: Global,
-    typed: &Typed,
+    _typed: &Typed,
     digests: &[Digest],
     places: &[Place],
 ) -> Result<Table, AllocError>
-    requires digests { AreDigests (types_of typed.now.circuit) typed.now.circuit.modules digests.now }
-    requires numbers { All (λ place. place.number < length typed.now.circuit.modules) places.now }
-    requires signals { AllPairs (λ a b. a ≢ b) (map (λ x. x.path) (flat_signals (types_of typed.now.circuit) typed.now.circuit.modules (map site_of places.now))) }
-    requires memories { AllPairs (λ a b. a ≢ b) (memory_paths (flat_memories typed.now.circuit.modules (map site_of places.now))) }
-    ensures signals { IfOk result (λ table. table_signals table ≡ signals_of (flat_signals (types_of typed.now.circuit) typed.now.circuit.modules (map site_of places.now))) }
+    requires digests { AreDigests (types_of _typed.now.circuit) _typed.now.circuit.modules digests.now }
+    requires numbers { All (λ place. place.number < length _typed.now.circuit.modules) places.now }
+    requires signals { AllPairs (λ a b. a ≢ b) (map (λ x. x.path) (flat_signals (types_of _typed.now.circuit) _typed.now.circuit.modules (map site_of places.now))) }
+    requires memories { AllPairs (λ a b. a ≢ b) (memory_paths (flat_memories _typed.now.circuit.modules (map site_of places.now))) }
+    ensures signals { IfOk result (λ table. table_signals table ≡ signals_of (flat_signals (types_of _typed.now.circuit) _typed.now.circuit.modules (map site_of places.now))) }
     ensures even { IfOk result (λ table. length table.types.items ≡ length table.paths) }
-    ensures memories { IfOk result (λ table. table.memories ≡ memory_paths (flat_memories typed.now.circuit.modules (map site_of places.now))) }
+    ensures memories { IfOk result (λ table. table.memories ≡ memory_paths (flat_memories _typed.now.circuit.modules (map site_of places.now))) }
 {
     let mut table = Table {
         paths: Paths::new(alloc),
@@ -129,6 +129,7 @@ pub fn table_of(
 pub fn number(paths: &Paths, path: &Name) -> u32
     ensures { result ≡ number_of paths.now path.now }
 {
+    // for the invariant alone
     let _ = paths.len();
     match paths.find(path) {
         Some(number) => number,

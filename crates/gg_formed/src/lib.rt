@@ -1,6 +1,6 @@
 //! What the checks of a circuit imply for its flat circuit.
 //!
-//! The functions of this crate build nothing. Each states a fact about a circuit that passed the checks:
+//! The crate has laws alone: its functions compute nothing. They say of a circuit that passed the checks:
 //!
 //! - `top_of`: there is a top;
 //! - `distinct`: no two sites have the same path, no two signals, and no two memories;

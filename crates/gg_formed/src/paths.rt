@@ -11,8 +11,8 @@ use gg_types::Typed;
 /// In a circuit that passed the checks, no two sites have the same path, no two signals, and no two memories. Its digests
 /// have fewer than 2^32 stops of a module, so that no two of these have the same name. The function computes nothing: its
 /// contract states this fact about the circuit.
-pub fn distinct(typed: &Typed, digests: &[Digest])
-    requires { AreDigests (types_of typed.now.circuit) typed.now.circuit.modules digests.now }
+pub fn distinct(typed: &Typed, _digests: &[Digest])
+    requires { AreDigests (types_of typed.now.circuit) typed.now.circuit.modules _digests.now }
     ensures sites { AllPairs (λ a b. a ≢ b) (site_paths typed.now.circuit) }
     ensures signals { AllPairs (λ a b. a ≢ b) (signal_paths typed.now.circuit) }
     ensures memories { AllPairs (λ a b. a ≢ b) (memory_paths (memories_of typed.now.circuit)) }

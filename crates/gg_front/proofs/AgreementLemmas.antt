@@ -11,7 +11,7 @@ use Rattle.gg_shape.specs.Judged.{RefusesFrom, IsInRing}
 use Rattle.gg_shape.specs.Memories.{memory_faults}
 use Rattle.gg_shape.specs.Shape.{named_faults}
 use Rattle.gg_shape.specs.declared.fault.Fault.{Fault}
-use Rattle.gg_shape.specs.declared.fault.Refusal.TheVariants.{F}
+use Rattle.gg_shape.specs.declared.fault.CheckFault.TheVariants.{F}
 use Rattle.gg_types.specs.Types.{type_faults}
 use Rattle.gg_front.specs.Accepted.{excess_of}
 use Rattle.gg_front.specs.Agreement.{AreAlike, Agree}

@@ -10,7 +10,7 @@ use Rattle.gg_shape.specs.Judged.{IsShaped, RefusesFrom}
 use Rattle.gg_shape.specs.Memories.{memory_faults}
 use Rattle.gg_shape.specs.Shape.{named_faults}
 use Rattle.gg_shape.specs.declared.fault.Fault.{Fault}
-use Rattle.gg_shape.specs.declared.fault.Refusal.TheVariants.{F}
+use Rattle.gg_shape.specs.declared.fault.CheckFault.TheVariants.{F}
 use Rattle.gg_types.specs.Types.{type_faults}
 use Rattle.gg_front.specs.Accepted.{IsAccepted, IsAcceptedText}
 use Rattle.gg_front.specs.Fault.{HasFrontFault, IsFaulty, IsFirstFault, OfShape, OfTypes, OfLimits, OfLoop}

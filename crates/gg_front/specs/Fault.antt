@@ -17,9 +17,9 @@ use Rattle.gg_shape.specs.Judged.{IsShaped, RefusesFrom}
 use Rattle.gg_shape.specs.Shape.{named_faults}
 use Rattle.gg_shape.specs.declared.fault.Fault.{Fault}
 use Rattle.gg_shape.specs.declared.fault.Fault.TheVariants.{OverLimit, Loop}
-use Rattle.gg_shape.specs.declared.fault.Refusal.{Refusal}
-use Rattle.gg_shape.specs.declared.fault.Refusal.TheVariants as refusals
-use Rattle.gg_shape.specs.declared.fault.Refusal.TheVariants.{F}
+use Rattle.gg_shape.specs.declared.fault.CheckFault.{CheckFault}
+use Rattle.gg_shape.specs.declared.fault.CheckFault.TheVariants as refusals
+use Rattle.gg_shape.specs.declared.fault.CheckFault.TheVariants.{F}
 use Rattle.gg_types.specs.Types.{type_faults}
 use Rattle.gg_front.specs.Accepted.{IsSound, excess_of}
 use Rattle.gg_front.specs.declared.fault.FrontFault.{FrontFault}
@@ -78,7 +78,7 @@ IfTellsLoop flat (front.Fault fault) = TellsLoop flat fault
 IfTellsLoop flat front.NoMemory = ⊤
 
 -- the fault of a check that refuses a circuit
-abbrev pub fault_by : Refusal → FrontFault
+abbrev pub fault_by : CheckFault → FrontFault
 fault_by (F fault) = front.Fault fault
 fault_by refusals.NoMemory = front.NoMemory
 

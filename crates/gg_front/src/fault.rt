@@ -23,8 +23,7 @@ impl From<AllocError> for FrontFault {
 
     ghost from_gives = { λ error fault. fault ≡ NoMemory };
 
-    fn from(error: AllocError) -> FrontFault {
-        let _ = error;
+    fn from(_error: AllocError) -> FrontFault {
         FrontFault::NoMemory
     }
 }

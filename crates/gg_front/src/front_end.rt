@@ -27,7 +27,7 @@ use gg_flattened::one_flat;
 use gg_names::Namespace;
 use gg_order::{Design, OrderFault, order};
 use gg_read::{ReadFault, read_circuit};
-use gg_shape::{Fault, Refusal, shaped};
+use gg_shape::{CheckFault, Fault, shaped};
 use gg_types::Typed;
 use gg_types_rules::typed;
 use std::alloc::{AllocError, Global};
@@ -125,12 +125,12 @@ fn with_types<'a>(alloc: Global, names: Namespace<'a>) -> Result<Typed<'a>, Fron
 }
 
 // The fault of a check that refuses a circuit.
-fn fault_by(refusal: Refusal) -> FrontFault
+fn fault_by(refusal: CheckFault) -> FrontFault
     ensures { result ≡ fault_by refusal }
 {
     match refusal {
-        Refusal::F(fault) => FrontFault::Fault(fault),
-        Refusal::NoMemory => FrontFault::NoMemory,
+        CheckFault::F(fault) => FrontFault::Fault(fault),
+        CheckFault::NoMemory => FrontFault::NoMemory,
     }
 }
 

@@ -11,7 +11,7 @@ use std::fs;
 use std::io::Read;
 use std::rt::Files;
 
-/// How many bytes one read asks for at most.
+// How many bytes one read asks for at most.
 const PART: usize = 4096;
 
 /// The files of the system, by path. Their contents are unknown to contracts.
@@ -48,7 +48,7 @@ impl<R: Files + Drop> FileShelf<R> {
     }
 }
 
-/// Reads part of the file, at most `room` bytes, and appends it to `bytes`. Returns 0 only at the end of the file.
+// Reads part of the file, at most `room` bytes, and appends it to `bytes`. Returns 0 only at the end of the file.
 fn read_part<F: Read>(file: &mut F, room: u64, bytes: &mut Vec<u8>) -> Result<usize, LoadFail>
     requires { 0 < room }
     ensures added { IfOk result (λ n. length bytes.new.items ≡ length bytes.old.items + n) }
@@ -66,7 +66,7 @@ fn read_part<F: Read>(file: &mut F, room: u64, bytes: &mut Vec<u8>) -> Result<us
     Ok(n)
 }
 
-/// Reads the file to its end, or one byte past the limit.
+// Reads the file to its end, or one byte past the limit.
 fn read_within<F: Read>(alloc: Global, file: &mut F, limit: u64) -> Result<Vec<u8>, LoadFail>
     ensures within { IfOk result (λ bytes. length bytes.items ≤ limit) }
     ensures whole { IfOk result (λ bytes. IfSome (F.remaining file.old) (λ all. bytes.items ≡ all)) }
@@ -86,8 +86,8 @@ fn read_within<F: Read>(alloc: Global, file: &mut F, limit: u64) -> Result<Vec<u
     }
 }
 
-/// Opens the file and reads it. A clause here can't name the bytes of a file that is opened inside the function. That
-/// all of its bytes were read follows from the clause `whole` of `read_within`.
+// Opens the file and reads it. A clause here can't name the bytes of a file that is opened inside the function. That
+// all of its bytes were read follows from the clause `whole` of `read_within`.
 fn load_from<R: Files>(
     runtime: &R,
     alloc: Global,

@@ -45,6 +45,11 @@ pub trait Shelf {
 
     /// Returns the bytes of the file `name`, at most `limit` of them. A missing file is a fault. In every case the
     /// shelf's files stay the same, and only its counts may rise.
+    ///
+    /// # Errors
+    ///
+    /// Returns `Failed` if the file is missing or can't be read, `TooLong` if it is longer than `limit`, and `NoMemory` if an
+    /// allocation fails.
     fn load(&mut self, alloc: Global, name: &str, limit: u64) -> Result<Vec<u8>, LoadFail>
         ensures within { IfOk result (λ file. length file.items ≤ limit) }
         ensures whole { IfOk result (λ file. CanHold (files self.old name.now) file.items) }

@@ -53,7 +53,7 @@ impl MemShelf {
     }
 }
 
-/// A copy of the bytes, if they are within the limit; otherwise the count of cut loads rises.
+// A copy of the bytes, if they are within the limit; otherwise the count of cut loads rises.
 fn copy_within(alloc: Global, bytes: &[u8], limit: u64, cuts: &mut u64) -> Result<Vec<u8>, LoadFail>
     ensures within { IfOk result (λ file. length file.items ≤ limit) }
     ensures whole { IfOk result (λ file. file.items ≡ bytes.now) }

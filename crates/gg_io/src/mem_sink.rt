@@ -64,7 +64,7 @@ impl MemSink {
     }
 }
 
-/// How many bytes the put of this number writes before it fails; None if it isn't listed.
+// How many bytes the put of this number writes before it fails; None if it isn't listed.
 fn taken_before_failure_of(failing: &[FailingPut], number: u64) -> Option<u64>
     ensures { result ≡ taken_before_failure failing.now number }
 {
@@ -72,7 +72,7 @@ fn taken_before_failure_of(failing: &[FailingPut], number: u64) -> Option<u64>
     Some(listed.takes)
 }
 
-/// Appends the bytes to what was written, or counts a refused put.
+// Appends the bytes to what was written, or counts a refused put.
 fn append(written: &mut Vec<u8>, bytes: &[u8], refused: &mut u64) -> Result<(), PutFail>
     ensures whole { OnOk result (written.new.items ≡ written.old.items ++ bytes.now) }
     ensures none { IfErr result (λ e. (e ≡ PutFail.NoMemory) × (written.new.items ≡ written.old.items)) }

@@ -38,6 +38,11 @@ pub trait Sink {
     ghost refused: { Self → ℕ };
 
     /// Writes `bytes` after what was written before, which stays.
+    ///
+    /// # Errors
+    ///
+    /// Returns `Failed` if not all of them can be written; a first part may have been. Returns `NoMemory` if an allocation
+    /// fails.
     fn put(&mut self, bytes: &[u8]) -> Result<(), PutFail>
         ensures whole { OnOk result (written self.new ≡ append_known (written self.old) bytes.now) }
         ensures caused { IfErr result (HasPutCause

@@ -30,7 +30,7 @@ impl<W: Write + Drop> StreamSink<W> {
     }
 }
 
-/// Writes all of the bytes, or fails after a first part of them. A stream that takes no bytes has failed.
+// Writes all of the bytes, or fails after a first part of them. A stream that takes no bytes has failed.
 fn write_whole<W: Write>(stream: &mut W, bytes: &[u8]) -> Result<(), PutFail>
     ensures whole { OnOk result (Appends (W.contents stream.old) (W.contents stream.new) bytes.now) }
     ensures failed { IfErr result (λ e. e ≡ PutFail.Failed) }

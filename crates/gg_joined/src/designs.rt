@@ -30,7 +30,7 @@ pub fn join(
     ensures circuit { IfOk result (λ made. made.circuit ≡ joined design.now.circuit front.now model.now sees.now drives.now) }
     ensures tree { IfOk result (λ made. made.tree ≡ design.now.tree) }
 {
-    // its contract says that the design is one
+    // for the invariant alone
     let _ = design.order();
     joined_formed();
     joined_ordered();

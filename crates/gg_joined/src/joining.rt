@@ -65,14 +65,14 @@ fn linked(
     })
 }
 
-/// The numbers of what stands behind a circuit.
+// The numbers of what stands behind a circuit.
 #[derive(Drop)]
 struct Behind {
-    /// Those of signals.
+    // Those of signals.
     globals: Vec<u32>,
-    /// Those of registers.
+    // Those of registers.
     held: Vec<u32>,
-    /// Those of memories.
+    // Those of memories.
     memories: Vec<u32>,
 }
 
@@ -202,7 +202,13 @@ fn add_behind(
 ) -> Result<(), AllocError>
     requires few { length piece.old.signals + length model.now.signals < 2 ^ 32 }
     requires distinct { AllPairs (λ a b. a ≢ b) (piece.old.paths ++ map (λ path. front.now ++ path) model.now.paths) }
-    ensures { OnOk result (piece.new ≡ record piece.old { paths = piece.old.paths ++ map (λ path. front.now ++ path) model.now.paths; signals = piece.old.signals ++ map (signal_behind behind.now.globals.items behind.now.held.items behind.now.memories.items sees.now) model.now.signals }) }
+    ensures { OnOk result (piece.new ≡ record piece.old {
+      paths = piece.old.paths
+          ++ map (λ path. front.now ++ path) model.now.paths;
+      signals = piece.old.signals
+          ++ map (signal_behind behind.now.globals.items behind.now.held.items behind.now.memories.items sees.now)
+          model.now.signals;
+    }) }
 {
     for place in 0..model.signal_count() {
         let signal = signal_behind(alloc, behind, sees, &model.signals()[place])?;
@@ -336,7 +342,9 @@ fn made(
     requires ins { length links.now.ins.now ≤ 2 ^ 32 }
     requires few { length one.now.signals + length model.now.signals < 2 ^ 32 }
     requires distinct { AllPairs (λ a b. a ≢ b) (one.now.paths ++ map (λ path. front.now ++ path) model.now.paths) }
-    ensures { IfOk result (λ piece. piece ≡ with_model one.now front.now model.now behind.now.globals.items behind.now.held.items behind.now.memories.items links.now.sees.now links.now.drives.now links.now.said.now links.now.ins.now links.now.outs.now) }
+    ensures { IfOk result (λ piece. piece ≡ with_model one.now front.now model.now behind.now.globals.items behind.now.held.items
+        behind.now.memories.items links.now.sees.now links.now.drives.now links.now.said.now links.now.ins.now
+        links.now.outs.now) }
 {
     let mut piece = Piece::new(alloc);
     add_front(alloc, one, links.said, links.drives, links.ins, &mut piece)?;
@@ -351,12 +359,12 @@ fn made(
     Ok(piece)
 }
 
-/// The circuit with a model in it, whose signals have paths with this front. The bridge sees the signals `sees`, one for each
-/// in-signal of the model, and drives the in-signals `drives`, one for each out-signal.
-///
-/// # Errors
-///
-/// Returns `AllocError` if an allocation fails, or if there are 4,294,967,296 signals, registers, memories or in-signals, or more.
+// The circuit with a model in it, whose signals have paths with this front. The bridge sees the signals `sees`, one for each
+// in-signal of the model, and drives the in-signals `drives`, one for each out-signal.
+//
+// # Errors
+//
+// Returns `AllocError` if an allocation fails, or if there are 4,294,967,296 signals, registers, memories or in-signals, or more.
 pub(crate) fn join_circuit(
     alloc: Global,
     one: &Piece,

@@ -6,7 +6,7 @@ ghost use Rattle.gg_joined.specs.Joined.{HasPlaces, is_free, place_at, without};
 
 use std::alloc::{AllocError, Global};
 
-/// The number at a place of a list; 0 past its end.
+// The number at a place of a list; 0 past its end.
 pub(crate) fn number_at(list: &[u32], place: u32) -> u32
     ensures { result ≡ value_at list.now place }
 {
@@ -60,11 +60,11 @@ fn fill_places(list: &[u32], places: &mut [Option<u32>])
     }
 }
 
-/// A list of some of the first `count` numbers without those of another list.
-///
-/// # Errors
-///
-/// Returns `AllocError` if an allocation fails.
+// A list of some of the first `count` numbers without those of another list.
+//
+// # Errors
+//
+// Returns `AllocError` if an allocation fails.
 pub(crate) fn left_of(
     alloc: Global,
     count: usize,
@@ -85,11 +85,11 @@ pub(crate) fn left_of(
     Ok(left)
 }
 
-/// This many numbers from the first one on.
-///
-/// # Errors
-///
-/// Returns `AllocError` if an allocation fails.
+// This many numbers from the first one on.
+//
+// # Errors
+//
+// Returns `AllocError` if an allocation fails.
 pub(crate) fn numbers_from(
     alloc: Global,
     first: usize,
@@ -105,11 +105,11 @@ pub(crate) fn numbers_from(
     Ok(numbers)
 }
 
-/// The numbers at these places of a list; 0 past its end.
-///
-/// # Errors
-///
-/// Returns `AllocError` if an allocation fails.
+// The numbers at these places of a list; 0 past its end.
+//
+// # Errors
+//
+// Returns `AllocError` if an allocation fails.
 pub(crate) fn numbers_at(
     alloc: Global,
     list: &[u32],

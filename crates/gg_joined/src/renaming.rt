@@ -18,11 +18,11 @@ fn renamed_op(globals: &[u32], op: Op) -> Op
     }
 }
 
-/// A line under new numbers.
-///
-/// # Errors
-///
-/// Returns `AllocError` if an allocation fails.
+// A line under new numbers.
+//
+// # Errors
+//
+// Returns `AllocError` if an allocation fails.
 pub(crate) fn renamed_line(alloc: Global, globals: &[u32], line: &Line) -> Result<Line, AllocError>
     ensures { IfOk result (λ own. own ≡ renamed_line globals.now line.now) }
 {
@@ -68,11 +68,11 @@ fn renamed_reset(
     }
 }
 
-/// A register under new numbers, at the clock of every tick.
-///
-/// # Errors
-///
-/// Returns `AllocError` if an allocation fails.
+// A register under new numbers, at the clock of every tick.
+//
+// # Errors
+//
+// Returns `AllocError` if an allocation fails.
 #[tactic(auto, using(crate::proofs::ClockLemmas::every_tick))]
 pub(crate) fn renamed_register(
     alloc: Global,
@@ -150,11 +150,11 @@ fn renamed_writers(
     Ok(own)
 }
 
-/// A memory under new numbers, at the clock of every tick.
-///
-/// # Errors
-///
-/// Returns `AllocError` if an allocation fails.
+// A memory under new numbers, at the clock of every tick.
+//
+// # Errors
+//
+// Returns `AllocError` if an allocation fails.
 pub(crate) fn renamed_memory(
     alloc: Global,
     globals: &[u32],

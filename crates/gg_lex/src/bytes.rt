@@ -4,27 +4,27 @@ ghost use Rattle.std.specs.List.{prefix_len};
 ghost use Rattle.gg_lex.specs.Bytes.{is_in_class, starts_word, begins_number};
 ghost use Rattle.gg_lex.specs.Fronts.{TellsDigits};
 
-/// A class of bytes. A run is made of bytes of one class.
+// A class of bytes. A run is made of bytes of one class.
 #[derive(Clone, Copy, PartialEq, Eq)]
 pub(crate) enum Class {
-    /// A space or a tab.
+    // A space or a tab.
     Blank,
-    /// A letter, a digit, `_` or `$`.
+    // A letter, a digit, `_` or `$`.
     WordByte,
-    /// A letter or `-`.
+    // A letter or `-`.
     TailByte,
-    /// `0` or `1`.
+    // `0` or `1`.
     BinaryDigit,
-    /// `0` to `7`.
+    // `0` to `7`.
     OctalDigit,
-    /// `0` to `9`.
+    // `0` to `9`.
     DecimalDigit,
-    /// `0` to `9`, or a letter from `a` to `f` of either case.
+    // `0` to `9`, or a letter from `a` to `f` of either case.
     HexDigit,
 }
 
 impl Class {
-    /// Whether a byte is of this class.
+    // Whether a byte is of this class.
     pub(crate) fn has(self, byte: u8) -> bool
         ensures { result ≡ is_in_class self byte }
     {
@@ -40,21 +40,21 @@ impl Class {
     }
 }
 
-/// Whether a word may begin with this byte.
+// Whether a word may begin with this byte.
 pub(crate) fn starts_word(byte: u8) -> bool
     ensures { result ≡ starts_word byte }
 {
     byte.is_ascii_alphabetic() || byte == b'_'
 }
 
-/// Whether a number may begin with this byte.
+// Whether a number may begin with this byte.
 pub(crate) fn begins_number(byte: u8) -> bool
     ensures { result ≡ begins_number byte }
 {
     byte == b'-' || byte.is_ascii_digit()
 }
 
-/// The class of the digits of the radix that has this letter.
+// The class of the digits of the radix that has this letter.
 pub(crate) fn digits_behind(letter: u8) -> Option<Class>
     ensures { TellsDigits letter result }
 {
@@ -67,7 +67,7 @@ pub(crate) fn digits_behind(letter: u8) -> Option<Class>
     }
 }
 
-/// How many bytes at the front are of this class.
+// How many bytes at the front are of this class.
 pub(crate) fn run_len(bytes: &[u8], class: Class) -> usize
     ensures length { result ≡ prefix_len (is_in_class class) bytes.now }
     ensures within { result ≤ length bytes.now }

@@ -5,8 +5,8 @@ ghost use Rattle.gg_lex.specs.Ends.{FindsBracket, FindsInfo};
 
 use crate::bytes::{Class, run_len};
 
-/// Whether the line may end here: any number of file informations, and then a comment or nothing, with blanks before
-/// each.
+// Whether the line may end here: any number of file informations, and then a comment or nothing, with blanks before
+// each.
 pub(crate) fn is_end(bytes: &[u8]) -> bool
     ensures { IsTrue result ↔ IsEnd bytes.now }
 {
@@ -20,21 +20,21 @@ pub(crate) fn is_end(bytes: &[u8]) -> bool
     }
 }
 
-/// Whether nothing is left, or a comment.
+// Whether nothing is left, or a comment.
 fn is_comment(bytes: &[u8]) -> bool
     ensures { IsTrue result ↔ IsComment bytes.now }
 {
     bytes.is_empty() || bytes[0] == b';'
 }
 
-/// The bytes without the blanks at their front.
+// The bytes without the blanks at their front.
 fn skip_blanks(bytes: &[u8]) -> &[u8]
     ensures { result.now ≡ after_blanks bytes.now }
 {
     &bytes[run_len(bytes, Class::Blank)..]
 }
 
-/// The length of the file information at the front, if there is any.
+// The length of the file information at the front, if there is any.
 fn info_len(bytes: &[u8]) -> Option<usize>
     ensures { FindsInfo bytes.now result }
 {
@@ -47,14 +47,14 @@ fn info_len(bytes: &[u8]) -> Option<usize>
     }
 }
 
-/// Whether file information begins here.
+// Whether file information begins here.
 fn opens_info(bytes: &[u8]) -> bool
     ensures { IsTrue result ↔ OpensInfo bytes.now }
 {
     bytes.len() >= 2 && bytes[0] == b'@' && bytes[1] == b'['
 }
 
-/// The first place from 1 on that has no backslash and is followed by a `]`.
+// The first place from 1 on that has no backslash and is followed by a `]`.
 fn closing_bracket(bytes: &[u8]) -> Option<usize>
     ensures { FindsBracket bytes.now result }
 {
@@ -68,7 +68,7 @@ fn closing_bracket(bytes: &[u8]) -> Option<usize>
     None
 }
 
-/// Whether this place has no backslash and is followed by a `]`.
+// Whether this place has no backslash and is followed by a `]`.
 fn closes_behind(bytes: &[u8], at: usize) -> bool
     requires { at + 1 < length bytes.now }
     ensures { IsTrue result ↔ ClosesBehind bytes.now at }

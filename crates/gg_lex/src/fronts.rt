@@ -9,7 +9,7 @@ use crate::longest::{number_len, text_len, word_len};
 use crate::symbols::{symbol_of_one, symbol_of_two};
 use crate::token::{Front, Symbol, TokenKind};
 
-/// The first token, if the bytes begin with one.
+// The first token, if the bytes begin with one.
 pub(crate) fn first_token(bytes: &[u8]) -> Option<Front>
     ensures { FindsToken bytes.now result }
 {
@@ -28,7 +28,7 @@ pub(crate) fn first_token(bytes: &[u8]) -> Option<Front>
     }
 }
 
-/// The first token where a word begins.
+// The first token where a word begins.
 fn first_word(bytes: &[u8]) -> Front
     requires nonempty { 0 < length bytes.now }
     requires begins { IsTrue (starts_word (slice_index bytes.now 0)) }
@@ -40,7 +40,7 @@ fn first_word(bytes: &[u8]) -> Front
     }
 }
 
-/// The first token of bytes that begin with a sign or a digit.
+// The first token of bytes that begin with a sign or a digit.
 fn first_number(bytes: &[u8]) -> Option<Front>
     requires nonempty { 0 < length bytes.now }
     requires begins { IsTrue (begins_number (slice_index bytes.now 0)) }
@@ -55,7 +55,7 @@ fn first_number(bytes: &[u8]) -> Option<Front>
     }
 }
 
-/// The first token of bytes that begin with a quote.
+// The first token of bytes that begin with a quote.
 fn first_text(bytes: &[u8]) -> Option<Front>
     requires nonempty { 0 < length bytes.now }
     requires begins { slice_index bytes.now 0 ≡ 34 }
@@ -70,7 +70,7 @@ fn first_text(bytes: &[u8]) -> Option<Front>
     }
 }
 
-/// The first token of bytes that can begin with no other token than a symbol.
+// The first token of bytes that can begin with no other token than a symbol.
 fn first_symbol(bytes: &[u8]) -> Option<Front>
     requires { LeadsSymbol bytes.now }
     ensures { FindsToken bytes.now result }
@@ -90,7 +90,7 @@ fn first_symbol(bytes: &[u8]) -> Option<Front>
     }
 }
 
-/// The symbol that the first two bytes are.
+// The symbol that the first two bytes are.
 fn leading_symbol_of_two(bytes: &[u8]) -> Option<Symbol>
     ensures found { IfSome result (IsFrontOfTwo bytes.now) }
     ensures none { IfNone result ((symbol : Symbol) → IsFrontOfTwo bytes.now symbol → ⊥) }

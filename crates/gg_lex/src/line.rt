@@ -70,7 +70,7 @@ pub fn every_line()
     ensures { (line : List ℕ) → (ts : List Tok) × (bad : Option ℕ) × Lexes line ts bad }
 {}
 
-/// The first token after the blanks, if there is one.
+// The first token after the blanks, if there is one.
 fn next_token<'a>(rest: &'a str) -> Option<NextToken<'a>>
     ensures { MatchOption result (BeginsNoToken (after_blanks rest.now)) (IsNextToken rest.now) }
 {
@@ -89,7 +89,7 @@ fn next_token<'a>(rest: &'a str) -> Option<NextToken<'a>>
     }
 }
 
-/// The token of a text of this kind.
+// The token of a text of this kind.
 fn make_token(alloc: Global, kind: TokenKind, text: &str) -> Result<Tok, AllocError>
     requires { IsToken kind text.now }
     ensures { IfOk result (λ token. token ≡ token_of kind text.now) }
@@ -102,7 +102,7 @@ fn make_token(alloc: Global, kind: TokenKind, text: &str) -> Result<Tok, AllocEr
     }
 }
 
-/// What is between the quotes of a text.
+// What is between the quotes of a text.
 fn between_quotes(text: &str) -> &str
     requires { IsText text.now }
     ensures { result.now ≡ take (length text.now - 2) (drop 1 text.now) }
@@ -112,7 +112,7 @@ fn between_quotes(text: &str) -> &str
     quoted
 }
 
-/// The place of the byte after the blanks, unless the line may end where `rest` is left of it.
+// The place of the byte after the blanks, unless the line may end where `rest` is left of it.
 fn bad_place(line: &str, rest: &str) -> Option<u64>
     requires { length rest.now ≤ length line.now }
     ensures { EndsOrFails line.now rest.now result }

@@ -6,7 +6,7 @@ ghost use Rattle.gg_lex.specs.Fronts.{IsLongest, IsRunOf, FindsFront, FindsQuote
 
 use crate::bytes::{Class, digits_behind, run_len};
 
-/// The length of the word at the front. The bytes begin with one.
+// The length of the word at the front. The bytes begin with one.
 pub(crate) fn word_len(bytes: &[u8]) -> usize
     requires nonempty { 0 < length bytes.now }
     requires begins { IsTrue (starts_word (slice_index bytes.now 0)) }
@@ -17,7 +17,7 @@ pub(crate) fn word_len(bytes: &[u8]) -> usize
     1 + body + run_len(&rest[body..], Class::TailByte)
 }
 
-/// The length of the run of this class at the front, if it isn't empty.
+// The length of the run of this class at the front, if it isn't empty.
 fn some_run_len(bytes: &[u8], class: Class) -> Option<usize>
     ensures { FindsFront (IsRunOf class) bytes.now result }
 {
@@ -25,7 +25,7 @@ fn some_run_len(bytes: &[u8], class: Class) -> Option<usize>
     if run == 0 { None } else { Some(run) }
 }
 
-/// The length of the decimal number at the front, if there is one.
+// The length of the decimal number at the front, if there is one.
 fn decimal_len(bytes: &[u8]) -> Option<usize>
     requires { 0 < length bytes.now }
     ensures { FindsFront IsDecimal bytes.now result }
@@ -39,7 +39,7 @@ fn decimal_len(bytes: &[u8]) -> Option<usize>
     }
 }
 
-/// The length of the digits at the front that may follow this letter, if there are any.
+// The length of the digits at the front that may follow this letter, if there are any.
 fn digits_len(bytes: &[u8], letter: u8) -> Option<usize>
     ensures { FindsFront (AreDigitsBehind letter) bytes.now result }
 {
@@ -49,7 +49,7 @@ fn digits_len(bytes: &[u8], letter: u8) -> Option<usize>
     }
 }
 
-/// Where a number with its radix may begin: how many bytes are before its digits, and the letter of the radix.
+// Where a number with its radix may begin: how many bytes are before its digits, and the letter of the radix.
 fn radix_head(bytes: &[u8]) -> Option<(usize, u8)>
     ensures { result ≡ radix_head bytes.now }
 {
@@ -69,7 +69,7 @@ fn radix_head(bytes: &[u8]) -> Option<(usize, u8)>
     }
 }
 
-/// The length of the number with its radix at the front, if there is one.
+// The length of the number with its radix at the front, if there is one.
 fn radix_number_len(bytes: &[u8]) -> Option<usize>
     ensures { FindsFront IsRadixNumber bytes.now result }
 {
@@ -80,7 +80,7 @@ fn radix_number_len(bytes: &[u8]) -> Option<usize>
     }
 }
 
-/// The length of the number at the front, if there is one.
+// The length of the number at the front, if there is one.
 pub(crate) fn number_len(bytes: &[u8]) -> Option<usize>
     requires { 0 < length bytes.now }
     ensures { FindsFront IsNumber bytes.now result }
@@ -91,7 +91,7 @@ pub(crate) fn number_len(bytes: &[u8]) -> Option<usize>
     }
 }
 
-/// The place of the quote that ends the quoted bytes at the front, if there is one.
+// The place of the quote that ends the quoted bytes at the front, if there is one.
 fn closing_quote(bytes: &[u8]) -> Option<usize>
     ensures { FindsQuote bytes.now result }
 {
@@ -106,7 +106,7 @@ fn closing_quote(bytes: &[u8]) -> Option<usize>
     None
 }
 
-/// The length of the text at the front. The bytes begin with a quote.
+// The length of the text at the front. The bytes begin with a quote.
 pub(crate) fn text_len(bytes: &[u8]) -> Option<usize>
     requires nonempty { 0 < length bytes.now }
     requires begins { slice_index bytes.now 0 ≡ 34 }

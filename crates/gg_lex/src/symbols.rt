@@ -30,7 +30,7 @@ impl Symbol {
     }
 }
 
-/// The symbol that these two bytes are.
+// The symbol that these two bytes are.
 pub(crate) fn symbol_of_two(first: u8, second: u8) -> Option<Symbol>
     ensures found { IfSome result (λ symbol. spelling symbol ≡ first ∷ second ∷ []) }
     ensures none { IfNone result ((symbol : Symbol) → spelling symbol ≡ first ∷ second ∷ [] → ⊥) }
@@ -44,7 +44,7 @@ pub(crate) fn symbol_of_two(first: u8, second: u8) -> Option<Symbol>
     }
 }
 
-/// The symbol that this byte is.
+// The symbol that this byte is.
 pub(crate) fn symbol_of_one(byte: u8) -> Option<Symbol>
     ensures found { IfSome result (λ symbol. spelling symbol ≡ byte ∷ []) }
     ensures none { IfNone result ((symbol : Symbol) → spelling symbol ≡ byte ∷ [] → ⊥) }

@@ -68,15 +68,15 @@ pub enum TokenKind {
     Symbol(Symbol),
 }
 
-/// A token at the front of some bytes.
+// A token at the front of some bytes.
 #[derive(Clone, Copy)]
 pub(crate) struct Front {
     pub(crate) kind: TokenKind,
-    /// How many bytes it has.
+    // How many bytes it has.
     pub(crate) length: usize,
 }
 
-/// A token's bytes in a line, and what follows them.
+// A token's bytes in a line, and what follows them.
 #[derive(Clone, Copy)]
 pub(crate) struct NextToken<'a> {
     pub(crate) kind: TokenKind,

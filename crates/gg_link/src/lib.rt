@@ -88,7 +88,9 @@ pub trait Link: Send + Sync + Drop {
     fn take(&self, seat: &mut Self::TakeSeat) -> Option<u128>
         requires seat { takes_from self.now seat.old }
         ensures seat { takes_from self.now seat.new }
-        ensures take { MatchOption result (FoundEmpty (taking seat.old) (taking seat.new)) (λ value. Counted (taking seat.old) (taking seat.new) × (slice_get (taking seat.old).stream (taking seat.old).count ≡ Some value)) };
+        ensures take { MatchOption result (FoundEmpty (taking seat.old) (taking seat.new))
+            (λ value. Counted (taking seat.old) (taking seat.new)
+            × (slice_get (taking seat.old).stream (taking seat.old).count ≡ Some value)) };
 
     /// Closes the link. The values that are left in it move behind those in the deque, which has room for the link's
     /// capacity beside them, and keeps its room.

@@ -10,8 +10,8 @@ use Rattle.gg_node.specs.Machine.{Machine, no_machine, machine_at, latch_at, fla
 use Rattle.gg_node.specs.Step.{AllFired, AllLatched}
 use Rattle.gg_net.specs.declared.event.Event.{Event}
 use Rattle.gg_net.specs.declared.event.Event.TheVariants.{Latch, Fire, Serve, Finish}
-use Rattle.gg_net.specs.declared.event.Refusal.{Refusal}
-use Rattle.gg_net.specs.declared.event.Refusal.TheVariants.{Stranger, Ended, Latched, Fired, NoToken, NeedsInput, Full, Order, Unfired, Unserved}
+use Rattle.gg_net.specs.declared.event.StepRefusal.{StepRefusal}
+use Rattle.gg_net.specs.declared.event.StepRefusal.TheVariants.{Stranger, Ended, Latched, Fired, NoToken, NeedsInput, Full, Order, Unfired, Unserved}
 use Rattle.gg_net.specs.Network.{Network, Kind, IsAtIn, IsAtOut, wire_at, queue_at, kind_of, kind_at}
 use Rattle.gg_net.specs.Step.{IsBelow, HasPort, CanTake, CanGive, CanLatch, CanFire, CanServe, CanFinish, Ready, IsWanted, IsFirstClear, IsFirstEmpty, IsUnfired, IsUnlatched, LatchRefused, FireRefused, ServeRefused, FinishRefused, Refused, latch_of, flag_of, missing_of, missing_field, due_or_count}
 use Rattle.gg_net.specs.Kept.{Kept}
@@ -111,15 +111,15 @@ module _ (flow : Flow) (net : Network) (kept : Kept flow net) where
   -- ---- `Latch`
 
   module _ (c : ℕ) where
-    latch-queue : (queue : List ℕ) → queue_at net.queues c ≡ queue → CanTake net c → latch_of net c ≡ None → CanLatch net c ⊎ ((cause : Refusal) × LatchRefused net c cause)
+    latch-queue : (queue : List ℕ) → queue_at net.queues c ≡ queue → CanTake net c → latch_of net c ≡ None → CanLatch net c ⊎ ((cause : StepRefusal) × LatchRefused net c cause)
     latch-queue [] is can empty = inr (NoToken c, (can, empty, is, refl))
     latch-queue (token ∷ queue) is can empty = inl (record { can = can; empty = empty; held = omega (arith, ap length is) })
 
-    latch-latch : (latch : Option ℕ) → latch_of net c ≡ latch → CanTake net c → CanLatch net c ⊎ ((cause : Refusal) × LatchRefused net c cause)
+    latch-latch : (latch : Option ℕ) → latch_of net c ≡ latch → CanTake net c → CanLatch net c ⊎ ((cause : StepRefusal) × LatchRefused net c cause)
     latch-latch (Some value) is can = inr (Latched, (can, subst IsSome (sym is) refl))
     latch-latch None is can = latch-queue (queue_at net.queues c) refl can is
 
-    latch-or : CanLatch net c ⊎ ((cause : Refusal) × LatchRefused net c cause)
+    latch-or : CanLatch net c ⊎ ((cause : StepRefusal) × LatchRefused net c cause)
     latch-or =
         ⊎_elim
         (λ (there : c < length net.wires).
@@ -132,14 +132,14 @@ module _ (flow : Flow) (net : Network) (kept : Kept flow net) where
 
     -- ---- `Fire`
 
-    fire-queue : CanGive net c → flag_of net c ≡ false → missing_of net c ≡ None → CanFire net c ⊎ ((cause : Refusal) × FireRefused net c cause)
+    fire-queue : CanGive net c → flag_of net c ≡ false → missing_of net c ≡ None → CanFire net c ⊎ ((cause : StepRefusal) × FireRefused net c cause)
     fire-queue can clear none =
         ⊎_elim
         (λ (room : length (queue_at net.queues c) < (wire_at net.wires c).capacity). inl (record { can = can; clear = clear; needed = none; room = room }))
         (λ (full : (wire_at net.wires c).capacity ≤ length (queue_at net.queues c)). inr (Full c (length (queue_at net.queues c)), (can, clear, none, full, refl, refl)))
         (cases_lt (length (queue_at net.queues c)) (wire_at net.wires c).capacity)
 
-    fire-needs : (first : Option ℕ) → missing_of net c ≡ first → CanGive net c → flag_of net c ≡ false → CanFire net c ⊎ ((cause : Refusal) × FireRefused net c cause)
+    fire-needs : (first : Option ℕ) → missing_of net c ≡ first → CanGive net c → flag_of net c ≡ false → CanFire net c ⊎ ((cause : StepRefusal) × FireRefused net c cause)
     fire-needs None is can clear = fire-queue can clear is
     fire-needs (Some i) is can clear =
         let m : ℕ = (wire_at net.wires c).producer in
@@ -147,11 +147,11 @@ module _ (flow : Flow) (net : Network) (kept : Kept flow net) where
         let channel : (d : ℕ) × IsAtIn net.wires m i d = channel-in m there i (missing-within flow net kept m there (wire_at net.wires c).out i is) in
         inr (NeedsInput channel.0, (can, clear, subst (λ o. IsWanted net m o channel.0) (sym is) channel.1))
 
-    fire-flag : (flag : Bool) → flag_of net c ≡ flag → CanGive net c → CanFire net c ⊎ ((cause : Refusal) × FireRefused net c cause)
+    fire-flag : (flag : Bool) → flag_of net c ≡ flag → CanGive net c → CanFire net c ⊎ ((cause : StepRefusal) × FireRefused net c cause)
     fire-flag true is can = inr (Fired, (can, is))
     fire-flag false is can = fire-needs (missing_of net c) refl can is
 
-    fire-or : CanFire net c ⊎ ((cause : Refusal) × FireRefused net c cause)
+    fire-or : CanFire net c ⊎ ((cause : StepRefusal) × FireRefused net c cause)
     fire-or =
         ⊎_elim
         (λ (there : c < length net.wires).
@@ -165,16 +165,16 @@ module _ (flow : Flow) (net : Network) (kept : Kept flow net) where
   -- ---- `Serve`
 
   module _ (m p : ℕ) where
-    serve-fields : (first : Option ℕ) → missing_field net m ≡ first → HasPort net m p → IsBelow net m → AllFired (machine_at net.machines m) → due (machine_at net.machines m) ≡ Some p → CanServe net m p ⊎ ((cause : Refusal) × ServeRefused net m p cause)
+    serve-fields : (first : Option ℕ) → missing_field net m ≡ first → HasPort net m p → IsBelow net m → AllFired (machine_at net.machines m) → due (machine_at net.machines m) ≡ Some p → CanServe net m p ⊎ ((cause : StepRefusal) × ServeRefused net m p cause)
     serve-fields None is has below fired this = inl (record { there = has; below = below; fired = fired; due = this; fields = is })
     serve-fields (Some i) is has below fired this =
         let channel : (d : ℕ) × IsAtIn net.wires m i d = channel-in m has.0 i (field-within flow net kept m has.0 p i this is) in
         inr (NeedsInput channel.0, (has, below, fired, this, subst (λ o. IsWanted net m o channel.0) (sym is) channel.1))
 
-    serve-other : HasPort net m p → IsBelow net m → AllFired (machine_at net.machines m) → (due (machine_at net.machines m) ≡ Some p → ⊥) → CanServe net m p ⊎ ((cause : Refusal) × ServeRefused net m p cause)
+    serve-other : HasPort net m p → IsBelow net m → AllFired (machine_at net.machines m) → (due (machine_at net.machines m) ≡ Some p → ⊥) → CanServe net m p ⊎ ((cause : StepRefusal) × ServeRefused net m p cause)
     serve-other has below fired other = inr (Order (due_or_count (machine_at net.machines m).port_count (due (machine_at net.machines m))), (has, below, fired, other, refl))
 
-    serve-due : (port : Option ℕ) → due (machine_at net.machines m) ≡ port → HasPort net m p → IsBelow net m → AllFired (machine_at net.machines m) → CanServe net m p ⊎ ((cause : Refusal) × ServeRefused net m p cause)
+    serve-due : (port : Option ℕ) → due (machine_at net.machines m) ≡ port → HasPort net m p → IsBelow net m → AllFired (machine_at net.machines m) → CanServe net m p ⊎ ((cause : StepRefusal) × ServeRefused net m p cause)
     serve-due None is has below fired = serve-other has below fired (λ this. none-some p (sym is ∙ this))
     serve-due (Some q) is has below fired =
         ⊎_elim
@@ -182,7 +182,7 @@ module _ (flow : Flow) (net : Network) (kept : Kept flow net) where
         (λ (other : q ≡ p → ⊥). serve-other has below fired (λ this. other (same_Some q p (sym is ∙ this))))
         (cases_eq q p)
 
-    serve-or : CanServe net m p ⊎ ((cause : Refusal) × ServeRefused net m p cause)
+    serve-or : CanServe net m p ⊎ ((cause : StepRefusal) × ServeRefused net m p cause)
     serve-or =
         ⊎_elim
         (λ (has : HasPort net m p).
@@ -200,18 +200,18 @@ module _ (flow : Flow) (net : Network) (kept : Kept flow net) where
   -- ---- `Finish`
 
   module _ (m : ℕ) where
-    finish-latches : (there : m < length net.machines) → IsBelow net m → AllFired (machine_at net.machines m) → due (machine_at net.machines m) ≡ None → CanFinish net m ⊎ ((cause : Refusal) × FinishRefused net m cause)
+    finish-latches : (there : m < length net.machines) → IsBelow net m → AllFired (machine_at net.machines m) → due (machine_at net.machines m) ≡ None → CanFinish net m ⊎ ((cause : StepRefusal) × FinishRefused net m cause)
     finish-latches there below fired none =
         ⊎_elim
         (λ (all : AllLatched (machine_at net.machines m)). inl (record { there = there; below = below; fired = fired; served = none; latched = all }))
         (λ (first : (d : ℕ) × IsUnlatched net m d). inr (NeedsInput first.0, (there, below, fired, none, first.1)))
         (latched-or m there)
 
-    finish-due : (port : Option ℕ) → due (machine_at net.machines m) ≡ port → m < length net.machines → IsBelow net m → AllFired (machine_at net.machines m) → CanFinish net m ⊎ ((cause : Refusal) × FinishRefused net m cause)
+    finish-due : (port : Option ℕ) → due (machine_at net.machines m) ≡ port → m < length net.machines → IsBelow net m → AllFired (machine_at net.machines m) → CanFinish net m ⊎ ((cause : StepRefusal) × FinishRefused net m cause)
     finish-due (Some q) is there below fired = inr (Unserved q, (there, below, fired, is))
     finish-due None is there below fired = finish-latches there below fired is
 
-    finish-or : CanFinish net m ⊎ ((cause : Refusal) × FinishRefused net m cause)
+    finish-or : CanFinish net m ⊎ ((cause : StepRefusal) × FinishRefused net m cause)
     finish-or =
         ⊎_elim
         (λ (there : m < length net.machines).
@@ -228,7 +228,7 @@ module _ (flow : Flow) (net : Network) (kept : Kept flow net) where
 
   -- ---- each event
 
-  pub ready-or-refused : (event : Event) → Ready net event ⊎ ((cause : Refusal) × Refused net event cause)
+  pub ready-or-refused : (event : Event) → Ready net event ⊎ ((cause : StepRefusal) × Refused net event cause)
   ready-or-refused (Latch c) = latch-or c
   ready-or-refused (Fire c) = fire-or c
   ready-or-refused (Serve m p) = serve-or m p

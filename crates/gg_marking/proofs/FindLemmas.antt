@@ -3,7 +3,7 @@ use Rattle.std.proofs.Common.{◌≡◌, ℕ, zero, suc, ◌+◌, ◌<◌, ◌�
 use Rattle.std.specs.Prelude.{filter, find}
 use Rattle.std.specs.List.{range_with_len}
 use Rattle.std.proofs.lemmas.Bool.{cases_eq, cases_Bool, true≢false}
-use Rattle.gg_net.specs.declared.event.Refusal.{Refusal}
+use Rattle.gg_net.specs.declared.event.StepRefusal.{StepRefusal}
 use Rattle.gg_marking.specs.Marking.{or_next, unless, naming}
 
 -- ---- the first of the numbers in a range that are chosen
@@ -67,32 +67,32 @@ chosen-fail p q a (suc n) is c le lt chosen =
 -- ---- conditions
 
 -- a condition that holds is passed
-pub passed : (holds : Bool) (refusal : Refusal) (later : Option Refusal) → holds ≡ true → or_next (unless holds refusal) later ≡ later
+pub passed : (holds : Bool) (refusal : StepRefusal) (later : Option StepRefusal) → holds ≡ true → or_next (unless holds refusal) later ≡ later
 passed holds refusal later is = ap (λ b. or_next (unless b refusal) later) is
 
 -- a condition that fails gives its refusal
-pub failed : (holds : Bool) (refusal : Refusal) (later : Option Refusal) → holds ≡ false → or_next (unless holds refusal) later ≡ Some refusal
+pub failed : (holds : Bool) (refusal : StepRefusal) (later : Option StepRefusal) → holds ≡ false → or_next (unless holds refusal) later ≡ Some refusal
 failed holds refusal later is = ap (λ b. or_next (unless b refusal) later) is
 
 -- the last condition: it holds, or fails
-pub holds-last : (holds : Bool) (refusal : Refusal) → holds ≡ true → unless holds refusal ≡ None
+pub holds-last : (holds : Bool) (refusal : StepRefusal) → holds ≡ true → unless holds refusal ≡ None
 holds-last holds refusal is = ap (λ b. unless b refusal) is
 
-pub fails-last : (holds : Bool) (refusal : Refusal) → holds ≡ false → unless holds refusal ≡ Some refusal
+pub fails-last : (holds : Bool) (refusal : StepRefusal) → holds ≡ false → unless holds refusal ≡ Some refusal
 fails-last holds refusal is = ap (λ b. unless b refusal) is
 
 -- if the search finds no channel, the later conditions decide; if it finds one, the refusal names it
-pub names-none : (refusal : ℕ → Refusal) (first : Option ℕ) (later : Option Refusal) → first ≡ None → or_next (naming refusal first) later ≡ later
+pub names-none : (refusal : ℕ → StepRefusal) (first : Option ℕ) (later : Option StepRefusal) → first ≡ None → or_next (naming refusal first) later ≡ later
 names-none refusal first later is = ap (λ o. or_next (naming refusal o) later) is
 
-pub names-some : (refusal : ℕ → Refusal) (first : Option ℕ) (later : Option Refusal) (d : ℕ) → first ≡ Some d → or_next (naming refusal first) later ≡ Some (refusal d)
+pub names-some : (refusal : ℕ → StepRefusal) (first : Option ℕ) (later : Option StepRefusal) (d : ℕ) → first ≡ Some d → or_next (naming refusal first) later ≡ Some (refusal d)
 names-some refusal first later d is = ap (λ o. or_next (naming refusal o) later) is
 
 -- if the refusals are none, the search finds no channel
-pub past-named : (f : ℕ → Refusal) (o : Option ℕ) (later : Option Refusal) → or_next (naming f o) later ≡ None → (o ≡ None) × (later ≡ None)
+pub past-named : (f : ℕ → StepRefusal) (o : Option ℕ) (later : Option StepRefusal) → or_next (naming f o) later ≡ None → (o ≡ None) × (later ≡ None)
 past-named f None later is = (refl, is)
 past-named f (Some d) later is = absurd (some-none (f d) is)
 
-pub last-named : (f : ℕ → Refusal) (o : Option ℕ) → naming f o ≡ None → o ≡ None
+pub last-named : (f : ℕ → StepRefusal) (o : Option ℕ) → naming f o ≡ None → o ≡ None
 last-named f None is = refl
 last-named f (Some d) is = absurd (some-none (f d) is)

@@ -3,8 +3,8 @@ use Rattle.std.proofs.Common.{◌≡◌, ℕ, ◌<◌, Option, None, Some, lengt
 use Rattle.gg_flat.specs.Streams.{Flow}
 use Rattle.gg_node.specs.Machine.{Machine, machine_at, due}
 use Rattle.gg_node.specs.Step.{AllFired}
-use Rattle.gg_net.specs.declared.event.Refusal.{Refusal}
-use Rattle.gg_net.specs.declared.event.Refusal.TheVariants.{Stranger, Ended, NeedsInput, Unfired, Unserved}
+use Rattle.gg_net.specs.declared.event.StepRefusal.{StepRefusal}
+use Rattle.gg_net.specs.declared.event.StepRefusal.TheVariants.{Stranger, Ended, NeedsInput, Unfired, Unserved}
 use Rattle.gg_net.specs.Network.{Network, frame_of}
 use Rattle.gg_net.specs.Step.{IsBelow, IsUnfired, IsUnlatched, CanFinish, FinishRefused}
 use Rattle.gg_net.specs.Kept.{Kept}
@@ -24,16 +24,16 @@ module _ (flow : Flow) (net : Network) (kept : Kept flow net) (layout : Layout) 
 
   -- ---- the conditions, from the last on
 
-  abbrev at_latches : Option Refusal
+  abbrev at_latches : Option StepRefusal
   at_latches = naming NeedsInput (first_unmarked marking.taken (channels_into layout m))
 
-  abbrev at_ports : Option Refusal
+  abbrev at_ports : Option StepRefusal
   at_ports = or_next (unserved (due_turn layout marking m)) at_latches
 
-  abbrev at_flags : Option Refusal
+  abbrev at_flags : Option StepRefusal
   at_flags = or_next (unfired layout marking m) at_ports
 
-  abbrev at_end : Option Refusal
+  abbrev at_end : Option StepRefusal
   at_end = or_next (unless (is_below layout marking m) Ended) at_flags
 
   past-machine : m < length net.machines → finish_refusal layout marking m ≡ at_end
@@ -61,9 +61,9 @@ module _ (flow : Flow) (net : Network) (kept : Kept flow net) (layout : Layout) 
   finish-ready can = past-ports can.there can.below can.fired can.served ∙ ap (naming NeedsInput) (none-unlatched flow net kept layout has m can.there can.latched)
 
   -- only which channel wasn't given or taken depends on an order
-  finish-by : (R : Refusal → Type 0) → ((d : ℕ) → m < length net.machines → finish_refusal layout marking m ≡ at_flags → IsUnfired net m d → R (Unfired d))
-      → ((d : ℕ) → m < length net.machines → finish_refusal layout marking m ≡ at_latches → IsUnlatched net m d → R (NeedsInput d)) → ((cause : Refusal) → finish_refusal layout marking m ≡ Some cause → R cause)
-      → (cause : Refusal) → FinishRefused net m cause → R cause
+  finish-by : (R : StepRefusal → Type 0) → ((d : ℕ) → m < length net.machines → finish_refusal layout marking m ≡ at_flags → IsUnfired net m d → R (Unfired d))
+      → ((d : ℕ) → m < length net.machines → finish_refusal layout marking m ≡ at_latches → IsUnlatched net m d → R (NeedsInput d)) → ((cause : StepRefusal) → finish_refusal layout marking m ≡ Some cause → R cause)
+      → (cause : StepRefusal) → FinishRefused net m cause → R cause
   finish-by R unfired unlatched other Stranger is = other Stranger (failed (is_machine layout m) Stranger at_end (no-machine net layout has m is))
   finish-by R unfired unlatched other Ended is = other Ended (past-machine is.0 ∙ failed (is_below layout marking m) Ended at_flags (below-not net layout has m is.1))
   finish-by R unfired unlatched other (Unfired d) is = unfired d is.0 (past-end is.0 is.1) is.2
@@ -71,14 +71,14 @@ module _ (flow : Flow) (net : Network) (kept : Kept flow net) (layout : Layout) 
   finish-by R unfired unlatched other (NeedsInput d) is = unlatched d is.0 (past-ports is.0 is.1 is.2 is.3) is.4
   finish-by R unfired unlatched other refusal is = absurd is
 
-  pub finish-refused : IsInOrder (frame_of net) → (cause : Refusal) → FinishRefused net m cause → finish_refusal layout marking m ≡ Some cause
+  pub finish-refused : IsInOrder (frame_of net) → (cause : StepRefusal) → FinishRefused net m cause → finish_refusal layout marking m ≡ Some cause
   finish-refused order cause is =
       finish-by (λ told. finish_refusal layout marking m ≡ Some told)
       (λ d there so unfired. so ∙ names-some Unfired (first_unmarked marking.given (channels_out_of layout m)) at_ports d (first-unfired flow net kept layout has m there order d unfired))
       (λ d there so unlatched. so ∙ ap (naming NeedsInput) (first-unlatched flow net kept layout has m there order d unlatched))
       (λ told so. so) cause is
 
-  pub finish-stopped : (cause : Refusal) → FinishRefused net m cause → finish_refusal layout marking m ≡ None → ⊥
+  pub finish-stopped : (cause : StepRefusal) → FinishRefused net m cause → finish_refusal layout marking m ≡ None → ⊥
   finish-stopped cause is =
       finish-by (λ told. finish_refusal layout marking m ≡ None → ⊥)
       (λ d there so unfired none. some-unfired flow net kept layout has m there d unfired (past-named Unfired (first_unmarked marking.given (channels_out_of layout m)) at_ports (sym so ∙ none)).0)

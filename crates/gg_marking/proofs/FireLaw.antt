@@ -6,8 +6,8 @@ use Rattle.std.proofs.Math.ListN as exact
 use Rattle.gg_flat.specs.Streams.{Flow}
 use Rattle.gg_node.specs.Machine.{Machine, no_machine, first_empty, needs_at}
 use Rattle.gg_net.specs.declared.shape.Wire.{Wire}
-use Rattle.gg_net.specs.declared.event.Refusal.{Refusal}
-use Rattle.gg_net.specs.declared.event.Refusal.TheVariants.{Stranger, Ended, Fired, NeedsInput, Full}
+use Rattle.gg_net.specs.declared.event.StepRefusal.{StepRefusal}
+use Rattle.gg_net.specs.declared.event.StepRefusal.TheVariants.{Stranger, Ended, Fired, NeedsInput, Full}
 use Rattle.gg_net.specs.Network.{Network, Kind, wire_at, producer_of, kind_of, frame_of}
 use Rattle.gg_net.specs.Step.{CanGive, CanFire, FireRefused, IsWanted, flag_of, missing_of}
 use Rattle.gg_net.specs.Kept.{Kept}
@@ -29,16 +29,16 @@ module _ (flow : Flow) (net : Network) (kept : Kept flow net) (layout : Layout) 
 
   -- ---- the conditions, from the last on
 
-  abbrev at_queue : Option Refusal
+  abbrev at_queue : Option StepRefusal
   at_queue = unless (nat_lt (held layout marking c) (link_at layout c).capacity) (Full c (held layout marking c))
 
-  abbrev at_needs : Option Refusal
+  abbrev at_needs : Option StepRefusal
   at_needs = or_next (naming NeedsInput (first_unmarked marking.taken (link_at layout c).needs)) at_queue
 
-  abbrev at_flag : Option Refusal
+  abbrev at_flag : Option StepRefusal
   at_flag = or_next (unless (not (is_set marking.given c)) Fired) at_needs
 
-  abbrev at_end : Option Refusal
+  abbrev at_end : Option StepRefusal
   at_end = or_next (unless (is_below layout marking (link_at layout c).producer) Ended) at_flag
 
   past-channel : c < length net.wires → fire_refusal layout marking c ≡ at_end
@@ -73,7 +73,7 @@ module _ (flow : Flow) (net : Network) (kept : Kept flow net) (layout : Layout) 
       ∙ holds-last (nat_lt (held layout marking c) (link_at layout c).capacity) (Full c (held layout marking c))
       (lt-ltb (held layout marking c) (link_at layout c).capacity (omega (arith, can.room, held-is net layout has flow kept c can.can.0, (has.link c can.can.0).capacity)))
 
-  pub fire-refused : (cause : Refusal) → FireRefused net c cause → fire_refusal layout marking c ≡ Some cause
+  pub fire-refused : (cause : StepRefusal) → FireRefused net c cause → fire_refusal layout marking c ≡ Some cause
   fire-refused Stranger is = failed (is_channel layout c) Stranger at_end (no-channel net layout has c is)
   fire-refused Ended is =
       past-channel is.0

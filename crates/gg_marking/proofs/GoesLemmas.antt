@@ -4,7 +4,7 @@ use Rattle.std.proofs.lemmas.Option.{same_Some}
 use Rattle.gg_flat.specs.Streams.{Flow}
 use Rattle.gg_net.specs.declared.event.Event.{Event}
 use Rattle.gg_net.specs.declared.event.Event.TheVariants.{Latch, Fire, Serve, Finish}
-use Rattle.gg_net.specs.declared.event.Refusal.{Refusal}
+use Rattle.gg_net.specs.declared.event.StepRefusal.{StepRefusal}
 use Rattle.gg_net.specs.Network.{Network, frame_of}
 use Rattle.gg_net.specs.Kept.{Kept}
 use Rattle.gg_net.specs.Step.{Ready, Refused, Step}
@@ -28,7 +28,7 @@ module _ (flow : Flow) (net : Network) (kept : Kept flow net) (layout : Layout) 
   ready-free (Serve m p) can = serve-ready flow net kept layout has m p can
   ready-free (Finish m) can = finish-ready flow net kept layout has m can
 
-  pub refused-so : IsInOrder (frame_of net) → (event : Event) (cause : Refusal) → Refused net event cause → refusal layout (marking_of net) event ≡ Some cause
+  pub refused-so : IsInOrder (frame_of net) → (event : Event) (cause : StepRefusal) → Refused net event cause → refusal layout (marking_of net) event ≡ Some cause
   refused-so order (Latch c) cause is = latch-refused flow net kept layout has c cause is
   refused-so order (Fire c) cause is = fire-refused flow net kept layout has c cause is
   refused-so order (Serve m p) cause is = serve-refused flow net kept layout has m p order cause is
@@ -49,7 +49,7 @@ step-frame old (Finish m) new step = ap frame_of step.after.after ∙ finish-fra
 -- ---- the other way round
 
 module _ (flow : Flow) (net : Network) (kept : Kept flow net) (layout : Layout) (has : HasLayout (frame_of net) layout) (event : Event) where
-  stopped : (e : Event) (cause : Refusal) → Refused net e cause → refusal layout (marking_of net) e ≡ None → ⊥
+  stopped : (e : Event) (cause : StepRefusal) → Refused net e cause → refusal layout (marking_of net) e ≡ None → ⊥
   stopped (Latch c) cause is none = some-none cause (sym (latch-refused flow net kept layout has c cause is) ∙ none)
   stopped (Fire c) cause is none = some-none cause (sym (fire-refused flow net kept layout has c cause is) ∙ none)
   stopped (Serve m p) cause is none = serve-stopped flow net kept layout has m p cause is none
@@ -59,12 +59,12 @@ module _ (flow : Flow) (net : Network) (kept : Kept flow net) (layout : Layout) 
   free-ready free =
       ⊎_elim
       (λ (ready : Ready net event). ready)
-      (λ (refused : (cause : Refusal) × Refused net event cause). absurd (stopped event refused.0 refused.1 free))
+      (λ (refused : (cause : StepRefusal) × Refused net event cause). absurd (stopped event refused.0 refused.1 free))
       (ready-or-refused flow net kept event)
 
-  pub so-refused : IsInOrder (frame_of net) → (cause : Refusal) → refusal layout (marking_of net) event ≡ Some cause → Refused net event cause
+  pub so-refused : IsInOrder (frame_of net) → (cause : StepRefusal) → refusal layout (marking_of net) event ≡ Some cause → Refused net event cause
   so-refused order cause so =
       ⊎_elim
-      (λ (ready : Ready net event). let is : ◌≡◌ {A = Option Refusal} None (Some cause) = sym (ready-free flow net kept layout has event ready) ∙ so in cc)
-      (λ (refused : (told : Refusal) × Refused net event told). subst (Refused net event) (same_Some refused.0 cause (sym (refused-so flow net kept layout has order event refused.0 refused.1) ∙ so)) refused.1)
+      (λ (ready : Ready net event). let is : ◌≡◌ {A = Option StepRefusal} None (Some cause) = sym (ready-free flow net kept layout has event ready) ∙ so in cc)
+      (λ (refused : (told : StepRefusal) × Refused net event told). subst (Refused net event) (same_Some refused.0 cause (sym (refused-so flow net kept layout has order event refused.0 refused.1) ∙ so)) refused.1)
       (ready-or-refused flow net kept event)

@@ -3,8 +3,8 @@ use Rattle.std.proofs.Common.{◌≡◌, ℕ, ◌<◌, Option, None, Some, lengt
 use Rattle.std.specs.Prelude.{is_some, not, nat_lt}
 use Rattle.std.proofs.lemmas.Bool.{lt-ltb, le-ltb}
 use Rattle.gg_flat.specs.Streams.{Flow}
-use Rattle.gg_net.specs.declared.event.Refusal.{Refusal}
-use Rattle.gg_net.specs.declared.event.Refusal.TheVariants.{Stranger, Ended, Latched, NoToken}
+use Rattle.gg_net.specs.declared.event.StepRefusal.{StepRefusal}
+use Rattle.gg_net.specs.declared.event.StepRefusal.TheVariants.{Stranger, Ended, Latched, NoToken}
 use Rattle.gg_net.specs.Network.{Network, wire_at, frame_of}
 use Rattle.gg_net.specs.Step.{CanTake, CanLatch, LatchRefused, latch_of}
 use Rattle.gg_net.specs.Kept.{Kept}
@@ -19,13 +19,13 @@ module _ (flow : Flow) (net : Network) (kept : Kept flow net) (layout : Layout) 
 
   -- ---- the conditions, from the last on
 
-  abbrev at_queue : Option Refusal
+  abbrev at_queue : Option StepRefusal
   at_queue = unless (nat_lt 0 (held layout marking c)) (NoToken c)
 
-  abbrev at_latch : Option Refusal
+  abbrev at_latch : Option StepRefusal
   at_latch = or_next (unless (not (is_set marking.taken c)) Latched) at_queue
 
-  abbrev at_end : Option Refusal
+  abbrev at_end : Option StepRefusal
   at_end = or_next (unless (is_below layout marking (link_at layout c).consumer) Ended) at_latch
 
   past-channel : c < length net.wires → latch_refusal layout marking c ≡ at_end
@@ -44,7 +44,7 @@ module _ (flow : Flow) (net : Network) (kept : Kept flow net) (layout : Layout) 
       past-latch can.can can.empty
       ∙ holds-last (nat_lt 0 (held layout marking c)) (NoToken c) (lt-ltb 0 (held layout marking c) (omega (arith, can.held, held-is net layout has flow kept c can.can.0)))
 
-  pub latch-refused : (cause : Refusal) → LatchRefused net c cause → latch_refusal layout marking c ≡ Some cause
+  pub latch-refused : (cause : StepRefusal) → LatchRefused net c cause → latch_refusal layout marking c ≡ Some cause
   latch-refused Stranger is = failed (is_channel layout c) Stranger at_end (no-channel net layout has c is)
   latch-refused Ended is =
       past-channel is.0

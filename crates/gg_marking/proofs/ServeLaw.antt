@@ -5,8 +5,8 @@ use Rattle.std.proofs.lemmas.Bool.{eq-eqb, ne_eqb}
 use Rattle.gg_flat.specs.Streams.{Flow}
 use Rattle.gg_node.specs.Machine.{Machine, machine_at, first_empty, due}
 use Rattle.gg_node.specs.Step.{AllFired}
-use Rattle.gg_net.specs.declared.event.Refusal.{Refusal}
-use Rattle.gg_net.specs.declared.event.Refusal.TheVariants.{Stranger, Ended, NeedsInput, Order, Unfired}
+use Rattle.gg_net.specs.declared.event.StepRefusal.{StepRefusal}
+use Rattle.gg_net.specs.declared.event.StepRefusal.TheVariants.{Stranger, Ended, NeedsInput, Order, Unfired}
 use Rattle.gg_net.specs.Network.{Network, frame_of}
 use Rattle.gg_net.specs.Step.{HasPort, IsBelow, IsWanted, IsUnfired, CanServe, ServeRefused, due_or_count, missing_field}
 use Rattle.gg_net.specs.Kept.{Kept}
@@ -27,13 +27,13 @@ module _ (flow : Flow) (net : Network) (kept : Kept flow net) (layout : Layout) 
 
   -- ---- the conditions, from the last on
 
-  abbrev at_turn : Option Refusal
+  abbrev at_turn : Option StepRefusal
   at_turn = turn_refusal layout marking m p (due_turn layout marking m)
 
-  abbrev at_flags : Option Refusal
+  abbrev at_flags : Option StepRefusal
   at_flags = or_next (unfired layout marking m) at_turn
 
-  abbrev at_end : Option Refusal
+  abbrev at_end : Option StepRefusal
   at_end = or_next (unless (is_below layout marking m) Ended) at_flags
 
   past-port : HasPort net m p → serve_refusal layout marking m p ≡ at_end
@@ -86,8 +86,8 @@ module _ (flow : Flow) (net : Network) (kept : Kept flow net) (layout : Layout) 
   serve-ready can = past-flags can.there can.below can.fired ∙ fields-there can.there.0 can.due can.fields
 
   -- only which channel wasn't given depends on an order
-  serve-by : (R : Refusal → Type 0) → ((d : ℕ) → HasPort net m p → IsBelow net m → IsUnfired net m d → R (Unfired d)) → ((cause : Refusal) → serve_refusal layout marking m p ≡ Some cause → R cause)
-      → (cause : Refusal) → ServeRefused net m p cause → R cause
+  serve-by : (R : StepRefusal → Type 0) → ((d : ℕ) → HasPort net m p → IsBelow net m → IsUnfired net m d → R (Unfired d)) → ((cause : StepRefusal) → serve_refusal layout marking m p ≡ Some cause → R cause)
+      → (cause : StepRefusal) → ServeRefused net m p cause → R cause
   serve-by R unfired other Stranger is = other Stranger (failed (has_port layout m p) Stranger at_end (no-port net layout has m p is))
   serve-by R unfired other Ended is = other Ended (past-port is.0 ∙ failed (is_below layout marking m) Ended at_flags (below-not net layout has m is.1))
   serve-by R unfired other (Unfired d) is = unfired d is.0 is.1 is.2
@@ -95,13 +95,13 @@ module _ (flow : Flow) (net : Network) (kept : Kept flow net) (layout : Layout) 
   serve-by R unfired other (NeedsInput d) is = other (NeedsInput d) (past-flags is.0 is.1 is.2 ∙ field-wanted (missing_field net m) d refl is.0.0 is.3 is.4)
   serve-by R unfired other refusal is = absurd is
 
-  pub serve-refused : IsInOrder (frame_of net) → (cause : Refusal) → ServeRefused net m p cause → serve_refusal layout marking m p ≡ Some cause
+  pub serve-refused : IsInOrder (frame_of net) → (cause : StepRefusal) → ServeRefused net m p cause → serve_refusal layout marking m p ≡ Some cause
   serve-refused order cause is =
       serve-by (λ told. serve_refusal layout marking m p ≡ Some told)
       (λ d there below unfired. past-end there below ∙ names-some Unfired (first_unmarked marking.given (channels_out_of layout m)) at_turn d (first-unfired flow net kept layout has m there.0 order d unfired))
       (λ told so. so) cause is
 
-  pub serve-stopped : (cause : Refusal) → ServeRefused net m p cause → serve_refusal layout marking m p ≡ None → ⊥
+  pub serve-stopped : (cause : StepRefusal) → ServeRefused net m p cause → serve_refusal layout marking m p ≡ None → ⊥
   serve-stopped cause is =
       serve-by (λ told. serve_refusal layout marking m p ≡ None → ⊥)
       (λ d there below unfired none. some-unfired flow net kept layout has m there.0 d unfired (past-named Unfired (first_unmarked marking.given (channels_out_of layout m)) at_turn (sym (past-end there below) ∙ none)).0)

@@ -4,7 +4,7 @@ use Rattle.std.specs.Prelude.{Ok, Err, take, slice_get}
 use Rattle.std.proofs.lemmas.Option.{same_Some}
 use Rattle.gg_flat.specs.Streams.{Flow}
 use Rattle.gg_net.specs.declared.event.Event.{Event}
-use Rattle.gg_net.specs.declared.event.Refusal.{Refusal}
+use Rattle.gg_net.specs.declared.event.StepRefusal.{StepRefusal}
 use Rattle.gg_net.specs.Network.{Network, frame_of}
 use Rattle.gg_net.specs.Kept.{Kept}
 use Rattle.gg_net.proofs.StepLemmas.{kept-step}
@@ -48,7 +48,7 @@ module _ (flow : Flow) (layout : Layout) where
   one-marks old None new kept has step = absurd step
   one-marks old (Some event) new kept has step = sym (step-marks flow old kept layout has event new step)
 
-  one-refused : (net : Network) (event : Option Event) (cause : Refusal) → Kept flow net → HasLayout (frame_of net) layout → IsInOrder (frame_of net) → StepRefused net event cause → step_refusal layout (marking_of net) event ≡ Some cause
+  one-refused : (net : Network) (event : Option Event) (cause : StepRefusal) → Kept flow net → HasLayout (frame_of net) layout → IsInOrder (frame_of net) → StepRefused net event cause → step_refusal layout (marking_of net) event ≡ Some cause
   one-refused net None cause kept has order is = ap Some (sym is)
   one-refused net (Some event) cause kept has order is = refused-so flow net kept layout has order event cause is
 

@@ -7,7 +7,7 @@ use Rattle.gg_flat.specs.Circuit.{no_circuit}
 use Rattle.gg_node.specs.Machine.{RunsPiece, KeepsLast, Port, Machine, no_state, source_machine, tray_machine}
 use Rattle.gg_net.specs.declared.event.Event.{Event}
 use Rattle.gg_net.specs.declared.event.Event.TheVariants.{Latch, Fire}
-use Rattle.gg_net.specs.declared.event.Refusal.TheVariants.{Stranger, Fired}
+use Rattle.gg_net.specs.declared.event.StepRefusal.TheVariants.{Stranger, Fired}
 use Rattle.gg_net.specs.Network.{Network, Frame, frame_of, kind_at, wire_at}
 use Rattle.gg_net.specs.Step.{Step, FireRefused, after_latch, after_fire}
 use Rattle.gg_marking.specs.Marking.{Turn, Layout, opening_marking, link_at, turns_at, puts, held, after}

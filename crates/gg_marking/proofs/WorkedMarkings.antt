@@ -3,8 +3,8 @@ use Rattle.std.proofs.Common.{refl}
 use Rattle.std.specs.Prelude.{◌≡◌, List, [], ◌∷◌, Option, Some, None, Result, Ok, Err, true, false}
 use Rattle.gg_net.specs.declared.event.Event.{Event}
 use Rattle.gg_net.specs.declared.event.Event.TheVariants.{Latch, Fire, Serve, Finish}
-use Rattle.gg_net.specs.declared.event.Refusal.{Refusal}
-use Rattle.gg_net.specs.declared.event.Refusal.TheVariants.{Stranger, Ended, Latched, Fired, NoToken, NeedsInput, Full, Order, Unfired, Unserved}
+use Rattle.gg_net.specs.declared.event.StepRefusal.{StepRefusal}
+use Rattle.gg_net.specs.declared.event.StepRefusal.TheVariants.{Stranger, Ended, Latched, Fired, NoToken, NeedsInput, Full, Order, Unfired, Unserved}
 use Rattle.gg_marking.specs.Marking.{Link, Layout, Marking, opening_marking, puts, entered, takes, held, refusal, after}
 use Rattle.gg_marking.specs.Goes.{Stopped, replayed_from}
 
@@ -220,18 +220,18 @@ read-only-order = refl
 -- `serve` of a reader that isn't served isn't refused as `Stranger`, neither before its word is given nor when no port
 -- is due
 not-a-stranger : refusal at_once (opening_marking at_once 0) (Serve 0 0) ≡ Some Stranger → ⊥
-not-a-stranger said = let is : ◌≡◌ {A = Option Refusal} (Some (Unfired 6)) (Some Stranger) = said in cc
+not-a-stranger said = let is : ◌≡◌ {A = Option StepRefusal} (Some (Unfired 6)) (Some Stranger) = said in cc
 
 not-a-stranger-alone : refusal read_only (record (opening_marking read_only 0) { given = false ∷ false ∷ false ∷ false ∷ false ∷ false ∷ true ∷ [] }) (Serve 0 0) ≡ Some Stranger → ⊥
-not-a-stranger-alone said = let is : ◌≡◌ {A = Option Refusal} (Some (Order 1)) (Some Stranger) = said in cc
+not-a-stranger-alone said = let is : ◌≡◌ {A = Option StepRefusal} (Some (Order 1)) (Some Stranger) = said in cc
 
 -- a token isn't given before a need is taken
 not-before-its-needs : refusal adder (opening_marking adder 0) (Fire 2) ≡ None → ⊥
-not-before-its-needs said = let is : ◌≡◌ {A = Option Refusal} (Some (NeedsInput 0)) None = said in cc
+not-before-its-needs said = let is : ◌≡◌ {A = Option StepRefusal} (Some (NeedsInput 0)) None = said in cc
 
 -- a writer isn't served before a reader of old words
 not-the-writer-first : refusal served (after served (opening_marking served 0) (Fire 6)) (Serve 0 1) ≡ None → ⊥
-not-the-writer-first said = let is : ◌≡◌ {A = Option Refusal} (Some (Order 0)) None = said in cc
+not-the-writer-first said = let is : ◌≡◌ {A = Option StepRefusal} (Some (Order 0)) None = said in cc
 
 -- a queue doesn't get longer than its capacity
 not-past-its-capacity : (marking : Marking) → replayed_from counter 1 start (Some (Fire 1) ∷ Some (Fire 0) ∷ Some (Latch 0) ∷ Some (Finish 0) ∷ Some (Fire 1) ∷ []) ≡ Ok marking → ⊥

@@ -3,17 +3,17 @@
 -- another). This program's own: a step that isn't an event is refused as a stranger, and steps are numbered.
 use Rattle.std.specs.Prelude.{ℕ, suc, List, [], ◌∷◌, Option, Some, None, Result, Ok, Err}
 use Rattle.gg_net.specs.declared.event.Event.{Event}
-use Rattle.gg_net.specs.declared.event.Refusal.{Refusal}
-use Rattle.gg_net.specs.declared.event.Refusal.TheVariants.{Stranger}
+use Rattle.gg_net.specs.declared.event.StepRefusal.{StepRefusal}
+use Rattle.gg_net.specs.declared.event.StepRefusal.TheVariants.{Stranger}
 use Rattle.gg_marking.specs.Marking.{Layout, Marking, refusal, after}
 
 -- A step that was refused: its number, from 1 on, and why.
 pub record Stopped : Type 0 where
   pub step : ℕ
-  pub cause : Refusal
+  pub cause : StepRefusal
 
 -- why a step is refused; one that isn't an event is refused as a stranger
-abbrev pub step_refusal : Layout → Marking → Option Event → Option Refusal
+abbrev pub step_refusal : Layout → Marking → Option Event → Option StepRefusal
 step_refusal layout marking None = Some Stranger
 step_refusal layout marking (Some event) = refusal layout marking event
 
@@ -23,7 +23,7 @@ after_step layout marking None = marking
 after_step layout marking (Some event) = after layout marking event
 
 -- goes on with the next step, or stops
-abbrev pub go_on : ℕ → Option Refusal → Result Marking Stopped → Result Marking Stopped
+abbrev pub go_on : ℕ → Option StepRefusal → Result Marking Stopped → Result Marking Stopped
 go_on k None rest = rest
 go_on k (Some cause) rest = Err (record { step = k; cause = cause })
 

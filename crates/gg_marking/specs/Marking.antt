@@ -8,8 +8,8 @@ use Rattle.std.specs.List.{range_with_len}
 use Rattle.gg_flat.specs.Line.{value_at}
 use Rattle.gg_net.specs.declared.event.Event.{Event}
 use Rattle.gg_net.specs.declared.event.Event.TheVariants.{Latch, Fire, Serve, Finish}
-use Rattle.gg_net.specs.declared.event.Refusal.{Refusal}
-use Rattle.gg_net.specs.declared.event.Refusal.TheVariants.{Stranger, Ended, Latched, Fired, NoToken, NeedsInput, Full, Order, Unfired, Unserved}
+use Rattle.gg_net.specs.declared.event.StepRefusal.{StepRefusal}
+use Rattle.gg_net.specs.declared.event.StepRefusal.TheVariants.{Stranger, Ended, Latched, Fired, NoToken, NeedsInput, Full, Order, Unfired, Unserved}
 
 -- ---- what never changes
 
@@ -99,17 +99,17 @@ held layout marking c = entered layout marking c - takes layout marking c
 -- ---- when a step is refused
 
 -- the first refusal of two
-abbrev pub or_next : Option Refusal → Option Refusal → Option Refusal
+abbrev pub or_next : Option StepRefusal → Option StepRefusal → Option StepRefusal
 or_next None later = later
 or_next (Some refusal) later = Some refusal
 
 -- a refusal, if a condition fails
-abbrev pub unless : Bool → Refusal → Option Refusal
+abbrev pub unless : Bool → StepRefusal → Option StepRefusal
 unless true refusal = None
 unless false refusal = Some refusal
 
 -- a refusal that names the first of these
-abbrev pub naming : (ℕ → Refusal) → Option ℕ → Option Refusal
+abbrev pub naming : (ℕ → StepRefusal) → Option ℕ → Option StepRefusal
 naming refusal None = None
 naming refusal (Some c) = Some (refusal c)
 
@@ -142,12 +142,12 @@ abbrev pub due_turn : Layout → Marking → ℕ → Option Turn
 due_turn layout marking m = slice_get (turns_at layout m) (value_at marking.served m)
 
 -- refuses with the first channel that the machine gives and hasn't given in its cycle
-abbrev pub unfired : Layout → Marking → ℕ → Option Refusal
+abbrev pub unfired : Layout → Marking → ℕ → Option StepRefusal
 unfired layout marking m = naming Unfired (first_unmarked marking.given (channels_out_of layout m))
 
 -- `Latch`: the channel exists; its consumer has cycles left; the consumer hasn't taken the token of this cycle; the
 -- queue holds one
-abbrev pub latch_refusal : Layout → Marking → ℕ → Option Refusal
+abbrev pub latch_refusal : Layout → Marking → ℕ → Option StepRefusal
 latch_refusal layout marking c =
     or_next (unless (is_channel layout c) Stranger)
     (or_next (unless (is_below layout marking (link_at layout c).consumer) Ended)
@@ -156,7 +156,7 @@ latch_refusal layout marking c =
 
 -- `Fire`: the channel exists; its producer has cycles left; the producer hasn't given the token of this cycle; it has
 -- taken the tokens of the channels that this one needs; the queue has room
-abbrev pub fire_refusal : Layout → Marking → ℕ → Option Refusal
+abbrev pub fire_refusal : Layout → Marking → ℕ → Option StepRefusal
 fire_refusal layout marking c =
     or_next (unless (is_channel layout c) Stranger)
     (or_next (unless (is_below layout marking (link_at layout c).producer) Ended)
@@ -165,14 +165,14 @@ fire_refusal layout marking c =
     (unless (nat_lt (held layout marking c) (link_at layout c).capacity) (Full c (held layout marking c))))))
 
 -- the port is the one that is due, and its fields have tokens; if none is due, the refusal has the number of ports
-abbrev pub turn_refusal : Layout → Marking → ℕ → ℕ → Option Turn → Option Refusal
+abbrev pub turn_refusal : Layout → Marking → ℕ → ℕ → Option Turn → Option StepRefusal
 turn_refusal layout marking m p None = Some (Order (port_count layout m))
 turn_refusal layout marking m p (Some turn) =
     or_next (unless (turn.number == p) (Order turn.number)) (naming NeedsInput (first_unmarked marking.taken turn.fields))
 
 -- `Serve`: the machine exists and has the port; it has cycles left; it has given all its tokens; the port is due; its
 -- fields have tokens
-abbrev pub serve_refusal : Layout → Marking → ℕ → ℕ → Option Refusal
+abbrev pub serve_refusal : Layout → Marking → ℕ → ℕ → Option StepRefusal
 serve_refusal layout marking m p =
     or_next (unless (has_port layout m p) Stranger)
     (or_next (unless (is_below layout marking m) Ended)
@@ -180,13 +180,13 @@ serve_refusal layout marking m p =
     (turn_refusal layout marking m p (due_turn layout marking m))))
 
 -- refuses with the port that is due and not served
-abbrev pub unserved : Option Turn → Option Refusal
+abbrev pub unserved : Option Turn → Option StepRefusal
 unserved None = None
 unserved (Some turn) = Some (Unserved turn.number)
 
 -- `Finish`: the machine exists and has cycles left; it has given all its tokens; all its ports are served; it has taken
 -- all its tokens
-abbrev pub finish_refusal : Layout → Marking → ℕ → Option Refusal
+abbrev pub finish_refusal : Layout → Marking → ℕ → Option StepRefusal
 finish_refusal layout marking m =
     or_next (unless (is_machine layout m) Stranger)
     (or_next (unless (is_below layout marking m) Ended)
@@ -195,7 +195,7 @@ finish_refusal layout marking m =
     (naming NeedsInput (first_unmarked marking.taken (channels_into layout m))))))
 
 -- why an event is refused: the first of its conditions that fails
-abbrev pub refusal : Layout → Marking → Event → Option Refusal
+abbrev pub refusal : Layout → Marking → Event → Option StepRefusal
 refusal layout marking (Latch c) = latch_refusal layout marking c
 refusal layout marking (Fire c) = fire_refusal layout marking c
 refusal layout marking (Serve m p) = serve_refusal layout marking m p

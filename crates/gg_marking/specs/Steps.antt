@@ -3,8 +3,8 @@
 -- event is refused as a stranger, and steps are numbered.
 use Rattle.std.specs.Prelude.{◌≡◌, ℕ, ◌+◌, List, [], ◌∷◌, Option, Some, None, take, slice_get}
 use Rattle.gg_net.specs.declared.event.Event.{Event}
-use Rattle.gg_net.specs.declared.event.Refusal.{Refusal}
-use Rattle.gg_net.specs.declared.event.Refusal.TheVariants.{Stranger}
+use Rattle.gg_net.specs.declared.event.StepRefusal.{StepRefusal}
+use Rattle.gg_net.specs.declared.event.StepRefusal.TheVariants.{Stranger}
 use Rattle.gg_net.specs.Network.{Network}
 use Rattle.gg_net.specs.Step.{Refused, Step}
 use Rattle.gg_marking.specs.Goes.{Stopped}
@@ -15,7 +15,7 @@ IsStep old None new = ⊥
 IsStep old (Some event) new = Step old event new
 
 -- a step is refused for this cause; one that isn't an event is a stranger
-abbrev pub StepRefused : Network → Option Event → Refusal → Type 0
+abbrev pub StepRefused : Network → Option Event → StepRefusal → Type 0
 StepRefused net None cause = cause ≡ Stranger
 StepRefused net (Some event) cause = Refused net event cause
 

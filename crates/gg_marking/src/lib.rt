@@ -1,11 +1,12 @@
 //! Markings: how far each machine and each channel of a network is, without the values.
 //!
-//! Whether a step of a network may be done, and why not, depends only on counts. A `Layout` has what never changes: for
-//! each channel its ends, its capacity and the channels that it needs, and for each machine the ports that are served.
-//! A `Marking` has what changes: the cycle of each machine, the number of its ports that were served in this cycle, and
-//! for each channel whether its token was taken in its consumer's cycle and whether it was given in its producer's
-//! cycle (`specs/Marking`). The crate has no code. Each wired network has a layout (`each_has_layout`). For a network
-//! that has a layout (`specs/Fits`) and the invariant `Kept` of gg_net, it promises:
+//! Whether a step of a network may be done, and why not, depends only on counts. A `Layout` has what never changes:
+//! for each channel its ends, its capacity and the channels that it needs, and for each machine the ports that are
+//! served. A `Marking` has what changes: the cycle of each machine, the number of its ports that were served in this
+//! cycle, and for each channel whether its token was taken in its consumer's cycle and whether it was given in its
+//! producer's cycle (`specs/Marking`). The crate has laws alone: its functions compute nothing. Each wired network
+//! has a layout (`each_has_layout`). For a network that has a layout (`specs/Fits`) and the invariant `Kept` of
+//! gg_net, it promises:
 //!
 //! - an event may be done exactly if the marking doesn't refuse it, every other event is refused for the marking's
 //!   cause, if ins and outs are in the order of their channels, and a step changes the marking as its event does

@@ -17,10 +17,10 @@ fn latch_told<H: Host, Z: Streams>(
     net: &mut Net<H, Z>,
     schedule: &mut Schedule,
     machine: u32,
-    cycle: u64,
+    _cycle: u64,
 ) -> bool
-    requires { IsAtWork cycle machine net.old }
-    ensures { HasWorked cycle machine net.old result net.new }
+    requires { IsAtWork _cycle machine net.old }
+    ensures { HasWorked _cycle machine net.old result net.new }
 {
     net.kept();
     let count = net.in_count(machine);
@@ -63,10 +63,10 @@ fn fire_told<H: Host, Z: Streams>(
     net: &mut Net<H, Z>,
     schedule: &mut Schedule,
     machine: u32,
-    cycle: u64,
+    _cycle: u64,
 ) -> bool
-    requires { IsAtWork cycle machine net.old }
-    ensures { HasWorked cycle machine net.old result net.new }
+    requires { IsAtWork _cycle machine net.old }
+    ensures { HasWorked _cycle machine net.old result net.new }
 {
     let count = net.out_count(machine);
     let mut moved = false;
@@ -106,10 +106,10 @@ fn finish_told<H: Host, Z: Streams>(
     net: &mut Net<H, Z>,
     schedule: &mut Schedule,
     machine: u32,
-    cycle: u64,
+    _cycle: u64,
 ) -> bool
-    requires { IsAtWork cycle machine net.old }
-    ensures { Goes cycle net.old result net.new }
+    requires { IsAtWork _cycle machine net.old }
+    ensures { Goes _cycle net.old result net.new }
 {
     if !schedule.all_latched(machine) {
         return false;
@@ -181,8 +181,8 @@ fn round_told<H: Host, Z: Streams>(net: &mut Net<H, Z>, schedule: &mut Schedule,
     moved
 }
 
-/// Does steps of the machines that are below a cycle, by a schedule, until a round does nothing. Does none if there is
-/// no memory for a schedule.
+// Does steps of the machines that are below a cycle, by a schedule, until a round does nothing. Does none if there is
+// no memory for a schedule.
 pub(crate) fn follow<H: Host, Z: Streams>(net: &mut Net<H, Z>, cycle: u64)
     ensures { HasRun cycle net.old net.new }
 {

@@ -94,11 +94,11 @@ fn channels_of<H: Host, Z: Streams>(
     Ok(channels)
 }
 
-/// The schedule of a network in which each machine, each in and each out may have something to do.
-///
-/// # Errors
-///
-/// Returns `AllocError` if an allocation fails.
+// The schedule of a network in which each machine, each in and each out may have something to do.
+//
+// # Errors
+//
+// Returns `AllocError` if an allocation fails.
 pub(crate) fn schedule_of<H: Host, Z: Streams>(
     alloc: Global,
     net: &Net<H, Z>,

@@ -5,9 +5,9 @@
 ghost use Rattle.std.specs.Prelude.{◌≤◌, IfSome};
 
 use crate::set::Set;
-use gg_net::Refusal;
+use gg_net::StepRefusal;
 
-/// What is left to do in the cycle of a machine.
+// What is left to do in the cycle of a machine.
 #[derive(Drop)]
 pub(crate) struct Todo {
     // The ins that may take a token.
@@ -20,8 +20,8 @@ pub(crate) struct Todo {
     pub(crate) outs_left: u32,
 }
 
-/// A channel, and which channels wait until its token is latched: those that need the token, and the channel itself
-/// while its queue is full.
+// A channel, and which channels wait until its token is latched: those that need the token, and the channel itself
+// while its queue is full.
 #[derive(Drop)]
 pub(crate) struct Channel {
     pub(crate) producer: u32,
@@ -38,7 +38,7 @@ pub(crate) struct Channel {
     pub(crate) needed: Option<u32>,
 }
 
-/// What may have something to do: machines, and of each its ins and outs.
+// What may have something to do: machines, and of each its ins and outs.
 #[derive(Drop)]
 pub(crate) struct Schedule {
     pub(crate) machines: Set,
@@ -61,21 +61,21 @@ fn open_out(todos: &mut Vec<Todo>, channel: &Channel) {
 }
 
 impl Schedule {
-    /// Takes out the first in of a machine, from a place on, that may take a token.
+    // Takes out the first in of a machine, from a place on, that may take a token.
     pub(crate) fn take_in(&mut self, machine: u32, from: u32) -> Option<u32>
         ensures { IfSome result (λ place. from ≤ place) }
     {
         self.todos.get_mut(machine as usize)?.ins.take(from)
     }
 
-    /// Takes out the first out of a machine, from a place on, that may give its token.
+    // Takes out the first out of a machine, from a place on, that may give its token.
     pub(crate) fn take_out(&mut self, machine: u32, from: u32) -> Option<u32>
         ensures { IfSome result (λ place. from ≤ place) }
     {
         self.todos.get_mut(machine as usize)?.outs.take(from)
     }
 
-    /// Whether all outs of a machine have given their tokens.
+    // Whether all outs of a machine have given their tokens.
     pub(crate) fn all_fired(&self, machine: u32) -> bool {
         match self.todos.get(machine as usize) {
             Some(todo) => todo.outs_left == 0,
@@ -83,7 +83,7 @@ impl Schedule {
         }
     }
 
-    /// Whether all ins of a machine have their tokens.
+    // Whether all ins of a machine have their tokens.
     pub(crate) fn all_latched(&self, machine: u32) -> bool {
         match self.todos.get(machine as usize) {
             Some(todo) => todo.ins_left == 0,
@@ -128,7 +128,7 @@ impl Schedule {
         }
     }
 
-    /// The token of a channel was latched.
+    // The token of a channel was latched.
     pub(crate) fn latched(&mut self, channel: u32) {
         let Some(found) = self.channels.get_mut(channel as usize) else {
             return;
@@ -141,7 +141,7 @@ impl Schedule {
         self.wake(channel, machine);
     }
 
-    /// The token of a channel was given. Its in may take it, unless it still has one.
+    // The token of a channel was given. Its in may take it, unless it still has one.
     pub(crate) fn fired(&mut self, channel: u32) {
         let Some(found) = self.channels.get(channel as usize) else {
             return;
@@ -155,21 +155,21 @@ impl Schedule {
         }
     }
 
-    /// The token of a channel couldn't be given. It waits for what it needs.
-    pub(crate) fn refused(&mut self, channel: u32, refusal: Refusal) {
+    // The token of a channel couldn't be given. It waits for what it needs.
+    pub(crate) fn refused(&mut self, channel: u32, refusal: StepRefusal) {
         match refusal {
-            Refusal::NeedsInput { channel: other } => {
+            StepRefusal::NeedsInput { channel: other } => {
                 if let Some(found) = self.channels.get_mut(channel as usize) {
                     found.needed = Some(other);
                 }
                 self.wait(channel, other);
             }
-            Refusal::Full { .. } => self.wait(channel, channel),
+            StepRefusal::Full { .. } => self.wait(channel, channel),
             _ => {}
         }
     }
 
-    /// A machine with so many ins and outs has begun a cycle.
+    // A machine with so many ins and outs has begun a cycle.
     pub(crate) fn begin(&mut self, machine: u32, ins: u32, outs: u32) {
         if let Some(todo) = self.todos.get_mut(machine as usize) {
             todo.ins_left = ins;
@@ -178,7 +178,7 @@ impl Schedule {
         self.machines.add(machine);
     }
 
-    /// The consumer of a channel has begun a cycle. The in may take a token if the queue holds one.
+    // The consumer of a channel has begun a cycle. The in may take a token if the queue holds one.
     pub(crate) fn begin_in(&mut self, channel: u32, holds: bool) {
         let Some(found) = self.channels.get_mut(channel as usize) else {
             return;
@@ -189,8 +189,8 @@ impl Schedule {
         }
     }
 
-    /// The producer of a channel has begun a cycle. The out may give a token, or waits for the one that it was found to
-    /// need.
+    // The producer of a channel has begun a cycle. The out may give a token, or waits for the one that it was found to
+    // need.
     pub(crate) fn begin_out(&mut self, channel: u32) {
         let Some(found) = self.channels.get(channel as usize) else {
             return;

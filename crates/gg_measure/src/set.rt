@@ -5,7 +5,7 @@ ghost use Rattle.gg_measure.specs.Sets.{IsLowest};
 
 use std::alloc::{AllocError, Global};
 
-/// A set of numbers below a multiple of 64, in words of 64 bits.
+// A set of numbers below a multiple of 64, in words of 64 bits.
 #[derive(Drop)]
 pub(crate) struct Set {
     words: Vec<u64>,
@@ -24,24 +24,24 @@ fn lowest(word: u64, low: u32) -> Option<u32>
 }
 
 impl Set {
-    /// The set of all numbers up to `last`, and of some more.
-    ///
-    /// # Errors
-    ///
-    /// Returns `AllocError` if an allocation fails.
+    // The set of all numbers up to `last`, and of some more.
+    //
+    // # Errors
+    //
+    // Returns `AllocError` if an allocation fails.
     pub(crate) fn all(alloc: Global, last: u32) -> Result<Set, AllocError> {
         let words = vec![in alloc; u64::MAX; last as usize / 64 + 1]?;
         Ok(Set { words })
     }
 
-    /// Adds a number, if it is below the set's multiple of 64.
+    // Adds a number, if it is below the set's multiple of 64.
     pub(crate) fn add(&mut self, number: u32) {
         if let Some(word) = self.words.get_mut(number as usize / 64) {
             *word |= 1 << (number % 64);
         }
     }
 
-    /// Takes out the lowest number from `from` on, if there is one.
+    // Takes out the lowest number from `from` on, if there is one.
     pub(crate) fn take(&mut self, from: u32) -> Option<u32>
         ensures { IfSome result (λ number. from ≤ number) }
     {

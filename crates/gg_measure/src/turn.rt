@@ -16,10 +16,10 @@ pub(crate) fn either(one: bool, other: bool) -> bool
 }
 
 // Latches the front tokens of all channels into a machine for which that may be done. Returns whether it was for any.
-fn latch_all<H: Host, Z: Streams>(net: &mut Net<H, Z>, machine: u32, cycle: u64) -> bool
-    requires { IsAtWork cycle machine net.old }
-    ensures work { IsAtWork cycle machine net.new }
-    ensures goes { Goes cycle net.old result net.new }
+fn latch_all<H: Host, Z: Streams>(net: &mut Net<H, Z>, machine: u32, _cycle: u64) -> bool
+    requires { IsAtWork _cycle machine net.old }
+    ensures work { IsAtWork _cycle machine net.new }
+    ensures goes { Goes _cycle net.old result net.new }
     ensures none { result ≡ false → NoLatch net.new machine }
 {
     net.kept();
@@ -35,10 +35,10 @@ fn latch_all<H: Host, Z: Streams>(net: &mut Net<H, Z>, machine: u32, cycle: u64)
 }
 
 // Gives the tokens of all channels of a machine for which that may be done. Returns whether it was for any.
-fn fire_all<H: Host, Z: Streams>(net: &mut Net<H, Z>, machine: u32, cycle: u64) -> bool
-    requires { IsAtWork cycle machine net.old }
-    ensures work { IsAtWork cycle machine net.new }
-    ensures goes { Goes cycle net.old result net.new }
+fn fire_all<H: Host, Z: Streams>(net: &mut Net<H, Z>, machine: u32, _cycle: u64) -> bool
+    requires { IsAtWork _cycle machine net.old }
+    ensures work { IsAtWork _cycle machine net.new }
+    ensures goes { Goes _cycle net.old result net.new }
     ensures none { result ≡ false → NoFire net.new machine }
 {
     net.kept();
@@ -54,9 +54,9 @@ fn fire_all<H: Host, Z: Streams>(net: &mut Net<H, Z>, machine: u32, cycle: u64) 
 }
 
 // Serves the port of a machine that is due, if that may be done. Returns whether it was done.
-fn serve_next<H: Host, Z: Streams>(net: &mut Net<H, Z>, machine: u32, cycle: u64) -> bool
-    requires { IsAtWork cycle machine net.old }
-    ensures { MatchBool result (HasServedOne cycle machine net.old net.new) ((net.new ≡ net.old) × NoServe net.old machine) }
+fn serve_next<H: Host, Z: Streams>(net: &mut Net<H, Z>, machine: u32, _cycle: u64) -> bool
+    requires { IsAtWork _cycle machine net.old }
+    ensures { MatchBool result (HasServedOne _cycle machine net.old net.new) ((net.new ≡ net.old) × NoServe net.old machine) }
 {
     net.kept();
     serve_due(net, machine)

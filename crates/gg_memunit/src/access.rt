@@ -6,7 +6,7 @@ ghost use Rattle.gg_memunit.specs.MemoryUnit.{access_of};
 
 use gg_flat::{Bank, Memory, Reader};
 
-/// The word that a reader finds.
+// The word that a reader finds.
 pub(crate) fn find(bank: &Bank, reader: &Reader, inputs: &[u128]) -> u128
     requires { LooksAmong (length inputs.now) reader.now }
     ensures { result ≡ found_word inputs.now bank.now.words reader.now }
@@ -14,7 +14,7 @@ pub(crate) fn find(bank: &Bank, reader: &Reader, inputs: &[u128]) -> u128
     bank.word(inputs[reader.addr as usize], inputs[reader.en as usize])
 }
 
-/// Does the access of a port in a tick with these edges. The port is a reader of a late memory, or a writer.
+// Does the access of a port in a tick with these edges. The port is a reader of a late memory, or a writer.
 pub(crate) fn serve(bank: &mut Bank, memory: &Memory, port: u32, edges: &[bool], inputs: &[u128])
     requires readers { All (LooksAmong (length inputs.now)) memory.now.readers }
     requires writers { All (WritesAmong (length inputs.now)) memory.now.writers }

@@ -9,5 +9,7 @@ ghost use Rattle.gg_memunit.specs.MemoryUnit.{IsMemoryPiece, ports_of, accessed_
 /// A memory whose ports were all served has the contents that it would have after the cycle in a piece: its state is
 /// the next state of a tick with these edges, if the tokens in the latches are the inputs.
 pub fn served_through()
-    ensures { (edges : List Bool) (piece : FlatCircuit) (state : State) (latches : List (Option ℕ)) (signals : List ℕ) → IsMemoryPiece piece → IsState piece state → Settled piece state (latched_values latches) signals → accessed_by edges latches state (ports_of piece.memories) ≡ next_state edges piece state signals }
+    ensures { (edges : List Bool) (piece : FlatCircuit) (state : State) (latches : List (Option ℕ)) (signals : List ℕ)
+        → IsMemoryPiece piece → IsState piece state → Settled piece state (latched_values latches) signals
+        → accessed_by edges latches state (ports_of piece.memories) ≡ next_state edges piece state signals }
 {}

@@ -7,7 +7,7 @@ ghost use Rattle.gg_memunit.specs.MemoryUnit.{needs_by, ports_by, count_by, numb
 use gg_flat::{Latency, Reader, UnderWrite, Writer};
 use gg_node::first_empty;
 
-/// The first in that the data of a reader needs and that has no token yet, if there is one.
+// The first in that the data of a reader needs and that has no token yet, if there is one.
 pub(crate) fn first_missing(
     latches: &[Option<u128>],
     latency: Latency,
@@ -22,7 +22,7 @@ pub(crate) fn first_missing(
     }
 }
 
-/// The number of ports.
+// The number of ports.
 pub(crate) fn all(readers: &[Reader], writers: &[Writer]) -> u32
     requires { length readers.now + length writers.now < 2 ^ 32 }
     ensures { result ≡ length readers.now + length writers.now }
@@ -30,7 +30,7 @@ pub(crate) fn all(readers: &[Reader], writers: &[Writer]) -> u32
     (readers.len() + writers.len()) as u32
 }
 
-/// The number of ports that are served in a cycle.
+// The number of ports that are served in a cycle.
 pub(crate) fn count(latency: Latency, readers: &[Reader], writers: &[Writer]) -> u32
     requires { length readers.now + length writers.now < 2 ^ 32 }
     ensures { result ≡ length (ports_by latency readers.now writers.now) }
@@ -42,7 +42,7 @@ pub(crate) fn count(latency: Latency, readers: &[Reader], writers: &[Writer]) ->
 }
 
 #[tactic(auto, using(crate::proofs::PortLemmas::number_at, crate::proofs::PortLemmas::count_ports, crate::proofs::PortLemmas::none_past))]
-/// The number of the port that is due after `served` ports were served, if one is left.
+// The number of the port that is due after `served` ports were served, if one is left.
 pub(crate) fn due_after(
     latency: Latency,
     readers: &[Reader],

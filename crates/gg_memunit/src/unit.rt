@@ -151,8 +151,8 @@ impl MemUnit {
     }
 
     /// The state before its cycle, as the accesses of the cycle so far have changed it. The only thread is thread 0.
-    pub fn state(&self, thread: u32) -> &State
-        requires { thread < 1 }
+    pub fn state(&self, _thread: u32) -> &State
+        requires { _thread < 1 }
         ensures { result.now ≡ self.now.state }
     {
         &self.state

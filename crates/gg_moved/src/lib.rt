@@ -1,4 +1,4 @@
-//! Parts of a flat circuit with other numbers. Laws alone: the crate's function computes nothing.
+//! Parts of a flat circuit with other numbers. The crate has laws alone: its functions compute nothing.
 //!
 //! - What has other numbers is the same in all else (`moved_driver`, `moved_register`, `moved_memory`).
 //! - A circuit keeps to the tree of its instances (`KeepsToTree`): the tree is one of the circuit, the circuit keeps to its

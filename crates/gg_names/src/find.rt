@@ -13,8 +13,8 @@ use crate::table::{Declared, Table, own_role};
 use gg_ast::{Module, Port, Reference};
 use gg_bits::Name;
 
-/// What a reference in the module at this place names.
-pub fn role_in(
+// What a reference in the module at this place names.
+pub(crate) fn role_in(
     modules: &[Module],
     tables: &[Table],
     number: u32,
@@ -30,8 +30,8 @@ pub fn role_in(
     }
 }
 
-/// What a reference names if only the first `count` names of the module are declared.
-pub fn role_before_in(
+// What a reference names if only the first `count` names of the module are declared.
+pub(crate) fn role_before_in(
     modules: &[Module],
     tables: &[Table],
     number: u32,
@@ -40,7 +40,10 @@ pub fn role_before_in(
 ) -> Option<Role>
     requires tables { AreTold modules.now (length modules.now) tables.now }
     requires within { number < length modules.now }
-    ensures { (n : ℕ) → count ≡ length (names_after (module_at modules.now number).ports (take n (module_at modules.now number).statements)) → result ≡ meaning_of (scope_after modules.now (module_at modules.now number).ports (take n (module_at modules.now number).statements)) reference.now }
+    ensures { (n : ℕ) → count ≡ length (names_after (module_at modules.now number).ports
+        (take n (module_at modules.now number).statements))
+        → result ≡ meaning_of (scope_after modules.now (module_at modules.now number).ports
+        (take n (module_at modules.now number).statements)) reference.now }
 {
     match tables[number as usize].place(first_name(reference)) {
         Some(place) => {

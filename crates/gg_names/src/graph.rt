@@ -52,7 +52,9 @@ fn next_held(circuit: &Circuit, statements: &[Stmt], place: usize) -> Option<Tar
     ensures held { IfSome result (λ found. Contains (flat_map (held_by circuit.now.modules) statements.now) found.node) }
     ensures within { IfSome result (λ found. found.node < length circuit.now.modules) }
     ensures onward { IfSome result (λ found. place < found.next) }
-    ensures first { IfSome result (λ found. (j : ℕ) → Contains (flat_map (held_by circuit.now.modules) (take found.next statements.now)) j → Contains (flat_map (held_by circuit.now.modules) (take place statements.now)) j ⊎ (j ≡ found.node)) }
+    ensures first { IfSome result (λ found. (j : ℕ)
+        → Contains (flat_map (held_by circuit.now.modules) (take found.next statements.now)) j
+        → Contains (flat_map (held_by circuit.now.modules) (take place statements.now)) j ⊎ (j ≡ found.node)) }
     ensures none { IfNone result ((j : ℕ) → Contains (flat_map (held_by circuit.now.modules) statements.now) j → Contains (flat_map (held_by circuit.now.modules) (take place statements.now)) j) }
 {
     for i in place..statements.len() {

@@ -14,17 +14,17 @@ use gg_ast::{Field, MemoryField};
 use gg_bits::Name;
 use std::alloc::Global;
 
-/// The ports of a memory.
+// The ports of a memory.
 #[derive(Drop)]
-pub struct Ports<'a> {
-    /// The readers.
-    pub readers: Words<'a>,
-    /// The writers.
-    pub writers: Words<'a>,
+pub(crate) struct Ports<'a> {
+    // The readers.
+    pub(crate) readers: Words<'a>,
+    // The writers.
+    pub(crate) writers: Words<'a>,
 }
 
-/// The ports that the fields of a memory name; fails at the first that comes twice.
-pub fn memory_ports<'a>(alloc: Global, fields: &'a [Field]) -> Result<Ports<'a>, NamesFault>
+// The ports that the fields of a memory name; fails at the first that comes twice.
+pub(crate) fn memory_ports<'a>(alloc: Global, fields: &'a [Field]) -> Result<Ports<'a>, NamesFault>
     ensures tells { Tells (along repeated_in_field fields.now) result }
     ensures ports { IfOk result (λ ports. HavePorts fields.now ports.readers ports.writers) }
 {
@@ -94,8 +94,8 @@ fn fresh(words: &Words, others: &Words, line: u64, name: &Name) -> Result<(), Na
     Ok(())
 }
 
-/// The field of a port with this text, or none if ports of this kind have no such field.
-pub fn field_of(kind: PortKind, name: &Name) -> Option<PortField>
+// The field of a port with this text, or none if ports of this kind have no such field.
+pub(crate) fn field_of(kind: PortKind, name: &Name) -> Option<PortField>
     ensures { result ≡ field_written name.now (port_fields kind) }
 {
     let field = field_named(name.as_str())?;
@@ -119,9 +119,14 @@ fn field_named(name: &str) -> Option<PortField>
     }
 }
 
-/// The role of the field of a port with these texts, by the memory's readers and writers, or none if there is no such
-/// port or field.
-pub fn field_role(readers: &Words, writers: &Words, port: &Name, field: &Name) -> Option<Role>
+// The role of the field of a port with these texts, by the memory's readers and writers, or none if there is no such
+// port or field.
+pub(crate) fn field_role(
+    readers: &Words,
+    writers: &Words,
+    port: &Name,
+    field: &Name,
+) -> Option<Role>
     ensures { result ≡ role_of_field readers.now writers.now port.now field.now }
 {
     if readers.contains(port) {

@@ -16,8 +16,8 @@ use gg_ast::{Circuit, Field, Module, Port, Stmt, StmtKind};
 use gg_bits::Name;
 use std::alloc::Global;
 
-/// What a module of the circuit declares; fails at the first name that comes twice in it.
-pub fn module_table<'a>(
+// What a module of the circuit declares; fails at the first name that comes twice in it.
+pub(crate) fn module_table<'a>(
     alloc: Global,
     circuit: &'a Circuit,
     this: &'a Module,
@@ -35,12 +35,12 @@ pub fn module_table<'a>(
 // Declares the names of ports.
 fn declare_ports<'a>(
     table: &mut Table<'a>,
-    circuit: &Circuit,
+    _circuit: &Circuit,
     ports: &'a [Port],
 ) -> Result<(), NamesFault>
     requires { table.old ≡ [] }
     ensures tells { Tells (along repeated_port ports.now) result }
-    ensures table { OnOk result (TellsScope circuit.now.modules ports.now [] table.new) }
+    ensures table { OnOk result (TellsScope _circuit.now.modules ports.now [] table.new) }
 {
     for port in ports {
         fresh(table, port.line, &port.name)?;
@@ -54,13 +54,13 @@ fn declare_statements<'a>(
     alloc: Global,
     table: &mut Table<'a>,
     circuit: &'a Circuit,
-    ports: &'a [Port],
+    _ports: &'a [Port],
     statements: &'a [Stmt],
 ) -> Result<(), NamesFault>
     requires few { length circuit.now.modules < 2 ^ 32 }
-    requires table { TellsScope circuit.now.modules ports.now [] table.old }
-    ensures tells { Tells (along (repeated_by ports.now) statements.now) result }
-    ensures table { OnOk result (TellsScope circuit.now.modules ports.now statements.now table.new) }
+    requires table { TellsScope circuit.now.modules _ports.now [] table.old }
+    ensures tells { Tells (along (repeated_by _ports.now) statements.now) result }
+    ensures table { OnOk result (TellsScope circuit.now.modules _ports.now statements.now table.new) }
 {
     for statement in statements {
         declare_statement(alloc, table, circuit, statement)?;

@@ -81,7 +81,7 @@ impl<'a> Namespace<'a> {
         self.circuit
     }
 
-    /// The place of the first module of that name.
+    /// The place of the first module of that name. None if no module has it.
     pub fn place_of_module(&self, name: &Name) -> Option<u32>
         ensures { result ≡ place_of name.now (names_of self.now.modules) }
     {
@@ -96,7 +96,8 @@ impl<'a> Namespace<'a> {
         self.tables[number as usize].len()
     }
 
-    /// The place of a name among those that a module declares, in the order of the file, counted from 0.
+    /// The place of a name among those that a module declares, in the order of the file, counted from 0. None if the module
+    /// doesn't declare it.
     pub fn place(&self, number: u32, name: &Name) -> Option<usize>
         requires { number < length self.now.modules }
         ensures { result ≡ place_of name.now (names_in (module_at self.now.modules number)) }
@@ -104,7 +105,7 @@ impl<'a> Namespace<'a> {
         self.tables[number as usize].place(name)
     }
 
-    /// What a reference in a module names, or none if it names nothing.
+    /// What a reference in a module names. None if it names nothing.
     pub fn role(&self, number: u32, reference: &Reference) -> Option<Role>
         requires { number < length self.now.modules }
         ensures { result ≡ meaning_of (scope_of self.now.modules (module_at self.now.modules number)) reference.now }
@@ -117,10 +118,13 @@ impl<'a> Namespace<'a> {
         )
     }
 
-    /// What a reference names if only the first `count` names of the module are declared.
+    /// What a reference names if only the first `count` names of the module are declared. None if it then names nothing.
     pub fn role_before(&self, number: u32, count: usize, reference: &Reference) -> Option<Role>
         requires { number < length self.now.modules }
-        ensures { (n : ℕ) → count ≡ length (names_after (module_at self.now.modules number).ports (take n (module_at self.now.modules number).statements)) → result ≡ meaning_of (scope_after self.now.modules (module_at self.now.modules number).ports (take n (module_at self.now.modules number).statements)) reference.now }
+        ensures { (n : ℕ) → count ≡ length (names_after (module_at self.now.modules number).ports
+            (take n (module_at self.now.modules number).statements))
+            → result ≡ meaning_of (scope_after self.now.modules (module_at self.now.modules number).ports
+            (take n (module_at self.now.modules number).statements)) reference.now }
     {
         role_before_in(
             self.circuit.modules(),

@@ -11,19 +11,19 @@ use indexmap::{IndexMap, IndexSet};
 use std::alloc::{AllocError, Global};
 use std::marker::Model;
 
-/// The declaration of a name.
+// The declaration of a name.
 #[derive(Drop)]
-pub enum Declared<'a> {
-    /// A port, a wire, a register or a node: nothing can be named through it.
+pub(crate) enum Declared<'a> {
+    // A port, a wire, a register or a node: nothing can be named through it.
     Plain(Role),
-    /// An instance of the module at this place, if that module exists.
+    // An instance of the module at this place, if that module exists.
     Instance(Option<u32>),
-    /// A memory with these readers and these writers.
+    // A memory with these readers and these writers.
     Memory(Words<'a>, Words<'a>),
 }
 
-/// Distinct names. A contract sees them as their list.
-pub struct Words<'a> {
+// Distinct names. A contract sees them as their list.
+pub(crate) struct Words<'a> {
     items: IndexSet<&'a str>,
 }
 
@@ -43,8 +43,8 @@ impl<'a> Model for Words<'a> {
 }
 
 impl<'a> Words<'a> {
-    /// No names.
-    pub fn new(alloc: Global) -> Words<'a>
+    // No names.
+    pub(crate) fn new(alloc: Global) -> Words<'a>
         ensures { result ≡ [] }
     {
         Words {
@@ -52,19 +52,19 @@ impl<'a> Words<'a> {
         }
     }
 
-    /// Whether a name is one of these.
-    pub fn contains(&self, name: &Name) -> bool
+    // Whether a name is one of these.
+    pub(crate) fn contains(&self, name: &Name) -> bool
         ensures { result ≡ list_any (bytes_eq name.now) self.now }
     {
         self.items.contains(name.as_str())
     }
 
-    /// Adds a name. If it is already one of them they stay the same.
-    ///
-    /// # Errors
-    ///
-    /// Returns `AllocError` if an allocation fails.
-    pub fn add(&mut self, name: &'a Name) -> Result<(), AllocError>
+    // Adds a name. If it is already one of them they stay the same.
+    //
+    // # Errors
+    //
+    // Returns `AllocError` if an allocation fails.
+    pub(crate) fn add(&mut self, name: &'a Name) -> Result<(), AllocError>
         ensures { OnOk result ((q : List ℕ) → list_any (bytes_eq q) self.new ≡ list_any (bytes_eq q) (self.old ++ name.now ∷ [])) }
     {
         match self.items.insert(name.as_str()) {
@@ -74,10 +74,10 @@ impl<'a> Words<'a> {
     }
 }
 
-/// The distinct names that a module declares, in the order of the file, each with its declaration.
-///
-/// A contract sees the list of pairs of a name's bytes and its declaration.
-pub struct Table<'a> {
+// The distinct names that a module declares, in the order of the file, each with its declaration.
+//
+// A contract sees the list of pairs of a name's bytes and its declaration.
+pub(crate) struct Table<'a> {
     items: IndexMap<&'a str, Declared<'a>>,
 }
 
@@ -98,8 +98,8 @@ impl<'a> Model for Table<'a> {
 }
 
 impl<'a> Table<'a> {
-    /// A table without names.
-    pub fn new(alloc: Global) -> Table<'a>
+    // A table without names.
+    pub(crate) fn new(alloc: Global) -> Table<'a>
         ensures { result ≡ [] }
     {
         Table {
@@ -107,26 +107,26 @@ impl<'a> Table<'a> {
         }
     }
 
-    /// How many names are declared.
-    pub fn len(&self) -> usize
+    // How many names are declared.
+    pub(crate) fn len(&self) -> usize
         ensures { result ≡ length self.now }
     {
         self.items.len()
     }
 
-    /// Whether a name is declared.
-    pub fn has(&self, name: &Name) -> bool
+    // Whether a name is declared.
+    pub(crate) fn has(&self, name: &Name) -> bool
         ensures { result ≡ list_any (bytes_eq name.now) (names_told self.now) }
     {
         self.items.contains_key(name.as_str())
     }
 
-    /// Declares a name that is not declared yet.
-    ///
-    /// # Errors
-    ///
-    /// Returns `AllocError` if an allocation fails. The table then stays as it was.
-    pub fn declare(&mut self, name: &'a Name, kind: Declared<'a>) -> Result<(), AllocError>
+    // Declares a name that is not declared yet.
+    //
+    // # Errors
+    //
+    // Returns `AllocError` if an allocation fails. The table then stays as it was.
+    pub(crate) fn declare(&mut self, name: &'a Name, kind: Declared<'a>) -> Result<(), AllocError>
         requires { list_any (bytes_eq name.now) (names_told self.old) ≡ false }
         ensures names { OnOk result (self.new ≡ self.old ++ (name.now, kind.entry) ∷ []) }
         ensures err { OnErr result (self.new ≡ self.old) }
@@ -137,24 +137,24 @@ impl<'a> Table<'a> {
         }
     }
 
-    /// The place of a name, counted from 0.
-    pub fn place(&self, name: &Name) -> Option<usize>
+    // The place of a name, counted from 0.
+    pub(crate) fn place(&self, name: &Name) -> Option<usize>
         ensures place { result ≡ place_of name.now (names_told self.now) }
         ensures within { IfSome result (λ place. place < length self.now) }
     {
         self.items.get_index_of(name.as_str())
     }
 
-    /// The declaration of a name.
-    pub fn get(&self, name: &Name) -> Option<&Declared<'a>>
+    // The declaration of a name.
+    pub(crate) fn get(&self, name: &Name) -> Option<&Declared<'a>>
         ensures { option_copied result ≡ value_of name.now self.now }
     {
         self.items.get(name.as_str())
     }
 }
 
-/// The role of the declared name itself.
-pub fn own_role(declared: &Declared) -> Role
+// The role of the declared name itself.
+pub(crate) fn own_role(declared: &Declared) -> Role
     ensures { result ≡ role_told declared.now }
 {
     match declared {

@@ -4,7 +4,7 @@ ghost use Rattle.gg_needs.specs.Groups.{IsGroup};
 
 use crate::marks::MOST;
 
-/// The out-signals from a place on, at most 128 of them.
+// The out-signals from a place on, at most 128 of them.
 pub(crate) fn group_from(outs: &[u32], first: usize) -> &[u32]
     requires { first < length outs.now }
     ensures { IsGroup outs.now first result.now }

@@ -6,10 +6,10 @@ ghost use Rattle.gg_needs.specs.Marks.{Adds};
 
 use gg_flat::{Driver, Node, Op};
 
-/// The most out-signals that a group has.
+// The most out-signals that a group has.
 pub(crate) const MOST: usize = 128;
 
-/// The set that has only the mark of the out-signal at this place.
+// The set that has only the mark of the out-signal at this place.
 pub(crate) fn one_mark(place: usize) -> u128
     requires { place < 128 }
     ensures { result ≡ 2 ^ place }
@@ -17,7 +17,7 @@ pub(crate) fn one_mark(place: usize) -> u128
     1 << place
 }
 
-/// Whether a set has the mark of the out-signal at this place.
+// Whether a set has the mark of the out-signal at this place.
 pub(crate) fn has_mark(set: u128, place: usize) -> bool
     requires { place < 128 }
     ensures { IsTrue result ↔ (bit_at set place ≡ 1) }
@@ -25,7 +25,7 @@ pub(crate) fn has_mark(set: u128, place: usize) -> bool
     (set >> place) & 1 == 1
 }
 
-/// Adds a set to the set of a signal.
+// Adds a set to the set of a signal.
 pub(crate) fn add_mark(marks: &mut [u128], signal: u32, added: u128)
     requires { signal < length marks.old }
     ensures { Adds added (λ s. signal ≡ s) marks.old marks.new }
@@ -33,7 +33,7 @@ pub(crate) fn add_mark(marks: &mut [u128], signal: u32, added: u128)
     marks[signal as usize] |= added;
 }
 
-/// Adds a set to the sets of the signals that a driver names. There is a set for each of these signals.
+// Adds a set to the sets of the signals that a driver names. There is a set for each of these signals.
 pub(crate) fn add_driver(marks: &mut [u128], driver: &Driver, added: u128)
     requires { (s : ℕ) → NamesSignal driver.now s → s < length marks.old }
     ensures { Adds added (NamesSignal driver.now) marks.old marks.new }

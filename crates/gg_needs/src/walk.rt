@@ -8,7 +8,7 @@ use crate::marks::{add_driver, add_mark, one_mark};
 use gg_flat::Piece;
 use std::alloc::{AllocError, Global};
 
-/// For each signal, the set of those out-signals of a group that reach it.
+// For each signal, the set of those out-signals of a group that reach it.
 pub(crate) fn reached(alloc: Global, piece: &Piece, group: &[u32]) -> Result<Vec<u128>, AllocError>
     requires formed { IsWellFormed piece.now }
     requires ordered { IsInOrder piece.now }
@@ -54,14 +54,13 @@ fn mark_outs(marks: &mut [u128], group: &[u32])
 }
 
 // Passes the marks on, from the last signal to the first.
-fn hand_down(marks: &mut [u128], piece: &Piece, group: &[u32])
+fn hand_down(marks: &mut [u128], piece: &Piece, _group: &[u32])
     requires formed { IsWellFormed piece.now }
     requires ordered { IsInOrder piece.now }
-    requires known { All (λ s. s < length piece.now.signals) group.now }
-    requires own { AreOwn group.now (length piece.now.signals) (length group.now) marks.old }
-    ensures { AreReached piece.now group.now marks.new }
+    requires known { All (λ s. s < length piece.now.signals) _group.now }
+    requires own { AreOwn _group.now (length piece.now.signals) (length _group.now) marks.old }
+    ensures { AreReached piece.now _group.now marks.new }
 {
-    let _ = group;
     let count = piece.signals().len();
     for done in 0..count {
         hand_on(marks, piece, count - 1 - done);

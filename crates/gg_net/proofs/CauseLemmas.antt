@@ -7,8 +7,8 @@ use Rattle.gg_node.specs.Machine.{machine_at, latch_at}
 use Rattle.gg_node.specs.Step.{AllFired, AllLatched}
 use Rattle.gg_net.specs.declared.event.Event.{Event}
 use Rattle.gg_net.specs.declared.event.Event.TheVariants.{Latch, Fire, Serve, Finish}
-use Rattle.gg_net.specs.declared.event.Refusal.{Refusal}
-use Rattle.gg_net.specs.declared.event.Refusal.TheVariants.{Stranger, Ended, Latched, Fired, NoToken, NeedsInput, Full, Order, Unfired, Unserved}
+use Rattle.gg_net.specs.declared.event.StepRefusal.{StepRefusal}
+use Rattle.gg_net.specs.declared.event.StepRefusal.TheVariants.{Stranger, Ended, Latched, Fired, NoToken, NeedsInput, Full, Order, Unfired, Unserved}
 use Rattle.gg_net.specs.Network.{Network, wire_at, frame_of}
 use Rattle.gg_net.specs.Step.{CanLatch, CanFire, CanServe, CanFinish, latch_of, missing_of, missing_field, IsWanted, IsFirstClear, IsUnfired, IsFirstEmpty, IsUnlatched, LatchRefused, FireRefused, ServeRefused, FinishRefused, Ready, Refused}
 use Rattle.gg_net.specs.Kept.{IsWired}
@@ -44,14 +44,14 @@ module _ (net : Network) where
 
   -- ---- may be done, and refused
 
-  never-latch : (c : ℕ) (cause : Refusal) → CanLatch net c → LatchRefused net c cause → ⊥
+  never-latch : (c : ℕ) (cause : StepRefusal) → CanLatch net c → LatchRefused net c cause → ⊥
   never-latch c Stranger can is = omega (arith, can.can.0, is)
   never-latch c Ended can is = is.1 can.can.1
   never-latch c Latched can is = no-some (latch_of net c) can.empty is.1
   never-latch c (NoToken d) can is = omega (arith, can.held, ap length is.2)
   never-latch c cause can is = is
 
-  never-fire : (c : ℕ) (cause : Refusal) → CanFire net c → FireRefused net c cause → ⊥
+  never-fire : (c : ℕ) (cause : StepRefusal) → CanFire net c → FireRefused net c cause → ⊥
   never-fire c Stranger can is = omega (arith, can.can.0, is)
   never-fire c Ended can is = is.1 can.can.1
   never-fire c Fired can is = true≢false (sym is.1 ∙ can.clear)
@@ -59,7 +59,7 @@ module _ (net : Network) where
   never-fire c (Full d n) can is = omega (arith, can.room, is.3, is.4)
   never-fire c cause can is = is
 
-  never-serve : (m p : ℕ) (cause : Refusal) → CanServe net m p → ServeRefused net m p cause → ⊥
+  never-serve : (m p : ℕ) (cause : StepRefusal) → CanServe net m p → ServeRefused net m p cause → ⊥
   never-serve m p Stranger can is = is can.there
   never-serve m p Ended can is = is.1 can.below
   never-serve m p (Unfired d) can is = not-unfired m d can.fired is.2
@@ -67,7 +67,7 @@ module _ (net : Network) where
   never-serve m p (NeedsInput d) can is = not-wanted m (missing_field net m) d can.fields is.4
   never-serve m p cause can is = is
 
-  never-finish : (m : ℕ) (cause : Refusal) → CanFinish net m → FinishRefused net m cause → ⊥
+  never-finish : (m : ℕ) (cause : StepRefusal) → CanFinish net m → FinishRefused net m cause → ⊥
   never-finish m Stranger can is = omega (arith, can.there, is)
   never-finish m Ended can is = is.1 can.below
   never-finish m (Unfired d) can is = not-unfired m d can.fired is.2
@@ -76,7 +76,7 @@ module _ (net : Network) where
   never-finish m cause can is = is
 
   -- An event that may be done isn't refused.
-  pub never : (event : Event) (cause : Refusal) → Ready net event → Refused net event cause → ⊥
+  pub never : (event : Event) (cause : StepRefusal) → Ready net event → Refused net event cause → ⊥
   never (Latch c) cause ready refused = never-latch c cause ready refused
   never (Fire c) cause ready refused = never-fire c cause ready refused
   never (Serve m p) cause ready refused = never-serve m p cause ready refused
@@ -95,7 +95,7 @@ module _ (net : Network) where
     unlatched-once : (m d e : ℕ) → IsUnlatched net m d → IsUnlatched net m e → d ≡ e
     unlatched-once m d e is same = wired.one_in d e is.at.known same.at.known (is.at.machine ∙ sym same.at.machine) (is.at.place ∙ empty-once (machine_at net.machines m).latches is.place same.place is.first same.first ∙ sym same.at.place)
 
-    one-latch : (c : ℕ) (cause other : Refusal) → LatchRefused net c cause → LatchRefused net c other → cause ≡ other
+    one-latch : (c : ℕ) (cause other : StepRefusal) → LatchRefused net c cause → LatchRefused net c other → cause ≡ other
     one-latch c Stranger Stranger is same = refl
     one-latch c Stranger Ended is same = absurd (omega (arith, is, same.0))
     one-latch c Stranger Latched is same = absurd (omega (arith, is, same.0.0))
@@ -118,7 +118,7 @@ module _ (net : Network) where
     one-latch c (NoToken d) other is same = absurd same
     one-latch c cause other is same = absurd is
 
-    one-fire : (c : ℕ) (cause other : Refusal) → FireRefused net c cause → FireRefused net c other → cause ≡ other
+    one-fire : (c : ℕ) (cause other : StepRefusal) → FireRefused net c cause → FireRefused net c other → cause ≡ other
     one-fire c Stranger Stranger is same = refl
     one-fire c Stranger Ended is same = absurd (omega (arith, is, same.0))
     one-fire c Stranger Fired is same = absurd (omega (arith, is, same.0.0))
@@ -151,7 +151,7 @@ module _ (net : Network) where
     one-fire c (Full d n) other is same = absurd same
     one-fire c cause other is same = absurd is
 
-    one-serve : (m p : ℕ) (cause other : Refusal) → ServeRefused net m p cause → ServeRefused net m p other → cause ≡ other
+    one-serve : (m p : ℕ) (cause other : StepRefusal) → ServeRefused net m p cause → ServeRefused net m p other → cause ≡ other
     one-serve m p Stranger Stranger is same = refl
     one-serve m p Stranger Ended is same = absurd (is same.0)
     one-serve m p Stranger (Unfired e) is same = absurd (is same.0)
@@ -184,7 +184,7 @@ module _ (net : Network) where
     one-serve m p (NeedsInput d) other is same = absurd same
     one-serve m p cause other is same = absurd is
 
-    one-finish : (m : ℕ) (cause other : Refusal) → FinishRefused net m cause → FinishRefused net m other → cause ≡ other
+    one-finish : (m : ℕ) (cause other : StepRefusal) → FinishRefused net m cause → FinishRefused net m other → cause ≡ other
     one-finish m Stranger Stranger is same = refl
     one-finish m Stranger Ended is same = absurd (omega (arith, is, same.0))
     one-finish m Stranger (Unfired e) is same = absurd (omega (arith, is, same.0))
@@ -218,7 +218,7 @@ module _ (net : Network) where
     one-finish m cause other is same = absurd is
 
     -- A refusal has one cause.
-    pub once : (event : Event) (cause other : Refusal) → Refused net event cause → Refused net event other → cause ≡ other
+    pub once : (event : Event) (cause other : StepRefusal) → Refused net event cause → Refused net event other → cause ≡ other
     once (Latch c) cause other is same = one-latch c cause other is same
     once (Fire c) cause other is same = one-fire c cause other is same
     once (Serve m p) cause other is same = one-serve m p cause other is same

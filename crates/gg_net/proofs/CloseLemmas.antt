@@ -17,9 +17,9 @@ use Rattle.gg_net.specs.Network.{Network, wire_at, queue_at, producer_of, consum
 use Rattle.gg_net.specs.Step.{CanLatch, CanFire, CanServe, CanFinish, front_of, after_latch, after_serve, Gives, GoesOn}
 use Rattle.gg_net.specs.Kept.{Kept}
 use Rattle.gg_net.specs.Queue.{Held}
-use Rattle.gg_net.specs.Seats.{machines_by, seated, IsSeated, IsReseated, HasGoneOn}
+use Rattle.gg_net.specs.Stations.{machines_by, stationed, IsStationed, IsReplacedAt, HasGoneOn}
 use Rattle.gg_net.specs.Net.{net_of, held_at, AreListed, HasRoom, IsWithinLimits, IsNet}
-use Rattle.gg_net.proofs.SeatLemmas.{machines-set, are-seated}
+use Rattle.gg_net.proofs.StationLemmas.{machines-set, are-stationed}
 use Rattle.gg_net.proofs.StepLemmas.{kept-step}
 use Rattle.gg_net.proofs.MayLemmas.{consumer-there, producer-there, may-latch, may-fire}
 use Rattle.gg_net.proofs.FrameLemmas.{machine-known}
@@ -71,27 +71,27 @@ module _ {flow : Flow} {hosts : List (List Machine)} {stations : List Station} {
   old = net_of hosts stations wires queues end
 
   module _ (m : ℕ) (station : Station) (below : m < length stations) (is : station ≡ slice_index_or stations m station) where
-    pub machine-is : machine_at (machines_by hosts stations) m ≡ seated hosts station
-    machine-is = get_or-map (seated hosts) stations m station no_machine below ∙ ap (seated hosts) (sym is)
+    pub machine-is : machine_at (machines_by hosts stations) m ≡ stationed hosts station
+    machine-is = get_or-map (stationed hosts) stations m station no_machine below ∙ ap (stationed hosts) (sym is)
 
-    module _ (after : List (List Machine)) (y : Machine) (step : IsReseated hosts after station y) (queues' : List Held) where
-      step-at : IsReseated hosts after (slice_index_or stations m station) y
-      step-at = subst (λ s. IsReseated hosts after s y) is step
+    module _ (after : List (List Machine)) (y : Machine) (step : IsReplacedAt hosts after station y) (queues' : List Held) where
+      step-at : IsReplacedAt hosts after (slice_index_or stations m station) y
+      step-at = subst (λ s. IsReplacedAt hosts after s y) is step
 
       -- the network that the parts make
       pub parts-are : net_of after stations wires queues' end ≡ record old { machines = slice_set (machines_by hosts stations) m y; queues = map (λ (q : Held). q.tokens) queues' }
-      parts-are = ap (λ (machines : List Machine). record { machines = machines; wires = wires; queues = map (λ (q : Held). q.tokens) queues'; end = end }) (machines-set hosts after stations m station y net.seated below step-at)
+      parts-are = ap (λ (machines : List Machine). record { machines = machines; wires = wires; queues = map (λ (q : Held). q.tokens) queues'; end = end }) (machines-set hosts after stations m station y net.stationed below step-at)
 
-      frame-is : kind_of y ≡ kind_of (seated hosts station) → frame_of (net_of after stations wires queues' end) ≡ frame_of old
+      frame-is : kind_of y ≡ kind_of (stationed hosts station) → frame_of (net_of after stations wires queues' end) ≡ frame_of old
       frame-is kind =
-          ap (λ (machines : List Machine). record { kinds = map kind_of machines; wires = wires; end = end }) (machines-set hosts after stations m station y net.seated below step-at)
+          ap (λ (machines : List Machine). record { kinds = map kind_of machines; wires = wires; end = end }) (machines-set hosts after stations m station y net.stationed below step-at)
           ∙ ap (λ (kinds : List Kind). record { kinds = kinds; wires = wires; end = end }) (map-set_same kind_of (machines_by hosts stations) m y no_machine (kind ∙ ap kind_of (sym machine-is)))
 
       -- The parts make a network again.
-      pub closes : kind_of y ≡ kind_of (seated hosts station) → HasRoom wires queues' → Kept flow (net_of after stations wires queues' end) → IsNet flow after stations wires queues' end
+      pub closes : kind_of y ≡ kind_of (stationed hosts station) → HasRoom wires queues' → Kept flow (net_of after stations wires queues' end) → IsNet flow after stations wires queues' end
       closes kind room kept =
           record {
-            seated = are-seated hosts after stations m station y net.seated below step-at;
+            stationed = are-stationed hosts after stations m station y net.stationed below step-at;
             listed = subst (λ f. AreListed f stations) (sym (frame-is kind)) net.listed;
             room = room;
             limits = subst IsWithinLimits (sym (frame-is kind)) net.limits;
@@ -104,31 +104,31 @@ module _ {flow : Flow} {hosts : List (List Machine)} {stations : List Station} {
   queues-there c known = omega (arith, known, net.kept.queues, length-map queues tokens)
 
   pub consumer-within : (c : ℕ) → c < length wires → (wire_at wires c).consumer < length stations
-  consumer-within c known = omega (arith, consumer-there flow old net.kept c known, length-map stations (seated hosts))
+  consumer-within c known = omega (arith, consumer-there flow old net.kept c known, length-map stations (stationed hosts))
 
   pub producer-within : (c : ℕ) → c < length wires → (wire_at wires c).producer < length stations
-  producer-within c known = omega (arith, producer-there flow old net.kept c known, length-map stations (seated hosts))
+  producer-within c known = omega (arith, producer-there flow old net.kept c known, length-map stations (stationed hosts))
 
   module _ (c : ℕ) (w : Wire) (w-is : w ≡ slice_index_or wires c w) (known : c < length wires) where
     pub wire-is : w ≡ wire_at wires c
     wire-is = w-is ∙ get_or_default wires c w (record { producer = 0; out = 0; consumer = 0; place = 0; capacity = 0; first = None }) known
 
-    pub consumer-seat : w.consumer < length stations
-    consumer-seat = subst (λ (v : Wire). v.consumer < length stations) (sym wire-is) (consumer-within c known)
+    pub consumer-known : w.consumer < length stations
+    consumer-known = subst (λ (v : Wire). v.consumer < length stations) (sym wire-is) (consumer-within c known)
 
-    pub producer-seat : w.producer < length stations
-    producer-seat = subst (λ (v : Wire). v.producer < length stations) (sym wire-is) (producer-within c known)
+    pub producer-known : w.producer < length stations
+    producer-known = subst (λ (v : Wire). v.producer < length stations) (sym wire-is) (producer-within c known)
 
     module _ (giver : Station) (g-is : giver ≡ slice_index_or stations w.producer giver) where
-      giver-is : seated hosts giver ≡ machine_at (machines_by hosts stations) (wire_at wires c).producer
-      giver-is = sym (machine-is w.producer giver producer-seat g-is) ∙ ap (λ (v : Wire). machine_at (machines_by hosts stations) v.producer) wire-is
+      giver-is : stationed hosts giver ≡ machine_at (machines_by hosts stations) (wire_at wires c).producer
+      giver-is = sym (machine-is w.producer giver producer-known g-is) ∙ ap (λ (v : Wire). machine_at (machines_by hosts stations) v.producer) wire-is
 
-      pub fire-seated : IsSeated hosts giver
-      fire-seated = subst (IsSeated hosts) (sym g-is) (net.seated.each w.producer giver producer-seat)
+      pub fire-stationed : IsStationed hosts giver
+      fire-stationed = subst (IsStationed hosts) (sym g-is) (net.stationed.each w.producer giver producer-known)
 
-      pub fire-may : CanFire old c → MayFire (seated hosts giver) w.out
+      pub fire-may : CanFire old c → MayFire (stationed hosts giver) w.out
       fire-may can =
-          subst (λ (v : Wire). MayFire (seated hosts giver) v.out) (sym wire-is)
+          subst (λ (v : Wire). MayFire (stationed hosts giver) v.out) (sym wire-is)
           (subst (λ x. MayFire x (wire_at wires c).out) (sym giver-is) (may-fire flow old net.kept c can))
 
     module _ (queue : Held) (q-is : queue ≡ slice_index_or queues c queue) where
@@ -141,34 +141,34 @@ module _ {flow : Flow} {hosts : List (List Machine)} {stations : List Station} {
       -- ---- `Latch`
 
       module _ (station : Station) (s-is : station ≡ slice_index_or stations w.consumer station) (token : ℕ) (t-is : token ≡ value_at queue.tokens 0) where
-        seat-is : seated hosts station ≡ machine_at (machines_by hosts stations) (wire_at wires c).consumer
-        seat-is = sym (machine-is w.consumer station consumer-seat s-is) ∙ ap (λ (v : Wire). machine_at (machines_by hosts stations) v.consumer) wire-is
+        station-is : stationed hosts station ≡ machine_at (machines_by hosts stations) (wire_at wires c).consumer
+        station-is = sym (machine-is w.consumer station consumer-known s-is) ∙ ap (λ (v : Wire). machine_at (machines_by hosts stations) v.consumer) wire-is
 
-        pub latch-seated : IsSeated hosts station
-        latch-seated = subst (IsSeated hosts) (sym s-is) (net.seated.each w.consumer station consumer-seat)
+        pub latch-stationed : IsStationed hosts station
+        latch-stationed = subst (IsStationed hosts) (sym s-is) (net.stationed.each w.consumer station consumer-known)
 
         token-is : token ≡ front_of old c
         token-is = t-is ∙ ap (λ q. value_at q 0) queue-is
 
-        pub latch-may : CanLatch old c → MayLatch (seated hosts station) w.place token
+        pub latch-may : CanLatch old c → MayLatch (stationed hosts station) w.place token
         latch-may can =
-            subst (λ (v : Wire). MayLatch (seated hosts station) v.place token) (sym wire-is)
-            (subst (λ x. MayLatch x (wire_at wires c).place token) (sym seat-is)
+            subst (λ (v : Wire). MayLatch (stationed hosts station) v.place token) (sym wire-is)
+            (subst (λ x. MayLatch x (wire_at wires c).place token) (sym station-is)
             (subst (MayLatch (consumer_of old c) (wire_at wires c).place) (sym token-is) (may-latch flow old net.kept c can)))
 
-        module _ (can : CanLatch old c) (after : List (List Machine)) (new : Held) (rest : new.tokens ≡ drop 1 queue.tokens) (room : new.room ≡ queue.room) (step : IsReseated hosts after station (with_latch (seated hosts station) w.place token)) where
+        module _ (can : CanLatch old c) (after : List (List Machine)) (new : Held) (rest : new.tokens ≡ drop 1 queue.tokens) (room : new.room ≡ queue.room) (step : IsReplacedAt hosts after station (with_latch (stationed hosts station) w.place token)) where
           pub latch-is : net_of after stations wires (slice_set queues c new) end ≡ after_latch old c
           latch-is =
-              parts-are w.consumer station consumer-seat s-is after (with_latch (seated hosts station) w.place token) step (slice_set queues c new)
-              ∙ ap (λ (qs : List (List ℕ)). record old { machines = slice_set (machines_by hosts stations) w.consumer (with_latch (seated hosts station) w.place token); queues = qs })
+              parts-are w.consumer station consumer-known s-is after (with_latch (stationed hosts station) w.place token) step (slice_set queues c new)
+              ∙ ap (λ (qs : List (List ℕ)). record old { machines = slice_set (machines_by hosts stations) w.consumer (with_latch (stationed hosts station) w.place token); queues = qs })
               (map-set tokens queues c new ∙ ap (slice_set (map tokens queues) c) (rest ∙ ap (drop 1) queue-is))
-              ∙ ap (λ x. record old { machines = slice_set (machines_by hosts stations) w.consumer (with_latch x w.place token); queues = slice_set (map tokens queues) c (drop 1 (queue_at (map tokens queues) c)) }) seat-is
+              ∙ ap (λ x. record old { machines = slice_set (machines_by hosts stations) w.consumer (with_latch x w.place token); queues = slice_set (map tokens queues) c (drop 1 (queue_at (map tokens queues) c)) }) station-is
               ∙ ap (λ t. record old { machines = slice_set (machines_by hosts stations) w.consumer (with_latch (consumer_of old c) w.place t); queues = slice_set (map tokens queues) c (drop 1 (queue_at (map tokens queues) c)) }) token-is
               ∙ ap (λ (v : Wire). record old { machines = slice_set (machines_by hosts stations) v.consumer (with_latch (consumer_of old c) v.place (front_of old c)); queues = slice_set (map tokens queues) c (drop 1 (queue_at (map tokens queues) c)) }) wire-is
 
           pub latch-closes : IsNet flow after stations wires (slice_set queues c new) end
           latch-closes =
-              closes w.consumer station consumer-seat s-is after (with_latch (seated hosts station) w.place token) step (slice_set queues c new) (kind-latch (seated hosts station) w.place token)
+              closes w.consumer station consumer-known s-is after (with_latch (stationed hosts station) w.place token) step (slice_set queues c new) (kind-latch (stationed hosts station) w.place token)
               (room-set wires queues c queue new (queues-there c known) q-is room net.room)
               (kept-step flow old (Latch c) (net_of after stations wires (slice_set queues c new) end) net.kept (record { ready = can; after = latch-is }))
 
@@ -180,15 +180,15 @@ module _ {flow : Flow} {hosts : List (List Machine)} {stations : List Station} {
           omega (arith, can.room, net.room c known, ap length queue-is, ap (λ (q : Held). q.room) at)
 
       module _ (station : Station) (s-is : station ≡ slice_index_or stations w.producer station) where
-        module _ (can : CanFire old c) (after : List (List Machine)) (token : ℕ) (gives : IsToken (seated hosts station) w.out token) (new : Held) (put : new.tokens ≡ queue.tokens ++ token ∷ []) (room : new.room ≡ queue.room) (step : IsReseated hosts after station (with_flag (seated hosts station) w.out)) where
+        module _ (can : CanFire old c) (after : List (List Machine)) (token : ℕ) (gives : IsToken (stationed hosts station) w.out token) (new : Held) (put : new.tokens ≡ queue.tokens ++ token ∷ []) (room : new.room ≡ queue.room) (step : IsReplacedAt hosts after station (with_flag (stationed hosts station) w.out)) where
           pub fire-gives : Gives old c (net_of after stations wires (slice_set queues c new) end)
           fire-gives =
               record {
                 token = token;
-                is = subst (λ x. IsToken x (wire_at wires c).out token) (giver-is station s-is) (subst (λ (v : Wire). IsToken (seated hosts station) v.out token) wire-is gives);
+                is = subst (λ x. IsToken x (wire_at wires c).out token) (giver-is station s-is) (subst (λ (v : Wire). IsToken (stationed hosts station) v.out token) wire-is gives);
                 after =
-                    parts-are w.producer station producer-seat s-is after (with_flag (seated hosts station) w.out) step (slice_set queues c new)
-                    ∙ ap (λ (qs : List (List ℕ)). record old { machines = slice_set (machines_by hosts stations) w.producer (with_flag (seated hosts station) w.out); queues = qs })
+                    parts-are w.producer station producer-known s-is after (with_flag (stationed hosts station) w.out) step (slice_set queues c new)
+                    ∙ ap (λ (qs : List (List ℕ)). record old { machines = slice_set (machines_by hosts stations) w.producer (with_flag (stationed hosts station) w.out); queues = qs })
                     (map-set tokens queues c new ∙ ap (slice_set (map tokens queues) c) (put ∙ ap (λ (q : List ℕ). q ++ token ∷ []) queue-is))
                     ∙ ap (λ x. record old { machines = slice_set (machines_by hosts stations) w.producer (with_flag x w.out); queues = slice_set (map tokens queues) c (queue_at (map tokens queues) c ++ token ∷ []) }) (giver-is station s-is)
                     ∙ ap (λ (v : Wire). record old { machines = slice_set (machines_by hosts stations) v.producer (with_flag (producer_of old c) v.out); queues = slice_set (map tokens queues) c (queue_at (map tokens queues) c ++ token ∷ []) }) wire-is;
@@ -196,29 +196,29 @@ module _ {flow : Flow} {hosts : List (List Machine)} {stations : List Station} {
 
           pub fire-closes : IsNet flow after stations wires (slice_set queues c new) end
           fire-closes =
-              closes w.producer station producer-seat s-is after (with_flag (seated hosts station) w.out) step (slice_set queues c new) (kind-flag (seated hosts station) w.out)
+              closes w.producer station producer-known s-is after (with_flag (stationed hosts station) w.out) step (slice_set queues c new) (kind-flag (stationed hosts station) w.out)
               (room-set wires queues c queue new (queues-there c known) q-is room net.room)
               (kept-step flow old (Fire c) (net_of after stations wires (slice_set queues c new) end) net.kept (record { ready = can; after = fire-gives }))
 
   -- ---- `Serve` and `Finish`
 
   module _ (m : ℕ) (station : Station) (below : m < length stations) (is : station ≡ slice_index_or stations m station) where
-    module _ (p : ℕ) (can : CanServe old m p) (after : List (List Machine)) (step : IsReseated hosts after station (with_served (seated hosts station))) where
+    module _ (p : ℕ) (can : CanServe old m p) (after : List (List Machine)) (step : IsReplacedAt hosts after station (with_served (stationed hosts station))) where
       pub serve-is : net_of after stations wires queues end ≡ after_serve old m
       serve-is =
-          parts-are m station below is after (with_served (seated hosts station)) step queues
+          parts-are m station below is after (with_served (stationed hosts station)) step queues
           ∙ ap (λ x. record old { machines = slice_set (machines_by hosts stations) m (with_served x) }) (sym (machine-is m station below is))
 
       pub serve-closes : IsNet flow after stations wires queues end
       serve-closes =
-          closes m station below is after (with_served (seated hosts station)) step queues refl net.room
+          closes m station below is after (with_served (stationed hosts station)) step queues refl net.room
           (kept-step flow old (Serve m p) (net_of after stations wires queues end) net.kept (record { ready = can; after = serve-is }))
 
     module _ (can : CanFinish old m) where
-      pub finish-seated : IsSeated hosts station
-      finish-seated = subst (IsSeated hosts) (sym is) (net.seated.each m station below)
+      pub finish-stationed : IsStationed hosts station
+      finish-stationed = subst (IsStationed hosts) (sym is) (net.stationed.each m station below)
 
-      pub finish-may : MayFinish (seated hosts station)
+      pub finish-may : MayFinish (stationed hosts station)
       finish-may =
           subst MayFinish (machine-is m station below is)
           (own-may-finish flow (frame_of old) net.kept.sound m (machine-known old m can.there) (machine_at (machines_by hosts stations) m) (net.kept.machines m can.there) can.below can.fired can.served can.latched)
@@ -230,11 +230,11 @@ module _ {flow : Flow} {hosts : List (List Machine)} {stations : List Station} {
             state = goes.state;
             is = subst (λ x. IsNextState x goes.state) (sym (machine-is m station below is)) goes.is;
             after =
-                parts-are m station below is after (finished (seated hosts station) goes.state) goes.step queues
+                parts-are m station below is after (finished (stationed hosts station) goes.state) goes.step queues
                 ∙ ap (λ x. record old { machines = slice_set (machines_by hosts stations) m (finished x goes.state) }) (sym (machine-is m station below is));
           }
 
       pub finish-closes : IsNet flow after stations wires queues end
       finish-closes =
-          closes m station below is after (finished (seated hosts station) goes.state) goes.step queues (kind-finished (seated hosts station) goes.state) net.room
+          closes m station below is after (finished (stationed hosts station) goes.state) goes.step queues (kind-finished (stationed hosts station) goes.state) net.room
           (kept-step flow old (Finish m) (net_of after stations wires queues end) net.kept (record { ready = can; after = finish-goes }))

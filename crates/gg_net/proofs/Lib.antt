@@ -8,7 +8,7 @@ pub mod GoesLemmas
 pub mod CauseLemmas
 pub mod CountLemmas
 pub mod ProgressLemmas
-pub mod SeatLemmas
+pub mod StationLemmas
 pub mod PortLemmas
 pub mod NetLemmas
 pub mod MayLemmas

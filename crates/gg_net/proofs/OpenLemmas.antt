@@ -13,7 +13,7 @@ use Rattle.gg_net.specs.declared.shape.Station.{Station}
 use Rattle.gg_net.specs.Network.{Network, wire_at, queue_at, given_by, got_by, entered_by, opening_queue, puts, takes, entered, kind_of, kind_at, frame_of}
 use Rattle.gg_net.specs.Kept.{list_at, rows_at, start_at, ins_of, run_state, served_by, IsStateOf, Keeps, KeepsNone, MachineAt, Kept}
 use Rattle.gg_net.specs.Queue.{Held}
-use Rattle.gg_net.specs.Seats.{machines_by, seated}
+use Rattle.gg_net.specs.Stations.{machines_by, stationed}
 use Rattle.gg_net.specs.Net.{net_of, IsNet, OpensIn, IsOpening, opening_net, Opens, AreOpen}
 use Rattle.gg_net.proofs.LatchLemmas.{no-latch, no-flag}
 use Rattle.gg_net.proofs.StepLemmas.{clear-after}
@@ -96,7 +96,7 @@ module _ {flow : Flow} {hosts : List (List Machine)} {stations : List Station} {
   net = opening_net machines wires end
 
   opening-at : (m : ℕ) → m < length machines → IsOpening flow m (machine_at machines m)
-  opening-at m there = opens.opening m (omega (arith, there, length-map stations (seated hosts)))
+  opening-at m there = opens.opening m (omega (arith, there, length-map stations (stationed hosts)))
 
   known-at : (m : ℕ) → m < length (map kind_of machines) → m < length machines
   known-at m below = omega (arith, below, length-map machines kind_of)
@@ -122,7 +122,7 @@ module _ {flow : Flow} {hosts : List (List Machine)} {stations : List Station} {
     pub is-net : IsNet flow hosts stations wires queues end
     is-net =
         record {
-          seated = opens.seated;
+          stationed = opens.stationed;
           listed = opens.listed;
           room = are.room;
           limits = opens.limits;

@@ -17,7 +17,7 @@ use Rattle.gg_net.specs.Step.{fields_at, due_fields}
 use Rattle.gg_net.specs.Kept.{list_at, IsSound, MachineAt, BetweenAt, Kept}
 use Rattle.gg_net.specs.Parted.{takes_by, enters_by}
 use Rattle.gg_net.specs.Queue.{Held}
-use Rattle.gg_net.specs.Seats.{hosted, seated, machines_by, IsSeated}
+use Rattle.gg_net.specs.Stations.{hosted, stationed, machines_by, IsStationed}
 use Rattle.gg_net.specs.Net.{net_of, AreListed, HasRoom, IsWithinLimits, IsNet}
 use Rattle.gg_net.proofs.PortLemmas.{any_port}
 use Rattle.gg_net.proofs.LatchLemmas.{has-value, all-filled}
@@ -160,16 +160,16 @@ module _ {flow : Flow} {hosts : List (List Machine)} {stations : List Station} {
       let old : Network = net_of hosts stations wires queues end in
       let machines : List Machine = machines_by after stations in
       let tokens : List (List ℕ) = map (λ (q : Held). q.tokens) left in
-      let same : length machines ≡ length old.machines = length-map stations (seated after) ∙ sym (length-map stations (seated hosts)) in
-      let mine : (m : ℕ) → m < length old.machines → MachineAt flow frame m (machine_at machines m) = λ m lt. own m (omega (arith, lt, length-map stations (seated hosts))) in
+      let same : length machines ≡ length old.machines = length-map stations (stationed after) ∙ sym (length-map stations (stationed hosts)) in
+      let mine : (m : ℕ) → m < length old.machines → MachineAt flow frame m (machine_at machines m) = λ m lt. own m (omega (arith, lt, length-map stations (stationed hosts))) in
       let frames : frame_of (net_of after stations wires left end) ≡ frame = frame-rejoined flow old net.kept machines tokens same mine in
       record {
-        seated = record {
+        stationed = record {
           each = λ k d lt.
-              let seat : IsSeated hosts (slice_index_or stations k d) = net.seated.each k d lt in
-              record { host = omega (arith, seat.host, count); thread = omega (arith, seat.thread, threads (slice_index_or stations k d).host) };
-          alone = net.seated.alone;
-          whole = λ h t host thread. net.seated.whole h t (omega (arith, host, count)) (omega (arith, thread, threads h));
+              let is_stationed : IsStationed hosts (slice_index_or stations k d) = net.stationed.each k d lt in
+              record { host = omega (arith, is_stationed.host, count); thread = omega (arith, is_stationed.thread, threads (slice_index_or stations k d).host) };
+          alone = net.stationed.alone;
+          whole = λ h t host thread. net.stationed.whole h t (omega (arith, host, count)) (omega (arith, thread, threads h));
         };
         listed = subst (λ f. AreListed f stations) (sym frames) net.listed;
         room = room;

@@ -15,7 +15,7 @@ use Rattle.gg_node.specs.Machine.{RunsPiece, Port, Machine, no_state, needs_at, 
 use Rattle.gg_node.specs.Step.{fields_of}
 use Rattle.gg_flat.proofs.WorkedForms.{only, both}
 use Rattle.gg_net.specs.declared.shape.Wire.{Wire}
-use Rattle.gg_net.specs.declared.event.Refusal.TheVariants.{Stranger, Ended, Fired, NoToken, NeedsInput, Full, Order, Unfired, Unserved}
+use Rattle.gg_net.specs.declared.event.StepRefusal.TheVariants.{Stranger, Ended, Fired, NoToken, NeedsInput, Full, Order, Unfired, Unserved}
 use Rattle.gg_net.specs.Network.{Network, IsAtIn, puts, takes, entered_by, serves, frame_of, wire_at, IsAtOut, kind_at}
 use Rattle.gg_net.specs.Step.{CanFire, CanServe, after_latch, after_fire, after_serve, after_finish, LatchRefused, FireRefused, ServeRefused, FinishRefused}
 use Rattle.gg_net.specs.Kept.{list_at, rows_at, start_at, Runs, Answers, Asks, Solves, IsWired, NeedsChannel, HasNoRing, BetweenAt}

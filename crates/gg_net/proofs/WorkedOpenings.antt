@@ -7,7 +7,7 @@ use Rattle.gg_node.specs.Machine.{machine_at}
 use Rattle.gg_net.specs.declared.shape.Station.{Station}
 use Rattle.gg_net.specs.Network.{IsAtIn, IsAtOut, kind_at, frame_of}
 use Rattle.gg_net.specs.Kept.{NeedsChannel}
-use Rattle.gg_net.specs.Seats.{hosted, IsSeated, HasStation, AreSeated, machines_by}
+use Rattle.gg_net.specs.Stations.{hosted, IsStationed, HasStation, AreStationed, machines_by}
 use Rattle.gg_net.specs.Net.{IsListed, AreListed, IsOpening, Opens}
 use Rattle.gg_net.proofs.WorkedNets.{fed_hosts, fed_stations, fed_wires, fed_flow, fed, fed-wired, fed-solved, no-needs, within-limits}
 
@@ -23,10 +23,10 @@ whole h t host thread =
     let first : 0 ≡ t = omega (arith, thread, lone h host) in
     both (λ h. HasStation fed_stations h t) (record { machine = 0; known = lit< tt; host = λ s. refl; thread = λ s. first }) (record { machine = 1; known = lit< tt; host = λ s. refl; thread = λ s. first }) h host
 
-fed-seated : AreSeated fed_hosts fed_stations
-fed-seated =
+fed-stationed : AreStationed fed_hosts fed_stations
+fed-stationed =
     record {
-      each = λ k s lt. both (λ k. IsSeated fed_hosts (slice_index_or fed_stations k s)) (record { host = lit< tt; thread = lit< tt }) (record { host = lit< tt; thread = lit< tt }) k lt;
+      each = λ k s lt. both (λ k. IsStationed fed_hosts (slice_index_or fed_stations k s)) (record { host = lit< tt; thread = lit< tt }) (record { host = lit< tt; thread = lit< tt }) k lt;
       alone = λ m k s t low high same threads. sym (host-is m s low) ∙ same ∙ host-is k t high;
       whole = whole;
     }
@@ -66,7 +66,7 @@ lower (suc c) d needs = absurd (omega (arith, needs.known))
 fed-opens : Opens fed_flow fed_hosts fed_stations fed_wires 2
 fed-opens =
     record {
-      seated = fed-seated;
+      stationed = fed-stationed;
       opening = fed-opening;
       listed = fed-listed;
       limits = within-limits;

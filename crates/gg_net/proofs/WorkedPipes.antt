@@ -20,7 +20,7 @@ use Rattle.gg_flat.proofs.WorkedForms.{only, both, three, loaded-formed, loaded-
 use Rattle.gg_node.specs.Machine.{RunsPiece, Port, Machine, no_state, machine_at, needs_at, source_machine, tray_machine}
 use Rattle.gg_node.specs.Step.{fields_of}
 use Rattle.gg_net.specs.declared.shape.Wire.{Wire}
-use Rattle.gg_net.specs.declared.event.Refusal.TheVariants.{Full}
+use Rattle.gg_net.specs.declared.event.StepRefusal.TheVariants.{Full}
 use Rattle.gg_net.specs.Network.{Network, wire_at, IsAtIn, IsAtOut, queue_at, entered_by, puts, takes, entered, kind_at, frame_of}
 use Rattle.gg_net.specs.Step.{CanLatch, CanFire, FireRefused, after_latch}
 use Rattle.gg_net.specs.Kept.{list_at, rows_at, start_at, in_columns, Runs, RunsRows, Answers, Asks, Solves, IsWired, NeedsChannel, BetweenAt, HasKept, Kept}

@@ -2,6 +2,6 @@ pub mod Network
 pub mod Step
 pub mod Kept
 pub mod Queue
-pub mod Seats
+pub mod Stations
 pub mod Net
 pub mod Parted

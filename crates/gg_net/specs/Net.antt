@@ -14,7 +14,7 @@ use Rattle.gg_net.specs.declared.shape.ServedPort.{ServedPort}
 use Rattle.gg_net.specs.declared.shape.Shape.{Shape}
 use Rattle.gg_net.specs.Network.{wire_at, IsAtIn, IsAtOut, Network, opening_queue, Kind, kind_at, Frame, frame_of}
 use Rattle.gg_net.specs.Queue.{Held}
-use Rattle.gg_net.specs.Seats.{machines_by, AreSeated}
+use Rattle.gg_net.specs.Stations.{machines_by, AreStationed}
 use Rattle.gg_net.specs.Kept.{IsSound, Kept}
 
 -- ---- the parts
@@ -62,7 +62,7 @@ pub record IsWithinLimits (frame : Frame) : Type 0 where
 -- What holds of the parts of a network at all times.
 pub record IsNet (flow : Flow) (hosts : List (List Machine)) (stations : List Station) (wires : List Wire) (queues : List Held) (end : ℕ) : Type 0 where
   -- each machine is at a thread of a host, and each thread has one
-  pub seated : AreSeated hosts stations
+  pub stationed : AreStationed hosts stations
   pub listed : AreListed (frame_of (net_of hosts stations wires queues end)) stations
   -- each queue has memory for as many tokens as its channel may hold
   pub room : HasRoom wires queues
@@ -102,7 +102,7 @@ opening_net machines wires end = record { machines = machines; wires = wires; qu
 -- first cycle, and is connected to its channels as its station lists them. The network is wired and has no ring, and
 -- the flow solves it.
 pub record Opens (flow : Flow) (hosts : List (List Machine)) (stations : List Station) (wires : List Wire) (end : ℕ) : Type 0 where
-  pub seated : AreSeated hosts stations
+  pub stationed : AreStationed hosts stations
   pub opening : (m : ℕ) → m < length stations → IsOpening flow m (machine_at (machines_by hosts stations) m)
   pub listed : AreListed (frame_of (opening_net (machines_by hosts stations) wires end)) stations
   pub limits : IsWithinLimits (frame_of (opening_net (machines_by hosts stations) wires end))

@@ -10,8 +10,8 @@ use Rattle.gg_node.specs.Token.{IsToken, IsNextState}
 use Rattle.gg_node.specs.Step.{with_latch, with_flag, with_served, finished, fields_of, AllFired, AllLatched}
 use Rattle.gg_net.specs.declared.event.Event.{Event}
 use Rattle.gg_net.specs.declared.event.Event.TheVariants.{Latch, Fire, Serve, Finish}
-use Rattle.gg_net.specs.declared.event.Refusal.{Refusal}
-use Rattle.gg_net.specs.declared.event.Refusal.TheVariants.{Stranger, Ended, Latched, Fired, NoToken, NeedsInput, Full, Order, Unfired, Unserved}
+use Rattle.gg_net.specs.declared.event.StepRefusal.{StepRefusal}
+use Rattle.gg_net.specs.declared.event.StepRefusal.TheVariants.{Stranger, Ended, Latched, Fired, NoToken, NeedsInput, Full, Order, Unfired, Unserved}
 use Rattle.gg_net.specs.Network.{Network, wire_at, queue_at, producer_of, consumer_of, IsAtIn, IsAtOut}
 
 -- ---- the parts of conditions
@@ -196,7 +196,7 @@ due_or_count count None = count
 due_or_count count (Some p) = p
 
 -- why `Latch` of channel c is refused; each cause but the first is asked only where those before it don't hold
-abbrev pub LatchRefused : Network → ℕ → Refusal → Type 0
+abbrev pub LatchRefused : Network → ℕ → StepRefusal → Type 0
 LatchRefused net c Stranger = length net.wires ≤ c
 LatchRefused net c Ended = (c < length net.wires) × ¬ IsBelow net (wire_at net.wires c).consumer
 LatchRefused net c Latched = CanTake net c × IsSome (latch_of net c)
@@ -204,7 +204,7 @@ LatchRefused net c (NoToken d) = CanTake net c × (latch_of net c ≡ None) × (
 LatchRefused net c refusal = ⊥
 
 -- why `Fire` of channel c is refused, in the same way
-abbrev pub FireRefused : Network → ℕ → Refusal → Type 0
+abbrev pub FireRefused : Network → ℕ → StepRefusal → Type 0
 FireRefused net c Stranger = length net.wires ≤ c
 FireRefused net c Ended = (c < length net.wires) × ¬ IsBelow net (wire_at net.wires c).producer
 FireRefused net c Fired = CanGive net c × (flag_of net c ≡ true)
@@ -213,7 +213,7 @@ FireRefused net c (Full d n) = CanGive net c × (flag_of net c ≡ false) × (mi
 FireRefused net c refusal = ⊥
 
 -- why `Serve` of port p of machine m is refused, in the same way
-abbrev pub ServeRefused : Network → ℕ → ℕ → Refusal → Type 0
+abbrev pub ServeRefused : Network → ℕ → ℕ → StepRefusal → Type 0
 ServeRefused net m p Stranger = ¬ HasPort net m p
 ServeRefused net m p Ended = HasPort net m p × ¬ IsBelow net m
 ServeRefused net m p (Unfired d) = HasPort net m p × IsBelow net m × IsUnfired net m d
@@ -222,7 +222,7 @@ ServeRefused net m p (NeedsInput d) = HasPort net m p × IsBelow net m × AllFir
 ServeRefused net m p refusal = ⊥
 
 -- why `Finish` of machine m is refused, in the same way
-abbrev pub FinishRefused : Network → ℕ → Refusal → Type 0
+abbrev pub FinishRefused : Network → ℕ → StepRefusal → Type 0
 FinishRefused net m Stranger = length net.machines ≤ m
 FinishRefused net m Ended = (m < length net.machines) × ¬ IsBelow net m
 FinishRefused net m (Unfired d) = (m < length net.machines) × IsBelow net m × IsUnfired net m d
@@ -231,7 +231,7 @@ FinishRefused net m (NeedsInput d) = (m < length net.machines) × IsBelow net m 
 FinishRefused net m refusal = ⊥
 
 -- An event is refused for this cause: the first of its conditions that fails.
-abbrev pub Refused : Network → Event → Refusal → Type 0
+abbrev pub Refused : Network → Event → StepRefusal → Type 0
 Refused net (Latch c) refusal = LatchRefused net c refusal
 Refused net (Fire c) refusal = FireRefused net c refusal
 Refused net (Serve m p) refusal = ServeRefused net m p refusal

@@ -1,4 +1,4 @@
-//! `Event` and `Refusal`: what a step of a network does, and why it is refused.
+//! `Event` and `StepRefusal`: what a step of a network does, and why it is refused.
 
 /// A step of a network. Channels, machines and ports are given by their numbers.
 #[derive(Clone, Copy, PartialEq, Eq, Drop)]
@@ -29,7 +29,7 @@ pub enum Event {
 
 /// Why a step is refused: the first of its conditions that fails.
 #[derive(Clone, Copy, Debug, PartialEq, Eq, Drop)]
-pub enum Refusal {
+pub enum StepRefusal {
     /// The channel, the machine or the port doesn't exist.
     Stranger,
     /// The machine has done all its cycles.

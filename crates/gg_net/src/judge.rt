@@ -4,7 +4,7 @@ ghost use Rattle.gg_node.specs.Machine.{machine_at, missing, due};
 ghost use Rattle.gg_net.specs.Network.{wire_at, queue_at};
 ghost use Rattle.gg_net.specs.Step.{missing_field, IsWanted, Ready, Refused, CanLatch, CanFire, CanServe, CanFinish, LatchRefused, FireRefused, ServeRefused, FinishRefused};
 
-use crate::event::{Event, Refusal};
+use crate::event::{Event, StepRefusal};
 use crate::net::Net;
 use gg_flat::Streams;
 use gg_node::Host;
@@ -47,101 +47,101 @@ impl<H: Host, Z: Streams> Net<H, Z> {
     }
 
     // Whether the front token of a channel may be latched.
-    pub(crate) fn judge_latch(&self, channel: u32) -> Result<(), Refusal>
+    pub(crate) fn judge_latch(&self, channel: u32) -> Result<(), StepRefusal>
         ensures { MatchResult result (λ _. CanLatch self.now channel) (LatchRefused self.now channel) }
     {
         if channel as usize >= self.channels() {
-            return Err(Refusal::Stranger);
+            return Err(StepRefusal::Stranger);
         }
         let wire = self.wire(channel);
         if self.cycle(wire.consumer) >= self.end() {
-            return Err(Refusal::Ended);
+            return Err(StepRefusal::Ended);
         }
         if self.latched(wire.consumer, wire.place) {
-            return Err(Refusal::Latched);
+            return Err(StepRefusal::Latched);
         }
         if self.queued(channel) == 0 {
-            return Err(Refusal::NoToken { channel });
+            return Err(StepRefusal::NoToken { channel });
         }
         Ok(())
     }
 
     // Whether the token of a channel may be given.
-    pub(crate) fn judge_fire(&self, channel: u32) -> Result<(), Refusal>
+    pub(crate) fn judge_fire(&self, channel: u32) -> Result<(), StepRefusal>
         ensures { MatchResult result (λ _. CanFire self.now channel) (FireRefused self.now channel) }
     {
         if channel as usize >= self.channels() {
-            return Err(Refusal::Stranger);
+            return Err(StepRefusal::Stranger);
         }
         let wire = self.wire(channel);
         if self.cycle(wire.producer) >= self.end() {
-            return Err(Refusal::Ended);
+            return Err(StepRefusal::Ended);
         }
         if self.fired(wire.producer, wire.out) {
-            return Err(Refusal::Fired);
+            return Err(StepRefusal::Fired);
         }
         if let Some(channel) = self.missing_channel(wire.producer, wire.out) {
-            return Err(Refusal::NeedsInput { channel });
+            return Err(StepRefusal::NeedsInput { channel });
         }
         if self.filled(channel) >= wire.capacity as usize {
             let len = wire.capacity;
-            return Err(Refusal::Full { channel, len });
+            return Err(StepRefusal::Full { channel, len });
         }
         Ok(())
     }
 
     // Whether a port may be served.
-    pub(crate) fn judge_serve(&self, machine: u32, port: u32) -> Result<(), Refusal>
+    pub(crate) fn judge_serve(&self, machine: u32, port: u32) -> Result<(), StepRefusal>
         ensures { MatchResult result (λ _. CanServe self.now machine port) (ServeRefused self.now machine port) }
     {
         if machine as usize >= self.machines() {
-            return Err(Refusal::Stranger);
+            return Err(StepRefusal::Stranger);
         }
         if port >= self.port_count(machine) {
-            return Err(Refusal::Stranger);
+            return Err(StepRefusal::Stranger);
         }
         if self.cycle(machine) >= self.end() {
-            return Err(Refusal::Ended);
+            return Err(StepRefusal::Ended);
         }
         if let Some(place) = self.first_unfired(machine) {
-            return Err(Refusal::Unfired {
+            return Err(StepRefusal::Unfired {
                 channel: self.out_channel(machine, place),
             });
         }
         let Some(due) = self.due(machine) else {
-            return Err(Refusal::Order {
+            return Err(StepRefusal::Order {
                 due: self.port_count(machine),
             });
         };
         if due != port {
-            return Err(Refusal::Order { due });
+            return Err(StepRefusal::Order { due });
         }
         if let Some(channel) = self.field_channel(machine, port) {
-            return Err(Refusal::NeedsInput { channel });
+            return Err(StepRefusal::NeedsInput { channel });
         }
         Ok(())
     }
 
     // Whether a machine may finish its cycle.
-    pub(crate) fn judge_finish(&self, machine: u32) -> Result<(), Refusal>
+    pub(crate) fn judge_finish(&self, machine: u32) -> Result<(), StepRefusal>
         ensures { MatchResult result (λ _. CanFinish self.now machine) (FinishRefused self.now machine) }
     {
         if machine as usize >= self.machines() {
-            return Err(Refusal::Stranger);
+            return Err(StepRefusal::Stranger);
         }
         if self.cycle(machine) >= self.end() {
-            return Err(Refusal::Ended);
+            return Err(StepRefusal::Ended);
         }
         if let Some(place) = self.first_unfired(machine) {
-            return Err(Refusal::Unfired {
+            return Err(StepRefusal::Unfired {
                 channel: self.out_channel(machine, place),
             });
         }
         if let Some(port) = self.due(machine) {
-            return Err(Refusal::Unserved { port });
+            return Err(StepRefusal::Unserved { port });
         }
         if let Some(place) = self.first_unlatched(machine) {
-            return Err(Refusal::NeedsInput {
+            return Err(StepRefusal::NeedsInput {
                 channel: self.in_channel(machine, place),
             });
         }
@@ -153,7 +153,7 @@ impl<H: Host, Z: Streams> Net<H, Z> {
     /// # Errors
     ///
     /// Returns the first condition of the event that fails.
-    pub fn test(&self, event: Event) -> Result<(), Refusal>
+    pub fn test(&self, event: Event) -> Result<(), StepRefusal>
         ensures { MatchResult result (λ _. Ready self.now event) (Refused self.now event) }
     {
         match event {

@@ -4,7 +4,7 @@ ghost use Rattle.gg_flat.specs.Line.{value_at};
 ghost use Rattle.gg_flat.specs.Streams.{Flow};
 ghost use Rattle.gg_node.specs.Machine.{KeepsLast, machine_at, kept_value};
 ghost use Rattle.gg_net.specs.declared.event.Event.{Event};
-ghost use Rattle.gg_net.specs.declared.event.Refusal.{Refusal};
+ghost use Rattle.gg_net.specs.declared.event.StepRefusal.{StepRefusal};
 ghost use Rattle.gg_net.specs.Network.{Network, SameCounts, consumer_of, frame_of};
 ghost use Rattle.gg_net.specs.Kept.{list_at, Kept};
 ghost use Rattle.gg_net.specs.Step.{Ready, Refused, Step};
@@ -13,7 +13,7 @@ ghost use Rattle.gg_net.specs.Step.{Ready, Refused, Step};
 pub fn goes_once()
     ensures goes { (flow : Flow) (net : Network) (event : Event) → Kept flow net → Ready net event → (new : Network) × Step net event new }
     ensures once { (flow : Flow) (net : Network) (event : Event) (one other : Network) → Kept flow net → Step net event one → Step net event other → one ≡ other }
-    ensures never { (net : Network) (event : Event) (cause : Refusal) → Ready net event → Refused net event cause → ⊥ }
+    ensures never { (net : Network) (event : Event) (cause : StepRefusal) → Ready net event → Refused net event cause → ⊥ }
 {}
 
 /// A network that is kept is determined by its flow, what no step changes, and its counts.
@@ -28,12 +28,16 @@ pub fn goes_on()
 
 /// An event of a network that is kept is refused for one cause only.
 pub fn refused_once()
-    ensures { (flow : Flow) (net : Network) (event : Event) (cause other : Refusal) → Kept flow net → Refused net event cause → Refused net event other → cause ≡ other }
+    ensures { (flow : Flow) (net : Network) (event : Event) (cause other : StepRefusal) → Kept flow net → Refused net event cause → Refused net event other → cause ≡ other }
 {}
 
 /// A tray of a network that is kept has the values of its channel in its last `rows` cycles, since the beginning, and
 /// no others.
 pub fn trays_tell()
-    ensures tells { (flow : Flow) (net : Network) (c rows t : ℕ) → Kept flow net → c < length net.wires → (consumer_of net c).behaviour ≡ KeepsLast rows → flow.begin ≤ t → t < (consumer_of net c).cycle → (consumer_of net c).cycle ≤ t + rows → kept_value (consumer_of net c) t ≡ Some (value_at (list_at flow.lists c) t) }
-    ensures only { (flow : Flow) (net : Network) (c rows t value : ℕ) → Kept flow net → c < length net.wires → (consumer_of net c).behaviour ≡ KeepsLast rows → kept_value (consumer_of net c) t ≡ Some value → (flow.begin ≤ t) × (t < (consumer_of net c).cycle) × ((consumer_of net c).cycle ≤ t + rows) × (value ≡ value_at (list_at flow.lists c) t) }
+    ensures tells { (flow : Flow) (net : Network) (c rows t : ℕ) → Kept flow net → c < length net.wires
+        → (consumer_of net c).behaviour ≡ KeepsLast rows → flow.begin ≤ t → t < (consumer_of net c).cycle
+        → (consumer_of net c).cycle ≤ t + rows → kept_value (consumer_of net c) t ≡ Some (value_at (list_at flow.lists c) t) }
+    ensures only { (flow : Flow) (net : Network) (c rows t value : ℕ) → Kept flow net → c < length net.wires
+        → (consumer_of net c).behaviour ≡ KeepsLast rows → kept_value (consumer_of net c) t ≡ Some value → (flow.begin ≤ t)
+        × (t < (consumer_of net c).cycle) × ((consumer_of net c).cycle ≤ t + rows) × (value ≡ value_at (list_at flow.lists c) t) }
 {}

@@ -25,16 +25,16 @@
 mod event;
 mod judge;
 mod laws;
+mod located;
 mod net;
 mod parts;
 mod queue;
-mod seats;
 mod shape;
 mod step;
 mod tells;
 mod waits;
 
-pub use event::{Event, Refusal};
+pub use event::{Event, StepRefusal};
 pub use gg_flat::Streams;
 pub use laws::{counted_once, goes_on, goes_once, refused_once, trays_tell};
 pub use net::Net;

@@ -5,12 +5,12 @@ ghost use Rattle.gg_flat.specs.Line.{value_at};
 ghost use Rattle.gg_node.specs.Machine.{machine_at};
 ghost use Rattle.gg_net.specs.Network.{wire_at, queue_at, puts, takes, serves, frame_of};
 ghost use Rattle.gg_net.specs.Kept.{Kept};
-ghost use Rattle.gg_net.specs.Seats.{machines_by};
+ghost use Rattle.gg_net.specs.Stations.{machines_by};
 ghost use Rattle.gg_net.specs.Net.{AreListed, AreOpen, AreParts, IsWithinLimits, Opens, joined, opening_net};
 
+use crate::located;
 use crate::parts::Parts;
 use crate::queue::Queue;
-use crate::seats;
 use crate::shape::{Shape, Wire};
 use gg_flat::Streams;
 use gg_node::Host;
@@ -105,6 +105,7 @@ impl<H: Host, Z: Streams> Net<H, Z> {
     pub fn kept(&self)
         ensures { Kept Z.flow self.now }
     {
+        // for the invariant alone
         let _ = &self.shape;
     }
 
@@ -112,6 +113,7 @@ impl<H: Host, Z: Streams> Net<H, Z> {
     pub fn within_limits(&self)
         ensures { IsWithinLimits (frame_of self.now) }
     {
+        // for the invariant alone
         let _ = &self.shape;
     }
 
@@ -126,13 +128,13 @@ impl<H: Host, Z: Streams> Net<H, Z> {
     }
 
     /// The host of a machine, and the machine's thread there.
-    pub fn seat(&self, machine: u32) -> (&H, u32)
+    pub fn host_and_thread(&self, machine: u32) -> (&H, u32)
         requires { machine < length self.now.machines }
         ensures thread { result.1 < length (H.machines result.0.now) }
         ensures machine { machine_at (H.machines result.0.now) result.1 ≡ machine_at self.now.machines machine }
     {
         let station = &self.shape.stations[machine as usize];
-        (seats::host_of(&self.hosts, station), station.thread)
+        (located::host_of(&self.hosts, station), station.thread)
     }
 
     /// The host of a machine.
@@ -140,7 +142,7 @@ impl<H: Host, Z: Streams> Net<H, Z> {
         requires { machine < length self.now.machines }
         ensures { Contains (H.machines result.now) (machine_at self.now.machines machine) }
     {
-        self.seat(machine).0
+        self.host_and_thread(machine).0
     }
 
     /// The number of cycles that the network has to do.
@@ -169,7 +171,7 @@ impl<H: Host, Z: Streams> Net<H, Z> {
         requires { machine < length self.now.machines }
         ensures { result ≡ (machine_at self.now.machines machine).cycle }
     {
-        seats::cycle(&self.hosts, &self.shape.stations[machine as usize])
+        located::cycle(&self.hosts, &self.shape.stations[machine as usize])
     }
 
     /// The number of ports of a machine that were served in this cycle.
@@ -177,7 +179,7 @@ impl<H: Host, Z: Streams> Net<H, Z> {
         requires { machine < length self.now.machines }
         ensures { result ≡ (machine_at self.now.machines machine).served }
     {
-        seats::served(&self.hosts, &self.shape.stations[machine as usize])
+        located::served(&self.hosts, &self.shape.stations[machine as usize])
     }
 
     /// The number of ports of a machine that are served in a cycle.
@@ -185,7 +187,7 @@ impl<H: Host, Z: Streams> Net<H, Z> {
         requires { machine < length self.now.machines }
         ensures { result ≡ length (machine_at self.now.machines machine).ports }
     {
-        seats::dues(&self.hosts, &self.shape.stations[machine as usize])
+        located::dues(&self.hosts, &self.shape.stations[machine as usize])
     }
 
     /// The number of ports of a machine's memory, including those that no step serves; 0 if the machine isn't a memory
@@ -194,7 +196,7 @@ impl<H: Host, Z: Streams> Net<H, Z> {
         requires { machine < length self.now.machines }
         ensures { result ≡ (machine_at self.now.machines machine).port_count }
     {
-        seats::port_count(&self.hosts, &self.shape.stations[machine as usize])
+        located::port_count(&self.hosts, &self.shape.stations[machine as usize])
     }
 
     // The cycle that a machine is in, which is within the limit.
@@ -223,6 +225,7 @@ impl<H: Host, Z: Streams> Net<H, Z> {
         ensures { result ≡ puts self.now channel }
     {
         self.kept();
+        // for the invariant alone
         let _ = self.end();
         let wire = self.wire(channel);
         let cycle = self.cycle(wire.producer);
@@ -239,6 +242,7 @@ impl<H: Host, Z: Streams> Net<H, Z> {
         ensures { result ≡ takes self.now channel }
     {
         self.kept();
+        // for the invariant alone
         let _ = self.end();
         let wire = self.wire(channel);
         let cycle = self.cycle(wire.consumer);
@@ -252,7 +256,9 @@ impl<H: Host, Z: Streams> Net<H, Z> {
     /// The last token that has entered a channel, if it is still in the queue; None if the queue is empty.
     pub fn newest(&self, channel: u32) -> Option<u128>
         requires { channel < length self.now.wires }
-        ensures { MatchOption result (queue_at self.now.queues channel ≡ []) (λ token. (0 < length (queue_at self.now.queues channel)) × (token ≡ value_at (queue_at self.now.queues channel) (length (queue_at self.now.queues channel) - 1))) }
+        ensures { MatchOption result (queue_at self.now.queues channel ≡ [])
+            (λ token. (0 < length (queue_at self.now.queues channel))
+            × (token ≡ value_at (queue_at self.now.queues channel) (length (queue_at self.now.queues channel) - 1))) }
     {
         self.queues[channel as usize].newest()
     }

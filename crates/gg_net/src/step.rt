@@ -3,9 +3,9 @@ ghost use Rattle.std.specs.Prelude.{◌≡◌, MatchResult};
 ghost use Rattle.gg_net.specs.Step.{CanLatch, CanFire, CanServe, CanFinish, after_latch, after_serve, Gives, GoesOn, Step, Refused, LatchRefused, FireRefused, ServeRefused, FinishRefused};
 ghost use Rattle.gg_net.specs.declared.event.Event.TheVariants.{Latch, Fire, Serve, Finish};
 
-use crate::event::{Event, Refusal};
+use crate::event::{Event, StepRefusal};
+use crate::located;
 use crate::net::Net;
-use crate::seats;
 use gg_flat::Streams;
 use gg_node::Host;
 
@@ -17,7 +17,7 @@ impl<H: Host, Z: Streams> Net<H, Z> {
     {
         let wire = self.shape.wires[channel as usize];
         let token = self.queues[channel as usize].take();
-        seats::latch(
+        located::latch(
             &mut self.hosts,
             &self.shape.stations[wire.consumer as usize],
             wire.place,
@@ -31,7 +31,7 @@ impl<H: Host, Z: Streams> Net<H, Z> {
         ensures { Gives self.old channel self.new }
     {
         let wire = self.shape.wires[channel as usize];
-        let token = seats::fire(
+        let token = located::fire(
             &mut self.hosts,
             &self.shape.stations[wire.producer as usize],
             wire.out,
@@ -44,7 +44,7 @@ impl<H: Host, Z: Streams> Net<H, Z> {
         requires { CanServe self.old machine port }
         ensures { self.new ≡ after_serve self.old machine }
     {
-        seats::serve(
+        located::serve(
             &mut self.hosts,
             &self.shape.stations[machine as usize],
             port,
@@ -56,11 +56,11 @@ impl<H: Host, Z: Streams> Net<H, Z> {
         requires { CanFinish self.old machine }
         ensures { GoesOn self.old machine self.new }
     {
-        seats::finish(&mut self.hosts, &self.shape.stations[machine as usize]);
+        located::finish(&mut self.hosts, &self.shape.stations[machine as usize]);
     }
 
     // Latches the front token of a channel, if that may be done.
-    fn try_latch(&mut self, channel: u32) -> Result<(), Refusal>
+    fn try_latch(&mut self, channel: u32) -> Result<(), StepRefusal>
         ensures { MatchResult result (λ _. Step self.old (Latch channel) self.new) (λ refusal. LatchRefused self.old channel refusal × (self.new ≡ self.old)) }
     {
         self.judge_latch(channel)?;
@@ -69,7 +69,7 @@ impl<H: Host, Z: Streams> Net<H, Z> {
     }
 
     // Gives the token of a channel, if that may be done.
-    fn try_fire(&mut self, channel: u32) -> Result<(), Refusal>
+    fn try_fire(&mut self, channel: u32) -> Result<(), StepRefusal>
         ensures { MatchResult result (λ _. Step self.old (Fire channel) self.new) (λ refusal. FireRefused self.old channel refusal × (self.new ≡ self.old)) }
     {
         self.judge_fire(channel)?;
@@ -78,7 +78,7 @@ impl<H: Host, Z: Streams> Net<H, Z> {
     }
 
     // Serves a port, if that may be done.
-    fn try_serve(&mut self, machine: u32, port: u32) -> Result<(), Refusal>
+    fn try_serve(&mut self, machine: u32, port: u32) -> Result<(), StepRefusal>
         ensures { MatchResult result (λ _. Step self.old (Serve machine port) self.new) (λ refusal. ServeRefused self.old machine port refusal × (self.new ≡ self.old)) }
     {
         self.judge_serve(machine, port)?;
@@ -87,7 +87,7 @@ impl<H: Host, Z: Streams> Net<H, Z> {
     }
 
     // Finishes the cycle of a machine, if that may be done.
-    fn try_finish(&mut self, machine: u32) -> Result<(), Refusal>
+    fn try_finish(&mut self, machine: u32) -> Result<(), StepRefusal>
         ensures { MatchResult result (λ _. Step self.old (Finish machine) self.new) (λ refusal. FinishRefused self.old machine refusal × (self.new ≡ self.old)) }
     {
         self.judge_finish(machine)?;
@@ -100,7 +100,7 @@ impl<H: Host, Z: Streams> Net<H, Z> {
     /// # Errors
     ///
     /// Returns the first condition of the event that fails. The network then stays as it was.
-    pub fn step(&mut self, event: Event) -> Result<(), Refusal>
+    pub fn step(&mut self, event: Event) -> Result<(), StepRefusal>
         ensures { MatchResult result (λ _. Step self.old event self.new) (λ refusal. Refused self.old event refusal × (self.new ≡ self.old)) }
     {
         match event {

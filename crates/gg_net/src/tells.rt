@@ -7,7 +7,7 @@ ghost use Rattle.gg_net.specs.Step.{due_fields, IsFirstClear, IsFirstEmpty};
 
 use crate::net::Net;
 use crate::shape::Wire;
-use crate::{seats, waits};
+use crate::{located, waits};
 use gg_flat::Streams;
 use gg_node::Host;
 
@@ -38,7 +38,7 @@ impl<H: Host, Z: Streams> Net<H, Z> {
         requires within { place < length (machine_at self.now.machines machine).latches }
         ensures { result ≡ is_some (latch_at (machine_at self.now.machines machine).latches place) }
     {
-        seats::latched(&self.hosts, &self.shape.stations[machine as usize], place)
+        located::latched(&self.hosts, &self.shape.stations[machine as usize], place)
     }
 
     // Whether an out of a machine has given its token of this cycle.
@@ -47,7 +47,7 @@ impl<H: Host, Z: Streams> Net<H, Z> {
         requires within { place < length (machine_at self.now.machines machine).flags }
         ensures { result ≡ flag_at (machine_at self.now.machines machine).flags place }
     {
-        seats::fired(&self.hosts, &self.shape.stations[machine as usize], place)
+        located::fired(&self.hosts, &self.shape.stations[machine as usize], place)
     }
 
     // The first in that an out of a machine needs and that has no token yet, if there is one.
@@ -56,15 +56,15 @@ impl<H: Host, Z: Streams> Net<H, Z> {
         requires within { place < length (machine_at self.now.machines machine).flags }
         ensures { result ≡ missing (machine_at self.now.machines machine) place }
     {
-        seats::missing(&self.hosts, &self.shape.stations[machine as usize], place)
+        located::missing(&self.hosts, &self.shape.stations[machine as usize], place)
     }
 
-    /// The number of the port of a machine that has to be served next, if one is left.
+    /// The number of the port of a machine that has to be served next. None if no port is left.
     pub fn due(&self, machine: u32) -> Option<u32>
         requires { machine < length self.now.machines }
         ensures { result ≡ due (machine_at self.now.machines machine) }
     {
-        seats::due(&self.hosts, &self.shape.stations[machine as usize])
+        located::due(&self.hosts, &self.shape.stations[machine as usize])
     }
 
     /// The number of ins of a machine.
@@ -106,7 +106,7 @@ impl<H: Host, Z: Streams> Net<H, Z> {
         requires { machine < length self.now.machines }
         ensures { MatchOption result (AllFired (machine_at self.now.machines machine)) (IsFirstClear (machine_at self.now.machines machine).flags) }
     {
-        let (host, thread) = self.seat(machine);
+        let (host, thread) = self.host_and_thread(machine);
         waits::first_unfired(host, thread, self.out_count(machine))
     }
 
@@ -115,7 +115,7 @@ impl<H: Host, Z: Streams> Net<H, Z> {
         requires { machine < length self.now.machines }
         ensures { MatchOption result (AllLatched (machine_at self.now.machines machine)) (IsFirstEmpty (machine_at self.now.machines machine).latches) }
     {
-        let (host, thread) = self.seat(machine);
+        let (host, thread) = self.host_and_thread(machine);
         waits::first_unlatched(host, thread, self.in_count(machine))
     }
 
@@ -127,7 +127,7 @@ impl<H: Host, Z: Streams> Net<H, Z> {
     {
         let served = self.served(machine);
         let port = &self.shape.stations[machine as usize].ports.as_slice()[served as usize];
-        let (host, thread) = self.seat(machine);
+        let (host, thread) = self.host_and_thread(machine);
         waits::first_missing(host, thread, port.fields.as_slice())
     }
 }

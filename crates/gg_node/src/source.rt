@@ -145,6 +145,7 @@ impl Host for Source {
     }
 
     fn latched(&self, thread: u32, place: u32) -> bool {
+        // for the invariant alone
         let _ = &self.cycle;
         false
     }
@@ -154,26 +155,31 @@ impl Host for Source {
     }
 
     fn missing(&self, thread: u32, place: u32) -> Option<u32> {
+        // for the invariant alone
         let _ = &self.cycle;
         None
     }
 
     fn due(&self, thread: u32) -> Option<u32> {
+        // for the invariant alone
         let _ = &self.cycle;
         None
     }
 
     fn served(&self, thread: u32) -> u32 {
+        // for the invariant alone
         let _ = &self.cycle;
         0
     }
 
     fn dues(&self, thread: u32) -> u32 {
+        // for the invariant alone
         let _ = &self.cycle;
         0
     }
 
     fn port_count(&self, thread: u32) -> u32 {
+        // for the invariant alone
         let _ = &self.cycle;
         0
     }
@@ -183,6 +189,7 @@ impl Host for Source {
     }
 
     fn latch(&mut self, thread: u32, place: u32, value: u128) {
+        // for the invariant alone
         let _ = &self.cycle;
     }
 
@@ -192,6 +199,7 @@ impl Host for Source {
     }
 
     fn serve(&mut self, thread: u32, port: u32) {
+        // for the invariant alone
         let _ = &self.cycle;
     }
 

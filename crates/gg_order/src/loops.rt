@@ -11,7 +11,7 @@ ghost use Rattle.gg_order.specs.Loop.{IsBefore, IsToldLoop};
 use gg_bits::{Ids, Name};
 use gg_flat::Piece;
 
-/// The loop of a ring of signals, turned so that it begins with the signal whose path is the least.
+// The loop of a ring of signals, turned so that it begins with the signal whose path is the least.
 pub(crate) fn told(piece: &Piece, ring: Vec<u32>) -> Ids
     requires formed { IsWellFormed piece.now }
     requires ring { IsRing (Reads piece.now) (length piece.now.signals) ring.items }

@@ -10,8 +10,8 @@ use crate::part::Part;
 use gg_flat::{ClockNumbers, Driver, Piece};
 use std::alloc::{AllocError, Global};
 
-/// The numbers of what a part has, all of them those of the whole circuit: its signals, those of them that come from
-/// outside, its registers, its memories, and the clocks that its own follow.
+// The numbers of what a part has, all of them those of the whole circuit: its signals, those of them that come from
+// outside, its registers, its memories, and the clocks that its own follow.
 pub(crate) struct Frame {
     pub(crate) globals: Numbers,
     pub(crate) ins: Numbers,
@@ -38,7 +38,7 @@ impl Drop for Frame {
 }
 
 impl Frame {
-    /// The part with this frame and this piece.
+    // The part with this frame and this piece.
     pub(crate) fn part(self, piece: Piece) -> Part
         ensures piece { result.piece ≡ piece }
         ensures globals { result.globals ≡ self.globals }
@@ -64,7 +64,7 @@ impl Frame {
     }
 }
 
-/// The driver of a signal.
+// The driver of a signal.
 pub(crate) fn driver_of(whole: &Piece, signal: u32) -> &Driver
     requires { signal < length whole.now.signals }
     ensures { result.now ≡ driver_at whole.now signal }
@@ -107,11 +107,11 @@ fn held_by(
     Ok(held)
 }
 
-/// The frame of the part with these signals and memories, whose clocks follow these.
-///
-/// # Errors
-///
-/// Returns `AllocError` if an allocation fails.
+// The frame of the part with these signals and memories, whose clocks follow these.
+//
+// # Errors
+//
+// Returns `AllocError` if an allocation fails.
 pub(crate) fn frame_of(
     alloc: Global,
     whole: &Piece,

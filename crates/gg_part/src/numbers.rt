@@ -7,9 +7,9 @@ use gg_bits::Ids;
 use std::alloc::{AllocError, Global};
 use std::marker::Model;
 
-/// Numbers of the whole circuit's signals, registers or memories. The number at a place is the number in the whole
-/// circuit of what the part has at that place. A contract sees the list. A table gives the place of each number. It
-/// has an entry for everything that the whole circuit has.
+// Numbers of the whole circuit's signals, registers or memories. The number at a place is the number in the whole
+// circuit of what the part has at that place. A contract sees the list. A table gives the place of each number. It
+// has an entry for everything that the whole circuit has.
 pub(crate) struct Numbers {
     items: Vec<u32>,
     places: Vec<u32>,
@@ -64,11 +64,11 @@ fn table(alloc: Global, count: usize, items: &[u32]) -> Result<Vec<u32>, AllocEr
 }
 
 impl Numbers {
-    /// These numbers, all of which are below `count`.
-    ///
-    /// # Errors
-    ///
-    /// Returns `AllocError` if an allocation fails.
+    // These numbers, all of which are below `count`.
+    //
+    // # Errors
+    //
+    // Returns `AllocError` if an allocation fails.
     pub(crate) fn of(alloc: Global, count: usize, items: &[u32]) -> Result<Numbers, AllocError>
         requires below { All (λ s. s < count) items.now }
         requires few { length items.now ≤ 2 ^ 32 }
@@ -79,14 +79,14 @@ impl Numbers {
         Ok(Numbers { items, places })
     }
 
-    /// The numbers, in order.
+    // The numbers, in order.
     pub(crate) fn as_slice(&self) -> &[u32]
         ensures { result.now ≡ self.now }
     {
         self.items.as_slice()
     }
 
-    /// The place of a number, if it is one of these.
+    // The place of a number, if it is one of these.
     pub(crate) fn find(&self, number: u32) -> Option<u32>
         ensures within { IfSome result (λ place. place < length self.now) }
         ensures found { IfSome result (λ place. value_at self.now place ≡ number) }
@@ -100,7 +100,7 @@ impl Numbers {
         }
     }
 
-    /// The place of one of these numbers.
+    // The place of one of these numbers.
     pub(crate) fn place(&self, number: u32) -> u32
         requires { Contains self.now number }
         ensures within { result < length self.now }
@@ -109,7 +109,7 @@ impl Numbers {
         self.find(number).unwrap()
     }
 
-    /// Returns the numbers, in order.
+    // Returns the numbers, in order.
     pub(crate) fn into_ids(self) -> Ids
         ensures { result ≡ self }
     {

@@ -40,11 +40,11 @@ fn local_node(globals: &Numbers, node: Node) -> Node
     }
 }
 
-/// A line in the part's numbers.
-///
-/// # Errors
-///
-/// Returns `AllocError` if an allocation fails.
+// A line in the part's numbers.
+//
+// # Errors
+//
+// Returns `AllocError` if an allocation fails.
 pub(crate) fn local_line(alloc: Global, globals: &Numbers, line: &Line) -> Result<Line, AllocError>
     requires { (s : ℕ) → Names line.now s → Contains globals.now s }
     ensures is { IfOk result (λ own. renamed_line globals.now own ≡ line.now) }
@@ -93,26 +93,25 @@ fn local_reset(
     }
 }
 
-/// A register in the part's numbers, which follows this clock of the part.
-///
-/// # Errors
-///
-/// Returns `AllocError` if an allocation fails.
+// A register in the part's numbers, which follows this clock of the part.
+//
+// # Errors
+//
+// Returns `AllocError` if an allocation fails.
 pub(crate) fn local_register(
     alloc: Global,
     globals: &Numbers,
-    clocks: &[Option<u32>],
+    _clocks: &[Option<u32>],
     clock: Option<u32>,
     register: &Register,
 ) -> Result<Register, AllocError>
     requires names { (s : ℕ) → RegisterNames register.now s → Contains globals.now s }
-    requires clock { LeadsTo clocks.now register.now.clock clock }
-    ensures is { IfOk result (λ own. renamed_register globals.now clocks.now own ≡ register.now) }
+    requires clock { LeadsTo _clocks.now register.now.clock clock }
+    ensures is { IfOk result (λ own. renamed_register globals.now _clocks.now own ≡ register.now) }
     ensures below { IfOk result (λ own. RegisterBelow (length globals.now) own) }
-    ensures clocked { IfOk result (λ own. IsClock (length clocks.now) own.clock) }
+    ensures clocked { IfOk result (λ own. IsClock (length _clocks.now) own.clock) }
     ensures own { IfOk result (λ own. own.clock ≡ clock) }
 {
-    let _ = clocks;
     let reset = local_reset(alloc, globals, &register.reset)?;
     let next = local_next(alloc, globals, &register.next)?;
     Ok(Register {
@@ -125,7 +124,7 @@ pub(crate) fn local_register(
 
 // ---- memories
 
-/// The clock at a place; none past the end.
+// The clock at a place; none past the end.
 pub(crate) fn clock_in(clocks: &[Option<u32>], place: usize) -> Option<u32>
     ensures { result ≡ slice_index_or clocks.now place None }
 {
@@ -138,18 +137,17 @@ pub(crate) fn clock_in(clocks: &[Option<u32>], place: usize) -> Option<u32>
 // A reader in the part's numbers, which follows this clock of the part.
 fn local_reader(
     globals: &Numbers,
-    clocks: &[Option<u32>],
+    _clocks: &[Option<u32>],
     clock: Option<u32>,
     reader: Reader,
 ) -> Reader
     requires names { All (λ s. Contains globals.now s) (reader_fields reader) }
-    requires clock { LeadsTo clocks.now reader.clock clock }
-    ensures is { renamed_reader globals.now clocks.now result ≡ reader }
+    requires clock { LeadsTo _clocks.now reader.clock clock }
+    ensures is { renamed_reader globals.now _clocks.now result ≡ reader }
     ensures below { ReadsAmong (length globals.now) result }
-    ensures clocked { IsClock (length clocks.now) result.clock }
+    ensures clocked { IsClock (length _clocks.now) result.clock }
     ensures own { result.clock ≡ clock }
 {
-    let _ = clocks;
     Reader {
         addr: globals.place(reader.addr),
         en: globals.place(reader.en),
@@ -161,18 +159,17 @@ fn local_reader(
 // A writer in the part's numbers, which follows this clock of the part.
 fn local_writer(
     globals: &Numbers,
-    clocks: &[Option<u32>],
+    _clocks: &[Option<u32>],
     clock: Option<u32>,
     writer: Writer,
 ) -> Writer
     requires names { All (λ s. Contains globals.now s) (writer_fields writer) }
-    requires clock { LeadsTo clocks.now writer.clock clock }
-    ensures is { renamed_writer globals.now clocks.now result ≡ writer }
+    requires clock { LeadsTo _clocks.now writer.clock clock }
+    ensures is { renamed_writer globals.now _clocks.now result ≡ writer }
     ensures below { WritesAmong (length globals.now) result }
-    ensures clocked { IsClock (length clocks.now) result.clock }
+    ensures clocked { IsClock (length _clocks.now) result.clock }
     ensures own { result.clock ≡ clock }
 {
-    let _ = clocks;
     Writer {
         addr: globals.place(writer.addr),
         en: globals.place(writer.en),
@@ -232,11 +229,11 @@ fn local_writers(
     Ok(own)
 }
 
-/// A memory in the part's numbers, whose ports follow these clocks of the part: its readers, then its writers.
-///
-/// # Errors
-///
-/// Returns `AllocError` if an allocation fails.
+// A memory in the part's numbers, whose ports follow these clocks of the part: its readers, then its writers.
+//
+// # Errors
+//
+// Returns `AllocError` if an allocation fails.
 pub(crate) fn local_memory(
     alloc: Global,
     globals: &Numbers,

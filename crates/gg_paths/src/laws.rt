@@ -18,16 +18,19 @@ pub fn spelt_names()
 /// Let a text spell a circuit that has this flat circuit and this tree. Signals and memories have paths, instances
 /// too, and the ports of a memory have different names.
 pub fn paths_are_words()
-    ensures { (text : List ℕ) (circuit : CircuitTree) (flat : FlatCircuit) (tree : InstanceTree) → Spells text circuit → IsFlat circuit flat → IsTreeOf circuit tree → IsTree flat tree → IsScoped flat tree → HavePaths flat tree }
+    ensures { (text : List ℕ) (circuit : CircuitTree) (flat : FlatCircuit) (tree : InstanceTree) → Spells text circuit
+        → IsFlat circuit flat → IsTreeOf circuit tree → IsTree flat tree → IsScoped flat tree → HavePaths flat tree }
 {}
 
 /// No path of a signal in the flat circuit of a text begins with `pipe:`. Names have no colon, and the paths of stops have
 /// theirs behind `stop`. So names that begin so are free for what is added to a circuit.
 pub fn no_pipe_names()
-    ensures { (text : List ℕ) (circuit : CircuitTree) (flat : FlatCircuit) → Spells text circuit → IsFlat circuit flat → (s : ℕ) (path : List ℕ) → s < length flat.signals → path_at flat.paths s ≢ codes "pipe:" ++ path }
+    ensures { (text : List ℕ) (circuit : CircuitTree) (flat : FlatCircuit) → Spells text circuit → IsFlat circuit flat → (s : ℕ)
+        (path : List ℕ) → s < length flat.signals → path_at flat.paths s ≢ codes "pipe:" ++ path }
 {}
 
 /// No path begins with `bridge:` either.
 pub fn no_bridge_names()
-    ensures { (text : List ℕ) (circuit : CircuitTree) (flat : FlatCircuit) → Spells text circuit → IsFlat circuit flat → (s : ℕ) (path : List ℕ) → s < length flat.signals → path_at flat.paths s ≢ codes "bridge:" ++ path }
+    ensures { (text : List ℕ) (circuit : CircuitTree) (flat : FlatCircuit) → Spells text circuit → IsFlat circuit flat → (s : ℕ)
+        (path : List ℕ) → s < length flat.signals → path_at flat.paths s ≢ codes "bridge:" ++ path }
 {}

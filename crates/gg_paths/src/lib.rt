@@ -1,6 +1,6 @@
 //! Paths: what the signals, the instances and the memories of a text's circuit are called.
 //!
-//! The functions of this crate compute nothing. Each states a fact:
+//! The crate has laws alone: its functions compute nothing. They say:
 //!
 //! - `spelt_names`: each name in the circuit that a text spells is a name;
 //! - `paths_are_words`: the paths of such a circuit have only bytes of names, and dots, and those of its signals also

@@ -1,4 +1,14 @@
 //! Pipe channels of a cut: the reference circuit, and what each machine computes by its run.
+//!
+//! The reference circuit (`plan_reference` in `specs/Made`) is the design's circuit with a register for each channel that a
+//! request lists under `pipe`. The channel's consumer sees the register, and so the channel's value a cycle later. The crate
+//! has laws alone: its functions compute nothing. They say:
+//!
+//! - the reference circuit is well formed and has an order of evaluation ([`reference_formed`]), has the design's outputs
+//!   ([`outputs_kept`]), and is the design's circuit where there is no pipe ([`nothing_piped`]);
+//! - in a run of it each machine computes what its part has ([`parts_follow`]), and each channel carries what its producer
+//!   gives ([`channels_follow`], [`sources_follow`]);
+//! - it depends only on the pipes of a request, not on units, memories or direct channels ([`one_reference`]).
 #![tactic(auto)]
 
 mod laws;

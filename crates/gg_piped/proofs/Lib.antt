@@ -1,3 +1,4 @@
 pub mod BuildLemmas
 pub mod TableLemmas
 pub mod PipingLemmas
+pub mod FewLemmas

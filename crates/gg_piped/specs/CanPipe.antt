@@ -9,9 +9,9 @@ use Rattle.gg_cut.specs.Bridges.{Models}
 use Rattle.gg_cut.specs.Fault.{first_fault}
 use Rattle.gg_cut.specs.Plan.{IsPlan}
 use Rattle.gg_cut.specs.Held.{AreHeldOnce}
-use Rattle.gg_pipe.specs.Made.{IsFresh}
+use Rattle.gg_pipe.specs.Made.{AllHeld, IsFresh}
 
--- The plan is that of a request without a fault. No register of the design is held by two signals, and no path begins with
+-- The plan is that of a request without a fault. Each register of the design is held by exactly one signal, and no path begins with
 -- `pipe:`. The design's signals and the plan's channels are together fewer than 2^32.
 pub record CanPipe (design : Ordered) (plan : Plan) : Type 0 where
   pub request : Request
@@ -19,6 +19,7 @@ pub record CanPipe (design : Ordered) (plan : Plan) : Type 0 where
   pub default : ℕ
   pub keeps : KeepsToTree design.circuit design.tree
   pub held : AreHeldOnce design.circuit
+  pub whole : AllHeld design.circuit
   pub fresh : IsFresh design.circuit
   pub none : first_fault design request ≡ None
   pub is : IsPlan design request models default plan

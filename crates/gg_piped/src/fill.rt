@@ -14,11 +14,11 @@ use gg_flat::{Driver, Piece};
 use gg_split::Owned;
 use std::alloc::{AllocError, Global};
 
-/// The tables of a plan with these channels, and with the pipes of these signals.
-///
-/// # Errors
-///
-/// Returns `AllocError` if an allocation fails.
+// The tables of a plan with these channels, and with the pipes of these signals.
+//
+// # Errors
+//
+// Returns `AllocError` if an allocation fails.
 pub(crate) fn tables_of(
     alloc: Global,
     one: &Piece,
@@ -49,11 +49,11 @@ pub(crate) fn tables_of(
 
 // ---- lists
 
-/// The signals of the piped channels, by their numbers. All are below `count`.
-///
-/// # Errors
-///
-/// Returns `AllocError` if an allocation fails.
+// The signals of the piped channels, by their numbers. All are below `count`.
+//
+// # Errors
+//
+// Returns `AllocError` if an allocation fails.
 pub(crate) fn pipes_in(
     alloc: Global,
     count: usize,
@@ -117,11 +117,11 @@ fn takers_in(alloc: Global, channels: &[Channel]) -> Result<Vec<u32>, AllocError
     Ok(takers)
 }
 
-/// This many numbers from the first one on.
-///
-/// # Errors
-///
-/// Returns `AllocError` if an allocation fails.
+// This many numbers from the first one on.
+//
+// # Errors
+//
+// Returns `AllocError` if an allocation fails.
 pub(crate) fn numbers_from(
     alloc: Global,
     first: usize,

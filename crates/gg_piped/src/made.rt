@@ -15,11 +15,11 @@ use gg_bits::Name;
 use gg_flat::{AddError, Driver, Line, Node, Op, Piece, Register, Signal};
 use std::alloc::{AllocError, Global};
 
-/// The piece of the reference circuit, by the tables. `pipes` has the signals of the piped channels.
-///
-/// # Errors
-///
-/// Returns `AllocError` if an allocation fails.
+// The piece of the reference circuit, by the tables. `pipes` has the signals of the piped channels.
+//
+// # Errors
+//
+// Returns `AllocError` if an allocation fails.
 pub(crate) fn made(
     alloc: Global,
     one: &Piece,
@@ -99,8 +99,14 @@ fn add_signal(
     requires place { place < length one.now.signals }
     requires few { length piece.old.signals < 2 ^ 32 - 1 }
     requires fresh { ¬ Contains piece.old.paths (path_at one.now.paths place) }
-    ensures { (any : Signal) → OnOk result (piece.new ≡ record piece.old { paths = piece.old.paths ++ path_at one.now.paths place ∷ []; signals = piece.old.signals ++ seen_signal (views_by tables.now) place (slice_index_or one.now.signals place any) ∷ [] }) }
+    ensures { (any : Signal) → OnOk result (piece.new
+        ≡ record piece.old {
+          paths = piece.old.paths ++ path_at one.now.paths place ∷ [];
+          signals = piece.old.signals
+              ++ seen_signal (views_by tables.now) place (slice_index_or one.now.signals place any) ∷ [];
+        }) }
 {
+    // for the invariant alone
     let _ = one.signal_count();
     let number = place as u32;
     let path = path_behind(alloc, "", one, number)?;
@@ -156,8 +162,14 @@ fn add_pipes(alloc: Global, one: &Piece, pipes: &[u32], piece: &mut Piece) -> Re
     requires few { length one.now.signals + length pipes.now < 2 ^ 32 }
     requires registers { length one.now.registers + length pipes.now < 2 ^ 32 }
     requires distinct { AllPairs (λ a b. a ≢ b) (piece.old.paths ++ map (λ c. codes "pipe:" ++ path_at one.now.paths c) pipes.now) }
-    ensures { OnOk result (piece.new ≡ record piece.old { paths = piece.old.paths ++ map (λ c. codes "pipe:" ++ path_at one.now.paths c) pipes.now; signals = piece.old.signals ++ pipe_signals one.now.signals (length one.now.registers) pipes.now }) }
+    ensures { OnOk result (piece.new ≡ record piece.old {
+      paths = piece.old.paths
+          ++ map (λ c. codes "pipe:" ++ path_at one.now.paths c) pipes.now;
+      signals = piece.old.signals
+          ++ pipe_signals one.now.signals (length one.now.registers) pipes.now;
+    }) }
 {
+    // for the invariant alone
     let _ = one.signal_count();
     let first = one.registers().len() as u32;
     for place in 0..pipes.len() {
@@ -177,8 +189,14 @@ fn add_pipe(
     requires known { signal < length one.now.signals }
     requires few { length piece.old.signals < 2 ^ 32 - 1 }
     requires fresh { ¬ Contains piece.old.paths (codes "pipe:" ++ path_at one.now.paths signal) }
-    ensures { (any : Signal) → OnOk result (piece.new ≡ record piece.old { paths = piece.old.paths ++ (codes "pipe:" ++ path_at one.now.paths signal) ∷ []; signals = piece.old.signals ++ pipe_signal register (slice_index_or one.now.signals signal any) ∷ [] }) }
+    ensures { (any : Signal) → OnOk result (piece.new
+        ≡ record piece.old {
+          paths = piece.old.paths ++ (codes "pipe:" ++ path_at one.now.paths signal)
+              ∷ [];
+          signals = piece.old.signals ++ pipe_signal register (slice_index_or one.now.signals signal any) ∷ [];
+        }) }
 {
+    // for the invariant alone
     let _ = one.signal_count();
     let path = path_behind(alloc, "pipe:", one, signal)?;
     let ty = one.signals()[signal as usize].ty;
@@ -199,7 +217,11 @@ fn add_registers(
     piece: &mut Piece,
 ) -> Result<(), AllocError>
     requires { length one.now.registers < 2 ^ 32 }
-    ensures { OnOk result (piece.new ≡ record piece.old { registers = piece.old.registers ++ by_number (λ r register. register_by (seen_in tables.now (value_at tables.now.holders r)) register) 0 one.now.registers }) }
+    ensures { OnOk result (piece.new ≡ record piece.old {
+      registers = piece.old.registers
+          ++ by_number (λ r register. register_by (seen_in tables.now (value_at tables.now.holders r)) register) 0
+          one.now.registers;
+    }) }
 {
     for place in 0..one.registers().len() {
         let machine = number_at(tables.holders.as_slice(), place as u32);
@@ -252,7 +274,11 @@ fn add_memories(
     piece: &mut Piece,
 ) -> Result<(), AllocError>
     requires { length one.now.memories < 2 ^ 32 }
-    ensures { OnOk result (piece.new ≡ record piece.old { memories = piece.old.memories ++ by_number (λ m memory. memory_by (seen_in tables.now (value_at tables.now.keepers m)) memory) 0 one.now.memories }) }
+    ensures { OnOk result (piece.new ≡ record piece.old {
+      memories = piece.old.memories
+          ++ by_number (λ m memory. memory_by (seen_in tables.now (value_at tables.now.keepers m)) memory) 0
+          one.now.memories;
+    }) }
 {
     for place in 0..one.memories().len() {
         let machine = number_at(tables.keepers.as_slice(), place as u32);

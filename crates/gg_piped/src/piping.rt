@@ -21,15 +21,18 @@ use std::alloc::{AllocError, Global};
 ///
 /// # Errors
 ///
-/// Returns `AllocError` if an allocation fails, or if there are 4,294,967,296 machines, or registers and pipes, or more.
+/// Returns `AllocError` if an allocation fails. What is numbered has numbers of 32 bits (`numbers_suffice`).
 pub fn pipe(alloc: Global, design: &Design, plan: &Plan) -> Result<Design, AllocError>
     requires { CanPipe design.now plan.now }
     ensures circuit { IfOk result (λ made. (can : CanPipe design.now plan.now) → made.circuit ≡ plan_reference design.now can.request) }
     ensures tree { IfOk result (λ made. made.tree ≡ design.now.tree) }
-    ensures order { IfOk result (λ made. (can : CanPipe design.now plan.now) → made.order ≡ range_with_len (length design.now.circuit.signals) (length (pipes_of (plan_hub design.now.circuit design.now.tree can.request))) ++ design.now.order) }
+    ensures order { IfOk result (λ made. (can : CanPipe design.now plan.now)
+        → made.order ≡ range_with_len (length design.now.circuit.signals)
+        (length (pipes_of (plan_hub design.now.circuit design.now.tree can.request))) ++ design.now.order) }
 {
     // their contracts say that the design is one
     let count = design.piece().signals().len();
+    // for the invariant alone
     let _ = design.order();
     let pipes = pipes_in(alloc, count, plan.channels.as_slice())?;
     let circuit = circuit_of(alloc, design, plan, &pipes)?;
@@ -49,13 +52,10 @@ fn circuit_of(
     requires pipes { pipes.now ≡ piped_signals (length design.now.circuit.signals) plan.now.channels }
     ensures { IfOk result (λ circuit. (can : CanPipe design.now plan.now) → circuit ≡ plan_reference design.now can.request) }
 {
-    // their contracts say that the design is one, and that there are few enough memories
+    // for the invariant alone: also, few enough memories
     let _ = design.order();
     let _ = design.tree().memory_count();
     let piece = design.piece();
-    if piece.registers().len() as u128 + pipes.len() as u128 > u32::MAX as u128 {
-        return Err(AllocError);
-    }
     let owned = owned_of(alloc, design, &plan.listed)?;
     let tables = tables_of(alloc, piece, plan.channels.as_slice(), pipes, &owned)?;
     let circuit = made(alloc, piece, &tables, pipes)?;

@@ -67,11 +67,11 @@ fn seen_reset(
     }
 }
 
-/// A register as a machine sees it.
-///
-/// # Errors
-///
-/// Returns `AllocError` if an allocation fails.
+// A register as a machine sees it.
+//
+// # Errors
+//
+// Returns `AllocError` if an allocation fails.
 pub(crate) fn seen_register(
     alloc: Global,
     tables: &Tables,
@@ -90,11 +90,11 @@ pub(crate) fn seen_register(
     })
 }
 
-/// A driver as a machine sees it.
-///
-/// # Errors
-///
-/// Returns `AllocError` if an allocation fails.
+// A driver as a machine sees it.
+//
+// # Errors
+//
+// Returns `AllocError` if an allocation fails.
 pub(crate) fn seen_driver(
     alloc: Global,
     tables: &Tables,
@@ -175,11 +175,11 @@ fn seen_writers(
     Ok(own)
 }
 
-/// A memory as a machine sees it.
-///
-/// # Errors
-///
-/// Returns `AllocError` if an allocation fails.
+// A memory as a machine sees it.
+//
+// # Errors
+//
+// Returns `AllocError` if an allocation fails.
 pub(crate) fn seen_memory(
     alloc: Global,
     tables: &Tables,

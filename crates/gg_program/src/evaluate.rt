@@ -18,7 +18,7 @@ use crate::steps::Steps;
 use gg_flat::{Piece, Signal, State};
 use std::sync::ledger::Ledger;
 
-/// Evaluates these signals, each after all signals that it reads. Each evaluation is a step.
+// Evaluates these signals, each after all signals that it reads. Each evaluation is a step.
 pub(crate) fn work_out<L: Ledger>(
     piece: &Piece,
     signals: &[u32],
@@ -35,7 +35,9 @@ pub(crate) fn work_out<L: Ledger>(
     requires room { HasRoom piece.now (length room.old) }
     ensures typed { AreTyped (signal_shapes piece.now) values.new }
     ensures inputs { inputs_in piece.now values.new ≡ inputs_in piece.now values.old }
-    ensures right { (marks : List Bool) → StandBehind piece.now marks signals.now → AreRight piece.now state.now values.old (λ s. is_marked marks s ≡ true) → AreRight piece.now state.now values.new (λ s. (is_marked marks s ≡ true) ⊎ Contains signals.now s) }
+    ensures right { (marks : List Bool) → StandBehind piece.now marks signals.now
+        → AreRight piece.now state.now values.old (λ s. is_marked marks s ≡ true)
+        → AreRight piece.now state.now values.new (λ s. (is_marked marks s ≡ true) ⊎ Contains signals.now s) }
     ensures steps { steps.new ≡ steps.old + length signals.now }
 {
     for signal in signals {
@@ -44,8 +46,8 @@ pub(crate) fn work_out<L: Ledger>(
     }
 }
 
-/// Evaluates all signals that aren't marked, from the first to the last. The in-signals are marked. Each evaluation
-/// is a step.
+// Evaluates all signals that aren't marked, from the first to the last. The in-signals are marked. Each evaluation
+// is a step.
 pub(crate) fn work_rest<L: Ledger>(
     piece: &Piece,
     marks: &[bool],

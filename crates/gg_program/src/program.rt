@@ -30,8 +30,7 @@ pub struct NoMemory;
 impl From<AllocError> for NoMemory {
     ghost from_gives = { λ error refusal. Unit {0} };
 
-    fn from(error: AllocError) -> NoMemory {
-        let _ = error;
+    fn from(_error: AllocError) -> NoMemory {
         NoMemory
     }
 }

@@ -7,8 +7,8 @@ use Rattle.std.proofs.lemmas.Option.{slice_get_within, slice_get_past, slice_get
 use Rattle.gg_flat.specs.Line.{value_at}
 use Rattle.gg_net.specs.declared.event.Event.{Event}
 use Rattle.gg_net.specs.declared.event.Event.TheVariants.{Latch, Fire, Serve, Finish}
-use Rattle.gg_net.specs.declared.event.Refusal.{Refusal}
-use Rattle.gg_net.specs.declared.event.Refusal.TheVariants.{Stranger, Ended, Latched, Fired, NoToken, NeedsInput, Full, Order, Unfired, Unserved}
+use Rattle.gg_net.specs.declared.event.StepRefusal.{StepRefusal}
+use Rattle.gg_net.specs.declared.event.StepRefusal.TheVariants.{Stranger, Ended, Latched, Fired, NoToken, NeedsInput, Full, Order, Unfired, Unserved}
 use Rattle.gg_marking.specs.Marking.{Layout, Marking, Turn, link_at, turns_at, is_set, and_one, held, is_channel, is_below, is_machine, has_port, port_count, due_turn, first_unmarked, unfired, unserved, turn_refusal, or_next, unless, naming, refusal}
 use Rattle.gg_marking.specs.Marking as marks
 use Rattle.gg_marking.proofs.FindLemmas.{find-none, found-skips, chosen-fail, passed, holds-last, names-none, some-none, past-named, last-named}
@@ -17,15 +17,15 @@ use Rattle.gg_progress.proofs.EarlyLemmas.{entered-is}
 
 -- ---- conditions in a row
 
-past : (b : Bool) (cause : Refusal) (later : Option Refusal) → or_next (unless b cause) later ≡ None → (b ≡ true) × (later ≡ None)
+past : (b : Bool) (cause : StepRefusal) (later : Option StepRefusal) → or_next (unless b cause) later ≡ None → (b ≡ true) × (later ≡ None)
 past true cause later is = (refl, is)
 past false cause later is = absurd (some-none cause is)
 
-at-last : (b : Bool) (cause : Refusal) → unless b cause ≡ None → b ≡ true
+at-last : (b : Bool) (cause : StepRefusal) → unless b cause ≡ None → b ≡ true
 at-last true cause is = refl
 at-last false cause is = absurd (some-none cause is)
 
-past-due : (o : Option Turn) (later : Option Refusal) → or_next (unserved o) later ≡ None → (o ≡ None) × (later ≡ None)
+past-due : (o : Option Turn) (later : Option StepRefusal) → or_next (unserved o) later ≡ None → (o ≡ None) × (later ≡ None)
 past-due None later is = (refl, is)
 past-due (Some turn) later is = absurd (some-none (Unserved turn.number) is)
 
@@ -125,13 +125,13 @@ module _ (layout : Layout) (marking : Marking) (can : CanRun layout) where
   -- ---- Latch
 
   module _ (c : ℕ) where
-    abbrev at_queue : Option Refusal
+    abbrev at_queue : Option StepRefusal
     at_queue = unless (nat_lt 0 (held layout marking c)) (NoToken c)
 
-    abbrev at_latch : Option Refusal
+    abbrev at_latch : Option StepRefusal
     at_latch = or_next (unless (not (is_set marking.taken c)) Latched) at_queue
 
-    abbrev at_end : Option Refusal
+    abbrev at_end : Option StepRefusal
     at_end = or_next (unless (is_below layout marking (link_at layout c).consumer) Ended) at_latch
 
     latch-free : refusal layout marking (Latch c) ≡ None → FreeLatch layout counts c
@@ -157,16 +157,16 @@ module _ (layout : Layout) (marking : Marking) (can : CanRun layout) where
   -- ---- Fire
 
   module _ (c : ℕ) where
-    abbrev at_room : Option Refusal
+    abbrev at_room : Option StepRefusal
     at_room = unless (nat_lt (held layout marking c) (link_at layout c).capacity) (Full c (held layout marking c))
 
-    abbrev at_needs : Option Refusal
+    abbrev at_needs : Option StepRefusal
     at_needs = or_next (naming NeedsInput (first_unmarked marking.taken (link_at layout c).needs)) at_room
 
-    abbrev at_flag : Option Refusal
+    abbrev at_flag : Option StepRefusal
     at_flag = or_next (unless (not (is_set marking.given c)) Fired) at_needs
 
-    abbrev at_last : Option Refusal
+    abbrev at_last : Option StepRefusal
     at_last = or_next (unless (is_below layout marking (link_at layout c).producer) Ended) at_flag
 
     fire-free : (c < length layout.links → counts.takes c ≤ counts.puts c + early layout c) → refusal layout marking (Fire c) ≡ None → FreeFire layout counts c
@@ -196,13 +196,13 @@ module _ (layout : Layout) (marking : Marking) (can : CanRun layout) where
   -- ---- Serve
 
   module _ (m p : ℕ) where
-    abbrev at_turn : Option Refusal
+    abbrev at_turn : Option StepRefusal
     at_turn = turn_refusal layout marking m p (due_turn layout marking m)
 
-    abbrev at_outs : Option Refusal
+    abbrev at_outs : Option StepRefusal
     at_outs = or_next (unfired layout marking m) at_turn
 
-    abbrev at_cycle : Option Refusal
+    abbrev at_cycle : Option StepRefusal
     at_cycle = or_next (unless (is_below layout marking m) Ended) at_outs
 
     -- a machine that serves ports exists
@@ -257,16 +257,16 @@ module _ (layout : Layout) (marking : Marking) (can : CanRun layout) where
   -- ---- Finish
 
   module _ (m : ℕ) where
-    abbrev at_ins : Option Refusal
+    abbrev at_ins : Option StepRefusal
     at_ins = naming NeedsInput (first_unmarked marking.taken (marks.channels_into layout m))
 
-    abbrev at_ports : Option Refusal
+    abbrev at_ports : Option StepRefusal
     at_ports = or_next (unserved (due_turn layout marking m)) at_ins
 
-    abbrev at_given : Option Refusal
+    abbrev at_given : Option StepRefusal
     at_given = or_next (unfired layout marking m) at_ports
 
-    abbrev at_below : Option Refusal
+    abbrev at_below : Option StepRefusal
     at_below = or_next (unless (is_below layout marking m) Ended) at_given
 
     finish-free : (m < length layout.turns → value_at marking.served m ≤ dues layout m) → refusal layout marking (Finish m) ≡ None → FreeFinish layout counts m

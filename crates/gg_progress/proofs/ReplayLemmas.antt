@@ -3,7 +3,7 @@ use Rattle.std.proofs.Common.{◌≡◌, ℕ, suc, ◌+◌, ◌<◌, ◌++◌, L
 use Rattle.std.specs.Prelude.{Result, Ok, Err}
 use Rattle.std.proofs.lemmas.List.{length_push}
 use Rattle.gg_net.specs.declared.event.Event.{Event}
-use Rattle.gg_net.specs.declared.event.Refusal.{Refusal}
+use Rattle.gg_net.specs.declared.event.StepRefusal.{StepRefusal}
 use Rattle.gg_marking.specs.Marking.{Layout, Marking, refusal, after}
 use Rattle.gg_marking.specs.Goes.{Stopped, step_refusal, after_step, go_on, replayed_from}
 use Rattle.gg_progress.specs.Counts.{counts_of, IsAllowed, CanRun, IsMarkingOf}
@@ -15,7 +15,7 @@ ok-same : (one other : Marking) → ◌≡◌ {A = Result Marking Stopped} (Ok o
 ok-same one other same = cc
 
 -- a step before others that are done isn't refused
-pub goes-past : (k : ℕ) (o : Option Refusal) (rest : Result Marking Stopped) (new : Marking) → go_on k o rest ≡ Ok new → (o ≡ None) × (rest ≡ Ok new)
+pub goes-past : (k : ℕ) (o : Option StepRefusal) (rest : Result Marking Stopped) (new : Marking) → go_on k o rest ≡ Ok new → (o ≡ None) × (rest ≡ Ok new)
 goes-past k None rest new is = (refl, is)
 goes-past k (Some cause) rest new is = let no : ◌≡◌ {A = Result Marking Stopped} (Err (record { step = k; cause = cause })) (Ok new) = is in cc
 
@@ -46,7 +46,7 @@ module _ (layout : Layout) where
         absurd (no-step k (replayed_from layout (suc k) old events) new is)
       where
         no-step : (n : ℕ) (rest : Result Marking Stopped) (x : Marking) → go_on n (step_refusal layout old None) rest ≡ Ok x → ⊥
-        no-step n rest x is = let none : ◌≡◌ {A = Option Refusal} (step_refusal layout old None) None = (goes-past n (step_refusal layout old None) rest x is).0 in cc
+        no-step n rest x is = let none : ◌≡◌ {A = Option StepRefusal} (step_refusal layout old None) None = (goes-past n (step_refusal layout old None) rest x is).0 in cc
     replayed-kept k old (Some event ∷ events) new shape allowed is =
         let past : (refusal layout old event ≡ None) × (replayed_from layout (suc k) (after layout old event) events ≡ Ok new) =
         goes-past k (refusal layout old event) (replayed_from layout (suc k) (after layout old event) events) new is in

@@ -2,7 +2,7 @@
 use Rattle.std.proofs.Common.{◌≡◌, ℕ, zero, suc, ◌<◌, ◌≤◌, ◌*◌, List, [], ◌∷◌, false, true, Some, refl, arith}
 use Rattle.std.specs.Prelude.{All}
 use Rattle.gg_net.specs.declared.event.Event.TheVariants.{Latch, Fire, Finish}
-use Rattle.gg_net.specs.declared.event.Refusal.TheVariants.{Unfired, NeedsInput, NoToken, Full}
+use Rattle.gg_net.specs.declared.event.StepRefusal.TheVariants.{Unfired, NeedsInput, NoToken, Full}
 use Rattle.gg_marking.specs.Marking.{Link, Turn, Layout, Marking, opening_marking, held, refusal, after}
 use Rattle.gg_progress.specs.Counts.{counts_of, early, CanRun, IsAllowed, Flows}
 use Rattle.gg_progress.specs.Measure.{left, all_dues}

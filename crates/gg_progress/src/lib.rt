@@ -1,8 +1,8 @@
 //! Counts: how often each step of a network was done. Which counts can come up together, and the measure.
 //!
 //! Counts have for each channel the tokens put and taken, for each machine the cycles finished and the ports served
-//! (`specs/Counts`). A network begins with any cycle, and a channel may open with a token. The crate has no code. Of
-//! layouts that can run it promises:
+//! (`specs/Counts`). A network begins with any cycle, and a channel may open with a token. The crate has laws alone:
+//! its functions compute nothing. Of layouts that can run it promises:
 //!
 //! - a step raises one count by one, keeps counts allowed, and lowers the measure by one ([`keeps_allowed`]);
 //! - from the opening, counts are reached exactly if they are allowed and have begun ([`opens_allowed`],

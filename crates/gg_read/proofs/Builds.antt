@@ -10,7 +10,7 @@ use Rattle.gg_ast.specs.Rows.{rows_of, register_rows, kind_rows}
 use Rattle.gg_ast.specs.declared.module.GroundType.{GroundType}
 use Rattle.gg_ast.specs.Term.{Term}
 use Rattle.gg_ast.specs.Tree.{CircuitTree}
-use Rattle.gg_row.specs.declared.cursor.Miss.{Miss}
+use Rattle.gg_row.specs.declared.cursor.RowFault.{RowFault}
 use Rattle.gg_read.specs.declared.stage.OpenRegister.{OpenRegister}
 use Rattle.gg_read.specs.declared.stage.Stage.{Stage}
 use Rattle.gg_row.specs.LineRows.{statement_row}
@@ -72,7 +72,7 @@ rows_closed circuit next register reset before later pushed e =
     ∙ sym pushed
 
 -- a statement other than a memory or a register with a reset has one row, which may come where any statement may
-pub statement_advances : (stage : Stage) (n : ℕ) (kind : StmtKind) (result : Result Stage Miss) → Advances stage (after_statement (stage_place stage)) n (kind_rows n kind) result → IfSome (statement_row kind) (λ held. Advances stage (place_after (stage_place stage) held) n (numbered n held ∷ []) result)
+pub statement_advances : (stage : Stage) (n : ℕ) (kind : StmtKind) (result : Result Stage RowFault) → Advances stage (after_statement (stage_place stage)) n (kind_rows n kind) result → IfSome (statement_row kind) (λ held. Advances stage (place_after (stage_place stage) held) n (numbered n held ∷ []) result)
 statement_advances stage n (statement.Wire name ty) result h = h
 statement_advances stage n (statement.Node name value) result h = h
 statement_advances stage n (statement.Register name ty clock None) result h = h

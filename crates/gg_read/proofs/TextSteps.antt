@@ -9,8 +9,8 @@ use Rattle.std.proofs.Math.Seq.{take-length}
 use Rattle.gg_lex.specs.Lines.{Lexes}
 use Rattle.gg_ast.specs.Row.{Row, numbered}
 use Rattle.gg_ast.specs.Tree.{CircuitTree}
-use Rattle.gg_row.specs.declared.cursor.Miss.{Miss}
-use Rattle.gg_row.specs.declared.cursor.Miss.TheVariants.{NoForm, NoMemory}
+use Rattle.gg_row.specs.declared.cursor.RowFault.{RowFault}
+use Rattle.gg_row.specs.declared.cursor.RowFault.TheVariants.{NoForm, NoMemory}
 use Rattle.gg_row.specs.declared.row.LineRow.{LineRow}
 use Rattle.gg_read.specs.declared.stage.Stage.{Stage}
 use Rattle.gg_read.specs.declared.stage.Stage.TheVariants.{Start, Version, Header, Ports, Statements, Fields, Open}
@@ -33,13 +33,13 @@ row_held : (line : LineTokens) (held : Option Row) → line.bad ≡ None → (Is
 row_held line None whole shallow found = found
 row_held line (Some row) whole shallow found = record { whole = whole; shallow = shallow; spelt = found }
 
-pub row_found : (line : LineTokens) (result : Result LineRow Miss) → line.bad ≡ None → (IsTooDeep line.tokens → ⊥) → TellsRow line.tokens result → IsRowOf line result
+pub row_found : (line : LineTokens) (result : Result LineRow RowFault) → line.bad ≡ None → (IsTooDeep line.tokens → ⊥) → TellsRow line.tokens result → IsRowOf line result
 row_found line (Ok held) whole shallow found = row_held line (row_of held) whole shallow found
 row_found line (Err NoForm) whole shallow found = λ r h. found r h.spelt
 row_found line (Err NoMemory) whole shallow found = tt
 
 -- the answer for a line that is a row, at the position of the stage
-placed_row : (stage : Stage) (n : ℕ) (line : LineTokens) (row : Row) (result : Result Stage Miss) → IsWholeRow line row → Advances stage (place_after (stage_place stage) row) n (numbered n row ∷ []) result → IsPlaced stage n line result
+placed_row : (stage : Stage) (n : ℕ) (line : LineTokens) (row : Row) (result : Result Stage RowFault) → IsWholeRow line row → Advances stage (place_after (stage_place stage) row) n (numbered n row ∷ []) result → IsPlaced stage n line result
 placed_row stage n line row (Ok next) whole after =
     record {
       row = row;
@@ -54,7 +54,7 @@ placed_row stage n line row (Err NoForm) whole none = λ r p form shallow.
     cc
 placed_row stage n line row (Err NoMemory) whole none = tt
 
-pub placed_held : (stage : Stage) (n : ℕ) (line : LineTokens) (held : Option Row) (result : Result Stage Miss) → MatchOption held ⊥ (IsWholeRow line) → IfSome held (λ row. Advances stage (place_after (stage_place stage) row) n (numbered n row ∷ []) result) → IsPlaced stage n line result
+pub placed_held : (stage : Stage) (n : ℕ) (line : LineTokens) (held : Option Row) (result : Result Stage RowFault) → MatchOption held ⊥ (IsWholeRow line) → IfSome held (λ row. Advances stage (place_after (stage_place stage) row) n (numbered n row ∷ []) result) → IsPlaced stage n line result
 placed_held stage n line None result whole after = absurd whole
 placed_held stage n line (Some row) result whole after = placed_row stage n line row result whole after
 
@@ -76,7 +76,7 @@ pub row_step : (stage : Stage) (n : ℕ) (l : List ℕ) (line : LineTokens) (nex
 row_step stage n l line next lexed step = (step.stays, λ ls number read. HasRead-row ls stage next l line step.row n read lexed step.form step.shallow step.built number)
 
 -- the step of a line that is none
-pub miss_step : (stage : Stage) (n : ℕ) (l : List ℕ) (line : LineTokens) (miss : Miss) (answer : ReadFault) → Lexes l line.tokens line.bad → (IsBlank line → ⊥) → IsPlaced stage n line (Err miss) → IsMissed miss n line.tokens answer → IsStep stage n l (Err answer)
+pub miss_step : (stage : Stage) (n : ℕ) (l : List ℕ) (line : LineTokens) (fault : RowFault) (answer : ReadFault) → Lexes l line.tokens line.bad → (IsBlank line → ⊥) → IsPlaced stage n line (Err fault) → IsMissed fault n line.tokens answer → IsStep stage n l (Err answer)
 miss_step stage n l line NoForm because.NotText lexed some none cause = absurd cause
 miss_step stage n l line NoForm (because.Syntax m) lexed some none cause = record { line = line; lexed = lexed; fault = inr (some, λ r p form. none r p form cause.1); cause = cause }
 miss_step stage n l line NoForm (because.Outside m word) lexed some none cause = record { line = line; lexed = lexed; fault = inr (some, λ r p form. none r p form cause.1); cause = cause }

@@ -8,8 +8,8 @@ use Rattle.gg_ast.specs.Names.{IsName, AreNamesOfTerm}
 use Rattle.gg_ast.specs.Row.{Row, Numbered, numbered, RegisterOpenRow, ResetRow}
 use Rattle.gg_ast.specs.Rows.{rows_of}
 use Rattle.gg_ast.specs.Tree.{CircuitTree, IsOpenToPorts, IsOpenToFields}
-use Rattle.gg_row.specs.declared.cursor.Miss.{Miss}
-use Rattle.gg_row.specs.declared.cursor.Miss.TheVariants.{NoForm, NoMemory}
+use Rattle.gg_row.specs.declared.cursor.RowFault.{RowFault}
+use Rattle.gg_row.specs.declared.cursor.RowFault.TheVariants.{NoForm, NoMemory}
 use Rattle.gg_row.specs.declared.row.LineRow.{LineRow}
 use Rattle.gg_read.specs.declared.stage.OpenRegister.{OpenRegister}
 use Rattle.gg_read.specs.declared.stage.Stage.{Stage}
@@ -75,7 +75,7 @@ pub record IsAfter (stage : Stage) (to : Option LinePlace) (n : ℕ) (rows : Lis
   pub built : (before : List Numbered) → IsBuilt stage before → IsBuilt next (before ++ rows)
 
 -- a step over rows, or none if they are not valid at the stage's position
-abbrev pub Advances : Stage → Option LinePlace → ℕ → List Numbered → Result Stage Miss → Type 0
+abbrev pub Advances : Stage → Option LinePlace → ℕ → List Numbered → Result Stage RowFault → Type 0
 Advances stage to n rows (Ok next) = IsAfter stage to n rows next
 Advances stage to n rows (Err NoForm) = to ≡ None
 Advances stage to n rows (Err NoMemory) = Unit {0}
@@ -95,13 +95,13 @@ abbrev pub Holds : Stage → CircuitTree → Type 0
 Holds stage circuit = (before : List Numbered) → IsBuilt stage before → without_version before ≡ rows_of circuit
 
 -- the circuit of a stage after which a module may begin
-abbrev pub IsWhole : Stage → Result CircuitTree Miss → Type 0
+abbrev pub IsWhole : Stage → Result CircuitTree RowFault → Type 0
 IsWhole stage (Ok circuit) = (after_module (stage_place stage) ≡ Some InPorts) × Holds stage circuit
 IsWhole stage (Err NoForm) = after_module (stage_place stage) ≡ None
 IsWhole stage (Err NoMemory) = ⊥
 
 -- the circuit of a stage after which a statement may follow
-abbrev pub IsBody : Stage → Result CircuitTree Miss → Type 0
+abbrev pub IsBody : Stage → Result CircuitTree RowFault → Type 0
 IsBody stage (Ok circuit) =
     (after_statement (stage_place stage) ≡ Some InStatements) × (after_open (stage_place stage) ≡ Some AwaitsReset) × (after_memory (stage_place stage) ≡ Some InFields) × (0 < length circuit.modules)
     × Holds stage circuit
@@ -109,19 +109,19 @@ IsBody stage (Err NoForm) = (after_statement (stage_place stage) ≡ None) × (a
 IsBody stage (Err NoMemory) = ⊥
 
 -- the circuit of a stage after which a port may follow
-abbrev pub IsPortsOf : Stage → Result CircuitTree Miss → Type 0
+abbrev pub IsPortsOf : Stage → Result CircuitTree RowFault → Type 0
 IsPortsOf stage (Ok circuit) = stage ≡ Ports circuit
 IsPortsOf stage (Err NoForm) = after_port (stage_place stage) ≡ None
 IsPortsOf stage (Err NoMemory) = ⊥
 
 -- the circuit of a stage after which a field may follow
-abbrev pub IsMemoryOf : Stage → Result CircuitTree Miss → Type 0
+abbrev pub IsMemoryOf : Stage → Result CircuitTree RowFault → Type 0
 IsMemoryOf stage (Ok circuit) = stage ≡ Fields circuit
 IsMemoryOf stage (Err NoForm) = after_field (stage_place stage) ≡ None
 IsMemoryOf stage (Err NoMemory) = ⊥
 
 -- the circuit of a stage that awaits a reset, and its register
-abbrev pub IsOpened : Stage → Result (CircuitTree × OpenRegister) Miss → Type 0
+abbrev pub IsOpened : Stage → Result (CircuitTree × OpenRegister) RowFault → Type 0
 IsOpened stage (Ok parts) = stage ≡ Open parts.0 parts.1
 IsOpened stage (Err NoForm) = after_reset (stage_place stage) ≡ None
 IsOpened stage (Err NoMemory) = ⊥
@@ -151,7 +151,7 @@ pub record IsWholeRow (line : LineTokens) (row : Row) : Type 0 where
   pub spelt : SpellsRow row line.tokens
 
 -- the row of a line, or that it is none or too deep
-abbrev pub IsRowOf : LineTokens → Result LineRow Miss → Type 0
+abbrev pub IsRowOf : LineTokens → Result LineRow RowFault → Type 0
 IsRowOf line (Ok held) = MatchOption (row_of held) ⊥ (IsWholeRow line)
 IsRowOf line (Err NoForm) = (row : Row) → IsWholeRow line row → ⊥
 IsRowOf line (Err NoMemory) = Unit {0}
@@ -165,13 +165,13 @@ pub record IsRowStep (stage : Stage) (n : ℕ) (line : LineTokens) (next : Stage
   pub built : (before : List Numbered) → IsBuilt stage before → IsBuilt next (before ++ numbered n row ∷ [])
 
 -- that stage, or that the line is no such row
-abbrev pub IsPlaced : Stage → ℕ → LineTokens → Result Stage Miss → Type 0
+abbrev pub IsPlaced : Stage → ℕ → LineTokens → Result Stage RowFault → Type 0
 IsPlaced stage n line (Ok next) = IsRowStep stage n line next
 IsPlaced stage n line (Err NoForm) = (row : Row) (next : LinePlace) → IsForm (stage_place stage) line row next → (IsTooDeep line.tokens → ⊥) → ⊥
 IsPlaced stage n line (Err NoMemory) = Unit {0}
 
 -- the answer for a line that is at fault, or for an allocation that failed
-abbrev pub IsMissed : Miss → ℕ → List Tok → ReadFault → Type 0
+abbrev pub IsMissed : RowFault → ℕ → List Tok → ReadFault → Type 0
 IsMissed NoForm n ts answer = IsFaultOf n ts answer
 IsMissed NoMemory n ts answer = answer ≡ because.NoMemory
 

@@ -8,10 +8,10 @@ use gg_bits::Name;
 use gg_lex::{Symbol, Tok};
 use std::alloc::{AllocError, Global};
 
-/// The most by which the `(` from a line's beginning up to a token may outnumber the `)`.
+// The most by which the `(` from a line's beginning up to a token may outnumber the `)`.
 const DEEPEST: usize = 256;
 
-/// The fault of the fault line with this number and these tokens.
+// The fault of the fault line with this number and these tokens.
 pub(crate) fn line_fault(alloc: Global, line: u64, tokens: &[Tok]) -> ReadFault
     ensures { IsFaultOf line tokens.now result }
 {
@@ -25,7 +25,7 @@ pub(crate) fn line_fault(alloc: Global, line: u64, tokens: &[Tok]) -> ReadFault
     }
 }
 
-/// Whether at some token the `(` from the line's beginning up to it outnumber the `)` by more than 256.
+// Whether at some token the `(` from the line's beginning up to it outnumber the `)` by more than 256.
 pub(crate) fn is_too_deep(tokens: &[Tok]) -> bool
     ensures { MatchBool result (IsTooDeep tokens.now) (IsTooDeep tokens.now → ⊥) }
 {
@@ -41,7 +41,7 @@ pub(crate) fn is_too_deep(tokens: &[Tok]) -> bool
     false
 }
 
-/// How many brackets a token opens.
+// How many brackets a token opens.
 fn opens(token: &Tok) -> usize
     ensures { result ≡ opened (token.now ∷ []) }
 {
@@ -51,7 +51,7 @@ fn opens(token: &Tok) -> usize
     }
 }
 
-/// How many brackets a token closes.
+// How many brackets a token closes.
 fn closes(token: &Tok) -> usize
     ensures { result ≡ closed (token.now ∷ []) }
 {
@@ -61,7 +61,7 @@ fn closes(token: &Tok) -> usize
     }
 }
 
-/// The first of the tokens that is an outside word: a word or symbol that this part of the language leaves out.
+// The first of the tokens that is an outside word: a word or symbol that this part of the language leaves out.
 fn first_outside(alloc: Global, tokens: &[Tok]) -> Result<Option<Name>, AllocError>
     ensures { IfOk result (λ found. found ≡ first_outside tokens.now) }
 {
@@ -73,7 +73,7 @@ fn first_outside(alloc: Global, tokens: &[Tok]) -> Result<Option<Name>, AllocErr
     Ok(None)
 }
 
-/// The outside word that a token is, as it is written.
+// The outside word that a token is, as it is written.
 fn outside_text(alloc: Global, token: &Tok) -> Result<Option<Name>, AllocError>
     ensures { IfOk result (λ found. found ≡ outside_text token.now) }
 {
@@ -89,7 +89,7 @@ fn outside_text(alloc: Global, token: &Tok) -> Result<Option<Name>, AllocError>
     }
 }
 
-/// The symbol as it is written, if it is left out of the language.
+// The symbol as it is written, if it is left out of the language.
 fn outside_symbol(alloc: Global, symbol: Symbol) -> Result<Option<Name>, AllocError>
     ensures { IfOk result (λ found. found ≡ outside_text (Tok.Symbol symbol)) }
 {
@@ -102,7 +102,7 @@ fn outside_symbol(alloc: Global, symbol: Symbol) -> Result<Option<Name>, AllocEr
     }
 }
 
-/// A new name with a copy of this text.
+// A new name with a copy of this text.
 fn some_name(alloc: Global, text: &str) -> Result<Option<Name>, AllocError>
     ensures { IfOk result (λ found. found ≡ Some text.now) }
 {
@@ -110,7 +110,7 @@ fn some_name(alloc: Global, text: &str) -> Result<Option<Name>, AllocError>
     Ok(Some(Name::from(owned)))
 }
 
-/// Whether a word is left out of the language.
+// Whether a word is left out of the language.
 fn is_outside_word(word: &str) -> bool
     ensures { result ≡ is_outside_word word.now }
 {

@@ -11,12 +11,12 @@ ghost use Rattle.gg_read.specs.Stages.{stage_place, AreNamesOfRegister, IsStage,
 use crate::text::ReadFault;
 use gg_ast::{Circuit, Expr, Field, Fields, GroundType, Port, Reset, Stmt, StmtKind};
 use gg_bits::Name;
-use gg_row::{LineRow, Miss};
+use gg_row::{LineRow, RowFault};
 use std::alloc::Global;
 
-/// A register whose reset is on the next line.
+// A register whose reset is on the next line.
 pub(crate) struct OpenRegister {
-    /// The line of the register.
+    // The line of the register.
     pub(crate) line: u64,
     pub(crate) name: Name,
     pub(crate) ty: GroundType,
@@ -37,9 +37,9 @@ impl Drop for OpenRegister {
 }
 
 impl OpenRegister {
-    /// Adds the register with this reset to the last module, as its last statement.
+    // Adds the register with this reset to the last module, as its last statement.
     #[tactic(auto, using(crate::proofs::Builds::rows_closed))]
-    fn close(self, circuit: Circuit, reset: Reset) -> Result<Stage, Miss>
+    fn close(self, circuit: Circuit, reset: Reset) -> Result<Stage, RowFault>
         requires some { 0 < length circuit.modules }
         requires after { self.line < reset.line }
         requires named { AreNamesOfRegister self × AreNamesOfReset reset }
@@ -63,30 +63,35 @@ impl OpenRegister {
     }
 }
 
-/// The position of the next line, and the circuit of the lines before it.
+// The position of the next line, and the circuit of the lines before it.
 #[derive(Drop)]
 pub(crate) enum Stage {
-    /// At the beginning of the text.
+    // At the beginning of the text.
     Start,
-    /// After the version line.
+    // After the version line.
     Version,
-    /// After the circuit's line.
+    // After the circuit's line.
     Header(Circuit),
-    /// After a module's line or a port.
+    // After a module's line or a port.
     Ports(Circuit),
-    /// After a statement that is not a memory.
+    // After a statement that is not a memory.
     Statements(Circuit),
-    /// After a memory's line or one of its fields.
+    // After a memory's line or one of its fields.
     Fields(Circuit),
-    /// After the first line of a register whose reset is on the next.
+    // After the first line of a register whose reset is on the next.
     Open(Circuit, OpenRegister),
 }
 
-/// The stage after one more row, which is on this line.
-///
-/// Returns `NoForm` exactly if the row is not valid at its position. Nothing is said of a statement that is no row by
-/// itself, such as a register with its reset: the reader of lines never returns one.
-pub(crate) fn advance(alloc: Global, stage: Stage, line: u64, row: LineRow) -> Result<Stage, Miss>
+// The stage after one more row, which is on this line.
+//
+// Returns `NoForm` exactly if the row is not valid at its position. Nothing is said of a statement that is no row by
+// itself, such as a register with its reset: the reader of lines never returns one.
+pub(crate) fn advance(
+    alloc: Global,
+    stage: Stage,
+    line: u64,
+    row: LineRow,
+) -> Result<Stage, RowFault>
     requires stage { IsStage stage line }
     requires named { AreNamesOfLine row }
     ensures { IfSome (row_of row) (λ held. Advances stage (place_after (stage_place stage) held) line (numbered line held ∷ []) result) }
@@ -130,7 +135,7 @@ pub(crate) fn advance(alloc: Global, stage: Stage, line: u64, row: LineRow) -> R
     }
 }
 
-/// A register with its reset, both on this line.
+// A register with its reset, both on this line.
 fn register(
     stage: Stage,
     line: u64,
@@ -139,7 +144,7 @@ fn register(
     clock: Expr,
     condition: Expr,
     init: Expr,
-) -> Result<Stage, Miss>
+) -> Result<Stage, RowFault>
     requires stage { (before : ℕ) × IsStage stage before }
     requires named { IsName name × AreNamesOfTerm clock × AreNamesOfTerm condition × AreNamesOfTerm init }
     ensures { Advances stage (after_statement (stage_place stage)) line (numbered line (RegisterResetRow name ty clock condition init) ∷ []) result }
@@ -158,9 +163,9 @@ fn register(
     statement(stage, Stmt { line, kind })
 }
 
-/// The version line, which is valid at the beginning.
+// The version line, which is valid at the beginning.
 #[tactic(auto, using(crate::proofs::Builds::version_first))]
-fn version(stage: Stage) -> Result<Stage, Miss>
+fn version(stage: Stage) -> Result<Stage, RowFault>
     ensures { (line a b c : ℕ) → Advances stage (after_version (stage_place stage)) line (numbered line (VersionRow a b c) ∷ []) result }
 {
     let is_first = is_start(&stage);
@@ -168,10 +173,10 @@ fn version(stage: Stage) -> Result<Stage, Miss>
     if is_first {
         return Ok(Stage::Version);
     }
-    Err(Miss::NoForm)
+    Err(RowFault::NoForm)
 }
 
-/// Whether nothing was read yet.
+// Whether nothing was read yet.
 fn is_start(stage: &Stage) -> bool
     ensures { TellsStart stage.now result }
 {
@@ -186,9 +191,9 @@ fn is_start(stage: &Stage) -> bool
     }
 }
 
-/// The circuit's line, which is valid at the beginning or after the version line.
+// The circuit's line, which is valid at the beginning or after the version line.
 #[tactic(auto, using(crate::proofs::Builds::header_next))]
-fn header(alloc: Global, stage: Stage, line: u64, name: Name) -> Result<Stage, Miss>
+fn header(alloc: Global, stage: Stage, line: u64, name: Name) -> Result<Stage, RowFault>
     requires named { IsName name }
     ensures { Advances stage (after_circuit (stage_place stage)) line (numbered line (CircuitRow name) ∷ []) result }
 {
@@ -197,10 +202,10 @@ fn header(alloc: Global, stage: Stage, line: u64, name: Name) -> Result<Stage, M
     if is_next {
         return Ok(Stage::Header(Circuit::new(alloc, line, name)));
     }
-    Err(Miss::NoForm)
+    Err(RowFault::NoForm)
 }
 
-/// Whether no circuit has begun yet.
+// Whether no circuit has begun yet.
 #[tactic(auto, using(crate::proofs::Builds::nothing_first))]
 fn is_bare(stage: &Stage) -> bool
     ensures { TellsBare stage.now result }
@@ -216,8 +221,8 @@ fn is_bare(stage: &Stage) -> bool
     }
 }
 
-/// A module's line.
-fn module(alloc: Global, stage: Stage, line: u64, name: Name) -> Result<Stage, Miss>
+// A module's line.
+fn module(alloc: Global, stage: Stage, line: u64, name: Name) -> Result<Stage, RowFault>
     requires named { IsName name }
     ensures { Advances stage (after_module (stage_place stage)) line (numbered line (ModuleRow name) ∷ []) result }
 {
@@ -226,8 +231,8 @@ fn module(alloc: Global, stage: Stage, line: u64, name: Name) -> Result<Stage, M
     Ok(Stage::Ports(circuit))
 }
 
-/// The circuit, if a module may begin after it.
-fn whole(stage: Stage) -> Result<Circuit, Miss>
+// The circuit, if a module may begin after it.
+fn whole(stage: Stage) -> Result<Circuit, RowFault>
     ensures { IsWhole stage result }
 {
     match stage {
@@ -235,27 +240,27 @@ fn whole(stage: Stage) -> Result<Circuit, Miss>
         Stage::Ports(circuit) => Ok(circuit),
         Stage::Statements(circuit) => Ok(circuit),
         Stage::Fields(circuit) => Ok(circuit),
-        Stage::Start | Stage::Version | Stage::Open(_, _) => Err(Miss::NoForm),
+        Stage::Start | Stage::Version | Stage::Open(_, _) => Err(RowFault::NoForm),
     }
 }
 
-/// A port, which is valid after its module's line or another port.
-fn port(stage: Stage, port: Port) -> Result<Stage, Miss>
+// A port, which is valid after its module's line or another port.
+fn port(stage: Stage, port: Port) -> Result<Stage, RowFault>
     requires named { IsPortNamed port }
     requires stage { (line : ℕ) × IsStage stage line }
     ensures { Advances stage (after_port (stage_place stage)) port.line (port_row port ∷ []) result }
 {
     match ports_of(stage) {
         Ok(circuit) => add_port(circuit, port),
-        Err(miss) => {
+        Err(fault) => {
             drop(port);
-            Err(miss)
+            Err(fault)
         }
     }
 }
 
-/// The circuit, if a port may be added to its last module.
-fn ports_of(stage: Stage) -> Result<Circuit, Miss>
+// The circuit, if a port may be added to its last module.
+fn ports_of(stage: Stage) -> Result<Circuit, RowFault>
     ensures { IsPortsOf stage result }
 {
     match stage {
@@ -265,12 +270,12 @@ fn ports_of(stage: Stage) -> Result<Circuit, Miss>
         | Stage::Header(_)
         | Stage::Statements(_)
         | Stage::Fields(_)
-        | Stage::Open(_, _) => Err(Miss::NoForm),
+        | Stage::Open(_, _) => Err(RowFault::NoForm),
     }
 }
 
-/// Adds a port to the last module, as its last.
-fn add_port(circuit: Circuit, port: Port) -> Result<Stage, Miss>
+// Adds a port to the last module, as its last.
+fn add_port(circuit: Circuit, port: Port) -> Result<Stage, RowFault>
     requires some { 0 < length circuit.modules }
     requires ports { IsOpenToPorts circuit.modules }
     requires named { IsPortNamed port }
@@ -281,8 +286,8 @@ fn add_port(circuit: Circuit, port: Port) -> Result<Stage, Miss>
     Ok(Stage::Ports(circuit))
 }
 
-/// The circuit, if a statement may follow.
-fn body(stage: Stage) -> Result<Circuit, Miss>
+// The circuit, if a statement may follow.
+fn body(stage: Stage) -> Result<Circuit, RowFault>
     requires { (line : ℕ) × IsStage stage line }
     ensures { IsBody stage result }
 {
@@ -290,27 +295,29 @@ fn body(stage: Stage) -> Result<Circuit, Miss>
         Stage::Ports(circuit) => Ok(circuit),
         Stage::Statements(circuit) => Ok(circuit),
         Stage::Fields(circuit) => Ok(circuit),
-        Stage::Start | Stage::Version | Stage::Header(_) | Stage::Open(_, _) => Err(Miss::NoForm),
+        Stage::Start | Stage::Version | Stage::Header(_) | Stage::Open(_, _) => Err(
+            RowFault::NoForm,
+        ),
     }
 }
 
-/// A statement, which is valid after a port, a module's line or another statement.
-fn statement(stage: Stage, statement: Stmt) -> Result<Stage, Miss>
+// A statement, which is valid after a port, a module's line or another statement.
+fn statement(stage: Stage, statement: Stmt) -> Result<Stage, RowFault>
     requires named { AreNamesOfStatement statement }
     requires stage { (line : ℕ) × IsStage stage line }
     ensures { Advances stage (after_statement (stage_place stage)) statement.line (statement_rows statement) result }
 {
     match body(stage) {
         Ok(circuit) => add_statement(circuit, statement),
-        Err(miss) => {
+        Err(fault) => {
             drop(statement);
-            Err(miss)
+            Err(fault)
         }
     }
 }
 
-/// Adds a statement to the last module, as its last.
-fn add_statement(circuit: Circuit, statement: Stmt) -> Result<Stage, Miss>
+// Adds a statement to the last module, as its last.
+fn add_statement(circuit: Circuit, statement: Stmt) -> Result<Stage, RowFault>
     requires named { AreNamesOfStatement statement }
     requires some { 0 < length circuit.modules }
     ensures { Advances (Stage.Statements circuit) (Some InStatements) statement.line (statement_rows statement) result }
@@ -320,8 +327,8 @@ fn add_statement(circuit: Circuit, statement: Stmt) -> Result<Stage, Miss>
     Ok(Stage::Statements(circuit))
 }
 
-/// The first line of a memory, which is valid where a statement is.
-fn memory(alloc: Global, stage: Stage, line: u64, name: Name) -> Result<Stage, Miss>
+// The first line of a memory, which is valid where a statement is.
+fn memory(alloc: Global, stage: Stage, line: u64, name: Name) -> Result<Stage, RowFault>
     requires named { IsName name }
     requires stage { (at : ℕ) × IsStage stage at }
     ensures { Advances stage (after_memory (stage_place stage)) line (numbered line (MemoryRow name) ∷ []) result }
@@ -332,8 +339,8 @@ fn memory(alloc: Global, stage: Stage, line: u64, name: Name) -> Result<Stage, M
     add_memory(circuit, Stmt { line, kind })
 }
 
-/// Adds a memory without fields to the last module, as its last statement.
-fn add_memory(circuit: Circuit, statement: Stmt) -> Result<Stage, Miss>
+// Adds a memory without fields to the last module, as its last statement.
+fn add_memory(circuit: Circuit, statement: Stmt) -> Result<Stage, RowFault>
     requires named { AreNamesOfStatement statement }
     requires memory { IsMemory statement.kind }
     requires some { 0 < length circuit.modules }
@@ -344,23 +351,23 @@ fn add_memory(circuit: Circuit, statement: Stmt) -> Result<Stage, Miss>
     Ok(Stage::Fields(circuit))
 }
 
-/// A field, which is valid after its memory's line or another field.
-fn field(stage: Stage, field: Field) -> Result<Stage, Miss>
+// A field, which is valid after its memory's line or another field.
+fn field(stage: Stage, field: Field) -> Result<Stage, RowFault>
     requires named { AreNamesOfField field }
     requires stage { (line : ℕ) × IsStage stage line }
     ensures { Advances stage (after_field (stage_place stage)) field.line (field_row field ∷ []) result }
 {
     match memory_of(stage) {
         Ok(circuit) => add_field(circuit, field),
-        Err(miss) => {
+        Err(fault) => {
             drop(field);
-            Err(miss)
+            Err(fault)
         }
     }
 }
 
-/// The circuit, if a field may be added to its last memory.
-fn memory_of(stage: Stage) -> Result<Circuit, Miss>
+// The circuit, if a field may be added to its last memory.
+fn memory_of(stage: Stage) -> Result<Circuit, RowFault>
     ensures { IsMemoryOf stage result }
 {
     match stage {
@@ -370,12 +377,12 @@ fn memory_of(stage: Stage) -> Result<Circuit, Miss>
         | Stage::Header(_)
         | Stage::Ports(_)
         | Stage::Statements(_)
-        | Stage::Open(_, _) => Err(Miss::NoForm),
+        | Stage::Open(_, _) => Err(RowFault::NoForm),
     }
 }
 
-/// Adds a field to the last memory, as its last.
-fn add_field(circuit: Circuit, field: Field) -> Result<Stage, Miss>
+// Adds a field to the last memory, as its last.
+fn add_field(circuit: Circuit, field: Field) -> Result<Stage, RowFault>
     requires some { 0 < length circuit.modules }
     requires open { IsOpenToFields circuit.modules }
     requires named { AreNamesOfField field }
@@ -386,8 +393,8 @@ fn add_field(circuit: Circuit, field: Field) -> Result<Stage, Miss>
     Ok(Stage::Fields(circuit))
 }
 
-/// The first line of a register whose reset is on the next.
-fn open(stage: Stage, register: OpenRegister) -> Result<Stage, Miss>
+// The first line of a register whose reset is on the next.
+fn open(stage: Stage, register: OpenRegister) -> Result<Stage, RowFault>
     requires named { AreNamesOfRegister register }
     requires stage { (line : ℕ) × IsStage stage line }
     ensures { Advances stage (after_open (stage_place stage)) register.line (open_row register ∷ []) result }
@@ -396,23 +403,23 @@ fn open(stage: Stage, register: OpenRegister) -> Result<Stage, Miss>
     Ok(Stage::Open(circuit, register))
 }
 
-/// The line of a reset, which is valid after its register's.
-fn reset(stage: Stage, reset: Reset) -> Result<Stage, Miss>
+// The line of a reset, which is valid after its register's.
+fn reset(stage: Stage, reset: Reset) -> Result<Stage, RowFault>
     requires named { AreNamesOfReset reset }
     requires stage { IsStage stage reset.line }
     ensures { Advances stage (after_reset (stage_place stage)) reset.line (reset_row reset ∷ []) result }
 {
     match opened(stage) {
         Ok((circuit, register)) => register.close(circuit, reset),
-        Err(miss) => {
+        Err(fault) => {
             drop(reset);
-            Err(miss)
+            Err(fault)
         }
     }
 }
 
-/// The circuit, and the register that awaits its reset.
-fn opened(stage: Stage) -> Result<(Circuit, OpenRegister), Miss>
+// The circuit, and the register that awaits its reset.
+fn opened(stage: Stage) -> Result<(Circuit, OpenRegister), RowFault>
     ensures { IsOpened stage result }
 {
     match stage {
@@ -422,11 +429,11 @@ fn opened(stage: Stage) -> Result<(Circuit, OpenRegister), Miss>
         | Stage::Header(_)
         | Stage::Ports(_)
         | Stage::Statements(_)
-        | Stage::Fields(_) => Err(Miss::NoForm),
+        | Stage::Fields(_) => Err(RowFault::NoForm),
     }
 }
 
-/// The circuit, if the text may end here. `line` is the number of the line after the last.
+// The circuit, if the text may end here. `line` is the number of the line after the last.
 pub(crate) fn finish(stage: Stage, line: u64) -> Result<Circuit, ReadFault>
     ensures { Ends stage line result }
 {

@@ -12,7 +12,7 @@ use crate::stage::{Stage, advance, finish};
 use gg_ast::Circuit;
 use gg_bits::Name;
 use gg_lex::{LexedLine, Tok, lex};
-use gg_row::{LineRow, Miss, read_row};
+use gg_row::{LineRow, RowFault, read_row};
 use std::alloc::Global;
 
 /// Why no circuit was read.
@@ -60,7 +60,7 @@ pub fn read_circuit(alloc: Global, bytes: &[u8]) -> Result<Circuit, ReadFault>
     }
 }
 
-/// The circuit that a text spells, or its fault line.
+// The circuit that a text spells, or its fault line.
 fn read_text(alloc: Global, text: &str) -> Result<Circuit, ReadFault>
     requires { length text.now < 2 ^ 32 }
     ensures circuit { IfOk result (Spells text.now) }
@@ -76,7 +76,7 @@ fn read_text(alloc: Global, text: &str) -> Result<Circuit, ReadFault>
     finish(stage, number + 1)
 }
 
-/// The stage after one more line, or the line's fault.
+// The stage after one more line, or the line's fault.
 fn next_stage(alloc: Global, stage: Stage, number: u64, line: &str) -> Result<Stage, ReadFault>
     requires stage { IsStage stage number }
     ensures { IsStep stage number line.now result }
@@ -93,51 +93,51 @@ fn next_stage(alloc: Global, stage: Stage, number: u64, line: &str) -> Result<St
     }
     match placed(alloc, stage, number, &lexed) {
         Ok(next) => Ok(next),
-        Err(miss) => Err(missed(alloc, number, lexed.tokens.as_slice(), miss)),
+        Err(fault) => Err(missed(alloc, number, lexed.tokens.as_slice(), fault)),
     }
 }
 
-/// The fault of a line with this number.
-fn missed(alloc: Global, number: u64, tokens: &[Tok], miss: Miss) -> ReadFault
-    ensures { IsMissed miss number tokens.now result }
+// The fault of a line with this number.
+fn missed(alloc: Global, number: u64, tokens: &[Tok], fault: RowFault) -> ReadFault
+    ensures { IsMissed fault number tokens.now result }
 {
-    match miss {
-        Miss::NoForm => line_fault(alloc, number, tokens),
-        Miss::NoMemory => ReadFault::NoMemory,
+    match fault {
+        RowFault::NoForm => line_fault(alloc, number, tokens),
+        RowFault::NoMemory => ReadFault::NoMemory,
     }
 }
 
-/// Whether a line is blank.
+// Whether a line is blank.
 fn is_blank(lexed: &LexedLine) -> bool
     ensures { TellsBlank (line_of lexed.now) result }
 {
     lexed.tokens.is_empty() && lexed.bad.is_none()
 }
 
-/// The stage after a line that is a row, is valid at its position and is not too deep.
-fn placed(alloc: Global, stage: Stage, number: u64, lexed: &LexedLine) -> Result<Stage, Miss>
+// The stage after a line that is a row, is valid at its position and is not too deep.
+fn placed(alloc: Global, stage: Stage, number: u64, lexed: &LexedLine) -> Result<Stage, RowFault>
     requires stage { IsStage stage number }
     ensures { IsPlaced stage number (line_of lexed.now) result }
 {
     match whole_row(alloc, lexed) {
         Ok(row) => advance(alloc, stage, number, row),
-        Err(miss) => {
+        Err(fault) => {
             drop(stage);
-            Err(miss)
+            Err(fault)
         }
     }
 }
 
-/// The row of a line, whatever its position. The whole line spells it, and at no token are too many brackets open.
-fn whole_row(alloc: Global, lexed: &LexedLine) -> Result<LineRow, Miss>
+// The row of a line, whatever its position. The whole line spells it, and at no token are too many brackets open.
+fn whole_row(alloc: Global, lexed: &LexedLine) -> Result<LineRow, RowFault>
     ensures row { IsRowOf (line_of lexed.now) result }
     ensures named { IfOk result AreNamesOfLine }
 {
     if lexed.bad.is_some() {
-        return Err(Miss::NoForm);
+        return Err(RowFault::NoForm);
     }
     if is_too_deep(lexed.tokens.as_slice()) {
-        return Err(Miss::NoForm);
+        return Err(RowFault::NoForm);
     }
     read_row(alloc, lexed.tokens.as_slice())
 }

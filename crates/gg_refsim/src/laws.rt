@@ -15,6 +15,14 @@ pub fn run_begins()
 /// A run of n cycles is extended by one cycle to a run of n + 1 cycles. The cycle begins in the state that the run
 /// leads to, and has the inputs of the next cycle number. The longer run leads to the state after that cycle.
 pub fn run_continues()
-    ensures run { (circuit : FlatCircuit) (start : Start) (columns : List (List ℕ)) (n : ℕ) (rows : List (List ℕ)) (before after : State) (inputs printed : List ℕ) (cycle : Cycle (edges_at start.ratios (later start.cycle n)) circuit before inputs printed after) → IsRunFrom circuit start columns n rows → before ≡ state_at circuit start rows n → inputs ≡ inputs_at columns (later start.cycle n) → IsRunFrom circuit start columns (n + 1) (rows ++ cycle.row ∷ []) }
-    ensures state { (circuit : FlatCircuit) (start : Start) (columns : List (List ℕ)) (n : ℕ) (rows : List (List ℕ)) (before after : State) (inputs printed : List ℕ) (cycle : Cycle (edges_at start.ratios (later start.cycle n)) circuit before inputs printed after) → IsRunFrom circuit start columns n rows → before ≡ state_at circuit start rows n → after ≡ state_at circuit start (rows ++ cycle.row ∷ []) (n + 1) }
+    ensures run { (circuit : FlatCircuit) (start : Start) (columns : List (List ℕ)) (n : ℕ) (rows : List (List ℕ))
+        (before after : State) (inputs printed : List ℕ)
+        (cycle : Cycle (edges_at start.ratios (later start.cycle n)) circuit before inputs printed after)
+        → IsRunFrom circuit start columns n rows → before ≡ state_at circuit start rows n
+        → inputs ≡ inputs_at columns (later start.cycle n) → IsRunFrom circuit start columns (n + 1) (rows ++ cycle.row ∷ []) }
+    ensures state { (circuit : FlatCircuit) (start : Start) (columns : List (List ℕ)) (n : ℕ) (rows : List (List ℕ))
+        (before after : State) (inputs printed : List ℕ)
+        (cycle : Cycle (edges_at start.ratios (later start.cycle n)) circuit before inputs printed after)
+        → IsRunFrom circuit start columns n rows → before ≡ state_at circuit start rows n
+        → after ≡ state_at circuit start (rows ++ cycle.row ∷ []) (n + 1) }
 {}

@@ -24,8 +24,7 @@ pub struct NoMemory;
 impl From<AllocError> for NoMemory {
     ghost from_gives = { λ error refusal. Unit {0} };
 
-    fn from(error: AllocError) -> NoMemory {
-        let _ = error;
+    fn from(_error: AllocError) -> NoMemory {
         NoMemory
     }
 }
@@ -116,7 +115,7 @@ impl<'a> Mono<'a> {
         ensures ordered { (order : List ℕ) × IsOrder self.now.circuit order }
         ensures typed { IsState self.now.circuit self.now.state }
     {
-        // for what the design's contract says of its order
+        // for the invariant alone
         let _ = self.design.order();
         self.design.piece()
     }
@@ -133,7 +132,9 @@ impl<'a> Mono<'a> {
         ensures ratios { self.new.ratios ≡ self.old.ratios }
         ensures count { self.new.cycle ≡ self.old.cycle + 1 }
         ensures cycle { Cycle (edges_at self.old.ratios self.old.cycle) self.old.circuit self.old.state inputs.now outs.new self.new.state }
-        ensures only { (printed : List ℕ) (after : StateValue) → Cycle (edges_at self.old.ratios self.old.cycle) self.old.circuit self.old.state inputs.now printed after → (printed ≡ outs.new) × (after ≡ self.new.state) }
+        ensures only { (printed : List ℕ) (after : StateValue)
+            → Cycle (edges_at self.old.ratios self.old.cycle) self.old.circuit self.old.state inputs.now printed after
+            → (printed ≡ outs.new) × (after ≡ self.new.state) }
     {
         let piece = self.design.piece();
         piece.settle(

@@ -6,11 +6,11 @@ use Rattle.gg_net.specs.declared.event.Event.TheVariants.{Fire}
 use Rattle.gg_net.specs.Step.{Step}
 use Rattle.gg_flat.specs.Line.{value_at}
 use Rattle.gg_flat.specs.Streams.{Flow}
-use Rattle.gg_net.specs.declared.event.Refusal.TheVariants.{Stranger}
+use Rattle.gg_net.specs.declared.event.StepRefusal.TheVariants.{Stranger}
 use Rattle.gg_net.specs.Network.{Network, entered}
 use Rattle.gg_replay.specs.Log.{AreFronts, opening_log}
 use Rattle.gg_replay.specs.Stopping.{IsStop}
-use Rattle.gg_replay.specs.declared.stop.Stop.TheVariants.{Refused}
+use Rattle.gg_replay.specs.declared.fault.ReplayFault.TheVariants.{Refused}
 use Rattle.gg_replay.specs.ReplayText.{channel_line}
 use Rattle.std.specs.Fmt.{digits}
 

@@ -7,16 +7,16 @@ use Rattle.gg_net.specs.declared.event.Event.{Event}
 use Rattle.gg_net.specs.Network.{Network}
 use Rattle.gg_marking.specs.Steps.{StopsAt}
 use Rattle.gg_replay.specs.Log.{AreFronts}
-use Rattle.gg_replay.specs.declared.stop.Stop.{Stop}
-use Rattle.gg_replay.specs.declared.stop.Stop.TheVariants.{Refused, NoMemory}
+use Rattle.gg_replay.specs.declared.fault.ReplayFault.{ReplayFault}
+use Rattle.gg_replay.specs.declared.fault.ReplayFault.TheVariants.{Refused, NoMemory}
 
 -- The steps stop for this cause. The network is then the new one: the steps before the refused one are done. `NoMemory`
 -- implies nothing.
-abbrev pub IsStop : Network → List (Option Event) → Network → Stop → Type 0
+abbrev pub IsStop : Network → List (Option Event) → Network → ReplayFault → Type 0
 IsStop old steps new (Refused step cause) = StopsAt 1 old steps new (record { step = step; cause = cause })
 IsStop old steps new NoMemory = ⊤
 
 -- the log is that of the network, if a step was refused
-abbrev pub KeepsLog : Flow → Network → List (List ℕ) → Stop → Type 0
+abbrev pub KeepsLog : Flow → Network → List (List ℕ) → ReplayFault → Type 0
 KeepsLog flow net log (Refused step cause) = AreFronts flow net log
 KeepsLog flow net log NoMemory = ⊤

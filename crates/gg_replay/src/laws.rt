@@ -9,5 +9,7 @@ ghost use Rattle.gg_replay.specs.Log.{AreFronts, opening_log};
 
 /// Before the first cycle a log of the tokens with which the channels open is right, if all begins with cycle 0.
 pub fn opens_with_first_tokens()
-    ensures { (flow : Flow) (machines : List Machine) (wires : List Wire) (end : ℕ) → flow.begin ≡ 0 → Kept flow (opening_net machines wires end) → ((m : ℕ) → m < length machines → IsOpening flow m (machine_at machines m)) → AreFronts flow (opening_net machines wires end) (opening_log wires) }
+    ensures { (flow : Flow) (machines : List Machine) (wires : List Wire) (end : ℕ) → flow.begin ≡ 0
+        → Kept flow (opening_net machines wires end) → ((m : ℕ) → m < length machines → IsOpening flow m (machine_at machines m))
+        → AreFronts flow (opening_net machines wires end) (opening_log wires) }
 {}

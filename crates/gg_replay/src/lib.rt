@@ -11,17 +11,17 @@
 //!   cycle 0 ([`opens_with_first_tokens`]).
 //! - [`channel_line`] returns the exact line of a channel: its name, its counts and its tokens.
 //!
-//! Any call that allocates may return `AllocError` or `Stop::NoMemory`.
+//! Any call that allocates may return `AllocError` or `ReplayFault::NoMemory`.
 #![tactic(auto)]
 
+mod fault;
 mod laws;
 mod line;
 mod log;
 mod steps;
-mod stop;
 
+pub use fault::ReplayFault;
 pub use laws::opens_with_first_tokens;
 pub use line::channel_line;
 pub use log::Log;
 pub use steps::replay;
-pub use stop::Stop;

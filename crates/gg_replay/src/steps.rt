@@ -5,18 +5,21 @@ ghost use Rattle.gg_marking.specs.Steps.{IsStep, StepRefused, Steps};
 ghost use Rattle.gg_replay.specs.Log.{AreFronts, IsBehind};
 ghost use Rattle.gg_replay.specs.Stopping.{IsStop, KeepsLog};
 
+use crate::fault::ReplayFault;
 use crate::log::Log;
-use crate::stop::Stop;
-use gg_net::{Event, Net, Refusal, Streams};
+use gg_net::{Event, Net, StepRefusal, Streams};
 use gg_node::Host;
 use std::alloc::AllocError;
 
 // Does a step, if it is an event that may be done.
-fn try_step<H: Host, Z: Streams>(net: &mut Net<H, Z>, step: Option<Event>) -> Result<(), Refusal>
+fn try_step<H: Host, Z: Streams>(
+    net: &mut Net<H, Z>,
+    step: Option<Event>,
+) -> Result<(), StepRefusal>
     ensures { MatchResult result (λ _. IsStep net.old step net.new) (λ cause. StepRefused net.old step cause × (net.new ≡ net.old)) }
 {
     match step {
-        None => Err(Refusal::Stranger),
+        None => Err(StepRefusal::Stranger),
         Some(event) => net.step(event),
     }
 }
@@ -76,7 +79,7 @@ pub fn replay<H: Host, Z: Streams>(
     net: &mut Net<H, Z>,
     steps: &[Option<Event>],
     log: &mut Log,
-) -> Result<(), Stop>
+) -> Result<(), ReplayFault>
     requires logged { AreFronts Z.flow net.old log.old }
     ensures done { OnOk result (Steps net.old steps.now net.new × AreFronts Z.flow net.new log.new) }
     ensures refused { IfErr result (λ stop. IsStop net.old steps.now net.new stop) }
@@ -85,7 +88,7 @@ pub fn replay<H: Host, Z: Streams>(
     for (i, step) in steps.iter().enumerate() {
         net.kept();
         if let Err(cause) = try_step(net, *step) {
-            return Err(Stop::Refused {
+            return Err(ReplayFault::Refused {
                 step: i as u64 + 1,
                 cause,
             });

@@ -1,4 +1,4 @@
-// A value of the two words of a place.
+//! A value of the two words of a place.
 ghost use Rattle.std.specs.Prelude.{◌≡◌, ◌+◌, ◌*◌};
 
 pub(crate) fn joined(low: u64, high: u64) -> u128

@@ -1,4 +1,4 @@
-// A ring is a link.
+//! A ring is a link.
 ghost use Rattle.std.specs.Prelude.{◌≡◌, ◌+◌, ◌≤◌, slice_get, Some, MatchResult, MatchOption};
 ghost use Rattle.gg_link.specs.Seats.{Counted, FoundFull, FoundEmpty};
 ghost use Rattle.gg_ring.specs.Seats.{put_state, take_state, IsPutSeatOf, IsTakeSeatOf, put_moves, take_moves, steps_of_a_call};
@@ -55,7 +55,9 @@ impl Link for Ring {
     fn take(&self, seat: &mut TakeSeat) -> Option<u128>
         requires seat { IsTakeSeatOf self.now seat.old }
         ensures seat { IsTakeSeatOf self.now seat.new }
-        ensures take { MatchOption result (FoundEmpty (take_state seat.old) (take_state seat.new)) (λ value. Counted (take_state seat.old) (take_state seat.new) × (slice_get (take_state seat.old).stream (take_state seat.old).count ≡ Some value)) }
+        ensures take { MatchOption result (FoundEmpty (take_state seat.old) (take_state seat.new))
+            (λ value. Counted (take_state seat.old) (take_state seat.new)
+            × (slice_get (take_state seat.old).stream (take_state seat.old).count ≡ Some value)) }
         ensures moves { take_moves seat.new ≤ take_moves seat.old + steps_of_a_call }
     {
         self.try_take(seat)

@@ -1,4 +1,4 @@
-// What a call does besides its atomic steps: the next place, and a pause before it looks.
+//! What a call does besides its atomic steps: the next place, and a pause before it looks.
 ghost use Rattle.std.specs.Prelude.{◌≡◌, ◌+◌, ◌%◌};
 
 use crate::ring::Ring;
@@ -9,9 +9,9 @@ const LONGEST_PAUSE: u64 = 256;
 
 impl Ring {
     // The place behind the one of value `count`, without a division.
-    pub(crate) fn behind(&self, place: u64, count: u64) -> u64
-        requires place { place ≡ count % self.now.capacity }
-        ensures { result ≡ (count + 1) % self.now.capacity }
+    pub(crate) fn behind(&self, place: u64, _count: u64) -> u64
+        requires place { place ≡ _count % self.now.capacity }
+        ensures { result ≡ (_count + 1) % self.now.capacity }
     {
         let next = place + 1;
         if next == self.capacity { 0 } else { next }

@@ -1,4 +1,4 @@
-// The four steps of a put.
+//! The four steps of a put.
 ghost use Rattle.std.specs.Prelude.{◌≡◌, ◌+◌, ◌<◌, ◌≤◌, slice_get, Some, MatchResult, length};
 ghost use Rattle.gg_link.specs.Seats.{Counted, FoundFull};
 ghost use Rattle.gg_ring.specs.Seats.{put_state, IsPutSeatOf, put_moves, steps_of_a_call};

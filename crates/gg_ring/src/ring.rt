@@ -1,4 +1,4 @@
-// The ring and its seats.
+//! The ring and its seats.
 ghost use Rattle.std.specs.Prelude.{◌≡◌, ◌+◌, ◌*◌, ◌%◌, ◌<◌, ◌≤◌, true, false, [], length};
 ghost use Rattle.gg_link.specs.Seats.{stream_limit};
 

@@ -1,36 +1,36 @@
-// What the words of a ring hold and its seats know, and the kinds of step that keep it so.
+//! What the words of a ring hold and its seats know, and the kinds of step that keep it so.
 ghost use Rattle.std.specs.Prelude.{List, ℕ, []};
 
 use atomic_table::{Join, Play, Split, TableRule};
 use std::collections::LinkedList;
 use std::marker::{Brand, PhantomData};
 
-/// What a seat knows. No value of it is made.
-pub struct View {
+// What a seat knows. No value of it is made.
+pub(crate) struct View {
     // whether it may put, and whether it may take
-    pub puts: bool,
-    pub takes: bool,
-    pub stream: LinkedList<u128>,
-    pub capacity: u64,
+    pub(crate) puts: bool,
+    pub(crate) takes: bool,
+    pub(crate) stream: LinkedList<u128>,
+    pub(crate) capacity: u64,
     // of a seat that puts: how many it has put, how many takes it has seen, and how many halves of the next value it
     // has stored
-    pub put: u64,
-    pub known_takes: u64,
-    pub stored: u64,
+    pub(crate) put: u64,
+    pub(crate) known_takes: u64,
+    pub(crate) stored: u64,
     // of a seat that takes: how many it has taken, how many puts it has seen, how many halves of the next value it has
     // loaded, and these
-    pub taken: u64,
-    pub known_puts: u64,
-    pub loaded: u64,
-    pub low: u64,
-    pub high: u64,
+    pub(crate) taken: u64,
+    pub(crate) known_puts: u64,
+    pub(crate) loaded: u64,
+    pub(crate) low: u64,
+    pub(crate) high: u64,
     // how often it has looked, and how many atomic steps it has made
-    pub looks: u64,
-    pub moves: u64,
+    pub(crate) looks: u64,
+    pub(crate) moves: u64,
 }
 
-/// The rule of a ring of so many places.
-pub struct RingRule;
+// The rule of a ring of so many places.
+pub(crate) struct RingRule;
 
 impl TableRule<(), View, u64> for RingRule {
     ghost use Rattle.std.specs.Prelude.{[]};
@@ -42,8 +42,8 @@ impl TableRule<(), View, u64> for RingRule {
     ghost first = { λ places. whole [] places 0 0 0 };
 }
 
-/// The seat that puts looks how many were taken.
-pub struct LoadHead;
+// The seat that puts looks how many were taken.
+pub(crate) struct LoadHead;
 
 impl Play<(), View> for LoadHead {
     ghost use Rattle.std.specs.Prelude.{◌≡◌, ◌≤◌, ◌+◌};
@@ -52,8 +52,8 @@ impl Play<(), View> for LoadHead {
     ghost then = { λ _ m n w. (w ≡ (saw_head m.0 n, m.1)) × (m.0.known_takes ≤ n) × (n ≤ m.0.put) × (m.0.put ≤ n + m.0.capacity) };
 }
 
-/// The seat that puts stores the low half of the next value.
-pub struct StoreLow;
+// The seat that puts stores the low half of the next value.
+pub(crate) struct StoreLow;
 
 impl Play<(), View> for StoreLow {
     ghost use Rattle.std.specs.Prelude.{◌≡◌};
@@ -62,8 +62,8 @@ impl Play<(), View> for StoreLow {
     ghost then = { λ _ m n w. w ≡ (stored_to m.0 1, m.1) };
 }
 
-/// The seat that puts stores the high half.
-pub struct StoreHigh;
+// The seat that puts stores the high half.
+pub(crate) struct StoreHigh;
 
 impl Play<(), View> for StoreHigh {
     ghost use Rattle.std.specs.Prelude.{◌≡◌};
@@ -72,8 +72,8 @@ impl Play<(), View> for StoreHigh {
     ghost then = { λ _ m n w. w ≡ (stored_to m.0 2, m.1) };
 }
 
-/// The seat that puts counts the value.
-pub struct StoreTail;
+// The seat that puts counts the value.
+pub(crate) struct StoreTail;
 
 impl Play<(), View> for StoreTail {
     ghost use Rattle.std.specs.Prelude.{◌≡◌};
@@ -82,8 +82,8 @@ impl Play<(), View> for StoreTail {
     ghost then = { λ _ m n w. w ≡ (has_put m.0, m.1) };
 }
 
-/// The seat that takes looks how many were put.
-pub struct LoadTail;
+// The seat that takes looks how many were put.
+pub(crate) struct LoadTail;
 
 impl Play<(), View> for LoadTail {
     ghost use Rattle.std.specs.Prelude.{◌≡◌, ◌≤◌, ◌+◌, length};
@@ -92,8 +92,8 @@ impl Play<(), View> for LoadTail {
     ghost then = { λ _ m n w. (w ≡ (saw_tail m.0 n, m.1)) × (m.0.known_puts ≤ n) × (m.0.taken ≤ n) × (n ≤ length m.0.stream) };
 }
 
-/// The seat that takes loads the low half of the next value.
-pub struct LoadLow;
+// The seat that takes loads the low half of the next value.
+pub(crate) struct LoadLow;
 
 impl Play<(), View> for LoadLow {
     ghost use Rattle.std.specs.Prelude.{◌≡◌, slice_index};
@@ -103,8 +103,8 @@ impl Play<(), View> for LoadLow {
     ghost then = { λ _ m n w. (w ≡ (loaded_low m.0 n, m.1)) × (n ≡ low (slice_index m.0.stream m.0.taken)) };
 }
 
-/// The seat that takes loads the high half.
-pub struct LoadHigh;
+// The seat that takes loads the high half.
+pub(crate) struct LoadHigh;
 
 impl Play<(), View> for LoadHigh {
     ghost use Rattle.std.specs.Prelude.{◌≡◌, slice_index};
@@ -114,8 +114,8 @@ impl Play<(), View> for LoadHigh {
     ghost then = { λ _ m n w. (w ≡ (loaded_high m.0 n, m.1)) × (n ≡ high (slice_index m.0.stream m.0.taken)) };
 }
 
-/// The seat that takes counts the value.
-pub struct StoreHead;
+// The seat that takes counts the value.
+pub(crate) struct StoreHead;
 
 impl Play<(), View> for StoreHead {
     ghost use Rattle.std.specs.Prelude.{◌≡◌};
@@ -124,8 +124,8 @@ impl Play<(), View> for StoreHead {
     ghost then = { λ _ m n w. w ≡ (has_taken m.0, m.1) };
 }
 
-/// The stream of one ring. No code reads it.
-pub trait Chosen {
+// The stream of one ring. No code reads it.
+pub(crate) trait Chosen {
     ghost chosen: { List ℕ };
 }
 
@@ -133,8 +133,8 @@ impl Chosen for Brand {
     ghost chosen = { [] };
 }
 
-/// The whole view of an empty ring is split in two, and the ring gets its stream.
-pub struct OpenSeats<K> {
+// The whole view of an empty ring is split in two, and the ring gets its stream.
+pub(crate) struct OpenSeats<K> {
     of: PhantomData<K>,
 }
 
@@ -147,8 +147,8 @@ impl<K: Chosen> Split<View> for OpenSeats<K> {
     ghost right = { λ v. taker K.chosen v.capacity 0 0 };
 }
 
-/// The whole view is split in two, and the seat that takes knows what was put.
-pub struct SplitSeats;
+// The whole view is split in two, and the seat that takes knows what was put.
+pub(crate) struct SplitSeats;
 
 impl Split<View> for SplitSeats {
     ghost use Rattle.std.specs.Prelude.{◌+◌};
@@ -159,8 +159,8 @@ impl Split<View> for SplitSeats {
     ghost right = { λ v. taker v.stream v.capacity v.taken v.put };
 }
 
-/// The view that puts becomes whole again, and the view that takes is spent.
-pub struct JoinSeats;
+// The view that puts becomes whole again, and the view that takes is spent.
+pub(crate) struct JoinSeats;
 
 impl Join<View> for JoinSeats {
     ghost use Rattle.std.specs.Prelude.{◌+◌};

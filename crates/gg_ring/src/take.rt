@@ -1,4 +1,4 @@
-// The four steps of a take.
+//! The four steps of a take.
 ghost use Rattle.std.specs.Prelude.{◌≡◌, ◌+◌, ◌<◌, ◌≤◌, slice_get, Some, MatchOption, length};
 ghost use Rattle.gg_link.specs.Seats.{Counted, FoundEmpty};
 ghost use Rattle.gg_ring.specs.Seats.{take_state, IsTakeSeatOf, take_moves, steps_of_a_call};
@@ -48,7 +48,9 @@ impl Ring {
     pub(crate) fn try_take(&self, seat: &mut TakeSeat) -> Option<u128>
         requires seat { IsTakeSeatOf self.now seat.old }
         ensures seat { IsTakeSeatOf self.now seat.new }
-        ensures take { MatchOption result (FoundEmpty (take_state seat.old) (take_state seat.new)) (λ value. Counted (take_state seat.old) (take_state seat.new) × (slice_get (take_state seat.old).stream (take_state seat.old).count ≡ Some value)) }
+        ensures take { MatchOption result (FoundEmpty (take_state seat.old) (take_state seat.new))
+            (λ value. Counted (take_state seat.old) (take_state seat.new)
+            × (slice_get (take_state seat.old).stream (take_state seat.old).count ≡ Some value)) }
         ensures moves { take_moves seat.new ≤ take_moves seat.old + steps_of_a_call }
     {
         if seat.takes == seat.seen {

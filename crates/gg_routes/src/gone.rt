@@ -14,12 +14,12 @@ use gg_cut::marks_of;
 use gg_flat::Piece;
 use std::alloc::{AllocError, Global};
 
-/// Marks on the signals that leave: the origins of direct channels that nothing which is kept needs, and their copies. `made` has the
-/// signals that the hub makes, `memories` its memories.
-///
-/// # Errors
-///
-/// Returns `AllocError` if an allocation fails.
+// Marks on the signals that leave: the origins of direct channels that nothing which is kept needs, and their copies. `made` has the
+// signals that the hub makes, `memories` its memories.
+//
+// # Errors
+//
+// Returns `AllocError` if an allocation fails.
 pub(crate) fn gone_of(
     alloc: Global,
     piece: &Piece,

@@ -8,11 +8,11 @@ ghost use Rattle.gg_cut.specs.Direct.{op_names, line_names, next_names, reset_na
 use gg_flat::{Driver, Line, Node, Op, Piece, Reader, Register, Reset, Tree, Writer};
 use std::alloc::{AllocError, Global};
 
-/// What is named by the drivers of these signals, by the registers that they hold, and by these memories.
-///
-/// # Errors
-///
-/// Returns `AllocError` if an allocation fails.
+// What is named by the drivers of these signals, by the registers that they hold, and by these memories.
+//
+// # Errors
+//
+// Returns `AllocError` if an allocation fails.
 pub(crate) fn names_of(
     alloc: Global,
     piece: &Piece,
@@ -30,11 +30,11 @@ pub(crate) fn names_of(
     Ok(names)
 }
 
-/// Adds the signals of the stops.
-///
-/// # Errors
-///
-/// Returns `AllocError` if an allocation fails.
+// Adds the signals of the stops.
+//
+// # Errors
+//
+// Returns `AllocError` if an allocation fails.
 pub(crate) fn push_stops(names: &mut Vec<u32>, tree: &Tree) -> Result<(), AllocError>
     ensures { OnOk result (names.new.items ≡ names.old.items ++ stop_signals tree.now) }
 {
@@ -75,12 +75,11 @@ fn push_driver(
     names: &mut Vec<u32>,
     piece: &Piece,
     driver: &Driver,
-    signal: u32,
+    _signal: u32,
 ) -> Result<(), AllocError>
-    requires { MayDrive piece.now signal driver.now }
+    requires { MayDrive piece.now _signal driver.now }
     ensures { OnOk result (names.new.items ≡ names.old.items ++ driver_names piece.now driver.now) }
 {
-    let _ = signal;
     match driver {
         Driver::Input(_) | Driver::ReadRegister(_, _) => Ok(()),
         Driver::Held(register) => push_register(names, piece, *register),

@@ -10,12 +10,12 @@ use crate::sides::Side;
 use gg_flat::{Driver, Node, Op, Piece};
 use std::alloc::{AllocError, Global};
 
-/// The origin of each signal that is an in-channel of the hub or a copy of one. `sides` has what each signal is to the hub, and
-/// `barred` marks the signals that are no origins.
-///
-/// # Errors
-///
-/// Returns `AllocError` if an allocation fails.
+// The origin of each signal that is an in-channel of the hub or a copy of one. `sides` has what each signal is to the hub, and
+// `barred` marks the signals that are no origins.
+//
+// # Errors
+//
+// Returns `AllocError` if an allocation fails.
 pub(crate) fn origins_of(
     alloc: Global,
     piece: &Piece,
@@ -36,11 +36,11 @@ pub(crate) fn origins_of(
     Ok(origins)
 }
 
-/// A list with `count` times none.
-///
-/// # Errors
-///
-/// Returns `AllocError` if an allocation fails.
+// A list with `count` times none.
+//
+// # Errors
+//
+// Returns `AllocError` if an allocation fails.
 pub(crate) fn nones(alloc: Global, count: usize) -> Result<Vec<Option<u32>>, AllocError>
     ensures count { IfOk result (λ nones. length nones.items ≡ count) }
     ensures none { IfOk result (λ nones. (s : ℕ) → entry_at nones.items s ≡ None) }
@@ -105,7 +105,7 @@ fn origin_of(
     }
 }
 
-/// The origin of what a signal is a copy of.
+// The origin of what a signal is a copy of.
 pub(crate) fn origin_beyond(piece: &Piece, origins: &[Option<u32>], signal: u32) -> Option<u32>
     requires formed { IsWellFormed piece.now }
     requires known { signal < length piece.now.signals }

@@ -7,11 +7,11 @@ use crate::sides::Side;
 use gg_cut::Wire;
 use std::alloc::{AllocError, Global};
 
-/// The channels whose signals don't leave, each with the in-channel that is given in its place, if it is direct.
-///
-/// # Errors
-///
-/// Returns `AllocError` if an allocation fails.
+// The channels whose signals don't leave, each with the in-channel that is given in its place, if it is direct.
+//
+// # Errors
+//
+// Returns `AllocError` if an allocation fails.
 pub(crate) fn routed_of(
     alloc: Global,
     wires: &[Wire],

@@ -60,7 +60,9 @@ pub fn routes(
     requires shares { AreShares design.now listed.now split.now.shares }
     requires barred { length barred.now ≡ length design.now.circuit.signals }
     ensures wires { IfOk result (λ found. found.wires ≡ routes (hub_of design.now.circuit design.now.tree listed.now (is_marked barred.now) (λ s. false) direct)) }
-    ensures gone { IfOk result (λ found. (s : ℕ) → s < length design.now.circuit.signals → is_marked found.gone s ≡ is_gone (hub_of design.now.circuit design.now.tree listed.now (is_marked barred.now) (λ s. false) direct) s) }
+    ensures gone { IfOk result (λ found. (s : ℕ) → s < length design.now.circuit.signals
+        → is_marked found.gone s ≡ is_gone (hub_of design.now.circuit design.now.tree listed.now (is_marked barred.now)
+        (λ s. false) direct) s) }
     ensures sound { AreRoutes design.now listed.now (hub_of design.now.circuit design.now.tree listed.now (is_marked barred.now) (λ s. false) direct) }
 {
     channels_routed();

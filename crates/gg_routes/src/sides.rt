@@ -8,24 +8,24 @@ use crate::lists::push_if;
 use gg_cut::Wire;
 use std::alloc::{AllocError, Global};
 
-/// What a signal is to the hub.
+// What a signal is to the hub.
 #[derive(Clone, Copy, PartialEq, Eq)]
 pub(crate) enum Side {
-    /// The hub doesn't have it.
+    // The hub doesn't have it.
     Other,
-    /// The hub makes it, and no channel carries it.
+    // The hub makes it, and no channel carries it.
     Own,
-    /// The hub gives it on a channel.
+    // The hub gives it on a channel.
     Out,
-    /// The hub takes it from this machine.
+    // The hub takes it from this machine.
     In(u32),
 }
 
-/// What each signal is to the hub, by the channels and the signals that the hub has.
-///
-/// # Errors
-///
-/// Returns `AllocError` if an allocation fails.
+// What each signal is to the hub, by the channels and the signals that the hub has.
+//
+// # Errors
+//
+// Returns `AllocError` if an allocation fails.
 pub(crate) fn sides_of(
     alloc: Global,
     count: usize,
@@ -92,11 +92,11 @@ fn side_of(wire: &Wire, before: Side) -> Side
     }
 }
 
-/// The signals that the hub makes, among these that it has.
-///
-/// # Errors
-///
-/// Returns `AllocError` if an allocation fails.
+// The signals that the hub makes, among these that it has.
+//
+// # Errors
+//
+// Returns `AllocError` if an allocation fails.
 pub(crate) fn made_of(
     alloc: Global,
     sides: &[Side],

@@ -9,11 +9,11 @@ use gg_cut::{Listed, Wire};
 use gg_flat::Piece;
 use std::alloc::{AllocError, Global};
 
-/// For the signal of each direct channel the in-channel that is given in its place. `named` marks what the hub names and the stops.
-///
-/// # Errors
-///
-/// Returns `AllocError` if an allocation fails.
+// For the signal of each direct channel the in-channel that is given in its place. `named` marks what the hub names and the stops.
+//
+// # Errors
+//
+// Returns `AllocError` if an allocation fails.
 pub(crate) fn straight_of(
     alloc: Global,
     piece: &Piece,

@@ -3,8 +3,8 @@ use Rattle.std.proofs.Common.{◌≡◌, List, [], Option, None, Some, Result, O
 use Rattle.std.specs.Prelude.{MatchOption, IfOk}
 use Rattle.gg_lex.specs.declared.token.Tok.{Tok}
 use Rattle.gg_ast.specs.Row.{Row}
-use Rattle.gg_row.specs.declared.cursor.Miss.{Miss}
-use Rattle.gg_row.specs.declared.cursor.Miss.TheVariants.{NoForm, NoMemory}
+use Rattle.gg_row.specs.declared.cursor.RowFault.{RowFault}
+use Rattle.gg_row.specs.declared.cursor.RowFault.TheVariants.{NoForm, NoMemory}
 use Rattle.gg_row.specs.declared.row.LineRow.{LineRow}
 use Rattle.gg_row.specs.Forms.{SpellsRow}
 use Rattle.gg_row.specs.LineRows.{row_of, AreNamesOfLine, FindsRow, TellsRow}
@@ -24,11 +24,11 @@ held ts None found = found
 held ts (Some row) found = row-spells ts row found
 
 -- the answer of the reader of rows tells of the row that is spelt
-pub row_told : (ts : List Tok) (result : Result LineRow Miss) → FindsRow result (row_at ts) → TellsRow ts result
+pub row_told : (ts : List Tok) (result : Result LineRow RowFault) → FindsRow result (row_at ts) → TellsRow ts result
 row_told ts (Ok row) found = held ts (row_of row) found
 row_told ts (Err NoForm) found = λ r h. let there = spelt-row_at ts r h in cc
 row_told ts (Err NoMemory) found = tt
 
-pub row_named : (ts : List Tok) (result : Result LineRow Miss) → TellsRow ts result → IfOk result AreNamesOfLine
+pub row_named : (ts : List Tok) (result : Result LineRow RowFault) → TellsRow ts result → IfOk result AreNamesOfLine
 row_named ts (Ok row) told = line-named row ts told
-row_named ts (Err miss) told = tt
+row_named ts (Err fault) told = tt

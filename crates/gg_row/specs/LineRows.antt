@@ -8,8 +8,8 @@ use Rattle.gg_ast.specs.Names.{IsName, AreNamesOfTerm, AreNamesOfMemoryField, Ar
 use Rattle.gg_ast.specs.Row.{Row, VersionRow, CircuitRow, ModuleRow, PortRow, WireRow, NodeRow, RegisterRow, RegisterResetRow, RegisterOpenRow, ResetRow, InstanceRow, MemoryRow, FieldRow, ConnectRow, InvalidRow, SkipRow, StopRow, ReportRow}
 use Rattle.gg_row.specs.declared.row.LineRow.{LineRow}
 use Rattle.gg_row.specs.declared.row.LineRow.TheVariants as line
-use Rattle.gg_row.specs.declared.cursor.Miss.{Miss}
-use Rattle.gg_row.specs.declared.cursor.Miss.TheVariants.{NoForm, NoMemory}
+use Rattle.gg_row.specs.declared.cursor.RowFault.{RowFault}
+use Rattle.gg_row.specs.declared.cursor.RowFault.TheVariants.{NoForm, NoMemory}
 use Rattle.gg_row.specs.Forms.{SpellsRow}
 use Rattle.gg_row.specs.Reading.{Misses}
 
@@ -55,13 +55,13 @@ AreNamesOfLine (line.Memory name) = IsName name
 AreNamesOfLine (line.Field f) = AreNamesOfMemoryField f
 
 -- a reader of a line found this: what it returns has a row, and that is the row
-abbrev pub FindsRow : Result LineRow Miss → Option Row → Type 0
+abbrev pub FindsRow : Result LineRow RowFault → Option Row → Type 0
 FindsRow (Ok held) found = MatchOption (row_of held) ⊥ (λ row. found ≡ Some row)
-FindsRow (Err miss) found = Misses miss found
+FindsRow (Err fault) found = Misses fault found
 
 -- the answer for the tokens of a line: what has the row that they spell, or that they spell none; `NoMemory` says
 -- nothing of them
-abbrev pub TellsRow : List Tok → Result LineRow Miss → Type 0
+abbrev pub TellsRow : List Tok → Result LineRow RowFault → Type 0
 TellsRow ts (Ok held) = MatchOption (row_of held) ⊥ (λ row. SpellsRow row ts)
 TellsRow ts (Err NoForm) = (row : Row) → SpellsRow row ts → ⊥
 TellsRow ts (Err NoMemory) = Unit {0}

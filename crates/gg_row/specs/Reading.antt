@@ -27,8 +27,8 @@ use Rattle.gg_ast.specs.declared.statement.MemoryField.{MemoryField}
 use Rattle.gg_ast.specs.declared.statement.MemoryField.TheVariants as field
 use Rattle.gg_ast.specs.declared.statement.ReadUnderWrite.{ReadUnderWrite}
 use Rattle.gg_ast.specs.declared.statement.ReadUnderWrite.TheVariants as under_write
-use Rattle.gg_row.specs.declared.cursor.Miss.{Miss}
-use Rattle.gg_row.specs.declared.cursor.Miss.TheVariants.{NoForm, NoMemory}
+use Rattle.gg_row.specs.declared.cursor.RowFault.{RowFault}
+use Rattle.gg_row.specs.declared.cursor.RowFault.TheVariants.{NoForm, NoMemory}
 use Rattle.gg_row.specs.declared.words.Operation.{Operation}
 use Rattle.gg_row.specs.declared.words.Operation.TheVariants.{Unary, Binary as Binary2, Fixed, Mux}
 use Rattle.gg_row.specs.declared.words.FieldWord.{FieldWord}
@@ -51,19 +51,19 @@ None >>= next = None
 (Some x) >>= next = next x
 
 -- nothing was read: there is nothing, or an allocation failed, which says nothing of the tokens
-abbrev pub Misses : {A : Type 0} → Miss → Option A → Type 0
+abbrev pub Misses : {A : Type 0} → RowFault → Option A → Type 0
 Misses NoForm found = found ≡ None
 Misses NoMemory found = Unit {0}
 
 -- a reader that returns `result` and leaves the tokens `left` found this
-abbrev pub Reads : {A B : Type 0} → (A → B) → Result A Miss → List Tok → Option (B × List Tok) → Type 0
+abbrev pub Reads : {A B : Type 0} → (A → B) → Result A RowFault → List Tok → Option (B × List Tok) → Type 0
 Reads view (Ok value) left found = found ≡ Some (view value, left)
-Reads view (Err miss) left found = Misses miss found
+Reads view (Err fault) left found = Misses fault found
 
 -- a reader that passes over tokens
-abbrev pub Passes : Result (Unit {0}) Miss → List Tok → Option (List Tok) → Type 0
+abbrev pub Passes : Result (Unit {0}) RowFault → List Tok → Option (List Tok) → Type 0
 Passes (Ok value) left found = found ≡ Some left
-Passes (Err miss) left found = Misses miss found
+Passes (Err fault) left found = Misses fault found
 
 -- what is left after this symbol, if it is the first token
 abbrev pub symbol_at : Mark → List Tok → Option (List Tok)
@@ -107,9 +107,9 @@ end_at [] = Some []
 end_at (t ∷ ts) = None
 
 -- a reader of something other than tokens found this
-abbrev pub Finds : {A B : Type 0} → (A → B) → Result A Miss → Option B → Type 0
+abbrev pub Finds : {A B : Type 0} → (A → B) → Result A RowFault → Option B → Type 0
 Finds view (Ok value) found = found ≡ Some (view value)
-Finds view (Err miss) found = Misses miss found
+Finds view (Err fault) found = Misses fault found
 
 -- what `first` makes of what was found, if something was; otherwise the other
 abbrev pub choose : {A B : Type 0} → Option A → (A → B) → B → B
@@ -374,10 +374,10 @@ arguments_at (suc n) before ts =
     argument_at ts >>= λ a. choose (symbol_at Comma a.1) (λ t. arguments_at n (before ++ a.0 ∷ []) t) (symbol_at CloseParen a.1 >>= λ u. Some (before ++ a.0 ∷ [], u))
 
 -- the result of one turn of reading arguments: more follow, or these are all
-abbrev pub TakesArgument : Result Bool Miss → List Argument → List Tok → List Argument → List Tok → Type 0
+abbrev pub TakesArgument : Result Bool RowFault → List Argument → List Tok → List Argument → List Tok → Type 0
 TakesArgument (Ok true) before ts after left = (n : ℕ) → arguments_at (suc n) before ts ≡ arguments_at n after left
 TakesArgument (Ok false) before ts after left = (n : ℕ) → arguments_at (suc n) before ts ≡ Some (after, left)
-TakesArgument (Err miss) before ts after left = (n : ℕ) → Misses miss (arguments_at (suc n) before ts)
+TakesArgument (Err fault) before ts after left = (n : ℕ) → Misses fault (arguments_at (suc n) before ts)
 
 -- ( ARGUMENTS ) and possibly : NAME, up to the end, after `printf`, `assert`, `assume` or `cover`
 abbrev pub report_at : Report → List Tok → Option Row
@@ -397,9 +397,9 @@ names_at [] = None
 names_at (t ∷ ts) = more_names_at [] (t ∷ ts)
 
 -- the result of one token: a name, so that more may follow, or none
-abbrev pub TakesName : Result (Unit {0}) Miss → List (List ℕ) → Tok → List (List ℕ) → Type 0
+abbrev pub TakesName : Result (Unit {0}) RowFault → List (List ℕ) → Tok → List (List ℕ) → Type 0
 TakesName (Ok value) before t after = (ts : List Tok) → more_names_at before (t ∷ ts) ≡ more_names_at after ts
-TakesName (Err miss) before t after = (ts : List Tok) → Misses miss (more_names_at before (t ∷ ts))
+TakesName (Err fault) before t after = (ts : List Tok) → Misses fault (more_names_at before (t ∷ ts))
 
 -- a type up to the end
 abbrev pub last_type_at : List Tok → Option GroundType

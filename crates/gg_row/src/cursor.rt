@@ -12,24 +12,24 @@ use std::marker::Model;
 
 /// Why nothing was read.
 #[derive(Clone, Copy, Debug, Drop)]
-pub enum Miss {
+pub enum RowFault {
     /// The tokens don't have the requested form.
     NoForm,
     /// An allocation failed.
     NoMemory,
 }
 
-impl From<AllocError> for Miss {
-    ghost use Rattle.gg_row.specs.declared.cursor.Miss.TheVariants.{NoMemory};
+impl From<AllocError> for RowFault {
+    ghost use Rattle.gg_row.specs.declared.cursor.RowFault.TheVariants.{NoMemory};
 
-    ghost from_gives = { λ error miss. miss ≡ NoMemory };
+    ghost from_gives = { λ error fault. fault ≡ NoMemory };
 
-    fn from(_error: AllocError) -> Miss {
-        Miss::NoMemory
+    fn from(_error: AllocError) -> RowFault {
+        RowFault::NoMemory
     }
 }
 
-/// The tokens of a line that are left to read. A contract sees them as their list.
+// The tokens of a line that are left to read. A contract sees them as their list.
 #[derive(Drop)]
 pub(crate) struct Cursor<'a> {
     rest: &'a [Tok],
@@ -45,14 +45,14 @@ impl<'a> Model for Cursor<'a> {
 }
 
 impl<'a> Cursor<'a> {
-    /// A cursor before the first token.
+    // A cursor before the first token.
     pub(crate) fn new(tokens: &'a [Tok]) -> Cursor<'a>
         ensures { result ≡ tokens.now }
     {
         Cursor { rest: tokens }
     }
 
-    /// Passes over this symbol if it is the next token, and returns whether it is.
+    // Passes over this symbol if it is the next token, and returns whether it is.
     pub(crate) fn skip(&mut self, symbol: Symbol) -> bool
         ensures { MatchBool result (symbol_at symbol self.old ≡ Some self.new) ((symbol_at symbol self.old ≡ None) × (self.new ≡ self.old)) }
     {
@@ -65,7 +65,7 @@ impl<'a> Cursor<'a> {
         }
     }
 
-    /// Passes over this word if it is the next token, and returns whether it is.
+    // Passes over this word if it is the next token, and returns whether it is.
     pub(crate) fn skip_word(&mut self, word: &str) -> bool
         ensures { MatchBool result (word_at word.now self.old ≡ Some self.new) ((word_at word.now self.old ≡ None) × (self.new ≡ self.old)) }
     {
@@ -78,30 +78,30 @@ impl<'a> Cursor<'a> {
         }
     }
 
-    /// Passes over this symbol.
-    pub(crate) fn symbol(&mut self, symbol: Symbol) -> Result<(), Miss>
+    // Passes over this symbol.
+    pub(crate) fn symbol(&mut self, symbol: Symbol) -> Result<(), RowFault>
         ensures { Passes result self.new (symbol_at symbol self.old) }
     {
         if self.skip(symbol) {
             Ok(())
         } else {
-            Err(Miss::NoForm)
+            Err(RowFault::NoForm)
         }
     }
 
-    /// Passes over this word.
-    pub(crate) fn word(&mut self, word: &str) -> Result<(), Miss>
+    // Passes over this word.
+    pub(crate) fn word(&mut self, word: &str) -> Result<(), RowFault>
         ensures { Passes result self.new (word_at word.now self.old) }
     {
         if self.skip_word(word) {
             Ok(())
         } else {
-            Err(Miss::NoForm)
+            Err(RowFault::NoForm)
         }
     }
 
-    /// A name, which is a word without a dash.
-    pub(crate) fn name(&mut self) -> Result<Name, Miss>
+    // A name, which is a word without a dash.
+    pub(crate) fn name(&mut self) -> Result<Name, RowFault>
         ensures { Reads (λ name. name) result self.new (name_at self.old) }
     {
         match self.rest {
@@ -109,22 +109,22 @@ impl<'a> Cursor<'a> {
                 self.rest = rest;
                 Ok(found.clone()?)
             }
-            _ => Err(Miss::NoForm),
+            _ => Err(RowFault::NoForm),
         }
     }
 
-    /// One or more names, up to the end.
-    pub(crate) fn names(&self, alloc: Global) -> Result<Names, Miss>
+    // One or more names, up to the end.
+    pub(crate) fn names(&self, alloc: Global) -> Result<Names, RowFault>
         ensures { Finds (λ names. names) result (names_at self.now) }
     {
         match self.rest {
-            [] => Err(Miss::NoForm),
+            [] => Err(RowFault::NoForm),
             _ => all_names(alloc, self.rest),
         }
     }
 
-    /// A number without a sign, at most 4,294,967,295.
-    pub(crate) fn natural(&mut self) -> Result<u32, Miss>
+    // A number without a sign, at most 4,294,967,295.
+    pub(crate) fn natural(&mut self) -> Result<u32, RowFault>
         ensures { Reads (λ n. n) result self.new (natural_at self.old) }
     {
         match self.rest {
@@ -133,14 +133,14 @@ impl<'a> Cursor<'a> {
                     self.rest = rest;
                     Ok(value)
                 }
-                None => Err(Miss::NoForm),
+                None => Err(RowFault::NoForm),
             },
-            _ => Err(Miss::NoForm),
+            _ => Err(RowFault::NoForm),
         }
     }
 
-    /// The digits of a literal's number: a number, or a text that begins with the letter of its radix.
-    pub(crate) fn digits(&mut self, alloc: Global) -> Result<Digits, Miss>
+    // The digits of a literal's number: a number, or a text that begins with the letter of its radix.
+    pub(crate) fn digits(&mut self, alloc: Global) -> Result<Digits, RowFault>
         ensures { Reads (λ d. d) result self.new (digits_at self.old) }
     {
         match self.rest {
@@ -152,12 +152,12 @@ impl<'a> Cursor<'a> {
                 self.rest = rest;
                 text_digits(alloc, found.as_bytes())
             }
-            _ => Err(Miss::NoForm),
+            _ => Err(RowFault::NoForm),
         }
     }
 
-    /// A word that names an operation.
-    pub(crate) fn operation(&mut self) -> Result<Operation, Miss>
+    // A word that names an operation.
+    pub(crate) fn operation(&mut self) -> Result<Operation, RowFault>
         ensures { Reads (λ o. o) result self.new (operation_at self.old) }
     {
         match self.rest {
@@ -166,13 +166,13 @@ impl<'a> Cursor<'a> {
                     self.rest = rest;
                     Ok(op)
                 }
-                None => Err(Miss::NoForm),
+                None => Err(RowFault::NoForm),
             },
-            _ => Err(Miss::NoForm),
+            _ => Err(RowFault::NoForm),
         }
     }
 
-    /// Whether the token after the next is this symbol.
+    // Whether the token after the next is this symbol.
     pub(crate) fn is_second(&self, symbol: Symbol) -> bool
         ensures { result ≡ is_second symbol self.now }
     {
@@ -185,14 +185,14 @@ impl<'a> Cursor<'a> {
         }
     }
 
-    /// How many tokens are left.
+    // How many tokens are left.
     pub(crate) fn len(&self) -> usize
         ensures { result ≡ length self.now }
     {
         self.rest.len()
     }
 
-    /// Whether nothing is left.
+    // Whether nothing is left.
     pub(crate) fn is_empty(&self) -> bool
         ensures { MatchBool result (end_at self.now ≡ Some self.now) (end_at self.now ≡ None) }
     {
@@ -202,7 +202,7 @@ impl<'a> Cursor<'a> {
         }
     }
 
-    /// Whether a text is the next token.
+    // Whether a text is the next token.
     pub(crate) fn is_text(&self) -> bool
         ensures { result ≡ is_some (text_at self.now) }
     {
@@ -212,8 +212,8 @@ impl<'a> Cursor<'a> {
         }
     }
 
-    /// A text, as it is between its quotation marks.
-    pub(crate) fn text(&mut self) -> Result<Name, Miss>
+    // A text, as it is between its quotation marks.
+    pub(crate) fn text(&mut self) -> Result<Name, RowFault>
         ensures { Reads (λ text. text) result self.new (text_at self.old) }
     {
         match self.rest {
@@ -221,12 +221,12 @@ impl<'a> Cursor<'a> {
                 self.rest = rest;
                 Ok(found.clone()?)
             }
-            _ => Err(Miss::NoForm),
+            _ => Err(RowFault::NoForm),
         }
     }
 
-    /// The first word of a line whose first word isn't the name of a sink.
-    pub(crate) fn keyword(&mut self) -> Result<Keyword, Miss>
+    // The first word of a line whose first word isn't the name of a sink.
+    pub(crate) fn keyword(&mut self) -> Result<Keyword, RowFault>
         ensures { Reads (λ k. k) result self.new (keyword_at self.old) }
     {
         match self.rest {
@@ -235,13 +235,13 @@ impl<'a> Cursor<'a> {
                     self.rest = rest;
                     Ok(keyword)
                 }
-                None => Err(Miss::NoForm),
+                None => Err(RowFault::NoForm),
             },
-            _ => Err(Miss::NoForm),
+            _ => Err(RowFault::NoForm),
         }
     }
 
-    /// Whether the two tokens after the next are `is invalid`.
+    // Whether the two tokens after the next are `is invalid`.
     fn is_invalid(&self) -> bool
         ensures { result ≡ is_invalid self.now }
     {
@@ -252,26 +252,26 @@ impl<'a> Cursor<'a> {
         }
     }
 
-    /// Whether the line begins with a sink, so that its first word is a name.
+    // Whether the line begins with a sink, so that its first word is a name.
     pub(crate) fn is_connection(&self) -> bool
         ensures { result ≡ is_connection self.now }
     {
         self.is_second(Symbol::Connect) || self.is_second(Symbol::Dot) || self.is_invalid()
     }
 
-    /// Checks that no token is left.
-    pub(crate) fn end(&mut self) -> Result<(), Miss>
+    // Checks that no token is left.
+    pub(crate) fn end(&mut self) -> Result<(), RowFault>
         ensures { Passes result self.new (end_at self.old) }
     {
         match self.rest {
             [] => Ok(()),
-            _ => Err(Miss::NoForm),
+            _ => Err(RowFault::NoForm),
         }
     }
 }
 
-/// The names that the tokens are; each token has to be one.
-fn all_names(alloc: Global, tokens: &[Tok]) -> Result<Names, Miss>
+// The names that the tokens are; each token has to be one.
+fn all_names(alloc: Global, tokens: &[Tok]) -> Result<Names, RowFault>
     ensures { Finds (λ names. names) result (more_names_at [] tokens.now) }
 {
     let mut names = Vec::new(alloc);
@@ -281,22 +281,22 @@ fn all_names(alloc: Global, tokens: &[Tok]) -> Result<Names, Miss>
     Ok(Names::from(names))
 }
 
-/// Adds the name that a token is, as the last.
-fn add_name(names: &mut Vec<Name>, token: &Tok) -> Result<(), Miss>
+// Adds the name that a token is, as the last.
+fn add_name(names: &mut Vec<Name>, token: &Tok) -> Result<(), RowFault>
     ensures { TakesName result names.old.items token.now names.new.items }
 {
     match token {
         Tok::Word(word) if is_name(word.as_str()) => push_name(names, word.clone()?),
-        _ => Err(Miss::NoForm),
+        _ => Err(RowFault::NoForm),
     }
 }
 
-/// Adds a name as the last.
-fn push_name(names: &mut Vec<Name>, name: Name) -> Result<(), Miss>
-    ensures { MatchResult result (λ _. names.new.items ≡ names.old.items ++ name ∷ []) (λ miss. miss ≡ Miss.NoMemory) }
+// Adds a name as the last.
+fn push_name(names: &mut Vec<Name>, name: Name) -> Result<(), RowFault>
+    ensures { MatchResult result (λ _. names.new.items ≡ names.old.items ++ name ∷ []) (λ fault. fault ≡ RowFault.NoMemory) }
 {
     match names.push(name) {
         Ok(()) => Ok(()),
-        Err(error) => Err(Miss::from(AllocError::from(error))),
+        Err(error) => Err(RowFault::from(AllocError::from(error))),
     }
 }

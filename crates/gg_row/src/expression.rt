@@ -2,23 +2,23 @@
 ghost use Rattle.std.specs.Prelude.{◌≡◌, MatchResult};
 ghost use Rattle.gg_row.specs.Reading.{Reads, reference_at, second_at, third_at, width_at, kind_at, type_at, literal_at, parameters_at, one_parameter_at, two_parameters_at, expr_at, form_at, call_at, operands_at, unary_at, binary_at, fixed_at, mux_at};
 
-use crate::cursor::{Cursor, Miss};
+use crate::cursor::{Cursor, RowFault};
 use crate::words::Operation;
 use gg_ast::{Expr, ExprKind, GroundType, Literal, Reference};
 use gg_bits::{Kind, Name, Op1, Op2, OpN};
 use gg_lex::Symbol;
 use std::alloc::{AllocError, Global};
 
-/// A reference of one to three names.
-pub(crate) fn reference(cursor: &mut Cursor) -> Result<Reference, Miss>
+// A reference of one to three names.
+pub(crate) fn reference(cursor: &mut Cursor) -> Result<Reference, RowFault>
     ensures { Reads (λ r. r) result cursor.new (reference_at cursor.old) }
 {
     let first = cursor.name()?;
     second(cursor, first)
 }
 
-/// What may follow the first name of a reference.
-fn second(cursor: &mut Cursor, first: Name) -> Result<Reference, Miss>
+// What may follow the first name of a reference.
+fn second(cursor: &mut Cursor, first: Name) -> Result<Reference, RowFault>
     ensures { Reads (λ r. r) result cursor.new (second_at first cursor.old) }
 {
     if !cursor.skip(Symbol::Dot) {
@@ -28,8 +28,8 @@ fn second(cursor: &mut Cursor, first: Name) -> Result<Reference, Miss>
     third(cursor, first, second)
 }
 
-/// What may follow the second name of a reference.
-fn third(cursor: &mut Cursor, first: Name, second: Name) -> Result<Reference, Miss>
+// What may follow the second name of a reference.
+fn third(cursor: &mut Cursor, first: Name, second: Name) -> Result<Reference, RowFault>
     ensures { Reads (λ r. r) result cursor.new (third_at first second cursor.old) }
 {
     if !cursor.skip(Symbol::Dot) {
@@ -39,8 +39,8 @@ fn third(cursor: &mut Cursor, first: Name, second: Name) -> Result<Reference, Mi
     Ok(Reference::FieldOf(first, second, third))
 }
 
-/// `<n>`.
-fn width(cursor: &mut Cursor) -> Result<u32, Miss>
+// `<n>`.
+fn width(cursor: &mut Cursor) -> Result<u32, RowFault>
     ensures { Reads (λ n. n) result cursor.new (width_at cursor.old) }
 {
     cursor.symbol(Symbol::Less)?;
@@ -49,8 +49,8 @@ fn width(cursor: &mut Cursor) -> Result<u32, Miss>
     Ok(width)
 }
 
-/// `UInt` or `SInt`.
-fn kind(cursor: &mut Cursor) -> Result<Kind, Miss>
+// `UInt` or `SInt`.
+fn kind(cursor: &mut Cursor) -> Result<Kind, RowFault>
     ensures { Reads (λ k. k) result cursor.new (kind_at cursor.old) }
 {
     if cursor.skip_word("UInt") {
@@ -60,8 +60,8 @@ fn kind(cursor: &mut Cursor) -> Result<Kind, Miss>
     Ok(Kind::SInt)
 }
 
-/// `UInt<n>`, `SInt<n>` or `Clock`.
-pub(crate) fn ground_type(cursor: &mut Cursor) -> Result<GroundType, Miss>
+// `UInt<n>`, `SInt<n>` or `Clock`.
+pub(crate) fn ground_type(cursor: &mut Cursor) -> Result<GroundType, RowFault>
     ensures { Reads (λ ty. ty) result cursor.new (type_at cursor.old) }
 {
     if cursor.skip_word("Clock") {
@@ -75,8 +75,8 @@ pub(crate) fn ground_type(cursor: &mut Cursor) -> Result<GroundType, Miss>
     }
 }
 
-/// A literal.
-fn literal(alloc: Global, cursor: &mut Cursor) -> Result<Literal, Miss>
+// A literal.
+fn literal(alloc: Global, cursor: &mut Cursor) -> Result<Literal, RowFault>
     ensures { Reads (λ l. l) result cursor.new (literal_at cursor.old) }
 {
     let kind = kind(cursor)?;
@@ -93,8 +93,8 @@ fn literal(alloc: Global, cursor: &mut Cursor) -> Result<Literal, Miss>
     })
 }
 
-/// `, n )`.
-pub(crate) fn one_parameter(cursor: &mut Cursor) -> Result<u32, Miss>
+// `, n )`.
+pub(crate) fn one_parameter(cursor: &mut Cursor) -> Result<u32, RowFault>
     ensures { Reads (λ n. n) result cursor.new (one_parameter_at cursor.old) }
 {
     cursor.symbol(Symbol::Comma)?;
@@ -103,8 +103,8 @@ pub(crate) fn one_parameter(cursor: &mut Cursor) -> Result<u32, Miss>
     Ok(n)
 }
 
-/// `, n , m )`.
-fn two_parameters(cursor: &mut Cursor) -> Result<(u32, u32), Miss>
+// `, n , m )`.
+fn two_parameters(cursor: &mut Cursor) -> Result<(u32, u32), RowFault>
     ensures { Reads (λ p. p) result cursor.new (two_parameters_at cursor.old) }
 {
     cursor.symbol(Symbol::Comma)?;
@@ -115,8 +115,8 @@ fn two_parameters(cursor: &mut Cursor) -> Result<(u32, u32), Miss>
     Ok((n, m))
 }
 
-/// The parameters of an operation and its closing bracket.
-fn parameters(cursor: &mut Cursor, op: OpN) -> Result<(u32, u32), Miss>
+// The parameters of an operation and its closing bracket.
+fn parameters(cursor: &mut Cursor, op: OpN) -> Result<(u32, u32), RowFault>
     ensures { Reads (λ p. p) result cursor.new (parameters_at op cursor.old) }
 {
     match op {
@@ -128,20 +128,20 @@ fn parameters(cursor: &mut Cursor, op: OpN) -> Result<(u32, u32), Miss>
     }
 }
 
-/// An expression with operations nested at most `depth` deep.
+// An expression with operations nested at most `depth` deep.
 #[cycle(expression)]
-pub(crate) fn expr(alloc: Global, cursor: &mut Cursor, depth: usize) -> Result<Expr, Miss>
+pub(crate) fn expr(alloc: Global, cursor: &mut Cursor, depth: usize) -> Result<Expr, RowFault>
     ensures { Reads (λ e. e) result cursor.new (expr_at depth cursor.old) }
 {
     if depth == 0 {
-        return Err(Miss::NoForm);
+        return Err(RowFault::NoForm);
     }
     form(alloc, cursor, depth - 1)
 }
 
-/// An operation, a literal or a reference.
+// An operation, a literal or a reference.
 #[cycle(expression)]
-fn form(alloc: Global, cursor: &mut Cursor, depth: usize) -> Result<Expr, Miss>
+fn form(alloc: Global, cursor: &mut Cursor, depth: usize) -> Result<Expr, RowFault>
     ensures { Reads (λ e. e) result cursor.new (form_at (expr_at depth) cursor.old) }
 {
     if cursor.is_second(Symbol::OpenParen) {
@@ -159,9 +159,9 @@ fn form(alloc: Global, cursor: &mut Cursor, depth: usize) -> Result<Expr, Miss>
     })
 }
 
-/// An operation with its operands.
+// An operation with its operands.
 #[cycle(expression)]
-fn call(alloc: Global, cursor: &mut Cursor, depth: usize) -> Result<Expr, Miss>
+fn call(alloc: Global, cursor: &mut Cursor, depth: usize) -> Result<Expr, RowFault>
     ensures { Reads (λ e. e) result cursor.new (call_at (expr_at depth) cursor.old) }
 {
     let operation = cursor.operation()?;
@@ -169,14 +169,14 @@ fn call(alloc: Global, cursor: &mut Cursor, depth: usize) -> Result<Expr, Miss>
     operands(alloc, cursor, depth, operation)
 }
 
-/// The operands of an operation, and its closing bracket.
+// The operands of an operation, and its closing bracket.
 #[cycle(expression)]
 fn operands(
     alloc: Global,
     cursor: &mut Cursor,
     depth: usize,
     operation: Operation,
-) -> Result<Expr, Miss>
+) -> Result<Expr, RowFault>
     ensures { Reads (λ e. e) result cursor.new (operands_at (expr_at depth) operation cursor.old) }
 {
     match operation {
@@ -187,18 +187,18 @@ fn operands(
     }
 }
 
-/// An operand, in a `Box`.
+// An operand, in a `Box`.
 #[cycle(expression)]
-fn operand(alloc: Global, cursor: &mut Cursor, depth: usize) -> Result<Box<Expr>, Miss>
+fn operand(alloc: Global, cursor: &mut Cursor, depth: usize) -> Result<Box<Expr>, RowFault>
     ensures { Reads (λ operand. operand.value) result cursor.new (expr_at depth cursor.old) }
 {
     let value = expr(alloc, cursor, depth)?;
     boxed(alloc, value)
 }
 
-/// `a )`.
+// `a )`.
 #[cycle(expression)]
-fn unary(alloc: Global, cursor: &mut Cursor, depth: usize, op: Op1) -> Result<Expr, Miss>
+fn unary(alloc: Global, cursor: &mut Cursor, depth: usize, op: Op1) -> Result<Expr, RowFault>
     ensures { Reads (λ e. e) result cursor.new (unary_at (expr_at depth) op cursor.old) }
 {
     let a = operand(alloc, cursor, depth)?;
@@ -208,9 +208,9 @@ fn unary(alloc: Global, cursor: &mut Cursor, depth: usize, op: Op1) -> Result<Ex
     })
 }
 
-/// `a , b )`.
+// `a , b )`.
 #[cycle(expression)]
-fn binary(alloc: Global, cursor: &mut Cursor, depth: usize, op: Op2) -> Result<Expr, Miss>
+fn binary(alloc: Global, cursor: &mut Cursor, depth: usize, op: Op2) -> Result<Expr, RowFault>
     ensures { Reads (λ e. e) result cursor.new (binary_at (expr_at depth) op cursor.old) }
 {
     let a = operand(alloc, cursor, depth)?;
@@ -222,9 +222,9 @@ fn binary(alloc: Global, cursor: &mut Cursor, depth: usize, op: Op2) -> Result<E
     })
 }
 
-/// `a , n )` or `a , n , m )`.
+// `a , n )` or `a , n , m )`.
 #[cycle(expression)]
-fn fixed(alloc: Global, cursor: &mut Cursor, depth: usize, op: OpN) -> Result<Expr, Miss>
+fn fixed(alloc: Global, cursor: &mut Cursor, depth: usize, op: OpN) -> Result<Expr, RowFault>
     ensures { Reads (λ e. e) result cursor.new (fixed_at (expr_at depth) op cursor.old) }
 {
     let a = operand(alloc, cursor, depth)?;
@@ -234,9 +234,9 @@ fn fixed(alloc: Global, cursor: &mut Cursor, depth: usize, op: OpN) -> Result<Ex
     })
 }
 
-/// `c , a , b )`.
+// `c , a , b )`.
 #[cycle(expression)]
-fn mux(alloc: Global, cursor: &mut Cursor, depth: usize) -> Result<Expr, Miss>
+fn mux(alloc: Global, cursor: &mut Cursor, depth: usize) -> Result<Expr, RowFault>
     ensures { Reads (λ e. e) result cursor.new (mux_at (expr_at depth) cursor.old) }
 {
     let c = operand(alloc, cursor, depth)?;
@@ -250,12 +250,12 @@ fn mux(alloc: Global, cursor: &mut Cursor, depth: usize) -> Result<Expr, Miss>
     })
 }
 
-/// The expression, in a `Box`.
-fn boxed(alloc: Global, expr: Expr) -> Result<Box<Expr>, Miss>
-    ensures { MatchResult result (λ b. b.value ≡ expr) (λ miss. miss ≡ Miss.NoMemory) }
+// The expression, in a `Box`.
+fn boxed(alloc: Global, expr: Expr) -> Result<Box<Expr>, RowFault>
+    ensures { MatchResult result (λ b. b.value ≡ expr) (λ fault. fault ≡ RowFault.NoMemory) }
 {
     match Box::new(alloc, expr) {
         Ok(boxed) => Ok(boxed),
-        Err(error) => Err(Miss::from(AllocError::from(error))),
+        Err(error) => Err(RowFault::from(AllocError::from(error))),
     }
 }

@@ -1,18 +1,18 @@
 //! The fields of a memory.
 ghost use Rattle.gg_row.specs.Reading.{Reads, Finds, last_type_at, last_natural_at, read_under_write_at, last_read_under_write_at, field_at};
 
-use crate::cursor::{Cursor, Miss};
+use crate::cursor::{Cursor, RowFault};
 use crate::expression::ground_type;
 use crate::words::FieldWord;
 use gg_ast::{GroundType, MemoryField, ReadUnderWrite};
 use std::alloc::Global;
 
-/// What a field says, after its word and `=>`.
+// What a field says, after its word and `=>`.
 pub(crate) fn field(
     alloc: Global,
     cursor: &mut Cursor,
     word: FieldWord,
-) -> Result<MemoryField, Miss>
+) -> Result<MemoryField, RowFault>
     ensures { Finds (λ f. f) result (field_at word cursor.old) }
 {
     match word {
@@ -28,8 +28,8 @@ pub(crate) fn field(
     }
 }
 
-/// A type up to the end.
-fn last_type(cursor: &mut Cursor) -> Result<GroundType, Miss>
+// A type up to the end.
+fn last_type(cursor: &mut Cursor) -> Result<GroundType, RowFault>
     ensures { Finds (λ ty. ty) result (last_type_at cursor.old) }
 {
     let ty = ground_type(cursor)?;
@@ -37,8 +37,8 @@ fn last_type(cursor: &mut Cursor) -> Result<GroundType, Miss>
     Ok(ty)
 }
 
-/// A number up to the end.
-fn last_natural(cursor: &mut Cursor) -> Result<u32, Miss>
+// A number up to the end.
+fn last_natural(cursor: &mut Cursor) -> Result<u32, RowFault>
     ensures { Finds (λ n. n) result (last_natural_at cursor.old) }
 {
     let n = cursor.natural()?;
@@ -46,8 +46,8 @@ fn last_natural(cursor: &mut Cursor) -> Result<u32, Miss>
     Ok(n)
 }
 
-/// `old`, `new` or `undefined`.
-fn read_under_write(cursor: &mut Cursor) -> Result<ReadUnderWrite, Miss>
+// `old`, `new` or `undefined`.
+fn read_under_write(cursor: &mut Cursor) -> Result<ReadUnderWrite, RowFault>
     ensures { Reads (λ w. w) result cursor.new (read_under_write_at cursor.old) }
 {
     if cursor.skip_word("old") {
@@ -60,8 +60,8 @@ fn read_under_write(cursor: &mut Cursor) -> Result<ReadUnderWrite, Miss>
     Ok(ReadUnderWrite::Undefined)
 }
 
-/// One of these words up to the end.
-fn last_read_under_write(cursor: &mut Cursor) -> Result<ReadUnderWrite, Miss>
+// One of these words up to the end.
+fn last_read_under_write(cursor: &mut Cursor) -> Result<ReadUnderWrite, RowFault>
     ensures { Finds (λ w. w) result (last_read_under_write_at cursor.old) }
 {
     let word = read_under_write(cursor)?;

@@ -14,6 +14,6 @@ mod laws;
 mod row;
 mod words;
 
-pub use cursor::Miss;
+pub use cursor::RowFault;
 pub use laws::{name_is_a_word, one_row};
 pub use row::{LineRow, read_row};

@@ -5,20 +5,20 @@ ghost use Rattle.gg_row.specs.Words.{find_word, operation_of, head_words, tail_w
 use gg_ast::{Direction, Report};
 use gg_bits::{Op1, Op2, OpN};
 
-/// An operation of an expression, by how many operands and parameters it takes.
+// An operation of an expression, by how many operands and parameters it takes.
 #[derive(Clone, Copy)]
 pub(crate) enum Operation {
-    /// On one value.
+    // On one value.
     Unary(Op1),
-    /// On two values.
+    // On two values.
     Binary(Op2),
-    /// On one value, with parameters.
+    // On one value, with parameters.
     Fixed(OpN),
-    /// `mux`, on three values.
+    // `mux`, on three values.
     Mux,
 }
 
-/// The first word of a memory's field.
+// The first word of a memory's field.
 #[derive(Clone, Copy)]
 pub(crate) enum FieldWord {
     DataType,
@@ -30,7 +30,7 @@ pub(crate) enum FieldWord {
     ReadUnderWrite,
 }
 
-/// The form of a line, by its first word.
+// The form of a line, by its first word.
 #[derive(Clone, Copy)]
 pub(crate) enum Keyword {
     Version,
@@ -47,17 +47,17 @@ pub(crate) enum Keyword {
     Skip,
     Stop,
     Report(Report),
-    /// `public`, before `module`.
+    // `public`, before `module`.
     Public,
-    /// `connect`, a connection.
+    // `connect`, a connection.
     Connect,
-    /// `invalidate`, of a sink.
+    // `invalidate`, of a sink.
     Invalidate,
-    /// `regreset`, a register with a reset.
+    // `regreset`, a register with a reset.
     Regreset,
 }
 
-/// The operation that a word names.
+// The operation that a word names.
 pub(crate) fn find_operation(word: &str) -> Option<Operation>
     ensures { result ≡ operation_of word.now }
 {
@@ -77,7 +77,7 @@ pub(crate) fn find_operation(word: &str) -> Option<Operation>
     }
 }
 
-/// The form of a line whose first word is one of these.
+// The form of a line whose first word is one of these.
 fn head_keyword(word: &str) -> Option<Keyword>
     ensures { result ≡ find_word word.now head_words }
 {
@@ -94,7 +94,7 @@ fn head_keyword(word: &str) -> Option<Keyword>
     }
 }
 
-/// The form of a line whose first word is one of these.
+// The form of a line whose first word is one of these.
 fn tail_keyword(word: &str) -> Option<Keyword>
     ensures { result ≡ find_word word.now tail_words }
 {
@@ -112,7 +112,7 @@ fn tail_keyword(word: &str) -> Option<Keyword>
     }
 }
 
-/// The form of a line whose first word is one of these.
+// The form of a line whose first word is one of these.
 fn field_keyword(word: &str) -> Option<Keyword>
     ensures { result ≡ find_word word.now field_words }
 {
@@ -128,7 +128,7 @@ fn field_keyword(word: &str) -> Option<Keyword>
     }
 }
 
-/// The form of a line whose first word is one of these, of the second spelling.
+// The form of a line whose first word is one of these, of the second spelling.
 fn second_keyword(word: &str) -> Option<Keyword>
     ensures { result ≡ find_word word.now second_words }
 {
@@ -141,7 +141,7 @@ fn second_keyword(word: &str) -> Option<Keyword>
     }
 }
 
-/// The form of a line whose first word isn't the name of a sink, by this word.
+// The form of a line whose first word isn't the name of a sink, by this word.
 pub(crate) fn find_keyword(word: &str) -> Option<Keyword>
     ensures { result ≡ keyword_of word.now }
 {

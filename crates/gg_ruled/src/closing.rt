@@ -1,4 +1,4 @@
-// How a queue is closed.
+//! How a queue is closed.
 ghost use Rattle.std.specs.Prelude.{◌≡◌, ◌+◌, ◌≤◌, ◌++◌};
 ghost use Rattle.std.specs.VecDeque.{deque_items, deque_len, deque_capacity};
 ghost use Rattle.gg_link.specs.Seats.{between, WithinCapacity};

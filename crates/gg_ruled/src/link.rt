@@ -1,4 +1,4 @@
-// A queue is a link.
+//! A queue is a link.
 use crate::opening::opened;
 use crate::ruled::{PutSeat, Ruled, TakeSeat};
 use gg_flat::Streams;

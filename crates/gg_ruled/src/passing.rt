@@ -1,4 +1,4 @@
-// A put and a take.
+//! A put and a take.
 ghost use Rattle.std.specs.Prelude.{◌≡◌, ◌+◌, ◌<◌, ◌≤◌, slice_get, Some, MatchResult, MatchOption, length};
 ghost use Rattle.crossbeam_queue.specs.Passes.{view, IsPassOf};
 ghost use Rattle.gg_link.specs.Seats.{Counted, FoundFull, FoundEmpty};
@@ -37,7 +37,9 @@ impl<R: Wait + Copy> Ruled<R> {
     pub(crate) fn try_take(&self, seat: &mut TakeSeat) -> Option<u128>
         requires seat { IsTakeSeatOf self.now seat.old }
         ensures seat { IsTakeSeatOf self.now seat.new }
-        ensures take { MatchOption result (FoundEmpty (take_state seat.old) (take_state seat.new)) (λ value. Counted (take_state seat.old) (take_state seat.new) × (slice_get (take_state seat.old).stream (take_state seat.old).count ≡ Some value)) }
+        ensures take { MatchOption result (FoundEmpty (take_state seat.old) (take_state seat.new))
+            (λ value. Counted (take_state seat.old) (take_state seat.new)
+            × (slice_get (take_state seat.old).stream (take_state seat.old).count ≡ Some value)) }
     {
         match self.queue.pop_as::<Takes, R>(&self.rt, &mut seat.pass) {
             Some(value) => {

@@ -1,25 +1,25 @@
-// What a queue holds and its passes know, and the kinds of step that keep it so: a push, a pop, a split and a join.
+//! What a queue holds and its passes know, and the kinds of step that keep it so: a push, a pop, a split and a join.
 ghost use Rattle.std.specs.Prelude.{List, ℕ, []};
 
 use crossbeam_queue::protocol::{Join, Lesson, Outcome, Protocol, Split};
 use std::collections::LinkedList;
 use std::marker::{Brand, PhantomData};
 
-/// What a pass knows. No value of it is made.
-pub struct View {
+// What a pass knows. No value of it is made.
+pub(crate) struct View {
     // whether it may put, and whether it may take
-    pub puts: bool,
-    pub takes: bool,
-    pub stream: LinkedList<u128>,
-    pub capacity: u64,
-    pub put: u64,
-    pub taken: u64,
+    pub(crate) puts: bool,
+    pub(crate) takes: bool,
+    pub(crate) stream: LinkedList<u128>,
+    pub(crate) capacity: u64,
+    pub(crate) put: u64,
+    pub(crate) taken: u64,
     // how many puts the seat that takes was told of when it was made
-    pub known: u64,
+    pub(crate) known: u64,
 }
 
-/// The rule of a queue between one seat that puts and one that takes.
-pub struct QueueRule;
+// The rule of a queue between one seat that puts and one that takes.
+pub(crate) struct QueueRule;
 
 impl Protocol<u128, View> for QueueRule {
     ghost use Rattle.std.specs.Prelude.{[]};
@@ -30,8 +30,8 @@ impl Protocol<u128, View> for QueueRule {
     ghost first = { whole [] 0 0 0 };
 }
 
-/// The stream and the capacity of one queue. No code reads it.
-pub trait Chosen {
+// The stream and the capacity of one queue. No code reads it.
+pub(crate) trait Chosen {
     ghost chosen: { List ℕ };
 
     ghost places: { ℕ };
@@ -43,8 +43,8 @@ impl Chosen for Brand {
     ghost places = { 0 };
 }
 
-/// The whole view of an empty queue is split in two, and the queue gets its stream.
-pub struct OpenSeats<K> {
+// The whole view of an empty queue is split in two, and the queue gets its stream.
+pub(crate) struct OpenSeats<K> {
     of: PhantomData<K>,
 }
 
@@ -56,8 +56,8 @@ impl<K: Chosen> Split<View> for OpenSeats<K> {
     ghost right = { λ v. taker K.chosen K.places 0 0 };
 }
 
-/// The whole view is split in two, and the seat that takes knows what was put.
-pub struct SplitSeats;
+// The whole view is split in two, and the seat that takes knows what was put.
+pub(crate) struct SplitSeats;
 
 impl Split<View> for SplitSeats {
     ghost use Rattle.gg_ruled.specs.Rule.{putter, taker};
@@ -67,8 +67,8 @@ impl Split<View> for SplitSeats {
     ghost right = { λ v. taker v.stream v.capacity v.taken v.put };
 }
 
-/// The view that puts becomes whole again, and the view that takes is spent.
-pub struct JoinSeats;
+// The view that puts becomes whole again, and the view that takes is spent.
+pub(crate) struct JoinSeats;
 
 impl Join<View> for JoinSeats {
     ghost use Rattle.gg_ruled.specs.Rule.{whole, spent};
@@ -78,8 +78,8 @@ impl Join<View> for JoinSeats {
     ghost spent = { spent };
 }
 
-/// A push of the next value; a look at how many the queue holds.
-pub struct Puts;
+// A push of the next value; a look at how many the queue holds.
+pub(crate) struct Puts;
 
 impl Outcome<u128, View> for Puts {
     ghost use Rattle.std.specs.Prelude.{◌≡◌};
@@ -94,8 +94,8 @@ impl Lesson<u128, View> for Puts {
     ghost fact = { λ v items. length items ≤ v.put };
 }
 
-/// A pop of the next value; a look at how many the queue holds.
-pub struct Takes;
+// A pop of the next value; a look at how many the queue holds.
+pub(crate) struct Takes;
 
 impl Outcome<u128, View> for Takes {
     ghost use Rattle.std.specs.Prelude.{◌≡◌, slice_get, Some};

@@ -1,4 +1,4 @@
-// The queue and its seats.
+//! The queue and its seats.
 ghost use Rattle.std.specs.Prelude.{◌≡◌, ◌<◌, ◌≤◌, ◌-◌, max, true, false, length};
 ghost use Rattle.crossbeam_queue.specs.Passes.{view, ruled_capacity};
 ghost use Rattle.gg_link.specs.Seats.{stream_limit};

@@ -21,7 +21,9 @@ pub fn openings_are_nets()
 
 /// It is kept: all that holds of a network at all times holds of it.
 pub fn openings_are_kept()
-    ensures { (plan : Plan) (start : Start) (columns : List (List ℕ)) (n : ℕ) (flow : Flow) (run : IsToRunFrom plan start columns n flow) (net : Network) → IsOpeningFrom plan start (run_token run) columns n net → Kept flow net }
+    ensures { (plan : Plan) (start : Start) (columns : List (List ℕ)) (n : ℕ) (flow : Flow)
+        (run : IsToRunFrom plan start columns n flow) (net : Network) → IsOpeningFrom plan start (run_token run) columns n net
+        → Kept flow net }
 {}
 
 /// The network of a plan before its first cycle, with zeros, is one that begins with the start of the whole run.
@@ -32,7 +34,8 @@ pub fn zeros_are_a_start()
 
 /// A network of a plan stays one as long as its frame stays.
 pub fn steps_keep_nets()
-    ensures { (plan : Plan) (start : Start) (token : ℕ → ℕ) (columns : List (List ℕ)) (n : ℕ) (old new : Network) → IsNetOfPlan plan start token columns n old → frame_of new ≡ frame_of old → IsNetOfPlan plan start token columns n new }
+    ensures { (plan : Plan) (start : Start) (token : ℕ → ℕ) (columns : List (List ℕ)) (n : ℕ) (old new : Network)
+        → IsNetOfPlan plan start token columns n old → frame_of new ≡ frame_of old → IsNetOfPlan plan start token columns n new }
 {}
 
 /// A window is no longer than what a tray of the network of a plan keeps: at its end the value of each of its cycles is

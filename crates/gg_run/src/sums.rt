@@ -57,7 +57,7 @@ impl Rows<Fold> for Folding {
 pub fn sum_net<R: Threads + Sync, B: Bridge + Send + Drop, Z: Streams, G: Gate + Sync>(
     rt: &R,
     alloc: Global,
-    design: &Design,
+    _design: &Design,
     plan: &Plan,
     inputs: &Trace,
     workers: u32,
@@ -65,9 +65,9 @@ pub fn sum_net<R: Threads + Sync, B: Bridge + Send + Drop, Z: Streams, G: Gate +
     gate: &G,
 ) -> Result<Sums, AllocError>
     requires few { workers ≤ 64 }
-    requires run { (run : IsToRun plan.now inputs.now.columns inputs.now.rows Z.flow) × ((run.design ≡ design.now) × (2 ≤ length (plan_circuit run.design run.request run.models).outs)) }
+    requires run { (run : IsToRun plan.now inputs.now.columns inputs.now.rows Z.flow) × ((run.design ≡ _design.now) × (2 ≤ length (plan_circuit run.design run.request run.models).outs)) }
     requires bridges { HasBridges B.piece B.state plan.now bridges.items }
-    ensures { IfOk result (λ sums. (run : IsToRun plan.now inputs.now.columns inputs.now.rows Z.flow) → run.design ≡ design.now → AreSums plan.now inputs.now.columns inputs.now.rows Z.flow run sums) }
+    ensures { IfOk result (λ sums. (run : IsToRun plan.now inputs.now.columns inputs.now.rows Z.flow) → run.design ≡ _design.now → AreSums plan.now inputs.now.columns inputs.now.rows Z.flow run sums) }
 {
     let trays = trays_of(plan);
     let mut outs = vec![in alloc; 0u128; trays.count]?;

@@ -68,8 +68,13 @@ fn trays_len(machines: &[Machine]) -> usize
 
 /// The trays of a plan.
 pub fn trays_of(plan: &Plan) -> Trays
-    ensures first { (design : Ordered) (request : Request) (models : Models) (default : ℕ) → IsPlan design request models default plan.now → result.first ≡ first_kept_tray (plan_bridges design.circuit design.tree request) }
-    ensures count { (design : Ordered) (request : Request) (models : Models) (default : ℕ) → IsPlan design request models default plan.now → result.count ≡ first_bridge (plan_bridges design.circuit design.tree request) - first_kept_tray (plan_bridges design.circuit design.tree request) }
+    ensures first { (design : Ordered) (request : Request) (models : Models) (default : ℕ)
+        → IsPlan design request models default plan.now
+        → result.first ≡ first_kept_tray (plan_bridges design.circuit design.tree request) }
+    ensures count { (design : Ordered) (request : Request) (models : Models) (default : ℕ)
+        → IsPlan design request models default plan.now
+        → result.count ≡ first_bridge (plan_bridges design.circuit design.tree request) - first_kept_tray
+        (plan_bridges design.circuit design.tree request) }
 {
     let machines = plan.machines.as_slice();
     let first = inner_len(machines);

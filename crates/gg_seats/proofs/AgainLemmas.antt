@@ -12,7 +12,7 @@ use Rattle.gg_net.specs.Network.{Network, kind_at, Frame, frame_of}
 use Rattle.gg_net.specs.Kept.{MachineAt}
 use Rattle.gg_net.specs.Parted.{takes_by, enters_by}
 use Rattle.gg_net.specs.Queue.{Held}
-use Rattle.gg_net.specs.Seats.{seated, machines_by}
+use Rattle.gg_net.specs.Stations.{stationed, machines_by}
 use Rattle.gg_net.specs.Net.{IsListed}
 use Rattle.gg_seats.specs.Seats.{SeatCounts, TakeSeatOf, PutSeatOf, Linked}
 use Rattle.gg_seats.specs.Pass.{HasSeats}
@@ -67,9 +67,9 @@ module _ {X S T : Type 0} (takes_from : X → S → Type 0) (puts_into : X → T
       }
 
 -- The machine at each station is the one at its place: from the threads of the hosts to the machines by number.
-pub own-by-stations : (flow : Flow) (frame : Frame) (hosts : List (List Machine)) (stations : List Station) → ((m : ℕ) (s : Station) → m < length stations → MachineAt flow frame m (seated hosts (slice_index_or stations m s))) → (m : ℕ) (s : Station) → m < length stations → MachineAt flow frame m (machine_at (machines_by hosts stations) m)
-own-by-stations flow frame hosts stations own m s lt = subst (MachineAt flow frame m) (sym (get_or-map (seated hosts) stations m s no_machine lt)) (own m s lt)
+pub own-by-stations : (flow : Flow) (frame : Frame) (hosts : List (List Machine)) (stations : List Station) → ((m : ℕ) (s : Station) → m < length stations → MachineAt flow frame m (stationed hosts (slice_index_or stations m s))) → (m : ℕ) (s : Station) → m < length stations → MachineAt flow frame m (machine_at (machines_by hosts stations) m)
+own-by-stations flow frame hosts stations own m s lt = subst (MachineAt flow frame m) (sym (get_or-map (stationed hosts) stations m s no_machine lt)) (own m s lt)
 
 -- the machine with a number, at the thread of its station
-pub machine-seated : (hosts : List (List Machine)) (stations : List Station) (m : ℕ) (s : Station) → m < length stations → machine_at (machines_by hosts stations) m ≡ seated hosts (slice_index_or stations m s)
-machine-seated hosts stations m s lt = get_or-map (seated hosts) stations m s no_machine lt
+pub machine-stationed : (hosts : List (List Machine)) (stations : List Station) (m : ℕ) (s : Station) → m < length stations → machine_at (machines_by hosts stations) m ≡ stationed hosts (slice_index_or stations m s)
+machine-stationed hosts stations m s lt = get_or-map (stationed hosts) stations m s no_machine lt

@@ -14,7 +14,7 @@ use Rattle.gg_net.specs.Network.{Network, wire_at, queue_at, takes, entered, kin
 use Rattle.gg_net.specs.Kept.{list_at, BetweenAt, MachineAt}
 use Rattle.gg_net.specs.Parted.{takes_by, enters_by}
 use Rattle.gg_net.specs.Queue.{Held}
-use Rattle.gg_net.specs.Seats.{hosted, machines_by}
+use Rattle.gg_net.specs.Stations.{hosted, machines_by}
 use Rattle.gg_net.specs.Net.{net_of, held_at, IsListed, IsNet}
 use Rattle.gg_net.proofs.CountLemmas.{between-once}
 use Rattle.gg_net.proofs.PartLemmas.{is-rejoined}

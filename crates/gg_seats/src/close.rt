@@ -3,7 +3,7 @@ ghost use Rattle.std.specs.Prelude.{◌≡◌, ◌<◌, ◌≤◌, [], length, m
 ghost use Rattle.gg_link.specs.Seats.{between, WithinCapacity};
 ghost use Rattle.gg_net.specs.Kept.{Kept};
 ghost use Rattle.gg_net.specs.Net.{held_at};
-ghost use Rattle.gg_net.specs.Seats.{machines_by};
+ghost use Rattle.gg_net.specs.Stations.{machines_by};
 ghost use Rattle.gg_seats.specs.Seats.{Linked, MayStand, with_tokens};
 
 use crate::era::Era;
@@ -50,7 +50,9 @@ pub fn close_all<H: Host, L: Link, Z: Streams, E: Era>(
 )
     requires kept { Kept Z.flow E.start }
     requires owned { MayStand Z.flow E.start (machines_by (map H.machines _hosts.now) _stations.now) }
-    requires standing { Linked L.takes_from L.puts_into L.taking L.putting Z.flow E.start (machines_by (map H.machines _hosts.now) _stations.now) links.old.items put_seats.old.items take_seats.old.items queues.old.items }
+    requires standing { Linked L.takes_from L.puts_into L.taking L.putting Z.flow E.start
+        (machines_by (map H.machines _hosts.now) _stations.now) links.old.items put_seats.old.items take_seats.old.items
+        queues.old.items }
     ensures standing { Linked L.takes_from L.puts_into L.taking L.putting Z.flow E.start (machines_by (map H.machines _hosts.now) _stations.now) [] [] [] queues.new.items }
 {
     while let Some(link) = links.pop() {

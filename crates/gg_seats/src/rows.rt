@@ -26,18 +26,19 @@ pub(crate) fn latch_all<H: Host, L: Link, Z: Streams, E: Era>(
     links: &[L],
     host: &mut H,
     thread: u32,
-    machine: u32,
+    _machine: u32,
     ins: &[u32],
     seats: &mut Vec<L::TakeSeat>,
 ) -> bool
     requires kept { Kept Z.flow E.start }
-    requires here { (length links.now ≡ length E.start.wires) × (machine < length E.start.machines) }
+    requires here { (length links.now ≡ length E.start.wires) × (_machine < length E.start.machines) }
     requires thread { thread < length (H.machines host.old) }
     requires below { (machine_at (H.machines host.old) thread).cycle < E.start.end }
-    requires ins { AreIns E.start machine (machine_at (H.machines host.old) thread) ins.now × (length ins.now < 2 ^ 32) }
-    requires own { MachineAt Z.flow (frame_of E.start) machine (machine_at (H.machines host.old) thread) }
+    requires ins { AreIns E.start _machine (machine_at (H.machines host.old) thread) ins.now × (length ins.now < 2 ^ 32) }
+    requires own { MachineAt Z.flow (frame_of E.start) _machine (machine_at (H.machines host.old) thread) }
     requires placed { SeatsByPlace L.takes_from L.taking Z.flow E.start (takes_by (frame_of E.start) (machine_at (H.machines host.old) thread)) links.now ins.now seats.old.items }
-    ensures tried { LatchesTried L.takes_from L.taking Z.flow E.start machine links.now ins.now (length ins.now) (machine_at (H.machines host.old) thread) seats.old.items (machine_at (H.machines host.new) thread) seats.new.items }
+    ensures tried { LatchesTried L.takes_from L.taking Z.flow E.start _machine links.now ins.now (length ins.now)
+        (machine_at (H.machines host.old) thread) seats.old.items (machine_at (H.machines host.new) thread) seats.new.items }
     ensures alone { H.machines host.new ≡ slice_set (H.machines host.old) thread (machine_at (H.machines host.new) thread) }
     ensures done { StepsDone (H.machines host.old) thread (H.machines host.new) result }
 {
@@ -56,18 +57,19 @@ pub(crate) fn fire_all<H: Host, L: Link, Z: Streams, E: Era>(
     links: &[L],
     host: &mut H,
     thread: u32,
-    machine: u32,
+    _machine: u32,
     outs: &[u32],
     seats: &mut Vec<L::PutSeat>,
 ) -> bool
     requires kept { Kept Z.flow E.start }
-    requires here { (length links.now ≡ length E.start.wires) × (machine < length E.start.machines) }
+    requires here { (length links.now ≡ length E.start.wires) × (_machine < length E.start.machines) }
     requires thread { thread < length (H.machines host.old) }
     requires below { (machine_at (H.machines host.old) thread).cycle < E.start.end }
-    requires outs { AreOuts E.start machine (machine_at (H.machines host.old) thread) outs.now × (length outs.now < 2 ^ 32) }
-    requires own { MachineAt Z.flow (frame_of E.start) machine (machine_at (H.machines host.old) thread) }
+    requires outs { AreOuts E.start _machine (machine_at (H.machines host.old) thread) outs.now × (length outs.now < 2 ^ 32) }
+    requires own { MachineAt Z.flow (frame_of E.start) _machine (machine_at (H.machines host.old) thread) }
     requires placed { SeatsByPlace L.puts_into L.putting Z.flow E.start (enters_by (frame_of E.start) (machine_at (H.machines host.old) thread)) links.now outs.now seats.old.items }
-    ensures tried { FiresTried L.puts_into L.putting Z.flow E.start machine links.now outs.now (length outs.now) (machine_at (H.machines host.old) thread) seats.old.items (machine_at (H.machines host.new) thread) seats.new.items }
+    ensures tried { FiresTried L.puts_into L.putting Z.flow E.start _machine links.now outs.now (length outs.now)
+        (machine_at (H.machines host.old) thread) seats.old.items (machine_at (H.machines host.new) thread) seats.new.items }
     ensures alone { H.machines host.new ≡ slice_set (H.machines host.old) thread (machine_at (H.machines host.new) thread) }
     ensures done { StepsDone (H.machines host.old) thread (H.machines host.new) result }
 {
@@ -85,18 +87,18 @@ pub(crate) fn fire_all<H: Host, L: Link, Z: Streams, E: Era>(
 pub(crate) fn serve_all<H: Host, Z: Streams, E: Era>(
     host: &mut H,
     thread: u32,
-    machine: u32,
+    _machine: u32,
     outs: u32,
     ports: &[ServedPort],
 ) -> bool
     requires kept { Kept Z.flow E.start }
-    requires here { machine < length E.start.machines }
+    requires here { _machine < length E.start.machines }
     requires thread { thread < length (H.machines host.old) }
     requires below { (machine_at (H.machines host.old) thread).cycle < E.start.end }
     requires outs { outs ≡ length (machine_at (H.machines host.old) thread).flags }
     requires ports { ports.now ≡ map entry_of (machine_at (H.machines host.old) thread).ports }
-    requires own { MachineAt Z.flow (frame_of E.start) machine (machine_at (H.machines host.old) thread) }
-    ensures tried { ServesTried Z.flow E.start machine (machine_at (H.machines host.old) thread) (machine_at (H.machines host.new) thread) }
+    requires own { MachineAt Z.flow (frame_of E.start) _machine (machine_at (H.machines host.old) thread) }
+    ensures tried { ServesTried Z.flow E.start _machine (machine_at (H.machines host.old) thread) (machine_at (H.machines host.new) thread) }
     ensures none { NoneServes (machine_at (H.machines host.new) thread) }
     ensures alone { H.machines host.new ≡ slice_set (H.machines host.old) thread (machine_at (H.machines host.new) thread) }
     ensures done { StepsDone (H.machines host.old) thread (H.machines host.new) result }

@@ -22,7 +22,9 @@ pub(crate) fn try_latch<H: Host, L: Link>(
     requires thread { thread < length (H.machines host.old) }
     requires place { place < length (machine_at (H.machines host.old) thread).latches }
     requires seat { L.takes_from link.now seat.old }
-    requires may { (value : ℕ) → latch_at (machine_at (H.machines host.old) thread).latches place ≡ None → slice_get (L.taking seat.old).stream (L.taking seat.old).count ≡ Some value → MayLatch (machine_at (H.machines host.old) thread) place value }
+    requires may { (value : ℕ) → latch_at (machine_at (H.machines host.old) thread).latches place ≡ None
+        → slice_get (L.taking seat.old).stream (L.taking seat.old).count ≡ Some value
+        → MayLatch (machine_at (H.machines host.old) thread) place value }
     ensures seat { L.takes_from link.now seat.new }
     ensures tried { LatchTried (H.machines host.old) thread place (L.taking seat.old) (H.machines host.new) (L.taking seat.new) result }
 {
@@ -47,8 +49,13 @@ pub(crate) fn try_fire<H: Host, L: Link>(
     requires thread { thread < length (H.machines host.old) }
     requires place { place < length (machine_at (H.machines host.old) thread).flags }
     requires seat { L.puts_into link.now seat.old }
-    requires may { flag_at (machine_at (H.machines host.old) thread).flags place ≡ false → missing (machine_at (H.machines host.old) thread) place ≡ None → MayFire (machine_at (H.machines host.old) thread) place }
-    requires token { (value : ℕ) → flag_at (machine_at (H.machines host.old) thread).flags place ≡ false → missing (machine_at (H.machines host.old) thread) place ≡ None → IsToken (machine_at (H.machines host.old) thread) place value → slice_get (L.putting seat.old).stream (L.putting seat.old).count ≡ Some value }
+    requires may { flag_at (machine_at (H.machines host.old) thread).flags place ≡ false
+        → missing (machine_at (H.machines host.old) thread) place ≡ None
+        → MayFire (machine_at (H.machines host.old) thread) place }
+    requires token { (value : ℕ) → flag_at (machine_at (H.machines host.old) thread).flags place ≡ false
+        → missing (machine_at (H.machines host.old) thread) place ≡ None
+        → IsToken (machine_at (H.machines host.old) thread) place value
+        → slice_get (L.putting seat.old).stream (L.putting seat.old).count ≡ Some value }
     ensures seat { L.puts_into link.now seat.new }
     ensures tried { FireTried (H.machines host.old) thread place (L.putting seat.old) (H.machines host.new) (L.putting seat.new) result }
 {

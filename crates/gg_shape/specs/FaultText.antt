@@ -11,8 +11,8 @@ use Rattle.gg_shape.specs.declared.fault.MemoryKey.{MemoryKey}
 use Rattle.gg_shape.specs.declared.fault.MemoryKey.TheVariants as keys
 use Rattle.gg_shape.specs.declared.fault.Limit.{Limit}
 use Rattle.gg_shape.specs.declared.fault.Limit.TheVariants as limits
-use Rattle.gg_shape.specs.declared.fault.Refusal.{Refusal}
-use Rattle.gg_shape.specs.declared.fault.Refusal.TheVariants as refusals
+use Rattle.gg_shape.specs.declared.fault.CheckFault.{CheckFault}
+use Rattle.gg_shape.specs.declared.fault.CheckFault.TheVariants as refusals
 use Rattle.gg_shape.specs.declared.fault.Word.{Word}
 use Rattle.gg_shape.specs.declared.fault.Word.TheVariants as words
 
@@ -79,6 +79,6 @@ fault_text (OverLimit limit count) = codes "F15 " ++ limit_name limit ++ 32 ∷ 
 fault_text (Loop paths) = codes "F16" ++ behind_blanks paths
 
 -- what a check returns in place of Ok
-abbrev pub refusal_text : Refusal → List ℕ
+abbrev pub refusal_text : CheckFault → List ℕ
 refusal_text (refusals.F fault) = fault_text fault
 refusal_text refusals.NoMemory = codes "out of memory"

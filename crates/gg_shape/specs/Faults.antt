@@ -3,8 +3,8 @@
 pub use Rattle.gg_names.specs.Along.{along, along_from, first}
 use Rattle.std.specs.Prelude.{◌≡◌, Bool, true, false, List, [], ◌∷◌, Some, Result, Ok, Err}
 use Rattle.gg_shape.specs.declared.fault.Fault.{Fault}
-use Rattle.gg_shape.specs.declared.fault.Refusal.{Refusal}
-use Rattle.gg_shape.specs.declared.fault.Refusal.TheVariants.{F, NoMemory}
+use Rattle.gg_shape.specs.declared.fault.CheckFault.{CheckFault}
+use Rattle.gg_shape.specs.declared.fault.CheckFault.TheVariants.{F, NoMemory}
 
 -- the fault, if the test is true
 abbrev pub fault_if : Bool → Fault → List Fault
@@ -12,11 +12,11 @@ fault_if true fault = fault ∷ []
 fault_if false fault = []
 
 -- a refusal is the first fault; `NoMemory` says nothing of the faults
-abbrev pub Refuses : List Fault → Refusal → Type 0
+abbrev pub Refuses : List Fault → CheckFault → Type 0
 Refuses faults (F fault) = first faults ≡ Some fault
 Refuses faults NoMemory = Unit {0}
 
 -- what a check returns: Ok exactly if there is no fault, otherwise the first
-abbrev pub Answers : {A : Type 0} → List Fault → Result A Refusal → Type 0
+abbrev pub Answers : {A : Type 0} → List Fault → Result A CheckFault → Type 0
 Answers faults (Ok _) = faults ≡ []
 Answers faults (Err refusal) = Refuses faults refusal

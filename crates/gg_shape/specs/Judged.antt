@@ -4,8 +4,8 @@
 use Rattle.std.specs.Prelude.{◌≡◌, List, [], ◌++◌, Some, Result, Ok, Err, ◌⊎◌}
 use Rattle.gg_ast.specs.Tree.{CircuitTree}
 use Rattle.gg_shape.specs.declared.fault.Fault.{Fault}
-use Rattle.gg_shape.specs.declared.fault.Refusal.{Refusal}
-use Rattle.gg_shape.specs.declared.fault.Refusal.TheVariants.{F, NoMemory}
+use Rattle.gg_shape.specs.declared.fault.CheckFault.{CheckFault}
+use Rattle.gg_shape.specs.declared.fault.CheckFault.TheVariants.{F, NoMemory}
 use Rattle.gg_shape.specs.Faults.{first}
 use Rattle.gg_shape.specs.Memories.{memory_faults}
 use Rattle.gg_shape.specs.Rings.{HasNoRing, TellsRing}
@@ -33,17 +33,17 @@ pub record IsOfMemory (faults : List Fault) (circuit : CircuitTree) (fault : Fau
   pub told : first (memory_faults circuit) ≡ Some fault
 
 -- the first of the list, otherwise a ring, otherwise the first wrong memory; `NoMemory` says nothing of the faults
-abbrev pub RefusesFrom : List Fault → CircuitTree → Refusal → Type 0
+abbrev pub RefusesFrom : List Fault → CircuitTree → CheckFault → Type 0
 RefusesFrom faults circuit (F fault) = (first faults ≡ Some fault) ⊎ (IsInRing faults circuit fault ⊎ IsOfMemory faults circuit fault)
 RefusesFrom faults circuit NoMemory = Unit {0}
 
 -- Ok if there is none of these faults, no ring and no wrong memory; otherwise a refusal as above
-abbrev pub AnswersFrom : {A : Type 0} → List Fault → CircuitTree → Result A Refusal → Type 0
+abbrev pub AnswersFrom : {A : Type 0} → List Fault → CircuitTree → Result A CheckFault → Type 0
 AnswersFrom faults circuit (Ok _) = IsRight faults circuit
 AnswersFrom faults circuit (Err refusal) = RefusesFrom faults circuit refusal
 
 -- all of F1 to F8
-abbrev pub AnswersShape : {A : Type 0} → CircuitTree → Result A Refusal → Type 0
+abbrev pub AnswersShape : {A : Type 0} → CircuitTree → Result A CheckFault → Type 0
 AnswersShape circuit result = AnswersFrom (named_faults circuit) circuit result
 
 -- F3 to F6
@@ -55,11 +55,11 @@ reference_faults circuit =
     ++ in_modules connected_sources circuit))
 
 -- F7 alone: Ok exactly if there is no ring, otherwise a ring of the circuit
-abbrev pub RefusesRing : CircuitTree → Refusal → Type 0
+abbrev pub RefusesRing : CircuitTree → CheckFault → Type 0
 RefusesRing circuit (F fault) = TellsRing circuit fault
 RefusesRing circuit NoMemory = Unit {0}
 
 -- the check of rings returns Ok if there is none
-abbrev pub AnswersRing : {A : Type 0} → CircuitTree → Result A Refusal → Type 0
+abbrev pub AnswersRing : {A : Type 0} → CircuitTree → Result A CheckFault → Type 0
 AnswersRing circuit (Ok _) = HasNoRing circuit
 AnswersRing circuit (Err refusal) = RefusesRing circuit refusal

@@ -7,7 +7,7 @@ ghost use Rattle.gg_shape.specs.Judged.{AnswersShape, AnswersFrom, reference_fau
 ghost use Rattle.gg_shape.specs.Shape.{in_modules, missing_top, repeated_names, unknown_names, second_connections, unconnected_sinks, connected_sources};
 
 use crate::connections::{check_second, check_sources};
-use crate::fault::{Fault, Refusal};
+use crate::fault::{CheckFault, Fault};
 use crate::memories::check_memories;
 use crate::references::check_references;
 use crate::rings::check_rings;
@@ -17,14 +17,14 @@ use gg_names::{NamesFault, Namespace};
 use std::alloc::Global;
 
 /// What `shape` returns in place of Ok.
-pub type ShapeFault = Refusal;
+pub type ShapeFault = CheckFault;
 
 /// Checks a circuit for the faults F1 to F8. Returns Ok exactly if it has none of them.
 ///
 /// # Errors
 ///
-/// Returns `Refusal::F` with a fault of the least number that the circuit has: for F1 to F6 and F8 the first in the
-/// order of the text, for F7 any ring. Returns `Refusal::NoMemory` if an allocation fails or the circuit has
+/// Returns `CheckFault::F` with a fault of the least number that the circuit has: for F1 to F6 and F8 the first in the
+/// order of the text, for F7 any ring. Returns `CheckFault::NoMemory` if an allocation fails or the circuit has
 /// 4,294,967,296 modules or more.
 pub fn shape(alloc: Global, circuit: &Circuit) -> Result<(), ShapeFault>
     ensures { AnswersShape circuit.now result }
@@ -53,13 +53,13 @@ pub fn shaped<'a>(alloc: Global, circuit: &'a Circuit) -> Result<Namespace<'a>, 
 }
 
 // Refuses a circuit if none of its modules has its name.
-fn check_top(circuit: &Circuit) -> Result<(), Refusal>
+fn check_top(circuit: &Circuit) -> Result<(), CheckFault>
     ensures { Answers (missing_top circuit.now) result }
 {
     if has_top(circuit) {
         return Ok(());
     }
-    Err(Refusal::F(Fault::MissingTop {
+    Err(CheckFault::F(Fault::MissingTop {
         name: circuit.name().clone()?,
     }))
 }
@@ -77,22 +77,22 @@ fn has_top(circuit: &Circuit) -> bool
 }
 
 // The names of the circuit; fails at the first that comes twice.
-fn namespace_of<'a>(alloc: Global, circuit: &'a Circuit) -> Result<Namespace<'a>, Refusal>
+fn namespace_of<'a>(alloc: Global, circuit: &'a Circuit) -> Result<Namespace<'a>, CheckFault>
     ensures answers { Answers (repeated_names circuit.now) result }
     ensures names { IfOk result (λ names. names ≡ circuit.now) }
 {
     match Namespace::of(alloc, circuit) {
         Ok(names) => Ok(names),
-        Err(NamesFault::Repeated(repetition)) => Err(Refusal::F(Fault::RepeatedName {
+        Err(NamesFault::Repeated(repetition)) => Err(CheckFault::F(Fault::RepeatedName {
             line: repetition.line,
             name: repetition.name,
         })),
-        Err(NamesFault::NoMemory) => Err(Refusal::NoMemory),
+        Err(NamesFault::NoMemory) => Err(CheckFault::NoMemory),
     }
 }
 
 // Refuses a circuit with a fault of F3 to F8.
-fn check_names(alloc: Global, names: &Namespace) -> Result<(), Refusal>
+fn check_names(alloc: Global, names: &Namespace) -> Result<(), CheckFault>
     ensures { AnswersFrom (reference_faults names.now) names.now result }
 {
     check_references(alloc, names)?;
@@ -102,7 +102,7 @@ fn check_names(alloc: Global, names: &Namespace) -> Result<(), Refusal>
 }
 
 // Refuses a circuit with a fault of F4 to F6.
-fn check_connections(alloc: Global, names: &Namespace) -> Result<(), Refusal>
+fn check_connections(alloc: Global, names: &Namespace) -> Result<(), CheckFault>
     ensures { Answers (in_modules second_connections names.now ++ (in_modules unconnected_sinks names.now ++ in_modules connected_sources names.now)) result }
 {
     let all = check_second(alloc, names)?;

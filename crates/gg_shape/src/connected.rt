@@ -10,19 +10,19 @@ use indexmap::IndexSet;
 use std::alloc::{AllocError, Global};
 use std::marker::Model;
 
-/// The names of a reference.
+// The names of a reference.
 #[derive(Clone, Copy, PartialEq, Eq, Hash)]
-pub enum Key<'a> {
-    /// `x`.
+pub(crate) enum Key<'a> {
+    // `x`.
     Local(&'a str),
-    /// `i.p`.
+    // `i.p`.
     PortOf(&'a str, &'a str),
-    /// `m.r.f`.
+    // `m.r.f`.
     FieldOf(&'a str, &'a str, &'a str),
 }
 
-/// The names of this reference.
-pub fn key_of(reference: &Reference) -> Key
+// The names of this reference.
+pub(crate) fn key_of(reference: &Reference) -> Key
     ensures { reference_of result ≡ reference.now }
 {
     match reference {
@@ -32,12 +32,12 @@ pub fn key_of(reference: &Reference) -> Key
     }
 }
 
-/// The text of the reference: its names with dots between them.
-///
-/// # Errors
-///
-/// Returns `AllocError` if an allocation fails.
-pub fn text_of(alloc: Global, key: Key) -> Result<Name, AllocError>
+// The text of the reference: its names with dots between them.
+//
+// # Errors
+//
+// Returns `AllocError` if an allocation fails.
+pub(crate) fn text_of(alloc: Global, key: Key) -> Result<Name, AllocError>
     ensures { IfOk result (λ name. name ≡ written (reference_of key.entry)) }
 {
     match key {
@@ -59,8 +59,8 @@ pub fn text_of(alloc: Global, key: Key) -> Result<Name, AllocError>
     }
 }
 
-/// A set of references. A contract sees their list.
-pub struct Connected<'a> {
+// A set of references. A contract sees their list.
+pub(crate) struct Connected<'a> {
     keys: IndexSet<Key<'a>>,
 }
 
@@ -84,8 +84,8 @@ impl<'a> Model for Connected<'a> {
 }
 
 impl<'a> Connected<'a> {
-    /// No references.
-    pub fn new(alloc: Global) -> Connected<'a>
+    // No references.
+    pub(crate) fn new(alloc: Global) -> Connected<'a>
         ensures { result ≡ [] }
     {
         Connected {
@@ -93,19 +93,19 @@ impl<'a> Connected<'a> {
         }
     }
 
-    /// Whether a reference is one of these.
-    pub fn contains(&self, key: Key) -> bool
+    // Whether a reference is one of these.
+    pub(crate) fn contains(&self, key: Key) -> bool
         ensures { result ≡ is_among self.now (reference_of key.entry) }
     {
         self.keys.contains(&key)
     }
 
-    /// Adds a reference. If it is already one of them they stay the same.
-    ///
-    /// # Errors
-    ///
-    /// Returns `AllocError` if an allocation fails.
-    pub fn add(&mut self, key: Key<'a>) -> Result<(), AllocError>
+    // Adds a reference. If it is already one of them they stay the same.
+    //
+    // # Errors
+    //
+    // Returns `AllocError` if an allocation fails.
+    pub(crate) fn add(&mut self, key: Key<'a>) -> Result<(), AllocError>
         ensures { OnOk result ((r : References) → is_among self.new r ≡ is_among (self.old ++ reference_of key.entry ∷ []) r) }
     {
         match self.keys.insert(key) {

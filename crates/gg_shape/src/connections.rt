@@ -7,14 +7,17 @@ ghost use Rattle.gg_shape.specs.Shape.{in_modules, second_connections, second_by
 ghost use Rattle.gg_shape.specs.Told.{TellsConnected, TellsFirst, module_of};
 
 use crate::connected::{Connected, key_of};
-use crate::fault::{Fault, Refusal};
+use crate::fault::{CheckFault, Fault};
 use gg_ast::Stmt;
 use gg_names::{Namespace, connection, is_sink, is_source, written};
 use std::alloc::{AllocError, Global};
 
-/// Refuses the first connection of the circuit whose sink is already connected. If there is none, returns what is
-/// connected in each module.
-pub fn check_second<'a>(alloc: Global, names: &Namespace<'a>) -> Result<Vec<Connected<'a>>, Refusal>
+// Refuses the first connection of the circuit whose sink is already connected. If there is none, returns what is
+// connected in each module.
+pub(crate) fn check_second<'a>(
+    alloc: Global,
+    names: &Namespace<'a>,
+) -> Result<Vec<Connected<'a>>, CheckFault>
     ensures answers { Answers (in_modules second_connections names.now) result }
     ensures connected { IfOk result (λ all. TellsFirst names.now.modules (length names.now.modules) all.items) }
 {
@@ -33,7 +36,7 @@ fn connected_in<'a>(
     alloc: Global,
     names: &Namespace<'a>,
     number: u32,
-) -> Result<Connected<'a>, Refusal>
+) -> Result<Connected<'a>, CheckFault>
     requires { number < length names.now.modules }
     ensures answers { Answers (second_connections names.now.modules (module_of names.now number)) result }
     ensures connected { IfOk result (λ connected. TellsConnected (module_of names.now number).statements connected) }
@@ -48,7 +51,7 @@ fn connected_by<'a>(
     names: &Namespace<'a>,
     number: u32,
     statements: &'a [Stmt],
-) -> Result<Connected<'a>, Refusal>
+) -> Result<Connected<'a>, CheckFault>
     requires { number < length names.now.modules }
     ensures answers { Answers (along (second_by (scope_of names.now.modules (module_of names.now number))) statements.now) result }
     ensures connected { IfOk result (λ connected. TellsConnected statements.now connected) }
@@ -68,7 +71,7 @@ fn connected_once(
     number: u32,
     connected: &Connected,
     statement: &Stmt,
-) -> Result<(), Refusal>
+) -> Result<(), CheckFault>
     requires { number < length names.now.modules }
     ensures { (before : List AStatement) → TellsConnected before connected.now → Answers (second_by (scope_of names.now.modules (module_of names.now number)) before statement.now) result }
 {
@@ -76,7 +79,7 @@ fn connected_once(
         return Ok(());
     };
     if is_sink(names.role(number, sink)) && connected.contains(key_of(sink)) {
-        return Err(Refusal::F(Fault::SecondConnection {
+        return Err(CheckFault::F(Fault::SecondConnection {
             line: statement.line,
             name: written(alloc, sink)?,
         }));
@@ -94,8 +97,8 @@ fn mark<'a>(connected: &mut Connected<'a>, statement: &'a Stmt) -> Result<(), Al
     }
 }
 
-/// Refuses the first connection of the circuit to a source.
-pub fn check_sources(alloc: Global, names: &Namespace) -> Result<(), Refusal>
+// Refuses the first connection of the circuit to a source.
+pub(crate) fn check_sources(alloc: Global, names: &Namespace) -> Result<(), CheckFault>
     ensures { Answers (in_modules connected_sources names.now) result }
 {
     for number in 0..names.circuit().modules().len() {
@@ -105,7 +108,7 @@ pub fn check_sources(alloc: Global, names: &Namespace) -> Result<(), Refusal>
 }
 
 // Refuses the first connection of a module to a source.
-fn sources_in(alloc: Global, names: &Namespace, number: u32) -> Result<(), Refusal>
+fn sources_in(alloc: Global, names: &Namespace, number: u32) -> Result<(), CheckFault>
     requires { number < length names.now.modules }
     ensures { Answers (connected_sources names.now.modules (module_of names.now number)) result }
 {
@@ -119,7 +122,7 @@ fn sources_by(
     names: &Namespace,
     number: u32,
     statements: &[Stmt],
-) -> Result<(), Refusal>
+) -> Result<(), CheckFault>
     requires { number < length names.now.modules }
     ensures { Answers (flat_map (source_by (scope_of names.now.modules (module_of names.now number))) statements.now) result }
 {
@@ -130,7 +133,12 @@ fn sources_by(
 }
 
 // Refuses a connection to a source.
-fn no_source(alloc: Global, names: &Namespace, number: u32, statement: &Stmt) -> Result<(), Refusal>
+fn no_source(
+    alloc: Global,
+    names: &Namespace,
+    number: u32,
+    statement: &Stmt,
+) -> Result<(), CheckFault>
     requires { number < length names.now.modules }
     ensures { Answers (source_by (scope_of names.now.modules (module_of names.now number)) statement.now) result }
 {
@@ -138,7 +146,7 @@ fn no_source(alloc: Global, names: &Namespace, number: u32, statement: &Stmt) ->
         return Ok(());
     };
     if is_source(names.role(number, sink)) {
-        return Err(Refusal::F(Fault::ConnectedSource {
+        return Err(CheckFault::F(Fault::ConnectedSource {
             line: statement.line,
             name: written(alloc, sink)?,
         }));

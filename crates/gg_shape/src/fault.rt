@@ -169,21 +169,20 @@ pub enum Limit {
 
 /// What a check returns in place of Ok.
 #[derive(Debug, Drop)]
-pub enum Refusal {
+pub enum CheckFault {
     /// The first fault of the circuit.
     F(Fault),
     /// An allocation failed.
     NoMemory,
 }
 
-impl From<std::alloc::AllocError> for Refusal {
+impl From<std::alloc::AllocError> for CheckFault {
     ghost use Rattle.std.specs.Prelude.{◌≡◌};
-    ghost use Rattle.gg_shape.specs.declared.fault.Refusal.TheVariants.{NoMemory};
+    ghost use Rattle.gg_shape.specs.declared.fault.CheckFault.TheVariants.{NoMemory};
 
     ghost from_gives = { λ error refusal. refusal ≡ NoMemory };
 
-    fn from(error: std::alloc::AllocError) -> Refusal {
-        let _ = error;
-        Refusal::NoMemory
+    fn from(_error: std::alloc::AllocError) -> CheckFault {
+        CheckFault::NoMemory
     }
 }

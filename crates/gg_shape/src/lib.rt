@@ -21,4 +21,4 @@ mod text;
 mod unconnected;
 
 pub use check::{ShapeFault, shape, shaped};
-pub use fault::{Fault, Limit, MemoryKey, Refusal, Word};
+pub use fault::{CheckFault, Fault, Limit, MemoryKey, Word};

@@ -4,18 +4,18 @@ ghost use Rattle.gg_shape.specs.Faults.{Answers};
 ghost use Rattle.gg_shape.specs.Memories.{given_by, given, is_right as stands_right, wrong_field, wrong_fields, wrong_times, wrong_by, wrong_in_module, memory_faults};
 ghost use Rattle.gg_shape.specs.Counted.{count_of, with_value};
 
-use crate::fault::{Fault, MemoryKey, Refusal};
+use crate::fault::{CheckFault, Fault, MemoryKey};
 use gg_ast::{Circuit, Field, MemoryField, Module, Stmt, StmtKind};
 
-/// Refuses the first wrong field of the circuit's memories.
-pub fn check_memories(circuit: &Circuit) -> Result<(), Refusal>
+// Refuses the first wrong field of the circuit's memories.
+pub(crate) fn check_memories(circuit: &Circuit) -> Result<(), CheckFault>
     ensures { Answers (memory_faults circuit.now) result }
 {
     check_modules(circuit.modules())
 }
 
 // Refuses the first wrong field of these modules' memories.
-fn check_modules(modules: &[Module]) -> Result<(), Refusal>
+fn check_modules(modules: &[Module]) -> Result<(), CheckFault>
     ensures { Answers (flat_map wrong_in_module modules.now) result }
 {
     for module in modules {
@@ -25,14 +25,14 @@ fn check_modules(modules: &[Module]) -> Result<(), Refusal>
 }
 
 // Refuses the first wrong field of a module's memories.
-fn check_module(this: &Module) -> Result<(), Refusal>
+fn check_module(this: &Module) -> Result<(), CheckFault>
     ensures { Answers (wrong_in_module this.now) result }
 {
     check_statements(this.statements())
 }
 
 // Refuses the first wrong field of the memories among these statements.
-fn check_statements(statements: &[Stmt]) -> Result<(), Refusal>
+fn check_statements(statements: &[Stmt]) -> Result<(), CheckFault>
     ensures { Answers (flat_map wrong_by statements.now) result }
 {
     for statement in statements {
@@ -42,7 +42,7 @@ fn check_statements(statements: &[Stmt]) -> Result<(), Refusal>
 }
 
 // Refuses the first wrong field of a statement, if it is a memory.
-fn check_statement(statement: &Stmt) -> Result<(), Refusal>
+fn check_statement(statement: &Stmt) -> Result<(), CheckFault>
     ensures { Answers (wrong_by statement.now) result }
 {
     match &statement.kind {
@@ -60,7 +60,7 @@ fn check_statement(statement: &Stmt) -> Result<(), Refusal>
 }
 
 // Refuses the first wrong field of a memory that is declared on this line.
-fn check_fields(line: u64, fields: &[Field]) -> Result<(), Refusal>
+fn check_fields(line: u64, fields: &[Field]) -> Result<(), CheckFault>
     ensures { Answers (wrong_fields line fields.now) result }
 {
     check_key(line, fields, MemoryKey::DataType)?;
@@ -69,7 +69,7 @@ fn check_fields(line: u64, fields: &[Field]) -> Result<(), Refusal>
 }
 
 // Refuses the first wrong latency, and then a wrong read-under-write.
-fn check_times(line: u64, fields: &[Field]) -> Result<(), Refusal>
+fn check_times(line: u64, fields: &[Field]) -> Result<(), CheckFault>
     ensures { Answers (wrong_times line fields.now) result }
 {
     check_key(line, fields, MemoryKey::ReadLatency)?;
@@ -78,24 +78,24 @@ fn check_times(line: u64, fields: &[Field]) -> Result<(), Refusal>
 }
 
 // Refuses a memory if its fields for this key are wrong.
-fn check_key(line: u64, fields: &[Field], key: MemoryKey) -> Result<(), Refusal>
+fn check_key(line: u64, fields: &[Field], key: MemoryKey) -> Result<(), CheckFault>
     ensures { Answers (wrong_field line fields.now key) result }
 {
     if is_right(key, given_for(key, fields)) {
         Ok(())
     } else {
-        Err(Refusal::F(Fault::MemoryField { line, key }))
+        Err(CheckFault::F(Fault::MemoryField { line, key }))
     }
 }
 
-/// How often a key comes, and with which number.
+// How often a key comes, and with which number.
 #[derive(Clone, Copy)]
-pub enum Given {
-    /// Not at all.
+pub(crate) enum Given {
+    // Not at all.
     Never,
-    /// Once, with this number.
+    // Once, with this number.
     Once(u32),
-    /// More than once.
+    // More than once.
     Often,
 }
 

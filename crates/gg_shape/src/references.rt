@@ -5,26 +5,26 @@ ghost use Rattle.gg_shape.specs.Faults.{Answers};
 ghost use Rattle.gg_shape.specs.Shape.{in_modules, unknown_names, unknown_module, unknown_reference, unknown_in, unknown_in_reset, unknown_in_arguments, unknown_in_kind};
 ghost use Rattle.gg_shape.specs.Told.{IsBefore, module_of, scope_before};
 
-use crate::fault::{Fault, Refusal};
+use crate::fault::{CheckFault, Fault};
 use gg_ast::{Argument, Expr, ExprKind, Reference, Reset, Stmt, StmtKind};
 use gg_bits::Name;
 use gg_names::{Namespace, declared_name, has_value, written};
 use std::alloc::Global;
 
-/// A position in a module: what is declared before it.
+// A position in a module: what is declared before it.
 #[derive(Clone, Copy)]
-pub struct Before {
-    /// The module.
-    pub number: u32,
-    /// How many statements are before this position.
-    pub statements: usize,
-    /// How many names are declared by the ports and those statements.
-    pub names: usize,
+pub(crate) struct Before {
+    // The module.
+    pub(crate) number: u32,
+    // How many statements are before this position.
+    pub(crate) statements: usize,
+    // How many names are declared by the ports and those statements.
+    pub(crate) names: usize,
 }
 
-/// Refuses the first reference of the circuit that names nothing that has a value, or the first instance of a module
-/// that doesn't exist, whichever comes first.
-pub fn check_references(alloc: Global, names: &Namespace) -> Result<(), Refusal>
+// Refuses the first reference of the circuit that names nothing that has a value, or the first instance of a module
+// that doesn't exist, whichever comes first.
+pub(crate) fn check_references(alloc: Global, names: &Namespace) -> Result<(), CheckFault>
     ensures { Answers (in_modules unknown_names names.now) result }
 {
     for number in 0..names.circuit().modules().len() {
@@ -34,7 +34,7 @@ pub fn check_references(alloc: Global, names: &Namespace) -> Result<(), Refusal>
 }
 
 // Refuses the first unknown name of a module.
-fn check_module(alloc: Global, names: &Namespace, number: u32) -> Result<(), Refusal>
+fn check_module(alloc: Global, names: &Namespace, number: u32) -> Result<(), CheckFault>
     requires { number < length names.now.modules }
     ensures { Answers (unknown_names names.now.modules (module_of names.now number)) result }
 {
@@ -49,7 +49,7 @@ fn check_statements(
     number: u32,
     ports: usize,
     statements: &[Stmt],
-) -> Result<(), Refusal>
+) -> Result<(), CheckFault>
     requires within { number < length names.now.modules }
     requires ports { ports ≡ length (module_of names.now number).ports }
     requires statements { statements.now ≡ (module_of names.now number).statements }
@@ -94,7 +94,7 @@ fn known_by(
     before: Before,
     behind: Before,
     statement: &Stmt,
-) -> Result<(), Refusal>
+) -> Result<(), CheckFault>
     requires before { IsBefore names.now before }
     requires behind { IsBefore names.now behind }
     requires next { scope_before names.now behind ≡ scope_before names.now before ++ entries_by names.now.modules statement.now }
@@ -129,12 +129,12 @@ fn known_by(
 }
 
 // Refuses an instance of a module that doesn't exist.
-fn known_module(names: &Namespace, line: u64, name: &Name) -> Result<(), Refusal>
+fn known_module(names: &Namespace, line: u64, name: &Name) -> Result<(), CheckFault>
     ensures { Answers (unknown_module names.now.modules line name.now) result }
 {
     match names.place_of_module(name) {
         Some(_) => Ok(()),
-        None => Err(Refusal::F(Fault::UnknownName {
+        None => Err(CheckFault::F(Fault::UnknownName {
             line,
             name: name.clone()?,
         })),
@@ -147,7 +147,7 @@ fn known_in_reset(
     names: &Namespace,
     before: Before,
     reset: &Option<Reset>,
-) -> Result<(), Refusal>
+) -> Result<(), CheckFault>
     requires { IsBefore names.now before }
     ensures { Answers (unknown_in_reset (scope_before names.now before) reset.now) result }
 {
@@ -167,7 +167,7 @@ fn known_in_arguments(
     before: Before,
     line: u64,
     arguments: &[Argument],
-) -> Result<(), Refusal>
+) -> Result<(), CheckFault>
     requires { IsBefore names.now before }
     ensures { Answers (unknown_in_arguments (scope_before names.now before) line arguments.now) result }
 {
@@ -187,7 +187,7 @@ fn known_in(
     before: Before,
     line: u64,
     value: &Expr,
-) -> Result<(), Refusal>
+) -> Result<(), CheckFault>
     requires { IsBefore names.now before }
     ensures { Answers (unknown_in (scope_before names.now before) line value.now) result }
 {
@@ -215,14 +215,14 @@ fn known(
     before: Before,
     line: u64,
     reference: &Reference,
-) -> Result<(), Refusal>
+) -> Result<(), CheckFault>
     requires { IsBefore names.now before }
     ensures { Answers (unknown_reference (scope_before names.now before) line reference.now) result }
 {
     if has_value(names.role_before(before.number, before.names, reference)) {
         return Ok(());
     }
-    Err(Refusal::F(Fault::UnknownName {
+    Err(CheckFault::F(Fault::UnknownName {
         line,
         name: written(alloc, reference)?,
     }))

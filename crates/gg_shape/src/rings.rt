@@ -4,30 +4,30 @@ ghost use Rattle.gg_names.specs.Modules.{module_at};
 ghost use Rattle.gg_shape.specs.Rings.{HasNoRing, IsRingOf, TellsRing, ring_names};
 ghost use Rattle.gg_shape.specs.Judged.{AnswersRing};
 
-use crate::fault::{Fault, Refusal};
+use crate::fault::{CheckFault, Fault};
 use gg_ast::Circuit;
 use gg_bits::{Name, Names};
 use gg_names::Namespace;
 use gg_walk::{WalkFault, walk};
 use std::alloc::{AllocError, Global};
 
-/// Refuses a circuit with a ring of modules; any one ring may be reported.
-pub fn check_rings(alloc: Global, names: &Namespace) -> Result<(), Refusal>
+// Refuses a circuit with a ring of modules; any one ring may be reported.
+pub(crate) fn check_rings(alloc: Global, names: &Namespace) -> Result<(), CheckFault>
     ensures { AnswersRing names.now result }
 {
     match walk(alloc, names) {
         Ok(_) => Ok(()),
         Err(WalkFault::Ring(ring)) => ring_fault(alloc, names.circuit(), ring.as_slice()),
-        Err(WalkFault::NoMemory) => Err(Refusal::NoMemory),
+        Err(WalkFault::NoMemory) => Err(CheckFault::NoMemory),
     }
 }
 
 // Refuses this ring.
-fn ring_fault(alloc: Global, circuit: &Circuit, ring: &[u32]) -> Result<(), Refusal>
+fn ring_fault(alloc: Global, circuit: &Circuit, ring: &[u32]) -> Result<(), CheckFault>
     requires { IsRingOf circuit.now ring.now }
     ensures { AnswersRing circuit.now result }
 {
-    Err(Refusal::F(Fault::ModuleRing {
+    Err(CheckFault::F(Fault::ModuleRing {
         modules: names_of(alloc, circuit, ring)?,
     }))
 }

@@ -2,7 +2,7 @@
 ghost use Rattle.std.specs.Prelude.{◌≡◌};
 ghost use Rattle.gg_shape.specs.FaultText.{word_name, key_name, limit_name};
 
-use crate::fault::{Fault, Limit, MemoryKey, Refusal, Word};
+use crate::fault::{CheckFault, Fault, Limit, MemoryKey, Word};
 use gg_ast::Report;
 use std::error::Error;
 use std::fmt;
@@ -53,7 +53,7 @@ impl fmt::Display for Fault {
 impl Error for Fault {}
 
 /// The fault's text, or that an allocation failed.
-impl fmt::Display for Refusal {
+impl fmt::Display for CheckFault {
     ghost use Rattle.std.specs.Prelude.{Some};
     ghost use Rattle.gg_shape.specs.FaultText.{refusal_text};
 
@@ -61,13 +61,13 @@ impl fmt::Display for Refusal {
 
     fn fmt<W: fmt::Write>(&self, f: &mut fmt::Formatter<W>) -> fmt::Result {
         match self {
-            Refusal::F(fault) => write!(f, "{fault}"),
-            Refusal::NoMemory => f.write_str("out of memory"),
+            CheckFault::F(fault) => write!(f, "{fault}"),
+            CheckFault::NoMemory => f.write_str("out of memory"),
         }
     }
 }
 
-impl Error for Refusal {}
+impl Error for CheckFault {}
 
 // The first word of a field of a memory.
 fn key_text(key: MemoryKey) -> &'static str

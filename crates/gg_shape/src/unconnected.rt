@@ -6,7 +6,7 @@ ghost use Rattle.gg_shape.specs.Shape.{in_modules, unconnected_sinks, unconnecte
 ghost use Rattle.gg_shape.specs.Told.{TellsFirst, is_among, inputs_of, is_in, names_as as names_of_kind, reference_of, unconnected_input, unconnected_of_field, unconnected_of_port, unconnected_in_field};
 
 use crate::connected::{Connected, Key, text_of};
-use crate::fault::{Fault, Refusal};
+use crate::fault::{CheckFault, Fault};
 use gg_ast::{Circuit, Direction, Field, MemoryField, Module, Port, Stmt, StmtKind};
 use gg_bits::Name;
 use gg_names::{
@@ -16,8 +16,8 @@ use gg_names::{
 use std::alloc::{AllocError, Global};
 use std::marker::Model;
 
-/// The input ports of a module, in order.
-pub struct Inputs<'a> {
+// The input ports of a module, in order.
+pub(crate) struct Inputs<'a> {
     ports: Vec<&'a Port>,
 }
 
@@ -38,8 +38,8 @@ impl<'a> Model for Inputs<'a> {
 }
 
 impl<'a> Inputs<'a> {
-    /// The input ports of a module.
-    pub fn of(alloc: Global, this: &'a Module) -> Result<Inputs<'a>, AllocError>
+    // The input ports of a module.
+    pub(crate) fn of(alloc: Global, this: &'a Module) -> Result<Inputs<'a>, AllocError>
         ensures { IfOk result (λ inputs. inputs ≡ inputs_of this.now) }
     {
         let mut ports = Vec::new(alloc);
@@ -51,8 +51,8 @@ impl<'a> Inputs<'a> {
         Ok(Inputs { ports })
     }
 
-    /// The ports.
-    pub fn as_slice(&self) -> &[&'a Port]
+    // The ports.
+    pub(crate) fn as_slice(&self) -> &[&'a Port]
         ensures { map (λ port. port.now) result.now ≡ self.now }
     {
         self.ports.as_slice()
@@ -84,9 +84,13 @@ struct MemorySinks<'a> {
     kind: PortKind,
 }
 
-/// Refuses the first sink of the circuit that is not a register and not connected, given what is connected in each
-/// module.
-pub fn check_unconnected(alloc: Global, names: &Namespace, all: &[Connected]) -> Result<(), Refusal>
+// Refuses the first sink of the circuit that is not a register and not connected, given what is connected in each
+// module.
+pub(crate) fn check_unconnected(
+    alloc: Global,
+    names: &Namespace,
+    all: &[Connected],
+) -> Result<(), CheckFault>
     requires { TellsFirst names.now.modules (length names.now.modules) all.now }
     ensures { Answers (in_modules unconnected_sinks names.now) result }
 {
@@ -114,7 +118,7 @@ fn check_modules(
     names: &Namespace,
     inputs: &[Inputs],
     all: &[Connected],
-) -> Result<(), Refusal>
+) -> Result<(), CheckFault>
     requires connected { TellsFirst names.now.modules (length names.now.modules) all.now }
     requires inputs { inputs.now ≡ map inputs_of names.now.modules }
     ensures { Answers (in_modules unconnected_sinks names.now) result }
@@ -133,7 +137,7 @@ fn check_module(
     inputs: &[Inputs],
     connected: &Connected,
     this: &Module,
-) -> Result<(), Refusal>
+) -> Result<(), CheckFault>
     requires { inputs.now ≡ map inputs_of names.now.modules }
     ensures { Answers (unconnected_among names.now.modules (is_among connected.now) this.now) result }
 {
@@ -142,7 +146,7 @@ fn check_module(
 }
 
 // Refuses the first output port that is not connected.
-fn check_ports(alloc: Global, connected: &Connected, ports: &[Port]) -> Result<(), Refusal>
+fn check_ports(alloc: Global, connected: &Connected, ports: &[Port]) -> Result<(), CheckFault>
     ensures { Answers (flat_map (unconnected_port (is_among connected.now)) ports.now) result }
 {
     for port in ports {
@@ -152,7 +156,7 @@ fn check_ports(alloc: Global, connected: &Connected, ports: &[Port]) -> Result<(
 }
 
 // Refuses an output port of the module that is not connected.
-fn check_own(alloc: Global, connected: &Connected, port: &Port) -> Result<(), Refusal>
+fn check_own(alloc: Global, connected: &Connected, port: &Port) -> Result<(), CheckFault>
     ensures { Answers (unconnected_port (is_among connected.now) port.now) result }
 {
     let declaration = Declaration {
@@ -171,7 +175,7 @@ fn check_statements(
     inputs: &[Inputs],
     connected: &Connected,
     statements: &[Stmt],
-) -> Result<(), Refusal>
+) -> Result<(), CheckFault>
     requires { inputs.now ≡ map inputs_of names.now.modules }
     ensures { Answers (flat_map (unconnected_by names.now.modules (is_among connected.now)) statements.now) result }
 {
@@ -188,7 +192,7 @@ fn check_statement(
     inputs: &[Inputs],
     connected: &Connected,
     statement: &Stmt,
-) -> Result<(), Refusal>
+) -> Result<(), CheckFault>
     requires { inputs.now ≡ map inputs_of names.now.modules }
     ensures { Answers (unconnected_by names.now.modules (is_among connected.now) statement.now) result }
 {
@@ -222,7 +226,7 @@ fn check_instance(
     inputs: &[Inputs],
     instance: &Name,
     held: &Name,
-) -> Result<(), Refusal>
+) -> Result<(), CheckFault>
     requires { inputs.now ≡ map inputs_of names.now.modules }
     ensures { Answers (flat_map (unconnected_entry (is_among declaration.entry.connected.now) declaration.entry.line) (instance_ports instance.now (module_named held.now names.now.modules))) result }
 {
@@ -233,7 +237,11 @@ fn check_instance(
 }
 
 // Refuses the first of these ports of an instance that is an input and not connected.
-fn check_inputs(declaration: Declaration, instance: &Name, ports: &[&Port]) -> Result<(), Refusal>
+fn check_inputs(
+    declaration: Declaration,
+    instance: &Name,
+    ports: &[&Port],
+) -> Result<(), CheckFault>
     ensures { Answers (flat_map (unconnected_input instance.now (is_among declaration.entry.connected.now) declaration.entry.line) ports.now) result }
 {
     for port in ports {
@@ -243,7 +251,7 @@ fn check_inputs(declaration: Declaration, instance: &Name, ports: &[&Port]) -> R
 }
 
 // Refuses a port of an instance if it is an input and not connected.
-fn check_input(declaration: Declaration, instance: &Name, port: &Port) -> Result<(), Refusal>
+fn check_input(declaration: Declaration, instance: &Name, port: &Port) -> Result<(), CheckFault>
     ensures { Answers (unconnected_entry (is_among declaration.entry.connected.now) declaration.entry.line (instance_port instance.now port.now)) result }
 {
     let key = Key::PortOf(instance.as_str(), port.name.as_str());
@@ -252,7 +260,7 @@ fn check_input(declaration: Declaration, instance: &Name, port: &Port) -> Result
 }
 
 // Refuses the first field of a memory that is not connected: first of the readers, then of the writers.
-fn check_memory(declaration: Declaration, memory: &Name, fields: &[Field]) -> Result<(), Refusal>
+fn check_memory(declaration: Declaration, memory: &Name, fields: &[Field]) -> Result<(), CheckFault>
     ensures { Answers (flat_map (unconnected_entry (is_among declaration.entry.connected.now) declaration.entry.line) (memory_entries memory.now fields.now)) result }
 {
     let readers = MemorySinks {
@@ -270,7 +278,7 @@ fn check_memory(declaration: Declaration, memory: &Name, fields: &[Field]) -> Re
 }
 
 // Refuses the first field that is not connected of the ports of one kind.
-fn check_kind(sinks: MemorySinks, fields: &[Field]) -> Result<(), Refusal>
+fn check_kind(sinks: MemorySinks, fields: &[Field]) -> Result<(), CheckFault>
     ensures { Answers (flat_map (unconnected_in_field sinks.entry.kind sinks.entry.memory.now (is_among sinks.entry.declaration.connected.now) sinks.entry.declaration.line) fields.now) result }
 {
     for field in fields {
@@ -280,7 +288,7 @@ fn check_kind(sinks: MemorySinks, fields: &[Field]) -> Result<(), Refusal>
 }
 
 // Refuses the first field that is not connected of the ports of one kind in a memory's field.
-fn check_field(sinks: MemorySinks, field: &Field) -> Result<(), Refusal>
+fn check_field(sinks: MemorySinks, field: &Field) -> Result<(), CheckFault>
     ensures { Answers (unconnected_in_field sinks.entry.kind sinks.entry.memory.now (is_among sinks.entry.declaration.connected.now) sinks.entry.declaration.line field.now) result }
 {
     check_names(sinks, names_as(sinks.kind, &field.kind))
@@ -298,7 +306,7 @@ fn names_as(kind: PortKind, field: &MemoryField) -> &[Name]
 }
 
 // Refuses the first field that is not connected of the ports with these names.
-fn check_names(sinks: MemorySinks, ports: &[Name]) -> Result<(), Refusal>
+fn check_names(sinks: MemorySinks, ports: &[Name]) -> Result<(), CheckFault>
     ensures { Answers (flat_map (unconnected_of_port sinks.entry.kind sinks.entry.memory.now (is_among sinks.entry.declaration.connected.now) sinks.entry.declaration.line) ports.now) result }
 {
     for port in ports {
@@ -308,14 +316,18 @@ fn check_names(sinks: MemorySinks, ports: &[Name]) -> Result<(), Refusal>
 }
 
 // Refuses the first field of a port that is not connected.
-fn check_port(sinks: MemorySinks, port: &Name) -> Result<(), Refusal>
+fn check_port(sinks: MemorySinks, port: &Name) -> Result<(), CheckFault>
     ensures { Answers (unconnected_of_port sinks.entry.kind sinks.entry.memory.now (is_among sinks.entry.declaration.connected.now) sinks.entry.declaration.line port.now) result }
 {
     check_port_fields(sinks, port, port_fields(sinks.kind))
 }
 
 // Refuses the first of these fields of a port that is not connected.
-fn check_port_fields(sinks: MemorySinks, port: &Name, fields: &[PortField]) -> Result<(), Refusal>
+fn check_port_fields(
+    sinks: MemorySinks,
+    port: &Name,
+    fields: &[PortField],
+) -> Result<(), CheckFault>
     ensures { Answers (flat_map (unconnected_of_field sinks.entry.kind sinks.entry.memory.now (is_among sinks.entry.declaration.connected.now) sinks.entry.declaration.line port.now) fields.now) result }
 {
     for field in fields {
@@ -325,7 +337,7 @@ fn check_port_fields(sinks: MemorySinks, port: &Name, fields: &[PortField]) -> R
 }
 
 // Refuses a field of a port that must be connected and isn't.
-fn check_port_field(sinks: MemorySinks, port: &Name, field: PortField) -> Result<(), Refusal>
+fn check_port_field(sinks: MemorySinks, port: &Name, field: PortField) -> Result<(), CheckFault>
     ensures { Answers (unconnected_of_field sinks.entry.kind sinks.entry.memory.now (is_among sinks.entry.declaration.connected.now) sinks.entry.declaration.line port.now field) result }
 {
     let key = Key::FieldOf(sinks.memory.as_str(), port.as_str(), field_text(field));
@@ -333,7 +345,7 @@ fn check_port_field(sinks: MemorySinks, port: &Name, field: PortField) -> Result
 }
 
 // Refuses a sink that must be connected and isn't.
-fn connected_or_free(declaration: Declaration, key: Key, role: Role) -> Result<(), Refusal>
+fn connected_or_free(declaration: Declaration, key: Key, role: Role) -> Result<(), CheckFault>
     ensures { Answers (unconnected_entry (is_among declaration.entry.connected.now) declaration.entry.line (reference_of key.entry, role)) result }
 {
     let Declaration {
@@ -342,7 +354,7 @@ fn connected_or_free(declaration: Declaration, key: Key, role: Role) -> Result<(
         line,
     } = declaration;
     if needs_connection(role) && !connected.contains(key) {
-        return Err(Refusal::F(Fault::Unconnected {
+        return Err(CheckFault::F(Fault::Unconnected {
             line,
             name: text_of(alloc, key)?,
         }));

@@ -32,10 +32,12 @@ fn state_of<'n, B: Bridge + Drop>(
         Node::Shared(host) => Ok(Some(host.state(thread))),
         Node::Memory(host) => Ok(Some(host.state(thread))),
         Node::Source(host) => {
+            // for the invariant alone
             let _ = host.column();
             Ok(None)
         }
         Node::Tray(host) => {
+            // for the invariant alone
             let _ = host.value(0);
             Ok(None)
         }
@@ -52,11 +54,15 @@ fn put<B: Bridge + Send + Drop, Z: Streams>(
     memories: &[u32],
 ) -> Result<(), AllocError>
     requires known { machine < length net.now.machines }
-    requires holds { (whole : State) × HoldsPart whole (length draft.old.registers) (length draft.old.banks) held.now memories.now (machine_at net.now.machines machine) × ((m : ℕ) → HasSizeOf (bank_at whole.banks m) (bank_at draft.old.banks m)) }
+    requires holds { (whole : State) × HoldsPart whole (length draft.old.registers)
+        (length draft.old.banks) held.now memories.now (machine_at net.now.machines machine)
+        × ((m : ℕ) → HasSizeOf (bank_at whole.banks m) (bank_at draft.old.banks m)) }
     ensures sizes { OnOk result ((m : ℕ) → HasSizeOf (bank_at draft.new.banks m) (bank_at draft.old.banks m)) }
-    ensures part { OnOk result ((whole : State) → HoldsPart whole (length draft.old.registers) (length draft.old.banks) held.now memories.now (machine_at net.now.machines machine) → HasPart whole held.now memories.now draft.old draft.new) }
+    ensures part { OnOk result ((whole : State) → HoldsPart whole (length draft.old.registers)
+        (length draft.old.banks) held.now memories.now (machine_at net.now.machines machine)
+        → HasPart whole held.now memories.now draft.old draft.new) }
 {
-    let (node, thread) = net.seat(machine);
+    let (node, thread) = net.host_and_thread(machine);
     if let Some(state) = state_of(node, thread)? {
         draft.put_part(held, memories, state);
     }
@@ -71,9 +77,11 @@ fn put_machine<B: Bridge + Send + Drop, Z: Streams>(
     body: &Body,
 ) -> Result<(), AllocError>
     requires known { machine < length net.now.machines }
-    requires holds { (whole : State) × HoldsBody whole (length draft.old.registers) (length draft.old.banks) body.now (machine_at net.now.machines machine) × ((m : ℕ) → HasSizeOf (bank_at whole.banks m) (bank_at draft.old.banks m)) }
+    requires holds { (whole : State) × HoldsBody whole (length draft.old.registers) (length draft.old.banks) body.now
+        (machine_at net.now.machines machine) × ((m : ℕ) → HasSizeOf (bank_at whole.banks m) (bank_at draft.old.banks m)) }
     ensures sizes { OnOk result ((m : ℕ) → HasSizeOf (bank_at draft.new.banks m) (bank_at draft.old.banks m)) }
-    ensures part { OnOk result ((whole : State) → HoldsBody whole (length draft.old.registers) (length draft.old.banks) body.now (machine_at net.now.machines machine) → HasPart whole (held_by body.now) (kept_by body.now) draft.old draft.new) }
+    ensures part { OnOk result ((whole : State) → HoldsBody whole (length draft.old.registers) (length draft.old.banks) body.now
+        (machine_at net.now.machines machine) → HasPart whole (held_by body.now) (kept_by body.now) draft.old draft.new) }
 {
     match body {
         Body::Cut(part) => put(
@@ -133,12 +141,12 @@ fn gather_machines<B: Bridge + Send + Drop, Z: Streams>(
     Ok(draft)
 }
 
-/// The state of the circuit that a plan's network computes, from a network in which all machines are in their parts of it, and the
-/// token of each pipe is the last one that entered its channel. `piece` is the plan's circuit, without the pipes.
-///
-/// # Errors
-///
-/// Returns `AllocError` if an allocation fails, or if a bridge's host has one of the machines.
+// The state of the circuit that a plan's network computes, from a network in which all machines are in their parts of it, and the
+// token of each pipe is the last one that entered its channel. `piece` is the plan's circuit, without the pipes.
+//
+// # Errors
+//
+// Returns `AllocError` if an allocation fails, or if a bridge's host has one of the machines.
 pub(crate) fn gather<B: Bridge + Send + Drop, Z: Streams>(
     alloc: Global,
     net: &Net<Node<'_, B>, Z>,

@@ -23,12 +23,15 @@ ghost use Rattle.gg_snap.specs.Whole.{last_state};
 
 /// A state of the circuit that a plan's network computes can be saved.
 pub fn plans_can_save()
-    ensures { (design : Ordered) (request : Request) → IsDesign design → KeepsToTree design.circuit design.tree → AreHeldOnce design.circuit → HavePaths design.circuit design.tree → first_fault design request ≡ None → CanSave (plan_reference design request) design.tree }
+    ensures { (design : Ordered) (request : Request) → IsDesign design → KeepsToTree design.circuit design.tree
+        → AreHeldOnce design.circuit → HavePaths design.circuit design.tree → first_fault design request ≡ None
+        → CanSave (plan_reference design request) design.tree }
 {}
 
 /// Each register of the circuit that a plan's network computes is held by a signal, and each of its memories is in the tree.
 pub fn plans_are_whole()
-    ensures { (design : Ordered) (request : Request) → IsDesign design → KeepsToTree design.circuit design.tree → AllHeld design.circuit → first_fault design request ≡ None → IsWhole (plan_reference design request) design.tree }
+    ensures { (design : Ordered) (request : Request) → IsDesign design → KeepsToTree design.circuit design.tree
+        → AllHeld design.circuit → first_fault design request ≡ None → IsWhole (plan_reference design request) design.tree }
 {}
 
 /// The machines of a plan hold all registers of the design's circuit, and have all of its memories.

@@ -10,11 +10,11 @@ ghost use Rattle.gg_snap.specs.Gathered.{ArePipes, AreApart, HaveNumbers, is_pip
 use gg_cut::{Channel, unmarked};
 use std::alloc::{AllocError, Global};
 
-/// For each signal that has a pipe, by their numbers, the token of its channel. `tokens` has a token for each channel.
-///
-/// # Errors
-///
-/// Returns `AllocError` if an allocation fails.
+// For each signal that has a pipe, by their numbers, the token of its channel. `tokens` has a token for each channel.
+//
+// # Errors
+//
+// Returns `AllocError` if an allocation fails.
 pub(crate) fn pipes_of(
     alloc: Global,
     channels: &[Channel],
@@ -33,12 +33,12 @@ pub(crate) fn pipes_of(
     Ok(pipes)
 }
 
-/// For each channel the token of its pipe, if it has one. `registers` are those of a state of the reference circuit: those of the design,
-/// which has `held` of them, and behind them those of the pipes.
-///
-/// # Errors
-///
-/// Returns `AllocError` if an allocation fails.
+// For each channel the token of its pipe, if it has one. `registers` are those of a state of the reference circuit: those of the design,
+// which has `held` of them, and behind them those of the pipes.
+//
+// # Errors
+//
+// Returns `AllocError` if an allocation fails.
 pub(crate) fn tokens_of(
     alloc: Global,
     channels: &[Channel],
@@ -98,7 +98,8 @@ fn fill(pipes: &mut [u128], channels: &[Channel], numbers: &[usize], tokens: &[u
     requires apart { AreApart channels.now }
     requires count { length tokens.now ≡ length channels.now }
     ensures count { length pipes.new ≡ length pipes.old }
-    ensures each { (c : ℕ) (any : Channel) → c < length channels.now → (slice_index_or channels.now c any).pipe ≡ true → value_at pipes.new (pipe_number channels.now (slice_index_or channels.now c any).signal) ≡ value_at tokens.now c }
+    ensures each { (c : ℕ) (any : Channel) → c < length channels.now → (slice_index_or channels.now c any).pipe ≡ true
+        → value_at pipes.new (pipe_number channels.now (slice_index_or channels.now c any).signal) ≡ value_at tokens.now c }
 {
     for c in 0..channels.len() {
         let channel = &channels[c];

@@ -32,7 +32,9 @@ pub fn snapshot<'a, B: Bridge + Send + Drop, Z: Streams>(
     reference: &'a Design,
     cycle: u64,
 ) -> Result<Snap<'a>, AllocError>
-    requires ended { (start : Start) × (columns : List (List ℕ)) × (ended : HasEnded plan.now design.now start columns cycle Z.flow net.now) × (reference.now.circuit ≡ plan_reference ended.run.design ended.run.request) }
+    requires ended { (start : Start) × (columns : List (List ℕ))
+        × (ended : HasEnded plan.now design.now start columns cycle Z.flow net.now)
+        × (reference.now.circuit ≡ plan_reference ended.run.design ended.run.request) }
     requires fresh { IsFresh design.now.circuit }
     requires held { AllHeld design.now.circuit }
     ensures design { IfOk result (λ snap. snap.design ≡ reference.now) }
@@ -62,7 +64,9 @@ pub fn restore<'p, B: Bridge + Send + Drop, Z: Streams>(
     snap: Snap<'_>,
 ) -> Result<Net<Node<'p, B>, Z>, AllocError>
     requires { (start : Start) × CanBegin plan.now design.now snap.cycle snap.state start trace.now.columns trace.now.rows Z.flow }
-    ensures { IfOk result (λ net. (start : Start) (can : CanBegin plan.now design.now snap.entry.cycle snap.entry.state start trace.now.columns trace.now.rows Z.flow) → IsOpeningFrom plan.now start (run_token can.run) trace.now.columns trace.now.rows net) }
+    ensures { IfOk result (λ net. (start : Start)
+        (can : CanBegin plan.now design.now snap.entry.cycle snap.entry.state start trace.now.columns trace.now.rows Z.flow)
+        → IsOpeningFrom plan.now start (run_token can.run) trace.now.columns trace.now.rows net) }
 {
     let piece = design.piece();
     let signals = piece.signal_count();

@@ -3,7 +3,7 @@ ghost use Rattle.std.specs.Prelude.{◌≡◌, ◌≢◌, ℕ, ◌<◌, ◌≤�
 ghost use Rattle.std.specs.Bool.{OnTrue, OnFalse};
 ghost use Rattle.gg_snap_text.specs.Standing.{pieces};
 
-/// Whether two texts have the same bytes.
+// Whether two texts have the same bytes.
 pub(crate) fn same_bytes(one: &[u8], other: &[u8]) -> bool
     ensures same { OnTrue result (one.now ≡ other.now) }
     ensures differ { OnFalse result (one.now ≢ other.now) }
@@ -11,7 +11,7 @@ pub(crate) fn same_bytes(one: &[u8], other: &[u8]) -> bool
     one == other
 }
 
-/// What follows these bytes in a text that begins with them.
+// What follows these bytes in a text that begins with them.
 pub(crate) fn strip<'a>(text: &'a [u8], front: &[u8]) -> Option<&'a [u8]>
     ensures { MatchOption result ((rest : List ℕ) → text.now ≢ front.now ++ rest) (λ rest. text.now ≡ front.now ++ rest.now) }
 {
@@ -22,7 +22,7 @@ pub(crate) fn strip<'a>(text: &'a [u8], front: &[u8]) -> Option<&'a [u8]>
     Some(rest)
 }
 
-/// The text without its last byte.
+// The text without its last byte.
 pub(crate) fn without_last(text: &[u8]) -> Option<&[u8]>
     ensures { (front : List ℕ) (last : ℕ) → text.now ≡ front ++ last ∷ [] → MatchOption result ⊥ (λ found. found.now ≡ front) }
 {
@@ -32,7 +32,7 @@ pub(crate) fn without_last(text: &[u8]) -> Option<&[u8]>
     }
 }
 
-/// The number of bytes before the first one that is `byte`. All, if none is.
+// The number of bytes before the first one that is `byte`. All, if none is.
 pub(crate) fn len_before(text: &[u8], byte: u8) -> usize
     ensures within { result ≤ length text.now }
     ensures before { (k : ℕ) → k < result → slice_index text.now k ≢ byte }
@@ -46,7 +46,7 @@ pub(crate) fn len_before(text: &[u8], byte: u8) -> usize
     text.len()
 }
 
-/// The first line of a text, with its line feed, and the text behind it.
+// The first line of a text, with its line feed, and the text behind it.
 pub(crate) fn cut_piece(text: &[u8]) -> (&[u8], &[u8])
     requires { 0 < length text.now }
     ensures cut { pieces text.now ≡ result.0.now ∷ pieces result.1.now }

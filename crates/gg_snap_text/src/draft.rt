@@ -158,7 +158,7 @@ impl Draft {
         put_banks(&mut self.banks, memories, state.banks());
     }
 
-    /// Writes a value: of a row's place in a state, at an address.
+    // Writes a value: of a row's place in a state, at an address.
     pub(crate) fn set(&mut self, at: At, address: u32, value: u128)
         requires { HasValue self.old at address }
         ensures { self.new ≡ with_value self.old at address value }

@@ -43,12 +43,12 @@ fn cycle_of(alloc: Global, line: &[u8]) -> Result<Option<u64>, AllocError>
     }
 }
 
-/// The cycle of a snapshot, and the text behind its first two lines.
-///
-/// # Errors
-///
-/// Returns `SnapFault::S1` with line 1 or 2 if that line is missing or can't be the snapshot's, and `SnapFault::NoMemory` if an
-/// allocation fails.
+// The cycle of a snapshot, and the text behind its first two lines.
+//
+// # Errors
+//
+// Returns `SnapFault::S1` with line 1 or 2 if that line is missing or can't be the snapshot's, and `SnapFault::NoMemory` if an
+// allocation fails.
 pub(crate) fn read_heading(alloc: Global, bytes: &[u8]) -> Result<(u64, &[u8]), SnapFault>
     ensures read { IfOk result (λ read. (read.0 ≤ cycle_limit) × (pieces bytes.now ≡ first_line ∷ cycle_line read.0 ∷ pieces read.1.now)) }
     ensures shorter { IfOk result (λ read. length read.1.now ≤ length bytes.now) }

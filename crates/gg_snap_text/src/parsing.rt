@@ -8,7 +8,7 @@ ghost use Rattle.gg_snap_text.specs.Known.{IsKnown};
 use crate::cutting::{len_before, strip, without_last};
 use crate::row::{At, Row, word_of};
 
-/// What follows the head of a row in a line that begins with it.
+// What follows the head of a row in a line that begins with it.
 pub(crate) fn after_head<'a>(line: &'a [u8], row: &Row) -> Option<&'a [u8]>
     ensures { MatchOption result ((rest : List ℕ) → line.now ≢ head_of row.now ++ rest) (λ rest. line.now ≡ head_of row.now ++ rest.now) }
 {
@@ -17,7 +17,7 @@ pub(crate) fn after_head<'a>(line: &'a [u8], row: &Row) -> Option<&'a [u8]>
     strip(rest, b" ")
 }
 
-/// The number that decimal digits spell. Other texts may give a number, too.
+// The number that decimal digits spell. Other texts may give a number, too.
 pub(crate) fn number_of(text: &[u8]) -> Option<u32>
     ensures { (n : ℕ) → n < 2 ^ 32 → text.now ≡ decimal n → result ≡ Some n }
 {
@@ -27,7 +27,7 @@ pub(crate) fn number_of(text: &[u8]) -> Option<u32>
     text.parse::<u32>().ok()
 }
 
-/// The value that hexadecimal digits spell. Other texts may give a value, too.
+// The value that hexadecimal digits spell. Other texts may give a value, too.
 pub(crate) fn value_of(text: &[u8]) -> Option<u128>
     ensures { (width value : ℕ) → 0 < width → width ≤ 128 → value < 2 ^ width → text.now ≡ hex_digits (digit_count width) value → result ≡ Some value }
 {
@@ -39,7 +39,9 @@ pub(crate) fn value_of(text: &[u8]) -> Option<u128>
 
 // An address and a value behind it.
 fn addressed(text: &[u8]) -> Option<(u32, u128)>
-    ensures { (address width value : ℕ) → address < 2 ^ 32 → 0 < width → width ≤ 128 → value < 2 ^ width → text.now ≡ decimal address ++ 32 ∷ hex_digits (digit_count width) value → result ≡ Some (record { 0 = address; 1 = value }) }
+    ensures { (address width value : ℕ) → address < 2 ^ 32 → 0 < width → width ≤ 128 → value < 2 ^ width
+        → text.now ≡ decimal address ++ 32 ∷ hex_digits (digit_count width) value
+        → result ≡ Some (record { 0 = address; 1 = value }) }
 {
     let (front, rest) = text.split_at(len_before(text, b' '));
     let rest = strip(rest, b" ")?;
@@ -48,7 +50,7 @@ fn addressed(text: &[u8]) -> Option<(u32, u128)>
     Some((address, value))
 }
 
-/// The address and the value that the rest of a row's line spells. Other texts may give something, too.
+// The address and the value that the rest of a row's line spells. Other texts may give something, too.
 pub(crate) fn cell_of(row: &Row, rest: &[u8]) -> Option<(u32, u128)>
     requires { (circuit : FlatCircuit) × IsKnown circuit row.now }
     ensures { (address value : ℕ) → address < row.now.count → value < 2 ^ row.now.width → rest.now ≡ tail_of row.now address value → result ≡ Some (record { 0 = address; 1 = value }) }

@@ -15,13 +15,13 @@ use crate::row::Row;
 use crate::writing::push_line;
 use std::alloc::{AllocError, Global};
 
-/// How far a table was gone through: the row, and the address in it, that may come next.
+// How far a table was gone through: the row, and the address in it, that may come next.
 #[derive(Clone, Copy)]
-pub struct Cursor {
-    /// The row, by its place.
-    pub row: usize,
-    /// The address.
-    pub address: u32,
+pub(crate) struct Cursor {
+    // The row, by its place.
+    pub(crate) row: usize,
+    // The address.
+    pub(crate) address: u32,
 }
 
 // Whether a value has no bit at `width` or above it.
@@ -126,8 +126,8 @@ fn take_line(
     Ok(true)
 }
 
-/// Takes the lines of a text, one after another. Returns how many were taken before one that can't stand behind them, or none if all
-/// were taken.
+// Takes the lines of a text, one after another. Returns how many were taken before one that can't stand behind them, or none if all
+// were taken.
 pub(crate) fn take_lines(
     alloc: Global,
     rows: &[Row],

@@ -4,41 +4,41 @@ ghost use Rattle.gg_snap_text.specs.Lines.{kind_word};
 
 use gg_bits::Name;
 
-/// A kind of row.
+// A kind of row.
 #[derive(Clone, Copy)]
 pub enum Kind {
-    /// A register.
+    // A register.
     Register,
-    /// A read register of a memory.
+    // A read register of a memory.
     Read,
-    /// The register of a pipe.
+    // The register of a pipe.
     Pipe,
-    /// The words of a memory.
+    // The words of a memory.
     Memory,
 }
 
-/// Which values of a state a row has. Registers, memories and readers are given by their numbers.
+// Which values of a state a row has. Registers, memories and readers are given by their numbers.
 #[derive(Clone, Copy)]
 pub enum At {
-    /// The value of a register.
+    // The value of a register.
     Register(u32),
-    /// The read register of a reader of a memory.
+    // The read register of a reader of a memory.
     Read(u32, u32),
-    /// The words of a memory.
+    // The words of a memory.
     Words(u32),
 }
 
-/// A row of a table: a register, a read register, a pipe or a memory, and where its values are.
+// A row of a table: a register, a read register, a pipe or a memory, and where its values are.
 pub struct Row {
-    /// What it is.
+    // What it is.
     pub kind: Kind,
-    /// Its path: that of the signal that holds the register, of the reader's data, of the pipe's channel, or of the memory.
+    // Its path: that of the signal that holds the register, of the reader's data, of the pipe's channel, or of the memory.
     pub path: Name,
-    /// The width of its values.
+    // The width of its values.
     pub width: u32,
-    /// How many values it has: one, or the depth of the memory.
+    // How many values it has: one, or the depth of the memory.
     pub count: u32,
-    /// Which values of the state they are.
+    // Which values of the state they are.
     pub at: At,
 }
 
@@ -55,7 +55,7 @@ impl Drop for Row {
     }
 }
 
-/// The word of a kind, with a blank behind it.
+// The word of a kind, with a blank behind it.
 pub(crate) fn word_of(kind: Kind) -> &'static str
     ensures { result.now ≡ kind_word kind }
 {

@@ -153,6 +153,7 @@ fn memory_path(tree: &Tree, place: u32) -> &Name
     requires { place < length tree.now.memories }
     ensures { result.now ≡ path_at tree.now.memory_paths place }
 {
+    // for the invariant alone
     let _ = tree.memory_count();
     match tree.memory_path(place) {
         Some(path) => path,
@@ -209,11 +210,11 @@ fn sorted(rows: Vec<Row>) -> Vec<Row>
     rows
 }
 
-/// The table of a design: registers, read registers, pipes and memories, each kind in the order of the bytes of the paths.
-///
-/// # Errors
-///
-/// Returns `AllocError` if an allocation fails.
+// The table of a design: registers, read registers, pipes and memories, each kind in the order of the bytes of the paths.
+//
+// # Errors
+//
+// Returns `AllocError` if an allocation fails.
 pub(crate) fn rows_of(alloc: Global, design: &Design) -> Result<Vec<Row>, AllocError>
     requires { CanSave design.now.circuit design.now.tree }
     ensures rows { IfOk result (λ rows. rows.items ≡ rows_of design.now.circuit design.now.tree) }
@@ -221,6 +222,7 @@ pub(crate) fn rows_of(alloc: Global, design: &Design) -> Result<Vec<Row>, AllocE
 {
     let piece = design.piece();
     let tree = design.tree();
+    // for the invariant alone
     let _ = tree.memory_count();
     let registers = signal_rows(alloc, piece, Kind::Register)?;
     let reads = signal_rows(alloc, piece, Kind::Read)?;

@@ -50,7 +50,7 @@ fn push_address(text: &mut String, at: At, address: u32) -> Result<(), AllocErro
     }
 }
 
-/// Writes the line of a value at the end of a text.
+// Writes the line of a value at the end of a text.
 pub(crate) fn push_line(
     text: &mut String,
     row: &Row,
@@ -113,7 +113,7 @@ fn push_rows(text: &mut String, rows: &[Row], state: &State) -> Result<(), Alloc
     Ok(())
 }
 
-/// Writes the line of a cycle at the end of a text.
+// Writes the line of a cycle at the end of a text.
 pub(crate) fn push_cycle(text: &mut String, cycle: u64) -> Result<(), AllocError>
     ensures { OnOk result (string_bytes text.new ≡ string_bytes text.old ++ cycle_line cycle) }
 {
@@ -123,7 +123,7 @@ pub(crate) fn push_cycle(text: &mut String, cycle: u64) -> Result<(), AllocError
     text.push_str("\n")
 }
 
-/// The text of a snapshot with these rows.
+// The text of a snapshot with these rows.
 pub(crate) fn text_of(
     alloc: Global,
     rows: &[Row],

@@ -17,7 +17,17 @@ ghost use Rattle.gg_sound.specs.Alone.{IsCutAgain};
 /// a part. If it is cut again in this way (`IsCutAgain`), the result is the piece of a memory unit, with the in-signals
 /// first.
 pub fn memory_is_chosen()
-    ensures formed { (design : Ordered) (request : Request) (models : Models) (default : ℕ) (plan : Plan) (columns : List (List ℕ)) (n : ℕ) (start : Start) (rows : List (List ℕ)) → IsGiven design request models default plan columns n start rows → (m : ℕ) (part : Part) → m < length plan.machines → (machine_in plan m).body ≡ Memory part → IsWellFormed part.piece }
-    ensures chosen { (design : Ordered) (request : Request) (models : Models) (default : ℕ) (plan : Plan) (columns : List (List ℕ)) (n : ℕ) (start : Start) (rows : List (List ℕ)) → IsGiven design request models default plan columns n start rows → (m : ℕ) (part : Part) → m < length plan.machines → (machine_in plan m).body ≡ Memory part → IsChoice part.piece (part.piece.ins ++ part.piece.outs) part.piece.ins part.piece.outs (0 ∷ []) }
-    ensures alone { (design : Ordered) (request : Request) (models : Models) (default : ℕ) (plan : Plan) (columns : List (List ℕ)) (n : ℕ) (start : Start) (rows : List (List ℕ)) → IsGiven design request models default plan columns n start rows → (m : ℕ) (part alone : Part) → m < length plan.machines → (machine_in plan m).body ≡ Memory part → IsCutAgain part alone → IsMemoryPiece alone.piece }
+    ensures formed { (design : Ordered) (request : Request) (models : Models) (default : ℕ) (plan : Plan)
+        (columns : List (List ℕ)) (n : ℕ) (start : Start) (rows : List (List ℕ))
+        → IsGiven design request models default plan columns n start rows → (m : ℕ) (part : Part) → m < length plan.machines
+        → (machine_in plan m).body ≡ Memory part → IsWellFormed part.piece }
+    ensures chosen { (design : Ordered) (request : Request) (models : Models) (default : ℕ) (plan : Plan)
+        (columns : List (List ℕ)) (n : ℕ) (start : Start) (rows : List (List ℕ))
+        → IsGiven design request models default plan columns n start rows → (m : ℕ) (part : Part) → m < length plan.machines
+        → (machine_in plan m).body ≡ Memory part → IsChoice part.piece
+        (part.piece.ins ++ part.piece.outs) part.piece.ins part.piece.outs (0 ∷ []) }
+    ensures alone { (design : Ordered) (request : Request) (models : Models) (default : ℕ) (plan : Plan)
+        (columns : List (List ℕ)) (n : ℕ) (start : Start) (rows : List (List ℕ))
+        → IsGiven design request models default plan columns n start rows → (m : ℕ) (part alone : Part)
+        → m < length plan.machines → (machine_in plan m).body ≡ Memory part → IsCutAgain part alone → IsMemoryPiece alone.piece }
 {}

@@ -1,13 +1,14 @@
 //! Facts about the network of a plan: it is wired, has no ring, and is solved by a run of the circuit that it computes.
 //!
 //! A plan (`IsPlan` of gg_cut) names machines and channels. Its network (`specs/Built`) has a machine for each of the
-//! plan's machines, before its first step, and the plan's channels between them, some of which may be direct. All begins
-//! with a start: a cycle, a state of the reference circuit of gg_pipe, and the ratios of the circuit's clocks. The
-//! reference circuit has a register for each pipe; without pipes it is the design's circuit. Each machine begins in its
-//! part of the state, with the ratios of its own clocks, and a bridge's model with zeros. A channel with a pipe opens with
-//! the token that the pipe's register holds, the others open empty. So the network computes the reference circuit with the
-//! models of the bridges in it, which is gg_bridged's circuit. Without bridges it is the reference circuit. The crate has
-//! no code. For the plan of a design and of a request without a fault, and for such machines, it promises:
+//! plan's machines, before its first step, and the plan's channels between them, some of which may be direct. All
+//! begins with a start: a cycle, a state of the reference circuit of gg_pipe, and the ratios of the circuit's clocks.
+//! The reference circuit has a register for each pipe; without pipes it is the design's circuit. Each machine begins
+//! in its part of the state, with the ratios of its own clocks, and a bridge's model with zeros. A channel with a
+//! pipe opens with the token that the pipe's register holds, the others open empty. So the network computes the
+//! reference circuit with the models of the bridges in it, which is gg_bridged's circuit. Without bridges it is the
+//! reference circuit. The crate has laws alone: its functions compute nothing. For the plan of a design and of a
+//! request without a fault, and for such machines, it promises:
 //!
 //! - a machine has an in or an out for each channel that the plan lists for it, and the channel is connected there
 //!   (`plan_is_listed`);

@@ -20,7 +20,10 @@ use gg_bridged::{circuit_has_ports, circuit_runs};
 /// column, maybe by a signal that it copies, and its consumer's rows take the list. Each machine can do all cycles: its rows
 /// are a run of its piece, from its part of the start.
 pub fn plan_is_solved()
-    ensures { (design : Ordered) (request : Request) (models : Models) (default : ℕ) (plan : Plan) (columns : List (List ℕ)) (n : ℕ) (start : Start) (rows : List (List ℕ)) (machines : List Machine) → IsGiven design request models default plan columns n start rows → AreBuilt plan (body_start start) columns machines → Solves (flow_of design request plan start rows) (plan_frame (plan_token design request start.state) plan machines n) }
+    ensures { (design : Ordered) (request : Request) (models : Models) (default : ℕ) (plan : Plan) (columns : List (List ℕ))
+        (n : ℕ) (start : Start) (rows : List (List ℕ)) (machines : List Machine)
+        → IsGiven design request models default plan columns n start rows → AreBuilt plan (body_start start) columns machines
+        → Solves (flow_of design request plan start rows) (plan_frame (plan_token design request start.state) plan machines n) }
 {
     circuit_has_ports();
     circuit_runs();
@@ -28,7 +31,10 @@ pub fn plan_is_solved()
 
 /// So the frame of the network, which never changes, is sound: it is wired, has no ring, and is solved.
 pub fn plan_is_sound()
-    ensures { (design : Ordered) (request : Request) (models : Models) (default : ℕ) (plan : Plan) (columns : List (List ℕ)) (n : ℕ) (start : Start) (rows : List (List ℕ)) (machines : List Machine) → IsGiven design request models default plan columns n start rows → AreBuilt plan (body_start start) columns machines → IsSound (flow_of design request plan start rows) (plan_frame (plan_token design request start.state) plan machines n) }
+    ensures { (design : Ordered) (request : Request) (models : Models) (default : ℕ) (plan : Plan) (columns : List (List ℕ))
+        (n : ℕ) (start : Start) (rows : List (List ℕ)) (machines : List Machine)
+        → IsGiven design request models default plan columns n start rows → AreBuilt plan (body_start start) columns machines
+        → IsSound (flow_of design request plan start rows) (plan_frame (plan_token design request start.state) plan machines n) }
 {
     circuit_has_ports();
     circuit_runs();
@@ -36,5 +42,8 @@ pub fn plan_is_sound()
 
 /// The network is within the limits, if a channel that the request doesn't name may hold as many tokens as a queue.
 pub fn plan_is_within()
-    ensures { (design : Ordered) (request : Request) (models : Models) (default : ℕ) (plan : Plan) (columns : List (List ℕ)) (n : ℕ) (start : Start) (rows : List (List ℕ)) (token : ℕ → ℕ) (starts : Body → Start) (machines : List Machine) → IsGiven design request models default plan columns n start rows → AreBuilt plan starts columns machines → default ≤ capacity_limit → IsWithinLimits (plan_frame token plan machines n) }
+    ensures { (design : Ordered) (request : Request) (models : Models) (default : ℕ) (plan : Plan) (columns : List (List ℕ))
+        (n : ℕ) (start : Start) (rows : List (List ℕ)) (token : ℕ → ℕ) (starts : Body → Start) (machines : List Machine)
+        → IsGiven design request models default plan columns n start rows → AreBuilt plan starts columns machines
+        → default ≤ capacity_limit → IsWithinLimits (plan_frame token plan machines n) }
 {}

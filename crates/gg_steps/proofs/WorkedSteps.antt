@@ -3,7 +3,7 @@
 use Rattle.std.proofs.Common.{◌≡◌, ℕ, List, [], ◌∷◌, ◌++◌, None, Some, true, false, codes, length, refl, ap, lit≤, arith}
 use Rattle.std.proofs.lemmas.Fmt.{decimal_digit}
 use Rattle.gg_net.specs.declared.event.Event.TheVariants.{Latch, Fire, Serve, Finish}
-use Rattle.gg_net.specs.declared.event.Refusal.TheVariants.{Stranger, NoToken, NeedsInput, Full, Order, Unfired, Unserved}
+use Rattle.gg_net.specs.declared.event.StepRefusal.TheVariants.{Stranger, NoToken, NeedsInput, Full, Order, Unfired, Unserved}
 use Rattle.gg_trace.specs.Fields.{text_lines}
 use Rattle.gg_steps.specs.Naming.{Naming, first_place}
 use Rattle.gg_steps.specs.Words.{words}

@@ -4,8 +4,8 @@
 use Rattle.std.specs.Prelude.{ℕ, List, [], ◌∷◌, ◌++◌, Option, Some, None, codes, decimal, slice_get}
 use Rattle.gg_net.specs.declared.event.Event.{Event}
 use Rattle.gg_net.specs.declared.event.Event.TheVariants.{Latch, Fire, Serve, Finish}
-use Rattle.gg_net.specs.declared.event.Refusal.{Refusal}
-use Rattle.gg_net.specs.declared.event.Refusal.TheVariants.{Stranger, Ended, Latched, Fired, NoToken, NeedsInput, Full, Order, Unfired, Unserved}
+use Rattle.gg_net.specs.declared.event.StepRefusal.{StepRefusal}
+use Rattle.gg_net.specs.declared.event.StepRefusal.TheVariants.{Stranger, Ended, Latched, Fired, NoToken, NeedsInput, Full, Order, Unfired, Unserved}
 use Rattle.gg_steps.specs.Naming.{Naming, name_at, ports_at}
 
 -- the names of the ports of the machine that a step names; none if it names no machine
@@ -22,7 +22,7 @@ due_name None = codes "-"
 due_name (Some name) = name
 
 -- The text of a cause. Ports are those of the machine that the step names.
-abbrev pub cause_text : Naming → Option Event → Refusal → List ℕ
+abbrev pub cause_text : Naming → Option Event → StepRefusal → List ℕ
 cause_text naming step Stranger = codes "Stranger"
 cause_text naming step Ended = codes "Ended"
 cause_text naming step Latched = codes "Latched"

@@ -4,7 +4,7 @@ ghost use Rattle.std.specs.Prelude.{◌≡◌, IfOk, string_bytes};
 ghost use Rattle.gg_steps.specs.Cause.{cause_text};
 
 use crate::naming::StepNames;
-use gg_net::{Event, Refusal};
+use gg_net::{Event, StepRefusal};
 use std::alloc::{AllocError, Global};
 
 /// The text of the cause for which a step wasn't done.
@@ -21,36 +21,36 @@ pub fn cause_text(
     alloc: Global,
     names: &StepNames<'_>,
     step: Option<Event>,
-    cause: Refusal,
+    cause: StepRefusal,
 ) -> Result<String, AllocError>
     ensures { IfOk result (λ text. string_bytes text ≡ cause_text names.now step cause) }
 {
     match cause {
-        Refusal::Stranger => String::from_str(alloc, "Stranger"),
-        Refusal::Ended => String::from_str(alloc, "Ended"),
-        Refusal::Latched => String::from_str(alloc, "Latched"),
-        Refusal::Fired => String::from_str(alloc, "Fired"),
-        Refusal::NoToken { channel } => format!(in alloc;
+        StepRefusal::Stranger => String::from_str(alloc, "Stranger"),
+        StepRefusal::Ended => String::from_str(alloc, "Ended"),
+        StepRefusal::Latched => String::from_str(alloc, "Latched"),
+        StepRefusal::Fired => String::from_str(alloc, "Fired"),
+        StepRefusal::NoToken { channel } => format!(in alloc;
             "NoToken {}",
             names.channel_name(channel)
         ),
-        Refusal::NeedsInput { channel } => format!(in alloc;
+        StepRefusal::NeedsInput { channel } => format!(in alloc;
             "NeedsInput {}",
             names.channel_name(channel)
         ),
-        Refusal::Full { channel, len } => format!(in alloc;
+        StepRefusal::Full { channel, len } => format!(in alloc;
             "Full {} {len}",
             names.channel_name(channel)
         ),
-        Refusal::Order { due } => format!(in alloc;
+        StepRefusal::Order { due } => format!(in alloc;
             "Order {}",
             names.port_name(step, due).unwrap_or("-")
         ),
-        Refusal::Unfired { channel } => format!(in alloc;
+        StepRefusal::Unfired { channel } => format!(in alloc;
             "Unfired {}",
             names.channel_name(channel)
         ),
-        Refusal::Unserved { port } => format!(in alloc;
+        StepRefusal::Unserved { port } => format!(in alloc;
             "Unserved {}",
             names.port_name(step, port).unwrap_or("")
         ),

@@ -93,28 +93,28 @@ impl<'a> StepNames<'a> {
         }
     }
 
-    /// The channel that a word names.
+    // The channel that a word names.
     pub(crate) fn channel(&self, word: &[u8]) -> Option<u32>
         ensures { result ≡ first_place word.now self.now.channels }
     {
         self.channels.place(word)
     }
 
-    /// The machine that a word names.
+    // The machine that a word names.
     pub(crate) fn machine(&self, word: &[u8]) -> Option<u32>
         ensures { result ≡ first_place word.now self.now.machines }
     {
         self.machines.place(word)
     }
 
-    /// The port of a machine that a word names.
+    // The port of a machine that a word names.
     pub(crate) fn port(&self, machine: u32, word: &[u8]) -> Option<u32>
         ensures { result ≡ first_place word.now (ports_at self.now machine) }
     {
         self.ports.get(machine as usize)?.place(word)
     }
 
-    /// The name of a channel; empty if there is none with this number.
+    // The name of a channel; empty if there is none with this number.
     pub(crate) fn channel_name(&self, channel: u32) -> &'a str
         ensures { result.now ≡ name_at self.now.channels channel }
     {
@@ -124,7 +124,7 @@ impl<'a> StepNames<'a> {
         }
     }
 
-    /// The name of a port of the machine that a step names, if there is one with this number.
+    // The name of a port of the machine that a step names, if there is one with this number.
     pub(crate) fn port_name(&self, step: Option<Event>, port: u32) -> Option<&'a str>
         ensures { option_map (λ name. name.now) result ≡ slice_get (step_ports self.now step) port }
     {

@@ -10,7 +10,7 @@ use gg_net::Event;
 use gg_trace::Lines;
 use std::alloc::{AllocError, Global};
 
-/// The step that a word and one name give.
+// The step that a word and one name give.
 fn named_step(names: &StepNames<'_>, word: &[u8], name: &[u8]) -> Option<Event>
     ensures { result ≡ named_step names.now word.now name.now }
 {
@@ -28,7 +28,7 @@ fn named_step(names: &StepNames<'_>, word: &[u8], name: &[u8]) -> Option<Event>
     }
 }
 
-/// The step that serves a port of a machine.
+// The step that serves a port of a machine.
 fn served_step(names: &StepNames<'_>, machine: &[u8], port: &[u8]) -> Option<Event>
     ensures { result ≡ served_step names.now (first_place machine.now names.now.machines) port.now }
 {
@@ -37,7 +37,7 @@ fn served_step(names: &StepNames<'_>, machine: &[u8], port: &[u8]) -> Option<Eve
     Some(Event::Serve { machine, port })
 }
 
-/// The step that a line is. Its bytes needn't be UTF-8: names are, so a line that isn't UTF-8 names nothing.
+// The step that a line is. Its bytes needn't be UTF-8: names are, so a line that isn't UTF-8 names nothing.
 fn step_of(names: &StepNames<'_>, line: &[u8]) -> Option<Event>
     ensures { result ≡ step_of names.now line.now }
 {

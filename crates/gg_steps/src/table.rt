@@ -9,7 +9,7 @@ use std::alloc::{AllocError, Global};
 use std::collections::HashMap;
 use std::marker::Model;
 
-/// Names by their numbers, with a table that finds the first place of each name. A contract sees the list of names.
+// Names by their numbers, with a table that finds the first place of each name. A contract sees the list of names.
 pub(crate) struct NameTable<'a> {
     names: Vec<&'a str>,
     places: HashMap<&'a [u8], u32>,
@@ -34,7 +34,7 @@ impl<'a> Model for NameTable<'a> {
     ghost invariant = { λ table. TellsNames (map (λ name. name.now) table.names.items) table.places };
 }
 
-/// Adds a name's place in a list to the table, unless the name has an earlier place.
+// Adds a name's place in a list to the table, unless the name has an earlier place.
 fn note_place<'a>(
     places: &mut HashMap<&'a [u8], u32>,
     name: &'a [u8],
@@ -52,8 +52,8 @@ fn note_place<'a>(
 }
 
 impl<'a> NameTable<'a> {
-    /// Returns a table without names.
-    pub fn new(alloc: Global) -> NameTable<'a>
+    // Returns a table without names.
+    pub(crate) fn new(alloc: Global) -> NameTable<'a>
         ensures { result ≡ [] }
     {
         NameTable {
@@ -62,8 +62,8 @@ impl<'a> NameTable<'a> {
         }
     }
 
-    /// Appends a name. If an allocation fails the names stay as they were.
-    pub fn push(&mut self, name: &'a str) -> Result<(), AllocError>
+    // Appends a name. If an allocation fails the names stay as they were.
+    pub(crate) fn push(&mut self, name: &'a str) -> Result<(), AllocError>
         requires { length self.old < 2 ^ 32 }
         ensures ok { OnOk result (self.new ≡ self.old ++ name.now ∷ []) }
         ensures err { OnErr result (self.new ≡ self.old) }
@@ -79,8 +79,8 @@ impl<'a> NameTable<'a> {
         }
     }
 
-    /// The table of these names.
-    pub fn of(alloc: Global, names: &'a [Name]) -> Result<NameTable<'a>, AllocError>
+    // The table of these names.
+    pub(crate) fn of(alloc: Global, names: &'a [Name]) -> Result<NameTable<'a>, AllocError>
         requires { length names.now < 2 ^ 32 }
         ensures { IfOk result (λ table. table ≡ names.now) }
     {
@@ -91,8 +91,8 @@ impl<'a> NameTable<'a> {
         Ok(table)
     }
 
-    /// The number that a word names.
-    pub fn place(&self, word: &[u8]) -> Option<u32>
+    // The number that a word names.
+    pub(crate) fn place(&self, word: &[u8]) -> Option<u32>
         ensures { result ≡ first_place word.now self.now }
     {
         if word.is_empty() {
@@ -101,8 +101,8 @@ impl<'a> NameTable<'a> {
         self.places.get(word).copied()
     }
 
-    /// The name of a number, if there is one.
-    pub fn name(&self, number: u32) -> Option<&'a str>
+    // The name of a number, if there is one.
+    pub(crate) fn name(&self, number: u32) -> Option<&'a str>
         ensures { option_map (λ name. name.now) result ≡ slice_get self.now number }
     {
         self.names.get(number as usize).copied()

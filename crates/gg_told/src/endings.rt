@@ -91,6 +91,10 @@ impl From<AllocError> for Ending {
 }
 
 /// A refusal with this status, whose line is these three parts and a line feed.
+///
+/// # Errors
+///
+/// Returns `AllocError` if an allocation fails.
 pub fn make_refusal(
     alloc: Global,
     status: u8,
@@ -117,7 +121,7 @@ pub fn end_with(refusal: Result<Refusal, AllocError>) -> Ending
     }
 }
 
-/// The ending for a file that can't be loaded.
+// The ending for a file that can't be loaded.
 pub(crate) fn end_cannot_load(alloc: Global, name: &str) -> Ending
     ensures { IfRefused (λ said. said ≡ cannot_load name.now) result }
 {
@@ -125,6 +129,10 @@ pub(crate) fn end_cannot_load(alloc: Global, name: &str) -> Ending
 }
 
 /// A text followed by a number.
+///
+/// # Errors
+///
+/// Returns `AllocError` if an allocation fails.
 pub fn text_with_number(alloc: Global, before: &str, number: u64) -> Result<String, AllocError>
     ensures { IfOk result (λ text. string_bytes text ≡ before.now ++ decimal number) }
 {
@@ -143,7 +151,7 @@ fn over_text(alloc: Global, limit: u64) -> Result<String, AllocError>
     Ok(text)
 }
 
-/// The ending for a file that is longer than this limit.
+// The ending for a file that is longer than this limit.
 pub(crate) fn end_over(alloc: Global, name: &str, limit: u64) -> Ending
     ensures { IfRefused (λ said. said ≡ is_over name.now limit) result }
 {

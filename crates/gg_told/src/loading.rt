@@ -11,6 +11,11 @@ use gg_io::{LoadFail, Shelf};
 use std::alloc::Global;
 
 /// The bytes of a file, at most `limit` of them.
+///
+/// # Errors
+///
+/// Returns what is reported: a refusal if the file can't be loaded (status 3) or is longer than `limit` (status 8), or
+/// `NoMemory` if an allocation fails.
 pub fn load<S: Shelf>(
     alloc: Global,
     shelf: &mut S,

@@ -8,6 +8,10 @@ use crate::endings::Ending;
 use gg_io::{PutFail, Sink};
 
 /// Writes one part of the text.
+///
+/// # Errors
+///
+/// Returns `Unwritten` if it can't be written, and `NoMemory` if an allocation fails.
 pub fn put<K: Sink>(out: &mut K, piece: &[u8]) -> Result<(), Ending>
     ensures prints { PrintsOn K.Sink out.old out.new piece.now result }
     ensures out { SinkWentOn K.Sink out.old out.new }

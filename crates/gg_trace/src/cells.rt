@@ -3,16 +3,16 @@
 ghost use Rattle.std.specs.Prelude.{◌≡◌, ℕ, ◌+◌, ◌*◌, ◌^◌, ◌<◌, ◌≤◌, ◌↔◌, IsTrue, MatchOption, MatchResult};
 ghost use Rattle.gg_trace.specs.Cells.{IsCell, AppendsDigit, IsHexadecimal, HasCellFault, hexadecimal};
 
-/// What is wrong with the field of a value.
+// What is wrong with the field of a value.
 #[derive(Clone, Copy, Debug, Drop, PartialEq, Eq)]
-pub enum CellFault {
-    /// The field is empty, or not all hexadecimal digits.
+pub(crate) enum CellFault {
+    // The field is empty, or not all hexadecimal digits.
     NotHexadecimal,
-    /// The field's number doesn't fit the width.
+    // The field's number doesn't fit the width.
     TooWide,
 }
 
-/// Whether a value has no bit at `width` or above it.
+// Whether a value has no bit at `width` or above it.
 fn fits(value: u128, width: u32) -> bool
     requires { width ≤ 128 }
     ensures { IsTrue result ↔ (value < 2 ^ width) }
@@ -20,7 +20,7 @@ fn fits(value: u128, width: u32) -> bool
     width == 128 || value < 1 << width
 }
 
-/// The value with one more hexadecimal digit at its end. None if `value` is None or the result doesn't fit 128 bits.
+// The value with one more hexadecimal digit at its end. None if `value` is None or the result doesn't fit 128 bits.
 fn with_digit(value: Option<u128>, digit: u32) -> Option<u128>
     requires { digit < 16 }
     ensures { AppendsDigit value digit result }
@@ -28,8 +28,8 @@ fn with_digit(value: Option<u128>, digit: u32) -> Option<u128>
     value?.checked_mul(16)?.checked_add(u128::from(digit))
 }
 
-/// The value that the digits of a field give, or None if it doesn't fit 128 bits. Returns an error if the field isn't
-/// one or more digits.
+// The value that the digits of a field give, or None if it doesn't fit 128 bits. Returns an error if the field isn't
+// one or more digits.
 fn digits_of(field: &[u8]) -> Result<Option<u128>, CellFault>
     ensures { MatchResult result
         (λ value. IsHexadecimal field.now
@@ -49,8 +49,8 @@ fn digits_of(field: &[u8]) -> Result<Option<u128>, CellFault>
     Ok(value)
 }
 
-/// The value that a field gives, if it fits this width.
-pub fn value_of(field: &[u8], width: u32) -> Result<u128, CellFault>
+// The value that a field gives, if it fits this width.
+pub(crate) fn value_of(field: &[u8], width: u32) -> Result<u128, CellFault>
     requires { width ≤ 128 }
     ensures { MatchResult result
         (λ value. IsCell width field.now × (value ≡ hexadecimal field.now))

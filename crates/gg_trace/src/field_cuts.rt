@@ -7,9 +7,9 @@ ghost use Rattle.gg_trace.specs.Fields.{is_blank, fields, fields_of_text, fields
 
 use std::marker::Model;
 
-/// The fields of a line that are still to be read. A contract sees the list of them.
+// The fields of a line that are still to be read. A contract sees the list of them.
 #[derive(Drop)]
-pub struct Fields<'a> {
+pub(crate) struct Fields<'a> {
     // what follows the last run of blanks, or None if the last field was read
     rest: Option<&'a [u8]>,
 }
@@ -45,7 +45,7 @@ pub fn run_len(text: &[u8], blank: bool) -> usize
     text.len()
 }
 
-/// The first field, and what follows the blanks after it, if there are any.
+// The first field, and what follows the blanks after it, if there are any.
 fn cut_field(text: &[u8]) -> (&[u8], Option<&[u8]>)
     ensures { fields_of_text text.now ≡ result.0.now ∷ fields_left (option_copied result.1) }
 {
@@ -58,9 +58,9 @@ fn cut_field(text: &[u8]) -> (&[u8], Option<&[u8]>)
 }
 
 impl<'a> Fields<'a> {
-    /// The fields of this line.
+    // The fields of this line.
     #[tactic(auto, unfolding(crate::specs::Fields::fields))]
-    pub fn of(line: &'a [u8]) -> Fields<'a>
+    pub(crate) fn of(line: &'a [u8]) -> Fields<'a>
         ensures { result ≡ fields line.now }
     {
         if line.is_empty() {
@@ -70,8 +70,8 @@ impl<'a> Fields<'a> {
         }
     }
 
-    /// The next field, or None if no field is left.
-    pub fn next(&mut self) -> Option<&'a [u8]>
+    // The next field, or None if no field is left.
+    pub(crate) fn next(&mut self) -> Option<&'a [u8]>
         ensures { MatchOption result
             ((self.old ≡ []) × (self.new ≡ []))
             (λ field. self.old ≡ field.now ∷ self.new) }
@@ -82,9 +82,9 @@ impl<'a> Fields<'a> {
     }
 }
 
-/// The number of fields of a line.
+// The number of fields of a line.
 #[tactic(auto, using(crate::proofs::FieldLaws::field_count))]
-pub fn count_fields(line: &[u8]) -> usize
+pub(crate) fn count_fields(line: &[u8]) -> usize
     ensures { result ≡ length (fields line.now) }
 {
     let mut rest = Fields::of(line);

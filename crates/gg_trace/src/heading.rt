@@ -13,7 +13,7 @@ use crate::texts::same_bytes;
 use gg_flat::Port;
 use std::alloc::Global;
 
-/// Whether each port is named.
+// Whether each port is named.
 fn all_named(named: &[bool]) -> bool
     ensures all { OnTrue result ((i : ℕ) → i < length named.now → slice_index_or named.now i false ≡ true) }
     ensures missing { OnFalse result ((i : ℕ) × (i < length named.now) × (slice_index_or named.now i false ≡ false)) }
@@ -21,8 +21,8 @@ fn all_named(named: &[bool]) -> bool
     !named.contains(&false)
 }
 
-/// The place of the port with this name, which is then marked as named. None if there is no such port or it was already
-/// named.
+// The place of the port with this name, which is then marked as named. None if there is no such port or it was already
+// named.
 fn take_name(table: &PortTable, name: &[u8], named: &mut Vec<bool>) -> Option<usize>
     requires size { vec_len named.old ≡ length table.now }
     requires distinct { HasDistinctNames table.now }
@@ -36,13 +36,13 @@ fn take_name(table: &PortTable, name: &[u8], named: &mut Vec<bool>) -> Option<us
     Some(place)
 }
 
-/// The places of the ports that the fields after `cycle` name, field by field. `rest` has these fields. The header is
-/// `cycle` followed by them.
-///
-/// # Errors
-///
-/// Returns `Heading` with the first field that isn't a port's name or repeats an earlier name. Else, if names are
-/// missing, returns `Heading` with the header's count of fields. Returns `NoMemory` if an allocation fails.
+// The places of the ports that the fields after `cycle` name, field by field. `rest` has these fields. The header is
+// `cycle` followed by them.
+//
+// # Errors
+//
+// Returns `Heading` with the first field that isn't a port's name or repeats an earlier name. Else, if names are
+// missing, returns `Heading` with the header's count of fields. Returns `NoMemory` if an allocation fails.
 fn take_names(alloc: Global, table: &PortTable, rest: &mut Fields) -> Result<Vec<usize>, TraceFault>
     requires { HasDistinctNames table.now }
     ensures { let header = codes "cycle" ∷ rest.old in
@@ -66,11 +66,11 @@ fn take_names(alloc: Global, table: &PortTable, rest: &mut Fields) -> Result<Vec
     Ok(places)
 }
 
-/// The places of the ports that the fields after `cycle` name, as `take_names` returns them. Builds the table.
-///
-/// # Errors
-///
-/// The errors of `take_names`.
+// The places of the ports that the fields after `cycle` name, as `take_names` returns them. Builds the table.
+//
+// # Errors
+//
+// The errors of `take_names`.
 fn read_names(alloc: Global, ports: &[Port], rest: &mut Fields) -> Result<Vec<usize>, TraceFault>
     requires { HasDistinctNames ports.now }
     ensures { let header = codes "cycle" ∷ rest.old in
@@ -80,14 +80,18 @@ fn read_names(alloc: Global, ports: &[Port], rest: &mut Fields) -> Result<Vec<us
     take_names(alloc, &table, rest)
 }
 
-/// The places of the ports that the header names after its first field, field by field.
-///
-/// # Errors
-///
-/// Returns `Heading` with the first field that is invalid at its position: the first field has to be `cycle`, and each
-/// further one the name of a port that wasn't named before. Else, if names are missing, returns `Heading` with the
-/// count of fields. Returns `NoMemory` if an allocation fails.
-pub fn read_header(alloc: Global, ports: &[Port], line: &[u8]) -> Result<Vec<usize>, TraceFault>
+// The places of the ports that the header names after its first field, field by field.
+//
+// # Errors
+//
+// Returns `Heading` with the first field that is invalid at its position: the first field has to be `cycle`, and each
+// further one the name of a port that wasn't named before. Else, if names are missing, returns `Heading` with the
+// count of fields. Returns `NoMemory` if an allocation fails.
+pub(crate) fn read_header(
+    alloc: Global,
+    ports: &[Port],
+    line: &[u8],
+) -> Result<Vec<usize>, TraceFault>
     requires { HasDistinctNames ports.now }
     ensures { let header = fields line.now in
         MatchResult result (λ places. IsHeading ports.now header places.items) (IfHeaderFault ports.now header) }

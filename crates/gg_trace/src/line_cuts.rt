@@ -23,7 +23,7 @@ impl<'a> Model for Lines<'a> {
     ghost view = { λ a. text_lines a.rest.now };
 }
 
-/// The number of bytes before the first line feed.
+// The number of bytes before the first line feed.
 fn line_len(text: &[u8]) -> usize
     ensures within { result ≤ length text.now }
     ensures before { (k : ℕ) → k < result → slice_index text.now k ≢ 10 }
@@ -37,7 +37,7 @@ fn line_len(text: &[u8]) -> usize
     text.len()
 }
 
-/// A line without the one carriage return at its end, if it has one.
+// A line without the one carriage return at its end, if it has one.
 fn without_return(line: &[u8]) -> &[u8]
     ensures { result.now ≡ strip_carriage_return line.now }
 {
@@ -47,7 +47,7 @@ fn without_return(line: &[u8]) -> &[u8]
     }
 }
 
-/// The first line, and the text after its line end.
+// The first line, and the text after its line end.
 fn cut_line(text: &[u8]) -> (&[u8], &[u8])
     requires { 0 < length text.now }
     ensures { text_lines text.now ≡ result.0.now ∷ text_lines result.1.now }

@@ -9,8 +9,8 @@ use std::alloc::{AllocError, Global};
 use std::collections::HashMap;
 use std::marker::Model;
 
-/// The place of each port by its name. A contract sees the list of the ports.
-pub struct PortTable<'a> {
+// The place of each port by its name. A contract sees the list of the ports.
+pub(crate) struct PortTable<'a> {
     ports: &'a [Port],
     places: HashMap<&'a [u8], usize>,
 }
@@ -34,7 +34,7 @@ impl<'a> Model for PortTable<'a> {
     ghost invariant = { λ table. TellsPorts table.ports.now (length table.ports.now) table.places };
 }
 
-/// The place of each port by its name. If several ports have the same name, the last one counts.
+// The place of each port by its name. If several ports have the same name, the last one counts.
 fn places_of(alloc: Global, ports: &[Port]) -> Result<HashMap<&[u8], usize>, AllocError>
     ensures { IfOk result (TellsPorts ports.now (length ports.now)) }
 {
@@ -46,23 +46,23 @@ fn places_of(alloc: Global, ports: &[Port]) -> Result<HashMap<&[u8], usize>, All
 }
 
 impl<'a> PortTable<'a> {
-    /// The table of these ports.
-    pub fn of(alloc: Global, ports: &'a [Port]) -> Result<PortTable<'a>, AllocError>
+    // The table of these ports.
+    pub(crate) fn of(alloc: Global, ports: &'a [Port]) -> Result<PortTable<'a>, AllocError>
         ensures { IfOk result (λ table. table ≡ ports.now) }
     {
         let places = places_of(alloc, ports)?;
         Ok(PortTable { ports, places })
     }
 
-    /// The number of ports.
-    pub fn len(&self) -> usize
+    // The number of ports.
+    pub(crate) fn len(&self) -> usize
         ensures { result ≡ length self.now }
     {
         self.ports.len()
     }
 
-    /// The place of the port with this name, if there is one.
-    pub fn place(&self, name: &[u8]) -> Option<usize>
+    // The place of the port with this name, if there is one.
+    pub(crate) fn place(&self, name: &[u8]) -> Option<usize>
         ensures { MatchOption result (NamesNone self.now name.now) (IsNamed self.now name.now) }
     {
         self.places.get(name).copied()

@@ -10,7 +10,7 @@ use gg_flat::Ports;
 use itoa::Buffer;
 use std::alloc::{AllocError, Global};
 
-/// The character of a hexadecimal digit, in lower case.
+// The character of a hexadecimal digit, in lower case.
 fn digit_of(digit: u32) -> char
     requires { digit < 16 }
     ensures { result ≡ digit_char digit }
@@ -18,7 +18,7 @@ fn digit_of(digit: u32) -> char
     char::from_digit(digit, 16).unwrap()
 }
 
-/// Writes the last `digits` digits of a value at the end of a text, in hexadecimal.
+// Writes the last `digits` digits of a value at the end of a text, in hexadecimal.
 fn push_digits(text: &mut String, value: u128, digits: u32) -> Result<(), AllocError>
     requires { digits ≤ 32 }
     ensures { OnOk result (string_bytes text.new ≡ string_bytes text.old ++ hex_digits digits value) }
@@ -31,7 +31,7 @@ fn push_digits(text: &mut String, value: u128, digits: u32) -> Result<(), AllocE
     Ok(())
 }
 
-/// Writes a space and a value of this width at the end of a text.
+// Writes a space and a value of this width at the end of a text.
 fn push_value(text: &mut String, value: u128, width: u32) -> Result<(), AllocError>
     requires { width ≤ 128 }
     ensures { OnOk result (string_bytes text.new ≡ string_bytes text.old ++ 32 ∷ hex_digits (digit_count width) value) }
@@ -40,7 +40,7 @@ fn push_value(text: &mut String, value: u128, width: u32) -> Result<(), AllocErr
     push_digits(text, value, (width + 3) / 4)
 }
 
-/// Writes a space and a name at the end of a text.
+// Writes a space and a name at the end of a text.
 fn push_name(text: &mut String, name: &Name) -> Result<(), AllocError>
     ensures { OnOk result (string_bytes text.new ≡ string_bytes text.old ++ 32 ∷ name.now) }
 {

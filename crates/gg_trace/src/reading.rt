@@ -14,7 +14,7 @@ use crate::trace_table::Trace;
 use gg_flat::{Port, Ports};
 use std::alloc::Global;
 
-/// The first line, or an empty line if there is none.
+// The first line, or an empty line if there is none.
 fn first_line<'a>(lines: &mut Lines<'a>) -> &'a [u8]
     ensures header { slice_index_or (map fields lines.old) 0 [] ≡ fields result.now }
     ensures rows { drop 1 (map fields lines.old) ≡ map fields lines.new }
@@ -25,7 +25,7 @@ fn first_line<'a>(lines: &mut Lines<'a>) -> &'a [u8]
     }
 }
 
-/// The columns of a text, or its first fault.
+// The columns of a text, or its first fault.
 fn read_lines(alloc: Global, ports: &[Port], bytes: &[u8]) -> Result<Trace, TraceFault>
     requires { HasDistinctNames ports.now }
     ensures { MatchResult result
@@ -53,6 +53,10 @@ fn read_lines(alloc: Global, ports: &[Port], bytes: &[u8]) -> Result<Trace, Trac
 /// values from left to right.
 ///
 /// The ports have to have different names.
+///
+/// # Errors
+///
+/// Returns the first fault of the text, or `NoMemory` if an allocation fails.
 pub fn read_trace(alloc: Global, ports: &Ports, bytes: &[u8]) -> Result<Trace, TraceFault>
     requires { HasDistinctNames ports.now }
     // The trace has the columns of the text, and each value fits its port.

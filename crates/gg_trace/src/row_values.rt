@@ -15,11 +15,11 @@ use gg_flat::Port;
 use gg_limits::CYCLE_LIMIT;
 use itoa::Buffer;
 
-/// The value of a field, which is field `at` of row `row`.
-///
-/// # Errors
-///
-/// Returns `NotHexadecimal` if the field isn't hexadecimal, or `TooWide` if its number doesn't fit the width.
+// The value of a field, which is field `at` of row `row`.
+//
+// # Errors
+//
+// Returns `NotHexadecimal` if the field isn't hexadecimal, or `TooWide` if its number doesn't fit the width.
 fn read_value(text: &[u8], width: u32, row: u64, at: u64) -> Result<u128, TraceFault>
     requires { width ≤ 128 }
     ensures { MatchResult result
@@ -33,13 +33,13 @@ fn read_value(text: &[u8], width: u32, row: u64, at: u64) -> Result<u128, TraceF
     }
 }
 
-/// Writes the values of the fields after a row's number, each at its port's place: the field at place g gives the value
-/// of port `places[g]`. A fault carries `row`.
-///
-/// # Errors
-///
-/// Returns `NotHexadecimal` or `TooWide` with the first field that isn't a value of its port. The values before it are
-/// written.
+// Writes the values of the fields after a row's number, each at its port's place: the field at place g gives the value
+// of port `places[g]`. A fault carries `row`.
+//
+// # Errors
+//
+// Returns `NotHexadecimal` or `TooWide` with the first field that isn't a value of its port. The values before it are
+// written.
 fn read_values(
     ports: &[Port],
     places: &[usize],
@@ -64,7 +64,7 @@ fn read_values(
     Ok(())
 }
 
-/// Whether a text is this number in decimal.
+// Whether a text is this number in decimal.
 fn is_decimal(text: &[u8], number: u64) -> bool
     ensures same { OnTrue result (text.now ≡ decimal number) }
     ensures differ { OnFalse result (text.now ≢ decimal number) }
@@ -73,16 +73,16 @@ fn is_decimal(text: &[u8], number: u64) -> bool
     same_bytes(text, buffer.format(number).as_bytes())
 }
 
-/// Writes the values of row `row`, whose text is `line`, each at its port's place: field g + 1 gives the value of port
-/// `places[g]`.
-///
-/// # Errors
-///
-/// Returns the first fault of the row, in this order: `TooManyRows` if the trace has too many rows, `FieldCount` if the
-/// line doesn't have as many fields as the header, `RowNumber` if its first field isn't the row's number, and
-/// `NotHexadecimal` or `TooWide` with the first field that isn't a value of its port. Values before that field may be
-/// written.
-pub fn read_row(
+// Writes the values of row `row`, whose text is `line`, each at its port's place: field g + 1 gives the value of port
+// `places[g]`.
+//
+// # Errors
+//
+// Returns the first fault of the row, in this order: `TooManyRows` if the trace has too many rows, `FieldCount` if the
+// line doesn't have as many fields as the header, `RowNumber` if its first field isn't the row's number, and
+// `NotHexadecimal` or `TooWide` with the first field that isn't a value of its port. Values before that field may be
+// written.
+pub(crate) fn read_row(
     ports: &[Port],
     places: &[usize],
     line: &[u8],

@@ -41,7 +41,7 @@ impl Model for Trace {
 }
 
 impl Trace {
-    /// The trace whose rows, of `inputs` values each, are in `cells`, one after another.
+    // The trace whose rows, of `inputs` values each, are in `cells`, one after another.
     pub(crate) fn of(rows: usize, inputs: usize, cells: Vec<u128>) -> Trace
         requires size { length cells.items ≡ rows * inputs }
         requires limit { rows ≤ cycle_limit }
@@ -112,7 +112,7 @@ impl Trace {
     }
 }
 
-/// The value at place `input` of each row.
+// The value at place `input` of each row.
 fn column_of(
     alloc: Global,
     cells: &[u128],

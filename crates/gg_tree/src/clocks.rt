@@ -45,11 +45,11 @@ fn add_all_kept(
     Ok(())
 }
 
-/// Adds the Clock inputs that the registers of all sites follow, each of its own site.
-///
-/// # Errors
-///
-/// Returns `AllocError` if an allocation fails.
+// Adds the Clock inputs that the registers of all sites follow, each of its own site.
+//
+// # Errors
+//
+// Returns `AllocError` if an allocation fails.
 pub(crate) fn add_register_clocks(
     typed: &Typed,
     digests: &[Digest],
@@ -58,7 +58,9 @@ pub(crate) fn add_register_clocks(
 ) -> Result<(), AllocError>
     requires digests { AreDigests (types_of typed.now.circuit) typed.now.circuit.modules digests.now }
     requires within { All (IsPlaceIn typed.now.circuit.modules) places.now }
-    ensures { OnOk result (tree.new ≡ with_register_clocks tree.old (tree.old.register_clocks ++ clocks_held (flat_signals (types_of typed.now.circuit) typed.now.circuit.modules (map site_of places.now)))) }
+    ensures { OnOk result (tree.new ≡ with_register_clocks tree.old
+        (tree.old.register_clocks ++ clocks_held (flat_signals (types_of typed.now.circuit) typed.now.circuit.modules
+        (map site_of places.now)))) }
 {
     for place in places {
         let digest = &digests[place.number as usize];
@@ -67,11 +69,11 @@ pub(crate) fn add_register_clocks(
     Ok(())
 }
 
-/// Adds the names of the Clock inputs among the ports of the top.
-///
-/// # Errors
-///
-/// Returns `AllocError` if an allocation fails.
+// Adds the names of the Clock inputs among the ports of the top.
+//
+// # Errors
+//
+// Returns `AllocError` if an allocation fails.
 pub(crate) fn add_clocks(ports: &[Port], tree: &mut Tree) -> Result<(), AllocError>
     ensures { OnOk result (tree.new ≡ with_clocks tree.old (tree.old.clocks ++ clock_inputs ports.now)) }
 {

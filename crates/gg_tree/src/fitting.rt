@@ -23,6 +23,7 @@ pub fn fits(typed: &Typed, piece: &Piece, tree: &Tree)
 {
     let circuit = typed.names().circuit();
     circuit.names_are_words();
+    // for the invariant alone
     let _ = piece.signal_count();
     let _ = tree.len();
     let _ = tree.memory_count();

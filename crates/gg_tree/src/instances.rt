@@ -31,14 +31,14 @@ fn raised(number: u32, count: usize) -> Result<u32, AllocError>
 // The first signal of each site, and the end of the last site's signals.
 fn firsts(
     alloc: Global,
-    typed: &Typed,
+    _typed: &Typed,
     digests: &[Digest],
     places: &[Place],
 ) -> Result<Vec<u32>, AllocError>
-    requires digests { AreDigests (types_of typed.now.circuit) typed.now.circuit.modules digests.now }
-    requires places { All (IsPlaceIn typed.now.circuit.modules) places.now }
+    requires digests { AreDigests (types_of _typed.now.circuit) _typed.now.circuit.modules digests.now }
+    requires places { All (IsPlaceIn _typed.now.circuit.modules) places.now }
     ensures count { IfOk result (λ firsts. length firsts.items ≡ length places.now + 1) }
-    ensures each { IfOk result (λ firsts. (k : ℕ) → k ≤ length places.now → slice_index firsts.items k ≡ signals_to typed.now.circuit places.now k) }
+    ensures each { IfOk result (λ firsts. (k : ℕ) → k ≤ length places.now → slice_index firsts.items k ≡ signals_to _typed.now.circuit places.now k) }
 {
     let mut firsts = Vec::new(alloc);
     let mut next: u32 = 0;
@@ -214,11 +214,11 @@ fn add_instance(tree: &mut Tree, path: Name, instance: Instance) -> Result<(), A
     }
 }
 
-/// Adds the instances of all sites.
-///
-/// # Errors
-///
-/// Returns `AllocError` if an allocation fails.
+// Adds the instances of all sites.
+//
+// # Errors
+//
+// Returns `AllocError` if an allocation fails.
 pub(crate) fn add_instances(
     alloc: Global,
     typed: &Typed,

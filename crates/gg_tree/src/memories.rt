@@ -133,7 +133,11 @@ fn add_site_memories(
     requires holder { Contains paths.now place.now.path }
     requires numbers { All (λ own. Contains table.now.memories (joined_text place.now.path own.name.now)) memories.now }
     ensures names { OnOk result (tree.new.memory_paths ≡ tree.old.memory_paths ++ map (λ m. joined_text place.now.path m.name.now) memories.now) }
-    ensures made { OnOk result ((said : List HeldMemory) → paths.now ≡ paths_of_sites typed.now.circuit → table.now.memories ≡ memory_paths (memories_of typed.now.circuit) → Pairwise (IsHeldFor typed.now.circuit) said tree.old.memories → Pairwise (IsHeldFor typed.now.circuit) (said ++ map (held_at_place typed.now.circuit.modules place.now) memories.now) tree.new.memories) }
+    ensures made { OnOk result ((said : List HeldMemory) → paths.now ≡ paths_of_sites typed.now.circuit
+        → table.now.memories ≡ memory_paths (memories_of typed.now.circuit)
+        → Pairwise (IsHeldFor typed.now.circuit) said tree.old.memories
+        → Pairwise (IsHeldFor typed.now.circuit) (said
+        ++ map (held_at_place typed.now.circuit.modules place.now) memories.now) tree.new.memories) }
     ensures rest { OnOk result (tree.new ≡ with_memories tree.old tree.new.memory_paths tree.new.memories) }
 {
     for own in memories {
@@ -144,11 +148,11 @@ fn add_site_memories(
     Ok(())
 }
 
-/// Adds the memories of all sites.
-///
-/// # Errors
-///
-/// Returns `AllocError` if an allocation fails.
+// Adds the memories of all sites.
+//
+// # Errors
+//
+// Returns `AllocError` if an allocation fails.
 pub(crate) fn add_memories(
     alloc: Global,
     typed: &Typed,

@@ -8,11 +8,12 @@ use gg_flat::Paths;
 use gg_flattened::{Place, add_path};
 use std::alloc::{AllocError, Global};
 
-/// The place of a path, which is one of these.
+// The place of a path, which is one of these.
 pub(crate) fn place_at(paths: &Paths, path: &Name) -> u32
     requires there { Contains paths.now path.now }
     ensures { IsAt paths.now path.now result }
 {
+    // for the invariant alone
     let _ = paths.len();
     let Some(place) = paths.find(path) else {
         unreachable!();
@@ -20,11 +21,11 @@ pub(crate) fn place_at(paths: &Paths, path: &Name) -> u32
     place
 }
 
-/// The paths of all sites.
-///
-/// # Errors
-///
-/// Returns `AllocError` if an allocation fails.
+// The paths of all sites.
+//
+// # Errors
+//
+// Returns `AllocError` if an allocation fails.
 pub(crate) fn site_paths(alloc: Global, places: &[Place]) -> Result<Paths, AllocError>
     requires distinct { AllPairs (λ a b. a ≢ b) (place_paths places.now) }
     ensures { IfOk result (λ paths. paths ≡ place_paths places.now) }
@@ -36,11 +37,11 @@ pub(crate) fn site_paths(alloc: Global, places: &[Place]) -> Result<Paths, Alloc
     Ok(paths)
 }
 
-/// A copy of a name.
-///
-/// # Errors
-///
-/// Returns `AllocError` if an allocation fails.
+// A copy of a name.
+//
+// # Errors
+//
+// Returns `AllocError` if an allocation fails.
 pub(crate) fn copied(name: &Name) -> Result<Name, AllocError>
     ensures { IfOk result (λ copy. copy ≡ name.now) }
 {

@@ -48,7 +48,9 @@ fn add_site_stops(
     requires there { place.now.number < length typed.now.circuit.modules }
     requires holder { Contains paths.now place.now.path }
     requires signals { All (λ own. Contains table.now.paths (joined_text place.now.path own.name)) stops.now }
-    ensures made { OnOk result ((said : List HeldStop) → paths.now ≡ paths_of_sites typed.now.circuit → table.now.paths ≡ signal_paths typed.now.circuit → Pairwise (IsAskedFor typed.now.circuit) said tree.old.stops → Pairwise (IsAskedFor typed.now.circuit) (said ++ map (stop_at_place place.now) stops.now) tree.new.stops) }
+    ensures made { OnOk result ((said : List HeldStop) → paths.now ≡ paths_of_sites typed.now.circuit
+        → table.now.paths ≡ signal_paths typed.now.circuit → Pairwise (IsAskedFor typed.now.circuit) said tree.old.stops
+        → Pairwise (IsAskedFor typed.now.circuit) (said ++ map (stop_at_place place.now) stops.now) tree.new.stops) }
     ensures rest { OnOk result (tree.new ≡ with_stops tree.old tree.new.stops) }
 {
     for own in stops {
@@ -58,11 +60,11 @@ fn add_site_stops(
     Ok(())
 }
 
-/// Adds the stops of all sites.
-///
-/// # Errors
-///
-/// Returns `AllocError` if an allocation fails.
+// Adds the stops of all sites.
+//
+// # Errors
+//
+// Returns `AllocError` if an allocation fails.
 pub(crate) fn add_stops(
     alloc: Global,
     typed: &Typed,

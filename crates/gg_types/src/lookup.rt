@@ -11,7 +11,8 @@ use gg_ast::Reference;
 use gg_bits::Name;
 use gg_names::{Namespace, PortField, Role, first_name};
 
-/// The type of what a reference names in a module, given the type data of the first of its declared names.
+/// The type of what a reference names in a module, given the type data of the first of its declared names. None if it names
+/// nothing that has a type there.
 pub fn sort_of_name(
     names: &Namespace,
     number: u32,
@@ -19,7 +20,8 @@ pub fn sort_of_name(
     reference: &Reference,
 ) -> Option<Sort>
     requires there { number < length names.now.modules }
-    ensures { option_map (λ s. Some s) result ≡ known_entry (scope_of names.now.modules (module_at names.now.modules number)) (owned (names_in (module_at names.now.modules number)) own.now) reference.now }
+    ensures { option_map (λ s. Some s) result ≡ known_entry (scope_of names.now.modules (module_at names.now.modules number))
+        (owned (names_in (module_at names.now.modules number)) own.now) reference.now }
 {
     let first = own_of(names, number, own, first_name(reference))?;
     let role = names.role(number, reference)?;

@@ -4,7 +4,7 @@ ghost use Rattle.gg_types.specs.Fields.{first_said, type_said, depth_said};
 
 use gg_ast::{Field, GroundType, MemoryField};
 
-/// The type of a memory's words, if a field has it.
+/// The type of a memory's words. None if no field has it.
 pub fn said_type(fields: &[Field]) -> Option<GroundType>
     ensures { result ≡ first_said type_said fields.now }
 {
@@ -16,7 +16,7 @@ pub fn said_type(fields: &[Field]) -> Option<GroundType>
     None
 }
 
-/// How many words a memory has, if a field says so.
+/// How many words a memory has. None if no field says so.
 pub fn said_depth(fields: &[Field]) -> Option<u32>
     ensures { result ≡ first_said depth_said fields.now }
 {

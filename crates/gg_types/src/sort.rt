@@ -48,8 +48,12 @@ pub fn sort_of(ty: GroundType) -> Sort
     }
 }
 
-/// The type of a field of a memory's ports, by the type and the number of its words.
-pub fn field_sort(word: Option<GroundType>, depth: Option<u32>, field: PortField) -> Option<Sort>
+// The type of a field of a memory's ports, by the type and the number of its words.
+pub(crate) fn field_sort(
+    word: Option<GroundType>,
+    depth: Option<u32>,
+    field: PortField,
+) -> Option<Sort>
     ensures { result ≡ field_sort word depth field }
 {
     match field {

@@ -16,20 +16,20 @@ use crate::module::judge_all;
 use gg_ast::{Circuit, Module};
 use gg_bits::Items;
 use gg_names::{NamesFault, Namespace};
-use gg_shape::Refusal;
+use gg_shape::CheckFault;
 use gg_types::{Own, Typed};
 use gg_walk::{Graph, WalkFault, walk};
 use std::alloc::{AllocError, Global};
 
 /// What `types` returns in place of Ok.
-pub type TypeFault = Refusal;
+pub type TypeFault = CheckFault;
 
 /// Checks a circuit for the faults F9 to F14, and returns it with its names' types. The circuit must have none of the
 /// faults F1 to F8: `gg_shape::shape` checks these before.
 ///
 /// # Errors
 ///
-/// Returns `Refusal::F` with the first of F9 to F14 in the order of the text. Returns `Refusal::NoMemory` if an
+/// Returns `CheckFault::F` with the first of F9 to F14 in the order of the text. Returns `CheckFault::NoMemory` if an
 /// allocation fails.
 pub fn types<'a>(alloc: Global, circuit: &'a Circuit) -> Result<Typed<'a>, TypeFault>
     requires shaped { IsShaped circuit.now }
@@ -39,7 +39,7 @@ pub fn types<'a>(alloc: Global, circuit: &'a Circuit) -> Result<Typed<'a>, TypeF
     match Namespace::of(alloc, circuit) {
         Ok(names) => typed(alloc, names),
         Err(NamesFault::Repeated(_)) => unreachable!(),
-        Err(NamesFault::NoMemory) => Err(Refusal::NoMemory),
+        Err(NamesFault::NoMemory) => Err(CheckFault::NoMemory),
     }
 }
 
@@ -47,7 +47,7 @@ pub fn types<'a>(alloc: Global, circuit: &'a Circuit) -> Result<Typed<'a>, TypeF
 ///
 /// # Errors
 ///
-/// Returns `Refusal::F` with the first of F9 to F14 in the order of the text. Returns `Refusal::NoMemory` if an
+/// Returns `CheckFault::F` with the first of F9 to F14 in the order of the text. Returns `CheckFault::NoMemory` if an
 /// allocation fails.
 pub fn typed<'a>(alloc: Global, names: Namespace<'a>) -> Result<Typed<'a>, TypeFault>
     requires shaped { IsShaped names }
@@ -60,7 +60,7 @@ pub fn typed<'a>(alloc: Global, names: Namespace<'a>) -> Result<Typed<'a>, TypeF
 }
 
 // The order of the modules, each after all that it has instances of.
-fn module_order(alloc: Global, names: &Namespace) -> Result<Vec<u32>, Refusal>
+fn module_order(alloc: Global, names: &Namespace) -> Result<Vec<u32>, CheckFault>
     requires free { HasNoRing names.now }
     ensures order { IfOk result (λ order. IsOrderOf (Holds names.now.modules) (length names.now.modules) order.items) }
     ensures answers { Answers [] result }
@@ -68,7 +68,7 @@ fn module_order(alloc: Global, names: &Namespace) -> Result<Vec<u32>, Refusal>
     match walk(alloc, names) {
         Ok(order) => Ok(order),
         Err(WalkFault::Ring(_)) => unreachable!(),
-        Err(WalkFault::NoMemory) => Err(Refusal::NoMemory),
+        Err(WalkFault::NoMemory) => Err(CheckFault::NoMemory),
     }
 }
 
@@ -87,7 +87,7 @@ struct Judged {
 }
 
 // Returns what is known of the modules' names, or fails with the first fault in the order of the modules.
-fn judge_modules(alloc: Global, names: &Namespace) -> Result<Tables, Refusal>
+fn judge_modules(alloc: Global, names: &Namespace) -> Result<Tables, CheckFault>
     ensures answers { Answers (type_faults names.now) result }
     ensures own { IfOk result (λ tables. TellModules names.now.modules (length names.now.modules) tables.own.items) }
     ensures clocks { IfOk result (λ tables. TellAllClocks names.now.modules (length names.now.modules) tables.clocks.items) }
@@ -114,7 +114,7 @@ fn add_list<T: Drop>(lists: &mut Vec<Items<T>>, list: Vec<T>) -> Result<(), Allo
 }
 
 // Returns what is known of a module's names, or fails with its first fault.
-fn judge_module(alloc: Global, names: &Namespace, number: u32) -> Result<Judged, Refusal>
+fn judge_module(alloc: Global, names: &Namespace, number: u32) -> Result<Judged, CheckFault>
     requires { number < length names.now.modules }
     ensures answers { Answers (faults_of_module names.now.modules (module_at names.now.modules number)) result }
     ensures own { IfOk result (λ judged. TellsOwn names.now.modules (module_at names.now.modules number) judged.own.items) }
@@ -135,8 +135,8 @@ fn judge_module(alloc: Global, names: &Namespace, number: u32) -> Result<Judged,
     })
 }
 
-/// The module at a place.
-pub fn module_of<'a>(names: &Namespace<'a>, number: u32) -> &'a Module
+// The module at a place.
+pub(crate) fn module_of<'a>(names: &Namespace<'a>, number: u32) -> &'a Module
     requires { number < length names.now.modules }
     ensures { result.now ≡ module_at names.now.modules number }
 {

@@ -17,8 +17,8 @@ use gg_types::Way;
 use std::alloc::{AllocError, Global};
 use std::marker::Model;
 
-/// The declared names of a module, each with where it gets a Clock from. A contract sees it as their list.
-pub struct Ways<'b, 'a> {
+// The declared names of a module, each with where it gets a Clock from. A contract sees it as their list.
+pub(crate) struct Ways<'b, 'a> {
     names: &'b Namespace<'a>,
     number: u32,
     ways: Vec<Way>,
@@ -156,16 +156,16 @@ fn way_of(statement: &Stmt) -> Option<Way>
     }
 }
 
-/// What is known of the declared names of a module: whether each leads to an input port, and the number of the Clock
-/// input that it leads to, if it leads to one.
+// What is known of the declared names of a module: whether each leads to an input port, and the number of the Clock
+// input that it leads to, if it leads to one.
 #[derive(Drop)]
-pub struct Traces {
-    pub flags: Vec<bool>,
-    pub clocks: Vec<Option<u32>>,
+pub(crate) struct Traces {
+    pub(crate) flags: Vec<bool>,
+    pub(crate) clocks: Vec<Option<u32>>,
 }
 
-/// Where the declared names of a module lead.
-pub fn trace(alloc: Global, names: &Namespace, number: u32) -> Result<Traces, AllocError>
+// Where the declared names of a module lead.
+pub(crate) fn trace(alloc: Global, names: &Namespace, number: u32) -> Result<Traces, AllocError>
     requires { number < length names.now.modules }
     ensures flags { IfOk result (λ traces. (name : List ℕ) → flagged (names_in (module_at names.now.modules number)) traces.flags.items name ≡ leads_to_input (module_at names.now.modules number) name) }
     ensures clocks { IfOk result (λ traces. TellsClocks (module_at names.now.modules number) traces.clocks.items) }

@@ -5,10 +5,10 @@ ghost use Rattle.gg_types.specs.Types.{field_faults, memory_type_faults};
 
 use crate::places::stored_type;
 use gg_ast::{Field, MemoryField};
-use gg_shape::{Refusal, Word};
+use gg_shape::{CheckFault, Word};
 
-/// Fails at the first type among a memory's fields that is a Clock, or whose width is 0 or above 128.
-pub fn judge_fields(fields: &[Field]) -> Result<(), Refusal>
+// Fails at the first type among a memory's fields that is a Clock, or whose width is 0 or above 128.
+pub(crate) fn judge_fields(fields: &[Field]) -> Result<(), CheckFault>
     ensures { Answers (memory_type_faults fields.now) result }
 {
     for field in fields {
@@ -18,7 +18,7 @@ pub fn judge_fields(fields: &[Field]) -> Result<(), Refusal>
 }
 
 // Fails if the type in a field is a Clock, or its width is 0 or above 128.
-fn judge_field(line: u64, kind: &MemoryField) -> Result<(), Refusal>
+fn judge_field(line: u64, kind: &MemoryField) -> Result<(), CheckFault>
     ensures { Answers (field_faults line kind.now) result }
 {
     match kind {

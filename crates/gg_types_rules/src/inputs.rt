@@ -30,11 +30,11 @@ fn counted(count: u32, port: &Port) -> Result<u32, AllocError>
     Ok(count + 1)
 }
 
-/// For each port its number among the Clock inputs, counted from 0 in port order; none for any other port.
-///
-/// # Errors
-///
-/// Returns `AllocError` if an allocation fails, or if there are more than 4,294,967,295 Clock inputs.
+// For each port its number among the Clock inputs, counted from 0 in port order; none for any other port.
+//
+// # Errors
+//
+// Returns `AllocError` if an allocation fails, or if there are more than 4,294,967,295 Clock inputs.
 pub(crate) fn clock_numbers(alloc: Global, ports: &[Port]) -> Result<Vec<Option<u32>>, AllocError>
     ensures { IfOk result (λ numbers. numbers.items ≡ numbers_of_ports 0 ports.now) }
 {
@@ -57,11 +57,11 @@ fn number_at(numbers: &[Option<u32>], place: usize) -> Option<u32>
     }
 }
 
-/// The numbers at these places.
-///
-/// # Errors
-///
-/// Returns `AllocError` if an allocation fails.
+// The numbers at these places.
+//
+// # Errors
+//
+// Returns `AllocError` if an allocation fails.
 pub(crate) fn numbers_reached(
     alloc: Global,
     numbers: &[Option<u32>],

@@ -9,30 +9,30 @@ use gg_bits::Name;
 use gg_names::Namespace;
 use gg_types::{Own, Sort, sort_of_name};
 
-/// The names of a module, which of them lead to an input port, and the type data of the first of them.
+// The names of a module, which of them lead to an input port, and the type data of the first of them.
 #[derive(Drop)]
-pub struct Known<'b, 'a> {
-    /// The names of the circuit.
-    pub names: &'b Namespace<'a>,
-    /// The module's place.
-    pub number: u32,
-    /// For each declared name whether it leads to an input port through the drivers of wires and nodes.
-    pub traced: Vec<bool>,
-    /// The type data of the first of the declared names.
-    pub own: Vec<Own>,
+pub(crate) struct Known<'b, 'a> {
+    // The names of the circuit.
+    pub(crate) names: &'b Namespace<'a>,
+    // The module's place.
+    pub(crate) number: u32,
+    // For each declared name whether it leads to an input port through the drivers of wires and nodes.
+    pub(crate) traced: Vec<bool>,
+    // The type data of the first of the declared names.
+    pub(crate) own: Vec<Own>,
     pub ghost within: { number < length names.now.modules },
 }
 
 impl<'b, 'a> Known<'b, 'a> {
-    /// The type of what a reference names, if the type data of its first name is known.
-    pub fn sort(&self, reference: &Reference) -> Option<Sort>
+    // The type of what a reference names, if the type data of its first name is known.
+    pub(crate) fn sort(&self, reference: &Reference) -> Option<Sort>
         ensures { option_map (λ s. Some s) result ≡ known_entry (roles_seen self.now) (owned_seen self.now) reference.now }
     {
         sort_of_name(self.names, self.number, self.own.as_slice(), reference)
     }
 
-    /// Whether a name leads to an input port.
-    pub fn is_traced(&self, name: &Name) -> bool
+    // Whether a name leads to an input port.
+    pub(crate) fn is_traced(&self, name: &Name) -> bool
         ensures { result ≡ traced_seen self.now name.now }
     {
         match self.names.place(self.number, name) {

@@ -11,17 +11,17 @@ use crate::known::Known;
 use crate::places::declared_type;
 use crate::statement::{declare, judge};
 use gg_ast::{Direction, GroundType, Port, Stmt};
-use gg_shape::{Fault, Refusal};
+use gg_shape::{CheckFault, Fault};
 use gg_types::{Own, sort_of};
 use std::alloc::Global;
 
-/// Adds the type data of all names of a module, or fails with the module's first fault.
-pub fn judge_all(
+// Adds the type data of all names of a module, or fails with the module's first fault.
+pub(crate) fn judge_all(
     alloc: Global,
     known: &mut Known,
     ports: &[Port],
     statements: &[Stmt],
-) -> Result<(), Refusal>
+) -> Result<(), CheckFault>
     requires empty { known.old.own.items ≡ [] }
     requires names { names_seen known.old ≡ names_after ports.now statements.now }
     ensures answers { Answers (flat_map port_faults ports.now ++ along (faults_of (roles_seen known.old) (traced_seen known.old) (map port_own ports.now)) statements.now) result }
@@ -35,9 +35,9 @@ pub fn judge_all(
 }
 
 // Adds the types of a module's ports, or fails with their first fault.
-fn judge_ports(known: &mut Known, ports: &[Port], statements: &[Stmt]) -> Result<(), Refusal>
+fn judge_ports(known: &mut Known, ports: &[Port], _statements: &[Stmt]) -> Result<(), CheckFault>
     requires empty { known.old.own.items ≡ [] }
-    requires names { names_seen known.old ≡ names_after ports.now statements.now }
+    requires names { names_seen known.old ≡ names_after ports.now _statements.now }
     ensures answers { Answers (flat_map port_faults ports.now) result }
     ensures own { OnOk result (owned_seen known.new ≡ map port_own ports.now) }
     ensures count { OnOk result (length known.new.own.items ≡ length ports.now) }
@@ -45,7 +45,6 @@ fn judge_ports(known: &mut Known, ports: &[Port], statements: &[Stmt]) -> Result
     ensures number { known.new.number ≡ known.old.number }
     ensures traced { known.new.traced.items ≡ known.old.traced.items }
 {
-    let _ = statements;
     for port in ports {
         judge_port(port)?;
         declare(known, Own::Single(sort_of(port.ty)))?;
@@ -54,11 +53,11 @@ fn judge_ports(known: &mut Known, ports: &[Port], statements: &[Stmt]) -> Result
 }
 
 // Fails with the first fault of a port.
-fn judge_port(port: &Port) -> Result<(), Refusal>
+fn judge_port(port: &Port) -> Result<(), CheckFault>
     ensures { Answers (port_faults port.now) result }
 {
     if port.ty == GroundType::Clock && port.direction == Direction::Output {
-        return Err(Refusal::F(Fault::WrongClock {
+        return Err(CheckFault::F(Fault::WrongClock {
             line: port.line,
             name: port.name.clone()?,
         }));
@@ -70,19 +69,18 @@ fn judge_port(port: &Port) -> Result<(), Refusal>
 fn judge_statements(
     alloc: Global,
     known: &mut Known,
-    ports: &[Port],
+    _ports: &[Port],
     statements: &[Stmt],
-) -> Result<(), Refusal>
-    requires names { names_seen known.old ≡ names_after ports.now statements.now }
-    requires own { owned_seen known.old ≡ map port_own ports.now }
-    requires count { length known.old.own.items ≡ length ports.now }
-    ensures answers { Answers (along (faults_of (roles_seen known.old) (traced_seen known.old) (map port_own ports.now)) statements.now) result }
-    ensures own { OnOk result (owned_seen known.new ≡ known_after (roles_seen known.old) (traced_seen known.old) (map port_own ports.now) statements.now) }
-    ensures count { OnOk result (length known.new.own.items ≡ length (names_after ports.now statements.now)) }
+) -> Result<(), CheckFault>
+    requires names { names_seen known.old ≡ names_after _ports.now statements.now }
+    requires own { owned_seen known.old ≡ map port_own _ports.now }
+    requires count { length known.old.own.items ≡ length _ports.now }
+    ensures answers { Answers (along (faults_of (roles_seen known.old) (traced_seen known.old) (map port_own _ports.now)) statements.now) result }
+    ensures own { OnOk result (owned_seen known.new ≡ known_after (roles_seen known.old) (traced_seen known.old) (map port_own _ports.now) statements.now) }
+    ensures count { OnOk result (length known.new.own.items ≡ length (names_after _ports.now statements.now)) }
     ensures names { known.new.names.now ≡ known.old.names.now }
     ensures number { known.new.number ≡ known.old.number }
 {
-    let _ = ports;
     for statement in statements {
         judge(alloc, known, statement)?;
     }

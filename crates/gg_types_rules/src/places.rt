@@ -9,12 +9,12 @@ use crate::expression::{type_of, wrong_kind};
 use crate::known::Known;
 use gg_ast::{Expr, GroundType};
 use gg_bits::Kind;
-use gg_shape::{Fault, Refusal, Word};
+use gg_shape::{CheckFault, Fault, Word};
 use gg_types::{Sort, is_width};
 use std::alloc::Global;
 
-/// Refuses the type of a port or a wire whose width is 0 or above 128.
-pub fn declared_type(line: u64, ty: GroundType) -> Result<(), Refusal>
+// Refuses the type of a port or a wire whose width is 0 or above 128.
+pub(crate) fn declared_type(line: u64, ty: GroundType) -> Result<(), CheckFault>
     ensures { Answers (width_faults line ty) result }
 {
     match ty {
@@ -23,8 +23,8 @@ pub fn declared_type(line: u64, ty: GroundType) -> Result<(), Refusal>
     }
 }
 
-/// Refuses the type of a register or of a memory's words that is a Clock, or whose width is 0 or above 128.
-pub fn stored_type(line: u64, word: Word, ty: GroundType) -> Result<(), Refusal>
+// Refuses the type of a register or of a memory's words that is a Clock, or whose width is 0 or above 128.
+pub(crate) fn stored_type(line: u64, word: Word, ty: GroundType) -> Result<(), CheckFault>
     ensures { Answers (stored_type_faults line word ty) result }
 {
     match ty {
@@ -34,23 +34,23 @@ pub fn stored_type(line: u64, word: Word, ty: GroundType) -> Result<(), Refusal>
 }
 
 // Refuses a width that is 0 or above 128.
-fn judged_width(line: u64, width: u32) -> Result<(), Refusal>
+fn judged_width(line: u64, width: u32) -> Result<(), CheckFault>
     ensures { Answers (fault_if (not (is_width width)) (WrongWidth line width)) result }
 {
     if !is_width(width) {
-        return Err(Refusal::F(Fault::WrongWidth { line, width }));
+        return Err(CheckFault::F(Fault::WrongWidth { line, width }));
     }
     Ok(())
 }
 
-/// Refuses an expression in a clock position that is not a reference of type Clock.
-pub fn clock(
+// Refuses an expression in a clock position that is not a reference of type Clock.
+pub(crate) fn clock(
     alloc: Global,
     known: &Known,
     line: u64,
     word: Word,
     value: &Expr,
-) -> Result<(), Refusal>
+) -> Result<(), CheckFault>
     ensures { Answers (clock_faults_in (roles_seen known.now) (traced_seen known.now) (owned_seen known.now) line word value.now) result }
 {
     let sort = type_of(alloc, known, line, value)?;
@@ -58,7 +58,7 @@ pub fn clock(
 }
 
 // Refuses the type of an expression in a clock position if it isn't Clock.
-fn only_clock(line: u64, word: Word, sort: Sort) -> Result<(), Refusal>
+fn only_clock(line: u64, word: Word, sort: Sort) -> Result<(), CheckFault>
     ensures { Answers (clock_position line word (Some sort)) result }
 {
     match sort {
@@ -67,14 +67,14 @@ fn only_clock(line: u64, word: Word, sort: Sort) -> Result<(), Refusal>
     }
 }
 
-/// Refuses a condition that is not `UInt<1>`.
-pub fn condition(
+// Refuses a condition that is not `UInt<1>`.
+pub(crate) fn condition(
     alloc: Global,
     known: &Known,
     line: u64,
     word: Word,
     value: &Expr,
-) -> Result<(), Refusal>
+) -> Result<(), CheckFault>
     ensures { Answers (condition_faults_in (roles_seen known.now) (traced_seen known.now) (owned_seen known.now) line word value.now) result }
 {
     let sort = type_of(alloc, known, line, value)?;
@@ -82,7 +82,7 @@ pub fn condition(
 }
 
 // Refuses the type of a condition if it isn't `UInt<1>`.
-fn only_condition(line: u64, word: Word, sort: Sort) -> Result<(), Refusal>
+fn only_condition(line: u64, word: Word, sort: Sort) -> Result<(), CheckFault>
     ensures { Answers (condition_position line word (Some sort)) result }
 {
     match sort {
@@ -91,23 +91,25 @@ fn only_condition(line: u64, word: Word, sort: Sort) -> Result<(), Refusal>
     }
 }
 
-/// Fails with the first fault of a clock and of the condition after it.
-pub fn clocked(
+// Fails with the first fault of a clock and of the condition after it.
+pub(crate) fn clocked(
     alloc: Global,
     known: &Known,
     line: u64,
     word: Word,
     tick: &Expr,
     test: &Expr,
-) -> Result<(), Refusal>
-    ensures { Answers (clock_faults_in (roles_seen known.now) (traced_seen known.now) (owned_seen known.now) line word tick.now ++ condition_faults_in (roles_seen known.now) (traced_seen known.now) (owned_seen known.now) line word test.now) result }
+) -> Result<(), CheckFault>
+    ensures { Answers (clock_faults_in (roles_seen known.now) (traced_seen known.now) (owned_seen known.now) line word tick.now
+        ++ condition_faults_in (roles_seen known.now) (traced_seen known.now) (owned_seen known.now) line word test.now)
+        result }
 {
     clock(alloc, known, line, word, tick)?;
     condition(alloc, known, line, word, test)
 }
 
-/// Refuses a value whose type can't be connected to a sink.
-pub fn connected(line: u64, word: Word, sink: Sort, source: Sort) -> Result<(), Refusal>
+// Refuses a value whose type can't be connected to a sink.
+pub(crate) fn connected(line: u64, word: Word, sink: Sort, source: Sort) -> Result<(), CheckFault>
     ensures { Answers (connected_faults line word (Some sink) (Some source)) result }
 {
     match (sink, source) {
@@ -127,14 +129,14 @@ fn connected_bits(
     sink: u32,
     source_kind: Kind,
     source: u32,
-) -> Result<(), Refusal>
+) -> Result<(), CheckFault>
     ensures { Answers (bits_connected line word sink_kind sink source_kind source) result }
 {
     if sink_kind != source_kind {
         return wrong_kind(line, word);
     }
     if source > sink {
-        return Err(Refusal::F(Fault::TooWide { line, source, sink }));
+        return Err(CheckFault::F(Fault::TooWide { line, source, sink }));
     }
     Ok(())
 }

@@ -5,8 +5,8 @@ ghost use Rattle.gg_bits.specs.ResultType.{within, shape1, type1, kinds2, shape2
 
 use gg_bits::{Bad, Kind, Op1, Op2, OpN, Ty, shifted_width};
 
-/// The type of the result of an operation on one value, or that its width is 0 or above 128.
-pub fn result1(op: Op1, kind: Kind, width: u32) -> Result<Ty, Bad>
+// The type of the result of an operation on one value, or that its width is 0 or above 128.
+pub(crate) fn result1(op: Op1, kind: Kind, width: u32) -> Result<Ty, Bad>
     ensures { shape_of result ≡ type1 op (of_kind kind width) }
 {
     match op {
@@ -21,8 +21,8 @@ pub fn result1(op: Op1, kind: Kind, width: u32) -> Result<Ty, Bad>
     }
 }
 
-/// The type of the result of an operation on two values, or what is wrong first: their kinds, then its width.
-pub fn result2(op: Op2, ka: Kind, a: u32, kb: Kind, b: u32) -> Result<Ty, Bad>
+// The type of the result of an operation on two values, or what is wrong first: their kinds, then its width.
+pub(crate) fn result2(op: Op2, ka: Kind, a: u32, kb: Kind, b: u32) -> Result<Ty, Bad>
     ensures { shape_of result ≡ type2 op (of_kind ka a) (of_kind kb b) }
 {
     if !takes_kinds(op, ka, a, kb) {
@@ -56,8 +56,8 @@ fn takes_kinds(op: Op2, ka: Kind, a: u32, kb: Kind) -> bool
     }
 }
 
-/// The type of the result of an operation with parameters, or what is wrong first: the parameters, then its width.
-pub fn result_const(op: OpN, kind: Kind, width: u32, n: u32, m: u32) -> Result<Ty, Bad>
+// The type of the result of an operation with parameters, or what is wrong first: the parameters, then its width.
+pub(crate) fn result_const(op: OpN, kind: Kind, width: u32, n: u32, m: u32) -> Result<Ty, Bad>
     ensures { shape_of result ≡ type_const op (of_kind kind width) n m }
 {
     match op {
@@ -71,8 +71,8 @@ pub fn result_const(op: OpN, kind: Kind, width: u32, n: u32, m: u32) -> Result<T
     }
 }
 
-/// The type of `mux(c, a, b)`, or what is wrong first: the kinds, then its width.
-pub fn result_mux(kc: Kind, c: u32, ka: Kind, a: u32, kb: Kind, b: u32) -> Result<Ty, Bad>
+// The type of `mux(c, a, b)`, or what is wrong first: the kinds, then its width.
+pub(crate) fn result_mux(kc: Kind, c: u32, ka: Kind, a: u32, kb: Kind, b: u32) -> Result<Ty, Bad>
     ensures { shape_of result ≡ type_mux (of_kind kc c) (of_kind ka a) (of_kind kb b) }
 {
     if kc != Kind::UInt || c != 1 || ka != kb {

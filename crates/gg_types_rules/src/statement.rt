@@ -16,12 +16,12 @@ use crate::known::Known;
 use crate::places::{clock, clocked, condition, connected, declared_type, stored_type};
 use gg_ast::{Argument, Expr, Field, GroundType, Reference, Report, Reset, Stmt, StmtKind};
 use gg_names::written;
-use gg_shape::{Fault, Refusal, Word};
+use gg_shape::{CheckFault, Fault, Word};
 use gg_types::{Own, Sort, said_depth, said_type, sort_of};
 use std::alloc::Global;
 
-/// Adds the type data of what a statement declares, or fails with the first fault of the statement's types.
-pub fn judge(alloc: Global, known: &mut Known, statement: &Stmt) -> Result<(), Refusal>
+// Adds the type data of what a statement declares, or fails with the first fault of the statement's types.
+pub(crate) fn judge(alloc: Global, known: &mut Known, statement: &Stmt) -> Result<(), CheckFault>
     requires next { AreNext (names_seen known.old) (length known.old.own.items) (name_by statement.now) }
     ensures answers { Answers (faults_of_kind (roles_seen known.old) (traced_seen known.old) (owned_seen known.old) statement.now.line statement.now.kind) result }
     ensures own { OnOk result (owned_seen known.new ≡ owned_seen known.old ++ own_by (roles_seen known.old) (traced_seen known.old) (owned_seen known.old) statement.now.kind) }
@@ -58,8 +58,8 @@ pub fn judge(alloc: Global, known: &mut Known, statement: &Stmt) -> Result<(), R
     }
 }
 
-/// Adds the type data of the next of the declared names.
-pub fn declare(known: &mut Known, own: Own) -> Result<(), Refusal>
+// Adds the type data of the next of the declared names.
+pub(crate) fn declare(known: &mut Known, own: Own) -> Result<(), CheckFault>
     ensures answers { Answers [] result }
     ensures own { (name : List ℕ) → AreNext (names_seen known.old) (length known.old.own.items) (name ∷ []) → OnOk result (owned_seen known.new ≡ owned_seen known.old ++ (name, Some own) ∷ []) }
     ensures count { OnOk result (length known.new.own.items ≡ length known.old.own.items + 1) }
@@ -69,14 +69,15 @@ pub fn declare(known: &mut Known, own: Own) -> Result<(), Refusal>
 {
     match known.own.push(own) {
         Ok(()) => Ok(()),
-        Err(_) => Err(Refusal::NoMemory),
+        Err(_) => Err(CheckFault::NoMemory),
     }
 }
 
 // Adds the type of a wire, or fails if its width is 0 or above 128.
-fn judge_wire(known: &mut Known, line: u64, ty: GroundType) -> Result<(), Refusal>
+fn judge_wire(known: &mut Known, line: u64, ty: GroundType) -> Result<(), CheckFault>
     ensures answers { Answers (width_faults line ty) result }
-    ensures own { (name : List ℕ) → AreNext (names_seen known.old) (length known.old.own.items) (name ∷ []) → OnOk result (owned_seen known.new ≡ owned_seen known.old ++ (name, Some (Single (sort_of ty))) ∷ []) }
+    ensures own { (name : List ℕ) → AreNext (names_seen known.old) (length known.old.own.items) (name ∷ [])
+        → OnOk result (owned_seen known.new ≡ owned_seen known.old ++ (name, Some (Single (sort_of ty))) ∷ []) }
     ensures count { OnOk result (length known.new.own.items ≡ length known.old.own.items + 1) }
     ensures names { known.new.names.now ≡ known.old.names.now }
     ensures number { known.new.number ≡ known.old.number }
@@ -87,9 +88,15 @@ fn judge_wire(known: &mut Known, line: u64, ty: GroundType) -> Result<(), Refusa
 }
 
 // Adds the type of a node, or fails with the first fault of its expression.
-fn judge_node(alloc: Global, known: &mut Known, line: u64, value: &Expr) -> Result<(), Refusal>
+fn judge_node(alloc: Global, known: &mut Known, line: u64, value: &Expr) -> Result<(), CheckFault>
     ensures answers { Answers (faults_in (roles_seen known.old) (traced_seen known.old) (owned_seen known.old) line value.now) result }
-    ensures own { (name : List ℕ) → AreNext (names_seen known.old) (length known.old.own.items) (name ∷ []) → OnOk result (owned_seen known.new ≡ owned_seen known.old ++ (name, option_map Single (sort_in (roles_seen known.old) (traced_seen known.old) (owned_seen known.old) value.now)) ∷ []) }
+    ensures own { (name : List ℕ) → AreNext (names_seen known.old) (length known.old.own.items) (name ∷ [])
+        → OnOk result (owned_seen known.new ≡ owned_seen known.old
+        ++ (
+          name,
+          option_map Single (sort_in (roles_seen known.old) (traced_seen known.old)
+              (owned_seen known.old) value.now),
+        ) ∷ []) }
     ensures count { OnOk result (length known.new.own.items ≡ length known.old.own.items + 1) }
     ensures names { known.new.names.now ≡ known.old.names.now }
     ensures number { known.new.number ≡ known.old.number }
@@ -100,9 +107,10 @@ fn judge_node(alloc: Global, known: &mut Known, line: u64, value: &Expr) -> Resu
 }
 
 // Adds the type and the number of a memory's words, or fails with the first fault of its fields.
-fn judge_memory(known: &mut Known, fields: &[Field]) -> Result<(), Refusal>
+fn judge_memory(known: &mut Known, fields: &[Field]) -> Result<(), CheckFault>
     ensures answers { Answers (memory_type_faults fields.now) result }
-    ensures own { (name : List ℕ) → AreNext (names_seen known.old) (length known.old.own.items) (name ∷ []) → OnOk result (owned_seen known.new ≡ owned_seen known.old ++ (name, Some (memory_own fields.now)) ∷ []) }
+    ensures own { (name : List ℕ) → AreNext (names_seen known.old) (length known.old.own.items) (name ∷ [])
+        → OnOk result (owned_seen known.new ≡ owned_seen known.old ++ (name, Some (memory_own fields.now)) ∷ []) }
     ensures count { OnOk result (length known.new.own.items ≡ length known.old.own.items + 1) }
     ensures names { known.new.names.now ≡ known.old.names.now }
     ensures number { known.new.number ≡ known.old.number }
@@ -120,9 +128,12 @@ fn judge_register(
     ty: GroundType,
     tick: &Expr,
     reset: &Option<Reset>,
-) -> Result<(), Refusal>
-    ensures answers { (name : List ℕ) → AreNext (names_seen known.old) (length known.old.own.items) (name ∷ []) → Answers (register_faults (roles_seen known.old) (traced_seen known.old) (owned_seen known.old) line name ty tick.now reset.now) result }
-    ensures own { (name : List ℕ) → AreNext (names_seen known.old) (length known.old.own.items) (name ∷ []) → OnOk result (owned_seen known.new ≡ owned_seen known.old ++ (name, Some (Single (sort_of ty))) ∷ []) }
+) -> Result<(), CheckFault>
+    ensures answers { (name : List ℕ) → AreNext (names_seen known.old) (length known.old.own.items) (name ∷ [])
+        → Answers (register_faults (roles_seen known.old) (traced_seen known.old)
+        (owned_seen known.old) line name ty tick.now reset.now) result }
+    ensures own { (name : List ℕ) → AreNext (names_seen known.old) (length known.old.own.items) (name ∷ [])
+        → OnOk result (owned_seen known.new ≡ owned_seen known.old ++ (name, Some (Single (sort_of ty))) ∷ []) }
     ensures count { OnOk result (length known.new.own.items ≡ length known.old.own.items + 1) }
     ensures names { known.new.names.now ≡ known.old.names.now }
     ensures number { known.new.number ≡ known.old.number }
@@ -141,7 +152,7 @@ fn judge_reset(
     known: &Known,
     register: Sort,
     reset: &Option<Reset>,
-) -> Result<(), Refusal>
+) -> Result<(), CheckFault>
     ensures { Answers (reset_faults (roles_seen known.now) (traced_seen known.now) (owned_seen known.now) (Some register) reset.now) result }
 {
     match reset {
@@ -162,7 +173,7 @@ fn judge_connection(
     line: u64,
     sink: &Reference,
     source: &Expr,
-) -> Result<(), Refusal>
+) -> Result<(), CheckFault>
     ensures { Answers (connection_faults (roles_seen known.now) (traced_seen known.now) (owned_seen known.now) line sink.now source.now) result }
 {
     let wide = named(alloc, known, line, sink)?;
@@ -172,12 +183,18 @@ fn judge_connection(
 
 // Refuses a Clock that is invalid.
 #[tactic(auto, using(gg_shape::proofs::FlatLemmas::refused_first))]
-fn judge_invalid(alloc: Global, known: &Known, line: u64, sink: &Reference) -> Result<(), Refusal>
-    ensures { Answers (undeclared (roles_seen known.now) (owned_seen known.now) line sink.now ++ invalid_faults line sink.now (sort_of_reference (roles_seen known.now) (owned_seen known.now) sink.now)) result }
+fn judge_invalid(
+    alloc: Global,
+    known: &Known,
+    line: u64,
+    sink: &Reference,
+) -> Result<(), CheckFault>
+    ensures { Answers (undeclared (roles_seen known.now) (owned_seen known.now) line sink.now
+        ++ invalid_faults line sink.now (sort_of_reference (roles_seen known.now) (owned_seen known.now) sink.now)) result }
 {
     match named(alloc, known, line, sink)? {
         Sort::Bits(_, _) => Ok(()),
-        Sort::Clock => Err(Refusal::F(Fault::WrongClock {
+        Sort::Clock => Err(CheckFault::F(Fault::WrongClock {
             line,
             name: written(alloc, sink)?,
         })),
@@ -193,7 +210,7 @@ fn judge_report(
     line: u64,
     report: Report,
     arguments: &[Argument],
-) -> Result<(), Refusal>
+) -> Result<(), CheckFault>
     ensures { Answers (report_faults (roles_seen known.now) (traced_seen known.now) (owned_seen known.now) line (words.Report report) arguments.now) result }
 {
     let word = Word::Report(report);
@@ -213,7 +230,7 @@ fn judge_arguments(
     known: &Known,
     line: u64,
     arguments: &[Argument],
-) -> Result<(), Refusal>
+) -> Result<(), CheckFault>
     ensures { Answers (argument_faults (roles_seen known.now) (traced_seen known.now) (owned_seen known.now) line arguments.now) result }
 {
     for argument in arguments {

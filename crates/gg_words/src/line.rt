@@ -139,7 +139,7 @@ fn with_four<'a>(alloc: Global) -> Result<Command<'a>, AllocError>
         .subcommand(demo_line(alloc)?)
 }
 
-/// The program's command line.
+// The program's command line.
 pub(crate) fn golden_line<'a>(alloc: Global) -> Result<Command<'a>, AllocError>
     ensures { IfOk result (λ c. app_of c ≡ golden_app) }
 {

@@ -5,16 +5,16 @@ ghost use Rattle.gg_words.specs.Number.{number_in};
 
 use gg_limits::CYCLE_LIMIT;
 
-/// The most workers.
+// The most workers.
 pub(crate) const MOST_WORKERS: u32 = 64;
 
-/// The latest cycle at which a snapshot is saved.
+// The latest cycle at which a snapshot is saved.
 pub(crate) const LATEST_CYCLE: u32 = CYCLE_LIMIT as u32;
 
-/// The greatest seed of a demo.
+// The greatest seed of a demo.
 pub(crate) const GREATEST_SEED: u32 = u32::MAX;
 
-/// The most stages of a demo.
+// The most stages of a demo.
 pub(crate) const MOST_STAGES: u32 = 64;
 
 // Whether all bytes of a text are decimal digits.
@@ -29,7 +29,7 @@ fn are_digits(text: &str) -> bool
     true
 }
 
-/// The number that a text spells, if it is in this range.
+// The number that a text spells, if it is in this range.
 pub(crate) fn number_in(text: &str, least: u32, most: u32) -> Option<u32>
     ensures { result ≡ number_in least most text.now }
 {

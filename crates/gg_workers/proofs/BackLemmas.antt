@@ -9,14 +9,14 @@ use Rattle.gg_net.specs.declared.shape.Shape.{Shape}
 use Rattle.gg_net.specs.Network.{Network, frame_of}
 use Rattle.gg_net.specs.Kept.{MachineAt, Kept}
 use Rattle.gg_net.specs.Queue.{Held}
-use Rattle.gg_net.specs.Seats.{hosted, seated, machines_by}
+use Rattle.gg_net.specs.Stations.{hosted, stationed, machines_by}
 use Rattle.gg_net.specs.Net.{AreListed, AreParts, joined}
 use Rattle.gg_seats.specs.Pass.{MachineWentOn, EventsDone}
 use Rattle.gg_seats.specs.Seats.{Linked, MayStand, TakeSeatOf, PutSeatOf}
 use Rattle.gg_seats.proofs.AgainLemmas.{linked-again}
 use Rattle.gg_workers.specs.declared.worker.LinkedHost.{LinkedHost}
 use Rattle.gg_workers.specs.LinkedHosts.{DoneAt, AreLinkedHosts, AreNumbered}
-use Rattle.gg_workers.specs.Apart.{WereSeated, WasJoined, WereLinked, AreSeats}
+use Rattle.gg_workers.specs.Apart.{WereStationed, WasJoined, WereLinked, AreSeats}
 use Rattle.gg_workers.specs.Work.{IsLater}
 use Rattle.gg_workers.proofs.WorkLemmas as work
 use Rattle.gg_workers.proofs.WorkLemmas.{net-again, net-later}
@@ -29,13 +29,13 @@ module _ {flow : Flow} {net : Network} {shape : Shape} {threads : List ℕ} (j :
   kept-start = subst (Kept flow) (sym j.is) j.parts.kept
 
   pub count-start : length stations ≡ length net.machines
-  count-start = sym (ap (λ (n : Network). length n.machines) j.is ∙ length-map stations (seated j.hosts))
+  count-start = sym (ap (λ (n : Network). length n.machines) j.is ∙ length-map stations (stationed j.hosts))
 
   pub listed-start : AreListed (frame_of net) stations
   listed-start = subst (λ (n : Network). AreListed (frame_of n) stations) (sym j.is) j.parts.listed
 
-  pub seated-start : WereSeated stations threads
-  seated-start = record { hosts = j.hosts; seated = j.parts.seated; sizes = j.sizes }
+  pub stationed-start : WereStationed stations threads
+  stationed-start = record { hosts = j.hosts; stationed = j.parts.stationed; sizes = j.sizes }
 
   module _ {H X S T : Type 0} (machines : H → List Machine) (takes_from : X → S → Type 0) (puts_into : X → T → Type 0) (taking : S → SeatState) (putting : T → SeatState) (links : List X) (upto : ℕ) where
     pub linked-back : (machines : List Machine) (queues : List Held) → WereLinked {S = S} {T = T} takes_from puts_into taking putting flow net links queues
@@ -54,16 +54,16 @@ module _ {flow : Flow} {net : Network} {shape : Shape} {threads : List ℕ} (j :
       as-many = count ∙ ap (λ l. length l) j.sizes ∙ length-map j.hosts (λ (l : List Machine). length l)
 
       pub stand-back : (hs : List H) → hs ≡ map (λ (b : LinkedHost H S T). b.host) bs → MayStand flow net (machines_by (map machines hs) stations)
-      stand-back hs is = subst (λ (l : List H). MayStand flow net (machines_by (map machines l) stations)) (sym is) (work.may-stand machines takes_from puts_into taking putting flow net stations links upto threads j.hosts j.parts.seated bs are numbered as-many j.sizes count-start)
+      stand-back hs is = subst (λ (l : List H). MayStand flow net (machines_by (map machines l) stations)) (sym is) (work.may-stand machines takes_from puts_into taking putting flow net stations links upto threads j.hosts j.parts.stationed bs are numbered as-many j.sizes count-start)
 
-      run : (m : ℕ) → m < length stations → work.HasRun machines takes_from puts_into taking putting flow net stations links upto threads j.hosts j.parts.seated bs are numbered as-many j.sizes m (machine_at (machines_by after stations) m)
-      run = work.has-run machines takes_from puts_into taking putting flow net stations links upto threads j.hosts j.parts.seated bs are numbered as-many j.sizes
+      run : (m : ℕ) → m < length stations → work.HasRun machines takes_from puts_into taking putting flow net stations links upto threads j.hosts j.parts.stationed bs are numbered as-many j.sizes m (machine_at (machines_by after stations) m)
+      run = work.has-run machines takes_from puts_into taking putting flow net stations links upto threads j.hosts j.parts.stationed bs are numbered as-many j.sizes
 
       after-long : length after ≡ length j.hosts
-      after-long = work.after-long machines takes_from puts_into taking putting flow net stations links upto threads j.hosts j.parts.seated bs are numbered as-many j.sizes
+      after-long = work.after-long machines takes_from puts_into taking putting flow net stations links upto threads j.hosts j.parts.stationed bs are numbered as-many j.sizes
 
       after-threads : (h : ℕ) → length (hosted after h) ≡ length (hosted j.hosts h)
-      after-threads = work.threads-same machines takes_from puts_into taking putting flow net stations links upto threads j.hosts j.parts.seated bs are numbered as-many j.sizes
+      after-threads = work.threads-same machines takes_from puts_into taking putting flow net stations links upto threads j.hosts j.parts.stationed bs are numbered as-many j.sizes
 
       both : (left : List Held) → Linked takes_from puts_into taking putting flow net (machines_by after stations) [] [] [] left → AreParts flow after shape left × IsLater flow upto net (joined after shape left)
       both left closed =

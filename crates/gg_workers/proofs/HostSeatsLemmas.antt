@@ -3,7 +3,7 @@ use Rattle.std.proofs.Common.{◌≡◌, ◌≢◌, ℕ, ◌+◌, ◌<◌, ◌�
 use Rattle.std.proofs.lemmas.Bool.{cases_eq}
 use Rattle.gg_node.specs.Machine.{Machine}
 use Rattle.gg_net.specs.declared.shape.Station.{Station}
-use Rattle.gg_net.specs.Seats.{hosted, IsSeated, AreSeated}
+use Rattle.gg_net.specs.Stations.{hosted, IsStationed, AreStationed}
 use Rattle.gg_seats.specs.declared.machine_seats.MachineSeats.{MachineSeats}
 use Rattle.gg_workers.specs.declared.host_seats.HostSeats.{HostSeats}
 use Rattle.gg_workers.specs.HostSeats.{seats_at, HasPlaces, EachMachine}
@@ -26,9 +26,9 @@ module _ {S T : Type 0} (rows : List (HostSeats S T)) (h t : ℕ) (old new : Hos
   comes within r d =
       ap (λ (x : HostSeats S T). slice_index_or x.by_thread.items t d) (get_or-set_same rows h new r inside) ∙ ap (λ l. slice_index_or l t d) e ∙ get_or-set_same old.by_thread.items t q d within
 
-module _ {S T : Type 0} (stations : List Station) (machines : List (List Machine)) (seated : AreSeated machines stations) (rows : List (HostSeats S T)) (places : HasPlaces machines rows) (m : ℕ) (known : m < length stations) (station : Station) (at : (s : Station) → slice_index_or stations m s ≡ station) where
-  here : IsSeated machines station
-  here = subst (λ (s : Station). IsSeated machines s) (at station) (seated.each m station known)
+module _ {S T : Type 0} (stations : List Station) (machines : List (List Machine)) (stationed : AreStationed machines stations) (rows : List (HostSeats S T)) (places : HasPlaces machines rows) (m : ℕ) (known : m < length stations) (station : Station) (at : (s : Station) → slice_index_or stations m s ≡ station) where
+  here : IsStationed machines station
+  here = subst (λ (s : Station). IsStationed machines s) (at station) (stationed.each m station known)
 
   pub host-within : station.host < length rows
   host-within = rw places.count here.host
@@ -52,7 +52,7 @@ module _ {S T : Type 0} (stations : List Station) (machines : List (List Machine
         pub each-kept : (from to : ℕ) → to ≤ length stations → ((k : ℕ) → from ≤ k → k < to → k ≢ m) → EachMachine P stations from to rows → EachMachine P stations from to (slice_set rows station.host new)
         each-kept from to within others each k s r d low high =
             let apart : (slice_index_or stations k s).host ≡ station.host → (slice_index_or stations k s).thread ≢ station.thread =
-            (λ host thread. others k low high (seated.alone k m s s (omega (arith, high, within)) known (host ∙ ap (λ (x : Station). x.host) (sym (at s))) (thread ∙ ap (λ (x : Station). x.thread) (sym (at s))))) in
+            (λ host thread. others k low high (stationed.alone k m s s (omega (arith, high, within)) known (host ∙ ap (λ (x : Station). x.host) (sym (at s))) (thread ∙ ap (λ (x : Station). x.thread) (sym (at s))))) in
             subst (P k (slice_index_or stations k s)) (sym (stays rows station.host station.thread old new q host-within was e (slice_index_or stations k s).host (slice_index_or stations k s).thread apart r d)) (each k s r d low high)
 
         -- one machine more

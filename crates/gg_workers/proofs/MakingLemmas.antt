@@ -9,7 +9,7 @@ use Rattle.gg_net.specs.declared.shape.Station.{Station}
 use Rattle.gg_net.specs.Network.{Network, queue_at, kind_at, frame_of}
 use Rattle.gg_net.specs.Kept.{Kept}
 use Rattle.gg_net.specs.Queue.{Held}
-use Rattle.gg_net.specs.Seats.{hosted, seated, machines_by, HasStation, AreSeated}
+use Rattle.gg_net.specs.Stations.{hosted, stationed, machines_by, HasStation, AreStationed}
 use Rattle.gg_net.specs.Net.{IsListed, AreListed}
 use Rattle.gg_seats.specs.declared.machine_seats.MachineSeats.{MachineSeats}
 use Rattle.gg_seats.specs.Seats.{Linked, AreNew}
@@ -72,22 +72,22 @@ module _ {X S T : Type 0} (takes_from : X → S → Type 0) (puts_into : X → T
               subst (λ (i : ℕ). HasNewSeats taking putting net i (slice_index_or stations i s).ins (slice_index_or stations i s).outs x machine_seats.takes.items machine_seats.puts.items) (sym full.machine) mine);
         }
 
-  module _ (machines : List (List Machine)) (seats : AreSeated machines stations) (are : net.machines ≡ machines_by machines stations) (rows : List (HostSeats S T)) (full : EachMachine (IsFilledFor take_seats put_seats) stations 0 (length stations) rows) where
+  module _ (machines : List (List Machine)) (are_stationed : AreStationed machines stations) (are : net.machines ≡ machines_by machines stations) (rows : List (HostSeats S T)) (full : EachMachine (IsFilledFor take_seats put_seats) stations 0 (length stations) rows) where
     -- the machine of each thread of a host is ready
     pub ready-thread : (h t : ℕ) (row : HostSeats S T) (machine_seats : MachineSeats S T) → h < length machines → t < length (hosted machines h)
         → ReadyAt takes_from puts_into taking putting flow net stations links upto h t (machine_at (hosted machines h) t) (slice_index_or (slice_index_or rows h row).by_thread.items t machine_seats)
     ready-thread h t row machine_seats h_in t_in =
-        let seat : HasStation stations h t = seats.whole h t h_in t_in in
-        let m : ℕ = seat.machine in
-        let first : Station = some-of stations m seat.known in
+        let found : HasStation stations h t = are_stationed.whole h t h_in t_in in
+        let m : ℕ = found.machine in
+        let first : Station = some-of stations m found.known in
         let station : Station = slice_index_or stations m first in
-        let at : (s : Station) → slice_index_or stations m s ≡ station = (λ s. get_default stations m s first seat.known) in
-        let same : seated machines station ≡ machine_at net.machines m = sym (ap (λ (l : List Machine). machine_at l m) are ∙ get_or-map (seated machines) stations m first no_machine seat.known) in
-        let ready : ReadyAt takes_from puts_into taking putting flow net stations links upto station.host station.thread (seated machines station) (seats_at rows station row machine_seats) =
-        ready-machine_seats m seat.known station at (seated machines station) same (seats_at rows station row machine_seats) (full m first row machine_seats (omega arith) seat.known) in
+        let at : (s : Station) → slice_index_or stations m s ≡ station = (λ s. get_default stations m s first found.known) in
+        let same : stationed machines station ≡ machine_at net.machines m = sym (ap (λ (l : List Machine). machine_at l m) are ∙ get_or-map (stationed machines) stations m first no_machine found.known) in
+        let ready : ReadyAt takes_from puts_into taking putting flow net stations links upto station.host station.thread (stationed machines station) (seats_at rows station row machine_seats) =
+        ready-machine_seats m found.known station at (stationed machines station) same (seats_at rows station row machine_seats) (full m first row machine_seats (omega arith) found.known) in
         let on_host : ReadyAt takes_from puts_into taking putting flow net stations links upto h station.thread (machine_at (hosted machines h) station.thread) (slice_index_or (slice_index_or rows h row).by_thread.items station.thread machine_seats) =
-        subst (λ (i : ℕ). ReadyAt takes_from puts_into taking putting flow net stations links upto i station.thread (machine_at (hosted machines i) station.thread) (slice_index_or (slice_index_or rows i row).by_thread.items station.thread machine_seats)) (seat.host first) ready in
-        subst (λ (i : ℕ). ReadyAt takes_from puts_into taking putting flow net stations links upto h i (machine_at (hosted machines h) i) (slice_index_or (slice_index_or rows h row).by_thread.items i machine_seats)) (seat.thread first) on_host
+        subst (λ (i : ℕ). ReadyAt takes_from puts_into taking putting flow net stations links upto i station.thread (machine_at (hosted machines i) station.thread) (slice_index_or (slice_index_or rows i row).by_thread.items station.thread machine_seats)) (found.host first) ready in
+        subst (λ (i : ℕ). ReadyAt takes_from puts_into taking putting flow net stations links upto h i (machine_at (hosted machines h) i) (slice_index_or (slice_index_or rows h row).by_thread.items i machine_seats)) (found.thread first) on_host
 
 -- hosts with the seats of their machines
 module _ {H S T : Type 0} (machines : H → List Machine) (P : ℕ → ℕ → Machine → MachineSeats S T → Type 0) (hosts : List H) (rows : List (HostSeats S T)) (places : HasPlaces (map machines hosts) rows) (threads : List ℕ) (counts : threads ≡ map (λ (own : List Machine). length own) (map machines hosts))

@@ -12,14 +12,14 @@ use Rattle.gg_net.specs.declared.shape.Station.{Station}
 use Rattle.gg_net.specs.Network.{Network, frame_of}
 use Rattle.gg_net.specs.Kept.{MachineAt}
 use Rattle.gg_net.specs.Queue.{Held}
-use Rattle.gg_net.specs.Seats.{hosted, seated, machines_by, IsSeated, AreSeated}
+use Rattle.gg_net.specs.Stations.{hosted, stationed, machines_by, IsStationed, AreStationed}
 use Rattle.gg_net.specs.Net.{net_of, IsNet}
 use Rattle.gg_net.proofs.PartLemmas.{frame-rejoined}
 use Rattle.gg_seats.specs.SeatLists.{AllThere, AreBack}
 use Rattle.gg_seats.specs.Pass.{HasSeats, MachineWentOn, EventsDone}
 use Rattle.gg_seats.specs.Seats.{Linked, MayStand}
 use Rattle.gg_seats.specs.declared.machine_seats.MachineSeats.{MachineSeats}
-use Rattle.gg_seats.proofs.AgainLemmas.{machine-seated}
+use Rattle.gg_seats.proofs.AgainLemmas.{machine-stationed}
 use Rattle.gg_seats.proofs.AllLemmas.{all-back, all-hold}
 use Rattle.gg_seats.proofs.EventLemmas.{some-of}
 use Rattle.gg_seats.proofs.NetLemmas.{closed-net}
@@ -30,7 +30,7 @@ use Rattle.gg_workers.specs.LinkedHosts.{DoneAt, AreLinkedHosts, AreNumbered}
 use Rattle.gg_workers.specs.Apart.{row_of, AllBack, IsOwned, AllOwned, AreSeats}
 use Rattle.gg_workers.specs.Work.{IsLater}
 
-module _ {H X S T : Type 0} (machines : H → List Machine) (takes_from : X → S → Type 0) (puts_into : X → T → Type 0) (taking : S → SeatState) (putting : T → SeatState) (flow : Flow) (net : Network) (stations : List Station) (links : List X) (upto : ℕ) (threads : List ℕ) (hosts : List (List Machine)) (placed : AreSeated hosts stations) (bs : List (LinkedHost H S T))
+module _ {H X S T : Type 0} (machines : H → List Machine) (takes_from : X → S → Type 0) (puts_into : X → T → Type 0) (taking : S → SeatState) (putting : T → SeatState) (flow : Flow) (net : Network) (stations : List Station) (links : List X) (upto : ℕ) (threads : List ℕ) (hosts : List (List Machine)) (placed : AreStationed hosts stations) (bs : List (LinkedHost H S T))
     (are : AreLinkedHosts machines threads (DoneAt takes_from puts_into taking putting flow net stations links upto) bs) (numbered : AreNumbered bs) (count : length bs ≡ length hosts) (sizes : threads ≡ map (λ (l : List Machine). length l) hosts) where
   -- the machines of the hosts after the run
   abbrev pub after : List (List Machine)
@@ -81,7 +81,7 @@ module _ {H X S T : Type 0} (machines : H → List Machine) (takes_from : X → 
     pub machine-here : machine_at now machine_seats.machine ≡ machine_at (machines (slice_index_or bs h b).host) t
     machine-here =
         let s : Station = some-of stations machine_seats.machine done-here.at.known in
-        machine-seated after stations machine_seats.machine s done-here.at.known
+        machine-stationed after stations machine_seats.machine s done-here.at.known
         ∙ ap (λ j. machine_at (hosted after j) (slice_index_or stations machine_seats.machine s).thread) (done-here.at.host s ∙ numbered h b lt)
         ∙ ap (λ j. machine_at (hosted after h) j) (done-here.at.thread s)
         ∙ ap (λ l. machine_at l t) (hosted-is h b lt)
@@ -115,10 +115,10 @@ module _ {H X S T : Type 0} (machines : H → List Machine) (takes_from : X → 
   has-machine_seats m lt =
       let e : Station = some-of stations m lt in
       let s : Station = slice_index_or stations m e in
-      let seat : IsSeated hosts s = placed.each m e lt in
-      let known : s.host < length bs = omega (arith, seat.host, count) in
+      let is_stationed : IsStationed hosts s = placed.each m e lt in
+      let known : s.host < length bs = omega (arith, is_stationed.host, count) in
       let b : LinkedHost H S T = some-of bs s.host known in
-      let there : s.thread < length (slice_index_or bs s.host b).by_thread.items = omega (arith, seat.thread, machine_seats-count s.host b known) in
+      let there : s.thread < length (slice_index_or bs s.host b).by_thread.items = omega (arith, is_stationed.thread, machine_seats-count s.host b known) in
       let d : MachineSeats S T = some-of (slice_index_or bs s.host b).by_thread.items s.thread there in
       let done = done-here s.host s.thread b d known there in
       record {
@@ -150,7 +150,7 @@ module _ {H X S T : Type 0} (machines : H → List Machine) (takes_from : X → 
   pub may-stand : length stations ≡ length net.machines → MayStand flow net now
   may-stand same =
       record {
-        long = length-map stations (seated after) ∙ same;
+        long = length-map stations (stationed after) ∙ same;
         each = λ m lt. (has-run m (omega (arith, lt, same))).own;
       }
 
@@ -211,13 +211,13 @@ module _ {X S T : Type 0} (takes_from : X → S → Type 0) (puts_into : X → T
 
     pub net-later : ((m : ℕ) → m < length stations → MachineWentOn (frame_of old) m upto (machine_at old.machines m) (machine_at (machines_by after stations) m)) → ((m : ℕ) → m < length stations → EventsDone old m upto (machine_at (machines_by after stations) m)) → IsLater flow upto old (net_of after stations wires left end)
     net-later went done =
-        let same : length old.machines ≡ length stations = length-map stations (seated hosts) in
+        let same : length old.machines ≡ length stations = length-map stations (stationed hosts) in
         let machines : List Machine = machines_by after stations in
         let tokens : List (List ℕ) = map (λ (q : Held). q.tokens) left in
         let gone = λ (m : ℕ) (lt : m < length old.machines). went m (omega (arith, lt, same)) in
         let all = λ (m : ℕ) (lt : m < length old.machines). done m (omega (arith, lt, same)) in
         record {
-          frame = frame-rejoined flow old is.kept machines tokens (length-map stations (seated after) ∙ sym same) (λ m lt. own m (omega (arith, lt, same)));
+          frame = frame-rejoined flow old is.kept machines tokens (length-map stations (stationed after) ∙ sym same) (λ m lt. own m (omega (arith, lt, same)));
           kept = net-again.kept;
           counts = record {
             cycles = cycles-rise flow old is.kept upto machines tokens gone;

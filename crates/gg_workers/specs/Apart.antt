@@ -9,7 +9,7 @@ use Rattle.gg_net.specs.declared.shape.Station.{Station}
 use Rattle.gg_net.specs.declared.shape.Shape.{Shape}
 use Rattle.gg_net.specs.Network.{Network, wire_at}
 use Rattle.gg_net.specs.Queue.{Held}
-use Rattle.gg_net.specs.Seats.{AreSeated}
+use Rattle.gg_net.specs.Stations.{AreStationed}
 use Rattle.gg_net.specs.Net.{joined, AreParts}
 use Rattle.gg_seats.specs.SeatLists.{IsBack}
 use Rattle.gg_seats.specs.Pass.{HasSeats}
@@ -65,9 +65,9 @@ module _ {X S T : Type 0} (takes_from : X → S → Type 0) (puts_into : X → T
   AllOwned stations rows = (j : ℕ) (r : HostSeats S T) → j < length rows → AreOwned stations (slice_index_or rows j r).by_thread.items
 
 -- Hosts with so many threads have these stations.
-pub record WereSeated (stations : List Station) (threads : List ℕ) : Type 0 where
+pub record WereStationed (stations : List Station) (threads : List ℕ) : Type 0 where
   pub hosts : List (List Machine)
-  pub seated : AreSeated hosts stations
+  pub stationed : AreStationed hosts stations
   pub sizes : threads ≡ map (λ (l : List Machine). length l) hosts
 
 -- A network was made of hosts with so many threads, in this shape.

@@ -5,7 +5,7 @@ use Rattle.std.specs.Vec.{vec_capacity}
 use Rattle.gg_flat.specs.Line.{value_at}
 use Rattle.gg_node.specs.Machine.{Machine}
 use Rattle.gg_net.specs.declared.shape.Station.{Station}
-use Rattle.gg_net.specs.Seats.{hosted}
+use Rattle.gg_net.specs.Stations.{hosted}
 use Rattle.gg_seats.specs.declared.machine_seats.MachineSeats.{MachineSeats}
 use Rattle.gg_workers.specs.declared.host_seats.HostSeats.{HostSeats}
 

@@ -1,10 +1,10 @@
-// Hosts are parted from the seats of their machines, and the seats are put back to their channels.
+//! Hosts are parted from the seats of their machines, and the seats are put back to their channels.
 ghost use Rattle.std.specs.Prelude.{◌≡◌, ◌≤◌, [], length, map};
 ghost use Rattle.std.specs.Vec.{vec_capacity};
 ghost use Rattle.gg_net.specs.Network.{frame_of};
 ghost use Rattle.gg_net.specs.Kept.{Kept};
 ghost use Rattle.gg_net.specs.Net.{AreListed};
-ghost use Rattle.gg_net.specs.Seats.{machines_by};
+ghost use Rattle.gg_net.specs.Stations.{machines_by};
 ghost use Rattle.gg_seats.specs.Seats.{TakeSeatOf, PutSeatOf};
 ghost use Rattle.gg_workers.specs.Apart.{row_of, consumer_in, producer_in, MachineBack, HostBack, IsOwned, AreOwned, AllOwned, AllBack};
 
@@ -51,8 +51,14 @@ fn return_machine<H: Host, L: Link, Z: Streams, E: Era>(
     requires listed { (length stations.now ≡ length E.start.machines) × AreListed (frame_of E.start) stations.now }
     requires machine_seats { IsOwned L.takes_from L.puts_into L.taking L.putting Z.flow E.start _links.now (machines_by (map H.machines _hosts.now) stations.now) stations.now machine_seats }
     requires long { (length takes.old.items ≡ length E.start.wires) × (length puts.old.items ≡ length E.start.wires) }
-    ensures takes { MachineBack (consumer_in E.start) (TakeSeatOf L.takes_from L.puts_into L.taking L.putting Z.flow E.start _links.now (machines_by (map H.machines _hosts.now) stations.now)) (length E.start.wires) machine_seats.machine takes.old.items takes.new.items }
-    ensures puts { MachineBack (producer_in E.start) (PutSeatOf L.takes_from L.puts_into L.taking L.putting Z.flow E.start _links.now (machines_by (map H.machines _hosts.now) stations.now)) (length E.start.wires) machine_seats.machine puts.old.items puts.new.items }
+    ensures takes { MachineBack (consumer_in E.start)
+        (TakeSeatOf L.takes_from L.puts_into L.taking L.putting Z.flow E.start _links.now
+        (machines_by (map H.machines _hosts.now) stations.now))
+        (length E.start.wires) machine_seats.machine takes.old.items takes.new.items }
+    ensures puts { MachineBack (producer_in E.start)
+        (PutSeatOf L.takes_from L.puts_into L.taking L.putting Z.flow E.start _links.now
+        (machines_by (map H.machines _hosts.now) stations.now))
+        (length E.start.wires) machine_seats.machine puts.old.items puts.new.items }
 {
     let MachineSeats {
         machine,
@@ -77,8 +83,14 @@ fn return_host<H: Host, L: Link, Z: Streams, E: Era>(
     requires listed { (length stations.now ≡ length E.start.machines) × AreListed (frame_of E.start) stations.now }
     requires by_thread { AreOwned L.takes_from L.puts_into L.taking L.putting Z.flow E.start links.now (machines_by (map H.machines hosts.now) stations.now) stations.now by_thread.items }
     requires long { (length takes.old.items ≡ length E.start.wires) × (length puts.old.items ≡ length E.start.wires) }
-    ensures takes { HostBack (consumer_in E.start) (TakeSeatOf L.takes_from L.puts_into L.taking L.putting Z.flow E.start links.now (machines_by (map H.machines hosts.now) stations.now)) (length E.start.wires) by_thread.items takes.old.items takes.new.items }
-    ensures puts { HostBack (producer_in E.start) (PutSeatOf L.takes_from L.puts_into L.taking L.putting Z.flow E.start links.now (machines_by (map H.machines hosts.now) stations.now)) (length E.start.wires) by_thread.items puts.old.items puts.new.items }
+    ensures takes { HostBack (consumer_in E.start)
+        (TakeSeatOf L.takes_from L.puts_into L.taking L.putting Z.flow E.start links.now
+        (machines_by (map H.machines hosts.now) stations.now))
+        (length E.start.wires) by_thread.items takes.old.items takes.new.items }
+    ensures puts { HostBack (producer_in E.start)
+        (PutSeatOf L.takes_from L.puts_into L.taking L.putting Z.flow E.start links.now
+        (machines_by (map H.machines hosts.now) stations.now))
+        (length E.start.wires) by_thread.items puts.old.items puts.new.items }
 {
     for machine_seats in by_thread {
         return_machine::<H, L, Z, E>(links, stations, hosts, machine_seats, takes, puts);
@@ -98,8 +110,14 @@ pub(crate) fn return_all<H: Host, L: Link, Z: Streams, E: Era>(
     requires listed { (length stations.now ≡ length E.start.machines) × AreListed (frame_of E.start) stations.now }
     requires rows { AllOwned L.takes_from L.puts_into L.taking L.putting Z.flow E.start links.now (machines_by (map H.machines hosts.now) stations.now) stations.now rows.items }
     requires long { (length takes.old.items ≡ length E.start.wires) × (length puts.old.items ≡ length E.start.wires) }
-    ensures takes { AllBack (consumer_in E.start) (TakeSeatOf L.takes_from L.puts_into L.taking L.putting Z.flow E.start links.now (machines_by (map H.machines hosts.now) stations.now)) (length E.start.wires) rows.items takes.old.items takes.new.items }
-    ensures puts { AllBack (producer_in E.start) (PutSeatOf L.takes_from L.puts_into L.taking L.putting Z.flow E.start links.now (machines_by (map H.machines hosts.now) stations.now)) (length E.start.wires) rows.items puts.old.items puts.new.items }
+    ensures takes { AllBack (consumer_in E.start)
+        (TakeSeatOf L.takes_from L.puts_into L.taking L.putting Z.flow E.start links.now
+        (machines_by (map H.machines hosts.now) stations.now))
+        (length E.start.wires) rows.items takes.old.items takes.new.items }
+    ensures puts { AllBack (producer_in E.start)
+        (PutSeatOf L.takes_from L.puts_into L.taking L.putting Z.flow E.start links.now
+        (machines_by (map H.machines hosts.now) stations.now))
+        (length E.start.wires) rows.items puts.old.items puts.new.items }
 {
     for row in rows {
         return_host::<H, L, Z, E>(links, stations, hosts, row.by_thread, takes, puts);

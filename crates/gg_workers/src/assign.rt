@@ -1,4 +1,4 @@
-// Hosts are assigned to workers, and collected.
+//! Hosts are assigned to workers, and collected.
 ghost use Rattle.std.specs.Prelude.{◌≡◌, ℕ, ◌+◌, ◌<◌, ◌≤◌, List, [], ◌∷◌, ◌++◌, length, map, slice_index_or, Some};
 ghost use Rattle.std.specs.Vec.{vec_len, vec_capacity};
 ghost use Rattle.gg_workers.specs.Assigned.{Assigning, Collecting};
@@ -6,6 +6,7 @@ ghost use Rattle.gg_workers.specs.declared.worker.LinkedHost.{LinkedHost};
 
 use crate::worker::{LinkedHost, Worker};
 
+// Gives a host to a worker.
 fn give<H, S, T>(worker: &mut Worker<H, S, T>, linked_host: LinkedHost<H, S, T>)
     requires { length worker.old.linked_hosts.items < vec_capacity worker.old.linked_hosts }
     ensures items { worker.new.linked_hosts.items ≡ worker.old.linked_hosts.items ++ linked_host ∷ [] }
@@ -14,6 +15,7 @@ fn give<H, S, T>(worker: &mut Worker<H, S, T>, linked_host: LinkedHost<H, S, T>)
     worker.linked_hosts.push_reserved(linked_host);
 }
 
+// Takes back the last host that a worker was given.
 fn give_back<H, S, T>(worker: &mut Worker<H, S, T>) -> Option<LinkedHost<H, S, T>>
     requires { 0 < length worker.old.linked_hosts.items }
     ensures { (s : LinkedHost H S T) × (result ≡ Some s) × (worker.old.linked_hosts.items ≡ worker.new.linked_hosts.items ++ s ∷ []) }

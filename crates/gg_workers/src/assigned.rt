@@ -1,4 +1,4 @@
-// The hosts are assigned to workers, run, and collected.
+//! The hosts are assigned to workers, run, and collected.
 ghost use Rattle.std.specs.Prelude.{◌≡◌, ℕ, ◌<◌, ◌≤◌, length, slice_index_or};
 ghost use Rattle.gg_net.specs.Network.{frame_of};
 ghost use Rattle.gg_net.specs.Kept.{Kept};

@@ -1,12 +1,12 @@
-// Hosts that have run become the parts of a network again.
+//! Hosts that have run become the parts of a network again.
 ghost use Rattle.std.specs.Prelude.{◌≡◌, ◌≤◌, [], length, map};
 ghost use Rattle.std.specs.Vec.{vec_capacity};
 ghost use Rattle.gg_net.specs.Network.{frame_of};
 ghost use Rattle.gg_net.specs.Kept.{Kept};
 ghost use Rattle.gg_net.specs.Net.{AreListed, AreParts, joined};
-ghost use Rattle.gg_net.specs.Seats.{machines_by};
+ghost use Rattle.gg_net.specs.Stations.{machines_by};
 ghost use Rattle.gg_seats.specs.Seats.{TakeSeatOf, PutSeatOf};
-ghost use Rattle.gg_workers.specs.Apart.{WereSeated, WasJoined, WereLinked, AreSeats, AreReturnLists};
+ghost use Rattle.gg_workers.specs.Apart.{WereStationed, WasJoined, WereLinked, AreSeats, AreReturnLists};
 ghost use Rattle.gg_workers.specs.LinkedHosts.{DoneAt, AreLinkedHosts, AreNumbered};
 ghost use Rattle.gg_workers.specs.Work.{IsLater};
 
@@ -36,16 +36,21 @@ fn take_apart<H: Host, L: Link, Z: Streams, E: Era>(
 )
     requires kept { Kept Z.flow E.start }
     requires listed { (length stations.now ≡ length E.start.machines) × AreListed (frame_of E.start) stations.now }
-    requires seated { WereSeated stations.now _threads.now }
+    requires stationed { WereStationed stations.now _threads.now }
     requires count { length linked_hosts.items ≡ length _threads.now }
     requires numbered { AreNumbered linked_hosts.items }
     requires linked_hosts { AreLinkedHosts H.machines _threads.now (DoneAt L.takes_from L.puts_into L.taking L.putting Z.flow E.start stations.now links.now _upto) linked_hosts.items }
     requires long { (length takes.items ≡ length E.start.wires) × (length puts.items ≡ length E.start.wires) }
     requires none { (hosts.old.items ≡ []) × (rows.items ≡ []) × (take_seats.old.items ≡ []) × (put_seats.old.items ≡ []) }
-    requires room { (length linked_hosts.items ≤ vec_capacity hosts.old) × (length linked_hosts.items ≤ vec_capacity rows) × (length E.start.wires ≤ vec_capacity take_seats.old) × (length E.start.wires ≤ vec_capacity put_seats.old) }
+    requires room { (length linked_hosts.items ≤ vec_capacity hosts.old) × (length linked_hosts.items ≤ vec_capacity rows)
+        × (length E.start.wires ≤ vec_capacity take_seats.old) × (length E.start.wires ≤ vec_capacity put_seats.old) }
     ensures hosts { hosts.new.items ≡ map (λ b. b.host) linked_hosts.items }
-    ensures takes { AreSeats (TakeSeatOf L.takes_from L.puts_into L.taking L.putting Z.flow E.start links.now (machines_by (map H.machines (map (λ b. b.host) linked_hosts.items)) stations.now)) (length E.start.wires) take_seats.new.items }
-    ensures puts { AreSeats (PutSeatOf L.takes_from L.puts_into L.taking L.putting Z.flow E.start links.now (machines_by (map H.machines (map (λ b. b.host) linked_hosts.items)) stations.now)) (length E.start.wires) put_seats.new.items }
+    ensures takes { AreSeats (TakeSeatOf L.takes_from L.puts_into L.taking L.putting Z.flow E.start links.now
+        (machines_by (map H.machines (map (λ b. b.host) linked_hosts.items)) stations.now))
+        (length E.start.wires) take_seats.new.items }
+    ensures puts { AreSeats (PutSeatOf L.takes_from L.puts_into L.taking L.putting Z.flow E.start links.now
+        (machines_by (map H.machines (map (λ b. b.host) linked_hosts.items)) stations.now))
+        (length E.start.wires) put_seats.new.items }
 {
     separate::<H, L::TakeSeat, L::PutSeat>(linked_hosts, hosts, &mut rows);
     return_all::<H, L, Z, E>(links, stations, hosts, rows, &mut takes, &mut puts);

@@ -1,9 +1,9 @@
-// The machines of a network get their seats.
+//! The machines of a network get their seats.
 ghost use Rattle.std.specs.Prelude.{◌≡◌, ℕ, ◌<◌, ◌≤◌, [], length, map, slice_index_or, slice_set};
 ghost use Rattle.std.specs.Vec.{vec_capacity};
 ghost use Rattle.gg_net.specs.Network.{frame_of};
 ghost use Rattle.gg_net.specs.Kept.{IsWired};
-ghost use Rattle.gg_net.specs.Seats.{AreSeated};
+ghost use Rattle.gg_net.specs.Stations.{AreStationed};
 ghost use Rattle.gg_net.specs.Net.{AreListed};
 ghost use Rattle.gg_seats.specs.SeatLists.{AreOnce, RowIsThere, RowTakenOut};
 ghost use Rattle.gg_seats.specs.declared.machine_seats.MachineSeats.{MachineSeats};
@@ -44,7 +44,10 @@ fn fill_row<S: Drop, T: Drop>(
     requires once { AreOnce station.now.ins × AreOnce station.now.outs }
     requires there { RowIsThere station.now.ins takes.old.items × RowIsThere station.now.outs puts.old.items }
     requires empty { (d : MachineSeats S T) → IsEmptyFor _machine station.now (slice_index_or row.old.by_thread.items station.now.thread d) }
-    ensures { (q : MachineSeats S T) × (row.new.by_thread.items ≡ slice_set row.old.by_thread.items station.now.thread q) × (q.machine ≡ _machine) × RowTakenOut station.now.ins (length station.now.ins) takes.old.items takes.new.items q.takes.items × RowTakenOut station.now.outs (length station.now.outs) puts.old.items puts.new.items q.puts.items }
+    ensures { (q : MachineSeats S T) × (row.new.by_thread.items ≡ slice_set row.old.by_thread.items station.now.thread q)
+        × (q.machine ≡ _machine) × RowTakenOut station.now.ins
+        (length station.now.ins) takes.old.items takes.new.items q.takes.items
+        × RowTakenOut station.now.outs (length station.now.outs) puts.old.items puts.new.items q.puts.items }
 {
     fill_seats(
         &mut row.by_thread[station.thread as usize],
@@ -65,7 +68,7 @@ pub(crate) fn fill_all<H: Host, S: Drop, T: Drop, E: Era>(
     puts: &mut Vec<Option<T>>,
 )
     requires wired { IsWired (frame_of E.start) }
-    requires seated { AreSeated (map H.machines _hosts.now) stations.now }
+    requires stationed { AreStationed (map H.machines _hosts.now) stations.now }
     requires listed { AreListed (frame_of E.start) stations.now }
     requires long { (length take_seats.items ≡ length E.start.wires) × (length put_seats.items ≡ length E.start.wires) }
     requires places { HasPlaces (map H.machines _hosts.now) rows.old.items }

@@ -1,6 +1,6 @@
-// Lists for the seats of the machines of a network, by host and thread.
+//! Lists for the seats of the machines of a network, by host and thread.
 ghost use Rattle.std.specs.Prelude.{◌≡◌, ℕ, ◌^◌, ◌<◌, length, map, slice_set, IfOk};
-ghost use Rattle.gg_net.specs.Seats.{AreSeated};
+ghost use Rattle.gg_net.specs.Stations.{AreStationed};
 ghost use Rattle.gg_workers.specs.HostSeats.{IsEmptyFor, HasPlaces, EachMachine};
 
 use gg_net::Station;
@@ -83,7 +83,7 @@ pub(crate) fn reserve_seats<H: Host, S: Drop, T: Drop>(
     hosts: &[H],
     stations: &[Station],
 ) -> Result<Vec<HostSeats<S, T>>, AllocError>
-    requires seated { AreSeated (map H.machines hosts.now) stations.now }
+    requires stationed { AreStationed (map H.machines hosts.now) stations.now }
     requires few { length stations.now < 2 ^ 32 }
     ensures places { IfOk result (λ rows. HasPlaces (map H.machines hosts.now) rows.items) }
     ensures each { IfOk result (λ rows. EachMachine IsEmptyFor stations.now 0 (length stations.now) rows.items) }

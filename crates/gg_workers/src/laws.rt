@@ -13,5 +13,7 @@ ghost use Rattle.gg_workers.specs.Work.{IsLater};
 /// the events that could be done, of machines below `upto`.
 pub fn later_by_steps()
     ensures steps { (flow : Flow) (upto : ℕ) (old new : Network) → Kept flow old → IsLater flow upto old new → (events : List Event) × Steps old (map (λ e. Some e) events) new }
-    ensures falls { (flow : Flow) (upto : ℕ) (old new : Network) (ready : List Event) → Kept flow old → IsLater flow upto old new → AllPairs (λ a b. a ≢ b) ready → All (λ e. Ready old e × (cycle_at old (machine_of old e) < upto)) ready → length ready + net_left new ≤ net_left old }
+    ensures falls { (flow : Flow) (upto : ℕ) (old new : Network) (ready : List Event) → Kept flow old → IsLater flow upto old new
+        → AllPairs (λ a b. a ≢ b) ready → All (λ e. Ready old e × (cycle_at old (machine_of old e) < upto)) ready
+        → length ready + net_left new ≤ net_left old }
 {}

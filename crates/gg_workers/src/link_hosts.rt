@@ -1,4 +1,4 @@
-// Hosts get the seats of their machines.
+//! Hosts get the seats of their machines.
 ghost use Rattle.std.specs.Prelude.{◌≡◌, ◌≤◌, [], length};
 ghost use Rattle.std.specs.Vec.{vec_capacity};
 ghost use Rattle.gg_workers.specs.Making.{HaveTheirSeats};

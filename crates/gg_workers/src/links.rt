@@ -1,4 +1,4 @@
-// The links of a network are opened, all or none.
+//! The links of a network are opened, all or none.
 ghost use Rattle.std.specs.Prelude.{◌≡◌, ℕ, ◌<◌, ◌≤◌, [], length, map, IfOk, MatchResult, OnOk, OnErr};
 ghost use Rattle.std.specs.Vec.{vec_capacity};
 ghost use Rattle.gg_flat.specs.Line.{value_at};

@@ -1,11 +1,11 @@
-// `Opened`: a network between its opening and its closing.
+//! `Opened`: a network between its opening and its closing.
 ghost use Rattle.std.specs.Prelude.{◌≡◌, ℕ, ◌^◌, ◌<◌, ◌≤◌, [], length, map, IfOk, IfErr};
 ghost use Rattle.std.specs.Vec.{vec_capacity};
 ghost use Rattle.gg_flat.specs.Line.{value_at};
 ghost use Rattle.gg_net.specs.Network.{takes, frame_of};
 ghost use Rattle.gg_net.specs.Kept.{Kept};
 ghost use Rattle.gg_net.specs.Net.{AreListed, AreParts, joined};
-ghost use Rattle.gg_net.specs.Seats.{machines_by, AreSeated};
+ghost use Rattle.gg_net.specs.Stations.{machines_by, AreStationed};
 ghost use Rattle.gg_seats.specs.Seats.{Linked, AreNew};
 ghost use Rattle.gg_workers.specs.Apart.{WasJoined, AreReturnLists};
 ghost use Rattle.gg_workers.specs.Making.{IsReserved};
@@ -67,12 +67,14 @@ fn reserve_all<H: Host, L: Link>(
     shape: &Shape,
     workers: u32,
 ) -> Result<Reserve<H, L, L::TakeSeat, L::PutSeat>, AllocError>
-    requires seated { AreSeated (map H.machines hosts.now) shape.now.stations.items }
+    requires stationed { AreStationed (map H.machines hosts.now) shape.now.stations.items }
     requires few { length shape.now.stations.items < 2 ^ 32 }
     ensures setup { IfOk result (λ r. IsReserved (map H.machines hosts.now) shape.now.stations.items (length shape.now.wires.items) workers r.setup) }
     ensures return_lists { IfOk result (λ r. AreReturnLists (length hosts.now) (length shape.now.wires.items) r.return_lists) }
     ensures none { IfOk result (λ r. (r.links.items ≡ []) × (r.put_seats.items ≡ []) × (r.take_seats.items ≡ [])) }
-    ensures wide { IfOk result (λ r. (length shape.now.wires.items ≤ vec_capacity r.links) × (length shape.now.wires.items ≤ vec_capacity r.put_seats) × (length shape.now.wires.items ≤ vec_capacity r.take_seats)) }
+    ensures wide { IfOk result (λ r. (length shape.now.wires.items ≤ vec_capacity r.links)
+        × (length shape.now.wires.items ≤ vec_capacity r.put_seats)
+        × (length shape.now.wires.items ≤ vec_capacity r.take_seats)) }
 {
     let channels = shape.wires.len();
     let setup = reserve(alloc, hosts, &shape.stations, channels, workers)?;
@@ -94,7 +96,7 @@ fn assemble<H: Host, L: Link, Z: Streams, E: Era>(
     workers: u32,
 ) -> Opened<H, L, L::TakeSeat, L::PutSeat>
     requires kept { Kept Z.flow E.start }
-    requires seated { AreSeated (map H.machines parts.hosts.items) parts.shape.stations.items }
+    requires stationed { AreStationed (map H.machines parts.hosts.items) parts.shape.stations.items }
     requires machines { E.start.machines ≡ machines_by (map H.machines parts.hosts.items) parts.shape.stations.items }
     requires listed { AreListed (frame_of E.start) parts.shape.stations.items }
     requires joined { WasJoined Z.flow E.start parts.shape (map (λ own. length own) (map H.machines parts.hosts.items)) }

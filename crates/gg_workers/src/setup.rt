@@ -1,9 +1,9 @@
-// What workers need: first all memory is taken, then the hosts get the seats of their machines.
+//! What workers need: first all memory is taken, then the hosts get the seats of their machines.
 ghost use Rattle.std.specs.Prelude.{◌≡◌, ℕ, ◌^◌, ◌<◌, ◌≤◌, length, map, IfOk};
 ghost use Rattle.gg_net.specs.Network.{frame_of};
 ghost use Rattle.gg_net.specs.Kept.{Kept};
 ghost use Rattle.gg_net.specs.Net.{AreListed};
-ghost use Rattle.gg_net.specs.Seats.{machines_by, AreSeated};
+ghost use Rattle.gg_net.specs.Stations.{machines_by, AreStationed};
 ghost use Rattle.gg_seats.specs.Seats.{Linked, AreNew};
 ghost use Rattle.gg_workers.specs.LinkedHosts.{ReadyAt, AreLinkedHosts, AreNumbered};
 ghost use Rattle.gg_workers.specs.Assigned.{Assigning};
@@ -76,7 +76,7 @@ pub(crate) fn reserve<H: Host, S: Drop, T: Drop>(
     channels: usize,
     workers: u32,
 ) -> Result<Setup<H, S, T>, AllocError>
-    requires seated { AreSeated (map H.machines hosts.now) stations.now }
+    requires stationed { AreStationed (map H.machines hosts.now) stations.now }
     requires few { length stations.now < 2 ^ 32 }
     ensures { IfOk result (λ setup. IsReserved (map H.machines hosts.now) stations.now channels workers setup) }
 {
@@ -109,14 +109,16 @@ pub(crate) fn make<H: Host, L: Link, Z: Streams, E: Era>(
     setup: &mut Setup<H, L::TakeSeat, L::PutSeat>,
 )
     requires kept { Kept Z.flow E.start }
-    requires seated { AreSeated (map H.machines hosts.items) stations.now }
+    requires stationed { AreStationed (map H.machines hosts.items) stations.now }
     requires machines { E.start.machines ≡ machines_by (map H.machines hosts.items) stations.now }
     requires listed { AreListed (frame_of E.start) stations.now }
     requires linked { Linked L.takes_from L.puts_into L.taking L.putting Z.flow E.start E.start.machines _links.now put_seats.items take_seats.items _queues.now }
     requires all { length _links.now ≡ length E.start.wires }
     requires new { AreNew L.taking L.putting E.start (length _links.now) put_seats.items take_seats.items }
     requires setup { IsReserved (map H.machines hosts.items) stations.now (length E.start.wires) _workers setup.old }
-    ensures linked_hosts { (upto : ℕ) → AreLinkedHosts H.machines setup.new.threads.items (ReadyAt L.takes_from L.puts_into L.taking L.putting Z.flow E.start stations.now _links.now upto) setup.new.linked_hosts.items }
+    ensures linked_hosts { (upto : ℕ) → AreLinkedHosts H.machines setup.new.threads.items
+        (ReadyAt L.takes_from L.puts_into L.taking L.putting Z.flow E.start stations.now _links.now upto)
+        setup.new.linked_hosts.items }
     ensures count { length setup.new.linked_hosts.items ≡ length hosts.items }
     ensures numbered { AreNumbered setup.new.linked_hosts.items }
     ensures threads { setup.new.threads.items ≡ map (λ own. length own) (map H.machines hosts.items) }

@@ -1,4 +1,4 @@
-// Each worker in a thread of its own.
+//! Each worker in a thread of its own.
 ghost use Rattle.std.specs.Prelude.{◌≡◌, ℕ, ◌<◌, ◌≤◌, length, map, slice_index_or, All};
 ghost use Rattle.gg_net.specs.Network.{frame_of};
 ghost use Rattle.gg_net.specs.Kept.{Kept};
@@ -31,15 +31,28 @@ pub(crate) fn run_all<R: Threads + Sync, H: Host, L: Link, Z: Streams, E: Era, G
     requires kept { Kept Z.flow E.start }
     requires here { (length links.now ≡ length E.start.wires) × (upto ≤ E.start.end) }
     requires listed { (length stations.now ≡ length E.start.machines) × AreListed (frame_of E.start) stations.now }
-    requires linked_hosts { All (λ w. AreLinkedHosts H.machines threads.now (ReadyAt L.takes_from L.puts_into L.taking L.putting Z.flow E.start stations.now links.now upto) w.linked_hosts.items) workers.old }
+    requires linked_hosts { All (λ w. AreLinkedHosts H.machines threads.now
+        (ReadyAt L.takes_from L.puts_into L.taking L.putting Z.flow E.start stations.now links.now upto)
+        w.linked_hosts.items) workers.old }
     requires falls { All (λ w. Falls (map (λ b. b.number) w.linked_hosts.items)) workers.old }
-    ensures linked_hosts { (j : ℕ) (w : _) → j < length workers.old → AreLinkedHosts H.machines threads.now (DoneAt L.takes_from L.puts_into L.taking L.putting Z.flow E.start stations.now links.now upto) (slice_index_or workers.new j w).linked_hosts.items }
-    ensures numbers { (j : ℕ) (w : _) → j < length workers.old → map (λ b. b.number) (slice_index_or workers.new j w).linked_hosts.items ≡ map (λ b. b.number) (slice_index_or workers.old j w).linked_hosts.items }
+    ensures linked_hosts { (j : ℕ) (w : _) → j < length workers.old
+        → AreLinkedHosts H.machines threads.now (DoneAt L.takes_from L.puts_into L.taking L.putting Z.flow E.start stations.now
+        links.now upto) (slice_index_or workers.new j w).linked_hosts.items }
+    ensures numbers { (j : ℕ) (w : _) → j < length workers.old
+        → map (λ b. b.number) (slice_index_or workers.new j w).linked_hosts.items
+        ≡ map (λ b. b.number) (slice_index_or workers.old j w).linked_hosts.items }
 {
     let count = workers.len();
     let turns = |number: usize, worker: &mut Worker<H, L::TakeSeat, L::PutSeat>|
-        requires { (number < 64) × Kept Z.flow E.start × (length links.now ≡ length E.start.wires) × (upto ≤ E.start.end) × (length stations.now ≡ length E.start.machines) × AreListed (frame_of E.start) stations.now × AreLinkedHosts H.machines threads.now (ReadyAt L.takes_from L.puts_into L.taking L.putting Z.flow E.start stations.now links.now upto) worker.now.linked_hosts.items × Falls (map (λ b. b.number) worker.now.linked_hosts.items) }
-        ensures { AreLinkedHosts H.machines threads.entry.now (DoneAt L.takes_from L.puts_into L.taking L.putting Z.flow E.start stations.entry.now links.entry.now upto) worker.exit.now.linked_hosts.items × (map (λ b. b.number) worker.exit.now.linked_hosts.items ≡ map (λ b. b.number) worker.entry.now.linked_hosts.items) }
+        requires { (number < 64) × Kept Z.flow E.start × (length links.now ≡ length E.start.wires) × (upto ≤ E.start.end)
+            × (length stations.now ≡ length E.start.machines) × AreListed (frame_of E.start) stations.now
+            × AreLinkedHosts H.machines threads.now (ReadyAt L.takes_from L.puts_into L.taking L.putting Z.flow E.start
+            stations.now links.now upto) worker.now.linked_hosts.items
+            × Falls (map (λ b. b.number) worker.now.linked_hosts.items) }
+        ensures { AreLinkedHosts H.machines threads.entry.now
+            (DoneAt L.takes_from L.puts_into L.taking L.putting Z.flow E.start stations.entry.now links.entry.now upto)
+            worker.exit.now.linked_hosts.items × (map (λ b. b.number) worker.exit.now.linked_hosts.items
+            ≡ map (λ b. b.number) worker.entry.now.linked_hosts.items) }
     {
         let _turns = run_worker::<H, L, Z, E, G>(
             links,

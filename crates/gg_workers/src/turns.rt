@@ -1,4 +1,4 @@
-// A worker's turns. Each is one pass over all machines of its hosts.
+//! A worker's turns. Each is one pass over all machines of its hosts.
 ghost use Rattle.std.specs.Prelude.{◌≡◌, ◌↔◌, ◌⊎◌, ℕ, ◌+◌, ◌*◌, ◌<◌, ◌≤◌, length, map, MatchBool, true};
 ghost use Rattle.gg_node.specs.Machine.{machine_at};
 ghost use Rattle.gg_net.specs.Network.{frame_of};

@@ -1,4 +1,4 @@
-// `LinkedHost` and `Worker`: what one host and one thread of the system have.
+//! `LinkedHost` and `Worker`: what one host and one thread of the system have.
 use gg_seats::MachineSeats;
 
 // A host with the seats of its machines, by thread. `S` are the seats that take, `T` those that put.

@@ -9,6 +9,7 @@ use Rattle.gg_flat.specs.Circuit.{FlatCircuit}
 use Rattle.gg_flat.specs.Models.{model_names}
 use Rattle.gg_flat.specs.Order.{IsOrder}
 use Rattle.gg_flat.specs.Tree.{InstanceTree}
+use Rattle.gg_flat.proofs.OrderLemmas.{IsLoop-none}
 use Rattle.gg_cut.specs.Bridges.{Models}
 use Rattle.gg_cut.specs.Fault.{first_fault}
 use Rattle.gg_cut.specs.Held.{AreHeldOnce}
@@ -22,8 +23,8 @@ use Rattle.gg_paths.proofs.PortLemmas.{have-paths}
 use Rattle.gg_snap_text.specs.Known.{CanSave}
 use Rattle.gg_pipe.specs.Made.{IsFresh, plan_reference}
 use Rattle.gg_bridged.specs.Whole.{CanBridge, plan_circuit}
-use Rattle.gg_bridged.proofs.FoundLemmas.{found-is}
-use Rattle.gg_bridged.proofs.PlanLemmas.{circuit-ordered}
+use Rattle.gg_order.proofs.FoundLemmas.{found-is}
+use Rattle.gg_bridged.proofs.PlanLemmas.{circuit-formed, circuit-ordered}
 use Rattle.gg_build.specs.Build.{circuit_order}
 use Rattle.gg_told.specs.Said.{Said}
 use Rattle.gg_told.specs.Order.{Order}
@@ -82,8 +83,10 @@ case-faultless {known = known} {case = case} is = faultless-first case.design ca
 pub case-ordered : {known : Known} {circuit partition : List ℕ} {capacity : ℕ} {case : Case} → IsCase known circuit partition capacity case
     → IsOrder (plan_circuit case.design case.cut.request known.models) (circuit_order case.design case.cut.request known.models)
 case-ordered {known = known} {case = case} is =
+    let circuit = plan_circuit case.design case.cut.request known.models in
+    let formed = circuit-formed case.design case.cut.request known.models (case-can is) in
     let ordered = circuit-ordered case.design case.cut.request known.models (case-can is) in
-    found-is (plan_circuit case.design case.cut.request known.models) ordered.order ordered.is
+    found-is circuit formed (λ loop around. IsLoop-none circuit ordered.order loop ordered.is around)
 
 -- the paths of its signals and of its memories have only characters of names
 pub case-paths : {known : Known} {circuit partition : List ℕ} {capacity : ℕ} {case : Case} → IsCase known circuit partition capacity case → HavePaths case.design.circuit case.design.tree

@@ -11,7 +11,6 @@ use Rattle.gg_partfile.specs.declared.request.Request.{Request}
 use Rattle.gg_cut.specs.Clocks.{stop_ratios}
 use Rattle.gg_cut.specs.Bridges.{Models}
 use Rattle.gg_cut.specs.declared.plan.Plan.{Plan}
-use Rattle.gg_net.specs.declared.event.Event.{Event}
 use Rattle.gg_marking.specs.Fits.{marking_of}
 use Rattle.gg_marking.specs.Marking.{Layout, Marking}
 use Rattle.gg_progress.specs.Measure.{all_dues}
@@ -21,13 +20,10 @@ use Rattle.gg_pipe.specs.Follows.{plan_start}
 use Rattle.gg_sound.specs.Built.{IsGiven}
 use Rattle.gg_build.specs.Build.{circuit_order, circuit_rows}
 use Rattle.gg_build.proofs.AlongLemmas.{given-along}
-use Rattle.gg_steps.specs.Naming.{Naming}
 use Rattle.gg_steps.specs.Steps.{steps_of}
 use Rattle.gg_told.specs.Said.{Said}
-use Rattle.gg_told.specs.Ends.{Puts}
-use Rattle.gg_told.specs.Endings.{Prints, PrintsOrStops}
+use Rattle.gg_told.specs.Endings.{Prints}
 use Rattle.gg_told.specs.declared.endings.Ending.{Ending}
-use Rattle.gg_told.proofs.EndingLemmas.{judged-map}
 use Rattle.gg_trace.specs.Fields.{text_lines}
 use Rattle.gg_trace.specs.Last.{halts, row_count}
 use Rattle.gg_trace.specs.Printing.{trace_text}
@@ -146,7 +142,7 @@ module _ (known : Known) (circuit partition trace : List ℕ) (capacity : ℕ) (
   few-named = few-names design request models capacity plan is.case.designed is.case.keeps (case-faultless is.case) is.case.planned
 
   -- and are those of the cut
-  named : case_naming fed.case ≡ naming_of design request
+  pub named : case_naming fed.case ≡ naming_of design request
   named = naming-is design request models capacity plan columns n rows given
 
   abbrev setting : Layout → Setting
@@ -201,7 +197,7 @@ module _ (known : Known) (circuit partition trace : List ℕ) (capacity : ℕ) (
 
     module _ (steps : List ℕ) where
       -- the text of the network that the steps lead to is that of the marking that they lead to, and the only one
-      text-so : (text : List ℕ) → IsNetText fed (fed_flow known.models fed) (steps_of (naming_of design request) steps) text
+      pub text-so : (text : List ℕ) → IsNetText fed (fed_flow known.models fed) (steps_of (naming_of design request) steps) text
           → IsReplayed known circuit partition trace capacity steps text
       text-so text goes =
           let events = steps_of (naming_of design request) steps in
@@ -222,22 +218,13 @@ module _ (known : Known) (circuit partition trace : List ℕ) (capacity : ℕ) (
           )
 
       -- what is reported for a step of the network is reported for the steps
-      stop-so : (said : Said) → TellsStop fed (fed_flow known.models fed) (naming_of design request) (steps_of (naming_of design request) steps) said → TellsSteps known circuit partition trace capacity steps said
+      pub stop-so : (said : Said) → TellsStop fed (fed_flow known.models fed) (naming_of design request) (steps_of (naming_of design request) steps) said → TellsSteps known circuit partition trace capacity steps said
       stop-so said stops =
           let events = steps_of (naming_of design request) steps in
           let own = laid design request models capacity plan columns n rows given stops.machines stops.opened.built stops.opened.kept in
           let are = are-set design request models capacity plan columns n rows given stops.machines stops.opened.built stops.opened.kept in
           let leads = stopped-so design request models capacity plan columns n rows given stops.machines stops.opened.built stops.opened.kept events stops.net stops.stopped stops.stops in
           (setting own.0, own-setting own.0 are, (stops.stopped, leads, stops.is))
-
-      -- how the steps have ended
-      pub steps-judged : {T : Type 0} {out : Puts} {r : Result T Ending} (naming : Naming) (events : List (Option Event)) → naming ≡ case_naming fed.case → events ≡ steps_of naming steps
-          → PrintsOrStops out (IsNetText fed (fed_flow known.models fed) events) (TellsStop fed (fed_flow known.models fed) naming events) r
-          → PrintsOrStops out (IsReplayed known circuit partition trace capacity steps) (TellsSteps known circuit partition trace capacity steps) r
-      steps-judged {out = out} {r = r} naming events own spelt judged =
-          judged-map text-so stop-so
-          (subst (λ (x : Naming). PrintsOrStops out (IsNetText fed (fed_flow known.models fed) (steps_of x steps)) (TellsStop fed (fed_flow known.models fed) x (steps_of x steps)) r) (own ∙ named)
-          (subst (λ (x : List (Option Event)). PrintsOrStops out (IsNetText fed (fed_flow known.models fed) x) (TellsStop fed (fed_flow known.models fed) naming x) r) spelt judged))
 
 -- ---- the text of the run
 

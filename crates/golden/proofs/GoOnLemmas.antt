@@ -21,8 +21,8 @@ use Rattle.gg_closed.proofs.FaultlessLemmas.{faultless-apart}
 use Rattle.gg_check.specs.CheckText.{channel_name}
 use Rattle.gg_net.specs.declared.event.Event.{Event}
 use Rattle.gg_net.specs.declared.event.Event.TheVariants.{Latch, Fire, Serve, Finish}
-use Rattle.gg_net.specs.declared.event.Refusal.{Refusal}
-use Rattle.gg_net.specs.declared.event.Refusal.TheVariants.{Stranger}
+use Rattle.gg_net.specs.declared.event.StepRefusal.{StepRefusal}
+use Rattle.gg_net.specs.declared.event.StepRefusal.TheVariants.{Stranger}
 use Rattle.gg_marking.specs.Goes.{after_step, replayed_from, step_refusal}
 use Rattle.gg_marking.specs.Marking.{Layout, Marking, has_port, is_channel, is_machine, opening_marking, or_next, refusal, unless}
 use Rattle.gg_marking.specs.Marking as marks
@@ -45,7 +45,7 @@ use Rattle.golden.proofs.AloneLemmas.{faultless-first}
 use Rattle.golden.proofs.CutNameLemmas.{names-usable}
 
 -- the first condition of a step that may be done holds
-first-holds : (b : Bool) (cause : Refusal) (rest : Option Refusal) → or_next (unless b cause) rest ≡ None → b ≡ true
+first-holds : (b : Bool) (cause : StepRefusal) (rest : Option StepRefusal) → or_next (unless b cause) rest ≡ None → b ≡ true
 first-holds true cause rest e = refl
 first-holds false cause rest e = absurd (cc)
 

@@ -44,4 +44,7 @@ pub mod UptoLemmas
 pub mod WholePortLemmas
 pub mod UsableLemmas
 pub mod TickLemmas
+pub mod SizeLemmas
 pub mod StopLemmas
+pub mod SteppedLemmas
+pub mod SteppedRows

@@ -10,7 +10,7 @@ use Rattle.gg_cut.specs.declared.plan.Channel.{Channel}
 use Rattle.gg_cut.specs.declared.plan.Plan.{Plan}
 use Rattle.gg_node.specs.Machine.{machine_at}
 use Rattle.gg_net.specs.declared.event.Event.{Event}
-use Rattle.gg_net.specs.declared.event.Refusal.{Refusal}
+use Rattle.gg_net.specs.declared.event.StepRefusal.{StepRefusal}
 use Rattle.gg_net.specs.declared.shape.Wire.{Wire}
 use Rattle.gg_net.specs.Kept.{Kept, list_at}
 use Rattle.gg_net.specs.Net.{IsOpening, opening_net}
@@ -57,11 +57,11 @@ module _ (plan : Plan) (columns : List (List ℕ)) (n : ℕ) (flow : Flow) (net 
       ap (λ (f : Frame). length f.wires) (steps-frame net events new steps) ∙ ap (λ (x : Network). length x.wires) opens.is ∙ length-from no_token plan 0 plan.channels
 
 -- a refused step is reported by its number and cause, however these are written
-pub told-so : (naming : Naming) (events : List (Option Event)) (ending : Ending) (step step' : ℕ) (cause cause' : Refusal) → step ≡ step' → cause ≡ cause'
+pub told-so : (naming : Naming) (events : List (Option Event)) (ending : Ending) (step step' : ℕ) (cause cause' : StepRefusal) → step ≡ step' → cause ≡ cause'
     → IfRefused (λ said. said ≡ stopped_by naming events (record { step = step; cause = cause })) ending
     → IfRefused (λ said. said ≡ stopped_by naming events (record { step = step'; cause = cause' })) ending
 told-so naming events ending step step' cause cause' e f =
-    IfRefused-map (λ said is. is ∙ ap (λ k. stopped_by naming events (record { step = k; cause = cause })) e ∙ ap (λ (x : Refusal). stopped_by naming events (record { step = step'; cause = x })) f) ending
+    IfRefused-map (λ said is. is ∙ ap (λ k. stopped_by naming events (record { step = k; cause = cause })) e ∙ ap (λ (x : StepRefusal). stopped_by naming events (record { step = step'; cause = x })) f) ending
 
 -- ---- the network of a plan on a trace
 

@@ -37,6 +37,7 @@ use Rattle.golden.specs.Promised.{JudgedAt, Promised}
 use Rattle.golden.specs.Replay.{IsReplayOf, IsSetting, Setting, TellsSteps, replayed, steps_file_for, stopped_said}
 use Rattle.golden.specs.Resumed.{CanBeResumed, HaveSamePipes, HaveSameRatios, IsRestOf, IsResumedText}
 use Rattle.golden.specs.Saved.{IsSavedText, saved_file_for}
+use Rattle.golden.specs.Stepped.{ToldByNetwork}
 use Rattle.golden.specs.Run.{IsPlainText, IsTextOf, TellsCircuit, TellsTraceFor, circuit_file, trace_file_for}
 use Rattle.golden.specs.RunText.{fed_ports}
 use Rattle.golden.specs.Words.{AskForCommand, TellsUnasked}
@@ -262,12 +263,14 @@ module _ {models : Models} {words : List (List ℕ)} {loads : Loads} {out err : 
 
     pub promised : OneMeaning → OneRequest → UniqueOrders models → OneReading → Accepted models → GoesOn models
         → ((circuit partition trace : List ℕ) (capacity workers : ℕ) → IsCommand words (Run circuit partition trace capacity workers false) → status ≡ 0 → RanNetwork (to_run models) loads out circuit partition trace capacity)
+        → ((circuit partition trace steps : List ℕ) (capacity : ℕ) → IsCommand words (Replay circuit partition trace steps capacity) → (said : Said) × Tells err status said × ToldByNetwork (to_run models) loads.files out circuit partition trace steps capacity said)
         → Promised models words loads out err status
-    promised once request unique one accepted goes network = record {
+    promised once request unique one accepted goes network steps = record {
       outcome = a;
       run_known = known once;
       run_plain = plain once request;
       by_network = network;
+      by_steps = steps;
       resumed = resumed once accepted goes;
       judged = judged;
       no_command = no_command;

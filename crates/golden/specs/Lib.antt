@@ -19,4 +19,5 @@ pub mod Run
 pub mod Runs
 pub mod RunText
 pub mod Saved
+pub mod Stepped
 pub mod Words

@@ -32,6 +32,7 @@ use Rattle.golden.specs.Run.{IsPlainText, IsTextOf}
 use Rattle.golden.specs.RunText.{fed_ports}
 use Rattle.golden.specs.Resumed.{HaveSamePipes, HaveSameRatios, IsRestOf}
 use Rattle.golden.specs.Saved.{IsSavedText}
+use Rattle.golden.specs.Stepped.{ToldByNetwork}
 use Rattle.golden.specs.Words.{AskForCommand, TellsUnasked}
 
 -- The bytes of a file, which it can have, are refused with this report, and each file before it is accepted. No load failed, and none was
@@ -62,6 +63,10 @@ pub record Promised (models : Models) (words : List (List ℕ)) (loads : Loads) 
   -- network has no other. It isn't claimed of a call with `--mono`.
   pub by_network : (circuit partition trace : List ℕ) (capacity workers : ℕ) → IsCommand words (Run circuit partition trace capacity workers false) → status ≡ 0
       → RanNetwork (to_run models) loads out circuit partition trace capacity
+  -- `replay`: at status 0 the text is also that of the network to which the steps lead the network of the cut, for the same bytes of the
+  -- files, and there is no other. At status 9 what is reported is the cause for which that network refuses the step.
+  pub by_steps : (circuit partition trace steps : List ℕ) (capacity : ℕ) → IsCommand words (Replay circuit partition trace steps capacity)
+      → (said : Said) × Tells err status said × ToldByNetwork (to_run models) loads.files out circuit partition trace steps capacity said
   -- `resume` after `save`: of known files, of which the snapshot has the text that `save` writes under a partition that asks for the same
   -- pipes and gives the clocks the same ratios, whatever its units, its memories, its direct channels and its capacities, it writes the
   -- header and the rows from the saved cycle on of the text that `run` writes.

@@ -9,8 +9,10 @@ ghost use Rattle.golden.specs.Network.{RanNetwork};
 ghost use Rattle.golden.specs.Partition.{to_run};
 ghost use Rattle.golden.specs.Outcome.{CallEnded, Answered};
 ghost use Rattle.gg_told.specs.Endings.{said_by};
-ghost use Rattle.gg_told.specs.Ends.{Reports, loads_of, puts_of};
+ghost use Rattle.gg_told.specs.Ends.{Reports, Tells, loads_of, puts_of};
 ghost use Rattle.golden.specs.Promised.{Promised};
+ghost use Rattle.golden.specs.Stepped.{ToldByNetwork};
+ghost use Rattle.gg_told.specs.Said.{Said};
 ghost use Rattle.gg_told.specs.WentOn.{ShelfWentOn, SinkWentOn};
 
 use crate::check::check;
@@ -95,6 +97,8 @@ fn do_replay<S: Shelf, K: Sink, B: Bridge + Send + Drop>(
     requires handed { AreHandedIn models.now }
     requires bridges { HaveModels B.piece B.state bridges.items models.now }
     ensures ended { (words : List (List ℕ)) → command_line.IsCommand words cmd.now → CallEnded models.now words (loads_of S.Shelf shelf.old shelf.new) (puts_of K.Sink out.old out.new) result }
+    ensures steps { (circuit partition trace steps : List ℕ) (capacity : ℕ) → cmd.now ≡ Replay circuit partition trace steps capacity
+        → ToldByNetwork (to_run models.now) (loads_of S.Shelf shelf.old shelf.new).files (puts_of K.Sink out.old out.new) circuit partition trace steps capacity (said_by result) }
     ensures shelf { ShelfWentOn S.Shelf shelf.old shelf.new }
     ensures out { SinkWentOn K.Sink out.old out.new }
 {
@@ -227,6 +231,8 @@ fn do_command<R: Threads + Sync, S: Shelf, K: Sink, G: Gate + Sync, B: Bridge + 
     ensures ended { (words : List (List ℕ)) → command_line.IsCommand words cmd.now → CallEnded models.now words (loads_of S.Shelf shelf.old shelf.new) (puts_of K.Sink out.old out.new) result }
     ensures network { (circuit partition trace : List ℕ) (capacity workers : ℕ) → cmd.now ≡ Run circuit partition trace capacity workers false → (said_by result).status ≡ 0
         → RanNetwork (to_run models.now) (loads_of S.Shelf shelf.old shelf.new) (puts_of K.Sink out.old out.new) circuit partition trace capacity }
+    ensures steps { (circuit partition trace steps : List ℕ) (capacity : ℕ) → cmd.now ≡ Replay circuit partition trace steps capacity
+        → ToldByNetwork (to_run models.now) (loads_of S.Shelf shelf.old shelf.new).files (puts_of K.Sink out.old out.new) circuit partition trace steps capacity (said_by result) }
     ensures shelf { ShelfWentOn S.Shelf shelf.old shelf.new }
     ensures out { SinkWentOn K.Sink out.old out.new }
 {
@@ -269,9 +275,13 @@ fn do_handed<R: Threads + Sync, S: Shelf, K: Sink, G: Gate + Sync, B: Bridge + S
 ) -> Result<(), Ending>
     requires asked { (words : List (List ℕ)) × command_line.IsCommand words cmd.now }
     requires bridges { CanHandIn B.piece B.state bridges.items }
-    ensures ended { (words : List (List ℕ)) → command_line.IsCommand words cmd.now → CallEnded (models_in B.piece bridges.items) words (loads_of S.Shelf shelf.old shelf.new) (puts_of K.Sink out.old out.new) result }
+    ensures ended { (words : List (List ℕ)) → command_line.IsCommand words cmd.now
+        → CallEnded (models_in B.piece bridges.items) words (loads_of S.Shelf shelf.old shelf.new)
+        (puts_of K.Sink out.old out.new) result }
     ensures network { (circuit partition trace : List ℕ) (capacity workers : ℕ) → cmd.now ≡ Run circuit partition trace capacity workers false → (said_by result).status ≡ 0
         → RanNetwork (to_run (models_in B.piece bridges.items)) (loads_of S.Shelf shelf.old shelf.new) (puts_of K.Sink out.old out.new) circuit partition trace capacity }
+    ensures steps { (circuit partition trace steps : List ℕ) (capacity : ℕ) → cmd.now ≡ Replay circuit partition trace steps capacity
+        → ToldByNetwork (to_run (models_in B.piece bridges.items)) (loads_of S.Shelf shelf.old shelf.new).files (puts_of K.Sink out.old out.new) circuit partition trace steps capacity (said_by result) }
     ensures shelf { ShelfWentOn S.Shelf shelf.old shelf.new }
     ensures out { SinkWentOn K.Sink out.old out.new }
 {
@@ -293,6 +303,8 @@ fn command<R: Threads + Sync, S: Shelf, K: Sink, G: Gate + Sync, B: Bridge + Sen
     ensures ended { CallEnded (models_in B.piece bridges.items) (texts given.now) (loads_of S.Shelf shelf.old shelf.new) (puts_of K.Sink out.old out.new) result }
     ensures network { (circuit partition trace : List ℕ) (capacity workers : ℕ) → command_line.IsCommand (texts given.now) (Run circuit partition trace capacity workers false) → (said_by result).status ≡ 0
         → RanNetwork (to_run (models_in B.piece bridges.items)) (loads_of S.Shelf shelf.old shelf.new) (puts_of K.Sink out.old out.new) circuit partition trace capacity }
+    ensures steps { (circuit partition trace steps : List ℕ) (capacity : ℕ) → command_line.IsCommand (texts given.now) (Replay circuit partition trace steps capacity)
+        → ToldByNetwork (to_run (models_in B.piece bridges.items)) (loads_of S.Shelf shelf.old shelf.new).files (puts_of K.Sink out.old out.new) circuit partition trace steps capacity (said_by result) }
     ensures shelf { ShelfWentOn S.Shelf shelf.old shelf.new }
     ensures out { SinkWentOn K.Sink out.old out.new }
 {
@@ -330,6 +342,8 @@ fn answer<R: Threads + Sync, S: Shelf, K: Sink, E: Sink, G: Gate + Sync, B: Brid
     ensures answered { Answered (models_in B.piece bridges.items) (texts words.now) (loads_of S.Shelf shelf.old shelf.new) (puts_of K.Sink out.old out.new) (puts_of E.Sink err.old err.new) result }
     ensures network { (circuit partition trace : List ℕ) (capacity workers : ℕ) → command_line.IsCommand (texts words.now) (Run circuit partition trace capacity workers false) → result ≡ 0
         → RanNetwork (to_run (models_in B.piece bridges.items)) (loads_of S.Shelf shelf.old shelf.new) (puts_of K.Sink out.old out.new) circuit partition trace capacity }
+    ensures steps { (circuit partition trace steps : List ℕ) (capacity : ℕ) → command_line.IsCommand (texts words.now) (Replay circuit partition trace steps capacity)
+        → (said : Said) × Tells (puts_of E.Sink err.old err.new) result said × ToldByNetwork (to_run (models_in B.piece bridges.items)) (loads_of S.Shelf shelf.old shelf.new).files (puts_of K.Sink out.old out.new) circuit partition trace steps capacity said }
     ensures shelf { ShelfWentOn S.Shelf shelf.old shelf.new }
     ensures out { SinkWentOn K.Sink out.old out.new }
     ensures err { SinkWentOn E.Sink err.old err.new }

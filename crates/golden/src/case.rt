@@ -18,11 +18,11 @@ use gg_told::Ending;
 use gg_trace::Trace;
 use std::alloc::Global;
 
-/// A design and a cut of it.
+// A design and a cut of it.
 pub(crate) struct Case {
-    /// The design.
+    // The design.
     pub(crate) design: Design,
-    /// The cut.
+    // The cut.
     pub(crate) cut: Cut,
 }
 
@@ -34,11 +34,11 @@ impl Drop for Case {
     }
 }
 
-/// The same, and a trace of the circuit's inputs.
+// The same, and a trace of the circuit's inputs.
 pub(crate) struct Fed {
-    /// The design and the cut.
+    // The design and the cut.
     pub(crate) case: Case,
-    /// The trace.
+    // The trace.
     pub(crate) trace: Trace,
 }
 
@@ -51,7 +51,7 @@ impl Drop for Fed {
 }
 
 impl Fed {
-    /// The same, with the first rows of the trace alone. Does not allocate.
+    // The same, with the first rows of the trace alone. Does not allocate.
     pub(crate) fn upto(self, rows: u64) -> Fed
         requires { rows ≤ self.trace.rows }
         ensures { result ≡ upto rows self }
@@ -64,7 +64,7 @@ impl Fed {
     }
 }
 
-/// Reads a circuit and a partition. These models of bridges are known, and `saves` tells whether the command is `save` or `resume`.
+// Reads a circuit and a partition. These models of bridges are known, and `saves` tells whether the command is `save` or `resume`.
 pub(crate) fn read_case<S: Shelf>(
     alloc: Global,
     shelf: &mut S,
@@ -82,13 +82,13 @@ pub(crate) fn read_case<S: Shelf>(
 {
     let design = read_circuit(alloc, shelf, circuit)?;
     let cut = read_cut(alloc, shelf, partition, &design, models, saves, capacity)?;
-    // for the design's invariant
+    // for the invariant alone
     let _ = design.order();
     let _ = design.piece();
     Ok(Case { design, cut })
 }
 
-/// Reads a circuit, a partition and a trace.
+// Reads a circuit, a partition and a trace.
 pub(crate) fn read_fed<S: Shelf>(
     alloc: Global,
     shelf: &mut S,
@@ -102,12 +102,14 @@ pub(crate) fn read_fed<S: Shelf>(
     requires capacity { IsCapacity capacity }
     requires handed { AreHandedIn models.now }
     ensures read { IfOk result (FedRead (record { models = models.now; saves = saves }) (S.files shelf.old) (asking circuit.now partition.now capacity) trace.now) }
-    ensures refused { IfErr result (IfRefused (StopsBy (loads_of S.Shelf shelf.old shelf.new) (trace_order (record { models = models.now; saves = saves }) (asking circuit.now partition.now capacity) trace.now))) }
+    ensures refused { IfErr result (IfRefused (StopsBy (loads_of S.Shelf shelf.old shelf.new)
+        (trace_order (record { models = models.now; saves = saves })
+        (asking circuit.now partition.now capacity) trace.now))) }
     ensures shelf { ShelfWentOn S.Shelf shelf.old shelf.new }
 {
     let case = read_case(alloc, shelf, circuit, partition, models, saves, capacity)?;
     let inputs = read_inputs(alloc, shelf, trace, &case.design, &case.cut.request)?;
-    // for the limit on its rows
+    // for the invariant alone: the limit on rows
     let _ = inputs.rows();
     Ok(Fed {
         case,

@@ -32,7 +32,7 @@ fn check_case<K: Sink>(alloc: Global, case: &Case, out: &mut K) -> Result<(), En
     print_plan(alloc, &case.cut.plan, out)
 }
 
-/// `check`: reads the circuit and the partition, and writes the text of the cut. These models of bridges are known.
+// `check`: reads the circuit and the partition, and writes the text of the cut. These models of bridges are known.
 pub(crate) fn check<S: Shelf, K: Sink>(
     alloc: Global,
     circuit: &str,
@@ -44,7 +44,9 @@ pub(crate) fn check<S: Shelf, K: Sink>(
 ) -> Result<(), Ending>
     requires capacity { IsCapacity capacity }
     requires handed { AreHandedIn models.now }
-    ensures ended { EndedOn (loads_of S.Shelf shelf.old shelf.new) (puts_of K.Sink out.old out.new) (read_order (to_run models.now) (asking circuit.now partition.now capacity) (λ c p. Write (IsCutTextOf c p capacity))) result }
+    ensures ended { EndedOn (loads_of S.Shelf shelf.old shelf.new) (puts_of K.Sink out.old out.new)
+        (read_order (to_run models.now) (asking circuit.now partition.now capacity)
+        (λ c p. Write (IsCutTextOf c p capacity))) result }
     ensures shelf { ShelfWentOn S.Shelf shelf.old shelf.new }
     ensures out { SinkWentOn K.Sink out.old out.new }
 {

@@ -61,7 +61,7 @@ fn print_channels<K: Sink>(
     Ok(())
 }
 
-/// Prints a plan: the lines of its machines, then the lines of its channels.
+// Prints a plan: the lines of its machines, then the lines of its channels.
 pub(crate) fn print_plan<K: Sink>(alloc: Global, plan: &Plan, out: &mut K) -> Result<(), Ending>
     ensures prints { PrintsOn K.Sink out.old out.new (plan_text plan.now) result }
     ensures out { SinkWentOn K.Sink out.old out.new }

@@ -91,7 +91,7 @@ fn demo_case(alloc: Global, size: u32) -> Result<Case, Ending>
     let design = demo_design(alloc, size)?;
     match demo_cut(alloc, size, &design) {
         Ok(cut) => {
-            // for the design's invariant
+            // for the invariant alone
             let _ = design.order();
             let _ = design.piece();
             Ok(Case { design, cut })
@@ -119,7 +119,7 @@ fn demo_inputs(
 {
     let text = trace_text(alloc, seed, size)?;
     let trace = inputs_of(alloc, text.as_bytes(), design, request)?;
-    // for the limit on the rows
+    // for the invariant alone: the limit on rows
     let _ = trace.rows();
     Ok(trace)
 }
@@ -200,13 +200,13 @@ fn print_demo<R: Threads + Sync, K: Sink, G: Gate + Sync>(
     put_summary(alloc, seed, size, &sums, out)
 }
 
-/// `demo`: makes a circuit, a partition and a trace from a seed and a number of stages, runs their network by this many
-/// workers and then by steps in the fixed order, and writes the summary.
-///
-/// # Errors
-///
-/// Returns `Unwritten` if a put fails, and `NoMemory` if an allocation fails. It would also return `NoMemory` if the texts
-/// were refused, which they never are; that is tested, not proved.
+// `demo`: makes a circuit, a partition and a trace from a seed and a number of stages, runs their network by this many
+// workers and then by steps in the fixed order, and writes the summary.
+//
+// # Errors
+//
+// Returns `Unwritten` if a put fails, and `NoMemory` if an allocation fails. It would also return `NoMemory` if the texts
+// were refused, which they never are; that is tested, not proved.
 pub(crate) fn demo<R: Threads + Sync, K: Sink, G: Gate + Sync>(
     rt: &R,
     alloc: Global,

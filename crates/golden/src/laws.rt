@@ -35,7 +35,9 @@ use gg_trace::one_first_fault;
 /// of reading only that fault is reported.
 pub fn refusals_are_exact()
     ensures exact { (models : Models) (command : Cmd) → IsExact (order_of models command) }
-    ensures unique { (models : Models) (command : Cmd) (asked : Asked) (circuit : List ℕ) → IsUnique (Load (partition_file_for (known_of models command) circuit asked.partition) (order_behind models command circuit)) }
+    ensures unique { (models : Models) (command : Cmd) (asked : Asked) (circuit : List ℕ)
+        → IsUnique (Load (partition_file_for (known_of models command) circuit asked.partition)
+        (order_behind models command circuit)) }
     ensures unread { (bytes : List ℕ) (fault : ReadFault) (said other : Said) → HasReadFault bytes fault → TellsUnread fault said → TellsCircuit bytes other → other ≡ said }
 {
     one_fault_line();

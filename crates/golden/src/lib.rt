@@ -27,6 +27,8 @@
 //! - `by_network`: the text that `run` wrote without `--mono`, with status 0, is also that of the network of the cut (`IsNetworkText`). Host
 //!   steps bring its rows to the trays of the top's outputs, and bring no others there, in whatever order they are done. So the network
 //!   has no other text. This isn't claimed of `--mono`.
+//! - `by_steps`: the text that `replay` wrote with status 0 is also that of the network to which the steps lead the network of the cut
+//!   (`IsSteppedText`), and with status 9 this network refuses the step that is told, for the cause that is told (`TellsRefusedStep`).
 //! - `resumed`: `resume` of a snapshot that `save` wrote, under any partition with the same pipes and ratios, writes the header and then the rows
 //!   from the saved cycle on of what `run` writes.
 //! - Causes (`judged`, `no_command`, `not_loaded`, `not_written`, `over`): each status except 0 and 5 has its reason. A

@@ -16,8 +16,8 @@ use gg_build::{Node, build};
 use gg_cut::Plan;
 use gg_flat::Models;
 use gg_io::Sink;
-use gg_net::{Event, Net, Refusal, Streams};
-use gg_replay::{Log, Stop, channel_line, replay};
+use gg_net::{Event, Net, StepRefusal, Streams};
+use gg_replay::{Log, ReplayFault, channel_line, replay};
 use gg_steps::{StepNames, cause_text};
 use gg_told::{Ending, end_with, make_refusal, put, text_with_number};
 use std::alloc::{AllocError, Global};
@@ -75,7 +75,7 @@ fn step_texts(
     names: &StepNames<'_>,
     event: Option<Event>,
     step: u64,
-    cause: Refusal,
+    cause: StepRefusal,
 ) -> Result<(String, String), AllocError>
     ensures { IfOk result (λ texts. (string_bytes texts.0 ≡ codes "golden: step " ++ decimal step) × (string_bytes texts.1 ≡ cause_text names.now event cause)) }
 {
@@ -100,7 +100,7 @@ fn end_at_step(
     names: &StepNames<'_>,
     events: &[Option<Event>],
     step: u64,
-    cause: Refusal,
+    cause: StepRefusal,
 ) -> Ending
     ensures { IfRefused (λ said. said ≡ stopped_by names.now events.now (record { step = step; cause = cause })) result }
 {
@@ -110,7 +110,7 @@ fn end_at_step(
     }
 }
 
-/// Does these steps on the network of the plan, and prints a line for each channel.
+// Does these steps on the network of the plan, and prints a line for each channel.
 pub(crate) fn replay_net<B: Bridge + Send + Drop, Z: Streams, K: Sink>(
     alloc: Global,
     fed: &Fed,
@@ -132,7 +132,9 @@ pub(crate) fn replay_net<B: Bridge + Send + Drop, Z: Streams, K: Sink>(
     let mut log = Log::new(alloc, net.shape().wires.as_slice())?;
     match replay(&mut net, events, &mut log) {
         Ok(()) => print_net(alloc, plan, &net, &log, out),
-        Err(Stop::Refused { step, cause }) => Err(end_at_step(alloc, names, events, step, cause)),
-        Err(Stop::NoMemory) => Err(Ending::NoMemory),
+        Err(ReplayFault::Refused { step, cause }) => Err(end_at_step(
+            alloc, names, events, step, cause,
+        )),
+        Err(ReplayFault::NoMemory) => Err(Ending::NoMemory),
     }
 }

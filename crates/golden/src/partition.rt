@@ -29,11 +29,11 @@ use gg_plan::cut;
 use gg_told::{Ending, end_with, load, make_refusal};
 use std::alloc::{AllocError, Global};
 
-/// A request without a fault for a design, and the plan of its cut.
+// A request without a fault for a design, and the plan of its cut.
 pub(crate) struct Cut {
-    /// The request.
+    // The request.
     pub(crate) request: Request,
-    /// The plan.
+    // The plan.
     pub(crate) plan: Plan,
 }
 
@@ -92,7 +92,7 @@ fn end_at_request(alloc: Global, fault: &CutFault) -> Ending
     }
 }
 
-/// The request that the bytes of a partition's file hold.
+// The request that the bytes of a partition's file hold.
 pub(crate) fn request_of(alloc: Global, bytes: &[u8]) -> Result<Request, Ending>
     requires { length bytes.now ≤ partition_limit }
     ensures asks { IfOk result (IsPartition bytes.now) }
@@ -105,7 +105,7 @@ pub(crate) fn request_of(alloc: Global, bytes: &[u8]) -> Result<Request, Ending>
     }
 }
 
-/// The cut of a design that a request asks for, if the request has no fault. These models of bridges are known.
+// The cut of a design that a request asks for, if the request has no fault. These models of bridges are known.
 pub(crate) fn cut_request(
     alloc: Global,
     design: &Design,
@@ -141,8 +141,8 @@ fn allowed(alloc: Global, cut: Cut, saves: bool) -> Result<Cut, Ending>
     Ok(cut)
 }
 
-/// The cut that the partition's file asks for, if its request has no fault for the design, and for the command: `saves` tells whether that is
-/// `save` or `resume`. These models of bridges are known.
+// The cut that the partition's file asks for, if its request has no fault for the design, and for the command: `saves` tells whether that is
+// `save` or `resume`. These models of bridges are known.
 pub(crate) fn read_cut<S: Shelf>(
     alloc: Global,
     shelf: &mut S,
@@ -156,7 +156,9 @@ pub(crate) fn read_cut<S: Shelf>(
     requires held { AreHeldOnce design.now.circuit }
     requires handed { AreHandedIn models.now }
     requires range { IsCapacity capacity }
-    ensures accepted { IfOk result (λ cut. (bytes : List ℕ) × CanBe (S.files shelf.old) (partition_file_of (record { models = models.now; saves = saves }) design.now name.now) bytes × Cuts (record { models = models.now; saves = saves }) design.now bytes cut.request) }
+    ensures accepted { IfOk result (λ cut. (bytes : List ℕ)
+        × CanBe (S.files shelf.old) (partition_file_of (record { models = models.now; saves = saves }) design.now name.now)
+        bytes × Cuts (record { models = models.now; saves = saves }) design.now bytes cut.request) }
     ensures planned { IfOk result (λ cut. IsPlan design.now cut.request models.now capacity cut.plan) }
     ensures refused { IfErr result (IfRefused (IsRefusedBy (loads_of S.Shelf shelf.old shelf.new) (partition_file_of (record { models = models.now; saves = saves }) design.now name.now))) }
     ensures shelf { ShelfWentOn S.Shelf shelf.old shelf.new }

@@ -99,7 +99,7 @@ fn open_signals(
     Ok(kept)
 }
 
-/// The inputs of a piece that no bridge of a request drives.
+// The inputs of a piece that no bridge of a request drives.
 pub(crate) fn fed_ports(
     alloc: Global,
     piece: &Piece,
@@ -143,7 +143,7 @@ fn top_outputs(alloc: Global, tree: &Tree) -> Result<Vec<u32>, AllocError>
     outputs_among(alloc, tree.instances()[0].ports.as_slice())
 }
 
-/// The top's outputs that no bridge of a request sees, as ports.
+// The top's outputs that no bridge of a request sees, as ports.
 pub(crate) fn shown_ports(
     alloc: Global,
     design: &Design,

@@ -129,9 +129,8 @@ fn print_simulated<K: Sink>(
     ensures out { SinkWentOn K.Sink out.old out.new }
 {
     runs_along();
-    // for the design's invariant on its order
+    // for the invariant alone
     let _ = design.order();
-    // and for that on its piece
     let _ = design.piece();
     let mut mono = match Mono::with_clocks(alloc, design, ratios) {
         Ok(mono) => mono,
@@ -161,9 +160,9 @@ fn print_whole<K: Sink>(
     print_simulated(alloc, &whole, ratios, stops, ports, &fed.trace, out)
 }
 
-/// Prints the run of a design on a trace, by the simulator: the top's outputs that no bridge sees, cycle by cycle, to the first cycle in
-/// which a stop acts. The clocks have the ratios that the request gives. If it asks for pipes or bridges, the reference circuit with the
-/// bridges' models is simulated.
+// Prints the run of a design on a trace, by the simulator: the top's outputs that no bridge sees, cycle by cycle, to the first cycle in
+// which a stop acts. The clocks have the ratios that the request gives. If it asks for pipes or bridges, the reference circuit with the
+// bridges' models is simulated.
 pub(crate) fn print_run<K: Sink>(
     alloc: Global,
     fed: &Fed,

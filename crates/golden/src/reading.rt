@@ -47,7 +47,7 @@ fn end_at_circuit(alloc: Global, fault: &FrontFault) -> Ending
     }
 }
 
-/// The design of the circuit's file.
+// The design of the circuit's file.
 pub(crate) fn read_circuit<S: Shelf>(
     alloc: Global,
     shelf: &mut S,
@@ -80,7 +80,7 @@ fn end_at_trace(alloc: Global, fault: TraceFault) -> Ending
     }
 }
 
-/// The columns that the bytes of a trace give the inputs of a circuit that no bridge of a request drives.
+// The columns that the bytes of a trace give the inputs of a circuit that no bridge of a request drives.
 pub(crate) fn inputs_of(
     alloc: Global,
     bytes: &[u8],
@@ -98,7 +98,7 @@ pub(crate) fn inputs_of(
     }
 }
 
-/// The columns that the trace's file gives these inputs.
+// The columns that the trace's file gives these inputs.
 pub(crate) fn read_inputs<S: Shelf>(
     alloc: Global,
     shelf: &mut S,

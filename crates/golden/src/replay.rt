@@ -1,7 +1,7 @@
 //! The command `replay`.
 ghost use Rattle.std.specs.Prelude.{◌≤◌, ℕ, List};
 ghost use Rattle.gg_told.specs.Ends.{loads_of, puts_of};
-ghost use Rattle.gg_told.specs.Endings.{EndedOn, PrintsOrStops};
+ghost use Rattle.gg_told.specs.Endings.{EndedOn, PrintsOrStops, said_by};
 ghost use Rattle.gg_told.specs.Order.{Load, Write};
 ghost use Rattle.gg_told.specs.WentOn.{ShelfWentOn, SinkWentOn};
 ghost use Rattle.gg_words.specs.Range.{IsCapacity};
@@ -11,7 +11,8 @@ ghost use Rattle.golden.specs.Case.{IsFed};
 ghost use Rattle.golden.specs.Commands.{asking, fed_order};
 ghost use Rattle.golden.specs.Handed.{AreHandedIn};
 ghost use Rattle.golden.specs.Partition.{to_run};
-ghost use Rattle.golden.specs.Replay.{IsReplayOf, IsReplayed, TellsSteps, steps_file_for};
+ghost use Rattle.golden.specs.Replay.{IsReplayOf, steps_file_for};
+ghost use Rattle.golden.specs.Stepped.{IsToldText, TellsToldStep, ToldBehind, ToldByNetwork};
 
 use crate::case::{Fed, read_fed};
 use crate::limits::STEPS_LIMIT;
@@ -39,7 +40,7 @@ fn replay_bytes<K: Sink, B: Bridge + Send + Drop>(
     requires bridges { HasBridges B.piece B.state fed.now.case.cut.plan bridges.items }
     requires fed { (circuit : List ℕ) × (partition : List ℕ) × (trace : List ℕ) × (capacity : ℕ) × IsFed (to_run models.now) circuit partition trace capacity fed.now }
     ensures ended { (circuit partition trace : List ℕ) (capacity : ℕ) → IsFed (to_run models.now) circuit partition trace capacity fed.now
-        → PrintsOrStops (puts_of K.Sink out.old out.new) (IsReplayed (to_run models.now) circuit partition trace capacity steps.now) (TellsSteps (to_run models.now) circuit partition trace capacity steps.now) result }
+        → PrintsOrStops (puts_of K.Sink out.old out.new) (IsToldText (to_run models.now) circuit partition trace capacity steps.now) (TellsToldStep (to_run models.now) circuit partition trace capacity steps.now) result }
     ensures out { SinkWentOn K.Sink out.old out.new }
 {
     one_meaning();
@@ -64,6 +65,8 @@ fn replay_steps<S: Shelf, K: Sink, B: Bridge + Send + Drop>(
     requires fed { (circuit : List ℕ) × (partition : List ℕ) × (trace : List ℕ) × (capacity : ℕ) × IsFed (to_run models.now) circuit partition trace capacity fed.now }
     ensures ended { (circuit partition trace : List ℕ) (capacity : ℕ) → IsFed (to_run models.now) circuit partition trace capacity fed.now
         → EndedOn (loads_of S.Shelf shelf.old shelf.new) (puts_of K.Sink out.old out.new) (Load (steps_file_for (to_run models.now) circuit partition trace capacity steps.now) (λ s. Write (IsReplayOf (to_run models.now) circuit partition trace capacity s))) result }
+    ensures network { (circuit partition trace : List ℕ) (capacity : ℕ) → IsFed (to_run models.now) circuit partition trace capacity fed.now
+        → ToldBehind (to_run models.now) (loads_of S.Shelf shelf.old shelf.new).files (puts_of K.Sink out.old out.new) circuit partition trace capacity steps.now (said_by result) }
     ensures shelf { ShelfWentOn S.Shelf shelf.old shelf.new }
     ensures out { SinkWentOn K.Sink out.old out.new }
 {
@@ -71,8 +74,8 @@ fn replay_steps<S: Shelf, K: Sink, B: Bridge + Send + Drop>(
     replay_bytes(alloc, fed, models, bridges, bytes.as_slice(), out)
 }
 
-/// `replay`: reads the circuit, the partition, the trace and the steps, does the steps on the network, and writes a
-/// line for each channel. `models` are those of the bridges.
+// `replay`: reads the circuit, the partition, the trace and the steps, does the steps on the network, and writes a
+// line for each channel. `models` are those of the bridges.
 pub(crate) fn replay<S: Shelf, K: Sink, B: Bridge + Send + Drop>(
     alloc: Global,
     circuit: &str,
@@ -88,7 +91,12 @@ pub(crate) fn replay<S: Shelf, K: Sink, B: Bridge + Send + Drop>(
     requires capacity { IsCapacity capacity }
     requires handed { AreHandedIn models.now }
     requires bridges { HaveModels B.piece B.state bridges.items models.now }
-    ensures ended { EndedOn (loads_of S.Shelf shelf.old shelf.new) (puts_of K.Sink out.old out.new) (fed_order (to_run models.now) (asking circuit.now partition.now capacity) trace.now (λ c p t. Load (steps_file_for (to_run models.now) c p t capacity steps.now) (λ s. Write (IsReplayOf (to_run models.now) c p t capacity s)))) result }
+    ensures ended { EndedOn (loads_of S.Shelf shelf.old shelf.new) (puts_of K.Sink out.old out.new)
+        (fed_order (to_run models.now) (asking circuit.now partition.now capacity) trace.now
+        (λ c p t. Load (steps_file_for (to_run models.now) c p t capacity steps.now)
+        (λ s. Write (IsReplayOf (to_run models.now) c p t capacity s)))) result }
+    ensures network { ToldByNetwork (to_run models.now) (loads_of S.Shelf shelf.old shelf.new).files
+        (puts_of K.Sink out.old out.new) circuit.now partition.now trace.now steps.now capacity (said_by result) }
     ensures shelf { ShelfWentOn S.Shelf shelf.old shelf.new }
     ensures out { SinkWentOn K.Sink out.old out.new }
 {

@@ -87,7 +87,9 @@ fn print_since<R: Threads + Sync, Z: Streams, K: Sink, G: Gate + Sync>(
     gate: &G,
 ) -> Result<(), Ending>
     requires few { workers ≤ 64 }
-    requires run { (start : Start) × (can : CanBegin fed.now.case.cut.plan fed.now.case.design snap.cycle snap.state start fed.now.trace.columns fed.now.trace.rows Z.flow) × (length ports.now ≤ length (plan_circuit can.run.design can.run.request can.run.models).outs) }
+    requires run { (start : Start) × (can : CanBegin fed.now.case.cut.plan fed.now.case.design snap.cycle snap.state start
+        fed.now.trace.columns fed.now.trace.rows Z.flow)
+        × (length ports.now ≤ length (plan_circuit can.run.design can.run.request can.run.models).outs) }
     requires within { snap.cycle ≤ fed.now.trace.rows }
     ensures prints { (start : Start) (can : CanBegin fed.now.case.cut.plan fed.now.case.design snap.entry.cycle snap.entry.state start fed.now.trace.columns fed.now.trace.rows Z.flow)
         → PrintsOn K.Sink out.old out.new (text_since (plan_stops can.run.design can.run.request) (plan_circuit can.run.design can.run.request can.run.models) ports.now can.run.rows snap.entry.cycle (fed.now.trace.rows - snap.entry.cycle)) result }
@@ -185,8 +187,8 @@ fn resume_fed<R: Threads + Sync, S: Shelf, K: Sink, G: Gate + Sync>(
     resume_bytes(rt, alloc, fed, models, bytes, workers, out, gate)
 }
 
-/// `resume`: reads the circuit, the partition, the trace and the snapshot, and writes the text of the run of the circuit with the pipes
-/// that the partition asks for, from the snapshot on. These models of bridges are known, but none may be asked for.
+// `resume`: reads the circuit, the partition, the trace and the snapshot, and writes the text of the run of the circuit with the pipes
+// that the partition asks for, from the snapshot on. These models of bridges are known, but none may be asked for.
 pub(crate) fn resume<R: Threads + Sync, S: Shelf, K: Sink, G: Gate + Sync>(
     rt: &R,
     alloc: Global,
@@ -204,7 +206,10 @@ pub(crate) fn resume<R: Threads + Sync, S: Shelf, K: Sink, G: Gate + Sync>(
     requires capacity { IsCapacity capacity }
     requires few { workers ≤ 64 }
     requires handed { AreHandedIn models.now }
-    ensures ended { EndedOn (loads_of S.Shelf shelf.old shelf.new) (puts_of K.Sink out.old out.new) (fed_order (to_save models.now) (asking circuit.now partition.now capacity) trace.now (λ c p t. Load (snap_file_for (to_save models.now) c p t snap.now) (λ s. Write (IsResumedText (to_save models.now) c p t s)))) result }
+    ensures ended { EndedOn (loads_of S.Shelf shelf.old shelf.new) (puts_of K.Sink out.old out.new)
+        (fed_order (to_save models.now) (asking circuit.now partition.now capacity) trace.now
+        (λ c p t. Load (snap_file_for (to_save models.now) c p t snap.now)
+        (λ s. Write (IsResumedText (to_save models.now) c p t s)))) result }
     ensures shelf { ShelfWentOn S.Shelf shelf.old shelf.new }
     ensures out { SinkWentOn K.Sink out.old out.new }
 {

@@ -53,9 +53,9 @@ fn print_text<R: Threads + Sync, B: Bridge + Send + Drop, K: Sink, G: Gate + Syn
     }
 }
 
-/// `run`: reads the circuit, the partition and the trace, and writes the text of the run of the circuit with the pipes and the bridges that
-/// the partition asks for: by the simulator if `mono`, and else from the network of the cut, which this many workers run. `models` are
-/// those of the bridges.
+// `run`: reads the circuit, the partition and the trace, and writes the text of the run of the circuit with the pipes and the bridges that
+// the partition asks for: by the simulator if `mono`, and else from the network of the cut, which this many workers run. `models` are
+// those of the bridges.
 pub(crate) fn run<R: Threads + Sync, S: Shelf, K: Sink, G: Gate + Sync, B: Bridge + Send + Drop>(
     rt: &R,
     alloc: Global,
@@ -75,8 +75,12 @@ pub(crate) fn run<R: Threads + Sync, S: Shelf, K: Sink, G: Gate + Sync, B: Bridg
     requires few { workers ≤ 64 }
     requires handed { AreHandedIn models.now }
     requires bridges { HaveModels B.piece B.state bridges.items models.now }
-    ensures ended { EndedOn (loads_of S.Shelf shelf.old shelf.new) (puts_of K.Sink out.old out.new) (fed_order (to_run models.now) (asking circuit.now partition.now capacity) trace.now (λ c p t. Write (IsTextOf (to_run models.now) c p t))) result }
-    ensures network { mono ≡ false → (said_by result).status ≡ 0 → RanNetwork (to_run models.now) (loads_of S.Shelf shelf.old shelf.new) (puts_of K.Sink out.old out.new) circuit.now partition.now trace.now capacity }
+    ensures ended { EndedOn (loads_of S.Shelf shelf.old shelf.new) (puts_of K.Sink out.old out.new)
+        (fed_order (to_run models.now) (asking circuit.now partition.now capacity) trace.now
+        (λ c p t. Write (IsTextOf (to_run models.now) c p t))) result }
+    ensures network { mono ≡ false → (said_by result).status ≡ 0
+        → RanNetwork (to_run models.now) (loads_of S.Shelf shelf.old shelf.new)
+        (puts_of K.Sink out.old out.new) circuit.now partition.now trace.now capacity }
     ensures shelf { ShelfWentOn S.Shelf shelf.old shelf.new }
     ensures out { SinkWentOn K.Sink out.old out.new }
 {

@@ -52,7 +52,9 @@ fn run_upto<'f, R: Threads + Sync, Z: Streams, G: Gate + Sync>(
     requires case { (models : Models) × (circuit : List ℕ) × (partition : List ℕ) × (capacity : ℕ) × IsCase (to_save models) circuit partition capacity fed.now.case }
     requires run { (run : IsToReplay fed.now Z.flow) × (run.design ≡ fed.now.case.design) × (run.request ≡ fed.now.case.cut.request) }
     ensures first { IfOk result (λ r. (run : IsToReplay fed.now Z.flow) → run.design ≡ fed.now.case.design → run.request ≡ fed.now.case.cut.request → FindsStop fed.now run cycles r.1) }
-    ensures stands { IfOk result (λ r. r.1 ≡ None → (run : IsToReplay fed.now Z.flow) → StandsAt fed.now.case.cut.plan (plan_start run.design run.request) (run_token (run_from_zeros run)) fed.now.trace.columns fed.now.trace.rows fed.now.trace.rows r.0) }
+    ensures stands { IfOk result (λ r. r.1 ≡ None → (run : IsToReplay fed.now Z.flow)
+        → StandsAt fed.now.case.cut.plan (plan_start run.design run.request)
+        (run_token (run_from_zeros run)) fed.now.trace.columns fed.now.trace.rows fed.now.trace.rows r.0) }
     ensures refused { IfErr result (λ ending. ending ≡ Ending.NoMemory) }
 {
     let design = &fed.case.design;
@@ -112,7 +114,8 @@ fn text_upto<R: Threads + Sync, Z: Streams, G: Gate + Sync>(
     ensures none { IfOk result (λ text. (run : IsToReplay fed.now Z.flow) → run.design ≡ fed.now.case.design → run.request ≡ fed.now.case.cut.request → FindsStop fed.now run cycles None) }
     ensures within { IfOk result (λ text. at ≤ cycles) }
     ensures text { IfOk result (λ text. (run : IsToReplay fed.now Z.flow) → run.design ≡ fed.now.case.design → run.request ≡ fed.now.case.cut.request → text ≡ text_after fed.now run) }
-    ensures refused { IfErr result (IfRefused (λ said. (run : IsToReplay fed.now Z.flow) → run.design ≡ fed.now.case.design → run.request ≡ fed.now.case.cut.request → TellsEarly fed.now run cycles at said)) }
+    ensures refused { IfErr result (IfRefused (λ said. (run : IsToReplay fed.now Z.flow) → run.design ≡ fed.now.case.design
+        → run.request ≡ fed.now.case.cut.request → TellsEarly fed.now run cycles at said)) }
 {
     let (net, stop) = run_upto::<R, Z, G>(rt, alloc, fed, cycles, workers, gate)?;
     if let Some(stop) = stop {
@@ -138,7 +141,9 @@ fn save_upto<R: Threads + Sync, K: Sink, G: Gate + Sync>(
     gate: &G,
 ) -> Result<(), Ending>
     requires few { workers ≤ 64 }
-    requires fed { (circuit : List ℕ) × (partition : List ℕ) × (trace : List ℕ) × (capacity : ℕ) × (whole : Fed) × IsFed (to_save models.now) circuit partition trace capacity whole × (cycles ≡ whole.trace.rows) × IsUpto whole at fed.now }
+    requires fed { (circuit : List ℕ) × (partition : List ℕ) × (trace : List ℕ) × (capacity : ℕ) × (whole : Fed)
+        × IsFed (to_save models.now) circuit partition trace capacity whole × (cycles ≡ whole.trace.rows)
+        × IsUpto whole at fed.now }
     ensures ended { (circuit partition trace : List ℕ) (capacity : ℕ) (whole : Fed) → IsFed (to_save models.now) circuit partition trace capacity whole → cycles ≡ whole.trace.rows → IsUpto whole at fed.now
         → PrintsOrStops (puts_of K.Sink out.old out.new) (λ text. CanBeSaved (to_save models.now) circuit partition at trace × IsOnly (IsSavedText (to_save models.now) circuit partition at trace) text) (TellsFew (to_save models.now) circuit partition at trace) result }
     ensures out { SinkWentOn K.Sink out.old out.new }
@@ -170,8 +175,8 @@ fn save_fed<R: Threads + Sync, K: Sink, G: Gate + Sync>(
     save_upto(rt, alloc, &fed, models, cycles, at, workers, out, gate)
 }
 
-/// `save`: reads the circuit, the partition and the trace, runs the network of the cut up to cycle `at`, and writes the snapshot of the
-/// state of the reference circuit before that cycle. These models of bridges are known, but none may be asked for.
+// `save`: reads the circuit, the partition and the trace, runs the network of the cut up to cycle `at`, and writes the snapshot of the
+// state of the reference circuit before that cycle. These models of bridges are known, but none may be asked for.
 pub(crate) fn save<R: Threads + Sync, S: Shelf, K: Sink, G: Gate + Sync>(
     rt: &R,
     alloc: Global,
@@ -189,7 +194,10 @@ pub(crate) fn save<R: Threads + Sync, S: Shelf, K: Sink, G: Gate + Sync>(
     requires capacity { IsCapacity capacity }
     requires few { workers ≤ 64 }
     requires handed { AreHandedIn models.now }
-    ensures ended { EndedOn (loads_of S.Shelf shelf.old shelf.new) (puts_of K.Sink out.old out.new) (read_order (to_save models.now) (asking circuit.now partition.now capacity) (λ c p. Load (saved_file_for (to_save models.now) c p at trace.now) (λ t. Write (IsSavedText (to_save models.now) c p at t)))) result }
+    ensures ended { EndedOn (loads_of S.Shelf shelf.old shelf.new) (puts_of K.Sink out.old out.new)
+        (read_order (to_save models.now) (asking circuit.now partition.now capacity)
+        (λ c p. Load (saved_file_for (to_save models.now) c p at trace.now)
+        (λ t. Write (IsSavedText (to_save models.now) c p at t)))) result }
     ensures shelf { ShelfWentOn S.Shelf shelf.old shelf.new }
     ensures out { SinkWentOn K.Sink out.old out.new }
 {

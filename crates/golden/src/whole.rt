@@ -1,5 +1,5 @@
 //! The reference circuit of a case with the models of its bridges.
-ghost use Rattle.std.specs.Prelude.{◌≡◌, ◌<◌, ◌+◌, ◌^◌, List, ℕ, All, IfOk, Some, length, true};
+ghost use Rattle.std.specs.Prelude.{◌≡◌, List, ℕ, All, IfOk, Some};
 ghost use Rattle.gg_bridge.specs.Ports.{CanStand, joined_at};
 ghost use Rattle.gg_bridged.specs.Whole.{CanStandAll, plan_circuit, with_bridges};
 ghost use Rattle.gg_cut.specs.Bridges.{model_of};
@@ -19,24 +19,12 @@ use gg_partfile::BridgeEntry;
 use gg_piped::pipe;
 use std::alloc::{AllocError, Global};
 
-// Whether numbers of 32 bits suffice for the signals and the channels of a case together.
-fn has_room(case: &Case) -> bool
-    ensures { result ≡ true → length case.now.design.circuit.signals + length case.now.cut.plan.channels < 2 ^ 32 }
-{
-    let signals = case.design.piece().signal_count() as u64;
-    let channels = case.cut.plan.channels.as_slice().len() as u64;
-    signals.saturating_add(channels) < 4_294_967_296
-}
-
-/// The reference circuit of a case, with an order and the design's tree.
+// The reference circuit of a case, with an order and the design's tree.
 pub(crate) fn reference_of(alloc: Global, case: &Case) -> Result<Design, AllocError>
     requires { (known : Known) × (circuit : List ℕ) × (partition : List ℕ) × (capacity : ℕ) × IsCase known circuit partition capacity case.now }
     ensures circuit { IfOk result (λ made. made.circuit ≡ plan_reference case.now.design case.now.cut.request) }
     ensures tree { IfOk result (λ made. made.tree ≡ case.now.design.tree) }
 {
-    if !has_room(case) {
-        return Err(AllocError);
-    }
     let made = pipe(alloc, &case.design, &case.cut.plan)?;
     Ok(made)
 }
@@ -45,6 +33,7 @@ pub(crate) fn reference_of(alloc: Global, case: &Case) -> Result<Design, AllocEr
 fn place_of(models: &Models, name: &Name) -> Option<usize>
     ensures { result ≡ place_of (model_names models.now) name.now }
 {
+    // for the invariant alone
     let _ = models.len();
     models.find(name)
 }
@@ -111,7 +100,7 @@ fn joined_all(
     Ok(made)
 }
 
-/// The circuit that a case's network computes, with an order: the reference circuit with the models of the request's bridges.
+// The circuit that a case's network computes, with an order: the reference circuit with the models of the request's bridges.
 pub(crate) fn whole_of(alloc: Global, models: &Models, case: &Case) -> Result<Design, AllocError>
     requires { (circuit : List ℕ) × (partition : List ℕ) × (capacity : ℕ) × IsCase (to_run models.now) circuit partition capacity case.now }
     ensures { IfOk result (λ made. made.circuit ≡ plan_circuit case.now.design case.now.cut.request models.now) }

@@ -59,9 +59,9 @@ fn print_flow<R: Threads + Sync, B: Bridge + Send + Drop, Z: Streams, K: Sink, G
     )
 }
 
-/// Prints the run of a design on a trace, with its pipes, clocks and bridges, from the network of the plan: the top's outputs that no bridge
-/// sees, cycle by cycle, to the first cycle in which a stop acts. The network is run by this many workers. Host steps bring the rows to its
-/// trays.
+// Prints the run of a design on a trace, with its pipes, clocks and bridges, from the network of the plan: the top's outputs that no bridge
+// sees, cycle by cycle, to the first cycle in which a stop acts. The network is run by this many workers. Host steps bring the rows to its
+// trays.
 pub(crate) fn print_fed<R: Threads + Sync, B: Bridge + Send + Drop, K: Sink, G: Gate + Sync>(
     rt: &R,
     alloc: Global,

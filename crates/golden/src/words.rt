@@ -72,7 +72,7 @@ fn end_at_number(alloc: Global, value: &str) -> Ending
     ))
 }
 
-/// The ending for words with this fault.
+// The ending for words with this fault.
 pub(crate) fn end_at_words(alloc: Global, fault: &WordFault) -> Ending
     ensures { IfRefused (λ said. (fault.now ≢ WordFault.NoMemory) × TellsWords fault.now said) result }
 {

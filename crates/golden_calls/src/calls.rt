@@ -19,6 +19,10 @@ pub const RUN: &str = "golden run k1.fir p.json k1.trace";
 pub const CHECK: &str = "golden check k1.fir p.json";
 
 /// These files under the names that a call gives.
+///
+/// # Errors
+///
+/// Returns `AllocError` if an allocation fails.
 pub fn files_of(
     alloc: Global,
     circuit: &[u8],
@@ -33,6 +37,10 @@ pub fn files_of(
 }
 
 /// The counter's files.
+///
+/// # Errors
+///
+/// Returns `AllocError` if an allocation fails.
 pub fn counter_files(alloc: Global) -> Result<MemFiles, AllocError> {
     files_of(alloc, COUNTER.as_bytes(), b"{}", TRACE.as_bytes())
 }
@@ -97,6 +105,10 @@ impl Answer {
 }
 
 /// The words of a call, of a line that parts them by blanks.
+///
+/// # Errors
+///
+/// Returns `AllocError` if an allocation fails.
 pub fn words_of(alloc: Global, line: &str) -> Result<Vec<String>, AllocError> {
     let mut words = Vec::new(alloc);
     for word in line.split(' ') {
@@ -183,6 +195,10 @@ fn call_with<R: Threads + Sync, S: Shelf, K: Sink, E: Sink>(
 
 /// A call of `golden_with` with these words, on this shelf and these outputs. Five echoes are handed in: `echo1`, `echo8`, `other8`, `echo32` and
 /// `echo64`, of as many bits. Returns the status.
+///
+/// # Errors
+///
+/// Returns `AllocError` if an allocation fails.
 pub fn call_on<R: Threads + Sync, S: Shelf, K: Sink, E: Sink>(
     rt: &R,
     alloc: Global,
@@ -209,6 +225,10 @@ pub fn call_on<R: Threads + Sync, S: Shelf, K: Sink, E: Sink>(
 }
 
 /// A call with these words and files, where these loads and puts are to fail.
+///
+/// # Errors
+///
+/// Returns `AllocError` if an allocation fails.
 pub fn call<R: Threads + Sync>(
     rt: &R,
     alloc: Global,
@@ -233,6 +253,10 @@ pub fn call<R: Threads + Sync>(
 }
 
 /// A call with these words and files, where nothing fails.
+///
+/// # Errors
+///
+/// Returns `AllocError` if an allocation fails.
 pub fn ask<R: Threads + Sync>(
     rt: &R,
     alloc: Global,
@@ -251,6 +275,10 @@ pub fn ask<R: Threads + Sync>(
 }
 
 /// The same with a circuit, a partition and a trace.
+///
+/// # Errors
+///
+/// Returns `AllocError` if an allocation fails.
 pub fn ask_of<R: Threads + Sync>(
     rt: &R,
     alloc: Global,
@@ -320,6 +348,10 @@ fn with_direct(alloc: Global, partition: &str) -> Result<String, AllocError> {
 
 /// `run` on a circuit, a partition and a trace, where nothing fails, in each way; where it ends with status 0, with direct channels
 /// too. If not all of them answer the same, the status is 255.
+///
+/// # Errors
+///
+/// Returns `AllocError` if an allocation fails.
 pub fn run<R: Threads + Sync>(
     rt: &R,
     alloc: Global,
@@ -394,6 +426,10 @@ fn same_with<R: Threads + Sync>(
 
 /// `save` or `resume` by these words, on a circuit, a partition, a trace and the snapshot `k1.snap`, where nothing fails: without workers, by
 /// one and by two, and where it ends with status 0, with direct channels too. If not all of them answer the same, the status is 255.
+///
+/// # Errors
+///
+/// Returns `AllocError` if an allocation fails.
 pub fn ask_snap<R: Threads + Sync>(
     rt: &R,
     alloc: Global,

@@ -60,6 +60,10 @@ pub const TRACE: &str = "cycle reset\n0 1\n1 0\n2 0\n3 0\n";
 pub const TEXT: &str = "cycle out\n0 00\n1 00\n2 01\n3 02\n";
 
 /// The first lines of a circuit, so many, where this line, counted from 1 (0: none), is changed.
+///
+/// # Errors
+///
+/// Returns `AllocError` if an allocation fails.
 pub fn edited(
     alloc: Global,
     circuit: &str,
@@ -81,6 +85,10 @@ pub fn edited(
 }
 
 /// The same of the counter.
+///
+/// # Errors
+///
+/// Returns `AllocError` if an allocation fails.
 pub fn counter(
     alloc: Global,
     lines: usize,

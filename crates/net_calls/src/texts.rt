@@ -71,6 +71,10 @@ const MEMORY_REST: &str =
     "m.r.clk <= clock\nm.r.addr <= UInt<1>(0)\nm.r.en <= UInt<1>(1)\nm.w.clk <= clock\nm.w.addr <= UInt<1>(0)\nm.w.en <= UInt<1>(1)\nm.w.data <= UInt<8>(7)\nm.w.mask <= UInt<1>(1)\no <= m.r.data\n";
 
 /// The memory with these two lines.
+///
+/// # Errors
+///
+/// Returns `AllocError` if an allocation fails.
 pub fn memory(alloc: Global, latency: &str, under_write: &str) -> Result<String, AllocError> {
     format!(in alloc; "{MEMORY_FRONT}{latency}\n{under_write}\n{MEMORY_REST}")
 }

@@ -10,8 +10,10 @@ use Rattle.gg_flat.specs.Run.{IsColumns, IsRunFrom, Start, later, row_at, since}
 use Rattle.gg_flat.specs.State.{IsState, State}
 use Rattle.gg_flat.specs.Streams.{Flow}
 use Rattle.gg_flat.proofs.AlongLemmas.{IsRunFrom-along}
+use Rattle.gg_flat.proofs.OrderLemmas.{IsLoop-none}
 use Rattle.gg_flat.proofs.SinceLemmas.{since-add}
 use Rattle.gg_order.specs.Design.{Ordered}
+use Rattle.gg_order.proofs.FoundLemmas.{found-is}
 use Rattle.gg_partfile.specs.declared.request.Request.{Request}
 use Rattle.gg_cut.specs.declared.plan.Plan.{Plan}
 use Rattle.gg_cut.specs.Seated.{plan_wires}
@@ -26,7 +28,6 @@ use Rattle.gg_pipe.specs.Follows.{plan_token}
 use Rattle.gg_pipe.specs.Made.{plan_reference}
 use Rattle.gg_pipe.proofs.NothingLemmas.{plan-plain}
 use Rattle.gg_bridged.specs.Whole.{CanBridge, plan_begin, plan_circuit}
-use Rattle.gg_bridged.proofs.FoundLemmas.{found-is}
 use Rattle.gg_bridged.proofs.PlanLemmas.{circuit-formed, circuit-ordered}
 use Rattle.gg_bridged.proofs.StateLemmas.{states-with}
 use Rattle.gg_sound.specs.Built.{IsGiven, flow_of}
@@ -96,7 +97,9 @@ module _ (design : Ordered) (request : Request) (models : Models) (default : ℕ
       (subst (λ (own : State). IsState design.circuit own) (sym (ap (λ o. unwrap_or o no_state) state_is)) typed)
 
   order : IsOrder circuit (circuit_order design request models)
-  order = let any = circuit-ordered design request models can in found-is circuit any.order any.is
+  order =
+      let any = circuit-ordered design request models can in
+      found-is circuit (circuit-formed design request models can) (λ loop is. IsLoop-none circuit any.order loop any.is is)
 
   run-along : IsRunFrom circuit whole columns (since begin.cycle n) (rows_from circuit (circuit_order design request models) whole columns (since begin.cycle n))
   run-along =

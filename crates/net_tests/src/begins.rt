@@ -40,7 +40,7 @@ fn advance(
     requires within { cycle < inputs.now.rows }
     ensures { IsState design.now.circuit state.new }
 {
-    // for the most rows that a trace has
+    // for the invariant alone: the limit on rows
     let _ = inputs.rows();
     let piece = design.piece();
     let timing = Timing::new(alloc, ratios, cycle)?;
@@ -150,7 +150,7 @@ fn is_begun(
     requires none { models.now ≡ [] }
     requires within { 2 ≤ inputs.now.rows }
 {
-    // for the design's invariant on its parts
+    // for the invariant alone
     let _ = design.order();
     let _ = design.piece();
     let _ = inputs.rows();
@@ -233,7 +233,7 @@ static PARTITIONS: [&str; 3] = [
     "{\"units\":[\"u\"],\"memories\":[\"v.mid.leaf.m\"],\"clocks\":{\"c2\":[2,3]}}",
 ];
 
-/// Checks that each network that begins at cycle 2 has the outputs of the whole run from there. A failure names the partition.
+// Checks that each network that begins at cycle 2 has the outputs of the whole run from there. A failure names the partition.
 pub(crate) fn check_begins(rt: &impl Abort, alloc: Global) {
     for partition in &PARTITIONS {
         let outputs = [0, 0xfe, 0x11ef, 0x6f8, 0x9275];

@@ -2,15 +2,15 @@
 use net_calls::memory;
 use std::alloc::{AllocError, Global};
 
-/// A circuit.
+// A circuit.
 pub(crate) enum Circuit {
-    /// This text.
+    // This text.
     Whole(&'static str),
-    /// The memory of net_calls with these two lines: of its latency, and of what is read of a word that is written.
+    // The memory of net_calls with these two lines: of its latency, and of what is read of a word that is written.
     Memory(&'static str, &'static str),
 }
 
-/// The text of a circuit.
+// The text of a circuit.
 pub(crate) fn text_of(alloc: Global, circuit: &Circuit) -> Result<String, AllocError> {
     match circuit {
         Circuit::Whole(text) => String::from_str(alloc, text),

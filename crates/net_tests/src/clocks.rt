@@ -1,7 +1,7 @@
 //! gg_clocks: the edges of a clock in two of three ticks.
 use gg_clocks::{Ratio, Ticker};
 
-/// Whether a clock of ratio 2/3 has its edges where they were worked out by hand.
+// Whether a clock of ratio 2/3 has its edges where they were worked out by hand.
 pub(crate) fn goes_in_two_of_three() -> bool {
     match Ratio::new(2, 3) {
         Some(ratio) => {

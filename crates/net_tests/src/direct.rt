@@ -1,12 +1,12 @@
 //! gg_plan and gg_build: channels that the hub doesn't pass on.
 use crate::circuits::Circuit::Whole;
 use crate::networks::{Case, Row};
-use gg_net::{Event, Refusal};
+use gg_net::{Event, StepRefusal};
 use net_calls::{BACK, FORK, FORK_TRACE, PAIR, PAIR_TRACE, SUMS, SUMS_TRACE};
 
-/// Two units that feed each other in one cycle do it without the hub, which has no channel. Of the input of two units the hub takes one
-/// channel, for the complement, and the first unit takes the other; the two share a host, or not. A unit gives its sum to two other units
-/// and to an output; the three share a host, and give it on three channels, one and one, or share none. A unit gives to itself.
+// Two units that feed each other in one cycle do it without the hub, which has no channel. Of the input of two units the hub takes one
+// channel, for the complement, and the first unit takes the other; the two share a host, or not. A unit gives its sum to two other units
+// and to an output; the three share a host, and give it on three channels, one and one, or share none. A unit gives to itself.
 pub(crate) static DIRECT: [Row; 6] = [
     (
         Whole(PAIR),
@@ -17,12 +17,16 @@ pub(crate) static DIRECT: [Row; 6] = [
             channels: 4,
             end: 2,
             left: 26,
-            refused: Event::Fire { channel: 1 },
-            cause: Refusal::NeedsInput { channel: 2 },
+            refusals: &[(
+                "",
+                Event::Fire { channel: 1 },
+                StepRefusal::NeedsInput { channel: 2 },
+            )],
             steps: "0F 0L 2F 2L 1F 1L 3F 3L 0E 1E 2E 3E 4E",
             served: (0, 0, 0),
             kept: &[0x11, 0x83],
             hosts: &[0, 1, 2, 3, 4],
+            calls: "",
         },
     ),
     (
@@ -34,12 +38,16 @@ pub(crate) static DIRECT: [Row; 6] = [
             channels: 5,
             end: 3,
             left: 48,
-            refused: Event::Fire { channel: 2 },
-            cause: Refusal::NeedsInput { channel: 0 },
+            refusals: &[(
+                "",
+                Event::Fire { channel: 2 },
+                StepRefusal::NeedsInput { channel: 0 },
+            )],
             steps: "4F 3F 1F 0F 3E 1L 1E 0L 2F 2L 2E 0E 3L 4E 4L 5E",
             served: (0, 0, 0),
             kept: &[0, 0xfe, 0xed],
             hosts: &[0, 1, 1, 2, 3, 4],
+            calls: "",
         },
     ),
     (
@@ -51,12 +59,16 @@ pub(crate) static DIRECT: [Row; 6] = [
             channels: 5,
             end: 3,
             left: 48,
-            refused: Event::Fire { channel: 2 },
-            cause: Refusal::NeedsInput { channel: 0 },
+            refusals: &[(
+                "",
+                Event::Fire { channel: 2 },
+                StepRefusal::NeedsInput { channel: 0 },
+            )],
             steps: "0F 0L 2F 0E 1F 3E 3F 1L 1E 3L 4E 2L 4F 4L 2E 5E",
             served: (0, 0, 0),
             kept: &[0, 0xfe, 0xed],
             hosts: &[0, 1, 2, 3, 4, 5],
+            calls: "",
         },
     ),
     (
@@ -71,12 +83,16 @@ pub(crate) static DIRECT: [Row; 6] = [
             channels: 8,
             end: 4,
             left: 96,
-            refused: Event::Fire { channel: 7 },
-            cause: Refusal::NeedsInput { channel: 2 },
+            refusals: &[(
+                "",
+                Event::Fire { channel: 7 },
+                StepRefusal::NeedsInput { channel: 2 },
+            )],
             steps: "5F 5L 1F 3F 0F 0L 1E 2F 2L 1L 2E 3L 4F 4L 3E 7F 7L 0E 6F 6L 4E 5E 6E 7E",
             served: (0, 0, 0),
             kept: &[0, 0, 0x101, 0x1212],
             hosts: &[0, 1, 1, 1, 2, 3, 4, 5],
+            calls: "",
         },
     ),
     (
@@ -88,12 +104,16 @@ pub(crate) static DIRECT: [Row; 6] = [
             channels: 8,
             end: 4,
             left: 96,
-            refused: Event::Latch { channel: 1 },
-            cause: Refusal::NoToken { channel: 1 },
+            refusals: &[(
+                "",
+                Event::Latch { channel: 1 },
+                StepRefusal::NoToken { channel: 1 },
+            )],
             steps: "2F 4F 2L 4L 7F 0E 6F 0F 4E 6L 6E 3F 3L 3E 5F 1F 1L 2E 7L 7E 5L 5E 0L 1E",
             served: (0, 0, 0),
             kept: &[0, 0, 0x101, 0x1212],
             hosts: &[0, 1, 2, 3, 4, 5, 6, 7],
+            calls: "",
         },
     ),
     (
@@ -105,12 +125,16 @@ pub(crate) static DIRECT: [Row; 6] = [
             channels: 3,
             end: 3,
             left: 30,
-            refused: Event::Latch { channel: 0 },
-            cause: Refusal::NoToken { channel: 0 },
+            refusals: &[(
+                "",
+                Event::Latch { channel: 0 },
+                StepRefusal::NoToken { channel: 0 },
+            )],
             steps: "0F 0L 1F 1L 2F 2L 0E 1E 2E 3E",
             served: (0, 0, 0),
             kept: &[0, 1, 0x11],
             hosts: &[0, 1, 2, 3],
+            calls: "",
         },
     ),
 ];

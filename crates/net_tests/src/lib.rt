@@ -25,9 +25,15 @@ mod models;
 #[cfg(test)]
 mod networks;
 #[cfg(test)]
+mod notes;
+#[cfg(test)]
+mod orders;
+#[cfg(test)]
 mod pieces;
 #[cfg(test)]
 mod pipes;
+#[cfg(test)]
+mod refusals;
 #[cfg(test)]
 mod sharing;
 #[cfg(test)]

@@ -23,7 +23,7 @@ fn is_line(
     Ok(line.as_str() == text)
 }
 
-/// Checks the line of each channel.
+// Checks the line of each channel.
 pub(crate) fn check_lines(rt: &impl Abort, alloc: Global) {
     for (name, width, counts, tokens, text) in &LINES {
         let is_right = is_line(alloc, name, *width, *counts, tokens, text) == Ok(true);
@@ -51,7 +51,7 @@ static WIRES: [Wire; 2] = [
     },
 ];
 
-/// Whether a log of these channels has only the token with which the second opens.
+// Whether a log of these channels has only the token with which the second opens.
 pub(crate) fn has_first_token(alloc: Global) -> Result<bool, AllocError> {
     let log = Log::new(alloc, &WIRES)?;
     Ok(log.tokens(0).is_empty() && log.tokens(1) == [0].as_slice())

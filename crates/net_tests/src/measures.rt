@@ -61,14 +61,33 @@ fn is_channel_alike<Z: Streams>(
         && one.newest(channel) == other.newest(channel)
 }
 
-// Whether two networks have the same counts.
+// Whether a machine's tray keeps the same values in two networks, if it is a tray.
+fn is_tray_alike<Z: Streams>(
+    one: &Net<Node<'_, Echo>, Z>,
+    other: &Net<Node<'_, Echo>, Z>,
+    machine: u32,
+) -> bool {
+    if machine as usize >= one.machines() || machine as usize >= other.machines() {
+        return false;
+    }
+    let tray = one.host(machine);
+    let same = other.host(machine);
+    for cycle in 0..one.end() {
+        if tray.value(cycle) != same.value(cycle) {
+            return false;
+        }
+    }
+    true
+}
+
+// Whether two networks have the same counts, and the same values in their trays.
 fn are_alike<Z: Streams>(
     one: &Net<Node<'_, Echo>, Z>,
     other: &Net<Node<'_, Echo>, Z>,
     case: &Case,
 ) -> bool {
     for machine in 0..case.machines {
-        if !is_machine_alike(one, other, machine) {
+        if !is_machine_alike(one, other, machine) || !is_tray_alike(one, other, machine) {
             return false;
         }
     }
@@ -80,7 +99,18 @@ fn are_alike<Z: Streams>(
     true
 }
 
-// Whether two networks end alike, of which the one goes as `possible` answers and the other as `run_to` does. Both are
+// Whether two networks end alike, by `run_to_end` from where they are.
+pub(crate) fn run_alike<Z: Streams>(
+    one: &mut Net<Node<'_, Echo>, Z>,
+    other: &mut Net<Node<'_, Echo>, Z>,
+    case: &Case,
+) -> bool {
+    run_to_end(one);
+    run_to_end(other);
+    are_alike(one, other, case)
+}
+
+/// Whether two networks end alike, of which the one goes as `possible` answers and the other as `run_to` does. Both are
 // before their first cycle.
 pub(crate) fn end_alike<Z: Streams>(
     one: &mut Net<Node<'_, Echo>, Z>,

@@ -52,7 +52,7 @@ fn is_found(alloc: Global, models: &mut Models, piece: &Piece) -> Result<bool, A
     )
 }
 
-/// Whether a model of one register is found.
+// Whether a model of one register is found.
 pub(crate) fn keeps_a_model(alloc: Global) -> bool {
     let mut piece = Piece::new(alloc);
     let mut models = Models::new(alloc);
@@ -76,7 +76,7 @@ fn add_top(alloc: Global, tree: &mut Tree) -> Result<(), AddError>
     tree.add(name(alloc, "")?, top)
 }
 
-/// Whether a tree with a top is copied.
+// Whether a tree with a top is copied.
 pub(crate) fn copies_a_tree(alloc: Global) -> bool {
     let mut tree = Tree::new(alloc);
     add_top(alloc, &mut tree).is_ok() && tree.copy().is_ok()

@@ -10,11 +10,13 @@ ghost use Rattle.gg_flat.specs.Run.{IsColumns};
 use crate::circuits::Circuit::{Memory, Whole};
 use crate::circuits::{Circuit, text_of};
 use crate::measures::end_alike;
+use crate::orders::is_in_order;
+use crate::refusals::are_refused;
 use gg_bridge::Echo;
 use gg_build::Node;
 use gg_cut::Plan;
 use gg_flat::Models;
-use gg_net::{Event, Net, Refusal, Streams};
+use gg_net::{Event, Net, StepRefusal, Streams};
 use gg_order::Design;
 use gg_partfile::Request;
 use gg_plan::cut;
@@ -27,7 +29,7 @@ use std::alloc::Global;
 use std::marker::Brand;
 use std::process::Abort;
 
-/// What is expected of a network.
+// What is expected of a network.
 pub(crate) struct Case {
     // the numbers of machines, channels and cycles
     pub(crate) machines: u32,
@@ -35,9 +37,8 @@ pub(crate) struct Case {
     pub(crate) end: u64,
     // the number of all steps
     pub(crate) left: u64,
-    // a step that is refused before the first cycle, and why
-    pub(crate) refused: Event,
-    pub(crate) cause: Refusal,
+    // steps, a step that is refused behind them, and why
+    pub(crate) refusals: &'static [(&'static str, Event, StepRefusal)],
     // The steps of a cycle: the number of a channel with `F` for a token that is given on it and with `L` for one that is taken, that of a
     // port of machine 1 with `S` for an access, and that of a machine with `E` for the end of its cycle.
     pub(crate) steps: &'static str,
@@ -47,12 +48,18 @@ pub(crate) struct Case {
     pub(crate) kept: &'static [u128],
     // each machine's host
     pub(crate) hosts: &'static [u32],
+    // the first steps of a run to the end, as `is_in_order` reads them: round by round, in each the machines by number, and of each its ins, its
+    // outs, its ports and the end of its cycle, as far as each may be done; none if the order isn't told
+    pub(crate) calls: &'static str,
 }
 
-/// A circuit, partitions of it, a trace, and what is expected for each of these partitions.
+// A circuit, partitions of it, a trace, and what is expected for each of these partitions.
 pub(crate) type Row = (Circuit, &'static [&'static str], &'static str, Case);
 
-/// Networks without direct channels, pipes or hosts that are shared.
+// The steps of the first cycle up to the data that the two readers of the memory of four ports give.
+const READ: &str = "0F 1F 0L 1L 2F 3F 5F 6F 2L 3L 5L 6L 4F 7F";
+
+// Networks without direct channels, pipes or hosts that are shared.
 pub(crate) static NETWORKS: [Row; 4] = [
     // the counter: its output goes ahead of its input
     (
@@ -64,12 +71,16 @@ pub(crate) static NETWORKS: [Row; 4] = [
             channels: 2,
             end: 4,
             left: 28,
-            refused: Event::Latch { channel: 0 },
-            cause: Refusal::NoToken { channel: 0 },
+            refusals: &[(
+                "",
+                Event::Latch { channel: 0 },
+                StepRefusal::NoToken { channel: 0 },
+            )],
             steps: "1F 1L 2E 0F 0L 0E 1E",
             served: (0, 0, 0),
             kept: &[0, 0, 1, 2],
             hosts: &[0, 1, 2],
+            calls: "0F0 1F0 1E0 2L0 2E0 0L0 0E0 1F0 1E0 0L0 0F0 0E0 1F0 1E0 2L0 2E0 0L0 0F0 0E0 1F0 1E0 2L0 2E0 0L0 0F0 0E0 2L0 2E0",
         },
     ),
     // a memory of latency 0 that is a machine of its own: its data waits for its address
@@ -82,12 +93,16 @@ pub(crate) static NETWORKS: [Row; 4] = [
             channels: 8,
             end: 3,
             left: 60,
-            refused: Event::Fire { channel: 2 },
-            cause: Refusal::NeedsInput { channel: 0 },
+            refusals: &[(
+                "",
+                Event::Fire { channel: 2 },
+                StepRefusal::NeedsInput { channel: 0 },
+            )],
             steps: "0F 0L 1F 1L 2F 2L 3F 3L 4F 4L 5F 5L 6F 6L 7F 7L 1S 0E 1E 2E",
             served: (2, 1, 3),
             kept: &[0, 7, 7],
             hosts: &[0, 1, 2],
+            calls: "",
         },
     ),
     // two units that feed each other in one cycle
@@ -100,12 +115,41 @@ pub(crate) static NETWORKS: [Row; 4] = [
             channels: 8,
             end: 2,
             left: 42,
-            refused: Event::Fire { channel: 6 },
-            cause: Refusal::NeedsInput { channel: 5 },
+            refusals: &[
+                ("", Event::Fire { channel: 8 }, StepRefusal::Stranger),
+                (
+                    "",
+                    Event::Fire { channel: 6 },
+                    StepRefusal::NeedsInput { channel: 5 },
+                ),
+                (
+                    "",
+                    Event::Latch { channel: 0 },
+                    StepRefusal::NoToken { channel: 0 },
+                ),
+                ("0F", Event::Fire { channel: 0 }, StepRefusal::Fired),
+                ("0F 0L", Event::Latch { channel: 0 }, StepRefusal::Latched),
+                (
+                    "0F 3E",
+                    Event::Fire { channel: 0 },
+                    StepRefusal::Full { channel: 0, len: 1 },
+                ),
+                (
+                    "",
+                    Event::Finish { machine: 0 },
+                    StepRefusal::Unfired { channel: 1 },
+                ),
+                (
+                    "0F 3E 0L 0F 3E",
+                    Event::Fire { channel: 0 },
+                    StepRefusal::Ended,
+                ),
+            ],
             steps: "0F 0L 1F 1L 3F 3L 5F 5L 6F 6L 2F 2L 4F 4L 7F 7L 0E 1E 2E 3E 4E",
             served: (0, 0, 0),
             kept: &[0x11, 0x83],
             hosts: &[0, 1, 2, 3, 4],
+            calls: "3F0 3E0 0L0 0F0 1L0 1F0 3F0 3E0 0L1 0F2 2L0 2F0 2E0 0L3 0F1 1L1 1F1 1E0 0L2 0F3 0E0 4L0 4E0 0L0 0F0 1L0 1F0 0L1 0F2 2L0 2F0 2E0 0L3 0F1 1L1 1F1 1E0 0L2 0F3 0E0 4L0 4E0",
         },
     ),
     // a memory whose two writers are served one after the other
@@ -118,12 +162,39 @@ pub(crate) static NETWORKS: [Row; 4] = [
             channels: 18,
             end: 4,
             left: 176,
-            refused: Event::Fire { channel: 4 },
-            cause: Refusal::NeedsInput { channel: 2 },
+            refusals: &[
+                (
+                    "",
+                    Event::Fire { channel: 4 },
+                    StepRefusal::NeedsInput { channel: 2 },
+                ),
+                (
+                    READ,
+                    Event::Finish { machine: 1 },
+                    StepRefusal::Unserved { port: 2 },
+                ),
+                (
+                    READ,
+                    Event::Serve {
+                        machine: 1,
+                        port: 3,
+                    },
+                    StepRefusal::Order { due: 2 },
+                ),
+                (
+                    READ,
+                    Event::Serve {
+                        machine: 1,
+                        port: 2,
+                    },
+                    StepRefusal::NeedsInput { channel: 8 },
+                ),
+            ],
             steps: "0F 0L 1F 1L 2F 2L 3F 3L 4F 4L 5F 5L 6F 6L 7F 7L 8F 8L 9F 9L 10F 10L 11F 11L 12F 12L 13F 13L 14F 14L 15F 15L 16F 16L 17F 17L 2S 3S 0E 1E 2E 3E 4E 5E",
             served: (4, 2, 8),
             kept: &[0, 0xf0, 0, 0],
             hosts: &[0, 1, 2, 3, 4, 5],
+            calls: "0F1 0F5 0F7 0F9 0F11 1L1 1L5 1L7 1L9 1L11 2F0 2E0 3F0 3E0 0L0 0L1 0F0 0F2 0F3 0F4 0F6 0F8 0F10 1L0 1L2 1L3 1L4 1L6 1L8 1L10 1F0 1F1 1S2 1S3 1E0 2F0 2E0 3F0 3E0 0L2 0L3 0F12 0F13 0E0 4L0 4E0 5L0 5E0",
         },
     ),
 ];
@@ -141,8 +212,8 @@ fn step_of(letter: u8, number: u32) -> Event {
     }
 }
 
-// Whether the steps of a cycle can be done.
-fn goes_once<Z: Streams>(net: &mut Net<Node<'_, Echo>, Z>, steps: &str) -> bool {
+// Whether these steps can be done.
+pub(crate) fn goes_once<Z: Streams>(net: &mut Net<Node<'_, Echo>, Z>, steps: &str) -> bool {
     let mut number: u32 = 0;
     for byte in steps.as_bytes() {
         if byte.is_ascii_digit() {
@@ -191,7 +262,6 @@ fn opens<Z: Streams>(net: &Net<Node<'_, Echo>, Z>, case: &Case) -> bool {
         && net.shape().stations.len() == case.machines as usize
         && are_hosts(net, case.hosts)
         && net.end() == case.end
-        && net.test(case.refused) == Err(case.cause)
 }
 
 // Whether all cycles of a machine are done.
@@ -200,7 +270,7 @@ fn has_ended<Z: Streams>(net: &Net<Node<'_, Echo>, Z>, machine: u32) -> bool
 {
     net.cycle(machine) == net.end()
         && net.served(machine) == 0
-        && net.test(Event::Finish { machine }) == Err(Refusal::Ended)
+        && net.test(Event::Finish { machine }) == Err(StepRefusal::Ended)
 }
 
 // Whether a channel has a token put and taken in each cycle, and holds one exactly if it opened with one.
@@ -283,7 +353,10 @@ fn is_built<Z: Streams>(
     requires run { IsToRun plan.now inputs.now.columns inputs.now.rows Z.flow }
     requires alone { NeedsNone plan.now }
 {
-    is_built_once::<Z>(alloc, plan, inputs, case) && is_built_twice::<Z>(alloc, plan, inputs, case)
+    is_built_once::<Z>(alloc, plan, inputs, case)
+        && is_built_twice::<Z>(alloc, plan, inputs, case)
+        && are_refused::<Z>(alloc, plan, inputs, case)
+        && is_in_order::<Z>(alloc, plan, inputs, case.calls)
 }
 
 // Whether the network of a design and a request without bridges runs as expected, for channels of capacity 1.
@@ -301,7 +374,7 @@ fn is_planned(
     requires fed { IsColumns design.now.circuit inputs.now.rows inputs.now.columns }
     requires alone { request.now.bridges ≡ [] }
 {
-    // for the design's invariant on its parts
+    // for the invariant alone
     let _ = design.order();
     let _ = design.piece();
     let _ = inputs.rows();
@@ -360,7 +433,7 @@ fn is_right(alloc: Global, circuit: &Circuit, partition: &str, trace: &str, case
     }
 }
 
-/// Checks that each network runs as expected. A failure names the table, the row, counted from 0, and the partition.
+// Checks that each network runs as expected. A failure names the table, the row, counted from 0, and the partition.
 pub(crate) fn check_networks(rt: &impl Abort, alloc: Global, table: &str, rows: &[Row]) {
     for (row, (circuit, partitions, trace, case)) in rows.iter().enumerate() {
         for partition in *partitions {

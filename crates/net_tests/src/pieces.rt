@@ -49,7 +49,7 @@ fn is_toggle(alloc: Global, design: &Design) -> Result<bool, AllocError> {
     Ok(tells(alloc, piece)? && has_values(alloc, design, 0, 1)?)
 }
 
-/// Whether the toggle runs.
+// Whether the toggle runs.
 pub(crate) fn toggles(alloc: Global) -> bool {
     match design_of(alloc, TOGGLE) {
         Some(design) => matches!(is_toggle(alloc, &design), Ok(true)),
@@ -109,7 +109,7 @@ fn waits(alloc: Global, design: &Design) -> bool {
         && matches!(first_missing(alloc, piece), Ok(Some(0)))
 }
 
-/// Whether an output that is the input waits for it.
+// Whether an output that is the input waits for it.
 pub(crate) fn passes(alloc: Global) -> bool {
     match design_of(alloc, PASS) {
         Some(design) => waits(alloc, &design),

@@ -1,7 +1,7 @@
 //! gg_build: units that share a host.
 use crate::circuits::Circuit::Whole;
 use crate::networks::{Case, Row};
-use gg_net::{Event, Refusal};
+use gg_net::{Event, StepRefusal};
 use net_calls::{SUMS, SUMS_TRACE};
 
 // Four instances of that module. Their outputs are one.
@@ -13,13 +13,13 @@ const FOUR: &str =
 pub(crate) const DEEP: &str =
     "circuit Deep :\nmodule Leaf :\ninput c : Clock\ninput a : UInt<8>\noutput s : UInt<8>\nmem m :\ndata-type => UInt<8>\ndepth => 2\nread-latency => 0\nwrite-latency => 1\nreader => r\nwriter => w\nread-under-write => undefined\nm.r.addr <= bits(a, 0, 0)\nm.r.en <= UInt<1>(1)\nm.r.clk <= c\nm.w.addr <= bits(a, 0, 0)\nm.w.en <= UInt<1>(1)\nm.w.clk <= c\nm.w.mask <= UInt<1>(1)\nm.w.data <= bits(add(m.r.data, a), 7, 0)\ns <= m.r.data\nmodule Mid :\ninput c : Clock\ninput a : UInt<8>\noutput s : UInt<8>\noutput t : UInt<8>\ninst leaf of Leaf\nleaf.c <= c\nleaf.a <= a\ns <= leaf.s\nt <= xor(leaf.s, a)\nmodule Outer :\ninput c : Clock\ninput d : Clock\ninput a : UInt<8>\noutput s : UInt<8>\nreg r : UInt<8>, d\ninst mid of Mid\nmid.c <= c\nmid.a <= a\ns <= bits(add(mid.s, r), 7, 0)\nr <= mid.t\nmodule Deep :\ninput c1 : Clock\ninput c2 : Clock\ninput x : UInt<8>\noutput q : UInt<16>\ninst u of Outer\ninst v of Outer\nu.c <= c1\nu.d <= c2\nv.c <= c2\nv.d <= c1\nu.a <= x\nv.a <= not(x)\nq <= cat(u.s, v.s)\n";
 
-/// A trace of five cycles for them.
+// A trace of five cycles for them.
 pub(crate) const DEEP_TRACE: &str = "cycle x\n0 01\n1 10\n2 83\n3 05\n4 62\n";
 
-/// The two units share a host, in lists among empty ones too:
-/// in a cycle they take turns. They share none: no list, an empty one, lists of one unit; the first is through its cycle ahead of the second.
-/// Four units share two hosts, by turns. Two units of many levels share one; the second of the circuit's clocks has an edge in two of three
-/// ticks, and the units have the clocks the other way round.
+// The two units share a host, in lists among empty ones too:
+// in a cycle they take turns. They share none: no list, an empty one, lists of one unit; the first is through its cycle ahead of the second.
+// Four units share two hosts, by turns. Two units of many levels share one; the second of the circuit's clocks has an edge in two of three
+// ticks, and the units have the clocks the other way round.
 pub(crate) static SHARES: [Row; 4] = [
     (
         Whole(SUMS),
@@ -34,12 +34,16 @@ pub(crate) static SHARES: [Row; 4] = [
             channels: 7,
             end: 3,
             left: 60,
-            refused: Event::Fire { channel: 1 },
-            cause: Refusal::NeedsInput { channel: 0 },
+            refusals: &[(
+                "",
+                Event::Fire { channel: 1 },
+                StepRefusal::NeedsInput { channel: 0 },
+            )],
             steps: "4F 2F 0F 0L 1F 3F 1L 3L 4L 2L 2E 1E 5F 6F 5L 6L 0E 3E 4E 5E",
             served: (0, 0, 0),
             kept: &[0, 254, 237],
             hosts: &[0, 1, 1, 2, 3, 4],
+            calls: "",
         },
     ),
     (
@@ -56,12 +60,16 @@ pub(crate) static SHARES: [Row; 4] = [
             channels: 7,
             end: 3,
             left: 60,
-            refused: Event::Fire { channel: 1 },
-            cause: Refusal::NeedsInput { channel: 0 },
+            refusals: &[(
+                "",
+                Event::Fire { channel: 1 },
+                StepRefusal::NeedsInput { channel: 0 },
+            )],
             steps: "0F 0L 3E 1F 1L 2F 2L 1E 5F 5L 4E 3F 3L 4F 4L 2E 6F 6L 5E 0E",
             served: (0, 0, 0),
             kept: &[0, 0xfe, 0xed],
             hosts: &[0, 1, 2, 3, 4, 5],
+            calls: "",
         },
     ),
     (
@@ -76,12 +84,16 @@ pub(crate) static SHARES: [Row; 4] = [
             channels: 10,
             end: 3,
             left: 81,
-            refused: Event::Fire { channel: 1 },
-            cause: Refusal::NeedsInput { channel: 0 },
+            refusals: &[(
+                "",
+                Event::Fire { channel: 1 },
+                StepRefusal::NeedsInput { channel: 0 },
+            )],
             steps: "8F 0F 0L 5F 1F 5L 1L 2F 6F 3E 7F 7L 4E 3F 3L 4F 2L 1E 8L 6L 4L 9F 2E 0E 9L 6E 5E",
             served: (0, 0, 0),
             kept: &[0, 0x1fef102, 0x11edd122],
             hosts: &[0, 1, 2, 1, 2, 3, 4],
+            calls: "",
         },
     ),
     (
@@ -96,12 +108,16 @@ pub(crate) static SHARES: [Row; 4] = [
             channels: 6,
             end: 5,
             left: 85,
-            refused: Event::Fire { channel: 1 },
-            cause: Refusal::NeedsInput { channel: 0 },
+            refusals: &[(
+                "",
+                Event::Fire { channel: 1 },
+                StepRefusal::NeedsInput { channel: 0 },
+            )],
             steps: "0F 0L 3F 1F 1L 3L 4F 2F 2E 4L 2L 5F 0E 1E 5L 4E 3E",
             served: (0, 0, 0),
             kept: &[0, 0xfe, 0x11ef, 0x6f8, 0x9275],
             hosts: &[0, 1, 1, 2, 3],
+            calls: "",
         },
     ),
 ];

@@ -147,7 +147,7 @@ static RUNS: [(Circuit, bool, &str, &[u128]); 9] = [
     ),
 ];
 
-/// Checks the outputs of each circuit. A failure names the row, counted from 0.
+// Checks the outputs of each circuit. A failure names the row, counted from 0.
 pub(crate) fn check_simulators(rt: &impl Abort, alloc: Global) {
     for (row, (circuit, skips, trace, outputs)) in RUNS.iter().enumerate() {
         let holds = is_right(alloc, circuit, *skips, trace, outputs);

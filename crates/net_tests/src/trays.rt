@@ -2,7 +2,7 @@
 use gg_node::{Host, Tray};
 use std::alloc::{AllocError, Global};
 
-/// Whether a tray keeps the last two of three values.
+// Whether a tray keeps the last two of three values.
 pub(crate) fn keeps_the_last_two(alloc: Global) -> Result<bool, AllocError> {
     let mut tray = Tray::new(alloc, 2)?;
     tray.latch(0, 0, 7);

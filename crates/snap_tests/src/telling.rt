@@ -8,7 +8,7 @@ use gg_snap_text::{read_snap, snap_text};
 use std::alloc::{AllocError, Global};
 use std::process::Abort;
 
-/// A text, and what reading tells of it: `ok`, or the fault as it is printed.
+// A text, and what reading tells of it: `ok`, or the fault as it is printed.
 pub(crate) type Row = (&'static str, &'static str);
 
 // The design of a circuit. `None` if it has a fault or is too long, or if an allocation fails.
@@ -53,7 +53,7 @@ fn tell_for(out: &mut String, alloc: Global, circuit: &str, text: &str) -> Resul
     }
 }
 
-/// Checks what reading tells of each text for a circuit. A failure names the circuit and the row, counted from 0.
+// Checks what reading tells of each text for a circuit. A failure names the circuit and the row, counted from 0.
 pub(crate) fn check_rows(rt: &impl Abort, alloc: Global, name: &str, circuit: &str, rows: &[Row]) {
     for (row, (text, wanted)) in rows.iter().enumerate() {
         let mut found = String::new(alloc);

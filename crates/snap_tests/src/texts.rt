@@ -2,7 +2,7 @@
 use super::circuits::{COUNTER, LATE, PROMPT, THREE};
 use super::telling::{Row, check_rows};
 
-/// The first two lines, for the counter.
+// The first two lines, for the counter.
 static HEADINGS: [Row; 16] = [
     ("", "S1 line 1"),
     ("\n", "S1 line 1"),
@@ -25,7 +25,7 @@ static HEADINGS: [Row; 16] = [
     ("golden snapshot 1\ncycle 0\n", "ok"),
 ];
 
-/// Lines of values, for the counter.
+// Lines of values, for the counter.
 static VALUES: [Row; 23] = [
     ("golden snapshot 1\ncycle 3\nreg c 02\n", "ok"),
     ("golden snapshot 1\ncycle 3\nreg c ff\n", "ok"),
@@ -58,7 +58,7 @@ static VALUES: [Row; 23] = [
     ("golden snapshot 1\ncycle 3\nreg r 1\n", "S1 line 3"),
 ];
 
-/// Several registers.
+// Several registers.
 static ORDERS: [Row; 11] = [
     (
         "golden snapshot 1\ncycle 3\nreg a 1\nreg b 1f\nreg i.r a\n",
@@ -82,7 +82,7 @@ static ORDERS: [Row; 11] = [
     ("golden snapshot 1\ncycle 3\nreg c 02\n", "S1 line 3"),
 ];
 
-/// A memory that is read at once.
+// A memory that is read at once.
 static WORDS: [Row; 10] = [
     ("golden snapshot 1\ncycle 3\nmem m 1 22\n", "ok"),
     (
@@ -111,7 +111,7 @@ static WORDS: [Row; 10] = [
     ),
 ];
 
-/// A memory with a read register.
+// A memory with a read register.
 static READS: [Row; 6] = [
     (
         "golden snapshot 1\ncycle 3\nread m.r.data 07\nmem m 0 07\n",

@@ -3,18 +3,18 @@ use std::alloc::Allocator;
 use std::fs::{Files, Metadata, OpenFile, OpenOptions};
 use std::io::{self, Read, Seek, SeekFrom, Write};
 
-/// A file or stream that has room for some bytes. A read gives the next three of them, a write replaces the next two. At the end of the
-/// room it fails, or reads and writes nothing. As a file system it has itself under every name.
+// A file or stream that has room for some bytes. A read gives the next three of them, a write replaces the next two. At the end of the
+// room it fails, or reads and writes nothing. As a file system it has itself under every name.
 #[derive(Clone, Copy)]
-pub struct Few {
-    /// The bytes.
-    pub bytes: [u8; 12],
-    /// The place of the next one.
-    pub next: usize,
-    /// How many bytes there is room for, at most 12.
-    pub room: usize,
-    /// Whether it fails at the end of the room.
-    pub is_broken: bool,
+pub(crate) struct Few {
+    // The bytes.
+    pub(crate) bytes: [u8; 12],
+    // The place of the next one.
+    pub(crate) next: usize,
+    // How many bytes there is room for, at most 12.
+    pub(crate) room: usize,
+    // Whether it fails at the end of the room.
+    pub(crate) is_broken: bool,
 }
 
 impl Read for Few {
@@ -47,7 +47,7 @@ impl Write for Few {
     }
 }
 
-/// What no test asks for.
+// What no test asks for.
 fn unsupported<T>() -> io::Result<T> {
     Err(io::Error::from(io::ErrorKind::Unsupported))
 }

@@ -4,7 +4,7 @@ use gg_partfile::{Request, read_partition};
 static WHOLE: &str =
     "{\"units\": [\"a\", \"b.c\"], \"share\": [[\"a\", \"b.c\"]], \"memories\": [\"b.m\"], \"capacity\": {\"y\": 4, \"x\": 0}}";
 
-/// Whether this is the request of the whole partition: its units, and how many entries the other keys have.
+// Whether this is the request of the whole partition: its units, and how many entries the other keys have.
 fn is_whole(request: &Request) -> bool {
     let units = request.units.as_slice();
     units.len() == 2
@@ -15,7 +15,7 @@ fn is_whole(request: &Request) -> bool {
         && request.capacity.as_slice().len() == 2
 }
 
-/// A partition that is refused, and what its fault prints.
+// A partition that is refused, and what its fault prints.
 static FAULTS: [(&[u8], &str); 3] = [
     (b"{\"units\": [\"\xff\"]}", "P1 -"),
     (b"{\"zone\": 0, \"clock\": 0}", "P1 clock"),

@@ -7,18 +7,18 @@ use gg_bits::{Kind, Name, Ty};
 use gg_flat::{Port, Ports};
 use std::alloc::{AllocError, Global};
 
-/// The ports of a trace.
+// The ports of a trace.
 #[derive(Clone, Copy)]
-pub enum Inputs {
-    /// None.
+pub(crate) enum Inputs {
+    // None.
     None,
-    /// `reset` of a counter.
+    // `reset` of a counter.
     Reset,
-    /// `x` of eight bits and `y` of four.
+    // `x` of eight bits and `y` of four.
     XAndY,
 }
 
-/// A port with this name and type.
+// A port with this name and type.
 fn port(alloc: Global, name: &str, kind: Kind, width: u32) -> Result<Port, AllocError>
     requires low { 1 ≤ width }
     requires high { width ≤ 128 }
@@ -30,8 +30,8 @@ fn port(alloc: Global, name: &str, kind: Kind, width: u32) -> Result<Port, Alloc
     })
 }
 
-/// The ports.
-pub fn ports_of(alloc: Global, inputs: Inputs) -> Result<Ports, AllocError>
+// The ports.
+pub(crate) fn ports_of(alloc: Global, inputs: Inputs) -> Result<Ports, AllocError>
     ensures { IfOk result HasDistinctNames }
 {
     match inputs {

@@ -6,10 +6,10 @@ use std::collections::BTreeMap;
 use std::process::Abort;
 use std::{fs, mem};
 
-/// A name and a limit, and what a load answers.
+// A name and a limit, and what a load answers.
 type Load<'a> = (&'a str, u64, Result<&'a [u8], LoadFail>);
 
-/// Each load in turn answers what its row says. One that doesn't is shown.
+// Each load in turn answers what its row says. One that doesn't is shown.
 fn check_loads<S: Shelf>(rt: &impl Abort, alloc: Global, shelf: &mut S, loads: &[Load<'_>]) {
     for (name, limit, want) in loads {
         let is_right = match shelf.load(alloc, name, *limit) {
@@ -20,10 +20,10 @@ fn check_loads<S: Shelf>(rt: &impl Abort, alloc: Global, shelf: &mut S, loads: &
     }
 }
 
-/// Files by name. The last replaces the first.
+// Files by name. The last replaces the first.
 static FILES: [(&str, &[u8]); 3] = [("a", b"old"), ("b", b""), ("a", b"hello")];
 
-/// The second load is listed as failing, and there is no file `c`.
+// The second load is listed as failing, and there is no file `c`.
 static LOADS: [Load<'static>; 5] = [
     ("a", 5, Ok(b"hello")),
     ("a", 5, Err(LoadFail::Failed)),
@@ -32,7 +32,7 @@ static LOADS: [Load<'static>; 5] = [
     ("b", 0, Ok(b"")),
 ];
 
-/// Where no load fails, a file `c` is empty.
+// Where no load fails, a file `c` is empty.
 static SURE_LOADS: [Load<'static>; 3] = [
     ("a", 5, Ok(b"hello")),
     ("c", 0, Ok(b"")),
@@ -55,7 +55,7 @@ fn shelves_in_memory(rt: HostRuntime) {
     assert!(rt; sure.cuts == 1);
 }
 
-/// A file of the system that is longer than one read asks for, one that is cut, and one that is missing.
+// A file of the system that is longer than one read asks for, one that is cut, and one that is missing.
 #[test]
 fn shelf_of_the_system(rt: HostRuntime) {
     let mut text = Vec::new(rt.alloc());
@@ -72,7 +72,7 @@ fn shelf_of_the_system(rt: HostRuntime) {
     assert!(rt; fs::remove_file(&rt, "long.txt").is_ok());
 }
 
-/// How many bytes a file has, whether reads fail after them, and what a load of at most eight bytes answers.
+// How many bytes a file has, whether reads fail after them, and what a load of at most eight bytes answers.
 static READS: [(usize, bool, Result<&[u8], LoadFail>); 6] = [
     (0, false, Ok(b"")),
     (7, false, Ok(b"1234567")),

@@ -7,7 +7,7 @@ use crate::fakes::Few;
 use gg_io::{FailingPut, MemSink, PutFail, Sink, StreamSink, SureSink};
 use std::io::Write;
 
-/// The second put writes 3 bytes and fails, the third writes both of its bytes and fails.
+// The second put writes 3 bytes and fails, the third writes both of its bytes and fails.
 static FAILING: [FailingPut; 2] = [
     FailingPut {
         number: 1,
@@ -19,7 +19,7 @@ static FAILING: [FailingPut; 2] = [
     },
 ];
 
-/// A piece, what its put answers, and what is written then.
+// A piece, what its put answers, and what is written then.
 type Put = (&'static [u8], Result<(), PutFail>, &'static [u8]);
 
 static PUTS: [Put; 4] = [
@@ -56,7 +56,7 @@ fn sure_sink(rt: HostRuntime) {
     assert!(rt; sink.refused == 0);
 }
 
-/// Two puts: where a stream's bytes are known, the contract of `put` determines all of them.
+// Two puts: where a stream's bytes are known, the contract of `put` determines all of them.
 fn put_twice<W: Write + Drop>(
     sink: &mut StreamSink<W>,
     one: &[u8],
@@ -69,7 +69,7 @@ fn put_twice<W: Write + Drop>(
     sink.put(two)
 }
 
-/// For how many bytes a stream has room, whether it then fails, what a put of five bytes answers, and what is written then.
+// For how many bytes a stream has room, whether it then fails, what a put of five bytes answers, and what is written then.
 static STREAMS: [(usize, bool, Result<(), PutFail>, &[u8; 12]); 4] = [
     (5, true, Ok(()), b"12345......."),
     (5, false, Ok(()), b"12345......."),

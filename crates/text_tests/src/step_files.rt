@@ -2,7 +2,7 @@
 ghost use Rattle.std.specs.Prelude.{◌≡◌, IfOk, length};
 
 use gg_bits::Name;
-use gg_net::{Event, Refusal};
+use gg_net::{Event, StepRefusal};
 use gg_steps::{StepNames, cause_text, read_steps};
 use std::alloc::{AllocError, Global};
 
@@ -20,28 +20,28 @@ static STEPS: [Option<Event>; 6] = [
     }),
 ];
 
-/// The access of port 1.
+// The access of port 1.
 const SERVE: Option<Event> = Some(Event::Serve {
     machine: 0,
     port: 1,
 });
 
-/// Why port 1 wasn't served, and the text of that.
-static CAUSES: [(Refusal, &str); 5] = [
-    (Refusal::Stranger, "Stranger"),
+// Why port 1 wasn't served, and the text of that.
+static CAUSES: [(StepRefusal, &str); 5] = [
+    (StepRefusal::Stranger, "Stranger"),
     (
-        Refusal::Full {
+        StepRefusal::Full {
             channel: 1,
             len: 4096,
         },
         "Full y 4096",
     ),
-    (Refusal::Order { due: 0 }, "Order r"),
-    (Refusal::Order { due: 1 }, "Order w"),
-    (Refusal::Order { due: 2 }, "Order -"),
+    (StepRefusal::Order { due: 0 }, "Order r"),
+    (StepRefusal::Order { due: 1 }, "Order w"),
+    (StepRefusal::Order { due: 2 }, "Order -"),
 ];
 
-/// The names of the two ports.
+// The names of the two ports.
 fn two_ports(alloc: Global) -> Result<Vec<Name>, AllocError>
     ensures { IfOk result (λ ports. length ports.items ≡ 2) }
 {

@@ -8,10 +8,10 @@ use gg_trace::{Trace, header_text, read_trace, row_text};
 use itoa::Buffer;
 use std::alloc::{AllocError, Global};
 
-/// The place of a port, the values of its column, and the last row (empty: there is none).
+// The place of a port, the values of its column, and the last row (empty: there is none).
 type Column = (usize, &'static [u128], &'static [u128]);
 
-/// The ports, a text, and a column that it gives, or its first fault.
+// The ports, a text, and a column that it gives, or its first fault.
 type Read = (Inputs, &'static [u8], Result<Column, TraceFault>);
 
 static TEXTS: [Read; 31] = [
@@ -110,13 +110,13 @@ static TEXTS: [Read; 31] = [
     (XAndY, b"cycle y\n0 0\n", Err(Heading { field: 2 })),
 ];
 
-/// What a text gives with these ports.
+// What a text gives with these ports.
 fn read(alloc: Global, inputs: Inputs, text: &[u8]) -> Result<Trace, TraceFault> {
     let ports = ports_of(alloc, inputs)?;
     read_trace(alloc, &ports, text)
 }
 
-/// Whether a trace has this column, this last row, and no further rows.
+// Whether a trace has this column, this last row, and no further rows.
 fn has(alloc: Global, trace: &Trace, column: &Column) -> bool {
     let (input, values, last) = *column;
     if input >= trace.inputs() || trace.rows() != values.len() as u64 {
@@ -131,7 +131,7 @@ fn has(alloc: Global, trace: &Trace, column: &Column) -> bool {
     }
 }
 
-/// A row that fails is shown by its place and what it should have.
+// A row that fails is shown by its place and what it should have.
 #[test]
 fn texts(rt: HostRuntime) {
     for (place, (inputs, text, want)) in TEXTS.iter().enumerate() {
@@ -146,14 +146,14 @@ fn texts(rt: HostRuntime) {
     }
 }
 
-/// How many rows are kept of a trace of three, and what is left.
+// How many rows are kept of a trace of three, and what is left.
 static FIRST: [(u64, Column); 3] = [
     (2, (0, &[10, 11], &[11, 2])),
     (2, (1, &[1, 2], &[11, 2])),
     (0, (1, &[], &[])),
 ];
 
-/// Whether the first rows of a trace of three, so many, have this column and this last row.
+// Whether the first rows of a trace of three, so many, have this column and this last row.
 fn has_first(alloc: Global, rows: u64, column: &Column) -> bool {
     match read(alloc, XAndY, b"cycle x y\n0 a 1\n1 b 2\n2 c 3\n") {
         Ok(trace) => rows <= trace.rows() && has(alloc, &trace.first_rows(rows), column),
@@ -168,7 +168,7 @@ fn first_rows(rt: HostRuntime) {
     }
 }
 
-/// How many rows are read of a trace with so many rows and no ports.
+// How many rows are read of a trace with so many rows and no ports.
 fn rows_of(alloc: Global, rows: u64) -> Result<u64, TraceFault> {
     let mut text = String::from_str(alloc, "cycle\n")?;
     for row in 0..rows {
@@ -191,7 +191,7 @@ fn a_row_too_many(rt: HostRuntime) {
     assert!(rt; rows_of(rt.alloc(), 1_000_001) == Err(TooManyRows { row: 1_000_000 }));
 }
 
-/// The ports, a row's number and values, the header, and the row's line.
+// The ports, a row's number and values, the header, and the row's line.
 type Printed = (Inputs, u64, &'static [u128], &'static str, &'static str);
 
 static LINES: [Printed; 4] = [
@@ -201,7 +201,7 @@ static LINES: [Printed; 4] = [
     (Inputs::None, 7, &[], "cycle\n", "7\n"),
 ];
 
-/// Whether the header and the row are printed so.
+// Whether the header and the row are printed so.
 fn is_printed(alloc: Global, printed: &Printed) -> Result<bool, AllocError> {
     let (inputs, row, values, header, line) = *printed;
     let ports = ports_of(alloc, inputs)?;
@@ -212,7 +212,7 @@ fn is_printed(alloc: Global, printed: &Printed) -> Result<bool, AllocError> {
     Ok(is_header && row_text(alloc, &ports, row, values)?.as_str() == line)
 }
 
-/// Faults and their texts.
+// Faults and their texts.
 static FAULTS: [(TraceFault, &str); 7] = [
     (Heading { field: 2 }, "T1 field 2"),
     (RowNumber { row: 3 }, "T2 row 3"),

@@ -4,7 +4,7 @@ ghost use Rattle.gg_walk.specs.Lists.{HasTarget, HasTargetBelow, none_below_firs
 
 use gg_walk::{Graph, Target, WalkFault, walk};
 
-/// A graph whose nodes have three places each. A number that is not a node stands for a place without a target.
+// A graph whose nodes have three places each. A number that is not a node stands for a place without a target.
 #[derive(Drop)]
 struct Table<'a> {
     targets: &'a [[u32; 3]],
@@ -29,7 +29,7 @@ impl<'a> Graph for Table<'a> {
     }
 }
 
-/// The first number below a count at or after a place.
+// The first number below a count at or after a place.
 fn first_below(count: usize, targets: &[u32], place: usize) -> Option<Target>
     ensures target { IfSome result (λ found. Contains targets.now found.node) }
     ensures within { IfSome result (λ found. found.node < count) }
@@ -48,7 +48,7 @@ fn first_below(count: usize, targets: &[u32], place: usize) -> Option<Target>
     None
 }
 
-/// A graph, and its order (Ok) or the ring that is found in it (Err).
+// A graph, and its order (Ok) or the ring that is found in it (Err).
 type Row = (&'static [[u32; 3]], Result<&'static [u32], &'static [u32]>);
 
 static GRAPHS: [Row; 3] = [

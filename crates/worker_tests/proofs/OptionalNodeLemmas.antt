@@ -12,7 +12,7 @@ use Rattle.gg_net.specs.declared.shape.Wire.{Wire}
 use Rattle.gg_net.specs.Network.{Network, frame_of}
 use Rattle.gg_net.specs.Kept.{Kept}
 use Rattle.gg_net.specs.Queue.{Held}
-use Rattle.gg_net.specs.Seats.{hosted, seated, machines_by, HasStation, AreSeated}
+use Rattle.gg_net.specs.Stations.{hosted, stationed, machines_by, HasStation, AreStationed}
 use Rattle.gg_net.specs.Net.{AreListed, IsWithinLimits, IsNet}
 
 -- at the one host behind, and past it, there are no threads
@@ -20,7 +20,7 @@ none : (n : ℕ) → hosted ([] ∷ []) n ≡ []
 none zero = refl
 none (suc n) = refl
 
-module _ (hosts all : List (List Machine)) (stations : List Station) (is : all ≡ hosts ++ ([] ∷ [])) (are : AreSeated hosts stations) where
+module _ (hosts all : List (List Machine)) (stations : List Station) (is : all ≡ hosts ++ ([] ∷ [])) (are : AreStationed hosts stations) where
   one-more : length all ≡ length hosts + 1
   one-more = ap length is ∙ length-append hosts ([] ∷ [])
 
@@ -33,21 +33,21 @@ module _ (hosts all : List (List Machine)) (stations : List Station) (is : all �
   machines-same : machines_by all stations ≡ machines_by hosts stations
   machines-same =
       ext_get_or no_machine (machines_by all stations) (machines_by hosts stations)
-      (length-map stations (seated all) ∙ sym (length-map stations (seated hosts)))
+      (length-map stations (stationed all) ∙ sym (length-map stations (stationed hosts)))
       (λ k lt.
-      let within : k < length stations = omega (arith, lt, length-map stations (seated all)) in
+      let within : k < length stations = omega (arith, lt, length-map stations (stationed all)) in
       let s : Station = some-item stations k within in
       let t : Station = slice_index_or stations k s in
-      get_or-map (seated all) stations k s no_machine within
+      get_or-map (stationed all) stations k s no_machine within
       ∙ ap (λ threads. machine_at threads t.thread) (hosted-same t.host (are.each k s within).host)
-      ∙ sym (get_or-map (seated hosts) stations k s no_machine within))
+      ∙ sym (get_or-map (stationed hosts) stations k s no_machine within))
 
   whole : (h t : ℕ) → t < length (hosted all h) → (h < length hosts) ⊎ (length hosts ≤ h) → HasStation stations h t
   whole h t thread (inl lt) = are.whole h t lt (omega (arith, thread, ap length (hosted-same h lt)))
   whole h t thread (inr past) = absurd (omega (arith, thread, ap length (hosted-none h past)))
 
-  seated-same : AreSeated all stations
-  seated-same =
+  stationed-same : AreStationed all stations
+  stationed-same =
       record {
         each = λ k d lt.
             let at : Station = slice_index_or stations k d in
@@ -66,9 +66,9 @@ net_with wires queues end machines = record { machines = machines; wires = wires
 -- Hosts, stations, channels and queues that are the parts of a network still are with such a host.
 pub still-net : (flow : Flow) (hosts all : List (List Machine)) (stations : List Station) (wires : List Wire) (queues : List Held) (end : ℕ) → all ≡ hosts ++ ([] ∷ []) → IsNet flow hosts stations wires queues end → IsNet flow all stations wires queues end
 still-net flow hosts all stations wires queues end is net =
-    let same = sym (machines-same hosts all stations is net.seated) in
+    let same = sym (machines-same hosts all stations is net.stationed) in
     record {
-      seated = seated-same hosts all stations is net.seated;
+      stationed = stationed-same hosts all stations is net.stationed;
       listed = subst (λ machines. AreListed (frame_of (net_with wires queues end machines)) stations) same net.listed;
       room = net.room;
       limits = subst (λ machines. IsWithinLimits (frame_of (net_with wires queues end machines))) same net.limits;

@@ -12,7 +12,7 @@ use gg_net::{Net, Parts, Streams};
 use gg_node::Host;
 use std::alloc::{AllocError, Global};
 
-/// Has the threads of a node, or none if no node is in.
+// Has the threads of a node, or none if no node is in.
 pub(crate) struct OptionalNode<'a> {
     node: Option<Node<'a, Echo>>,
 }
@@ -25,7 +25,7 @@ impl Drop for OptionalNode<'_> {
 }
 
 impl<'a> OptionalNode<'a> {
-    /// The value of a cycle that a tray in it keeps.
+    // The value of a cycle that a tray in it keeps.
     pub(crate) fn value(&self, cycle: u64) -> Option<u128> {
         match &self.node {
             Some(node) => node.value(cycle),
@@ -155,11 +155,11 @@ fn optional_nodes_of<'a>(
     Ok(hosts)
 }
 
-/// The network with one host more, which has no thread.
-///
-/// # Errors
-///
-/// Returns `AllocError` if an allocation fails.
+// The network with one host more, which has no thread.
+//
+// # Errors
+//
+// Returns `AllocError` if an allocation fails.
 pub(crate) fn beside_none<'a, Z: Streams>(
     alloc: Global,
     net: Net<Node<'a, Echo>, Z>,

@@ -26,11 +26,11 @@ use std::alloc::Global;
 use std::marker::Brand;
 use std::thread::Threads;
 
-/// A run by workers, and what is expected of it: the cycle to which the network is brought before the run, the workers, the cycle up to
-/// which they step its machines, and how many steps are left after it, at least and at most.
+// A run by workers, and what is expected of it: the cycle to which the network is brought before the run, the workers, the cycle up to
+// which they step its machines, and how many steps are left after it, at least and at most.
 pub(crate) type Row = (u64, u32, u64, u64, u64);
 
-/// Runs of one network, each from the opening.
+// Runs of one network, each from the opening.
 pub(crate) struct Table {
     pub(crate) circuit: &'static str,
     pub(crate) partition: &'static str,
@@ -167,7 +167,7 @@ fn is_planned<R: Threads + Sync, L: Link, G: Gate + Sync>(
     requires fed { IsColumns design.now.circuit inputs.now.rows inputs.now.columns }
     requires alone { request.now.bridges ≡ [] }
 {
-    // for the design's invariant on its parts
+    // for the invariant alone
     let _ = design.order();
     let _ = design.piece();
     let _ = inputs.rows();
@@ -234,7 +234,7 @@ fn is_fed<R: Threads + Sync, L: Link, G: Gate + Sync>(
     }
 }
 
-/// Whether a run of the network of a table leaves what is expected. False, too, if an allocation fails.
+// Whether a run of the network of a table leaves what is expected. False, too, if an allocation fails.
 pub(crate) fn is_expected<R: Threads + Sync, L: Link, G: Gate + Sync>(
     rt: &R,
     home: L::Home,

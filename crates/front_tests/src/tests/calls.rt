@@ -10,25 +10,25 @@ use gg_read::read_circuit;
 use std::alloc::{AllocError, Global};
 use std::process::Abort;
 
-/// A text, and what a call tells of it.
+// A text, and what a call tells of it.
 pub(crate) type Row = (Source, &'static str);
 
-/// What is called.
+// What is called.
 #[derive(Clone, Copy)]
 pub(crate) enum Call {
-    /// `gg_lex::lex`.
+    // `gg_lex::lex`.
     Lex,
-    /// `gg_lex::tokens`.
+    // `gg_lex::tokens`.
     Tokens,
-    /// `gg_read::read_circuit`.
+    // `gg_read::read_circuit`.
     Read,
-    /// `gg_front::front`.
+    // `gg_front::front`.
     Front,
-    /// `gg_read::read_circuit`, `gg_shape::shape`, `gg_types::types`, `gg_elab::flatten` and `gg_order::order`.
+    // `gg_read::read_circuit`, `gg_shape::shape`, `gg_types::types`, `gg_elab::flatten` and `gg_order::order`.
     Stages,
 }
 
-/// Checks what a call tells of each text. A failure names the table and the row, counted from 0.
+// Checks what a call tells of each text. A failure names the table and the row, counted from 0.
 pub(crate) fn check_rows(rt: &impl Abort, alloc: Global, call: Call, table: &str, rows: &[Row]) {
     for (row, (source, wanted)) in rows.iter().enumerate() {
         let mut found = String::new(alloc);
@@ -40,7 +40,7 @@ pub(crate) fn check_rows(rt: &impl Abort, alloc: Global, call: Call, table: &str
     }
 }
 
-/// Adds what a call tells of a text.
+// Adds what a call tells of a text.
 fn tell(out: &mut String, alloc: Global, call: Call, source: &Source) -> Result<(), AllocError> {
     let mut text = String::new(alloc);
     put(&mut text, source)?;
@@ -60,7 +60,7 @@ fn tell(out: &mut String, alloc: Global, call: Call, source: &Source) -> Result<
     }
 }
 
-/// Adds what is read of the bytes, or, if they spell a circuit, what the further calls tell of it.
+// Adds what is read of the bytes, or, if they spell a circuit, what the further calls tell of it.
 fn tell_read(out: &mut String, alloc: Global, bytes: &[u8], further: bool) -> Result<(), AllocError>
     requires { length bytes.now < 2 ^ 32 }
 {

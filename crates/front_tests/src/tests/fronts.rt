@@ -9,7 +9,7 @@ use gg_front::front;
 use gg_order::Design;
 use std::alloc::{AllocError, Global};
 
-/// Adds what `front` answers, as it is printed.
+// Adds what `front` answers, as it is printed.
 pub(crate) fn tell_front(out: &mut String, alloc: Global, bytes: &[u8]) -> Result<(), AllocError>
     requires { length bytes.now < 2 ^ 32 }
 {
@@ -19,7 +19,7 @@ pub(crate) fn tell_front(out: &mut String, alloc: Global, bytes: &[u8]) -> Resul
     }
 }
 
-/// Adds the numbers of signals, inputs, outputs and instances of a design.
+// Adds the numbers of signals, inputs, outputs and instances of a design.
 fn put_design(out: &mut String, design: &Design) -> Result<(), AllocError> {
     let piece = design.piece();
     let signals = piece.signal_count();
@@ -32,7 +32,7 @@ fn put_design(out: &mut String, design: &Design) -> Result<(), AllocError> {
     )
 }
 
-/// Circuits with a line changed, and bytes that are no text.
+// Circuits with a line changed, and bytes that are no text.
 pub(crate) static CIRCUITS: [Row; 62] = [
     (Bytes(b"\xff"), "not text"),
     (Edited(COUNTER, 0, ""), "4 signals 1 in 1 out 1 instances"),
@@ -204,20 +204,20 @@ pub(crate) static CIRCUITS: [Row; 62] = [
     ),
 ];
 
-/// What the last module of a chain declares: a wire.
+// What the last module of a chain declares: a wire.
 const WIRE: &str = "wire w : UInt<1>\nw <= UInt<1>(\"h0\")\n";
 
-/// The same: a memory of 65,536 words.
+// The same: a memory of 65,536 words.
 const WORDS: &str =
     "mem m :\ndata-type => UInt<8>\ndepth => 65536\nread-latency => 0\nwrite-latency => 1\nread-under-write => undefined\n";
 
-/// The lines before the stops of a circuit of one input.
+// The lines before the stops of a circuit of one input.
 const STOPPED: &str = "circuit Top :\nmodule Top :\ninput clock : Clock\ninput v : UInt<1>\n";
 
-/// A stop.
+// A stop.
 const STOP: &str = "stop(clock, v, 1)\n";
 
-/// Circuits at the limits of depth, signals, words and instances, and beyond them.
+// Circuits at the limits of depth, signals, words and instances, and beyond them.
 pub(crate) static CHAINS: [Row; 9] = [
     (
         Chain(17, 2, WIRE),

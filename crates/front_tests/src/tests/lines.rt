@@ -4,13 +4,13 @@ use super::sources::Source::Whole;
 use gg_lex::{LexFault, Tok, lex, tokens};
 use std::alloc::{AllocError, Global};
 
-/// Adds the tokens of a line up to its first bad place, and that place after `!`.
+// Adds the tokens of a line up to its first bad place, and that place after `!`.
 pub(crate) fn tell_lexed(out: &mut String, alloc: Global, line: &str) -> Result<(), AllocError> {
     let lexed = lex(alloc, line)?;
     put_tokens(out, lexed.tokens.as_slice(), lexed.bad)
 }
 
-/// Adds the tokens of a line, or its bad place after `!`.
+// Adds the tokens of a line, or its bad place after `!`.
 pub(crate) fn tell_tokens(out: &mut String, alloc: Global, line: &str) -> Result<(), AllocError> {
     match tokens(alloc, line) {
         Ok(found) => put_tokens(out, found.as_slice(), None),
@@ -19,7 +19,7 @@ pub(crate) fn tell_tokens(out: &mut String, alloc: Global, line: &str) -> Result
     }
 }
 
-/// Adds tokens, and a place after `!`, if there is one.
+// Adds tokens, and a place after `!`, if there is one.
 fn put_tokens(out: &mut String, tokens: &[Tok], bad: Option<u64>) -> Result<(), AllocError> {
     for token in tokens {
         put_token(out, token)?;
@@ -30,7 +30,7 @@ fn put_tokens(out: &mut String, tokens: &[Tok], bad: Option<u64>) -> Result<(), 
     }
 }
 
-/// Adds a token and a blank: a word or a symbol as written, a number after `#`, a text in quotes.
+// Adds a token and a blank: a word or a symbol as written, a number after `#`, a text in quotes.
 fn put_token(out: &mut String, token: &Tok) -> Result<(), AllocError> {
     match token {
         Tok::Word(name) => write!(out, "{name} "),
@@ -40,7 +40,7 @@ fn put_token(out: &mut String, token: &Tok) -> Result<(), AllocError> {
     }
 }
 
-/// Lines through `lex`.
+// Lines through `lex`.
 pub(crate) static LEXED: [Row; 40] = [
     (Whole(""), ""),
     (Whole(" \t "), ""),
@@ -90,7 +90,7 @@ pub(crate) static LEXED: [Row; 40] = [
     (Whole("UInt<8>(\"hf\")"), "UInt < #8 > ( \"hf\" ) "),
 ];
 
-/// Lines through `tokens`.
+// Lines through `tokens`.
 pub(crate) static TOKENS: [Row; 2] = [
     (Whole("node a = b"), "node a = b "),
     (Whole("node #"), "!5"),

@@ -5,8 +5,8 @@ use super::sources::Source::{Bytes, Edited, Repeated, Whole};
 use gg_ast::{Circuit, Module, Report, StmtKind};
 use std::alloc::AllocError;
 
-/// Adds the name of a circuit, and its line numbers: its own, and for each module its own, its ports' and its
-/// statements'.
+// Adds the name of a circuit, and its line numbers: its own, and for each module its own, its ports' and its
+// statements'.
 pub(crate) fn put_circuit(out: &mut String, circuit: &Circuit) -> Result<(), AllocError> {
     write!(out, "{} {}", circuit.name(), circuit.line())?;
     for (place, module) in circuit.modules().iter().enumerate() {
@@ -15,8 +15,8 @@ pub(crate) fn put_circuit(out: &mut String, circuit: &Circuit) -> Result<(), All
     Ok(())
 }
 
-/// The same of a module. If an earlier module has the same name, the place of that module is added, since the name leads
-/// there.
+// The same of a module. If an earlier module has the same name, the place of that module is added, since the name leads
+// there.
 fn put_module(
     out: &mut String,
     circuit: &Circuit,
@@ -34,7 +34,7 @@ fn put_module(
     Ok(())
 }
 
-/// Adds the place where a module's name leads, unless it leads to the module itself, which is at this place.
+// Adds the place where a module's name leads, unless it leads to the module itself, which is at this place.
 fn put_place(
     out: &mut String,
     circuit: &Circuit,
@@ -51,7 +51,7 @@ fn put_place(
     }
 }
 
-/// What a statement is.
+// What a statement is.
 fn word(kind: &StmtKind) -> &'static str {
     match kind {
         StmtKind::Wire { .. } => "wire",
@@ -72,20 +72,20 @@ fn word(kind: &StmtKind) -> &'static str {
     }
 }
 
-/// The first seven lines of the counter.
+// The first seven lines of the counter.
 const SEVEN_LINES: &str =
     "circuit Counter :\n  module Counter :\n    input clock : Clock\n    input reset : UInt<1>\n    output out : UInt<8>\n\n    reg c : UInt<8>, clock with :\n";
 
-/// Its eighth line.
+// Its eighth line.
 const RESET: &str = "      reset => (UInt<1>(\"h0\"), c) @[Counter.scala 5:20]\n";
 
-/// Its ninth line.
+// Its ninth line.
 const NODE: &str = "    node n = add(c, UInt<1>(\"h1\"))\n";
 
-/// The end of its tenth line, and its last.
+// The end of its tenth line, and its last.
 const LAST: &str = "\n    c <= mux(reset, UInt<8>(\"h0\"), bits(n, 7, 0))\n";
 
-/// The counter with a line changed, its first lines, and brackets in it.
+// The counter with a line changed, its first lines, and brackets in it.
 pub(crate) static COUNTERS: [Row; 34] = [
     (
         Edited(COUNTER, 0, ""),
@@ -197,7 +197,7 @@ pub(crate) static COUNTERS: [Row; 34] = [
     ),
 ];
 
-/// The counter in the second spelling: mixed with the first, with names that are words of the second, and refused.
+// The counter in the second spelling: mixed with the first, with names that are words of the second, and refused.
 pub(crate) static SECOND_COUNTERS: [Row; 37] = [
     (
         Edited(SECOND, 0, ""),
@@ -317,7 +317,7 @@ pub(crate) static SECOND_COUNTERS: [Row; 37] = [
     ),
 ];
 
-/// Whole texts, and bytes that are none.
+// Whole texts, and bytes that are none.
 pub(crate) static TEXTS: [Row; 11] = [
     (Bytes(b"\xff"), "not text"),
     (

@@ -1,22 +1,22 @@
 //! Texts, each made from a few words.
 use std::alloc::AllocError;
 
-/// How a text is made.
+// How a text is made.
 pub(crate) enum Source {
-    /// Just this.
+    // Just this.
     Whole(&'static str),
-    /// These texts, each so many times.
+    // These texts, each so many times.
     Repeated(&'static [(&'static str, usize)]),
-    /// A circuit with this line, counted from 1 (0: none), changed.
+    // A circuit with this line, counted from 1 (0: none), changed.
     Edited(&'static str, usize, &'static str),
-    /// Modules in a chain: so many levels of instances below the top, so many instances of the next module in each
-    /// module, and these lines in the last module.
+    // Modules in a chain: so many levels of instances below the top, so many instances of the next module in each
+    // module, and these lines in the last module.
     Chain(u32, u32, &'static str),
-    /// No text, but these bytes.
+    // No text, but these bytes.
     Bytes(&'static [u8]),
 }
 
-/// Adds a text. Of bytes nothing is added.
+// Adds a text. Of bytes nothing is added.
 pub(crate) fn put(out: &mut String, source: &Source) -> Result<(), AllocError> {
     match source {
         Source::Whole(text) => out.push_str(text),
@@ -27,7 +27,7 @@ pub(crate) fn put(out: &mut String, source: &Source) -> Result<(), AllocError> {
     }
 }
 
-/// Adds texts, each so many times.
+// Adds texts, each so many times.
 fn put_repeated(out: &mut String, texts: &[(&str, usize)]) -> Result<(), AllocError> {
     for (text, times) in texts {
         for _turn in 0..*times {
@@ -37,7 +37,7 @@ fn put_repeated(out: &mut String, texts: &[(&str, usize)]) -> Result<(), AllocEr
     Ok(())
 }
 
-/// Adds a circuit with a line changed.
+// Adds a circuit with a line changed.
 fn put_edited(
     out: &mut String,
     circuit: &str,
@@ -53,7 +53,7 @@ fn put_edited(
     Ok(())
 }
 
-/// Adds a chain of modules.
+// Adds a chain of modules.
 fn put_chain(out: &mut String, levels: u32, instances: u32, last: &str) -> Result<(), AllocError> {
     out.push_str("circuit L0 :\n")?;
     for level in 0..levels {

@@ -16,7 +16,7 @@ use gg_types::Typed;
 use gg_types_rules::types;
 use std::alloc::{AllocError, Global};
 
-/// Adds what the calls tell of a circuit that was read, from `shape` on.
+// Adds what the calls tell of a circuit that was read, from `shape` on.
 pub(crate) fn tell_shape(
     out: &mut String,
     alloc: Global,
@@ -28,7 +28,7 @@ pub(crate) fn tell_shape(
     }
 }
 
-/// The same from `types` on.
+// The same from `types` on.
 fn tell_types(out: &mut String, alloc: Global, circuit: &Circuit) -> Result<(), AllocError>
     requires { IsShaped circuit.now }
 {
@@ -38,7 +38,7 @@ fn tell_types(out: &mut String, alloc: Global, circuit: &Circuit) -> Result<(), 
     }
 }
 
-/// The same from `flatten` on.
+// The same from `flatten` on.
 fn tell_flat(out: &mut String, alloc: Global, typed: &Typed) -> Result<(), AllocError> {
     match flatten(alloc, typed) {
         Ok((piece, _)) => tell_order(out, alloc, &piece),
@@ -46,7 +46,7 @@ fn tell_flat(out: &mut String, alloc: Global, typed: &Typed) -> Result<(), Alloc
     }
 }
 
-/// The same from `order` on: the numbers of signals of the flat circuit and of its order, or the paths of a loop.
+// The same from `order` on: the numbers of signals of the flat circuit and of its order, or the paths of a loop.
 fn tell_order(out: &mut String, alloc: Global, piece: &Piece) -> Result<(), AllocError>
     requires { IsWellFormed piece.now }
 {
@@ -58,7 +58,7 @@ fn tell_order(out: &mut String, alloc: Global, piece: &Piece) -> Result<(), Allo
     }
 }
 
-/// Adds the paths of a loop.
+// Adds the paths of a loop.
 fn put_paths(out: &mut String, piece: &Piece, signals: &[u32]) -> Result<(), AllocError> {
     out.push_str("loop:")?;
     for signal in signals {
@@ -70,8 +70,8 @@ fn put_paths(out: &mut String, piece: &Piece, signals: &[u32]) -> Result<(), All
     Ok(())
 }
 
-/// Circuits with a line changed, and a chain that is too deep. Signals are counted by hand: of `STORE` three ports of
-/// the top without its clock's, three of `Store`, three fields of the reader and four of the writer without `clk`.
+// Circuits with a line changed, and a chain that is too deep. Signals are counted by hand: of `STORE` three ports of
+// the top without its clock's, three of `Store`, three fields of the reader and four of the writer without `clk`.
 pub(crate) static STAGES: [Row; 14] = [
     (Edited(COUNTER, 0, ""), "4 signals 4 in order"),
     (Edited(STORE, 0, ""), "13 signals 13 in order"),

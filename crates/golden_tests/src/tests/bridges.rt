@@ -1,29 +1,26 @@
-//! Partitions with bridges: what runs with echoes print, and the partitions that are refused. Expected texts are worked by a model in Python that has
+//! Runs with echoes, and what `check` and `replay` show of them. Expected texts are worked by a model in Python that has
 //! nothing of golden, and the short ones by hand from docs/FORMATS.md.
-use super::calls::Call::{Ask, AskFailing, Replay, Resume, Run, Save};
-use super::calls::End::{Prints, Refuses, Saves, Stops};
+use super::calls::Call::{Ask, AskFailing, Replay, Run};
+use super::calls::End::{Prints, Refuses, Stops};
 use super::calls::{NONE, Row};
 use super::steps::REPLAY;
 use golden_calls::{CHECK, TWO};
 
 // Two adders of which each may feed the other from outside, and an output of both.
-const CROSS: &str =
+pub(crate) const CROSS: &str =
     "circuit Cross :\nmodule Inc :\ninput clock : Clock\ninput a : UInt<8>\noutput b : UInt<8>\nb <= tail(add(a, UInt<8>(1)), 1)\nmodule Cross :\ninput clock : Clock\ninput a : UInt<8>\ninput s : UInt<8>\ninput b : UInt<8>\noutput c : UInt<8>\noutput e : UInt<16>\noutput d : UInt<8>\ninst u of Inc\nu.clock <= clock\nu.a <= b\nc <= u.b\nd <= xor(a, s)\ne <= cat(a, b)\n";
 
 // A signed input and a signed output.
-const SIGNED: &str =
+pub(crate) const SIGNED: &str =
     "circuit Signed :\nmodule Signed :\ninput x : SInt<8>\ninput v : UInt<8>\noutput y : SInt<8>\noutput w : UInt<8>\ny <= x\nw <= v\n";
 
 // A register that counts what is seen, and a stop.
-const ENDS: &str =
+pub(crate) const ENDS: &str =
     "circuit Ends :\nmodule Ends :\ninput clock : Clock\ninput x : UInt<8>\noutput n : UInt<8>\noutput y : UInt<8>\nreg r : UInt<8>, clock\nr <= tail(add(x, UInt<8>(1)), 1)\ny <= r\nn <= x\nstop(clock, eq(x, UInt<8>(2)), 1) : done\n";
 
 // A memory whose address a bridge drives.
 const CELL: &str =
     "circuit Cell :\nmodule Cell :\ninput clock : Clock\ninput a : UInt<1>\ninput v : UInt<8>\noutput o : UInt<1>\noutput z : UInt<8>\nmem m :\ndata-type => UInt<8>\ndepth => 2\nread-latency => 0\nwrite-latency => 1\nreader => r\nwriter => w\nread-under-write => undefined\nm.r.clk <= clock\nm.w.clk <= clock\nm.r.addr <= a\nm.w.addr <= a\nm.r.en <= UInt<1>(1)\nm.w.en <= UInt<1>(1)\nm.w.mask <= UInt<1>(1)\nm.w.data <= v\nz <= m.r.data\no <= bits(v, 0, 0)\n";
-
-// A circuit without outputs and with one input.
-const EMPTY: &str = "circuit Empty :\nmodule Empty :\ninput x : UInt<8>\n";
 
 // Five rows without inputs.
 pub(crate) const FIVE_ROWS: &str = "cycle\n0\n1\n2\n3\n4\n";
@@ -40,10 +37,10 @@ const UNITS: &str =
 // says a cycle later, 00, 00, ff, fe; `p` is the sum of what `x` was.
 pub(crate) const ECHOED: &str = "cycle p\n0 00\n1 00\n2 00\n3 ff\n4 fd\n";
 
-/// An echo that sees `q` and drives `x`; the same in a cut, with hosts that are shared and channels of one token, with pipes
-/// before and behind the echo, and with a clock that has an edge in each second cycle. Two echoes of one kind, the one fed by way of the other; the
-/// same in the other order, and with their ports changed. An echo with other inputs beside it. Runs that a stop ends, behind a pipe too. A
-/// memory whose address an echo drives. A signed port beside it. No entry.
+// An echo that sees `q` and drives `x`; the same in a cut, with hosts that are shared and channels of one token, with pipes
+// before and behind the echo, and with a clock that has an edge in each second cycle. Two echoes of one kind, the one fed by way of the other; the
+// same in the other order, and with their ports changed. An echo with other inputs beside it. Runs that a stop ends, behind a pipe too. A
+// memory whose address an echo drives. A signed port beside it. No entry.
 pub(crate) static BRIDGED: [Row; 15] = [
     (
         Run(
@@ -175,8 +172,8 @@ pub(crate) static BRIDGED: [Row; 15] = [
     ),
 ];
 
-/// The same with channels of one token, without workers and with two, by the simulator, and with as many of both as there may be; and where a put on
-/// `out` takes three bytes and fails.
+// The same with channels of one token, without workers and with two, by the simulator, and with as many of both as there may be; and where a put on
+// `out` takes three bytes and fails.
 pub(crate) static BRIDGED_WAYS: [Row; 8] = [
     (
         Ask(
@@ -255,506 +252,8 @@ pub(crate) static BRIDGED_WAYS: [Row; 8] = [
     ),
 ];
 
-/// Values of the key `bridges` that are no list of objects with just the three keys. It is looked at behind `clocks`, and before a key that is unknown.
-pub(crate) static BRIDGES_UNREAD: [Row; 9] = [
-    (
-        Run(TWO, "{\"bridges\":{}}", "cycle\n"),
-        Refuses(6, 2, "golden: partition: P1 bridges\n"),
-    ),
-    (
-        Run(TWO, "{\"bridges\":[\"echo8\"]}", "cycle\n"),
-        Refuses(6, 2, "golden: partition: P1 bridges\n"),
-    ),
-    (
-        Run(
-            TWO,
-            "{\"bridges\":[{\"name\":\"echo8\",\"sees\":[\"q\"]}]}",
-            "cycle\n",
-        ),
-        Refuses(6, 2, "golden: partition: P1 bridges\n"),
-    ),
-    (
-        Run(
-            TWO,
-            "{\"bridges\":[{\"name\":\"echo8\",\"sees\":[\"q\"],\"drives\":[\"x\"],\"width\":8}]}",
-            "cycle\n",
-        ),
-        Refuses(6, 2, "golden: partition: P1 bridges\n"),
-    ),
-    (
-        Run(
-            TWO,
-            "{\"bridges\":[{\"name\":8,\"sees\":[\"q\"],\"drives\":[\"x\"]}]}",
-            "cycle\n",
-        ),
-        Refuses(6, 2, "golden: partition: P1 bridges\n"),
-    ),
-    (
-        Run(
-            TWO,
-            "{\"bridges\":[{\"name\":\"echo8\",\"sees\":\"q\",\"drives\":[\"x\"]}]}",
-            "cycle\n",
-        ),
-        Refuses(6, 2, "golden: partition: P1 bridges\n"),
-    ),
-    (
-        Run(
-            TWO,
-            "{\"bridges\":[{\"name\":\"echo8\",\"sees\":[\"q\"],\"drives\":[1]}]}",
-            "cycle\n",
-        ),
-        Refuses(6, 2, "golden: partition: P1 bridges\n"),
-    ),
-    (
-        Run(TWO, "{\"bridge\":[],\"bridges\":0,\"clocks\":0}", "cycle\n"),
-        Refuses(6, 2, "golden: partition: P1 clocks\n"),
-    ),
-    (
-        Run(TWO, "{\"bridge\":[],\"bridges\":0}", "cycle\n"),
-        Refuses(6, 2, "golden: partition: P1 bridges\n"),
-    ),
-];
-
-/// A name that no bridge has, or that an earlier entry has: also beside ports that aren't there. A fault of an earlier entry is told first, whatever its number.
-pub(crate) static BRIDGES_UNKNOWN: [Row; 8] = [
-    (
-        Run(
-            TWO,
-            "{\"bridges\":[{\"name\":\"echo9\",\"sees\":[\"q\"],\"drives\":[\"x\"]}]}",
-            "cycle\n",
-        ),
-        Refuses(6, 2, "golden: partition: P14 echo9\n"),
-    ),
-    (
-        Run(
-            TWO,
-            "{\"bridges\":[{\"name\":\"\",\"sees\":[\"q\"],\"drives\":[\"x\"]}]}",
-            "cycle\n",
-        ),
-        Refuses(6, 2, "golden: partition: P14 \n"),
-    ),
-    (
-        Run(
-            TWO,
-            "{\"bridges\":[{\"name\":\"Echo8\",\"sees\":[\"q\"],\"drives\":[\"x\"]}]}",
-            "cycle\n",
-        ),
-        Refuses(6, 2, "golden: partition: P14 Echo8\n"),
-    ),
-    (
-        Run(
-            CROSS,
-            "{\"bridges\":[{\"name\":\"echo8\",\"sees\":[\"c\"],\"drives\":[\"a\"]},{\"name\":\"echo8\",\"sees\":[\"d\"],\"drives\":[\"b\"]}]}",
-            "cycle\n",
-        ),
-        Refuses(6, 2, "golden: partition: P14 echo8\n"),
-    ),
-    (
-        Run(
-            CROSS,
-            "{\"bridges\":[{\"name\":\"echo8\",\"sees\":[\"c\"],\"drives\":[\"a\"]},{\"name\":\"echo8\",\"sees\":[\"c\"],\"drives\":[\"zz\"]}]}",
-            "cycle\n",
-        ),
-        Refuses(6, 2, "golden: partition: P14 echo8\n"),
-    ),
-    (
-        Run(
-            TWO,
-            "{\"bridges\":[{\"name\":\"echo9\",\"sees\":[\"zz\"],\"drives\":[\"zz\"]}]}",
-            "cycle\n",
-        ),
-        Refuses(6, 2, "golden: partition: P14 echo9\n"),
-    ),
-    (
-        Run(
-            TWO,
-            "{\"bridges\":[{\"name\":\"echo8\",\"sees\":[\"zz\"],\"drives\":[\"x\"]},{\"name\":\"echo9\",\"sees\":[\"q\"],\"drives\":[\"x\"]}]}",
-            "cycle\n",
-        ),
-        Refuses(6, 2, "golden: partition: P15 zz\n"),
-    ),
-    (
-        Run(
-            CROSS,
-            "{\"bridges\":[{\"name\":\"echo32\",\"sees\":[\"c\"],\"drives\":[\"a\"]},{\"name\":\"echo9\",\"sees\":[\"d\"],\"drives\":[\"b\"]}]}",
-            "cycle\n",
-        ),
-        Refuses(6, 2, "golden: partition: P16 echo32\n"),
-    ),
-];
-
-/// Ports that are no output to see, or no input to drive, or are listed twice: an input, an output, ports of a unit, a Clock, a stop, a pipe; twice in one entry and in
-/// two; of several the first, `sees` before `drives`; beside a model of another width.
-pub(crate) static BRIDGES_ASTRAY: [Row; 15] = [
-    (
-        Run(
-            TWO,
-            "{\"bridges\":[{\"name\":\"echo8\",\"sees\":[\"q\"],\"drives\":[\"y\"]}]}",
-            "cycle\n",
-        ),
-        Refuses(6, 2, "golden: partition: P15 y\n"),
-    ),
-    (
-        Run(
-            TWO,
-            "{\"bridges\":[{\"name\":\"echo8\",\"sees\":[\"x\"],\"drives\":[\"x\"]}]}",
-            "cycle\n",
-        ),
-        Refuses(6, 2, "golden: partition: P15 x\n"),
-    ),
-    (
-        Run(
-            TWO,
-            "{\"bridges\":[{\"name\":\"echo8\",\"sees\":[\"q\"],\"drives\":[\"q\"]}]}",
-            "cycle\n",
-        ),
-        Refuses(6, 2, "golden: partition: P15 q\n"),
-    ),
-    (
-        Run(
-            TWO,
-            "{\"units\":[\"u\"],\"bridges\":[{\"name\":\"echo8\",\"sees\":[\"u.s\"],\"drives\":[\"x\"]}]}",
-            "cycle\n",
-        ),
-        Refuses(6, 2, "golden: partition: P15 u.s\n"),
-    ),
-    (
-        Run(
-            TWO,
-            "{\"units\":[\"u\"],\"bridges\":[{\"name\":\"echo8\",\"sees\":[\"q\"],\"drives\":[\"u.a\"]}]}",
-            "cycle\n",
-        ),
-        Refuses(6, 2, "golden: partition: P15 u.a\n"),
-    ),
-    (
-        Run(
-            TWO,
-            "{\"bridges\":[{\"name\":\"echo8\",\"sees\":[\"q\"],\"drives\":[\"clock\"]}]}",
-            "cycle\n",
-        ),
-        Refuses(6, 2, "golden: partition: P15 clock\n"),
-    ),
-    (
-        Run(
-            ENDS,
-            "{\"bridges\":[{\"name\":\"echo1\",\"sees\":[\"stop:0\"],\"drives\":[\"x\"]}]}",
-            "cycle\n",
-        ),
-        Refuses(6, 2, "golden: partition: P15 stop:0\n"),
-    ),
-    (
-        Run(
-            TWO,
-            "{\"bridges\":[{\"name\":\"echo8\",\"sees\":[\"q\",\"q\"],\"drives\":[\"x\"]}]}",
-            "cycle\n",
-        ),
-        Refuses(6, 2, "golden: partition: P15 q\n"),
-    ),
-    (
-        Run(
-            TWO,
-            "{\"bridges\":[{\"name\":\"echo8\",\"sees\":[\"q\"],\"drives\":[\"x\",\"x\"]}]}",
-            "cycle\n",
-        ),
-        Refuses(6, 2, "golden: partition: P15 x\n"),
-    ),
-    (
-        Run(
-            CROSS,
-            "{\"bridges\":[{\"name\":\"echo8\",\"sees\":[\"c\"],\"drives\":[\"a\"]},{\"name\":\"other8\",\"sees\":[\"c\"],\"drives\":[\"b\"]}]}",
-            "cycle\n",
-        ),
-        Refuses(6, 2, "golden: partition: P15 c\n"),
-    ),
-    (
-        Run(
-            CROSS,
-            "{\"bridges\":[{\"name\":\"echo8\",\"sees\":[\"c\"],\"drives\":[\"a\"]},{\"name\":\"other8\",\"sees\":[\"d\"],\"drives\":[\"a\"]}]}",
-            "cycle\n",
-        ),
-        Refuses(6, 2, "golden: partition: P15 a\n"),
-    ),
-    (
-        Run(
-            TWO,
-            "{\"bridges\":[{\"name\":\"echo8\",\"sees\":[\"zz\"],\"drives\":[\"yy\"]}]}",
-            "cycle\n",
-        ),
-        Refuses(6, 2, "golden: partition: P15 zz\n"),
-    ),
-    (
-        Run(
-            TWO,
-            "{\"bridges\":[{\"name\":\"echo8\",\"sees\":[\"q\"],\"drives\":[\"yy\",\"zz\"]}]}",
-            "cycle\n",
-        ),
-        Refuses(6, 2, "golden: partition: P15 yy\n"),
-    ),
-    (
-        Run(
-            TWO,
-            "{\"bridges\":[{\"name\":\"echo32\",\"sees\":[\"q\",\"q\"],\"drives\":[\"x\"]}]}",
-            "cycle\n",
-        ),
-        Refuses(6, 2, "golden: partition: P15 q\n"),
-    ),
-    (
-        Run(
-            TWO,
-            "{\"pipe\":[\"q\"],\"bridges\":[{\"name\":\"echo8\",\"sees\":[\"pipe:q\"],\"drives\":[\"x\"]}]}",
-            "cycle\n",
-        ),
-        Refuses(6, 2, "golden: partition: P15 pipe:q\n"),
-    ),
-];
-
-/// Ports that don't fit the model: their width, their number, their kind; of a circuit without outputs.
-pub(crate) static BRIDGES_UNFIT: [Row; 11] = [
-    (
-        Run(
-            TWO,
-            "{\"bridges\":[{\"name\":\"echo32\",\"sees\":[\"q\"],\"drives\":[\"x\"]}]}",
-            "cycle\n",
-        ),
-        Refuses(6, 2, "golden: partition: P16 echo32\n"),
-    ),
-    (
-        Run(
-            TWO,
-            "{\"bridges\":[{\"name\":\"echo1\",\"sees\":[\"q\"],\"drives\":[\"x\"]}]}",
-            "cycle\n",
-        ),
-        Refuses(6, 2, "golden: partition: P16 echo1\n"),
-    ),
-    (
-        Run(
-            TWO,
-            "{\"bridges\":[{\"name\":\"echo8\",\"sees\":[\"p\",\"q\"],\"drives\":[\"x\"]}]}",
-            "cycle\n",
-        ),
-        Refuses(6, 2, "golden: partition: P16 echo8\n"),
-    ),
-    (
-        Run(
-            TWO,
-            "{\"bridges\":[{\"name\":\"echo8\",\"sees\":[],\"drives\":[\"x\"]}]}",
-            "cycle\n",
-        ),
-        Refuses(6, 2, "golden: partition: P16 echo8\n"),
-    ),
-    (
-        Run(
-            TWO,
-            "{\"bridges\":[{\"name\":\"echo8\",\"sees\":[\"q\"],\"drives\":[]}]}",
-            "cycle\n",
-        ),
-        Refuses(6, 2, "golden: partition: P16 echo8\n"),
-    ),
-    (
-        Run(
-            CROSS,
-            "{\"bridges\":[{\"name\":\"echo8\",\"sees\":[\"c\"],\"drives\":[\"a\",\"b\"]}]}",
-            "cycle\n",
-        ),
-        Refuses(6, 2, "golden: partition: P16 echo8\n"),
-    ),
-    (
-        Run(
-            EMPTY,
-            "{\"bridges\":[{\"name\":\"echo8\",\"sees\":[],\"drives\":[]}]}",
-            "cycle\n",
-        ),
-        Refuses(6, 2, "golden: partition: P16 echo8\n"),
-    ),
-    (
-        Run(
-            SIGNED,
-            "{\"bridges\":[{\"name\":\"echo8\",\"sees\":[\"y\"],\"drives\":[\"v\"]}]}",
-            "cycle\n",
-        ),
-        Refuses(6, 2, "golden: partition: P16 echo8\n"),
-    ),
-    (
-        Run(
-            SIGNED,
-            "{\"bridges\":[{\"name\":\"echo8\",\"sees\":[\"w\"],\"drives\":[\"x\"]}]}",
-            "cycle\n",
-        ),
-        Refuses(6, 2, "golden: partition: P16 echo8\n"),
-    ),
-    (
-        Run(
-            CROSS,
-            "{\"bridges\":[{\"name\":\"echo8\",\"sees\":[\"e\"],\"drives\":[\"a\"]}]}",
-            "cycle\n",
-        ),
-        Refuses(6, 2, "golden: partition: P16 echo8\n"),
-    ),
-    (
-        Run(
-            CROSS,
-            "{\"bridges\":[{\"name\":\"echo8\",\"sees\":[\"c\"],\"drives\":[\"a\"]},{\"name\":\"echo64\",\"sees\":[\"d\"],\"drives\":[\"b\"]}]}",
-            "cycle\n",
-        ),
-        Refuses(6, 2, "golden: partition: P16 echo64\n"),
-    ),
-];
-
-/// The other faults come first.
-pub(crate) static BRIDGES_LAST: [Row; 7] = [
-    (
-        Run(
-            TWO,
-            "{\"clocks\":{\"clock\":[2,1]},\"bridges\":[{\"name\":\"echo9\",\"sees\":[\"q\"],\"drives\":[\"x\"]}]}",
-            "cycle\n",
-        ),
-        Refuses(6, 2, "golden: partition: P13 clock 2 1\n"),
-    ),
-    (
-        Run(
-            TWO,
-            "{\"clocks\":{\"reset\":[1,1]},\"bridges\":[{\"name\":\"echo9\",\"sees\":[\"q\"],\"drives\":[\"x\"]}]}",
-            "cycle\n",
-        ),
-        Refuses(6, 2, "golden: partition: P12 reset\n"),
-    ),
-    (
-        Run(
-            TWO,
-            "{\"pipe\":[\"q\",\"q\"],\"bridges\":[{\"name\":\"echo9\",\"sees\":[\"q\"],\"drives\":[\"x\"]}]}",
-            "cycle\n",
-        ),
-        Refuses(6, 2, "golden: partition: P11 q\n"),
-    ),
-    (
-        Run(
-            TWO,
-            "{\"pipe\":[\"zz\"],\"bridges\":[{\"name\":\"echo9\",\"sees\":[\"q\"],\"drives\":[\"x\"]}]}",
-            "cycle\n",
-        ),
-        Refuses(6, 2, "golden: partition: P10 zz\n"),
-    ),
-    (
-        Run(
-            TWO,
-            "{\"capacity\":{\"q\":0},\"bridges\":[{\"name\":\"echo9\",\"sees\":[\"q\"],\"drives\":[\"x\"]}]}",
-            "cycle\n",
-        ),
-        Refuses(6, 2, "golden: partition: P8 q 0\n"),
-    ),
-    (
-        Run(
-            TWO,
-            "{\"capacity\":{\"bridge:echo9\":1},\"bridges\":[{\"name\":\"echo9\",\"sees\":[\"q\"],\"drives\":[\"x\"]}]}",
-            "cycle\n",
-        ),
-        Refuses(6, 2, "golden: partition: P7 bridge:echo9\n"),
-    ),
-    (
-        Run(
-            TWO,
-            "{\"units\":[\"w\"],\"bridges\":[{\"name\":\"echo9\",\"sees\":[\"q\"],\"drives\":[\"x\"]}]}",
-            "cycle\n",
-        ),
-        Refuses(6, 2, "golden: partition: P2 w\n"),
-    ),
-];
-
-/// Traces that name an input that a bridge drives, or that lack another.
-pub(crate) static BRIDGED_TRACES: [Row; 4] = [
-    (
-        Run(TWO, ECHO, "cycle x\n0 01\n"),
-        Refuses(7, 3, "golden: trace: T1 field 1\n"),
-    ),
-    (
-        Run(
-            CROSS,
-            "{\"bridges\":[{\"name\":\"echo8\",\"sees\":[\"c\"],\"drives\":[\"a\"]}]}",
-            "cycle a s b\n",
-        ),
-        Refuses(7, 3, "golden: trace: T1 field 1\n"),
-    ),
-    (
-        Run(
-            CROSS,
-            "{\"bridges\":[{\"name\":\"echo8\",\"sees\":[\"c\"],\"drives\":[\"a\"]}]}",
-            "cycle s\n",
-        ),
-        Refuses(7, 3, "golden: trace: T1 field 2\n"),
-    ),
-    (
-        Run(
-            CROSS,
-            "{\"bridges\":[{\"name\":\"echo8\",\"sees\":[\"c\"],\"drives\":[\"a\"]}]}",
-            "cycle s b\n0 01 02\n1 1\n",
-        ),
-        Refuses(7, 3, "golden: trace: T5 row 1 2\n"),
-    ),
-];
-
-/// `save` and `resume` take no bridges, which is the last fault of a partition. They take a list without entries.
-pub(crate) static BRIDGES_UNSAVED: [Row; 8] = [
-    (
-        Save(TWO, ECHO, FIVE_ROWS, "2"),
-        Refuses(6, 2, "golden: partition: P17\n"),
-    ),
-    (
-        Save(TWO, ECHO, "cycle x y\n", "2"),
-        Refuses(6, 2, "golden: partition: P17\n"),
-    ),
-    (
-        Save(
-            TWO,
-            "{\"bridges\":[{\"name\":\"echo9\",\"sees\":[\"q\"],\"drives\":[\"x\"]}]}",
-            FIVE_ROWS,
-            "2",
-        ),
-        Refuses(6, 2, "golden: partition: P14 echo9\n"),
-    ),
-    (
-        Save(
-            TWO,
-            "{\"bridges\":[{\"name\":\"echo32\",\"sees\":[\"q\"],\"drives\":[\"x\"]}]}",
-            FIVE_ROWS,
-            "2",
-        ),
-        Refuses(6, 2, "golden: partition: P16 echo32\n"),
-    ),
-    (
-        Resume(TWO, ECHO, FIVE_ROWS, "golden snapshot 1\ncycle 2\n"),
-        Refuses(6, 2, "golden: partition: P17\n"),
-    ),
-    (
-        Resume(
-            TWO,
-            "{\"bridges\":[{\"name\":\"echo8\",\"sees\":[\"q\"],\"drives\":[\"y\"]}]}",
-            FIVE_ROWS,
-            "",
-        ),
-        Refuses(6, 2, "golden: partition: P15 y\n"),
-    ),
-    (
-        Save(
-            TWO,
-            "{\"units\":[\"u\"],\"bridges\":[]}",
-            "cycle x\n0 01\n1 10\n2 00\n",
-            "2",
-        ),
-        Saves("golden snapshot 1\ncycle 2\nreg u.r 11\nreg v.r ed\n"),
-    ),
-    (
-        Resume(
-            TWO,
-            "{\"units\":[\"u\"],\"bridges\":[]}",
-            "cycle x\n0 01\n1 10\n2 00\n",
-            "golden snapshot 1\ncycle 2\nreg u.r 11\nreg v.r ed\n",
-        ),
-        Prints(4, "cycle p q\n2 11 ed\n"),
-    ),
-];
-
-/// Bridges as machines, behind all others: in a cut; with direct channels, of which none begins or ends at a source that an echo takes the place of, and one goes from a unit to the
-/// echo; two of them.
+// Bridges as machines, behind all others: in a cut; with direct channels, of which none begins or ends at a source that an echo takes the place of, and one goes from a unit to the
+// echo; two of them.
 pub(crate) static BRIDGED_CUTS: [Row; 3] = [
     (
         Ask(CHECK, TWO, UNITS, ""),
@@ -789,7 +288,7 @@ pub(crate) static BRIDGED_CUTS: [Row; 3] = [
     ),
 ];
 
-/// Steps of an echo: it says what it has before it sees anything, once a cycle, and ends a cycle when it has seen all.
+// Steps of an echo: it says what it has before it sees anything, once a cycle, and ends a cycle when it has seen all.
 pub(crate) static BRIDGED_STEPS: [Row; 4] = [
     (
         Replay(

@@ -11,61 +11,61 @@ use std::collections::BTreeMap;
 use std::process::Abort;
 use std::thread::Threads;
 
-/// A call and how it ends.
+// A call and how it ends.
 pub(crate) type Row = (Call, End);
 
-/// The number of a load or a put that isn't made.
+// The number of a load or a put that isn't made.
 pub(crate) const NONE: u64 = u64::MAX;
 
-/// How a call ends, after so many loads.
+// How a call ends, after so many loads.
 pub(crate) enum End {
-    /// The loads, and what is on `out`; the status is 0, and nothing is on `err`.
+    // The loads, and what is on `out`; the status is 0, and nothing is on `err`.
     Prints(u64, &'static str),
-    /// The snapshot that is on `out`; the status is 0, and nothing is on `err`.
+    // The snapshot that is on `out`; the status is 0, and nothing is on `err`.
     Saves(&'static str),
-    /// The status, the loads, and what is on `err`; nothing is on `out`.
+    // The status, the loads, and what is on `err`; nothing is on `out`.
     Refuses(u8, u64, &'static str),
-    /// The first line on `err`, without its end; the usage of each command follows it. The status is 2, nothing is loaded, and nothing is on
-    /// `out`.
+    // The first line on `err`, without its end; the usage of each command follows it. The status is 2, nothing is loaded, and nothing is on
+    // `out`.
     Unasked(&'static str),
-    /// The status, the loads, and what is on `out` and on `err`.
+    // The status, the loads, and what is on `out` and on `err`.
     Stops(u8, u64, &'static str, &'static str),
 }
 
-/// A call.
+// A call.
 pub(crate) enum Call {
-    /// `run` in each way, on a circuit, a partition and a trace.
+    // `run` in each way, on a circuit, a partition and a trace.
     Run(&'static str, &'static str, &'static str),
-    /// The same on a circuit with a line changed, counted from 1 (0: none): the circuit, the line, its text, a partition and a trace.
+    // The same on a circuit with a line changed, counted from 1 (0: none): the circuit, the line, its text, a partition and a trace.
     RunEdited(&'static str, usize, &'static str, &'static str, &'static str),
-    /// The same on so many lines of the counter.
+    // The same on so many lines of the counter.
     RunLines(usize),
-    /// `run` once, on the counter with this line left empty (0: none), where there is no other file.
+    // `run` once, on the counter with this line left empty (0: none), where there is no other file.
     RunAlone(usize),
-    /// The same on a circuit of these bytes.
+    // The same on a circuit of these bytes.
     RunBytes(&'static [u8]),
-    /// These words, on a circuit, a partition and a trace.
+    // These words, on a circuit, a partition and a trace.
     Ask(&'static str, &'static str, &'static str, &'static str),
-    /// These words, on the counter's files.
+    // These words, on the counter's files.
     AskCounter(&'static str),
-    /// These words, on a circuit, a partition and a trace, where the load, the put on `out` and the put on `err` of these numbers fail. That on
-    /// `out` takes three bytes, and that on `err` takes eight.
+    // These words, on a circuit, a partition and a trace, where the load, the put on `out` and the put on `err` of these numbers fail. That on
+    // `out` takes three bytes, and that on `err` takes eight.
     AskFailing(&'static str, &'static str, &'static str, &'static str, u64, u64, u64),
-    /// These words, on a circuit, a partition, a trace and steps.
+    // These words, on a circuit, a partition, a trace and steps.
     Replay(&'static str, &'static str, &'static str, &'static str, &'static str),
-    /// A replay on the memory that is listed, of its reads and these steps.
+    // A replay on the memory that is listed, of its reads and these steps.
     ReplayRead(&'static str),
-    /// `save` in each way, on a circuit, a partition and a trace, before this cycle.
+    // `save` in each way, on a circuit, a partition and a trace, before this cycle.
     Save(&'static str, &'static str, &'static str, &'static str),
-    /// `resume` in each way, on a circuit, a partition, a trace and a snapshot.
+    // `resume` in each way, on a circuit, a partition, a trace and a snapshot.
     Resume(&'static str, &'static str, &'static str, &'static str),
-    /// `resume` on the counter and a snapshot, where the put on `out` of this number takes three bytes and fails.
+    // `resume` on the counter and a snapshot, where the put on `out` of this number takes three bytes and fails.
     ResumeFailing(&'static str, u64),
-    /// A call on large files.
+    // A call on large files.
     OnLarge(Large),
 }
 
-/// Checks how each call ends. A failure names the table and the row, counted from 0.
+// Checks how each call ends. A failure names the table and the row, counted from 0.
 pub(crate) fn check_rows<R: Threads + Sync + Abort>(
     rt: &R,
     alloc: Global,
@@ -78,7 +78,7 @@ pub(crate) fn check_rows<R: Threads + Sync + Abort>(
     }
 }
 
-/// Whether a call ended so.
+// Whether a call ended so.
 fn ends_so(answer: &Answer, end: &End) -> bool {
     match end {
         End::Prints(loads, out) => answer.is(0, *loads, out, ""),
@@ -89,11 +89,11 @@ fn ends_so(answer: &Answer, end: &End) -> bool {
     }
 }
 
-/// What follows the first line of a call whose words aren't a command.
-const USAGE: &str =
+// What follows the first line of a call whose words aren't a command.
+pub(crate) const USAGE: &str =
     "\nusage: golden run CIRCUIT PARTITION TRACE [--capacity K] [--workers W] [--mono]\nusage: golden replay CIRCUIT PARTITION TRACE STEPS [--capacity K]\nusage: golden check CIRCUIT PARTITION [--capacity K]\nusage: golden demo SEED SIZE [--workers W]\nusage: golden save CIRCUIT PARTITION TRACE AT [--capacity K] [--workers W]\nusage: golden resume CIRCUIT PARTITION TRACE SNAP [--capacity K] [--workers W]\n";
 
-/// Whether the words of a call weren't a command, with this first line.
+// Whether the words of a call weren't a command, with this first line.
 fn is_unasked(answer: &Answer, line: &str) -> bool {
     match answer.err.as_slice().strip_suffix(USAGE.as_bytes()) {
         Some(first) => {
@@ -107,7 +107,7 @@ fn is_unasked(answer: &Answer, line: &str) -> bool {
     }
 }
 
-/// What a call answers.
+// What a call answers.
 fn answer_of<R: Threads + Sync>(rt: &R, alloc: Global, call: &Call) -> Result<Answer, AllocError> {
     match call {
         Call::Run(circuit, partition, trace) => run(rt, alloc, circuit, partition, trace),
@@ -139,7 +139,7 @@ fn answer_of<R: Threads + Sync>(rt: &R, alloc: Global, call: &Call) -> Result<An
     }
 }
 
-/// `run` in each way, on a circuit with a line changed.
+// `run` in each way, on a circuit with a line changed.
 fn run_edited<R: Threads + Sync>(
     rt: &R,
     alloc: Global,
@@ -153,13 +153,13 @@ fn run_edited<R: Threads + Sync>(
     run(rt, alloc, circuit.as_str(), partition, trace)
 }
 
-/// `run` in each way, on so many lines of the counter.
+// `run` in each way, on so many lines of the counter.
 fn run_lines<R: Threads + Sync>(rt: &R, alloc: Global, lines: usize) -> Result<Answer, AllocError> {
     let circuit = counter(alloc, lines, 0, "")?;
     run(rt, alloc, circuit.as_str(), "{}", TRACE)
 }
 
-/// `run` on the counter with this line left empty, where there is no other file.
+// `run` on the counter with this line left empty, where there is no other file.
 fn run_alone<R: Threads + Sync>(rt: &R, alloc: Global, line: usize) -> Result<Answer, AllocError> {
     let circuit = counter(alloc, 11, line, "")?;
     let mut files = BTreeMap::new(alloc);
@@ -167,13 +167,13 @@ fn run_alone<R: Threads + Sync>(rt: &R, alloc: Global, line: usize) -> Result<An
     ask(rt, alloc, RUN, files)
 }
 
-/// `run` on a circuit of these bytes.
+// `run` on a circuit of these bytes.
 fn run_bytes<R: Threads + Sync>(rt: &R, alloc: Global, bytes: &[u8]) -> Result<Answer, AllocError> {
     let files = files_of(alloc, bytes, b"{}", TRACE.as_bytes())?;
     ask(rt, alloc, RUN, files)
 }
 
-/// A call with these words, where the load and the puts of these numbers fail.
+// A call with these words, where the load and the puts of these numbers fail.
 fn ask_failing<R: Threads + Sync>(
     rt: &R,
     alloc: Global,
@@ -207,7 +207,7 @@ fn ask_failing<R: Threads + Sync>(
     call(rt, alloc, line, files, loads, puts, err_puts)
 }
 
-/// A call with these words and steps.
+// A call with these words and steps.
 fn replay<R: Threads + Sync>(
     rt: &R,
     alloc: Global,
@@ -227,7 +227,7 @@ fn replay<R: Threads + Sync>(
     ask(rt, alloc, line, files)
 }
 
-/// A replay on the memory that is listed, of its reads and these steps.
+// A replay on the memory that is listed, of its reads and these steps.
 fn replay_read<R: Threads + Sync>(rt: &R, alloc: Global, last: &str) -> Result<Answer, AllocError> {
     let mut steps = String::from_str(alloc, READ)?;
     steps.push_str(last)?;
@@ -242,10 +242,10 @@ fn replay_read<R: Threads + Sync>(rt: &R, alloc: Global, last: &str) -> Result<A
     )
 }
 
-/// The words of `resume`.
+// The words of `resume`.
 pub(crate) const RESUME: &str = "golden resume k1.fir p.json k1.trace k1.snap";
 
-/// `save` in each way, before this cycle.
+// `save` in each way, before this cycle.
 fn save<R: Threads + Sync>(
     rt: &R,
     alloc: Global,
@@ -259,7 +259,7 @@ fn save<R: Threads + Sync>(
     ask_snap(rt, alloc, words.as_str(), circuit, partition, trace, "")
 }
 
-/// `resume` on the counter and a snapshot, where the put on `out` of this number fails.
+// `resume` on the counter and a snapshot, where the put on `out` of this number fails.
 fn resume_failing<R: Threads + Sync>(
     rt: &R,
     alloc: Global,

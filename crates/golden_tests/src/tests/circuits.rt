@@ -4,7 +4,7 @@ use super::calls::End::{Prints, Refuses};
 use super::calls::Row;
 use golden_calls::{COUNTER, LATE, LOOP, MEMORY, PAIR, TEXT, TRACE, WIDE};
 
-/// Circuits of one module.
+// Circuits of one module.
 pub(crate) static RUNS: [Row; 17] = [
     // the counter with lines that end with CR LF, comments, tabs and file information
     (
@@ -159,7 +159,7 @@ pub(crate) static RUNS: [Row; 17] = [
     ),
 ];
 
-/// Circuits with instances and memories, with a line changed.
+// Circuits with instances and memories, with a line changed.
 pub(crate) static WHOLE: [Row; 6] = [
     (
         RunEdited(LOOP, 9, "read-latency => 1", "{}", "cycle\n0\n1\n"),
@@ -212,7 +212,7 @@ pub(crate) static WHOLE: [Row; 6] = [
     ),
 ];
 
-/// The counter cut after so many lines.
+// The counter cut after so many lines.
 pub(crate) static CUT: [Row; 12] = [
     (
         RunLines(0),
@@ -249,7 +249,7 @@ pub(crate) static CUT: [Row; 12] = [
     (RunLines(11), Prints(3, TEXT)),
 ];
 
-/// Circuits with a line changed, and the fault that is told.
+// Circuits with a line changed, and the fault that is told.
 pub(crate) static CIRCUIT_FAULTS: [Row; 21] = [
     (
         RunEdited(COUNTER, 9, "node n add(c, c)", "{}", TRACE),

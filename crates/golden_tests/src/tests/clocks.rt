@@ -44,9 +44,9 @@ pub(crate) const DOMAINS_TRACE: &str =
 const HANDED: &str =
     "cycle p q valid\n0 0 0 0\n1 1 0 1\n2 1 1 0\n3 3 1 1\n4 3 1 1\n5 3 3 0\n6 6 3 1\n7 6 3 1\n8 6 6 0\n9 9 6 1\n10 9 6 1\n11 9 9 0\n";
 
-/// Circuits that aren't cut. Two ratios; no ratio; an edge in each cycle and in each but the first; no edge in six cycles; a name twice, of which
-/// the last value counts; a Clock input that nothing uses; one without a register; a memory whose writer has an edge in each second cycle,
-/// one whose first reader has, one that is read with latency 0, and one that reads old words.
+// Circuits that aren't cut. Two ratios; no ratio; an edge in each cycle and in each but the first; no edge in six cycles; a name twice, of which
+// the last value counts; a Clock input that nothing uses; one without a register; a memory whose writer has an edge in each second cycle,
+// one whose first reader has, one that is read with latency 0, and one that reads old words.
 pub(crate) static CLOCKED: [Row; 11] = [
     (
         Run(DUAL, "{\"clocks\":{\"c2\":[2,3]}}", SIX_ROWS),
@@ -126,8 +126,8 @@ pub(crate) static CLOCKED: [Row; 11] = [
     ),
 ];
 
-/// Cuts: two units of one module each; with a pipe into the second, and out of the first, which move in each cycle; three units of one module,
-/// apart and on one host; two units on one host with their memories inside, and with their memories listed; and the memories from above, listed.
+// Cuts: two units of one module each; with a pipe into the second, and out of the first, which move in each cycle; three units of one module,
+// apart and on one host; two units on one host with their memories inside, and with their memories listed; and the memories from above, listed.
 pub(crate) static CLOCK_CUTS: [Row; 12] = [
     (
         Run(
@@ -240,8 +240,8 @@ pub(crate) static CLOCK_CUTS: [Row; 12] = [
     ),
 ];
 
-/// The handshake: whole, cut at the border, with both sides on one host, and with one side in the hub; then with a pipe in the flag that the right
-/// side sees, so that it takes a number a cycle later, and where the other clock isn't that of each cycle either.
+// The handshake: whole, cut at the border, with both sides on one host, and with one side in the hub; then with a pipe in the flag that the right
+// side sees, so that it takes a number a cycle later, and where the other clock isn't that of each cycle either.
 pub(crate) static HANDSHAKES: [Row; 6] = [
     (
         Run(DOMAINS, "{\"clocks\":{\"slow\":[2,3]}}", DOMAINS_TRACE),
@@ -295,7 +295,7 @@ pub(crate) static HANDSHAKES: [Row; 6] = [
     ),
 ];
 
-/// Ratios that are refused: of another shape, of a clock that isn't there, and out of range.
+// Ratios that are refused: of another shape, of a clock that isn't there, and out of range.
 pub(crate) static CLOCK_FAULTS: [Row; 23] = [
     // not an object of lists of two whole numbers
     (
@@ -408,8 +408,8 @@ pub(crate) static CLOCK_FAULTS: [Row; 23] = [
     ),
 ];
 
-/// A port whose clock has no edge is served too, and then changes nothing: the memory through a cycle in which its writer has no edge; and the same without
-/// the writer's step.
+// A port whose clock has no edge is served too, and then changes nothing: the memory through a cycle in which its writer has no edge; and the same without
+// the writer's step.
 pub(crate) static SERVED_WITHOUT_AN_EDGE: [Row; 2] = [
     (
         Replay(

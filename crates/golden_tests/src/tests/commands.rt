@@ -6,7 +6,7 @@ use super::workers::UNITS;
 use golden_calls::{PAIR, TEXT};
 use net_calls::PAIR_TRACE;
 
-/// Words that run the counter.
+// Words that run the counter.
 pub(crate) static ASKED: [Row; 12] = [
     (
         AskCounter("golden run k1.fir p.json k1.trace --mono"),
@@ -58,7 +58,7 @@ pub(crate) static ASKED: [Row; 12] = [
     ),
 ];
 
-/// Words that save the counter.
+// Words that save the counter.
 pub(crate) static SAVING: [Row; 4] = [
     (
         AskCounter("golden save k1.fir p.json k1.trace 3"),
@@ -78,7 +78,7 @@ pub(crate) static SAVING: [Row; 4] = [
     ),
 ];
 
-/// Words that `clap` refuses.
+// Words that `clap` refuses.
 pub(crate) static UNASKED: [Row; 18] = [
     (
         AskCounter("golden"),
@@ -154,7 +154,7 @@ pub(crate) static UNASKED: [Row; 18] = [
     ),
 ];
 
-/// Words with a value that isn't a number in its range: on the files of two units, and of the counter.
+// Words with a value that isn't a number in its range: on the files of two units, and of the counter.
 pub(crate) static NO_NUMBERS: [Row; 8] = [
     (
         Ask(
@@ -237,7 +237,7 @@ pub(crate) static NO_NUMBERS: [Row; 8] = [
     ),
 ];
 
-/// The same of `save` and `resume`. The cycle comes first, then the capacity.
+// The same of `save` and `resume`. The cycle comes first, then the capacity.
 pub(crate) static NO_CYCLES: [Row; 5] = [
     (
         AskCounter("golden save k1.fir p.json k1.trace 1000001"),

@@ -32,7 +32,7 @@ const TABLE: &str =
 const LEVELS: &str =
     "circuit Top :\nmodule Cell :\ninput clock : Clock\ninput i : UInt<1>\noutput o : UInt<1>\nmem m :\ndata-type => UInt<1>\ndepth => 2\nread-latency => 1\nwrite-latency => 1\nreader => r\nm.r.clk <= clock\nm.r.addr <= i\nm.r.en <= UInt<1>(1)\no <= m.r.data\nmodule Top :\ninput clock : Clock\noutput y : UInt<1>\nmem t :\ndata-type => UInt<1>\ndepth => 2\nread-latency => 0\nwrite-latency => 1\nreader => r\ninst c of Cell\nc.clock <= clock\nt.r.clk <= clock\nt.r.addr <= c.o\nt.r.en <= UInt<1>(1)\nc.i <= t.r.data\ny <= t.r.data\n";
 
-/// Cuts that are printed: units, and memories beside them and in them.
+// Cuts that are printed: units, and memories beside them and in them.
 pub(crate) static UNIT_CUTS: [Row; 7] = [
     (
         Ask(
@@ -122,7 +122,7 @@ pub(crate) static UNIT_CUTS: [Row; 7] = [
     ),
 ];
 
-/// Units on one host, at several depths, and machines that feed themselves.
+// Units on one host, at several depths, and machines that feed themselves.
 pub(crate) static HOST_CUTS: [Row; 7] = [
     // a unit with ports that are not used
     (
@@ -217,7 +217,7 @@ pub(crate) static HOST_CUTS: [Row; 7] = [
     ),
 ];
 
-/// Units against the order of the file, and memories without ports.
+// Units against the order of the file, and memories without ports.
 pub(crate) static ORDER_CUTS: [Row; 5] = [
     // a listed memory of latency 1
     (
@@ -281,7 +281,7 @@ pub(crate) static ORDER_CUTS: [Row; 5] = [
     ),
 ];
 
-/// The same with direct channels, and with pipes.
+// The same with direct channels, and with pipes.
 pub(crate) static ROUTED: [Row; 8] = [
     // all channels are direct
     (
@@ -388,7 +388,7 @@ pub(crate) static ROUTED: [Row; 8] = [
     ),
 ];
 
-/// Partitions with a fault, of which the first is told.
+// Partitions with a fault, of which the first is told.
 pub(crate) static CUT_FAULTS: [Row; 9] = [
     (
         Ask(CHECK, TILES, "[]", ""),

@@ -5,10 +5,10 @@ use super::calls::{NONE, Row};
 use golden_calls::{Answer, ask};
 use std::alloc::{AllocError, Global};
 use std::collections::BTreeMap;
-use std::test::Fail;
+use std::process::Abort;
 use std::thread::Threads;
 
-/// Demos, and their summaries. In the last the second put on `out` takes three bytes and fails.
+// Demos, and their summaries. In the last the second put on `out` takes three bytes and fails.
 pub(crate) static SUMMARIES: [Row; 9] = [
     (
         Ask("golden demo 0 1", "", "", ""),
@@ -95,10 +95,26 @@ fn is_done<R: Threads + Sync>(rt: &R, alloc: Global, size: u32) -> Result<bool, 
     Ok(alone.status == 0 && worked.status == 0 && alone.out.as_slice() == worked.out.as_slice())
 }
 
-#[test]
-fn demos_of_all_sizes(rt: HostRuntime) -> Result<(), Fail> {
-    for size in 1..65u32 {
-        assert!(rt; is_done(&rt, rt.alloc(), size)?, "size {size}");
+// Checks the demos of these sizes, up to the last.
+fn check_demos<R: Threads + Sync + Abort>(rt: &R, alloc: Global, first: u32, last: u32) {
+    for size in first..last.saturating_add(1) {
+        let is_right = is_done(rt, alloc, size) == Ok(true);
+        assert!(rt; is_right, "size {size}");
     }
-    Ok(())
+}
+
+// All sizes, in three tests that take about as long.
+#[test]
+fn demos_of_small_sizes(rt: HostRuntime) {
+    check_demos(&rt, rt.alloc(), 1, 45);
+}
+
+#[test]
+fn demos_of_middle_sizes(rt: HostRuntime) {
+    check_demos(&rt, rt.alloc(), 46, 56);
+}
+
+#[test]
+fn demos_of_large_sizes(rt: HostRuntime) {
+    check_demos(&rt, rt.alloc(), 57, 64);
 }

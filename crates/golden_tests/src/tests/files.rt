@@ -4,7 +4,7 @@ use super::calls::End::Refuses;
 use super::calls::{NONE, Row};
 use golden_calls::{COUNTER, RUN, TRACE};
 
-/// A file that is missing, also where the circuit before it is refused.
+// A file that is missing, also where the circuit before it is refused.
 pub(crate) static MISSING: [Row; 2] = [
     (RunAlone(0), Refuses(3, 2, "golden: cannot load p.json\n")),
     (
@@ -13,7 +13,7 @@ pub(crate) static MISSING: [Row; 2] = [
     ),
 ];
 
-/// Each load failing in turn, and a circuit that is no text.
+// Each load failing in turn, and a circuit that is no text.
 pub(crate) static FAILING: [Row; 4] = [
     (
         AskFailing(RUN, COUNTER, "{}", TRACE, 0, NONE, NONE),

@@ -2,7 +2,7 @@
 use super::calls::Call::OnLarge;
 use super::calls::End::{Prints, Refuses};
 use super::calls::{RESUME, Row};
-use super::large::Large::{Blanks, Clocks, Nested, Nodes, Outputs, Padded, Rows, Units};
+use super::large::Large::{Blanks, Chain, Clocks, Nested, Nodes, Outputs, Padded, Rows, Units};
 use super::steps::REPLAY;
 use gg_io::hold;
 use golden_calls::{
@@ -12,27 +12,29 @@ use itoa::Buffer;
 use std::alloc::{AllocError, Global};
 use std::thread::Threads;
 
-/// A call on large files.
+// A call on large files.
 pub(crate) enum Large {
-    /// `run` in each way, on the counter with so many operations one inside the other.
+    // `run` in each way, on the counter with so many operations one inside the other.
     Nested(usize),
-    /// These words, on so many instances that are all units.
+    // These words, on so many instances that are all units.
     Units(&'static str, u64),
-    /// `run` in each way, on so many outputs.
+    // `run` in each way, on so many outputs.
     Outputs(u64),
-    /// `run` in each way, on a thousand clocks, where the last of them, and so many from the first on, have ratios.
+    // `run` in each way, on a thousand clocks, where the last of them, and so many from the first on, have ratios.
     Clocks(u64),
-    /// These words, on an output that is an instance's behind a hundred nodes.
+    // These words, on an output that is an instance's behind a hundred nodes.
     Nodes(&'static str),
-    /// `run` in each way, on the counter and so many rows.
+    // These words, on modules in a chain: so many of them below the top, so many instances of the next one in each, and these lines in the last.
+    Chain(&'static str, u32, u32, &'static str),
+    // `run` in each way, on the counter and so many rows.
     Rows(u64),
-    /// `run` once, on the counter with blanks behind it, up to so many bytes.
+    // `run` once, on the counter with blanks behind it, up to so many bytes.
     Padded(usize),
-    /// These words, on the counter's files and a file of this name with so many blanks.
+    // These words, on the counter's files and a file of this name with so many blanks.
     Blanks(&'static str, &'static str, usize),
 }
 
-/// Operations one inside the other, units, channels, clocks, and a chain of copies.
+// Operations one inside the other, units, channels, clocks, and a chain of copies.
 pub(crate) static LIMITS: [Row; 11] = [
     (OnLarge(Nested(256)), Prints(3, TEXT)),
     (
@@ -74,7 +76,36 @@ pub(crate) static LIMITS: [Row; 11] = [
     (OnLarge(Nodes(RUN)), Prints(3, "cycle y\n0 a\n")),
 ];
 
-/// Files of blanks, each one byte past its limit; a snapshot of its limit, which is one line without an end; a circuit of its limit; and a trace with a row too many.
+// What the last module of a chain declares.
+const WIRE: &str = "wire w : UInt<1>\nw <= UInt<1>(\"h0\")\n";
+
+// Chains of modules at the limits of depth, signals and instances, and past them.
+pub(crate) static CHAINS: [Row; 7] = [
+    (
+        OnLarge(Chain(CHECK, 17, 2, WIRE)),
+        Prints(2, "machine hub: host 0\n"),
+    ),
+    (OnLarge(Chain(RUN, 17, 2, WIRE)), Prints(3, "cycle\n0\n")),
+    (
+        OnLarge(Chain(RUN, 18, 2, WIRE)),
+        Refuses(1, 1, "golden: circuit: F15 signals 262144\n"),
+    ),
+    (OnLarge(Chain(RUN, 32, 1, WIRE)), Prints(3, "cycle\n0\n")),
+    (
+        OnLarge(Chain(RUN, 33, 2, WIRE)),
+        Refuses(1, 1, "golden: circuit: F15 depth 33\n"),
+    ),
+    (
+        OnLarge(Chain(RUN, 32, 4, WIRE)),
+        Refuses(1, 1, "golden: circuit: F15 signals 18446744073709551615\n"),
+    ),
+    (
+        OnLarge(Chain(CHECK, 32, 2, "")),
+        Refuses(1, 1, "golden: circuit: F15 instances 8589934590\n"),
+    ),
+];
+
+// Files of blanks, each one byte past its limit; a snapshot of its limit, which is one line without an end; a circuit of its limit; and a trace with a row too many.
 pub(crate) static LARGE_FILES: [Row; 8] = [
     (
         OnLarge(Blanks(RUN, "k1.fir", 4_194_305)),
@@ -107,7 +138,7 @@ pub(crate) static LARGE_FILES: [Row; 8] = [
     ),
 ];
 
-/// What a call on large files answers.
+// What a call on large files answers.
 pub(crate) fn ask_large<R: Threads + Sync>(
     rt: &R,
     alloc: Global,
@@ -119,13 +150,16 @@ pub(crate) fn ask_large<R: Threads + Sync>(
         Large::Outputs(count) => run_outputs(rt, alloc, *count),
         Large::Clocks(count) => run_clocks(rt, alloc, *count),
         Large::Nodes(line) => ask_nodes(rt, alloc, line),
+        Large::Chain(line, levels, instances, last) => {
+            ask_chain(rt, alloc, line, *levels, *instances, last)
+        }
         Large::Rows(count) => run_rows(rt, alloc, *count),
         Large::Padded(size) => run_padded(rt, alloc, *size),
         Large::Blanks(line, name, size) => ask_blanks(rt, alloc, line, name, *size),
     }
 }
 
-/// The counter whose tenth line has so many operations one inside the other.
+// The counter whose tenth line has so many operations one inside the other.
 fn nested(alloc: Global, depth: usize) -> Result<String, AllocError> {
     let mut text = String::from_str(alloc, "out <= ")?;
     for _ in 0..depth {
@@ -138,7 +172,7 @@ fn nested(alloc: Global, depth: usize) -> Result<String, AllocError> {
     counter(alloc, 11, 10, text.as_str())
 }
 
-/// `run` in each way, on it.
+// `run` in each way, on it.
 fn run_nested<R: Threads + Sync>(
     rt: &R,
     alloc: Global,
@@ -148,7 +182,7 @@ fn run_nested<R: Threads + Sync>(
     run(rt, alloc, circuit.as_str(), "{}", TRACE)
 }
 
-/// Writes, for each number from `first` on and below `count`, a piece that has the number in its middle.
+// Writes, for each number from `first` on and below `count`, a piece that has the number in its middle.
 fn push_numbered(
     text: &mut String,
     first: u64,
@@ -165,7 +199,7 @@ fn push_numbered(
     Ok(())
 }
 
-/// A call with these words on so many instances, and a partition that lists them all.
+// A call with these words on so many instances, and a partition that lists them all.
 fn ask_units<R: Threads + Sync>(
     rt: &R,
     alloc: Global,
@@ -187,7 +221,7 @@ fn ask_units<R: Threads + Sync>(
     )
 }
 
-/// `run` in each way, on a circuit of so many outputs.
+// `run` in each way, on a circuit of so many outputs.
 fn run_outputs<R: Threads + Sync>(rt: &R, alloc: Global, count: u64) -> Result<Answer, AllocError> {
     let mut circuit = String::from_str(alloc, "circuit Top :\nmodule Top :\n")?;
     push_numbered(&mut circuit, 0, count, "output o", " : UInt<1>\n")?;
@@ -195,8 +229,8 @@ fn run_outputs<R: Threads + Sync>(rt: &R, alloc: Global, count: u64) -> Result<A
     run(rt, alloc, circuit.as_str(), "{}", "")
 }
 
-/// `run` in each way, on a register of the last of a thousand clocks. That one has an edge in each second cycle, and so many from the first on
-/// in each third one.
+// `run` in each way, on a register of the last of a thousand clocks. That one has an edge in each second cycle, and so many from the first on
+// in each third one.
 fn run_clocks<R: Threads + Sync>(rt: &R, alloc: Global, count: u64) -> Result<Answer, AllocError> {
     let mut circuit = String::from_str(alloc, "circuit Top :\nmodule Top :\n")?;
     push_numbered(&mut circuit, 0, 1_000, "input c", " : Clock\n")?;
@@ -213,7 +247,7 @@ fn run_clocks<R: Threads + Sync>(rt: &R, alloc: Global, count: u64) -> Result<An
     )
 }
 
-/// A circuit whose output is an instance's behind a hundred nodes.
+// A circuit whose output is an instance's behind a hundred nodes.
 fn chain_of_nodes(alloc: Global) -> Result<String, AllocError> {
     let mut buffer = Buffer::new();
     let mut circuit = String::from_str(
@@ -231,7 +265,7 @@ fn chain_of_nodes(alloc: Global) -> Result<String, AllocError> {
     Ok(circuit)
 }
 
-/// A call with these words on it, where the instance's channels are direct.
+// A call with these words on it, where the instance's channels are direct.
 fn ask_nodes<R: Threads + Sync>(rt: &R, alloc: Global, line: &str) -> Result<Answer, AllocError> {
     let circuit = chain_of_nodes(alloc)?;
     let partition = "{\"units\":[\"u\"],\"direct\":true}";
@@ -245,14 +279,46 @@ fn ask_nodes<R: Threads + Sync>(rt: &R, alloc: Global, line: &str) -> Result<Ans
     )
 }
 
-/// `run` in each way, on the counter and so many rows.
+// Modules in a chain.
+fn chain_of_modules(
+    alloc: Global,
+    levels: u32,
+    instances: u32,
+    last: &str,
+) -> Result<String, AllocError> {
+    let mut circuit = String::from_str(alloc, "circuit L0 :\n")?;
+    for level in 0..levels {
+        write!(circuit, "module L{level} :\n")?;
+        let next = level.saturating_add(1);
+        for number in 0..instances {
+            write!(circuit, "inst i{number} of L{next}\n")?;
+        }
+    }
+    write!(circuit, "module L{levels} :\n{last}")?;
+    Ok(circuit)
+}
+
+// A call with these words on it.
+fn ask_chain<R: Threads + Sync>(
+    rt: &R,
+    alloc: Global,
+    line: &str,
+    levels: u32,
+    instances: u32,
+    last: &str,
+) -> Result<Answer, AllocError> {
+    let circuit = chain_of_modules(alloc, levels, instances, last)?;
+    ask_of(rt, alloc, line, circuit.as_str(), "{}", "cycle\n0\n")
+}
+
+// `run` in each way, on the counter and so many rows.
 fn run_rows<R: Threads + Sync>(rt: &R, alloc: Global, count: u64) -> Result<Answer, AllocError> {
     let mut trace = String::from_str(alloc, "cycle reset\n")?;
     push_numbered(&mut trace, 0, count, "", " 0001\n")?;
     run(rt, alloc, COUNTER, "{}", trace.as_str())
 }
 
-/// `run` on the counter with blanks behind it, up to so many bytes.
+// `run` on the counter with blanks behind it, up to so many bytes.
 fn run_padded<R: Threads + Sync>(rt: &R, alloc: Global, size: usize) -> Result<Answer, AllocError> {
     let mut bytes = Vec::from_slice(alloc, COUNTER.as_bytes())?;
     bytes.resize(size, b' ')?;
@@ -260,7 +326,7 @@ fn run_padded<R: Threads + Sync>(rt: &R, alloc: Global, size: usize) -> Result<A
     ask(rt, alloc, RUN, files)
 }
 
-/// A call with these words on the counter's files and a file with so many blanks.
+// A call with these words on the counter's files and a file with so many blanks.
 fn ask_blanks<R: Threads + Sync>(
     rt: &R,
     alloc: Global,

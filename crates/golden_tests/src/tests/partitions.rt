@@ -4,7 +4,7 @@ use super::calls::End::{Prints, Refuses};
 use super::calls::Row;
 use golden_calls::{BANKS, FORK, KEPT, LATE, MEMORY, PAIR, TILES, TWO};
 
-/// Partitions without pipes.
+// Partitions without pipes.
 pub(crate) static ACCEPTED: [Row; 11] = [
     (
         Run(PAIR, "{\"units\":[\"a\",\"b\"]}", "cycle x\n0 0f\n1 81\n"),
@@ -77,9 +77,9 @@ pub(crate) static ACCEPTED: [Row; 11] = [
     (Run(BANKS, "{\n}", "cycle\n0\n"), Prints(3, "cycle\n0\n")),
 ];
 
-/// Partitions with pipes: a channel between two units; a top output; a top input; a channel that
-/// another passes on; two pipes in one path, and two that meet; an output that the hub reads, which sees it as it is; the hub's
-/// in-channel, by which a memory of the hub is read; a listed memory's address; a channel between units of one host.
+// Partitions with pipes: a channel between two units; a top output; a top input; a channel that
+// another passes on; two pipes in one path, and two that meet; an output that the hub reads, which sees it as it is; the hub's
+// in-channel, by which a memory of the hub is read; a listed memory's address; a channel between units of one host.
 pub(crate) static PIPED: [Row; 10] = [
     (
         Run(
@@ -163,7 +163,7 @@ pub(crate) static PIPED: [Row; 10] = [
     ),
 ];
 
-/// Partitions with a fault, of which the first is told.
+// Partitions with a fault, of which the first is told.
 pub(crate) static PARTITION_FAULTS: [Row; 32] = [
     (
         Run(TILES, "", "cycle"),

@@ -4,7 +4,7 @@ use super::calls::End::Refuses;
 use super::calls::Row;
 use golden_calls::{COUNTER, TRACE};
 
-/// The counter with a line changed, and other files.
+// The counter with a line changed, and other files.
 pub(crate) static REFUSALS: [Row; 9] = [
     // the first fault is told: the circuit's before the partition's, the partition's before the trace's
     (

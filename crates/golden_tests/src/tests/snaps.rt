@@ -1,20 +1,21 @@
-//! `save` and `resume`: the snapshot of a run, the rows from a snapshot on, and what is refused. Expected texts of the counter are worked by hand
+//! `save` and `resume`: the snapshot of a run, the rows from a snapshot on. Expected texts of the counter are worked by hand
 //! from docs/FORMATS.md, those of cuts by a model in Python that has nothing of golden.
-use super::calls::Call::{AskCounter, AskFailing, Resume, ResumeFailing, Save};
+use super::calls::Call::{Resume, Save};
 use super::calls::End::{Prints, Refuses, Saves, Stops};
-use super::calls::{NONE, RESUME, Row};
+use super::calls::Row;
 use super::clocks::{CROSSED, DOMAINS, DOMAINS_TRACE, PARTS, SIX_ROWS, SUMS, WORDS, WORDS_TRACE};
 use super::stops::{COUNTED, HALT};
 use golden_calls::{COUNTER, DUAL, LATE, PAIR, TEXT, TRACE};
 
 // The counter before its cycle 3.
-const AT_3: &str = "golden snapshot 1\ncycle 3\nreg c 02\n";
+pub(crate) const AT_3: &str = "golden snapshot 1\ncycle 3\nreg c 02\n";
 
 // A memory that is listed.
-const LISTED: &str = "{\"memories\":[\"m\"]}";
+pub(crate) const LISTED: &str = "{\"memories\":[\"m\"]}";
 
 // Five rows for the memory of latency 1: a word that is written and read, one that is written alone, and an address past the depth.
-const LATE_TRACE: &str = "cycle a e v\n0 1 1 11\n1 1 0 22\n2 3 1 33\n3 1 1 44\n4 0 0 00\n";
+pub(crate) const LATE_TRACE: &str =
+    "cycle a e v\n0 1 1 11\n1 1 0 22\n2 3 1 33\n3 1 1 44\n4 0 0 00\n";
 
 // Six numbers to add.
 const SUMS_TRACE: &str = "cycle x\n0 1\n1 2\n2 3\n3 4\n4 5\n5 6\n";
@@ -23,8 +24,8 @@ const SUMS_TRACE: &str = "cycle x\n0 1\n1 2\n2 3\n3 4\n4 5\n5 6\n";
 const KINDS: &str =
     "circuit Kinds :\nmodule Kinds :\ninput clock : Clock\ninput x : SInt<5>\noutput y : SInt<5>\nreg w : UInt<128>, clock\nreg s : SInt<5>, clock\ny <= s\ns <= x\nw <= not(w)\n";
 
-/// The counter: in its middle, before its first cycle and one where all values are 0, behind its last cycle, and later. A trace without rows. The
-/// faults of the partition and the trace come first.
+// The counter: in its middle, before its first cycle and one where all values are 0, behind its last cycle, and later. A trace without rows. The
+// faults of the partition and the trace come first.
 pub(crate) static SAVED: [Row; 10] = [
     (
         Save(COUNTER, "{}", TRACE, "3"),
@@ -68,8 +69,8 @@ pub(crate) static SAVED: [Row; 10] = [
     ),
 ];
 
-/// Runs that a stop ends: a state after the stop is none of theirs. A stop in the middle, in the first cycle, and in the last, which has its row.
-/// Behind a pipe, and with a slow clock.
+// Runs that a stop ends: a state after the stop is none of theirs. A stop in the middle, in the first cycle, and in the last, which has its row.
+// Behind a pipe, and with a slow clock.
 pub(crate) static SAVED_STOPS: [Row; 11] = [
     (
         Save(COUNTED, "{}", TRACE, "2"),
@@ -137,8 +138,8 @@ pub(crate) static SAVED_STOPS: [Row; 11] = [
     ),
 ];
 
-/// From each cycle, from the last one on, and later. From states to which no run comes. A trace without rows. A stop counts from the snapshot on,
-/// also in its first cycle.
+// From each cycle, from the last one on, and later. From states to which no run comes. A trace without rows. A stop counts from the snapshot on,
+// also in its first cycle.
 pub(crate) static RESUMED: [Row; 12] = [
     (
         Resume(COUNTER, "{}", TRACE, AT_3),
@@ -220,199 +221,8 @@ pub(crate) static RESUMED: [Row; 12] = [
     ),
 ];
 
-/// Texts that are no snapshot of the counter: without lines, with one, not as it would be written, with a line twice, of another circuit, and
-/// without the last line end. S1 comes before S2, and the trace's fault before both.
-pub(crate) static UNREAD: [Row; 15] = [
-    (
-        Resume(COUNTER, "{}", TRACE, ""),
-        Refuses(10, 4, "golden: snapshot: S1 line 1\n"),
-    ),
-    (
-        Resume(COUNTER, "{}", TRACE, "golden snapshot 1"),
-        Refuses(10, 4, "golden: snapshot: S1 line 1\n"),
-    ),
-    (
-        Resume(COUNTER, "{}", TRACE, "golden snapshot 1\n"),
-        Refuses(10, 4, "golden: snapshot: S1 line 2\n"),
-    ),
-    (
-        Resume(
-            COUNTER,
-            "{}",
-            TRACE,
-            "golden snapshot 1\r\ncycle 3\r\nreg c 02\r\n",
-        ),
-        Refuses(10, 4, "golden: snapshot: S1 line 1\n"),
-    ),
-    (
-        Resume(COUNTER, "{}", TRACE, "golden snapshot 1\ncycle 1000001\n"),
-        Refuses(10, 4, "golden: snapshot: S1 line 2\n"),
-    ),
-    (
-        Resume(COUNTER, "{}", TRACE, "golden snapshot 1\ncycle 03\n"),
-        Refuses(10, 4, "golden: snapshot: S1 line 2\n"),
-    ),
-    (
-        Resume(
-            COUNTER,
-            "{}",
-            TRACE,
-            "golden snapshot 1\ncycle 3\nreg c 00\n",
-        ),
-        Refuses(10, 4, "golden: snapshot: S1 line 3\n"),
-    ),
-    (
-        Resume(
-            COUNTER,
-            "{}",
-            TRACE,
-            "golden snapshot 1\ncycle 3\nreg c 2\n",
-        ),
-        Refuses(10, 4, "golden: snapshot: S1 line 3\n"),
-    ),
-    (
-        Resume(
-            COUNTER,
-            "{}",
-            TRACE,
-            "golden snapshot 1\ncycle 3\nreg c 0A\n",
-        ),
-        Refuses(10, 4, "golden: snapshot: S1 line 3\n"),
-    ),
-    (
-        Resume(
-            COUNTER,
-            "{}",
-            TRACE,
-            "golden snapshot 1\ncycle 3\nreg c 100\n",
-        ),
-        Refuses(10, 4, "golden: snapshot: S1 line 3\n"),
-    ),
-    (
-        Resume(COUNTER, "{}", TRACE, "golden snapshot 1\ncycle 3\nreg c 02"),
-        Refuses(10, 4, "golden: snapshot: S1 line 3\n"),
-    ),
-    (
-        Resume(
-            COUNTER,
-            "{}",
-            TRACE,
-            "golden snapshot 1\ncycle 3\nreg c 02\nreg c 02\n",
-        ),
-        Refuses(10, 4, "golden: snapshot: S1 line 4\n"),
-    ),
-    (
-        Resume(
-            COUNTER,
-            "{}",
-            TRACE,
-            "golden snapshot 1\ncycle 3\nmem m 1 22\n",
-        ),
-        Refuses(10, 4, "golden: snapshot: S1 line 3\n"),
-    ),
-    (
-        Resume(
-            COUNTER,
-            "{}",
-            TRACE,
-            "golden snapshot 1\ncycle 9\nreg c 00\n",
-        ),
-        Refuses(10, 4, "golden: snapshot: S1 line 3\n"),
-    ),
-    (
-        Resume(COUNTER, "{}", "cycle reset\n0 1\n1 2\n", ""),
-        Refuses(7, 3, "golden: trace: T4 row 1 field 1\n"),
-    ),
-];
-
-/// Texts that are no snapshot of a memory, and of a circuit with a pipe: an address at the depth and one with a leading zero, words out of order,
-/// kinds in another order, the register of a pipe as one of the circuit, registers out of order, and a pipe that isn't asked for.
-pub(crate) static UNREAD_PLACES: [Row; 9] = [
-    (
-        Resume(
-            LATE,
-            "{}",
-            LATE_TRACE,
-            "golden snapshot 1\ncycle 2\nmem m 3 22\n",
-        ),
-        Refuses(10, 4, "golden: snapshot: S1 line 3\n"),
-    ),
-    (
-        Resume(
-            LATE,
-            "{}",
-            LATE_TRACE,
-            "golden snapshot 1\ncycle 2\nmem m 01 22\n",
-        ),
-        Refuses(10, 4, "golden: snapshot: S1 line 3\n"),
-    ),
-    (
-        Resume(
-            LATE,
-            "{}",
-            LATE_TRACE,
-            "golden snapshot 1\ncycle 2\nmem m 1 22\nmem m 0 11\n",
-        ),
-        Refuses(10, 4, "golden: snapshot: S1 line 4\n"),
-    ),
-    (
-        Resume(
-            LATE,
-            LISTED,
-            LATE_TRACE,
-            "golden snapshot 1\ncycle 2\nmem m 1 22\nread m.r.data 11\n",
-        ),
-        Refuses(10, 4, "golden: snapshot: S1 line 4\n"),
-    ),
-    (
-        Resume(
-            LATE,
-            LISTED,
-            LATE_TRACE,
-            "golden snapshot 1\ncycle 2\nread m.r 11\n",
-        ),
-        Refuses(10, 4, "golden: snapshot: S1 line 3\n"),
-    ),
-    (
-        Resume(
-            PARTS,
-            "{\"units\":[\"count\",\"sum\"],\"pipe\":[\"sum.a\"]}",
-            SIX_ROWS,
-            "golden snapshot 1\ncycle 3\nreg pipe:sum.a 2\n",
-        ),
-        Refuses(10, 4, "golden: snapshot: S1 line 3\n"),
-    ),
-    (
-        Resume(
-            PARTS,
-            "{\"units\":[\"count\",\"sum\"],\"pipe\":[\"sum.a\"]}",
-            SIX_ROWS,
-            "golden snapshot 1\ncycle 3\nreg sum.s 1\nreg count.r 3\n",
-        ),
-        Refuses(10, 4, "golden: snapshot: S1 line 4\n"),
-    ),
-    (
-        Resume(
-            PARTS,
-            "{\"units\":[\"count\",\"sum\"],\"pipe\":[\"sum.a\"]}",
-            SIX_ROWS,
-            "golden snapshot 1\ncycle 3\npipe sum.a 2\nreg count.r 3\n",
-        ),
-        Refuses(10, 4, "golden: snapshot: S1 line 4\n"),
-    ),
-    (
-        Resume(
-            PARTS,
-            "{\"units\":[\"count\",\"sum\"]}",
-            SIX_ROWS,
-            "golden snapshot 1\ncycle 3\npipe sum.a 2\n",
-        ),
-        Refuses(10, 4, "golden: snapshot: S1 line 3\n"),
-    ),
-];
-
-/// Saved under one partition, and resumed under another with the same pipes and clocks: a memory that is listed and one that is not, each way;
-/// pipes between two units in either order, and out of one.
+// Saved under one partition, and resumed under another with the same pipes and clocks: a memory that is listed and one that is not, each way;
+// pipes between two units in either order, and out of one.
 pub(crate) static MOVED: [Row; 8] = [
     (
         Save(LATE, LISTED, LATE_TRACE, "2"),
@@ -478,8 +288,8 @@ pub(crate) static MOVED: [Row; 8] = [
     ),
 ];
 
-/// The same with clocks: shared units with memories, listed and not; a memory of two clocks; a pipe; units of one module; the handshake with a
-/// pipe. The cycle of a snapshot counts for its edges. A run may also go on with other clocks.
+// The same with clocks: shared units with memories, listed and not; a memory of two clocks; a pipe; units of one module; the handshake with a
+// pipe. The cycle of a snapshot counts for its edges. A run may also go on with other clocks.
 pub(crate) static MOVED_CLOCKS: [Row; 11] = [
     (
         Save(
@@ -585,62 +395,4 @@ pub(crate) static MOVED_CLOCKS: [Row; 11] = [
         ),
         Prints(4, "cycle p q\n3 3 3\n4 4 6\n5 5 a\n"),
     ),
-];
-
-/// A file of a snapshot that is missing or can't be loaded. Puts that fail: the only one of `save`, a row of `resume`; and a failing `err` changes
-/// no status.
-pub(crate) static SNAP_PUTS: [Row; 8] = [
-    (
-        AskCounter(RESUME),
-        Refuses(3, 4, "golden: cannot load k1.snap\n"),
-    ),
-    (
-        AskFailing(
-            "golden save k1.fir p.json k1.trace 3",
-            COUNTER,
-            "{}",
-            TRACE,
-            2,
-            NONE,
-            NONE,
-        ),
-        Refuses(3, 3, "golden: cannot load k1.trace\n"),
-    ),
-    (
-        AskFailing(
-            "golden save k1.fir p.json k1.trace 3",
-            COUNTER,
-            "{}",
-            TRACE,
-            NONE,
-            0,
-            NONE,
-        ),
-        Stops(4, 3, "gol", "golden: cannot write\n"),
-    ),
-    (
-        AskFailing(
-            "golden save k1.fir p.json k1.trace 5",
-            COUNTER,
-            "{}",
-            TRACE,
-            NONE,
-            NONE,
-            0,
-        ),
-        Refuses(10, 3, "golden: "),
-    ),
-    (
-        ResumeFailing(AT_3, 0),
-        Stops(4, 4, "cyc", "golden: cannot write\n"),
-    ),
-    (
-        ResumeFailing(AT_3, 1),
-        Stops(4, 4, "cycle out\n3 0", "golden: cannot write\n"),
-    ),
-    (
-        ResumeFailing("golden snapshot 1\ncycle 1\n", 3),
-        Stops(4, 4, "cycle out\n1 00\n2 01\n3 0", "golden: cannot write\n"),
-    ),
-    (ResumeFailing(AT_3, 2), Prints(4, "cycle out\n3 02\n")),
 ];

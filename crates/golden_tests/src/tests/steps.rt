@@ -1,16 +1,14 @@
-//! What `replay` prints, and the steps that it refuses. Expected texts are worked by hand from docs/FORMATS.md.
+//! What `replay` prints. Expected texts are worked by hand from docs/FORMATS.md.
 use super::calls::Call::{AskCounter, Replay, ReplayRead};
 use super::calls::End::{Prints, Refuses};
 use super::calls::Row;
+use super::workers::UNITS;
 use golden_calls::{COUNTER, LATE, MEMORY, PAIR, TRACE, TWO};
+use net_calls::PAIR_TRACE;
 
 pub(crate) const REPLAY: &str = "golden replay k1.fir p.json k1.trace s.steps";
 
 pub(crate) const REPLAY_1: &str = "golden replay k1.fir p.json k1.trace s.steps --capacity 1";
-
-const UNITS: &str = "{\"units\":[\"a\",\"b\"]}";
-
-const PAIR_TRACE: &str = "cycle x\n0 0f\n1 81\n";
 
 pub(crate) const MEMORY_TRACE: &str = "cycle a v\n0 1 0f\n1 1 21\n2 3 55\n3 1 00\n";
 
@@ -20,21 +18,19 @@ const DIRECT: &str = "{\"units\":[\"a\",\"b\"],\"direct\":true}";
 
 const PIPED: &str = "{\"units\":[\"a\",\"b\"],\"pipe\":[\"a.k\"]}";
 
-const PIPED_INPUT: &str = "{\"units\":[\"a\",\"b\"],\"pipe\":[\"x\"]}";
+pub(crate) const DIRECT_FORK: &str = "{\"units\":[\"u\",\"v\"],\"direct\":true}";
 
-const DIRECT_FORK: &str = "{\"units\":[\"u\",\"v\"],\"direct\":true}";
-
-const SHARED: &str = "{\"units\":[\"u\",\"v\"],\"share\":[[\"u\",\"v\"]]}";
+pub(crate) const SHARED: &str = "{\"units\":[\"u\",\"v\"],\"share\":[[\"u\",\"v\"]]}";
 
 const LATE_TRACE: &str = "cycle a e v\n0 1 1 2a\n1 0 0 00\n";
 
-const TWO_TRACE: &str = "cycle x\n0 01\n1 10\n2 00\n";
+pub(crate) const TWO_TRACE: &str = "cycle x\n0 01\n1 10\n2 00\n";
 
 // Fourteen steps of the memory that is listed: both readers have their data.
 pub(crate) const READ: &str =
     "fire a\nfire v\nlatch a\nlatch v\nfire m.r.addr\nfire m.r.en\nfire m.s.addr\nfire m.s.en\nlatch m.r.addr\nlatch m.r.en\nlatch m.s.addr\nlatch m.s.en\nfire m.r.data\nfire m.s.data\n";
 
-/// The counter: its output goes ahead of its input; and no steps.
+// The counter: its output goes ahead of its input; and no steps.
 pub(crate) static COUNTER_STEPS: [Row; 2] = [
     (
         Replay(
@@ -52,13 +48,13 @@ pub(crate) static COUNTER_STEPS: [Row; 2] = [
     ),
 ];
 
-/// Two orders of the same steps, and no step. A memory that is read; that is written at
-/// its first port. Two units of one host, of which one goes ahead. A memory through its first cycle, ahead of the hub; and on to its
-/// second, which reads what the later of its two writers wrote. A memory of latency 1 that reads new words: its writer is due before its
-/// reader. The two units of one host: only outputs; one in its second cycle while the other stays; two whole cycles; one tray ahead; both in
-/// their second cycle before the hub takes what they gave, where a channel holds two tokens. With direct channels: a whole cycle of units
-/// that feed each other; a source and its two channels. With a pipe, whose queue opens with a token: no steps; its token is latched before
-/// its producer goes; and a second token.
+// Two orders of the same steps, and no step. A memory that is read; that is written at
+// its first port. Two units of one host, of which one goes ahead. A memory through its first cycle, ahead of the hub; and on to its
+// second, which reads what the later of its two writers wrote. A memory of latency 1 that reads new words: its writer is due before its
+// reader. The two units of one host: only outputs; one in its second cycle while the other stays; two whole cycles; one tray ahead; both in
+// their second cycle before the hub takes what they gave, where a channel holds two tokens. With direct channels: a whole cycle of units
+// that feed each other; a source and its two channels. With a pipe, whose queue opens with a token: no steps; its token is latched before
+// its producer goes; and a second token.
 pub(crate) static STEPS_DONE: [Row; 19] = [
     (
         Replay(
@@ -282,227 +278,5 @@ pub(crate) static STEPS_DONE: [Row; 19] = [
             4,
             "x 1/1 0f\na.x 1/1 0f\na.k 1/0 00 1e\na.p 1/1 0f\na.q 0/0\nb.m 1/1 0f\nb.n 1/1 1e\nq 0/0\n",
         ),
-    ),
-];
-
-/// Steps of the two units of which the last is refused, and one behind the last cycle.
-pub(crate) static STEPS_REFUSED: [Row; 10] = [
-    (
-        Replay(REPLAY_1, PAIR, UNITS, PAIR_TRACE, "go x\n"),
-        Refuses(9, 4, "golden: step 1: Stranger\n"),
-    ),
-    (
-        Replay(REPLAY_1, PAIR, UNITS, PAIR_TRACE, "\n"),
-        Refuses(9, 4, "golden: step 1: Stranger\n"),
-    ),
-    (
-        Replay(REPLAY_1, PAIR, UNITS, PAIR_TRACE, "fire x\nfire  x\n"),
-        Refuses(9, 4, "golden: step 2: Stranger\n"),
-    ),
-    (
-        Replay(REPLAY_1, PAIR, UNITS, PAIR_TRACE, "fire b.n\n"),
-        Refuses(9, 4, "golden: step 1: NeedsInput b.m\n"),
-    ),
-    (
-        Replay(REPLAY_1, PAIR, UNITS, PAIR_TRACE, "latch x\n"),
-        Refuses(9, 4, "golden: step 1: NoToken x\n"),
-    ),
-    (
-        Replay(REPLAY_1, PAIR, UNITS, PAIR_TRACE, "fire x\nfire x\n"),
-        Refuses(9, 4, "golden: step 2: Fired\n"),
-    ),
-    (
-        Replay(
-            REPLAY_1,
-            PAIR,
-            UNITS,
-            PAIR_TRACE,
-            "fire x\nlatch x\nlatch x\n",
-        ),
-        Refuses(9, 4, "golden: step 3: Latched\n"),
-    ),
-    (
-        Replay(
-            REPLAY_1,
-            PAIR,
-            UNITS,
-            PAIR_TRACE,
-            "fire x\nfinish in:x\nfire x\n",
-        ),
-        Refuses(9, 4, "golden: step 3: Full x 1\n"),
-    ),
-    (
-        Replay(REPLAY_1, PAIR, UNITS, PAIR_TRACE, "finish hub:\n"),
-        Refuses(9, 4, "golden: step 1: Unfired a.x\n"),
-    ),
-    (
-        Replay(REPLAY_1, PAIR, UNITS, "cycle x\n", "fire x\n"),
-        Refuses(9, 4, "golden: step 1: Ended\n"),
-    ),
-];
-
-/// Steps of the listed memory behind its reads, of which the last is refused.
-pub(crate) static SERVES_REFUSED: [Row; 6] = [
-    (
-        ReplayRead("finish m\n"),
-        Refuses(9, 4, "golden: step 15: Unserved w\n"),
-    ),
-    (
-        ReplayRead("serve m x\n"),
-        Refuses(9, 4, "golden: step 15: Order w\n"),
-    ),
-    (
-        ReplayRead("serve m w\n"),
-        Refuses(9, 4, "golden: step 15: NeedsInput m.w.addr\n"),
-    ),
-    (
-        ReplayRead("serve m z\n"),
-        Refuses(9, 4, "golden: step 15: Stranger\n"),
-    ),
-    (
-        ReplayRead(
-            "fire m.w.mask\nfire m.w.data\nfire m.w.en\nfire m.w.addr\nlatch m.w.addr\nlatch m.w.en\nlatch m.w.data\nlatch m.w.mask\nserve m w\nserve m w\n",
-        ),
-        Refuses(9, 4, "golden: step 24: Order x\n"),
-    ),
-    (
-        ReplayRead(
-            "fire m.w.mask\nfire m.w.data\nfire m.w.en\nfire m.w.addr\nlatch m.w.addr\nlatch m.w.en\nlatch m.w.data\nlatch m.w.mask\nserve m w\nfinish m\n",
-        ),
-        Refuses(9, 4, "golden: step 24: Unserved x\n"),
-    ),
-];
-
-// A memory of latency 0 with a reader and a writer, and one that is only read.
-const BOTH: &str =
-    "circuit Both :\nmodule Both :\ninput clock : Clock\ninput a : UInt<2>\ninput v : UInt<8>\noutput o : UInt<8>\nmem m :\ndata-type => UInt<8>\ndepth => 3\nread-latency => 0\nwrite-latency => 1\nreader => r\nwriter => w\nread-under-write => undefined\nm.r.clk <= clock\nm.w.clk <= clock\nm.r.addr <= a\nm.w.addr <= a\nm.r.en <= UInt<1>(\"h1\")\nm.w.en <= UInt<1>(\"h1\")\nm.w.mask <= UInt<1>(\"h1\")\nm.w.data <= v\no <= m.r.data\n";
-
-const READ_ONLY: &str =
-    "circuit Only :\nmodule Only :\ninput clock : Clock\ninput a : UInt<2>\noutput o : UInt<8>\nmem m :\ndata-type => UInt<8>\ndepth => 3\nread-latency => 0\nwrite-latency => 1\nreader => r\nread-under-write => undefined\nm.r.clk <= clock\nm.r.addr <= a\nm.r.en <= UInt<1>(\"h1\")\no <= m.r.data\n";
-
-/// A reader of the same cycle is a port that is never due: before its data was given; after that; when the writer was served; and where
-/// there is no writer.
-pub(crate) static NEVER_DUE: [Row; 4] = [
-    (
-        Replay(REPLAY_1, BOTH, LISTED, MEMORY_TRACE, "serve m r\n"),
-        Refuses(9, 4, "golden: step 1: Unfired m.r.data\n"),
-    ),
-    (
-        Replay(
-            REPLAY_1,
-            BOTH,
-            LISTED,
-            MEMORY_TRACE,
-            "fire a\nlatch a\nfire m.r.addr\nfire m.r.en\nlatch m.r.addr\nlatch m.r.en\nfire m.r.data\nserve m r\n",
-        ),
-        Refuses(9, 4, "golden: step 8: Order w\n"),
-    ),
-    (
-        Replay(
-            REPLAY_1,
-            BOTH,
-            LISTED,
-            MEMORY_TRACE,
-            "fire a\nlatch a\nfire m.r.addr\nfire m.r.en\nlatch m.r.addr\nlatch m.r.en\nfire m.r.data\nfire v\nlatch v\nfire m.w.addr\nfire m.w.en\nfire m.w.data\nfire m.w.mask\nlatch m.w.addr\nlatch m.w.en\nlatch m.w.data\nlatch m.w.mask\nserve m w\nserve m r\n",
-        ),
-        Refuses(9, 4, "golden: step 19: Order -\n"),
-    ),
-    (
-        Replay(
-            REPLAY_1,
-            READ_ONLY,
-            LISTED,
-            "cycle a\n0 1\n1 2\n",
-            "fire a\nlatch a\nfire m.r.addr\nfire m.r.en\nlatch m.r.addr\nlatch m.r.en\nfire m.r.data\nserve m r\n",
-        ),
-        Refuses(9, 4, "golden: step 8: Order -\n"),
-    ),
-];
-
-/// One of two units of one host is refused, whatever the other did.
-pub(crate) static SHARED_REFUSED: [Row; 4] = [
-    (
-        Replay(REPLAY_1, TWO, SHARED, TWO_TRACE, "fire v.s\nfinish u\n"),
-        Refuses(9, 4, "golden: step 2: Unfired u.s\n"),
-    ),
-    (
-        Replay(REPLAY_1, TWO, SHARED, TWO_TRACE, "fire u.s\nfinish u\n"),
-        Refuses(9, 4, "golden: step 2: NeedsInput u.a\n"),
-    ),
-    (
-        Replay(REPLAY_1, TWO, SHARED, TWO_TRACE, "fire u.s\nlatch v.s\n"),
-        Refuses(9, 4, "golden: step 2: NoToken v.s\n"),
-    ),
-    (
-        Replay(REPLAY_1, TWO, SHARED, TWO_TRACE, "fire v.s\nfire p\n"),
-        Refuses(9, 4, "golden: step 2: NeedsInput u.s\n"),
-    ),
-];
-
-/// A source owes each of its channels a token.
-pub(crate) static FORK_REFUSED: [Row; 3] = [
-    (
-        Replay(
-            REPLAY_1,
-            TWO,
-            DIRECT_FORK,
-            TWO_TRACE,
-            "fire u.a\nfinish in:x\n",
-        ),
-        Refuses(9, 4, "golden: step 2: Unfired x\n"),
-    ),
-    (
-        Replay(
-            REPLAY_1,
-            TWO,
-            DIRECT_FORK,
-            TWO_TRACE,
-            "fire x\nfinish in:x\n",
-        ),
-        Refuses(9, 4, "golden: step 2: Unfired u.a\n"),
-    ),
-    (
-        Replay(REPLAY_1, TWO, DIRECT_FORK, TWO_TRACE, "fire u.s\n"),
-        Refuses(9, 4, "golden: step 1: Stranger\n"),
-    ),
-];
-
-/// The token that a channel opens with takes room.
-pub(crate) static PIPE_REFUSED: [Row; 3] = [
-    (
-        Replay(REPLAY_1, PAIR, PIPED_INPUT, PAIR_TRACE, "fire x\n"),
-        Refuses(9, 4, "golden: step 1: Full x 1\n"),
-    ),
-    (
-        Replay(
-            REPLAY_1,
-            PAIR,
-            PIPED_INPUT,
-            PAIR_TRACE,
-            "latch x\nlatch x\n",
-        ),
-        Refuses(9, 4, "golden: step 2: Latched\n"),
-    ),
-    (
-        Replay(
-            REPLAY_1,
-            PAIR,
-            PIPED_INPUT,
-            PAIR_TRACE,
-            "latch x\nfire x\nfinish in:x\nfire x\n",
-        ),
-        Refuses(9, 4, "golden: step 4: Full x 1\n"),
-    ),
-];
-
-/// A steps file that is missing, and a trace that is refused before the steps.
-pub(crate) static STEPS_UNREAD: [Row; 2] = [
-    (
-        AskCounter(REPLAY),
-        Refuses(3, 4, "golden: cannot load s.steps\n"),
-    ),
-    (
-        Replay(REPLAY, COUNTER, "{}", "cycle out\n", "go\n"),
-        Refuses(7, 3, "golden: trace: T1 field 1\n"),
     ),
 ];

@@ -40,7 +40,7 @@ const DEEP: &str =
 const TICKED: &str =
     "circuit Top :\nmodule Cell :\ninput clock : Clock\ninput i : UInt<2>\nstop(clock, eq(i, UInt<2>(1)), 1)\nmodule Top :\ninput c1 : Clock\ninput c2 : Clock\ninput x : UInt<2>\noutput y : UInt<2>\ninst c of Cell\ninst d of Cell\nc.clock <= c1\nd.clock <= c2\nc.i <= x\nd.i <= not(x)\ny <= x\n";
 
-/// Stops in circuits of one module.
+// Stops in circuits of one module.
 pub(crate) static STOPS: [Row; 10] = [
     (
         Run(COUNTED, "{}", TRACE),
@@ -84,8 +84,8 @@ pub(crate) static STOPS: [Row; 10] = [
     ),
 ];
 
-/// Stops in units that share a host, and in the hub beside them; two levels down, in a unit and as a part of one; behind a pipe, which acts a
-/// cycle later; and where a pipe is before its condition.
+// Stops in units that share a host, and in the hub beside them; two levels down, in a unit and as a part of one; behind a pipe, which acts a
+// cycle later; and where a pipe is before its condition.
 pub(crate) static STOPPED_CUTS: [Row; 8] = [
     (
         Run(CELLS, SHARED, "cycle x\n0 0\n1 2\n2 3\n"),
@@ -133,9 +133,9 @@ pub(crate) static STOPPED_CUTS: [Row; 8] = [
     ),
 ];
 
-/// Stops act where their clocks have an edge. By hand, the counter whose clock has one in each second cycle: c is 0 0 1 1, with edges in the cycles 1
-/// and 3, so that the stop doesn't act in cycle 2. A stop whose clock has no edge in the trace. Behind a pipe the edge counts that comes
-/// a cycle later. Two stops with a clock of their own each, whole, on one host, and in a unit and the hub.
+// Stops act where their clocks have an edge. By hand, the counter whose clock has one in each second cycle: c is 0 0 1 1, with edges in the cycles 1
+// and 3, so that the stop doesn't act in cycle 2. A stop whose clock has no edge in the trace. Behind a pipe the edge counts that comes
+// a cycle later. Two stops with a clock of their own each, whole, on one host, and in a unit and the hub.
 pub(crate) static CLOCKED_STOPS: [Row; 8] = [
     (
         Run(
@@ -203,7 +203,7 @@ pub(crate) static CLOCKED_STOPS: [Row; 8] = [
     ),
 ];
 
-/// Traces with a fault behind the row of a stop.
+// Traces with a fault behind the row of a stop.
 pub(crate) static FAULTS_BEHIND_A_STOP: [Row; 4] = [
     (
         Run(HALT, "{}", "cycle x\n0 3\n1 4\n"),
@@ -223,7 +223,7 @@ pub(crate) static FAULTS_BEHIND_A_STOP: [Row; 4] = [
     ),
 ];
 
-/// The row of a stop can't be written; and no row behind it is put.
+// The row of a stop can't be written; and no row behind it is put.
 pub(crate) static PUTS_AT_A_STOP: [Row; 4] = [
     (
         AskFailing(RUN, COUNTED, "{}", TRACE, NONE, 3, NONE),
@@ -259,7 +259,7 @@ pub(crate) static PUTS_AT_A_STOP: [Row; 4] = [
     ),
 ];
 
-/// Each stop has a channel and a tray, behind those of the outputs: also with direct channels, and with a pipe.
+// Each stop has a channel and a tray, behind those of the outputs: also with direct channels, and with a pipe.
 pub(crate) static STOP_CHANNELS: [Row; 4] = [
     (
         Ask(CHECK, COUNTED, "{}", ""),
@@ -296,7 +296,7 @@ pub(crate) static STOP_CHANNELS: [Row; 4] = [
     ),
 ];
 
-/// Steps go over all rows of a trace: all steps of two cycles, where a stop acts in the first.
+// Steps go over all rows of a trace: all steps of two cycles, where a stop acts in the first.
 pub(crate) static STEPS_BEHIND_A_STOP: [Row; 1] = [(
     Replay(
         REPLAY,

@@ -1,8 +1,9 @@
 //! The tests of all tables.
-use super::bridges::{
-    BRIDGED, BRIDGED_CUTS, BRIDGED_STEPS, BRIDGED_TRACES, BRIDGED_WAYS, BRIDGES_ASTRAY,
-    BRIDGES_LAST, BRIDGES_UNFIT, BRIDGES_UNKNOWN, BRIDGES_UNREAD, BRIDGES_UNSAVED,
+use super::bridge_faults::{
+    BRIDGES_ASTRAY, BRIDGES_LAST, BRIDGES_UNFIT, BRIDGES_UNKNOWN, BRIDGES_UNREAD,
 };
+use super::bridge_files::{BRIDGED_TRACES, BRIDGES_UNSAVED};
+use super::bridges::{BRIDGED, BRIDGED_CUTS, BRIDGED_STEPS, BRIDGED_WAYS};
 use super::calls::check_rows;
 use super::circuits::{CIRCUIT_FAULTS, CUT, RUNS, WHOLE};
 use super::clocks::{CLOCK_CUTS, CLOCK_FAULTS, CLOCKED, HANDSHAKES, SERVED_WITHOUT_AN_EDGE};
@@ -10,17 +11,17 @@ use super::commands::{ASKED, NO_CYCLES, NO_NUMBERS, SAVING, UNASKED};
 use super::cuts::{CUT_FAULTS, HOST_CUTS, ORDER_CUTS, ROUTED, UNIT_CUTS};
 use super::demos::SUMMARIES;
 use super::files::{FAILING, MISSING};
-use super::large::{LARGE_FILES, LIMITS};
+use super::large::{CHAINS, LARGE_FILES, LIMITS};
 use super::outputs::PUTS;
 use super::partitions::{ACCEPTED, PARTITION_FAULTS, PIPED};
 use super::refusals::REFUSALS;
-use super::snaps::{
-    MOVED, MOVED_CLOCKS, RESUMED, SAVED, SAVED_STOPS, SNAP_PUTS, UNREAD, UNREAD_PLACES,
+use super::snap_faults::{SNAP_PUTS, UNREAD, UNREAD_PLACES};
+use super::snaps::{MOVED, MOVED_CLOCKS, RESUMED, SAVED, SAVED_STOPS};
+use super::step_faults::{
+    FORK_REFUSED, NEVER_DUE, PIPE_REFUSED, SERVES_REFUSED, SHARED_REFUSED, STEPS_REFUSED,
+    STEPS_UNREAD,
 };
-use super::steps::{
-    COUNTER_STEPS, FORK_REFUSED, NEVER_DUE, PIPE_REFUSED, SERVES_REFUSED, SHARED_REFUSED,
-    STEPS_DONE, STEPS_REFUSED, STEPS_UNREAD,
-};
+use super::steps::{COUNTER_STEPS, STEPS_DONE};
 use super::stops::{
     CLOCKED_STOPS, FAULTS_BEHIND_A_STOP, PUTS_AT_A_STOP, STEPS_BEHIND_A_STOP, STOP_CHANNELS,
     STOPPED_CUTS, STOPS,
@@ -53,6 +54,11 @@ fn traces_are_read(rt: HostRuntime) {
     let alloc = rt.alloc();
     check_rows(&rt, alloc, "TRACES", &TRACES);
     check_rows(&rt, alloc, "LIMITS", &LIMITS);
+}
+
+#[test]
+fn chains_of_modules_are_read(rt: HostRuntime) {
+    check_rows(&rt, rt.alloc(), "CHAINS", &CHAINS);
 }
 
 #[test]

@@ -4,7 +4,7 @@ use super::calls::End::Refuses;
 use super::calls::Row;
 use golden_calls::COUNTER;
 
-/// Traces of the counter with a fault.
+// Traces of the counter with a fault.
 pub(crate) static TRACES: [Row; 15] = [
     (
         Run(COUNTER, "{}", ""),

@@ -12,10 +12,10 @@ use std::alloc::{AllocError, Global};
 use std::test::Fail;
 use std::thread::Threads;
 
-/// Two units that feed each other in one cycle.
+// Two units that feed each other in one cycle.
 pub(crate) const UNITS: &str = "{\"units\":[\"a\",\"b\"]}";
 
-const ROWS: &str = "cycle q\n0 11\n1 83\n";
+pub(crate) const ROWS: &str = "cycle q\n0 11\n1 83\n";
 
 // The same without the hub between them, with a pipe from the one to the other, and with a pipe before the output.
 const DIRECT: &str = "{\"units\":[\"a\",\"b\"],\"direct\":true}";
@@ -24,12 +24,12 @@ const LATE_INPUT: &str = "{\"units\":[\"a\",\"b\"],\"pipe\":[\"a.k\"]}";
 
 const LATE_OUTPUT: &str = "{\"units\":[\"a\",\"b\"],\"pipe\":[\"q\"]}";
 
-const ALONE: &str = "golden run k1.fir p.json k1.trace --capacity 1 --workers 0";
+pub(crate) const ALONE: &str = "golden run k1.fir p.json k1.trace --capacity 1 --workers 0";
 
-const WITH_TWO: &str = "golden run k1.fir p.json k1.trace --capacity 1 --workers 2";
+pub(crate) const WITH_TWO: &str = "golden run k1.fir p.json k1.trace --capacity 1 --workers 2";
 
-/// Channels of one token, by no worker, one and three, and by the simulator; with direct channels and with pipes, by none and two. As many workers as there may be, and channels as large as they may be. Two
-/// workers, where the second put on `out` takes three bytes and fails.
+// Channels of one token, by no worker, one and three, and by the simulator; with direct channels and with pipes, by none and two. As many workers as there may be, and channels as large as they may be. Two
+// workers, where the second put on `out` takes three bytes and fails.
 pub(crate) static BY_WORKERS: [Row; 12] = [
     (Ask(ALONE, PAIR, UNITS, PAIR_TRACE), Prints(3, ROWS)),
     (

@@ -1,5 +1,5 @@
 use Rattle.std.proofs.Common.{◌≡◌, sym, subst}
-use Rattle.gg_net.specs.Seats.{machines_by}
+use Rattle.gg_net.specs.Stations.{machines_by}
 use Rattle.gg_net.specs.Net.{Opens, opening_net}
 use Rattle.gg_build.specs.Begin.{AreTokens}
 use Rattle.gg_build.proofs.BeginLemmas.{begins-within}
@@ -7,11 +7,11 @@ use Rattle.gg_build.proofs.ReadyLemmas.{all-named, all-ready, faultless}
 use Rattle.gg_build.proofs.OpenLemmas.{lists_of, opens, started}
 use Rattle.gg_build.proofs.opening.started.Goals as goal
 
-pub seats_of-requires-clause-ready : goal.seats_of-requires-clause-ready
-seats_of-requires-clause-ready g c = all-ready c.args.plan.now c.args.begin.now c.args.trace.now.columns c.args.trace.now.rows g.Z.Streams.flow c.requires.run
+pub placement_of-requires-clause-ready : goal.placement_of-requires-clause-ready
+placement_of-requires-clause-ready g c = all-ready c.args.plan.now c.args.begin.now c.args.trace.now.columns c.args.trace.now.rows g.Z.Streams.flow c.requires.run
 
-pub seats_of-requires-clause-cycle : goal.seats_of-requires-clause-cycle
-seats_of-requires-clause-cycle g c = begins-within c.args.plan.now c.args.begin.now c.args.trace.now.columns c.args.trace.now.rows g.Z.Streams.flow c.requires.run
+pub placement_of-requires-clause-cycle : goal.placement_of-requires-clause-cycle
+placement_of-requires-clause-cycle g c = begins-within c.args.plan.now c.args.begin.now c.args.trace.now.columns c.args.trace.now.rows g.Z.Streams.flow c.requires.run
 
 pub wires_of-requires : goal.wires_of-requires
 wires_of-requires g c = faultless c.args.plan.now c.args.begin.now c.args.trace.now.columns c.args.trace.now.rows g.Z.Streams.flow c.requires.run
@@ -42,5 +42,5 @@ returns g c =
     (λ token have. c.in_ok-wires.ensures token (subst (AreTokens plan.channels token) (sym c.deref.ensures.value) have))
     (subst (λ k. c.in_ok-net.net ≡ opening_net (machines_by (lists_of plan begin columns n hosts stations c.in_ok-hosts.ensures) stations) wires k) c.rows-end.ensures.count c.in_ok-net.ensures)
 
-pub seats_of-requires-clause-names : goal.seats_of-requires-clause-names
-seats_of-requires-clause-names g c = all-named c.args.plan.now c.args.begin.now c.args.trace.now.columns c.args.trace.now.rows g.Z.Streams.flow c.requires.run
+pub placement_of-requires-clause-names : goal.placement_of-requires-clause-names
+placement_of-requires-clause-names g c = all-named c.args.plan.now c.args.begin.now c.args.trace.now.columns c.args.trace.now.rows g.Z.Streams.flow c.requires.run

@@ -8,13 +8,13 @@ use Rattle.gg_build.proofs.units.outs_of.Goals as goal
 
 pub picked-requires : goal.picked-requires
 picked-requires c =
-    let piece = c.args.piece.now in
+    let piece = c.args._piece.now in
     let part = c.in-Cut.part in
     subst (All (λ s. s < length c.args.places.now)) (sym c.outs.ensures) (outs-known piece c.args.places.now c.requires.formed c.requires.places part.piece.outs (like-outs piece c.args.body.now part c.in-Cut.is c.requires.like))
 
 pub returns : goal.returns
 returns c =
-    let piece = c.args.piece.now in
+    let piece = c.args._piece.now in
     let part = c.in-Cut.part in
     let own = c.in_ok-outs-in-Cut in
     subst (λ (b : Body). ArePickedFor piece.outs b own.outs) (sym c.in-Cut.is)

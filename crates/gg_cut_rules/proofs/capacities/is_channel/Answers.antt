@@ -5,10 +5,10 @@ use Rattle.gg_cut_rules.proofs.capacities.is_channel.Goals as goal
 
 pub returns-in-Some : goal.returns-in-Some
 returns-in-Some c =
-    let known = subst (λ n. All (λ s. s < n) c.args.signals.now) (sym c.signal_count.ensures.paths) c.requires.known in
-    c.requires.marks c.in-Some.signal ∙ named-channel c.args.piece.now.paths c.args.name.now c.in-Some.signal c.args.signals.now c.signal_count.ensures.distinct c.in-Some.ensures.found known
+    let known = subst (λ n. All (λ s. s < n) c.args._signals.now) (sym c.signal_count.ensures.paths) c.requires.known in
+    c.requires.marks c.in-Some.signal ∙ named-channel c.args.piece.now.paths c.args.name.now c.in-Some.signal c.args._signals.now c.signal_count.ensures.distinct c.in-Some.ensures.found known
 
 pub returns-in-None : goal.returns-in-None
 returns-in-None c =
-    let known = subst (λ n. All (λ s. s < n) c.args.signals.now) (sym c.signal_count.ensures.paths) c.requires.known in
-    unnamed-channel c.args.piece.now.paths c.args.name.now c.args.signals.now c.in-None.ensures.missing known
+    let known = subst (λ n. All (λ s. s < n) c.args._signals.now) (sym c.signal_count.ensures.paths) c.requires.known in
+    unnamed-channel c.args.piece.now.paths c.args.name.now c.args._signals.now c.in-None.ensures.missing known

@@ -11,7 +11,7 @@ use Rattle.gg_elab.proofs.ports.add_stops.Goals as goal
 
 pub loop-place-preserved : goal.loop-place-preserved
 loop-place-preserved c =
-    let circuit = c.args.typed.now.circuit in
+    let circuit = c.args._typed.now.circuit in
     let paths = c.args.paths.now in
     let i = c.loop-place.place-index in
     let p = c.place-item.result in

@@ -5,4 +5,4 @@ use Rattle.gg_flattened.specs.Views.{site_of}
 use Rattle.gg_elab.proofs.ports.add_stops.Given as goal
 
 abbrev pub invariant-loop-place : goal.invariant-loop-place
-invariant-loop-place l = l.piece ≡ record l.fn.piece { outs = l.fn.piece.outs ++ map (number_of l.paths) (stop_paths l.typed.circuit.modules (map site_of (take l.place-index l.places))) }
+invariant-loop-place l = l.piece ≡ record l.fn.piece { outs = l.fn.piece.outs ++ map (number_of l.paths) (stop_paths l._typed.circuit.modules (map site_of (take l.place-index l.places))) }

@@ -18,8 +18,8 @@ use Rattle.gg_flattened.proofs.table.table_of.Goals as goal
 
 pub loop-place-preserved : goal.loop-place-preserved
 loop-place-preserved c =
-    let modules = c.args.typed.now.circuit.modules in
-    let types = types_of c.args.typed.now.circuit in
+    let modules = c.args._typed.now.circuit.modules in
+    let types = types_of c.args._typed.now.circuit in
     let places = c.args.places.now in
     let i = c.loop-place.place-index in
     let p = c.place-item.result in
@@ -45,8 +45,8 @@ loop-place-preserved c =
 
 pub add_signals-requires : goal.add_signals-requires
 add_signals-requires c =
-    let modules = c.args.typed.now.circuit.modules in
-    let types = types_of c.args.typed.now.circuit in
+    let modules = c.args._typed.now.circuit.modules in
+    let types = types_of c.args._typed.now.circuit in
     let places = c.args.places.now in
     let i = c.loop-place.place-index in
     let p = c.place-item.result in
@@ -63,8 +63,8 @@ add_signals-requires c =
 
 pub add_memories-requires : goal.add_memories-requires
 add_memories-requires c =
-    let modules = c.args.typed.now.circuit.modules in
-    let types = types_of c.args.typed.now.circuit in
+    let modules = c.args._typed.now.circuit.modules in
+    let types = types_of c.args._typed.now.circuit in
     let places = c.args.places.now in
     let i = c.loop-place.place-index in
     let p = c.place-item.result in

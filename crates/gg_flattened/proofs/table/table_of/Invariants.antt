@@ -7,5 +7,5 @@ use Rattle.gg_flattened.proofs.table.table_of.Given as goal
 
 abbrev pub invariant-loop-place : goal.invariant-loop-place
 invariant-loop-place l =
-    (table_signals l.table ≡ signals_of (flat_signals (types_of l.typed.circuit) l.typed.circuit.modules (map site_of (take l.place-index l.places))))
-    × (l.table.memories ≡ memory_paths (flat_memories l.typed.circuit.modules (map site_of (take l.place-index l.places))))
+    (table_signals l.table ≡ signals_of (flat_signals (types_of l._typed.circuit) l._typed.circuit.modules (map site_of (take l.place-index l.places))))
+    × (l.table.memories ≡ memory_paths (flat_memories l._typed.circuit.modules (map site_of (take l.place-index l.places))))

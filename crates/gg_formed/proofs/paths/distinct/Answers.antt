@@ -21,7 +21,7 @@ returns-clause-signals c =
     signal-paths-differ c.args.typed.now.circuit
     (subst (λ (k : CircuitTree). AreNamesOfCircuit k) same c.names_are_words.ensures)
     (subst (λ (k : CircuitTree). repetitions k ≡ []) c.names.ensures.names c.circuit-circuit.ensures.once)
-    (λ site listed. few-stops (types_of c.args.typed.now.circuit) c.args.typed.now.circuit.modules c.args.digests.now c.requires site.number)
+    (λ site listed. few-stops (types_of c.args.typed.now.circuit) c.args.typed.now.circuit.modules c.args._digests.now c.requires site.number)
 
 pub returns-clause-memories : goal.returns-clause-memories
 returns-clause-memories c =

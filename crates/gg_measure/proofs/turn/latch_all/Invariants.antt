@@ -4,4 +4,4 @@ use Rattle.gg_measure.specs.Turns.{HasTried}
 use Rattle.gg_measure.proofs.turn.latch_all.Given as goal
 
 abbrev pub invariant-loop-place : goal.invariant-loop-place
-invariant-loop-place g l = HasTried (λ c. Latch c) IsAtIn l.cycle l.machine l.place l.initial.net l.moved l.net
+invariant-loop-place g l = HasTried (λ c. Latch c) IsAtIn l._cycle l.machine l.place l.initial.net l.moved l.net

@@ -7,6 +7,6 @@ use Rattle.gg_names.proofs.module.declare_ports.Given as goal
 
 abbrev pub invariant-loop-port : goal.invariant-loop-port
 invariant-loop-port l = record {
-  told : TellsPorts l.circuit.modules (take l.port-index l.ports) l.table;
+  told : TellsPorts l._circuit.modules (take l.port-index l.ports) l.table;
   left_is : along repeated_port l.ports ≡ left repeated_port l.ports l.port-index;
 }

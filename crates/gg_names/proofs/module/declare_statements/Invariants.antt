@@ -7,6 +7,6 @@ use Rattle.gg_names.proofs.module.declare_statements.Given as goal
 
 abbrev pub invariant-loop-statement : goal.invariant-loop-statement
 invariant-loop-statement l = record {
-  told : TellsScope l.circuit.modules l.ports (take l.statement-index l.statements) l.table;
-  left_is : along (repeated_by l.ports) l.statements ≡ left (repeated_by l.ports) l.statements l.statement-index;
+  told : TellsScope l.circuit.modules l._ports (take l.statement-index l.statements) l.table;
+  left_is : along (repeated_by l._ports) l.statements ≡ left (repeated_by l._ports) l.statements l.statement-index;
 }

@@ -6,6 +6,7 @@ use Rattle.gg_order.specs.Design.{IsDesign}
 use Rattle.gg_cut.specs.declared.plan.Channel.{Channel}
 use Rattle.gg_pipe.specs.Made.{reference_of}
 use Rattle.gg_piped.specs.Tables.{AreOwned, AreTables, CanFill, views_by, piped_signals}
+use Rattle.gg_piped.proofs.FewLemmas.{few-states}
 use Rattle.gg_piped.proofs.PipingLemmas.{plan-apart, known-pipes, few-pipes, distinct-paths, can-fill, reference-is}
 use Rattle.gg_piped.proofs.piping.circuit_of.Goals as goal
 
@@ -39,6 +40,14 @@ made-requires-clause-few c =
     let same = ap (λ (one : FlatCircuit). length one.signals) c.piece-piece.ensures.circuit in
     let count = ap length c.requires.pipes in
     let bound : length c.piece-piece.result.now.signals + length c.args.pipes.now < 4294967296 = omega (arith, few, same, count) in
+    bound
+
+pub made-requires-clause-registers : goal.made-requires-clause-registers
+made-requires-clause-registers c =
+    let few = few-states c.args.design.now c.args.plan.now c.requires.can in
+    let same = ap (λ (one : FlatCircuit). length one.registers) c.piece-piece.ensures.circuit in
+    let count = ap length c.requires.pipes in
+    let bound : length c.piece-piece.result.now.registers + length c.args.pipes.now < 4294967296 = omega (arith, few, same, count) in
     bound
 
 pub made-requires-clause-distinct : goal.made-requires-clause-distinct

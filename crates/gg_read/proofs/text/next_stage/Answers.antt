@@ -14,5 +14,5 @@ returns-in-Ok-placed c =
 
 pub returns : goal.returns
 returns c =
-    let cause = subst (λ (ts : List Tok). IsMissed c.in-Err-placed.miss c.args.number ts c.missed.result) c.as_slice.ensures.value c.missed.ensures in
-    miss_step c.args.stage c.args.number c.args.line.now (line_of c.in-Ok.lexed) c.in-Err-placed.miss c.missed.result c.in-Ok.ensures.answer c.if-is_blank.ensures c.in-Err-placed.ensures cause
+    let cause = subst (λ (ts : List Tok). IsMissed c.in-Err-placed.fault c.args.number ts c.missed.result) c.as_slice.ensures.value c.missed.ensures in
+    miss_step c.args.stage c.args.number c.args.line.now (line_of c.in-Ok.lexed) c.in-Err-placed.fault c.missed.result c.in-Ok.ensures.answer c.if-is_blank.ensures c.in-Err-placed.ensures cause

@@ -8,7 +8,7 @@ pub returns-in-Err : goal.returns-in-Err
 returns-in-Err c =
     let left : 0 < c.len-turn-end.result - c.loop-turn._turn = omega arith in
     let level = c.loop-turn.invariant ∙ arguments_at-level (c.len-turn-end.result - c.loop-turn._turn) c.loop-turn.arguments c.loop-turn.cursor left in
-    subst (λ o. Misses c.in-Err.miss o) (sym level) (c.in-Err.ensures (c.len-turn-end.result - c.loop-turn._turn - 1))
+    subst (λ o. Misses c.in-Err.fault o) (sym level) (c.in-Err.ensures (c.len-turn-end.result - c.loop-turn._turn - 1))
 
 pub returns-in-Ok-false : goal.returns-in-Ok-false
 returns-in-Ok-false c =

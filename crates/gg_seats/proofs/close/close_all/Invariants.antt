@@ -1,5 +1,5 @@
 use Rattle.std.proofs.Common.{length, map}
-use Rattle.gg_net.specs.Seats.{machines_by}
+use Rattle.gg_net.specs.Stations.{machines_by}
 use Rattle.gg_seats.specs.Seats.{Linked}
 use Rattle.gg_seats.proofs.close.close_all.Given as goal
 

@@ -5,7 +5,7 @@ use Rattle.gg_seats.proofs.rows.fire_all.Given as goal
 
 abbrev pub invariant-loop-place : goal.invariant-loop-place
 invariant-loop-place g l = record {
-  tried : FiresTried g.L.Link.puts_into g.L.Link.putting g.Z.Streams.flow g.E.Era.start l.machine l.links l.outs l.place (machine_at (g.H.Host.machines l.initial.host) l.thread) l.initial.seats.items (machine_at (g.H.Host.machines l.host) l.thread) l.seats.items;
+  tried : FiresTried g.L.Link.puts_into g.L.Link.putting g.Z.Streams.flow g.E.Era.start l._machine l.links l.outs l.place (machine_at (g.H.Host.machines l.initial.host) l.thread) l.initial.seats.items (machine_at (g.H.Host.machines l.host) l.thread) l.seats.items;
   alone : g.H.Host.machines l.host ≡ slice_set (g.H.Host.machines l.initial.host) l.thread (machine_at (g.H.Host.machines l.host) l.thread);
   done : StepsDone (g.H.Host.machines l.initial.host) l.thread (g.H.Host.machines l.host) l.stepped;
 }

@@ -5,7 +5,7 @@ use Rattle.gg_seats.proofs.rows.serve_all.Given as goal
 
 abbrev pub invariant-loop-stepped : goal.invariant-loop-stepped
 invariant-loop-stepped g l = record {
-  tried : ServesTried g.Z.Streams.flow g.E.Era.start l.machine (machine_at (g.H.Host.machines l.initial.host) l.thread) (machine_at (g.H.Host.machines l.host) l.thread);
+  tried : ServesTried g.Z.Streams.flow g.E.Era.start l._machine (machine_at (g.H.Host.machines l.initial.host) l.thread) (machine_at (g.H.Host.machines l.host) l.thread);
   alone : g.H.Host.machines l.host ≡ slice_set (g.H.Host.machines l.initial.host) l.thread (machine_at (g.H.Host.machines l.host) l.thread);
   done : StepsDone (g.H.Host.machines l.initial.host) l.thread (g.H.Host.machines l.host) l.stepped;
 }

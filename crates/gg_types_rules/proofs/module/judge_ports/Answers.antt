@@ -27,7 +27,7 @@ loop-port-preserved c =
     let i = c.loop-port.port-index in
     let p = c.port-item.result in
     let k = c.loop-port.known in
-    let next = port-next c.args.ports.now c.args.statements.now (names_seen k) i (length k.own.items) p (names-same k c.args.known.now inv.0 inv.1 ∙ c.requires.names) inv.3 c.loop-port-test.true c.port-item.is in (
+    let next = port-next c.args.ports.now c.args._statements.now (names_seen k) i (length k.own.items) p (names-same k c.args.known.now inv.0 inv.1 ∙ c.requires.names) inv.3 c.loop-port-test.true c.port-item.is in (
       c.declare.ensures.names ∙ inv.0,
       c.declare.ensures.number ∙ inv.1,
       c.declare.ensures.traced ∙ inv.2,

@@ -15,7 +15,7 @@ judge-requires c =
     let inv = c.loop-statement.invariant in
     let k = c.loop-statement.known in
     record {
-      next = statement-next c.args.ports.now c.args.statements.now (names_seen k) c.loop-statement.statement-index (length k.own.items) c.statement-item.result
+      next = statement-next c.args._ports.now c.args.statements.now (names_seen k) c.loop-statement.statement-index (length k.own.items) c.statement-item.result
           (names-same k c.args.known.now inv.0 inv.1 ∙ c.requires.names) inv.3 c.loop-statement-test.true c.statement-item.is;
     }
 
@@ -29,7 +29,7 @@ returns-in_err-judge-clause-answers c =
     let k = c.loop-statement.known in
     let r = roles_seen old in
     let t = traced_seen old in
-    let start = map port_own c.args.ports.now in
+    let start = map port_own c.args._ports.now in
     let same : faults_of_kind (roles_seen k) (traced_seen k) (owned_seen k) x.line x.kind ≡ faults_of r t start (take i xs) x =
     ap (λ y. faults_of_kind y (traced_seen k) (owned_seen k) x.line x.kind) (roles-same k old inv.0 inv.1)
     ∙ ap (λ y. faults_of_kind r y (owned_seen k) x.line x.kind) (traced-same k old inv.0 inv.1 inv.2)
@@ -48,7 +48,7 @@ loop-statement-preserved c =
     let k = c.loop-statement.known in
     let r = roles_seen old in
     let t = traced_seen old in
-    let start = map port_own c.args.ports.now in
+    let start = map port_own c.args._ports.now in
     let roles = roles-same k old inv.0 inv.1 in
     let traced = traced-same k old inv.0 inv.1 inv.2 in
     let none : faults_of r t start (take i xs) x ≡ [] =
@@ -63,7 +63,7 @@ loop-statement-preserved c =
       c.judge.ensures.names ∙ inv.0,
       c.judge.ensures.number ∙ inv.1,
       c.judge.ensures.traced ∙ inv.2,
-      c.in_ok-judge.ensures.count ∙ ap (λ n. n + length (name_by x)) inv.3 ∙ sym (count-more c.args.ports.now xs i x c.loop-statement-test.true c.statement-item.is),
+      c.in_ok-judge.ensures.count ∙ ap (λ n. n + length (name_by x)) inv.3 ∙ sym (count-more c.args._ports.now xs i x c.loop-statement-test.true c.statement-item.is),
       grown,
       left-more (faults_of r t start) xs i x c.loop-statement-test.true c.statement-item.is none inv.5,
     )

@@ -15,8 +15,8 @@ loop-machine-preserved g c =
     let known = c.loop-machine-test.true in
     let at = read_at stations m station known c.index-stations-machine.is in
     let old = c.index_mut.result.now in
-    let was = read_at rows station.host old (host-within stations machines c.requires.seated rows inv.places m known station at) c.index_mut.ensures.value in
+    let was = read_at rows station.host old (host-within stations machines c.requires.stationed rows inv.places m known station at) c.index_mut.ensures.value in
     record {
-      places = places-kept stations machines c.requires.seated rows inv.places m known station at old was c.set_seats.new.row c.in_ok-machine_seats.machine_seats c.set_seats.ensures;
-      each = each-more stations machines c.requires.seated rows inv.places m known station at old was c.set_seats.new.row c.in_ok-machine_seats.machine_seats c.set_seats.ensures IsEmptyFor c.in_ok-machine_seats.ensures inv.each;
+      places = places-kept stations machines c.requires.stationed rows inv.places m known station at old was c.set_seats.new.row c.in_ok-machine_seats.machine_seats c.set_seats.ensures;
+      each = each-more stations machines c.requires.stationed rows inv.places m known station at old was c.set_seats.new.row c.in_ok-machine_seats.machine_seats c.set_seats.ensures IsEmptyFor c.in_ok-machine_seats.ensures inv.each;
     }

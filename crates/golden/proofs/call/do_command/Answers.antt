@@ -43,3 +43,18 @@ returns-in-Save-clause-network g c = λ circuit partition trace capacity workers
 
 pub returns-in-Resume-clause-network : goal.returns-in-Resume-clause-network
 returns-in-Resume-clause-network g c = λ circuit partition trace capacity workers asked. let is = c.in-Resume.is in absurd (cc)
+
+pub returns-in-Run-clause-steps : goal.returns-in-Run-clause-steps
+returns-in-Run-clause-steps g c = λ circuit partition trace steps capacity asked. let is = c.in-Run.is in absurd (cc)
+
+pub returns-in-Check-clause-steps : goal.returns-in-Check-clause-steps
+returns-in-Check-clause-steps g c = λ circuit partition trace steps capacity asked. let is = c.in-Check.is in absurd (cc)
+
+pub returns-in-Demo-clause-steps : goal.returns-in-Demo-clause-steps
+returns-in-Demo-clause-steps g c = λ circuit partition trace steps capacity asked. let is = c.in-Demo.is in absurd (cc)
+
+pub returns-in-Save-clause-steps : goal.returns-in-Save-clause-steps
+returns-in-Save-clause-steps g c = λ circuit partition trace steps capacity asked. let is = c.in-Save.is in absurd (cc)
+
+pub returns-in-Resume-clause-steps : goal.returns-in-Resume-clause-steps
+returns-in-Resume-clause-steps g c = λ circuit partition trace steps capacity asked. let is = c.in-Resume.is in absurd (cc)

@@ -1,13 +1,16 @@
 use Rattle.std.proofs.Common.{ap, ◌∙◌, refl, subst}
 use Rattle.gg_cut.specs.Bridges.{Models}
 use Rattle.gg_told.specs.Ends.{loads_of, puts_of}
+use Rattle.gg_told.specs.Endings.{said_by}
 use Rattle.gg_told.proofs.EndingLemmas.{exit-is}
 use Rattle.golden.specs.Bridges.{models_in}
 use Rattle.golden.specs.Network.{RanNetwork}
 use Rattle.golden.specs.Outcome.{CallEnded}
 use Rattle.golden.specs.Partition.{to_run}
+use Rattle.golden.specs.Stepped.{ToldByNetwork}
 use Rattle.golden.proofs.CallLemmas.{wanting-ends}
 use Rattle.golden.proofs.NetworkLemmas.{wants-some}
+use Rattle.golden.proofs.SteppedLemmas.{untold, wants-other}
 use Rattle.golden.proofs.call.do_handed.Goals as goal
 
 pub do_command-requires-clause-asked : goal.do_command-requires-clause-asked
@@ -31,3 +34,12 @@ pub returns-clause-network : goal.returns-clause-network
 returns-clause-network g c = λ circuit partition trace capacity workers is done.
     subst (λ (models : Models). RanNetwork (to_run models) (loads_of g.S.Shelf c.args.shelf.now c.do_command.new.shelf) (puts_of g.K.Sink c.args.out.now c.do_command.new.out) circuit partition trace capacity)
     (c.in_ok-models.ensures.models.are ∙ ap (models_in g.B.Bridge.piece) c.as_slice.ensures.value) (c.do_command.ensures.network circuit partition trace capacity workers is done)
+
+pub returns-in_err-models-clause-steps : goal.returns-in_err-models-clause-steps
+returns-in_err-models-clause-steps g c = λ circuit partition trace steps capacity is. untold (wants-other (exit-is c.from_residual.ensures.1))
+
+pub returns-clause-steps : goal.returns-clause-steps
+returns-clause-steps g c = λ circuit partition trace steps capacity is.
+    subst
+    (λ (models : Models). ToldByNetwork (to_run models) (loads_of g.S.Shelf c.args.shelf.now c.do_command.new.shelf).files (puts_of g.K.Sink c.args.out.now c.do_command.new.out) circuit partition trace steps capacity (said_by c.do_command.result))
+    (c.in_ok-models.ensures.models.are ∙ ap (models_in g.B.Bridge.piece) c.as_slice.ensures.value) (c.do_command.ensures.steps circuit partition trace steps capacity is)

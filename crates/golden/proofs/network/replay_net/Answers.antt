@@ -1,7 +1,7 @@
 use Rattle.std.proofs.Common.{refl, ap, ◌∙◌, subst}
 use Rattle.gg_replay.specs.Log.{opening_log}
 use Rattle.gg_replay.specs.Stopping.{IsStop}
-use Rattle.gg_replay.specs.declared.stop.Stop.{Stop}
+use Rattle.gg_replay.specs.declared.fault.ReplayFault.{ReplayFault}
 use Rattle.gg_told.specs.Endings.{PrintsText}
 use Rattle.golden.proofs.NetLemmas.{opening-right, wires-stay, net-goes, net-stopped, told-so}
 use Rattle.golden.proofs.network.replay_net.Goals as goal
@@ -28,5 +28,5 @@ pub returns-in-Err-Refused-clause-ended : goal.returns-in-Err-Refused-clause-end
 returns-in-Err-Refused-clause-ended g c =
     net-stopped c.args.fed.now g.Z.Streams.flow c.in_ok-net.net c.in_ok-net.ensures c.kept.ensures c.args.events.now c.replay.new.net c.args.names.now
     (record { step = c.in-Err-Refused.step; cause = c.in-Err-Refused.cause }) c.end_at_step.result refl
-    (subst (λ (s : Stop). IsStop c.in_ok-net.net c.args.events.now c.replay.new.net s) c.in-Err-Refused.field-0-is c.in-Err-Refused.ensures.refused)
+    (subst (λ (s : ReplayFault). IsStop c.in_ok-net.net c.args.events.now c.replay.new.net s) c.in-Err-Refused.field-0-is c.in-Err-Refused.ensures.refused)
     (told-so c.args.names.now c.args.events.now c.end_at_step.result _ _ _ _ c.in-Err-Refused.step-is c.in-Err-Refused.cause-is c.end_at_step.ensures)

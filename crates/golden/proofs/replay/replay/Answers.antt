@@ -8,6 +8,7 @@ use Rattle.golden.specs.Partition.{to_run}
 use Rattle.golden.proofs.CaseLemmas.{fed-ends, fed-stops}
 use Rattle.golden.proofs.FedLemmas.{given}
 use Rattle.golden.proofs.HandedLemmas.{has-bridges}
+use Rattle.golden.proofs.SteppedLemmas.{by-ending, ended-other, files-other, read-told, untold}
 use Rattle.golden.proofs.replay.replay.Goals as goal
 
 pub replay_steps-requires-clause-fed : goal.replay_steps-requires-clause-fed
@@ -33,3 +34,16 @@ pub returns-clause-ended : goal.returns-clause-ended
 returns-clause-ended g c =
     let read = c.in_ok-fed.ensures.read in
     fed-ends (loads-on c.replay_steps.new.shelf c.read_fed.ensures.shelf) read (c.replay_steps.ensures.ended read.read.circuit read.read.partition read.bytes c.args.capacity read.is)
+
+pub returns-in_err-fed-clause-network : goal.returns-in_err-fed-clause-network
+returns-in_err-fed-clause-network g c =
+    let loads = loads_of g.S.Shelf c.args.shelf.now c.read_fed.new.shelf in
+    untold
+    (by-ending (exit-is c.from_residual.ensures.1)
+    (ended-other c.in_err-fed.field-0.0
+    (λ said. files-other (to_run c.args.models.now) loads (asking c.args.circuit.now c.args.partition.now c.args.capacity) c.args.trace.now said) c.in_err-fed.ensures.refused))
+
+pub returns-clause-network : goal.returns-clause-network
+returns-clause-network g c =
+    let read = c.in_ok-fed.ensures.read in
+    read-told c.read_fed.ensures.shelf.files_stay read (c.replay_steps.ensures.network read.read.circuit read.read.partition read.bytes c.args.capacity read.is)

@@ -2,8 +2,9 @@ use Rattle.std.proofs.Common.{sym, ap, ◌∙◌, subst}
 use Rattle.gg_flat.specs.Tree.{InstanceTree}
 use Rattle.golden.specs.Replayed.{AreFewNames, plan_naming}
 use Rattle.golden.specs.Partition.{to_run}
-use Rattle.golden.proofs.FedLemmas.{few-named, steps-judged, to-replay}
+use Rattle.golden.proofs.FedLemmas.{few-named, to-replay}
 use Rattle.golden.proofs.PartitionLemmas.{designs-agree}
+use Rattle.golden.proofs.SteppedLemmas.{steps-told}
 use Rattle.golden.proofs.replay.replay_bytes.Goals as goal
 
 pub names_of-requires : goal.names_of-requires
@@ -22,6 +23,6 @@ returns-clause-ended g c =
     let d = c.one_meaning.ensures in
     let case = c.args.fed.now.case in
     λ circuit partition trace capacity is.
-    steps-judged (to_run c.args.models.now) circuit partition trace capacity c.args.fed.now is (designs-agree d.flat d.tree) c.run_once.ensures.from c.args.steps.now _ _
+    steps-told (to_run c.args.models.now) (designs-agree d.flat d.tree) c.run_once.ensures.from circuit partition trace capacity c.args.steps.now c.args.fed.now _ _ is
     (c.in_ok-names.ensures ∙ ap (λ (t : InstanceTree). plan_naming case.cut.plan t) c.tree.ensures.tree)
     (c.as_slice.ensures.value ∙ c.in_ok-events.ensures) c.replay_net.ensures.ended

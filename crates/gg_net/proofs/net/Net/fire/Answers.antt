@@ -2,7 +2,7 @@ use Rattle.std.proofs.Common.{map, sym, subst, arith}
 use Rattle.std.specs.Prelude.{slice_set}
 use Rattle.gg_net.specs.Net.{net_of}
 use Rattle.gg_net.specs.Step.{CanFire, Gives}
-use Rattle.gg_net.proofs.CloseLemmas.{queues-there, producer-seat, fire-seated, fire-may, fire-room, fire-gives, fire-closes}
+use Rattle.gg_net.proofs.CloseLemmas.{queues-there, producer-known, fire-stationed, fire-may, fire-room, fire-gives, fire-closes}
 use Rattle.gg_net.proofs.net.Net.fire.Goals as goal
 
 pub index-wire-requires : goal.index-wire-requires
@@ -13,17 +13,17 @@ index-wire-requires g c =
 pub index-requires : goal.index-requires
 index-requires g c =
     let can = subst (λ n. CanFire n c.args.channel) (sym c.self.view_is) c.requires in
-    omega (arith, producer-seat c.self.invariant c.args.channel c.index-wire.result.now c.index-wire.ensures can.can.0)
+    omega (arith, producer-known c.self.invariant c.args.channel c.index-wire.result.now c.index-wire.ensures can.can.0)
 
 pub index_mut-requires : goal.index_mut-requires
 index_mut-requires g c =
     let can = subst (λ n. CanFire n c.args.channel) (sym c.self.view_is) c.requires in
     omega (arith, queues-there c.self.invariant c.args.channel can.can.0)
 
-pub fire-token-requires-clause-seated : goal.fire-token-requires-clause-seated
-fire-token-requires-clause-seated g c =
+pub fire-token-requires-clause-stationed : goal.fire-token-requires-clause-stationed
+fire-token-requires-clause-stationed g c =
     let can = subst (λ n. CanFire n c.args.channel) (sym c.self.view_is) c.requires in
-    λ κs outlive. fire-seated c.self.invariant c.args.channel c.index-wire.result.now c.index-wire.ensures can.can.0 c.index.result.now c.index.ensures
+    λ κs outlive. fire-stationed c.self.invariant c.args.channel c.index-wire.result.now c.index-wire.ensures can.can.0 c.index.result.now c.index.ensures
 
 pub fire-token-requires-clause-may : goal.fire-token-requires-clause-may
 fire-token-requires-clause-may g c =

@@ -1,6 +1,6 @@
 use Rattle.std.proofs.Common.{map, sym, ap, subst, ◌∙◌, arith}
 use Rattle.gg_net.specs.Step.{CanLatch, after_latch}
-use Rattle.gg_net.proofs.CloseLemmas.{queues-there, consumer-seat, latch-held, latch-seated, latch-may, latch-is, latch-closes}
+use Rattle.gg_net.proofs.CloseLemmas.{queues-there, consumer-known, latch-held, latch-stationed, latch-may, latch-is, latch-closes}
 use Rattle.gg_net.proofs.net.Net.latch.Goals as goal
 
 pub index-wire-requires : goal.index-wire-requires
@@ -21,12 +21,12 @@ take-token-requires g c =
 pub index-requires : goal.index-requires
 index-requires g c =
     let can = subst (λ n. CanLatch n c.args.channel) (sym c.self.view_is) c.requires in
-    omega (arith, consumer-seat c.self.invariant c.args.channel c.index-wire.result.now c.index-wire.ensures can.can.0)
+    omega (arith, consumer-known c.self.invariant c.args.channel c.index-wire.result.now c.index-wire.ensures can.can.0)
 
-pub latch-requires-clause-seated : goal.latch-requires-clause-seated
-latch-requires-clause-seated g c =
+pub latch-requires-clause-stationed : goal.latch-requires-clause-stationed
+latch-requires-clause-stationed g c =
     let can = subst (λ n. CanLatch n c.args.channel) (sym c.self.view_is) c.requires in
-    λ κs outlive. latch-seated c.self.invariant c.args.channel c.index-wire.result.now c.index-wire.ensures can.can.0 c.index_mut.result.now c.index_mut.ensures.value c.index.result.now c.index.ensures c.take-token.result c.take-token.ensures.token
+    λ κs outlive. latch-stationed c.self.invariant c.args.channel c.index-wire.result.now c.index-wire.ensures can.can.0 c.index_mut.result.now c.index_mut.ensures.value c.index.result.now c.index.ensures c.take-token.result c.take-token.ensures.token
 
 pub latch-requires-clause-may : goal.latch-requires-clause-may
 latch-requires-clause-may g c =

@@ -1,5 +1,0 @@
-use Rattle.gg_build.specs.Hosts.{AreStations}
-use Rattle.gg_build.proofs.seats.stations_of.Given as goal
-
-abbrev pub invariant-loop-number : goal.invariant-loop-number
-invariant-loop-number g l = AreStations l.machines l.hosts l.threads l.nodes l.«number» l.stations.items

@@ -1,0 +1,12 @@
+mod FilledLemmas
+mod DecideLemmas
+mod LineLemmas
+mod PartLemmas
+mod ShareLemmas
+mod ClockLemmas
+mod NeedLemmas
+mod ToldLemmas
+mod BodyLemmas
+mod MachineLemmas
+mod PlacedLemmas
+mod PlanLemmas

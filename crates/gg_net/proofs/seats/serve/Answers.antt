@@ -1,6 +1,0 @@
-use Rattle.gg_node.specs.Step.{with_served}
-use Rattle.gg_net.proofs.SeatLemmas.{reseated}
-use Rattle.gg_net.proofs.seats.serve.Goals as goal
-
-pub returns : goal.returns
-returns g c = reseated g.H.Host.machines c.args.hosts.now.items c.args.station.now c.index_mut.result.now c.serve.new.self c.requires.seated c.index_mut.ensures.value with_served c.serve.ensures
