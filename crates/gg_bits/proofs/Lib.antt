@@ -1,3 +1,3 @@
 mod PatternLaws
-mod ResultLaws
+pub mod ResultLaws
 mod WorkedRows

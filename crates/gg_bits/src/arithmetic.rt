@@ -7,7 +7,7 @@ ghost use Rattle.gg_bits.specs.Meaning.{quotient as quotient_of, remainder as re
 use crate::patterns::{signed_number, wide};
 use crate::types::{Kind, Ty, Val};
 
-/// The sum.
+// The sum.
 pub(crate) fn sum(ta: Ty, a: Val, tb: Ty, b: Val) -> u128
     requires first { Fits (shape ta) a.0 }
     requires second { Fits (shape tb) b.0 }
@@ -16,7 +16,7 @@ pub(crate) fn sum(ta: Ty, a: Val, tb: Ty, b: Val) -> u128
     wide(ta, a).wrapping_add(wide(tb, b))
 }
 
-/// The difference.
+// The difference.
 pub(crate) fn difference(ta: Ty, a: Val, tb: Ty, b: Val) -> u128
     requires first { Fits (shape ta) a.0 }
     requires second { Fits (shape tb) b.0 }
@@ -25,7 +25,7 @@ pub(crate) fn difference(ta: Ty, a: Val, tb: Ty, b: Val) -> u128
     wide(ta, a).wrapping_sub(wide(tb, b))
 }
 
-/// The product.
+// The product.
 pub(crate) fn product(ta: Ty, a: Val, tb: Ty, b: Val) -> u128
     requires first { Fits (shape ta) a.0 }
     requires second { Fits (shape tb) b.0 }
@@ -34,7 +34,8 @@ pub(crate) fn product(ta: Ty, a: Val, tb: Ty, b: Val) -> u128
     wide(ta, a).wrapping_mul(wide(tb, b))
 }
 
-/// The quotient, cut towards zero; 0 where the divisor is 0.
+// The quotient, cut towards zero; 0 where the divisor is 0.
+#[inline(never)]
 pub(crate) fn quotient(ta: Ty, a: Val, tb: Ty, b: Val) -> u128
     requires kinds { ta.kind ≡ tb.kind }
     requires room { ta.kind ≡ Kind.SInt → ta.width < 128 }
@@ -48,7 +49,7 @@ pub(crate) fn quotient(ta: Ty, a: Val, tb: Ty, b: Val) -> u128
     }
 }
 
-/// The quotient of signed numbers.
+// The quotient of signed numbers.
 fn signed_quotient(x: i128, y: i128) -> u128
     requires { unsigned_abs x < 2 ^ 127 }
     ensures { result ≡ pattern_of 128 (quotient_of x y) }
@@ -56,7 +57,8 @@ fn signed_quotient(x: i128, y: i128) -> u128
     if y == 0 { 0 } else { (x / y).cast_unsigned() }
 }
 
-/// The remainder, with the dividend's sign; 0 where the divisor is 0.
+// The remainder, with the dividend's sign; 0 where the divisor is 0.
+#[inline(never)]
 pub(crate) fn remainder(ta: Ty, a: Val, tb: Ty, b: Val) -> u128
     requires kinds { ta.kind ≡ tb.kind }
     requires first { Fits (shape ta) a.0 }
@@ -69,7 +71,7 @@ pub(crate) fn remainder(ta: Ty, a: Val, tb: Ty, b: Val) -> u128
     }
 }
 
-/// The remainder of signed numbers.
+// The remainder of signed numbers.
 fn signed_remainder(x: i128, y: i128) -> u128
     ensures { result ≡ pattern_of 128 (remainder_of x y) }
 {

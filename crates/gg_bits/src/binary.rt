@@ -44,6 +44,7 @@ pub fn apply2(op: Op2, ta: Ty, a: Val, tb: Ty, b: Val) -> Val
 }
 
 /// The operation's result, where its type is known.
+#[inline(always)]
 pub fn apply2_to(op: Op2, to: Ty, ta: Ty, a: Val, tb: Ty, b: Val) -> Val
     requires accepted { type2 op (shape ta) (shape tb) ≡ Ok (shape to) }
     requires first { Fits (shape ta) a.0 }
@@ -54,7 +55,7 @@ pub fn apply2_to(op: Op2, to: Ty, ta: Ty, a: Val, tb: Ty, b: Val) -> Val
     Val(pattern2(op, to.width, ta, a, tb, b))
 }
 
-/// Whether the operation takes operands of these kinds.
+// Whether the operation takes operands of these kinds.
 fn takes_kinds(op: Op2, ta: Ty, tb: Ty) -> bool
     ensures { result ≡ kinds2 op (shape ta) (shape tb) }
 {
@@ -65,7 +66,7 @@ fn takes_kinds(op: Op2, ta: Ty, tb: Ty) -> bool
     }
 }
 
-/// The kind and the width of the result, before the width is checked. 4,294,967,295 stands for any greater width.
+// The kind and the width of the result, before the width is checked. 4,294,967,295 stands for any greater width.
 fn kind_and_width2(op: Op2, ta: Ty, tb: Ty) -> (Kind, u32)
     ensures kind { result.0 ≡ (shape2 op (shape ta) (shape tb)).kind }
     ensures width { result.1 ≡ min (shape2 op (shape ta) (shape tb)).width 4294967295 }
@@ -98,7 +99,8 @@ pub fn shifted_width(width: u32, amount: u32) -> u32
     }
 }
 
-/// The pattern of the operation's meaning, in the width of its result.
+// The pattern of the operation's meaning, in the width of its result.
+#[inline(always)]
 fn pattern2(op: Op2, width: u32, ta: Ty, a: Val, tb: Ty, b: Val) -> u128
     requires kinds { kinds2 op (shape ta) (shape tb) ≡ true }
     requires width { width ≡ (shape2 op (shape ta) (shape tb)).width }

@@ -7,7 +7,7 @@ ghost use Rattle.gg_bits.specs.Meaning.{extended};
 use crate::patterns::extend;
 use crate::types::{Kind, Ty, Val};
 
-/// The bits that both have, after extension to the wider width.
+// The bits that both have, after extension to the wider width.
 pub(crate) fn both(width: u32, ta: Ty, a: Val, tb: Ty, b: Val) -> u128
     requires kinds { ta.kind ≡ tb.kind }
     requires width { width ≡ max ta.width tb.width }
@@ -19,7 +19,7 @@ pub(crate) fn both(width: u32, ta: Ty, a: Val, tb: Ty, b: Val) -> u128
     a.0 & b.0
 }
 
-/// The bits that one has or both have, after extension to the wider width.
+// The bits that one has or both have, after extension to the wider width.
 pub(crate) fn either(width: u32, ta: Ty, a: Val, tb: Ty, b: Val) -> u128
     requires kinds { ta.kind ≡ tb.kind }
     requires width { width ≡ max ta.width tb.width }
@@ -31,7 +31,7 @@ pub(crate) fn either(width: u32, ta: Ty, a: Val, tb: Ty, b: Val) -> u128
     a.0 | b.0
 }
 
-/// The bits that just one has, after extension to the wider width.
+// The bits that just one has, after extension to the wider width.
 pub(crate) fn differing(width: u32, ta: Ty, a: Val, tb: Ty, b: Val) -> u128
     requires kinds { ta.kind ≡ tb.kind }
     requires width { width ≡ max ta.width tb.width }
@@ -43,17 +43,17 @@ pub(crate) fn differing(width: u32, ta: Ty, a: Val, tb: Ty, b: Val) -> u128
     a.0 ^ b.0
 }
 
-/// The bits of `a` above those of `b`.
-pub(crate) fn concatenate(ta: Ty, a: Val, tb: Ty, b: Val) -> u128
-    requires few { ta.width + tb.width ≤ 128 }
-    requires first { Fits (shape ta) a.0 }
+// The bits of `a` above those of `b`.
+pub(crate) fn concatenate(_ta: Ty, a: Val, tb: Ty, b: Val) -> u128
+    requires few { _ta.width + tb.width ≤ 128 }
+    requires first { Fits (shape _ta) a.0 }
     requires second { Fits (shape tb) b.0 }
-    ensures { result ≡ pattern_of (ta.width + tb.width) (pos (a.0 * 2 ^ tb.width + b.0)) }
+    ensures { result ≡ pattern_of (_ta.width + tb.width) (pos (a.0 * 2 ^ tb.width + b.0)) }
 {
     a.0 << tb.width | b.0
 }
 
-/// Both values in this width, which is the wider one's.
+// Both values in this width, which is the wider one's.
 fn extend_both(width: u32, ta: Ty, a: Val, tb: Ty, b: Val) -> (Val, Val)
     requires kinds { ta.kind ≡ tb.kind }
     requires width { width ≡ max ta.width tb.width }

@@ -6,7 +6,7 @@ ghost use Rattle.gg_bits.specs.Shape.{shape, number, Fits};
 use crate::patterns::signed_number;
 use crate::types::{Kind, Ty, Val};
 
-/// Whether the first number is less.
+// Whether the first number is less.
 pub(crate) fn less(ta: Ty, a: Val, tb: Ty, b: Val) -> bool
     requires kinds { ta.kind ≡ tb.kind }
     requires first { Fits (shape ta) a.0 }
@@ -19,7 +19,7 @@ pub(crate) fn less(ta: Ty, a: Val, tb: Ty, b: Val) -> bool
     }
 }
 
-/// Whether the numbers are equal.
+// Whether the numbers are equal.
 pub(crate) fn equal(ta: Ty, a: Val, tb: Ty, b: Val) -> bool
     requires kinds { ta.kind ≡ tb.kind }
     requires first { Fits (shape ta) a.0 }

@@ -40,6 +40,7 @@ pub fn apply_const(op: OpN, ty: Ty, v: Val, n: u32, m: u32) -> Val
 }
 
 /// The operation's result, where its type is known.
+#[inline(always)]
 pub fn apply_const_to(op: OpN, to: Ty, ty: Ty, v: Val, n: u32, m: u32) -> Val
     requires accepted { type_const op (shape ty) n m ≡ Ok (shape to) }
     requires typed { Fits (shape ty) v.0 }
@@ -49,7 +50,7 @@ pub fn apply_const_to(op: OpN, to: Ty, ty: Ty, v: Val, n: u32, m: u32) -> Val
     Val(pattern_const(op, to.width, ty, v, n, m))
 }
 
-/// Whether the bits that the parameters name exist.
+// Whether the bits that the parameters name exist.
 fn has_params(op: OpN, ty: Ty, n: u32, m: u32) -> bool
     ensures { result ≡ params_const op (shape ty) n m }
 {
@@ -60,7 +61,7 @@ fn has_params(op: OpN, ty: Ty, n: u32, m: u32) -> bool
     }
 }
 
-/// The kind and the width of the result, before the width is checked. 4,294,967,295 stands for any greater width.
+// The kind and the width of the result, before the width is checked. 4,294,967,295 stands for any greater width.
 fn kind_and_width_const(op: OpN, ty: Ty, n: u32, m: u32) -> (Kind, u32)
     requires { params_const op (shape ty) n m ≡ true }
     ensures kind { result.0 ≡ (shape_const op (shape ty) n m).kind }
@@ -76,7 +77,8 @@ fn kind_and_width_const(op: OpN, ty: Ty, n: u32, m: u32) -> (Kind, u32)
     }
 }
 
-/// The pattern of the operation's meaning, in the width of its result.
+// The pattern of the operation's meaning, in the width of its result.
+#[inline(always)]
 fn pattern_const(op: OpN, width: u32, ty: Ty, v: Val, n: u32, m: u32) -> u128
     requires params { params_const op (shape ty) n m ≡ true }
     requires width { width ≡ (shape_const op (shape ty) n m).width }

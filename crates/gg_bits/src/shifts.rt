@@ -8,7 +8,7 @@ ghost use Rattle.gg_bits.specs.Meaning.{floor_by};
 use crate::patterns::{signed_number, wide};
 use crate::types::{Kind, Ty, Val};
 
-/// The number times 2 to the power of `by`.
+// The number times 2 to the power of `by`.
 pub(crate) fn shift_left(ty: Ty, v: Val, by: u32) -> u128
     requires few { by < 128 }
     requires typed { Fits (shape ty) v.0 }
@@ -17,7 +17,7 @@ pub(crate) fn shift_left(ty: Ty, v: Val, by: u32) -> u128
     wide(ty, v) << by
 }
 
-/// The number divided by 2 to the power of `by`, rounded down.
+// The number divided by 2 to the power of `by`, rounded down.
 pub(crate) fn shift_right(ty: Ty, v: Val, by: u128) -> u128
     requires { Fits (shape ty) v.0 }
     ensures { result ≡ pattern_of 128 (floor_by (number (shape ty) v.0) by) }
@@ -29,7 +29,7 @@ pub(crate) fn shift_right(ty: Ty, v: Val, by: u128) -> u128
     }
 }
 
-/// `x` divided by 2 to the power of `by`, rounded down: the sign is shifted in.
+// `x` divided by 2 to the power of `by`, rounded down: the sign is shifted in.
 fn shift_signed_right(x: i128, by: u128) -> u128
     ensures { result ≡ pattern_of 128 (floor_by x by) }
 {

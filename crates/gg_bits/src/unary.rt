@@ -35,6 +35,7 @@ pub fn apply1(op: Op1, ty: Ty, v: Val) -> Val
 }
 
 /// The operation's result, where its type is known.
+#[inline(always)]
 pub fn apply1_to(op: Op1, to: Ty, ty: Ty, v: Val) -> Val
     requires accepted { type1 op (shape ty) ≡ Ok (shape to) }
     requires typed { Fits (shape ty) v.0 }
@@ -44,7 +45,7 @@ pub fn apply1_to(op: Op1, to: Ty, ty: Ty, v: Val) -> Val
     Val(pattern1(op, to.width, ty, v))
 }
 
-/// The kind and the width of the result, before the width is checked.
+// The kind and the width of the result, before the width is checked.
 fn kind_and_width1(op: Op1, ty: Ty) -> (Kind, u32)
     ensures kind { result.0 ≡ (shape1 op (shape ty)).kind }
     ensures width { result.1 ≡ (shape1 op (shape ty)).width }
@@ -62,7 +63,8 @@ fn kind_and_width1(op: Op1, ty: Ty) -> (Kind, u32)
     }
 }
 
-/// The pattern of the operation's meaning, in the width of its result.
+// The pattern of the operation's meaning, in the width of its result.
+#[inline(always)]
 fn pattern1(op: Op1, width: u32, ty: Ty, v: Val) -> u128
     requires width { width ≡ (shape1 op (shape ty)).width }
     requires few { width ≤ 128 }
@@ -80,7 +82,7 @@ fn pattern1(op: Op1, width: u32, ty: Ty, v: Val) -> u128
     }
 }
 
-/// Minus the number.
+// Minus the number.
 fn negate(ty: Ty, v: Val) -> u128
     requires { Fits (shape ty) v.0 }
     ensures { result ≡ pattern_of 128 (neg_ℤ (number (shape ty) v.0)) }

@@ -10,6 +10,7 @@ pub mod DependLemmas
 pub mod TypedLemmas
 pub mod SettleLemmas
 pub mod LineLemmas
+pub mod FormLemmas
 pub mod AdvanceLemmas
 pub mod WordLemmas
 pub mod BankLemmas

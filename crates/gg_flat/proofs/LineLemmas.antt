@@ -21,7 +21,7 @@ pub HoldsNodes-none : (nodes : List Node) (signals : List ℕ) (value : ℕ) (sc
 HoldsNodes-none nodes signals value scratch room = record { room = room; values = refl; fits = λ i before. absurd (omega arith); last = λ some. absurd (omega arith) }
 
 -- an operation at place k uses no value from place k on
-op_value-take : (signals : List ℕ) (shapes : List Shape) (before : List ℕ) (k : ℕ) (to : Shape) (op : Op) → HasShape (HasValue signals) shapes k to op → op_value signals shapes before op ≡ op_value signals shapes (take k before) op
+pub op_value-take : (signals : List ℕ) (shapes : List Shape) (before : List ℕ) (k : ℕ) (to : Shape) (op : Op) → HasShape (HasValue signals) shapes k to op → op_value signals shapes before op ≡ op_value signals shapes (take k before) op
 op_value-take signals shapes before k to (Ref s) has = refl
 op_value-take signals shapes before k to (Literal value) has = refl
 op_value-take signals shapes before k to (One op i) has = rw (get_or-take k before i 0 has.0)
@@ -30,7 +30,7 @@ op_value-take signals shapes before k to (Fix op i n m) has = rw (get_or-take k 
 op_value-take signals shapes before k to (Mux c i j) has = rw (get_or-take k before c 0 has.0, get_or-take k before i 0 has.1, get_or-take k before j 0 has.2)
 
 -- some node of a line that isn't empty
-some-node : (nodes : List Node) (k : ℕ) → k < length nodes → Node
+pub some-node : (nodes : List Node) (k : ℕ) → k < length nodes → Node
 some-node [] k within = absurd (omega arith)
 some-node (node ∷ nodes) k within = node
 
@@ -88,7 +88,7 @@ node_values-length signals shapes (node ∷ nodes) values =
     rest ∙ ap (λ n. n + length nodes) one ∙ sum
 
 -- the value of a line is that of its last node
-line_value-last : (signals : List ℕ) (nodes : List Node) → 0 < length nodes → line_value signals nodes ≡ op_value signals (shapes_of nodes) (node_values signals (shapes_of nodes) (take (length nodes - 1) nodes)) (op_at nodes (length nodes - 1))
+pub line_value-last : (signals : List ℕ) (nodes : List Node) → 0 < length nodes → line_value signals nodes ≡ op_value signals (shapes_of nodes) (node_values signals (shapes_of nodes) (take (length nodes - 1) nodes)) (op_at nodes (length nodes - 1))
 line_value-last signals nodes some =
     let k = length nodes - 1 in
     let within : k < length nodes = omega (arith, some) in

@@ -1,5 +1,6 @@
 pub mod Clock
 pub mod Line
+pub mod Form
 pub mod Circuit
 pub mod Memory
 pub mod WellFormed

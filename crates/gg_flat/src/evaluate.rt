@@ -2,16 +2,18 @@
 ghost use Rattle.std.specs.Prelude.{◌≡◌, ℕ, ◌<◌, ◌≤◌, ◌^◌, length};
 ghost use Rattle.gg_bits.specs.Shape.{shape, Fits};
 ghost use Rattle.gg_flat.specs.Line.{shape_at, value_at, shapes_of, op_at, HasShape, HasValue, IsLine, IsSource, op_value, line_shape, line_value, connected_value};
+ghost use Rattle.gg_flat.specs.Form.{IsNatural};
 ghost use Rattle.gg_flat.specs.Settled.{HasSource, driver_value};
 ghost use Rattle.gg_flat.specs.Room.{line_length, register_length};
 ghost use Rattle.gg_flat.specs.WellFormed.{IsRegister};
 ghost use Rattle.gg_flat.specs.State.{next_register};
 
+use crate::by_form::form_value;
 use crate::clock::ticks;
 use crate::line::{Line, Node, Op};
 use crate::piece::{Driver, Register};
 use crate::state::State;
-use gg_bits::{Ty, Val, apply_const_to, apply1_to, apply2_to, extend, mux};
+use gg_bits::{Kind, Ty, Val, apply_const_to, apply1_to, apply2_to, extend, mux};
 
 // The type of a node.
 pub(crate) fn type_of(nodes: &[Node], i: usize) -> Ty
@@ -103,11 +105,29 @@ impl Line {
         ensures value { result ≡ line_value signals.now self.now }
         ensures fits { Fits (line_shape self.now) result }
     {
-        last_value(self.as_slice(), signals, scratch)
+        match form_value(self.form(), self.as_slice(), signals) {
+            Some(value) => value,
+            None => last_value(self.as_slice(), signals, scratch),
+        }
     }
 
     /// What a sink of a type gets from the line: its value, extended to the sink's width by the line's own kind.
+    #[inline(never)]
     pub fn connected(&self, sink: Ty, signals: &[u128], scratch: &mut [u128]) -> u128
+        requires source { IsSource (HasValue signals.now) (shape sink) self.now }
+        requires room { length self.now ≤ length scratch.old }
+        ensures value { result ≡ connected_value signals.now (shape sink) self.now }
+        ensures fits { Fits (shape sink) result }
+    {
+        match form_value(self.form(), self.as_slice(), signals) {
+            Some(value) => extend(Val(value), self.natural_ty(), sink.width).0,
+            None => self.connected_long(sink, signals, scratch),
+        }
+    }
+
+    // The same, node by node.
+    #[inline(never)]
+    fn connected_long(&self, sink: Ty, signals: &[u128], scratch: &mut [u128]) -> u128
         requires source { IsSource (HasValue signals.now) (shape sink) self.now }
         requires room { length self.now ≤ length scratch.old }
         ensures value { result ≡ connected_value signals.now (shape sink) self.now }
@@ -116,6 +136,16 @@ impl Line {
         let nodes = self.as_slice();
         let value = last_value(nodes, signals, scratch);
         extend(Val(value), type_of(nodes, nodes.len() - 1), sink.width).0
+    }
+
+    // The type of a result of kind `UInt`.
+    #[inline(always)]
+    fn natural_ty(&self) -> Ty
+        requires some { 0 < length self.now }
+        requires natural { IsNatural self.now }
+        ensures { shape result ≡ line_shape self.now }
+    {
+        Ty::new(Kind::UInt, self.ty().width)
     }
 
     // The type of the result.

@@ -27,11 +27,14 @@
 #![tactic(auto)]
 
 mod bank;
+mod by_form;
 mod check;
 mod check_clocks;
 mod check_memory;
 mod clock;
 mod evaluate;
+mod form;
+mod forming;
 mod laws;
 mod line;
 mod memory;

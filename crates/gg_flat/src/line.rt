@@ -1,6 +1,9 @@
 //! Lines: the expression of a signal's value, as a list of nodes.
 ghost use Rattle.std.specs.Prelude.{◌≡◌, [], ◌∷◌, ◌++◌, length, OnOk, OnErr};
+ghost use Rattle.gg_flat.specs.Form.{IsForm};
 
+use crate::form::Form;
+use crate::forming::form_of;
 use gg_bits::{Op1, Op2, OpN, Ty, Val};
 use std::alloc::{AllocError, Global};
 use std::marker::Model;
@@ -39,11 +42,13 @@ pub struct Node {
 /// A contract sees it as the list of its nodes.
 pub struct Line {
     nodes: Vec<Node>,
+    // What the nodes come to, for a quick evaluation.
+    form: Form,
 }
 
 impl Drop for Line {
     fn drop(self) {
-        let Self { nodes } = self;
+        let Self { nodes, form: _ } = self;
         drop(nodes);
     }
 }
@@ -51,10 +56,13 @@ impl Drop for Line {
 impl Model for Line {
     ghost use Rattle.std.specs.Prelude.{List};
     ghost use Rattle.gg_flat.specs.declared.line.Node.{Node};
+    ghost use Rattle.gg_flat.specs.Form.{IsForm};
 
     ghost Value = { List Node };
 
     ghost view = { λ line. line.nodes.items };
+
+    ghost invariant = { λ line. IsForm line.nodes.items line.form };
 }
 
 impl Clone for Line {
@@ -63,6 +71,7 @@ impl Clone for Line {
     fn clone(&self) -> Result<Line, AllocError> {
         Ok(Line {
             nodes: self.nodes.clone()?,
+            form: self.form,
         })
     }
 }
@@ -74,6 +83,7 @@ impl Line {
     {
         Line {
             nodes: Vec::new(alloc),
+            form: Form::Long,
         }
     }
 
@@ -87,6 +97,7 @@ impl Line {
         ensures err { OnErr result (self.new ≡ self.old) }
     {
         self.nodes.push(node)?;
+        self.form = form_of(self.nodes.as_slice());
         Ok(())
     }
 
@@ -102,5 +113,12 @@ impl Line {
         ensures { result.now ≡ self.now }
     {
         self.nodes.as_slice()
+    }
+
+    // What the nodes come to.
+    pub(crate) fn form(&self) -> &Form
+        ensures { IsForm self.now result.now }
+    {
+        &self.form
     }
 }
