@@ -4,7 +4,7 @@ ghost use Rattle.gg_bridge.specs.Echo.{echo_piece};
 
 use gg_bits::{Ids, Name, Names};
 use gg_bridge::{Bridge, Echo, Hosted, join};
-use gg_flat::Tree;
+use gg_flat_tree::Tree;
 use gg_node::Host;
 use gg_order::{Design, order};
 use std::alloc::{AllocError, Global};

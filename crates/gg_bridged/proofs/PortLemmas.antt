@@ -4,11 +4,11 @@ use Rattle.std.specs.Prelude.{Contains, filter, not, ◌==◌}
 use Rattle.std.specs.List.{list_any}
 use Rattle.std.proofs.lemmas.List.{get_or_append_left, get_or-append-add, get_or_default, get_or-drop, get_or-map, get_or-take, length-append, length-map, length-take, length-drop, take-append-drop}
 use Rattle.std.proofs.lemmas.List.Elements.{Contains-get_or, filter-append}
-use Rattle.gg_flat.specs.declared.tree.InstancePort.{InstancePort}
-use Rattle.gg_flat.specs.declared.tree.StopInstance.{StopInstance}
+use Rattle.gg_flat_tree.specs.declared.tree.InstancePort.{InstancePort}
+use Rattle.gg_flat_tree.specs.declared.tree.StopInstance.{StopInstance}
 use Rattle.gg_flat.specs.Circuit.{FlatCircuit}
-use Rattle.gg_flat.specs.Scoped.{output_signals, stop_signals}
-use Rattle.gg_flat.specs.Tree.{instance_at, path_at, stop_at}
+use Rattle.gg_flat_tree.specs.Scoped.{output_signals, stop_signals}
+use Rattle.gg_flat_tree.specs.Tree.{instance_at, path_at, stop_at}
 use Rattle.gg_flat.proofs.ListLemmas.{Contains-map, filter-cases}
 use Rattle.gg_flat.proofs.PathLemmas.{found-path}
 use Rattle.gg_order.specs.Design.{Ordered}

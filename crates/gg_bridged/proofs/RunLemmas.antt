@@ -9,7 +9,7 @@ use Rattle.gg_flat.specs.Circuit.{FlatCircuit}
 use Rattle.gg_flat.specs.Line.{value_at}
 use Rattle.gg_flat.specs.Run.{Start, IsColumns, IsRunFrom, column, later, row_at, since}
 use Rattle.gg_flat.specs.State.{State, IsState, opening}
-use Rattle.gg_flat.specs.Tree.{path_at}
+use Rattle.gg_flat_tree.specs.Tree.{path_at}
 use Rattle.gg_order.specs.Design.{Ordered}
 use Rattle.gg_part.specs.PartRun.{part_row, part_rows}
 use Rattle.gg_partfile.specs.declared.request.BridgeEntry.{BridgeEntry}

@@ -4,7 +4,7 @@ use Rattle.gg_limits.specs.Limits.{capacity_limit, cycle_limit}
 use Rattle.gg_flat.specs.Circuit.{FlatCircuit}
 use Rattle.gg_flat.specs.Order.{IsOrder}
 use Rattle.gg_flat.specs.Run.{IsColumns, IsRunFrom, Start}
-use Rattle.gg_flat.proofs.AlongLemmas.{IsRunFrom-along}
+use Rattle.gg_flat_run.proofs.AlongLemmas.{IsRunFrom-along}
 use Rattle.gg_flat.proofs.OrderLemmas.{IsLoop-none}
 use Rattle.gg_order.specs.Design.{Ordered}
 use Rattle.gg_partfile.specs.declared.request.Request.{Request}

@@ -3,7 +3,7 @@
 -- line names them by their names.
 use Rattle.std.specs.Prelude.{ℕ, List, ◌++◌, flat_map, map}
 use Rattle.gg_bits.specs.Shape.{shape}
-use Rattle.gg_flat.specs.Tree.{path_at}
+use Rattle.gg_flat_tree.specs.Tree.{path_at}
 use Rattle.gg_cut.specs.declared.plan.Channel.{Channel}
 use Rattle.gg_cut.specs.declared.plan.Machine.{Machine}
 use Rattle.gg_cut.specs.declared.plan.Plan.{Plan}

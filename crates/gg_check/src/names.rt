@@ -1,6 +1,6 @@
 //! The names of a plan's machines and channels, by number.
 ghost use Rattle.std.specs.Prelude.{◌≡◌};
-ghost use Rattle.gg_flat.specs.Tree.{path_at};
+ghost use Rattle.gg_flat_tree.specs.Tree.{path_at};
 ghost use Rattle.gg_check.specs.PlanText.{channel_names, machine_names};
 
 use gg_cut::{Channel, Machine};

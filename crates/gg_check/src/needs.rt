@@ -1,6 +1,6 @@
 //! What a channel needs, in words.
 ghost use Rattle.std.specs.Prelude.{◌≡◌, IfOk, map, string_bytes};
-ghost use Rattle.gg_flat.specs.Tree.{path_at};
+ghost use Rattle.gg_flat_tree.specs.Tree.{path_at};
 ghost use Rattle.gg_check.specs.CheckText.{needs_text, spaced};
 ghost use Rattle.gg_check.specs.PlanText.{channel_names};
 

@@ -1,8 +1,8 @@
 -- Which paths of a tree hold others: an instance's path holds those of all that lies in it, a memory's path those of its fields.
 use Rattle.std.proofs.Common.{◌≡◌, ◌≢◌, ℕ, zero, suc, ◌<◌, ◌≤◌, List, [], length, true, sym, ◌∙◌, ap, subst, Some, inl, inr, ◌⊎◌, arith}
 use Rattle.gg_flat.specs.Circuit.{FlatCircuit}
-use Rattle.gg_flat.specs.Tree.{InstanceTree, IsTree, IsInnermost, IsJustBelow, path_at, instance_at, memory_at, parent_place}
-use Rattle.gg_flat.specs.Scoped.{IsScoped, IsFieldOf, IsMemoryField}
+use Rattle.gg_flat_tree.specs.Tree.{InstanceTree, IsTree, IsInnermost, IsJustBelow, path_at, instance_at, memory_at, parent_place}
+use Rattle.gg_flat_tree.specs.Scoped.{IsScoped, IsFieldOf, IsMemoryField}
 use Rattle.gg_flat.proofs.ListLemmas.{once-apart}
 use Rattle.gg_cut.specs.Listed.{lies, ParentsBefore}
 use Rattle.gg_cut.proofs.ChainLemmas.{lies-self}

@@ -8,11 +8,11 @@ use Rattle.std.proofs.lemmas.List.Kept.{AllPairs-filter}
 use Rattle.std.proofs.lemmas.List.FromFn.{get_or-range_with_len, length-range_with_len}
 use Rattle.gg_flat.specs.declared.piece.Driver.{Driver}
 use Rattle.gg_flat.specs.declared.piece.Driver.TheVariants.{Input, Held, MemoryWord, ReadRegister, Computed}
-use Rattle.gg_flat.specs.declared.tree.MemoryInstance.{MemoryInstance}
+use Rattle.gg_flat_tree.specs.declared.tree.MemoryInstance.{MemoryInstance}
 use Rattle.gg_flat.specs.Circuit.{FlatCircuit, driver_at}
 use Rattle.gg_flat.specs.WellFormed.{IsWellFormed, IsDataOf, MayDrive}
-use Rattle.gg_flat.specs.Tree.{InstanceTree, IsTree, memory_at}
-use Rattle.gg_flat.specs.Scoped.{IsScoped, IsFieldOf, memory_fields}
+use Rattle.gg_flat_tree.specs.Tree.{InstanceTree, IsTree, memory_at}
+use Rattle.gg_flat_tree.specs.Scoped.{IsScoped, IsFieldOf, memory_fields}
 use Rattle.gg_flat.proofs.ListLemmas.{Contains-map}
 use Rattle.gg_part.specs.Choice.{IsChoice, NamesMemory}
 use Rattle.gg_cut.specs.declared.wires.Wire.{Wire}

@@ -5,12 +5,12 @@ use Rattle.std.proofs.lemmas.List.{get_or_default}
 use Rattle.std.proofs.lemmas.List.Elements.{Contains-get_or}
 use Rattle.gg_flat.specs.Line.{value_at}
 use Rattle.gg_flat.specs.Circuit.{FlatCircuit}
-use Rattle.gg_flat.specs.Tree.{InstanceTree, IsTree, instance_at, memory_at, parent_place}
+use Rattle.gg_flat_tree.specs.Tree.{InstanceTree, IsTree, instance_at, memory_at, parent_place}
 use Rattle.gg_cut.specs.declared.wires.Wire.{Wire}
 use Rattle.gg_cut.specs.declared.listed.Listed.{Listed}
 use Rattle.gg_cut.specs.Listed.{owner_of_instance, first_place, has_signal, unit_or_hub, memory_or, memory_owner}
 use Rattle.gg_flat.specs.Circuit.{readers_at}
-use Rattle.gg_flat.specs.Scoped.{memory_fields}
+use Rattle.gg_flat_tree.specs.Scoped.{memory_fields}
 use Rattle.gg_cut.specs.Machines.{first_memory, machine_count}
 use Rattle.gg_cut.specs.Channels.{wire, wires_of}
 use Rattle.gg_cut.proofs.WireLemmas.{unit-below, unit_or_hub-below, owner-below}

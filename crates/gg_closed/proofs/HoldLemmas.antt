@@ -2,7 +2,7 @@
 use Rattle.std.proofs.Common.{◌≡◌, ◌≢◌, ℕ, ◌<◌, List, [], ◌∷◌, ◌++◌, length, refl, sym, ◌∙◌, ap, subst, inl, inr, append_assoc, length-append, arith}
 use Rattle.std.specs.Prelude.{Contains}
 use Rattle.std.proofs.lemmas.List.{append_cancel_left}
-use Rattle.gg_flat.specs.Tree.{IsWithin, IsJustBelow}
+use Rattle.gg_flat_tree.specs.Tree.{IsWithin, IsJustBelow}
 use Rattle.gg_closed.specs.Longest.{HoldsPath, Covers}
 use Rattle.gg_closed.proofs.NameLemmas.{dot-in, same-head, same-tail}
 

@@ -5,11 +5,11 @@ use Rattle.std.specs.List.{range_with_len, list_any}
 use Rattle.std.proofs.lemmas.Bool.{cases_eq}
 use Rattle.std.proofs.lemmas.List.{get_or_default}
 use Rattle.std.proofs.lemmas.List.Elements.{Contains-append_left, Contains-append_right, Contains-get_or}
-use Rattle.gg_flat.specs.declared.tree.InstancePort.{InstancePort}
+use Rattle.gg_flat_tree.specs.declared.tree.InstancePort.{InstancePort}
 use Rattle.gg_flat.specs.Line.{value_at}
 use Rattle.gg_flat.specs.Circuit.{FlatCircuit, readers_at}
-use Rattle.gg_flat.specs.Tree.{InstanceTree, IsTree, IsInnermost, instance_at, memory_at, parent_place}
-use Rattle.gg_flat.specs.Scoped.{IsScoped, IsPort, IsFieldOf, IsVisible, memory_fields, output_signals, stop_signals}
+use Rattle.gg_flat_tree.specs.Tree.{InstanceTree, IsTree, IsInnermost, instance_at, memory_at, parent_place}
+use Rattle.gg_flat_tree.specs.Scoped.{IsScoped, IsPort, IsFieldOf, IsVisible, memory_fields, output_signals, stop_signals}
 use Rattle.gg_flat.proofs.ListLemmas.{in-range, range-below, Contains-map, Contains-filter, filter-cases}
 use Rattle.gg_cut.specs.declared.wires.Wire.{Wire}
 use Rattle.gg_cut.specs.declared.listed.Listed.{Listed}

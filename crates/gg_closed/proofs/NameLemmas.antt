@@ -3,8 +3,8 @@ use Rattle.std.proofs.Common.{◌≡◌, ◌≢◌, ℕ, ◌<◌, List, [], ◌�
 use Rattle.std.specs.Prelude.{Contains}
 use Rattle.std.proofs.lemmas.List.{append_cancel_left}
 use Rattle.gg_flat.specs.Circuit.{FlatCircuit}
-use Rattle.gg_flat.specs.Tree.{InstanceTree, IsTree, joined, path_at, memory_at}
-use Rattle.gg_flat.specs.Scoped.{IsScoped, IsPort, IsFieldOf}
+use Rattle.gg_flat_tree.specs.Tree.{InstanceTree, IsTree, joined, path_at, memory_at}
+use Rattle.gg_flat_tree.specs.Scoped.{IsScoped, IsPort, IsFieldOf}
 use Rattle.gg_flat.proofs.ListLemmas.{further, once-apart}
 use Rattle.gg_closed.proofs.TreeLemmas.{innermost-one}
 

@@ -5,12 +5,12 @@ use Rattle.std.proofs.lemmas.Bool.{cases_lt, both_ways}
 use Rattle.std.proofs.lemmas.List.{get_or-map, length-map, get_or_default}
 use Rattle.std.proofs.lemmas.List.Elements.{Contains-get_or, Contains-append_cases}
 use Rattle.std.proofs.lemmas.List.Kept.{AllPairs-filter}
-use Rattle.gg_flat.specs.declared.tree.InstancePort.{InstancePort}
+use Rattle.gg_flat_tree.specs.declared.tree.InstancePort.{InstancePort}
 use Rattle.gg_flat.specs.Line.{value_at}
 use Rattle.gg_flat.specs.Circuit.{FlatCircuit}
-use Rattle.gg_flat.specs.Tree.{InstanceTree, IsTree, instance_at, memory_at, stop_at}
-use Rattle.gg_flat.specs.declared.tree.StopInstance.{StopInstance}
-use Rattle.gg_flat.specs.Scoped.{IsScoped, IsPort, IsFieldOf, memory_fields, output_signals, stop_signals}
+use Rattle.gg_flat_tree.specs.Tree.{InstanceTree, IsTree, instance_at, memory_at, stop_at}
+use Rattle.gg_flat_tree.specs.declared.tree.StopInstance.{StopInstance}
+use Rattle.gg_flat_tree.specs.Scoped.{IsScoped, IsPort, IsFieldOf, memory_fields, output_signals, stop_signals}
 use Rattle.gg_flat.proofs.ListLemmas.{filter-cases, once-apart}
 use Rattle.gg_cut.specs.declared.wires.Wire.{Wire}
 use Rattle.gg_cut.specs.declared.listed.Listed.{Listed}

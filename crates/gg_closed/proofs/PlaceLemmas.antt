@@ -5,7 +5,7 @@ use Rattle.std.proofs.lemmas.Bool.{ne_eqb, le-leb, lt-ltb, leb-true, ltb-true, a
 use Rattle.std.proofs.lemmas.List.Elements.{All-tail, All-head}
 use Rattle.gg_flat.specs.Line.{value_at}
 use Rattle.gg_flat.specs.Circuit.{FlatCircuit}
-use Rattle.gg_flat.specs.Tree.{InstanceTree, IsTree, IsInnermost, instance_at}
+use Rattle.gg_flat_tree.specs.Tree.{InstanceTree, IsTree, IsInnermost, instance_at}
 use Rattle.gg_cut.specs.Listed.{lies, first_place, unit_or_hub, owner_of_instance, has_signal, ParentsBefore}
 use Rattle.gg_cut.specs.declared.listed.Listed.{Listed}
 use Rattle.gg_cut.proofs.ChainLemmas.{lies-parent, lies-alone, lies-self}

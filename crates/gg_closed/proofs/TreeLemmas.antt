@@ -3,7 +3,7 @@ use Rattle.std.proofs.Common.{◌≡◌, ◌≢◌, ℕ, zero, suc, ◌<◌, ◌
 use Rattle.std.specs.Prelude.{Option, ◌==◌}
 use Rattle.std.proofs.lemmas.Bool.{cases_lt, cases_eq, or_cases, or_right}
 use Rattle.gg_flat.specs.Circuit.{FlatCircuit}
-use Rattle.gg_flat.specs.Tree.{InstanceTree, IsTree, IsInnermost, Holds, instance_at, parent_place}
+use Rattle.gg_flat_tree.specs.Tree.{InstanceTree, IsTree, IsInnermost, Holds, instance_at, parent_place}
 use Rattle.gg_cut.specs.Listed.{lies, ParentsBefore}
 use Rattle.gg_cut.proofs.ChainLemmas.{lies-parent, lies-alone, lies-self}
 use Rattle.gg_cut.proofs.KnownLemmas.{parents-before}

@@ -6,10 +6,10 @@ use Rattle.std.proofs.Common.{◌≡◌, ◌≢◌, ℕ, ◌+◌, ◌<◌, List,
 use Rattle.std.specs.Prelude.{codes, map, if◌then◌else◌}
 use Rattle.gg_flat.specs.declared.memory.Latency.TheVariants.{Zero}
 use Rattle.gg_flat.specs.declared.memory.Memory.{Memory}
-use Rattle.gg_flat.specs.declared.tree.Instance.{Instance}
+use Rattle.gg_flat_tree.specs.declared.tree.Instance.{Instance}
 use Rattle.gg_flat.specs.Line.{value_at}
 use Rattle.gg_flat.specs.Circuit.{FlatCircuit}
-use Rattle.gg_flat.specs.Tree.{InstanceTree, path_at}
+use Rattle.gg_flat_tree.specs.Tree.{InstanceTree, path_at}
 use Rattle.gg_flat.proofs.WorkedCircuits.{eight}
 use Rattle.gg_flat.proofs.WorkedForms.{only, both, three, apart}
 use Rattle.gg_order.specs.Design.{Ordered}

@@ -3,11 +3,11 @@ use Rattle.std.proofs.Common.{◌≡◌, ◌≢◌, ℕ, zero, suc, ◌+◌, ◌
 use Rattle.std.specs.Prelude.{◌==◌, if◌then◌else◌, filter, map, Contains, All}
 use Rattle.std.proofs.lemmas.List.{get_or_default}
 use Rattle.std.proofs.lemmas.Bool.{not-true}
-use Rattle.gg_flat.specs.declared.tree.InstancePort.{InstancePort}
+use Rattle.gg_flat_tree.specs.declared.tree.InstancePort.{InstancePort}
 use Rattle.gg_flat.specs.Line.{value_at}
 use Rattle.gg_flat.specs.Circuit.{FlatCircuit, readers_at, reader_at}
-use Rattle.gg_flat.specs.Tree.{InstanceTree, IsTree, IsInnermost, instance_at, memory_at, parent_place, stop_at}
-use Rattle.gg_flat.specs.Scoped.{IsScoped, IsInputOf, IsFieldOf, IsWritten, memory_fields}
+use Rattle.gg_flat_tree.specs.Tree.{InstanceTree, IsTree, IsInnermost, instance_at, memory_at, parent_place, stop_at}
+use Rattle.gg_flat_tree.specs.Scoped.{IsScoped, IsInputOf, IsFieldOf, IsWritten, memory_fields}
 use Rattle.gg_flat.proofs.ListLemmas.{Contains-map, Contains-filter}
 use Rattle.gg_cut.specs.declared.wires.Wire.{Wire}
 use Rattle.gg_cut.specs.declared.listed.Listed.{Listed}

@@ -2,7 +2,7 @@
 -- Source: ICCAD 2019 (instances that are marked are apart, each a model of its own).
 use Rattle.std.specs.Prelude.{◌≡◌, ◌≢◌, ◌⊎◌, ℕ, ◌<◌, ◌≤◌, ◌+◌, length, false, All, AllPairs}
 use Rattle.gg_flat.specs.Circuit.{FlatCircuit}
-use Rattle.gg_flat.specs.Tree.{InstanceTree}
+use Rattle.gg_flat_tree.specs.Tree.{InstanceTree}
 use Rattle.gg_partfile.specs.declared.request.Request.{Request}
 use Rattle.gg_cut.specs.Listed.{lies, listed_of, owner_of}
 use Rattle.gg_cut.specs.declared.listed.Listed.{Listed}

@@ -3,7 +3,7 @@
 -- what is left is the hub's); FIRRTL Specification, "Instances" and "Memories": what is below an instance or a memory
 -- is named by its path, a dot and a name.
 use Rattle.std.specs.Prelude.{◌≡◌, ◌≢◌, ◌⊎◌, ℕ, zero, suc, ◌<◌, List, ◌∷◌, ◌++◌, length, filter}
-use Rattle.gg_flat.specs.Tree.{InstanceTree, path_at}
+use Rattle.gg_flat_tree.specs.Tree.{InstanceTree, path_at}
 use Rattle.gg_order.specs.Design.{Ordered}
 use Rattle.gg_partfile.specs.declared.request.Request.{Request}
 use Rattle.gg_cut.specs.Listed.{is_among}

@@ -8,9 +8,9 @@ use Rattle.std.proofs.lemmas.Grind.{flat_map-append}
 use Rattle.std.proofs.Math.Seq.{take-append-add}
 use Rattle.gg_ast.specs.Places.{place_of}
 use Rattle.gg_ast.specs.Tree.{CircuitTree, module_names}
-use Rattle.gg_flat.specs.declared.tree.StopInstance.{StopInstance}
+use Rattle.gg_flat_tree.specs.declared.tree.StopInstance.{StopInstance}
 use Rattle.gg_flat.specs.Circuit.{FlatCircuit}
-use Rattle.gg_flat.specs.Tree.{InstanceTree, instance_at, joined, stop_at}
+use Rattle.gg_flat_tree.specs.Tree.{InstanceTree, instance_at, joined, stop_at}
 use Rattle.gg_count.specs.Sites.{Held, Outer, Site, site_below, module_at, sites, sites_of, top_site}
 use Rattle.gg_flattened.specs.IsFlat.{IsFlat}
 use Rattle.gg_flattened.specs.Known.{types_of}

@@ -3,7 +3,7 @@ use Rattle.std.proofs.Common.{◌≡◌, ℕ, zero, suc, ◌<◌, List, ◌++◌
 use Rattle.std.specs.Prelude.{flat_map}
 use Rattle.gg_ast.specs.Places.{place_of}
 use Rattle.gg_ast.specs.Tree.{CircuitTree, ModuleTree, module_names}
-use Rattle.gg_flat.specs.Tree.{InstanceTree, memory_at}
+use Rattle.gg_flat_tree.specs.Tree.{InstanceTree, memory_at}
 use Rattle.gg_count.specs.Sites.{Held, Site, held_at, module_at, site_below, sites}
 use Rattle.gg_flattened.specs.Clocks.{clocks_given, own_clocks}
 use Rattle.gg_flattened.specs.Flat.{FlatMemory}

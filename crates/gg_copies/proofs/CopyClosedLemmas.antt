@@ -8,11 +8,11 @@ use Rattle.gg_ast.specs.Places.{place_of}
 use Rattle.gg_ast.specs.Tree.{CircuitTree, module_names}
 use Rattle.gg_flat.specs.declared.piece.Driver.TheVariants.{Held}
 use Rattle.gg_flat.specs.declared.piece.Register.{Register}
-use Rattle.gg_flat.specs.declared.tree.InstancePort.{InstancePort}
+use Rattle.gg_flat_tree.specs.declared.tree.InstancePort.{InstancePort}
 use Rattle.gg_flat.specs.Circuit.{FlatCircuit, driver_at}
 use Rattle.gg_flat.specs.Reads.{NamesSignal, RegisterNames}
-use Rattle.gg_flat.specs.Scoped.{IsScoped, IsInputOf, IsWritten, IsVisible}
-use Rattle.gg_flat.specs.Tree.{InstanceTree, IsTree, IsInnermost, Holds, instance_at}
+use Rattle.gg_flat_tree.specs.Scoped.{IsScoped, IsInputOf, IsWritten, IsVisible}
+use Rattle.gg_flat_tree.specs.Tree.{InstanceTree, IsTree, IsInnermost, Holds, instance_at}
 use Rattle.gg_flat.proofs.ListLemmas.{further, Contains-cases}
 use Rattle.gg_count.specs.Sites.{Site, site_below, sites_of}
 use Rattle.gg_tree.specs.IsTreeOf.{IsTreeOf}

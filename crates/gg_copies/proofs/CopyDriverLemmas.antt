@@ -25,7 +25,7 @@ use Rattle.gg_flat.specs.declared.piece.Reset as kept
 use Rattle.gg_flat.specs.Circuit.{FlatCircuit, driver_at}
 use Rattle.gg_flat.specs.Line.{shape_at}
 use Rattle.gg_flat.specs.Reads.{NamesSignal, ResetNames, NextNames, RegisterNames}
-use Rattle.gg_flat.specs.Tree.{joined}
+use Rattle.gg_flat_tree.specs.Tree.{joined}
 use Rattle.gg_flat.proofs.ListLemmas.{further}
 use Rattle.gg_count.specs.Sites.{Site, Outer, module_at}
 use Rattle.gg_flattened.specs.Connection.{Connection}

@@ -4,7 +4,7 @@ use Rattle.std.specs.Prelude.{Contains, slice_get}
 use Rattle.std.proofs.lemmas.Option.{slice_get-get_or}
 use Rattle.gg_ast.specs.Tree.{ModuleTree}
 use Rattle.gg_flat.specs.declared.memory.Latency.{Latency}
-use Rattle.gg_flat.specs.Tree.{joined}
+use Rattle.gg_flat_tree.specs.Tree.{joined}
 use Rattle.gg_flat.proofs.ListLemmas.{Contains-map}
 use Rattle.gg_count.specs.Sites.{Site, Outer, module_at}
 use Rattle.gg_flattened.specs.Flat.{Drive, Answers, Outside, Gets, Holds, FlatSignal, flat_signal, drive_of, signals_at, flat_signals, FlatMemory, flat_memory, memories_at, flat_memories}

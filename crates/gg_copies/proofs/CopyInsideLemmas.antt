@@ -5,7 +5,7 @@ use Rattle.std.proofs.lemmas.List.{length-map}
 use Rattle.std.proofs.lemmas.Option.{same_Some}
 use Rattle.gg_ast.specs.Places.{place_of}
 use Rattle.gg_ast.specs.Tree.{CircuitTree, module_names}
-use Rattle.gg_flat.specs.Tree.{InstanceTree, instance_at, memory_at}
+use Rattle.gg_flat_tree.specs.Tree.{InstanceTree, instance_at, memory_at}
 use Rattle.gg_count.specs.Sites.{Site, site_below, sites_of}
 use Rattle.gg_flattened.specs.Flat.{FlatMemory, memories_at, flat_memories}
 use Rattle.gg_tree.specs.IsTreeOf.{IsTreeOf, HeldMemory, held_memories}

@@ -16,12 +16,12 @@ use Rattle.gg_flat.specs.declared.memory.Latency.{Latency}
 use Rattle.gg_flat.specs.declared.memory.Memory.{Memory}
 use Rattle.gg_flat.specs.declared.piece.Driver.TheVariants.{Held}
 use Rattle.gg_flat.specs.declared.piece.Register.{Register}
-use Rattle.gg_flat.specs.declared.tree.InstancePort.{InstancePort}
+use Rattle.gg_flat_tree.specs.declared.tree.InstancePort.{InstancePort}
 use Rattle.gg_flat.specs.Circuit.{FlatCircuit, signal_shapes, driver_at}
 use Rattle.gg_flat.specs.Line.{shape_at}
 use Rattle.gg_flat.specs.Reads.{NamesSignal, RegisterNames}
-use Rattle.gg_flat.specs.Scoped.{IsScoped, IsInputOf}
-use Rattle.gg_flat.specs.Tree.{InstanceTree, IsTree, Holds, instance_at, memory_at, path_at, joined}
+use Rattle.gg_flat_tree.specs.Scoped.{IsScoped, IsInputOf}
+use Rattle.gg_flat_tree.specs.Tree.{InstanceTree, IsTree, Holds, instance_at, memory_at, path_at, joined}
 use Rattle.gg_flat.proofs.ListLemmas.{some-item}
 use Rattle.gg_count.specs.Sites.{Site, module_at, sites_of}
 use Rattle.gg_flattened.specs.Flat.{stop_paths, Answers, FlatSignal, flat_signal, FlatMemory, flat_signals, flat_memories, memories_at}

@@ -2,10 +2,10 @@
 use Rattle.std.proofs.Common.{◌≡◌, ◌≢◌, inl, inr, ℕ, zero, suc, List, [], ◌∷◌, ◌++◌, Option, Some, map, refl, sym, ap, ap₂, ◌∙◌, subst, arith, codes}
 use Rattle.std.specs.Prelude.{flat_map, Contains}
 use Rattle.gg_ast.specs.Tree.{ModuleTree}
-use Rattle.gg_flat.specs.Tree.{joined}
+use Rattle.gg_flat_tree.specs.Tree.{joined}
 use Rattle.gg_flat.proofs.ListLemmas.{further}
 use Rattle.gg_count.specs.Sites.{Held, Outer, Site, site_below, sites, held_at, module_at}
-use Rattle.gg_flat.specs.Clocked.{clock_at}
+use Rattle.gg_flat_tree.specs.Clocked.{clock_at}
 use Rattle.gg_flattened.specs.Clocks.{clock_of, port_clock, site_clocks}
 use Rattle.gg_flattened.specs.Connection.{Connection, ConnectedTo, connection_in}
 use Rattle.gg_flattened.specs.Flat.{Drive, scope_at, scope_around, Gets, Holds, flat_signal, drive_of, signals_at, flat_signals, input_drive, flat_memory, memories_at, flat_memories}

@@ -1,11 +1,12 @@
 //! Instances of one module are copies of each other.
 ghost use Rattle.gg_flattened.specs.IsFlat.{IsFlat};
-ghost use Rattle.gg_flat.specs.Scoped.{IsScoped};
-ghost use Rattle.gg_flat.specs.Tree.{IsTree};
+ghost use Rattle.gg_flat_tree.specs.Scoped.{IsScoped};
+ghost use Rattle.gg_flat_tree.specs.Tree.{IsTree};
 ghost use Rattle.gg_tree.specs.IsTreeOf.{IsTreeOf};
 ghost use Rattle.gg_moved.specs.Copies.{HasCopies};
 
-use gg_flat::{Piece, Tree};
+use gg_flat::Piece;
+use gg_flat_tree::Tree;
 use gg_formed::top_of;
 use gg_types::Typed;
 

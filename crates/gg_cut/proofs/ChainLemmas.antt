@@ -7,7 +7,7 @@ use Rattle.std.proofs.lemmas.List.{take_more, get_or-set_same, get_or-set_other,
 use Rattle.std.proofs.lemmas.List.Folds.{list_any-append}
 use Rattle.std.proofs.Math.Bool.{or-false, or_assoc, or-true}
 use Rattle.std.proofs.lemmas.Bool.{or_left, or_right, ne_eqb}
-use Rattle.gg_flat.specs.Tree.{InstanceTree, instance_at}
+use Rattle.gg_flat_tree.specs.Tree.{InstanceTree, instance_at}
 use Rattle.gg_order.specs.Marks.{is_marked}
 use Rattle.gg_cut.specs.Listed.{lies_within, lies, of_parent, ParentsBefore, AreMarks, instance_of}
 use Rattle.gg_cut.specs.Fault.{overlap, overlapping, first_clash}

@@ -4,10 +4,10 @@ use Rattle.std.specs.Prelude.{Contains, All, AllPairs, bytes_eq, ◌||◌, ◌==
 use Rattle.std.specs.List.{list_any}
 use Rattle.std.proofs.lemmas.List.{map-append, get_or_default}
 use Rattle.std.proofs.lemmas.Slice.Eq.{bytes_eq-Decides}
-use Rattle.gg_flat.specs.declared.tree.InstancePort.{InstancePort}
+use Rattle.gg_flat_tree.specs.declared.tree.InstancePort.{InstancePort}
 use Rattle.gg_flat.specs.Circuit.{FlatCircuit, readers_at}
-use Rattle.gg_flat.specs.Tree.{InstanceTree, path_at, instance_at, memory_at, parent_place}
-use Rattle.gg_flat.specs.Scoped.{reader_fields, writer_fields, writers_at, memory_fields}
+use Rattle.gg_flat_tree.specs.Tree.{InstanceTree, path_at, instance_at, memory_at, parent_place}
+use Rattle.gg_flat_tree.specs.Scoped.{reader_fields, writer_fields, writers_at, memory_fields}
 use Rattle.gg_flat.proofs.ListLemmas.{once-apart}
 use Rattle.gg_cut.specs.declared.wires.Wire.{Wire}
 use Rattle.gg_cut.specs.declared.listed.Listed.{Listed}

@@ -3,14 +3,14 @@ use Rattle.std.proofs.Common.{◌≡◌, ℕ, zero, suc, ◌<◌, List, [], ◌�
 use Rattle.std.specs.Prelude.{All, flat_map}
 use Rattle.std.proofs.lemmas.List.{get_or-map, length-map}
 use Rattle.gg_bits.specs.Shape.{shape}
-use Rattle.gg_flat.specs.declared.tree.InstancePort.{InstancePort}
+use Rattle.gg_flat_tree.specs.declared.tree.InstancePort.{InstancePort}
 use Rattle.gg_flat.specs.declared.memory.Reader.{Reader}
 use Rattle.gg_flat.specs.declared.memory.Writer.{Writer}
 use Rattle.gg_flat.specs.declared.memory.Memory.{Memory}
 use Rattle.gg_flat.specs.Circuit.{FlatCircuit, signal_shapes, readers_at}
 use Rattle.gg_flat.specs.WellFormed.{IsWellFormed}
-use Rattle.gg_flat.specs.Tree.{InstanceTree, IsTree, instance_at, memory_at, parent_place}
-use Rattle.gg_flat.specs.Scoped.{reader_fields, writer_fields, writers_at, memory_fields}
+use Rattle.gg_flat_tree.specs.Tree.{InstanceTree, IsTree, instance_at, memory_at, parent_place}
+use Rattle.gg_flat_tree.specs.Scoped.{reader_fields, writer_fields, writers_at, memory_fields}
 use Rattle.gg_flat.proofs.ListLemmas.{some-item}
 use Rattle.gg_cut.specs.declared.listed.Listed.{Listed}
 use Rattle.gg_cut.specs.Listed.{ParentsBefore}

@@ -4,7 +4,7 @@ use Rattle.std.specs.Prelude.{Option, ◌||◌, ◌==◌, if◌then◌else◌, o
 use Rattle.std.proofs.lemmas.Bool.{cases_lt}
 use Rattle.std.proofs.lemmas.List.{take_more, length-take-le, get_or-set_same, get_or-set_other, length-set}
 use Rattle.gg_flat.specs.Line.{value_at}
-use Rattle.gg_flat.specs.Tree.{InstanceTree, instance_at}
+use Rattle.gg_flat_tree.specs.Tree.{InstanceTree, instance_at}
 use Rattle.gg_cut.specs.Listed.{lies, ParentsBefore, first_place, unit_or_hub, owner_of_instance}
 use Rattle.gg_cut.specs.Owners.{earlier, above_by, above}
 use Rattle.gg_cut.proofs.ChainLemmas.{lies-parent, lies-alone}

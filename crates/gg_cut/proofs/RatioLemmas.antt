@@ -4,10 +4,10 @@ use Rattle.std.specs.Prelude.{◌==◌}
 use Rattle.std.proofs.lemmas.Bool.{cases_lt}
 use Rattle.std.proofs.lemmas.List.{get_or_past}
 use Rattle.gg_flat.specs.Clock.{Ratio}
-use Rattle.gg_flat.specs.Clocked.{clock_at, clocks_up, through_parent, top_clocks}
-use Rattle.gg_flat.specs.Tree.{InstanceTree}
-use Rattle.gg_flat.specs.declared.tree.Instance.{Instance}
-use Rattle.gg_flat.specs.declared.tree.StopInstance.{StopInstance}
+use Rattle.gg_flat_tree.specs.Clocked.{clock_at, clocks_up, through_parent, top_clocks}
+use Rattle.gg_flat_tree.specs.Tree.{InstanceTree}
+use Rattle.gg_flat_tree.specs.declared.tree.Instance.{Instance}
+use Rattle.gg_flat_tree.specs.declared.tree.StopInstance.{StopInstance}
 use Rattle.gg_part.specs.PartRun.{part_ratios, ratio_at}
 
 pub some-ratios : (clocks : List (Option ℕ)) (ratios : List Ratio) → false ≡ (length ratios == 0) → part_ratios clocks ratios ≡ map (ratio_at ratios) clocks

@@ -6,12 +6,12 @@ use Rattle.std.proofs.lemmas.List.Elements.{filter-append}
 use Rattle.std.proofs.lemmas.Bool.{cases_lt, ne_eqb}
 use Rattle.std.proofs.lemmas.List.{get_or_default}
 use Rattle.gg_flat.proofs.ListLemmas.{Contains-map, Contains-filter}
-use Rattle.gg_flat.specs.declared.tree.InstancePort.{InstancePort}
+use Rattle.gg_flat_tree.specs.declared.tree.InstancePort.{InstancePort}
 use Rattle.gg_flat.specs.declared.memory.Reader.{Reader}
 use Rattle.gg_flat.specs.declared.memory.Writer.{Writer}
 use Rattle.gg_flat.specs.Circuit.{FlatCircuit, readers_at}
-use Rattle.gg_flat.specs.Tree.{InstanceTree, instance_at, memory_at, parent_place}
-use Rattle.gg_flat.specs.Scoped.{writers_at}
+use Rattle.gg_flat_tree.specs.Tree.{InstanceTree, instance_at, memory_at, parent_place}
+use Rattle.gg_flat_tree.specs.Scoped.{writers_at}
 use Rattle.gg_cut.specs.declared.listed.Listed.{Listed}
 use Rattle.gg_cut.specs.Listed.{unit_or_hub, memory_or, owner_of_instance, owner_of, has_signal, has_field, lies, first_place}
 use Rattle.gg_cut.proofs.PathLemmas.{first_place-Some}

@@ -9,9 +9,9 @@ use Rattle.gg_bits.specs.declared.ops.Op2.TheVariants.{Xor}
 use Rattle.gg_bits.specs.declared.ops.OpN.TheVariants.{Bits, Shl}
 use Rattle.gg_flat.specs.declared.line.Op.TheVariants.{Ref, Two, Fix}
 use Rattle.gg_flat.specs.declared.piece.Driver.TheVariants.{Input, Computed}
-use Rattle.gg_flat.specs.declared.tree.InstancePort.{InstancePort}
+use Rattle.gg_flat_tree.specs.declared.tree.InstancePort.{InstancePort}
 use Rattle.gg_flat.specs.Circuit.{FlatCircuit}
-use Rattle.gg_flat.specs.Tree.{InstanceTree}
+use Rattle.gg_flat_tree.specs.Tree.{InstanceTree}
 use Rattle.gg_flat.proofs.WorkedCircuits.{eight, nine, node}
 use Rattle.gg_flat.proofs.WorkedMemories.{signal, copy}
 use Rattle.gg_partfile.specs.declared.request.Request.{Request}

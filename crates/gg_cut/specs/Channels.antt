@@ -2,12 +2,12 @@
 -- Source: MEMOCODE 2009 (channels between the nodes of a dataflow network); ICCAD 2019 (a cut at the ports of instances and
 -- of memories).
 use Rattle.std.specs.Prelude.{ℕ, suc, List, [], ◌∷◌, ◌++◌, if◌then◌else◌, map, find, option_map, unwrap_or, bytes_eq}
-use Rattle.gg_flat.specs.declared.tree.InstancePort.{InstancePort}
+use Rattle.gg_flat_tree.specs.declared.tree.InstancePort.{InstancePort}
 use Rattle.gg_flat.specs.declared.memory.Reader.{Reader}
 use Rattle.gg_flat.specs.declared.memory.Writer.{Writer}
 use Rattle.gg_flat.specs.Circuit.{FlatCircuit, readers_at}
-use Rattle.gg_flat.specs.Tree.{InstanceTree, path_at, instance_at, memory_at, parent_place}
-use Rattle.gg_flat.specs.Scoped.{writers_at, memory_fields}
+use Rattle.gg_flat_tree.specs.Tree.{InstanceTree, path_at, instance_at, memory_at, parent_place}
+use Rattle.gg_flat_tree.specs.Scoped.{writers_at, memory_fields}
 use Rattle.gg_cut.specs.declared.wires.Wire.{Wire}
 use Rattle.gg_cut.specs.declared.listed.Listed.{Listed}
 use Rattle.gg_cut.specs.Listed.{owner_of_instance, owner_of}

@@ -3,8 +3,8 @@
 -- are rational. That names stand for ratios, and their range, are this program's own.
 use Rattle.std.specs.Prelude.{ℕ, List, Option, Bool, ◌&&◌, map, find, option_map, unwrap_or, bytes_eq, nat_le}
 use Rattle.gg_flat.specs.Clock.{Ratio}
-use Rattle.gg_flat.specs.Clocked.{clock_at, top_clocks}
-use Rattle.gg_flat.specs.Tree.{InstanceTree}
+use Rattle.gg_flat_tree.specs.Clocked.{clock_at, top_clocks}
+use Rattle.gg_flat_tree.specs.Tree.{InstanceTree}
 use Rattle.gg_part.specs.PartRun.{part_ratios}
 use Rattle.gg_partfile.specs.declared.request.Request.{Request}
 

@@ -5,8 +5,8 @@
 use Rattle.std.specs.Prelude.{◌≡◌, ◌<◌, ℕ, zero, suc, ◌+◌, List, [], ◌∷◌, Bool, true, false, ◌||◌, ◌&&◌, ◌==◌, if◌then◌else◌, Option, Some, None, length, map, filter, option_map, unwrap_or, is_some, bytes_eq, nat_lt, nat_le}
 use Rattle.std.specs.List.{list_any, range_with_len}
 use Rattle.gg_flat.specs.Circuit.{FlatCircuit}
-use Rattle.gg_flat.specs.Tree.{InstanceTree, path_at, instance_at, memory_at}
-use Rattle.gg_flat.specs.Scoped.{memory_fields}
+use Rattle.gg_flat_tree.specs.Tree.{InstanceTree, path_at, instance_at, memory_at}
+use Rattle.gg_flat_tree.specs.Scoped.{memory_fields}
 use Rattle.gg_order.specs.Marks.{is_marked}
 use Rattle.gg_cut.specs.declared.listed.Listed.{Listed}
 use Rattle.gg_cut.specs.Machines.{unit_number, memory_after}

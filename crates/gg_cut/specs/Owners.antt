@@ -2,7 +2,7 @@
 -- Source: this program's own way to find the owners of all instances in one pass.
 use Rattle.std.specs.Prelude.{ℕ, zero, suc, List, Option, Some, None, nat_lt, if◌then◌else◌}
 use Rattle.gg_flat.specs.Line.{value_at}
-use Rattle.gg_flat.specs.Tree.{InstanceTree, instance_at}
+use Rattle.gg_flat_tree.specs.Tree.{InstanceTree, instance_at}
 
 -- the earlier of two units, by their machines; 0 is the hub, which comes last
 abbrev pub earlier : ℕ → ℕ → ℕ

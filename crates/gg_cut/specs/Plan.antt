@@ -6,8 +6,8 @@ use Rattle.std.specs.List.{range_with_len}
 use Rattle.gg_bits.specs.Shape.{shape}
 use Rattle.gg_flat.specs.Line.{value_at, shape_at}
 use Rattle.gg_flat.specs.Circuit.{FlatCircuit, signal_shapes}
-use Rattle.gg_flat.specs.Clocked.{top_clocks}
-use Rattle.gg_flat.specs.Tree.{InstanceTree, path_at, memory_at}
+use Rattle.gg_flat_tree.specs.Clocked.{top_clocks}
+use Rattle.gg_flat_tree.specs.Tree.{InstanceTree, path_at, memory_at}
 use Rattle.gg_order.specs.Design.{Ordered}
 use Rattle.gg_flat.specs.Reads.{Reaches}
 use Rattle.gg_part.specs.Part.{IsPart}

@@ -1,7 +1,7 @@
 //! Laws: facts about the definitions. Each is the contract of a function with an empty body.
 ghost use Rattle.std.specs.Prelude.{◌≡◌, map};
 ghost use Rattle.gg_flat.specs.Circuit.{FlatCircuit};
-ghost use Rattle.gg_flat.specs.Tree.{InstanceTree};
+ghost use Rattle.gg_flat_tree.specs.Tree.{InstanceTree};
 ghost use Rattle.gg_cut.specs.declared.listed.Listed.{Listed};
 ghost use Rattle.gg_cut.specs.declared.wires.Wire.{Wire};
 ghost use Rattle.gg_cut.specs.Channels.{wires_of, channel_signals};

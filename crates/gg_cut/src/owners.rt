@@ -5,7 +5,7 @@ ghost use Rattle.gg_cut.specs.Listed.{ParentsBefore, unit_or_hub, first_place, o
 ghost use Rattle.gg_cut.specs.Owners.{earlier, above};
 
 use crate::numbering::Numbering;
-use gg_flat::Tree;
+use gg_flat_tree::Tree;
 use std::alloc::{AllocError, Global};
 
 /// The parent of an instance. The top has none.

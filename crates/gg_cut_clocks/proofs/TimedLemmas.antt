@@ -12,12 +12,12 @@ use Rattle.gg_flat.specs.declared.piece.Driver.TheVariants.{Input, Held}
 use Rattle.gg_flat.specs.declared.piece.Register.{Register}
 use Rattle.gg_flat.specs.declared.piece.Signal.{Signal}
 use Rattle.gg_flat.specs.Circuit.{FlatCircuit, driver_at}
-use Rattle.gg_flat.specs.Clocked.{clocks_from, port_clocks, through_parent, top_clocks}
+use Rattle.gg_flat_tree.specs.Clocked.{clocks_from, port_clocks, through_parent, top_clocks}
 use Rattle.gg_flat.specs.Line.{value_at}
-use Rattle.gg_flat.specs.Tree.{InstanceTree, Holds, IsTree, instance_at, memory_at}
+use Rattle.gg_flat_tree.specs.Tree.{InstanceTree, Holds, IsTree, instance_at, memory_at}
 use Rattle.gg_flat.specs.WellFormed.{IsClock, IsClockedMemory, IsWellFormed}
 use Rattle.gg_flat.proofs.ListLemmas.{some-item}
-use Rattle.gg_flat.proofs.TopClockLemmas.{top_clocks-step}
+use Rattle.gg_flat_tree.proofs.TopClockLemmas.{top_clocks-step}
 use Rattle.gg_moved.specs.Copies.{above}
 use Rattle.gg_moved.specs.KeepsToTree.{KeepsToTree}
 use Rattle.gg_moved.specs.Moved.{moved_driver}

@@ -5,8 +5,8 @@
 use Rattle.std.proofs.Common.{◌≡◌, ℕ, [], ◌∷◌, Bool, Some, None, refl, lit<}
 use Rattle.std.specs.Prelude.{◌==◌, codes}
 use Rattle.std.specs.List.{list_any}
-use Rattle.gg_flat.specs.Clocked.{top_clocks}
-use Rattle.gg_flat.specs.Tree.{InstanceTree}
+use Rattle.gg_flat_tree.specs.Clocked.{top_clocks}
+use Rattle.gg_flat_tree.specs.Tree.{InstanceTree}
 use Rattle.gg_moved.specs.Domains.{inner_clocks}
 use Rattle.gg_part.specs.Clocking.{LeadsTo}
 use Rattle.gg_cut.specs.declared.listed.Listed.{Listed}

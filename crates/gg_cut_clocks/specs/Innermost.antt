@@ -3,9 +3,9 @@
 use Rattle.std.specs.Prelude.{◌≡◌, ℕ, ◌<◌, ◌≤◌, List, [], Option, None, length, slice_index_or}
 use Rattle.gg_flat.specs.declared.piece.Driver.TheVariants.{Held}
 use Rattle.gg_flat.specs.Circuit.{FlatCircuit, driver_at}
-use Rattle.gg_flat.specs.Clocked.{clock_at}
+use Rattle.gg_flat_tree.specs.Clocked.{clock_at}
 use Rattle.gg_flat.specs.Line.{value_at}
-use Rattle.gg_flat.specs.Tree.{InstanceTree, Holds as IsHeldBy, instance_at}
+use Rattle.gg_flat_tree.specs.Tree.{InstanceTree, Holds as IsHeldBy, instance_at}
 
 -- Among the first n instances the one at place p has signal s, and none behind it does.
 pub record IsLast (tree : InstanceTree) (n s p : ℕ) : Type 0 where

@@ -10,7 +10,7 @@ use crate::tables::{inner_table, innermost, port_table, register_table};
 use crate::whole::whole_clocking;
 use gg_bits::Items;
 use gg_cut::{Listed, marks_of};
-use gg_flat::ClockNumbers;
+use gg_flat_tree::ClockNumbers;
 use gg_order::Design;
 use gg_part::Clocking;
 use std::alloc::{AllocError, Global};

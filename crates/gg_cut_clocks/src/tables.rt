@@ -3,13 +3,14 @@ ghost use Rattle.std.specs.Prelude.{◌≡◌, ◌⊎◌, ◌↔◌, ℕ, ◌<�
 ghost use Rattle.gg_flat.specs.declared.piece.Driver.TheVariants.{Held};
 ghost use Rattle.gg_flat.specs.Circuit.{driver_at};
 ghost use Rattle.gg_flat.specs.WellFormed.{IsWellFormed};
-ghost use Rattle.gg_flat.specs.Clocked.{AreParentsBefore, clock_at, clocks_from, through_parent};
+ghost use Rattle.gg_flat_tree.specs.Clocked.{AreParentsBefore, clock_at, clocks_from, through_parent};
 ghost use Rattle.gg_flat.specs.Line.{value_at};
-ghost use Rattle.gg_flat.specs.Tree.{instance_at};
+ghost use Rattle.gg_flat_tree.specs.Tree.{instance_at};
 ghost use Rattle.gg_cut_clocks.specs.Innermost.{IsLast, IsTimedBy};
 ghost use Rattle.gg_moved.specs.Domains.{inner_clocks};
 
-use gg_flat::{ClockNumbers, Driver, Instance, MemoryInstance, Piece, Tree, clock_at, clocks_at};
+use gg_flat::{Driver, Piece};
+use gg_flat_tree::{ClockNumbers, Instance, MemoryInstance, Tree, clock_at, clocks_at};
 use std::alloc::{AllocError, Global};
 
 // As many numbered clocks.

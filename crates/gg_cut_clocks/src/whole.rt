@@ -1,12 +1,13 @@
 //! The clocks of a circuit that its registers and the ports of its memories follow.
 ghost use Rattle.std.specs.Prelude.{◌≡◌, ◌<◌, ◌^◌, length, map, IfOk};
-ghost use Rattle.gg_flat.specs.Clocked.{clocks_from};
+ghost use Rattle.gg_flat_tree.specs.Clocked.{clocks_from};
 ghost use Rattle.gg_part.specs.Clocking.{clocks_of_ports};
 ghost use Rattle.gg_cut_clocks.specs.Domains.{AreWholeClocks};
 
 use crate::tables::numbered;
 use gg_bits::Items;
-use gg_flat::{ClockNumbers, Memory, Piece, Register};
+use gg_flat::{Memory, Piece, Register};
+use gg_flat_tree::ClockNumbers;
 use gg_part::Clocking;
 use std::alloc::{AllocError, Global};
 

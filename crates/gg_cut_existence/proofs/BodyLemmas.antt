@@ -3,7 +3,7 @@ use Rattle.std.proofs.Common.{◌≡◌, ◌≢◌, ℕ, ◌-◌, ◌<◌, ◌�
 use Rattle.std.specs.Prelude.{All, AllPairs, Contains}
 use Rattle.std.proofs.lemmas.Bool.{cases_eq, cases_lt}
 use Rattle.gg_flat.specs.Circuit.{FlatCircuit}
-use Rattle.gg_flat.specs.Tree.{path_at}
+use Rattle.gg_flat_tree.specs.Tree.{path_at}
 use Rattle.gg_moved.specs.KeepsToTree.{KeepsToTree}
 use Rattle.gg_order.specs.Design.{IsDesign, Ordered}
 use Rattle.gg_part.specs.declared.part.Clocking.{Clocking}
@@ -23,10 +23,10 @@ use Rattle.gg_cut_clocks.specs.Domains.{AreUnitClocks}
 use Rattle.gg_cut_clocks.proofs.TimedLemmas.{machine-timed, top-clocks, whole-timed}
 use Rattle.gg_split.specs.declared.share.Share.{Share}
 use Rattle.gg_plan.specs.Made.{HasAscending, IsTimedUnit}
-use Rattle.gg_plan.specs.MovedPart.{IsFollower, IsMovedPiece, IsUnitRouted, IsUnitShare}
-use Rattle.gg_plan.proofs.FollowerLemmas.{follows, ready}
-use Rattle.gg_plan.proofs.MachineLemmas.{cut-part}
-use Rattle.gg_plan.proofs.RoutedLemmas.{unit-share}
+use Rattle.gg_cut_parts.specs.MovedPart.{IsFollower, IsMovedPiece, IsUnitRouted, IsUnitShare}
+use Rattle.gg_cut_parts.proofs.FollowerLemmas.{follows, ready}
+use Rattle.gg_cut_parts.proofs.MachineLemmas.{cut-part}
+use Rattle.gg_cut_parts.proofs.RoutedLemmas.{unit-share}
 use Rattle.gg_cut_existence.proofs.ClockLemmas.{whole-are, whole_clocks}
 use Rattle.gg_cut_existence.proofs.FilledLemmas.{place_in}
 use Rattle.gg_cut_existence.proofs.PartLemmas.{HasPart, part-there, placed-again, placed-below}

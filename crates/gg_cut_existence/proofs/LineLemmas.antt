@@ -10,11 +10,11 @@ use Rattle.gg_flat.specs.declared.memory.Writer.{Writer}
 use Rattle.gg_flat.specs.declared.memory.Memory.{Memory}
 use Rattle.gg_flat.specs.declared.piece.Register.{Register}
 use Rattle.gg_flat.specs.declared.piece.Reset.{Reset}
-use Rattle.gg_flat.specs.Clocked.{clock_at}
+use Rattle.gg_flat_tree.specs.Clocked.{clock_at}
 use Rattle.gg_flat.specs.Line.{value_at}
 use Rattle.gg_flat.specs.Memory.{WritesAmong}
 use Rattle.gg_flat.specs.Reads.{Names, NextNames, RegisterNames, ResetNames}
-use Rattle.gg_flat.specs.Scoped.{reader_fields, writer_fields}
+use Rattle.gg_flat_tree.specs.Scoped.{reader_fields, writer_fields}
 use Rattle.gg_flat.specs.WellFormed.{IsClock, IsClockedMemory}
 use Rattle.gg_flat.proofs.ListLemmas.{Contains-cases}
 use Rattle.gg_part.specs.Clocking.{PortsFollow}

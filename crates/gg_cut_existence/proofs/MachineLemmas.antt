@@ -2,7 +2,7 @@
 use Rattle.std.proofs.Common.{◌≡◌, ◌≢◌, ℕ, zero, suc, ◌+◌, ◌<◌, ◌≤◌, List, [], ◌∷◌, ◌++◌, None, length, get_or, refl, sym, subst, inl, inr, ◌⊎◌, arith}
 use Rattle.std.proofs.lemmas.Bool.{cases_lt}
 use Rattle.std.proofs.lemmas.List.{get_or_default}
-use Rattle.gg_flat.specs.Tree.{path_at}
+use Rattle.gg_flat_tree.specs.Tree.{path_at}
 use Rattle.gg_flat.proofs.ListLemmas.{some-item}
 use Rattle.gg_moved.specs.KeepsToTree.{KeepsToTree}
 use Rattle.gg_order.specs.Design.{IsDesign, Ordered}
@@ -28,11 +28,11 @@ use Rattle.gg_cut_clocks.specs.Domains.{AreUnitClocks}
 use Rattle.gg_routes.specs.Routes.{AreRoutes}
 use Rattle.gg_routes.proofs.RoutedLemmas.{plan-routed}
 use Rattle.gg_plan.specs.Made.{AreMachines, AreMachinesTo, IsMadeBody}
-use Rattle.gg_plan.specs.MovedPart.{IsUnitRouted}
+use Rattle.gg_cut_parts.specs.MovedPart.{IsUnitRouted}
 use Rattle.gg_plan.proofs.AlikeLemmas.{machines-made, machines-more, machines-none}
-use Rattle.gg_plan.proofs.HostLemmas.{leader-below}
-use Rattle.gg_plan.proofs.LeaderLemmas.{leaders-first}
-use Rattle.gg_plan.proofs.RoutedLemmas.{plan-unit-routed}
+use Rattle.gg_cut_bridges.proofs.HostLemmas.{leader-below}
+use Rattle.gg_cut_bridges.proofs.LeaderLemmas.{leaders-first}
+use Rattle.gg_cut_parts.proofs.RoutedLemmas.{plan-unit-routed}
 use Rattle.gg_cut_existence.proofs.BodyLemmas.{like-body, own-body, part-for}
 use Rattle.gg_cut_existence.proofs.ClockLemmas.{unit-clocks}
 use Rattle.gg_cut_existence.proofs.ShareLemmas.{HasShare, plan-share}

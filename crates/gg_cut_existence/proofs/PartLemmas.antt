@@ -14,8 +14,8 @@ use Rattle.gg_flat.specs.declared.piece.Signal.{Signal}
 use Rattle.gg_flat.specs.Circuit.{FlatCircuit, driver_at, signal_shapes}
 use Rattle.gg_flat.specs.Line.{shape_at, value_at}
 use Rattle.gg_flat.specs.Reads.{NamesSignal, RegisterNames}
-use Rattle.gg_flat.specs.Scoped.{memory_fields}
-use Rattle.gg_flat.specs.Tree.{path_at}
+use Rattle.gg_flat_tree.specs.Scoped.{memory_fields}
+use Rattle.gg_flat_tree.specs.Tree.{path_at}
 use Rattle.gg_flat.specs.WellFormed.{IsClock, IsClockedMemory, IsWellFormed}
 use Rattle.gg_flat.proofs.ListLemmas.{Contains-cases, further, here, some-item}
 use Rattle.gg_part.specs.Building.{AreHeld, AreMemories, AreRegisters, AreSignals, Holds, IsDriven, IsHeldIn}

@@ -4,7 +4,7 @@ use Rattle.std.specs.List.{range_with_len}
 use Rattle.std.proofs.lemmas.Bool.{cases_eq, cases_lt}
 use Rattle.std.proofs.lemmas.List.FromFn.{get_or-map-range_with_len, length-map-range_with_len}
 use Rattle.gg_flat.specs.Line.{value_at}
-use Rattle.gg_flat.specs.Tree.{path_at}
+use Rattle.gg_flat_tree.specs.Tree.{path_at}
 use Rattle.gg_moved.specs.KeepsToTree.{KeepsToTree}
 use Rattle.gg_order.specs.Design.{IsDesign, Ordered}
 use Rattle.gg_partfile.specs.declared.request.Request.{Request}
@@ -25,9 +25,10 @@ use Rattle.gg_cut_seats.specs.Fitting.{AreFitting}
 use Rattle.gg_cut_seats.proofs.FittingLemmas.{all-fit}
 use Rattle.gg_routes.proofs.FewLemmas.{few-machines}
 use Rattle.gg_routes.proofs.RoutedLemmas.{plan-routed}
-use Rattle.gg_plan.specs.Seats.{ArePlanMachines, AreSeated, AreSides, AreTakers, IsBridgeAdded, IsModelled, machine_by, one_more}
-use Rattle.gg_plan.proofs.PlacedLemmas.{bridge-more, counts-none, first-seated, last-placed, source-less, source-more, tray-less, tray-more}
-use Rattle.gg_plan.proofs.SeatLemmas.{before-few}
+use Rattle.gg_cut_bridges.specs.Seats.{ArePlanMachines, AreSeated, AreSides, AreTakers, IsBridgeAdded, IsModelled, machine_by, one_more}
+use Rattle.gg_cut_bridges.proofs.PlacedLemmas.{bridge-more, counts-none, last-placed, source-less, source-more, tray-less, tray-more}
+use Rattle.gg_plan.proofs.FirstLemmas.{first-seated}
+use Rattle.gg_cut_bridges.proofs.SeatLemmas.{before-few}
 use Rattle.gg_cut_existence.proofs.MachineLemmas.{HasMachines}
 
 -- the machines of a plan

@@ -3,7 +3,7 @@ use Rattle.std.proofs.Common.{◌≡◌, ℕ, ◌<◌, List, [], None, length, g
 use Rattle.std.proofs.lemmas.List.{get_or-map}
 use Rattle.gg_bits.specs.Shape.{shape, uint}
 use Rattle.gg_flat.specs.declared.piece.Signal.{Signal}
-use Rattle.gg_flat.specs.Tree.{path_at}
+use Rattle.gg_flat_tree.specs.Tree.{path_at}
 use Rattle.gg_flat.proofs.ListLemmas.{some-item}
 use Rattle.gg_moved.specs.KeepsToTree.{KeepsToTree}
 use Rattle.gg_order.specs.Design.{IsDesign, Ordered}
@@ -27,8 +27,9 @@ use Rattle.gg_cut.proofs.WholeFaultLemmas.{faultless-bridges, faultless-others}
 use Rattle.gg_routes.specs.Routes.{AreRoutes}
 use Rattle.gg_routes.proofs.RoutedLemmas.{plan-routed}
 use Rattle.gg_plan.specs.Made.{AreChannels, IsWired}
-use Rattle.gg_plan.specs.Seats.{ArePlanMachines}
-use Rattle.gg_plan.proofs.PlanLemmas.{channels-made, given-below, machine-fit, seated-known}
+use Rattle.gg_cut_bridges.specs.Seats.{ArePlanMachines}
+use Rattle.gg_plan.proofs.PlanLemmas.{channels-made, machine-fit}
+use Rattle.gg_cut_bridges.proofs.WireLemmas.{given-below, seated-known}
 use Rattle.gg_cut_existence.proofs.FilledLemmas.{IsFilled, Something, filled}
 use Rattle.gg_cut_existence.proofs.MachineLemmas.{machines-there}
 use Rattle.gg_cut_existence.proofs.PlacedLemmas.{placed-there}

@@ -15,7 +15,7 @@ use Rattle.gg_cut.specs.declared.plan.Machine.{Machine}
 use Rattle.gg_cut.specs.declared.wires.Wire.{Wire}
 use Rattle.gg_cut.specs.Plan.{NeedsIn, channels_from, channels_to, wire_at}
 use Rattle.gg_plan.specs.Made.{AreGiven, ArePartNeeds, ArePut, AreTold, IsFit, IsServed, IsServedBody}
-use Rattle.gg_plan.proofs.MachineLemmas.{from-below}
+use Rattle.gg_cut_parts.proofs.MachineLemmas.{from-below}
 use Rattle.gg_plan.proofs.NeedLemmas.{given-cut, given-memory, given-once, part-told}
 use Rattle.gg_cut_existence.proofs.FilledLemmas.{IsFilled, Something, filled, place_in, placed}
 use Rattle.gg_cut_existence.proofs.NeedLemmas.{HasNeeds, needs-there}

@@ -15,7 +15,8 @@ use crate::capacities::is_channel;
 use crate::paths::copied;
 use gg_bits::{Name, Ty};
 use gg_cut::{CutFault, marks_of};
-use gg_flat::{AddError, Models, Paths, Piece, Tree};
+use gg_flat::{AddError, Models, Paths, Piece};
+use gg_flat_tree::Tree;
 use gg_partfile::{BridgeEntry, Request};
 use std::alloc::Global;
 

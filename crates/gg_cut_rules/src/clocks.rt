@@ -9,7 +9,8 @@ use crate::paths::{has, set_of};
 use gg_bits::Name;
 use gg_clocks::Ratio;
 use gg_cut::CutFault;
-use gg_flat::{AddError, Paths, Tree};
+use gg_flat::{AddError, Paths};
+use gg_flat_tree::Tree;
 use std::alloc::{AllocError, Global};
 
 // Checks that each name is that of a Clock input of the top.

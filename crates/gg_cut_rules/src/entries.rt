@@ -7,7 +7,8 @@ ghost use Rattle.gg_cut.specs.declared.fault.CutFault.TheVariants.{UnknownUnit, 
 use crate::paths::{copied, has, instance, is_instance, is_memory, set_of};
 use gg_bits::{Name, Names};
 use gg_cut::CutFault;
-use gg_flat::{AddError, Paths, Tree};
+use gg_flat::{AddError, Paths};
+use gg_flat_tree::Tree;
 use std::alloc::Global;
 
 // Checks that each unit is an instance.

@@ -1,7 +1,7 @@
 //! Units that are in one another.
 ghost use Rattle.std.specs.Prelude.{◌≡◌, ℕ, List, ◌<◌, ◌||◌, false, length, option_map};
 ghost use Rattle.std.specs.List.{list_any};
-ghost use Rattle.gg_flat.specs.Tree.{instance_at};
+ghost use Rattle.gg_flat_tree.specs.Tree.{instance_at};
 ghost use Rattle.gg_order.specs.Marks.{is_marked};
 ghost use Rattle.gg_cut.specs.Listed.{ParentsBefore, AreMarks, instance_of, lies};
 ghost use Rattle.gg_cut.specs.Fault.{Tells, overlapping};
@@ -11,7 +11,7 @@ use crate::entries::doubled;
 use crate::paths::instance;
 use gg_bits::Name;
 use gg_cut::{CutFault, parent_of, unmarked};
-use gg_flat::Tree;
+use gg_flat_tree::Tree;
 use std::alloc::Global;
 
 // Checks that no unit holds an earlier one, is in an earlier one or equals one.

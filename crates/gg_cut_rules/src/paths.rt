@@ -5,7 +5,8 @@ ghost use Rattle.gg_cut.specs.declared.fault.CutFault.TheVariants.{NoMemory};
 
 use gg_bits::Name;
 use gg_cut::CutFault;
-use gg_flat::{AddError, Paths, Tree};
+use gg_flat::{AddError, Paths};
+use gg_flat_tree::Tree;
 use std::alloc::Global;
 
 // The place of the instance with a path.

@@ -1,6 +1,6 @@
 //! The judgement of a request.
 ghost use Rattle.std.specs.Prelude.{◌≡◌, ◌+◌, ◌<◌, ◌^◌, length, option_map, nat_lt, if◌then◌else◌, Some, None, All, IfOk, IfErr};
-ghost use Rattle.gg_flat.specs.Tree.{IsTree};
+ghost use Rattle.gg_flat_tree.specs.Tree.{IsTree};
 ghost use Rattle.gg_moved.specs.KeepsToTree.{KeepsToTree};
 ghost use Rattle.gg_cut.specs.Listed.{listed_of};
 ghost use Rattle.gg_cut.specs.Fault.{IsSmall, Tells, first_of, entry_faults, channel_faults, pipe_faults, clock_faults, too_many_channels, most_units};
@@ -17,7 +17,8 @@ use crate::pipes::{pipes_exist, pipes_once};
 use crate::signals::{listed_memories, listed_units};
 use gg_bits::Ids;
 use gg_cut::{CutFault, Listed, marks_of};
-use gg_flat::{Piece, Tree};
+use gg_flat::Piece;
+use gg_flat_tree::Tree;
 use gg_order::Design;
 use gg_partfile::Request;
 use std::alloc::Global;

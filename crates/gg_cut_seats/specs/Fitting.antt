@@ -4,7 +4,7 @@ use Rattle.std.specs.Prelude.{◌≡◌, ◌≢◌, ℕ, ◌<◌, List, ◌++◌
 use Rattle.gg_flat.specs.Circuit.{FlatCircuit, signal_shapes}
 use Rattle.gg_flat.specs.Line.{shape_at}
 use Rattle.gg_flat.specs.Models.{model_names}
-use Rattle.gg_flat.specs.Tree.{path_at}
+use Rattle.gg_flat_tree.specs.Tree.{path_at}
 use Rattle.gg_partfile.specs.declared.request.BridgeEntry.{BridgeEntry}
 use Rattle.gg_joined.specs.Model.{IsModel}
 use Rattle.gg_joined.specs.All.{Attached}

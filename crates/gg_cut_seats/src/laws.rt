@@ -2,7 +2,7 @@
 ghost use Rattle.std.specs.Prelude.{◌≡◌, ◌≢◌, ℕ, ◌<◌, ◌≤◌, ◌⊎◌, ◌+◌, ◌++◌, ◌-◌, List, Bool, true, not, codes, All, AllPairs, Contains, Some, None, drop, length, map, take};
 ghost use Rattle.gg_flat.specs.Circuit.{FlatCircuit};
 ghost use Rattle.gg_flat.specs.Line.{value_at};
-ghost use Rattle.gg_flat.specs.Tree.{InstanceTree, path_at};
+ghost use Rattle.gg_flat_tree.specs.Tree.{InstanceTree, path_at};
 ghost use Rattle.gg_order.specs.Design.{Ordered};
 ghost use Rattle.gg_partfile.specs.declared.request.BridgeEntry.{BridgeEntry};
 ghost use Rattle.gg_partfile.specs.declared.request.Request.{Request};

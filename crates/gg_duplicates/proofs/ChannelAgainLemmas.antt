@@ -3,7 +3,7 @@ use Rattle.std.proofs.Common.{◌≡◌, ℕ, List, sym, ◌∙◌, ap, subst, i
 use Rattle.std.specs.Prelude.{◌==◌, Contains}
 use Rattle.std.proofs.lemmas.List.Elements.{All-contains}
 use Rattle.gg_flat.specs.Line.{value_at}
-use Rattle.gg_flat.specs.Tree.{Holds, instance_at}
+use Rattle.gg_flat_tree.specs.Tree.{Holds, instance_at}
 use Rattle.gg_flat.proofs.ListLemmas.{Contains-map}
 use Rattle.gg_moved.specs.Copies.{Start}
 use Rattle.gg_moved.specs.Moved.{shifted}

@@ -6,10 +6,10 @@ use Rattle.gg_flat.specs.declared.memory.Reader.{Reader}
 use Rattle.gg_flat.specs.declared.memory.Writer.{Writer}
 use Rattle.gg_flat.specs.declared.piece.Driver.TheVariants.{Held}
 use Rattle.gg_flat.specs.Circuit.{FlatCircuit, driver_at, readers_at}
-use Rattle.gg_flat.specs.Clocked.{clock_at, top_clocks}
+use Rattle.gg_flat_tree.specs.Clocked.{clock_at, top_clocks}
 use Rattle.gg_flat.specs.Line.{value_at}
-use Rattle.gg_flat.specs.Scoped.{IsFieldOf, memory_fields, reader_fields, writer_fields, writers_at}
-use Rattle.gg_flat.specs.Tree.{InstanceTree, IsInnermost, IsTree, Holds, instance_at, memory_at}
+use Rattle.gg_flat_tree.specs.Scoped.{IsFieldOf, memory_fields, reader_fields, writer_fields, writers_at}
+use Rattle.gg_flat_tree.specs.Tree.{InstanceTree, IsInnermost, IsTree, Holds, instance_at, memory_at}
 use Rattle.gg_flat.proofs.ListLemmas.{Contains-map}
 use Rattle.gg_moved.specs.Copies.{LiesIn, Start}
 use Rattle.gg_moved.specs.Domains.{FollowsInside, inner_clocks, ports_inside}

@@ -7,8 +7,8 @@ use Rattle.std.proofs.lemmas.List.{append_cancel_left, get_or_past}
 use Rattle.std.proofs.lemmas.List.Folds.{list_any_at}
 use Rattle.gg_flat.specs.Circuit.{FlatCircuit}
 use Rattle.gg_flat.specs.Line.{value_at}
-use Rattle.gg_flat.specs.Scoped.{IsScoped}
-use Rattle.gg_flat.specs.Tree.{InstanceTree, IsTree, path_at, joined, memory_at}
+use Rattle.gg_flat_tree.specs.Scoped.{IsScoped}
+use Rattle.gg_flat_tree.specs.Tree.{InstanceTree, IsTree, path_at, joined, memory_at}
 use Rattle.gg_flat.proofs.ListLemmas.{once-apart, in-range, Contains-filter, filter-cases}
 use Rattle.gg_flat.proofs.PathLemmas.{found-path}
 use Rattle.gg_moved.specs.Copies.{Start, IsCopy, LiesIn}

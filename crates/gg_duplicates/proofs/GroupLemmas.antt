@@ -7,7 +7,7 @@ use Rattle.std.proofs.lemmas.List.Elements.{Contains-append_left, Contains-appen
 use Rattle.std.proofs.lemmas.List.Folds.{list_any_at}
 use Rattle.std.proofs.lemmas.Option.{same_Some}
 use Rattle.std.proofs.lemmas.Slice.Eq.{bytes_eq-Decides}
-use Rattle.gg_flat.specs.Tree.{InstanceTree, path_at}
+use Rattle.gg_flat_tree.specs.Tree.{InstanceTree, path_at}
 use Rattle.gg_flat.proofs.ListLemmas.{here, further, Contains-cases}
 use Rattle.gg_cut.specs.Fault.{or_else, first_clash, same_path, entries, unshared, module_of, other_in, other_module}
 use Rattle.gg_cut.specs.Hosts.{machine_of, least_machine, group_of, leader_in, leader}

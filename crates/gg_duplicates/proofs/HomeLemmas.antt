@@ -7,7 +7,7 @@ use Rattle.std.proofs.lemmas.List.Elements.{Contains-get_or}
 use Rattle.std.proofs.lemmas.Option.{same_Some}
 use Rattle.gg_flat.specs.Circuit.{FlatCircuit}
 use Rattle.gg_flat.specs.Line.{value_at}
-use Rattle.gg_flat.specs.Tree.{InstanceTree, IsTree, instance_at}
+use Rattle.gg_flat_tree.specs.Tree.{InstanceTree, IsTree, instance_at}
 use Rattle.gg_moved.specs.Copies.{LiesIn, above}
 use Rattle.gg_cut.specs.declared.listed.Listed.{Listed}
 use Rattle.gg_cut.specs.Listed.{lies, ParentsBefore}

@@ -2,7 +2,7 @@
 use Rattle.std.proofs.Common.{◌≡◌, ◌⊎◌, ℕ, ◌<◌, ◌≤◌, length}
 use Rattle.std.specs.Prelude.{Contains}
 use Rattle.gg_flat.specs.Line.{value_at}
-use Rattle.gg_flat.specs.Tree.{InstanceTree, Holds, instance_at, memory_at}
+use Rattle.gg_flat_tree.specs.Tree.{InstanceTree, Holds, instance_at, memory_at}
 use Rattle.gg_moved.specs.Copies.{Start, IsCopy, LiesIn}
 use Rattle.gg_moved.specs.KeepsToTree.{KeepsToTree}
 use Rattle.gg_moved.specs.Moved.{shifted}

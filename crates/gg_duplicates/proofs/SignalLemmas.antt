@@ -5,8 +5,8 @@ use Rattle.gg_flat.specs.declared.piece.Driver.TheVariants.{Held}
 use Rattle.gg_flat.specs.declared.piece.Register.{Register}
 use Rattle.gg_flat.specs.Circuit.{FlatCircuit, driver_at}
 use Rattle.gg_flat.specs.Line.{value_at}
-use Rattle.gg_flat.specs.Scoped.{IsInputOf}
-use Rattle.gg_flat.specs.Tree.{InstanceTree, Holds, instance_at}
+use Rattle.gg_flat_tree.specs.Scoped.{IsInputOf}
+use Rattle.gg_flat_tree.specs.Tree.{InstanceTree, Holds, instance_at}
 use Rattle.gg_flat.specs.WellFormed.{MayDrive}
 use Rattle.gg_moved.specs.Copies.{Start}
 use Rattle.gg_moved.specs.Moved.{moved_driver, moved_register, shifted, unclocked_register}

@@ -4,9 +4,9 @@ use Rattle.std.specs.Prelude.{flat_map, cond, ◌==◌, Contains}
 use Rattle.std.proofs.lemmas.List.{map-append}
 use Rattle.std.proofs.lemmas.List.Elements.{All-contains}
 use Rattle.std.proofs.lemmas.List.Kept.{AllPairs-filter}
-use Rattle.gg_flat.specs.declared.tree.InstancePort.{InstancePort}
+use Rattle.gg_flat_tree.specs.declared.tree.InstancePort.{InstancePort}
 use Rattle.gg_flat.specs.Line.{value_at}
-use Rattle.gg_flat.specs.Tree.{instance_at, memory_at}
+use Rattle.gg_flat_tree.specs.Tree.{instance_at, memory_at}
 use Rattle.gg_flat.proofs.ListLemmas.{Contains-filter, filter-cases}
 use Rattle.gg_moved.specs.Copies.{Start}
 use Rattle.gg_moved.specs.Moved.{shifted, moved_port}

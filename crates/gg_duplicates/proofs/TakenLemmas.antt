@@ -7,13 +7,13 @@ use Rattle.std.proofs.lemmas.List.{ext_get_or, append-nil}
 use Rattle.std.proofs.lemmas.List.Concat.{flat_map-append, flat_map_single}
 use Rattle.std.proofs.lemmas.List.Folds.{flat_map-map}
 use Rattle.std.proofs.lemmas.List.FromFn.{get_or-map-range_with_len, length-map-range_with_len}
-use Rattle.gg_flat.specs.declared.tree.InstancePort.{InstancePort}
+use Rattle.gg_flat_tree.specs.declared.tree.InstancePort.{InstancePort}
 use Rattle.gg_flat.specs.declared.memory.Reader.{Reader}
 use Rattle.gg_flat.specs.declared.memory.Writer.{Writer}
 use Rattle.gg_flat.specs.Line.{value_at}
 use Rattle.gg_flat.specs.Circuit.{FlatCircuit, readers_at}
-use Rattle.gg_flat.specs.Tree.{InstanceTree, IsTree, IsBelow, instance_at, memory_at, parent_place}
-use Rattle.gg_flat.specs.Scoped.{writers_at}
+use Rattle.gg_flat_tree.specs.Tree.{InstanceTree, IsTree, IsBelow, instance_at, memory_at, parent_place}
+use Rattle.gg_flat_tree.specs.Scoped.{writers_at}
 use Rattle.gg_cut.specs.declared.wires.Wire.{Wire}
 use Rattle.gg_cut.specs.declared.listed.Listed.{Listed}
 use Rattle.gg_cut.specs.Listed.{owner_of_instance}

@@ -16,7 +16,7 @@ use Rattle.gg_flat.specs.declared.line.Op.{Op}
 use Rattle.gg_flat.specs.declared.line.Op.TheVariants.{Ref, Literal, One, Two, Fix, Mux}
 use Rattle.gg_flat.specs.Line.{HasShape, HasType, IsCondition, IsSource, op_at, shape_at, shapes_of}
 use Rattle.gg_flat.specs.Reads.{Names}
-use Rattle.gg_flat.specs.Tree.{joined}
+use Rattle.gg_flat_tree.specs.Tree.{joined}
 use Rattle.gg_flat.proofs.ListLemmas.{Contains-cases}
 use Rattle.gg_flat.proofs.TypedLemmas.{pattern_of-lt}
 use Rattle.gg_names.specs.Scope.{written}

@@ -6,7 +6,7 @@ use Rattle.gg_bits.specs.Shape.{Shape, shape}
 use Rattle.gg_ast.specs.declared.expression.Reference.{Reference}
 use Rattle.gg_ast.specs.Places.{place_of}
 use Rattle.gg_ast.proofs.NamePlaces.{place_of-below}
-use Rattle.gg_flat.specs.Tree.{joined}
+use Rattle.gg_flat_tree.specs.Tree.{joined}
 use Rattle.gg_names.specs.Scope.{written}
 use Rattle.gg_flattened.specs.Meaning.{Context, named, named_if}
 use Rattle.gg_flattened.proofs.NameLemmas.{Differ, place_of-at, place_of-missing}

@@ -20,7 +20,7 @@ use Rattle.gg_flat.specs.Line.{shape_at, HasType}
 use Rattle.gg_flat.specs.WellFormed.{IsRegister}
 use Rattle.gg_formed.specs.Fitting.{FitsDriver, AreFitting}
 use Rattle.gg_elab.specs.Building.{IsSoFar, HasMemories}
-use Rattle.gg_flat.specs.Tree.{joined}
+use Rattle.gg_flat_tree.specs.Tree.{joined}
 use Rattle.gg_types.specs.Clocks.{clock_inputs}
 use Rattle.gg_flattened.specs.declared.digest.Digest.{Digest}
 use Rattle.gg_flattened.specs.declared.sites.Place.{Place}

@@ -7,9 +7,9 @@ ghost use Rattle.gg_formed.specs.Fitting.{FitsDriver, IsFitting};
 ghost use Rattle.gg_flattened.specs.Flat.{drive_of, input_drive, FlatSignal, flat_signal, signals_at, flat_signals, Gets};
 ghost use Rattle.gg_count.specs.Sites.{module_at};
 ghost use Rattle.gg_flat.specs.Circuit.{no_circuit};
-ghost use Rattle.gg_flat.specs.Clocked.{clock_at as clock_at_number};
+ghost use Rattle.gg_flat_tree.specs.Clocked.{clock_at as clock_at_number};
 ghost use Rattle.gg_flattened.specs.Clocks.{clock_of as clock_of_term, site_clocks};
-ghost use Rattle.gg_flat.specs.Tree.{joined as joined_text};
+ghost use Rattle.gg_flat_tree.specs.Tree.{joined as joined_text};
 ghost use Rattle.gg_flattened.specs.Signals.{field_name as field_text};
 ghost use Rattle.gg_flattened.specs.Views.{table_bindings, table_signals, seen, cause_of, own_of, site_of, AreDigests, IsPlaceIn};
 ghost use Rattle.gg_elab.specs.Growing.{context_of};
@@ -22,7 +22,8 @@ use crate::scope::Scope;
 use crate::site::Site;
 use gg_ast::{Expr, Reset};
 use gg_bits::{Name, Ty};
-use gg_flat::{AddError, Driver, Latency, Line, Piece, Register, Signal, clock_at};
+use gg_flat::{AddError, Driver, Latency, Line, Piece, Register, Signal};
+use gg_flat_tree::clock_at;
 use gg_flattened::{
     Digest, Origin, OwnSignal, Place, Source, Table, clock_of, dotted, field_name, joined, number,
 };

@@ -2,8 +2,8 @@
 ghost use Rattle.std.specs.Prelude.{◌≡◌, ◌<◌, ◌++◌, ◌∷◌, [], List, map, length, All, IfOk, OnOk};
 ghost use Rattle.gg_ast.specs.declared.module.Direction.TheVariants as direction;
 ghost use Rattle.gg_count.specs.Sites.{module_at};
-ghost use Rattle.gg_flat.specs.Clocked.{clock_at as clock_at_number};
-ghost use Rattle.gg_flat.specs.Tree.{joined as joined_text};
+ghost use Rattle.gg_flat_tree.specs.Clocked.{clock_at as clock_at_number};
+ghost use Rattle.gg_flat_tree.specs.Tree.{joined as joined_text};
 ghost use Rattle.gg_flattened.specs.Clocks.{port_clock as clock_of_port, site_clocks};
 ghost use Rattle.gg_flattened.specs.Views.{IsPlaceIn, site_of, AreDigests};
 ghost use Rattle.gg_elab.specs.Building.{HasMemories, memory_of};
@@ -14,7 +14,8 @@ ghost use Rattle.gg_flattened.specs.Known.{types_of};
 use crate::site::Site;
 use gg_ast::{Direction, Port};
 use gg_bits::Name;
-use gg_flat::{Memory, Paths, Piece, Reader, Readers, Writer, Writers, clock_at};
+use gg_flat::{Memory, Paths, Piece, Reader, Readers, Writer, Writers};
+use gg_flat_tree::clock_at;
 use gg_flattened::{
     Digest, OwnMemory, OwnStop, Place, Table, field_name, ground_type, joined, number, port_clock,
 };

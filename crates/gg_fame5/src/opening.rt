@@ -9,7 +9,8 @@ ghost use Rattle.gg_fame5.specs.Shared.{started_lanes};
 use crate::lane::Lane;
 use gg_bits::Ids;
 use gg_clocks::Ratios;
-use gg_flat::{Piece, State};
+use gg_flat::Piece;
+use gg_flat_run::State;
 use gg_program::{NoMemory, Program};
 use std::alloc::{AllocError, Global};
 

@@ -12,9 +12,7 @@ use Rattle.gg_flat.specs.Reads.{Reads}
 use Rattle.gg_flat.specs.WellFormed.{MayDrive, IsClock, IsRegister, IsWellFormed}
 use Rattle.gg_flat.specs.Order.{IsOrder}
 use Rattle.gg_flat.specs.Settled.{in_shapes}
-use Rattle.gg_flat.specs.Run.{IsRun, IsColumns, inputs_at}
-use Rattle.gg_flat.specs.Along.{rows_along}
-use Rattle.gg_flat.proofs.AlongLemmas.{IsRun-along}
+use Rattle.gg_flat.specs.Run.{IsColumns, inputs_at}
 use Rattle.gg_flat.proofs.WorkedCircuits.{value, counter, counter_order, toggle, toggle_order, loaded, loaded_order}
 use Rattle.gg_flat.proofs.WorkedRows.{counter_inputs, loaded_inputs}
 
@@ -94,7 +92,7 @@ same s t is = ap referred is
 
 -- ---- the toggle
 
-toggle-formed : IsWellFormed toggle
+pub toggle-formed : IsWellFormed toggle
 toggle-formed = record {
   named = refl;
   distinct = pair _ _ (differ 113 114 refl);
@@ -111,7 +109,7 @@ toggle-formed = record {
   memory_clocks = λ m d lt. absurd (omega arith);
 }
 
-toggle-ordered : IsOrder toggle toggle_order
+pub toggle-ordered : IsOrder toggle toggle_order
 toggle-ordered = record {
   signals = both _ (lit< tt) (lit< tt);
   once = pair 1 0 (apart 1 0 refl);
@@ -122,15 +120,12 @@ toggle-ordered = record {
       i lt;
 }
 
-toggle-columns : IsColumns toggle 3 []
+pub toggle-columns : IsColumns toggle 3 []
 toggle-columns = record {
   count = refl;
   height = λ k d lt. absurd (omega arith);
   inputs = λ t lt. record { count = refl; fits = λ i lt. absurd (omega arith) };
 }
-
-toggle-run : IsRun toggle [] 3 (rows_along toggle toggle_order [] 3)
-toggle-run = IsRun-along toggle toggle_order [] 3 toggle-formed toggle-ordered toggle-columns
 
 -- ---- the counter that an input sets
 
@@ -166,7 +161,7 @@ loaded-ordered = record {
   after = λ i s lt. both (λ i. Reads loaded (value_at loaded_order i) s → Contains (take i loaded_order) s) (λ r. absurd r.names) (λ r. absurd r.names) i lt;
 }
 
-loaded-columns : IsColumns loaded 6 loaded_inputs
+pub loaded-columns : IsColumns loaded 6 loaded_inputs
 loaded-columns = record {
   count = refl;
   height = λ k d lt. only (λ i. length (slice_index_or loaded_inputs i d) ≡ 6) refl k lt;
@@ -177,12 +172,9 @@ loaded-columns = record {
     bit zero lt = lit< tt
     bit (suc t) lt = five (λ i. value_at (1 ∷ 0 ∷ 0 ∷ 1 ∷ 0 ∷ []) i < 2) (lit< tt) (lit< tt) (lit< tt) (lit< tt) (lit< tt) t (omega arith)
 
-loaded-run : IsRun loaded loaded_inputs 6 (rows_along loaded loaded_order loaded_inputs 6)
-loaded-run = IsRun-along loaded loaded_order loaded_inputs 6 loaded-formed loaded-ordered loaded-columns
-
 -- ---- the counter
 
-counter-formed : IsWellFormed counter
+pub counter-formed : IsWellFormed counter
 counter-formed = record {
   named = refl;
   distinct = quad _ _ _ _ (differ 114 111 refl) (differ 114 99 refl) (differ 114 110 refl) (differ 111 99 refl) (differ 111 110 refl) (differ 99 110 refl);
@@ -210,7 +202,7 @@ counter-formed = record {
   memory_clocks = λ m d lt. absurd (omega arith);
 }
 
-counter-ordered : IsOrder counter counter_order
+pub counter-ordered : IsOrder counter counter_order
 counter-ordered = record {
   signals = four _ (lit< tt) (lit< tt) (lit< tt) (lit< tt);
   once = quad 0 2 3 1 (apart 0 2 refl) (apart 0 3 refl) (apart 0 1 refl) (apart 2 3 refl) (apart 2 1 refl) (apart 3 1 refl);
@@ -227,7 +219,7 @@ counter-ordered = record {
       i lt;
 }
 
-counter-columns : IsColumns counter 4 counter_inputs
+pub counter-columns : IsColumns counter 4 counter_inputs
 counter-columns = record {
   count = refl;
   height = λ k d lt. only (λ i. length (slice_index_or counter_inputs i d) ≡ 4) refl k lt;
@@ -237,6 +229,3 @@ counter-columns = record {
         (four (λ n. value_at (1 ∷ 0 ∷ 0 ∷ 0 ∷ []) n < 2) (lit< tt) (lit< tt) (lit< tt) (lit< tt) t lt);
   };
 }
-
-counter-run : IsRun counter counter_inputs 4 (rows_along counter counter_order counter_inputs 4)
-counter-run = IsRun-along counter counter_order counter_inputs 4 counter-formed counter-ordered counter-columns

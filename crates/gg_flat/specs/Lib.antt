@@ -6,7 +6,6 @@ pub mod Memory
 pub mod WellFormed
 pub mod Reads
 pub mod State
-pub mod Lent
 pub mod Settled
 pub mod Depends
 pub mod Run
@@ -15,9 +14,6 @@ pub mod Served
 pub mod Room
 pub mod Along
 pub mod Ports
-pub mod Tree
 pub mod Models
-pub mod Scoped
-pub mod Clocked
 pub mod ErrorText
 pub mod Streams

@@ -5,8 +5,6 @@ use Rattle.std.specs.List.{filter_map}
 use Rattle.gg_flat.specs.declared.piece.Signal.{Signal}
 use Rattle.gg_flat.specs.Circuit.{FlatCircuit}
 use Rattle.gg_flat.specs.declared.ports.Port.{Port}
-use Rattle.gg_flat.specs.Scoped.{output_signals}
-use Rattle.gg_flat.specs.Tree.{InstanceTree, instance_at}
 
 -- a port with this name and the type of this signal
 abbrev pub port_with : Option (List ℕ) → Option Signal → Option Port
@@ -29,7 +27,3 @@ in_ports circuit = ports_at circuit circuit.ins
 -- what it gives to the outside: the output ports, and the stops
 abbrev pub out_ports : FlatCircuit → List Port
 out_ports circuit = ports_at circuit circuit.outs
-
--- the top's outputs as ports, in port order
-abbrev pub output_ports : FlatCircuit → InstanceTree → List Port
-output_ports circuit tree = ports_at circuit (output_signals (instance_at tree 0).ports)

@@ -28,11 +28,11 @@ fn read(operand: &Operand, nodes: &[Node], signals: &[u128]) -> Val
 
 // The value of a line that has the value of a signal.
 #[inline(always)]
-fn lone_value(signal: u32, nodes: &[Node], signals: &[u128]) -> u128
-    requires line { IsLine (HasValue signals.now) nodes.now }
-    requires form { IsForm nodes.now (Lone signal) }
-    ensures value { result ≡ line_value signals.now nodes.now }
-    ensures fits { Fits (line_shape nodes.now) result }
+fn lone_value(signal: u32, _nodes: &[Node], signals: &[u128]) -> u128
+    requires line { IsLine (HasValue signals.now) _nodes.now }
+    requires form { IsForm _nodes.now (Lone signal) }
+    ensures value { result ≡ line_value signals.now _nodes.now }
+    ensures fits { Fits (line_shape _nodes.now) result }
 {
     signals[signal as usize]
 }

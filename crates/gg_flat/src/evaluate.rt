@@ -1,30 +1,23 @@
-//! The values of lines and drivers, computed without allocating.
+//! The values of lines, computed without allocating.
 ghost use Rattle.std.specs.Prelude.{◌≡◌, ℕ, ◌<◌, ◌≤◌, ◌^◌, length};
 ghost use Rattle.gg_bits.specs.Shape.{shape, Fits};
 ghost use Rattle.gg_flat.specs.Line.{shape_at, value_at, shapes_of, op_at, HasShape, HasValue, IsLine, IsSource, op_value, line_shape, line_value, connected_value};
 ghost use Rattle.gg_flat.specs.Form.{IsNatural};
-ghost use Rattle.gg_flat.specs.Settled.{HasSource, driver_value};
-ghost use Rattle.gg_flat.specs.Room.{line_length, register_length};
-ghost use Rattle.gg_flat.specs.WellFormed.{IsRegister};
-ghost use Rattle.gg_flat.specs.State.{next_register};
 
 use crate::by_form::form_value;
-use crate::clock::ticks;
 use crate::line::{Line, Node, Op};
-use crate::piece::{Driver, Register};
-use crate::state::State;
 use gg_bits::{Kind, Ty, Val, apply_const_to, apply1_to, apply2_to, extend, mux};
 
-// The type of a node.
-pub(crate) fn type_of(nodes: &[Node], i: usize) -> Ty
+/// The type of a node.
+pub fn type_of(nodes: &[Node], i: usize) -> Ty
     requires { i < length nodes.now }
     ensures { shape result ≡ shape_at (shapes_of nodes.now) i }
 {
     nodes[i].ty
 }
 
-// The operation of a node.
-pub(crate) fn op_of(nodes: &[Node], k: usize) -> &Op
+/// The operation of a node.
+pub fn op_of(nodes: &[Node], k: usize) -> &Op
     requires { k < length nodes.now }
     ensures { result.now ≡ op_at nodes.now k }
 {
@@ -148,75 +141,12 @@ impl Line {
         Ty::new(Kind::UInt, self.ty().width)
     }
 
-    // The type of the result.
-    pub(crate) fn ty(&self) -> Ty
+    /// The type of the result.
+    pub fn ty(&self) -> Ty
         requires { 0 < length self.now }
         ensures { shape result ≡ line_shape self.now }
     {
         let nodes = self.as_slice();
         nodes[nodes.len() - 1].ty
-    }
-}
-
-impl Driver {
-    /// The value that the driver gives to a signal of type `sink`, in this state and with these inputs, if the signals
-    /// that it names have these values. The scratch space has room for the nodes of its line.
-    pub fn value(
-        &self,
-        sink: Ty,
-        state: &State,
-        inputs: &[u128],
-        signals: &[u128],
-        scratch: &mut [u128],
-    ) -> u128
-        requires source { HasSource state.now inputs.now signals.now (shape sink) self.now }
-        requires room { line_length self.now ≤ length scratch.old }
-        ensures value { result ≡ driver_value state.now inputs.now signals.now (shape sink) self.now }
-        ensures fits { Fits (shape sink) result }
-    {
-        match self {
-            Driver::Input(place) => inputs[*place as usize],
-            Driver::Held(register) => state.registers()[*register as usize],
-            Driver::MemoryWord(memory, _, addr, en) => {
-                let (addr, en) = (signals[*addr as usize], signals[*en as usize]);
-                state.banks()[*memory as usize].word(addr, en)
-            }
-            Driver::ReadRegister(memory, reader) => {
-                state.banks()[*memory as usize].reads()[*reader as usize]
-            }
-            Driver::Computed(line) => line.connected(sink, signals, scratch),
-        }
-    }
-}
-
-impl Register {
-    /// The register's value after a tick with these edges. At an edge of its clock this is its init if its reset
-    /// condition is 1, otherwise its connected value, or its own if it has no connection. Without an edge it is its
-    /// own. The signals have these values. The scratch space has room for the nodes of its lines.
-    pub fn next_value(
-        &self,
-        own: u128,
-        edges: &[bool],
-        signals: &[u128],
-        scratch: &mut [u128],
-    ) -> u128
-        requires lines { IsRegister (HasValue signals.now) self.now }
-        requires own { Fits (shape self.now.ty) own }
-        requires room { register_length self.now ≤ length scratch.old }
-        ensures value { result ≡ next_register edges.now signals.now self.now own }
-        ensures fits { Fits (shape self.now.ty) result }
-    {
-        if !ticks(edges, self.clock) {
-            return own;
-        }
-        if let Some(reset) = &self.reset {
-            if reset.condition.value(signals, scratch) == 1 {
-                return reset.init.connected(self.ty, signals, scratch);
-            }
-        }
-        match &self.next {
-            Some(line) => line.connected(self.ty, signals, scratch),
-            None => own,
-        }
     }
 }

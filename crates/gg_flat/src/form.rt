@@ -4,60 +4,60 @@ ghost use Rattle.gg_bits.specs.Shape.{shape, uint};
 
 use gg_bits::{Kind, Op1, Op2, OpN, Ty};
 
-/// Where the value of a reference or a literal is.
+// Where the value of a reference or a literal is.
 #[derive(Clone, Copy)]
 pub(crate) enum Leaf {
-    /// The signal with this number.
+    // The signal with this number.
     Signal(u32),
-    /// The literal of the node at this place.
+    // The literal of the node at this place.
     Constant(u32),
 }
 
-/// A reference or a literal of kind `UInt`.
+// A reference or a literal of kind `UInt`.
 #[derive(Clone, Copy)]
 pub(crate) struct Operand {
-    /// How many bits it has.
+    // How many bits it has.
     pub(crate) width: u32,
-    /// Where its value is.
+    // Where its value is.
     pub(crate) leaf: Leaf,
     ghost positive: { 1 ≤ width },
     ghost bounded: { width ≤ 128 },
 }
 
-/// A reference or a literal of kind `UInt`, or bits of one.
+// A reference or a literal of kind `UInt`, or bits of one.
 #[derive(Clone, Copy)]
 pub(crate) enum Part {
-    /// All of it.
+    // All of it.
     Whole(Operand),
-    /// The bits from one down to another, with the type that they have.
+    // The bits from one down to another, with the type that they have.
     Slice(Operand, Ty, u32, u32),
 }
 
-/// Two operations, one of them on the other's result.
+// Two operations, one of them on the other's result.
 #[derive(Clone, Copy)]
 pub(crate) enum Nested {
-    /// An operation on two values, with its result's type.
+    // An operation on two values, with its result's type.
     Parts(Op2, Ty, Part, Part),
-    /// An operation with two parameters, with its result's type, on that of an operation on two values, with its type.
+    // An operation with two parameters, with its result's type, on that of an operation on two values, with its type.
     Cut(OpN, Ty, u32, u32, Op2, Ty, Operand, Operand),
 }
 
-/// What a line does. Its result and all operands are of kind `UInt`, unless it is `Long`.
+// What a line does. Its result and all operands are of kind `UInt`, unless it is `Long`.
 #[derive(Clone, Copy)]
 pub(crate) enum Form {
-    /// Anything: its nodes are worked out one after another.
+    // Anything: its nodes are worked out one after another.
     Long,
-    /// It has the value of a signal.
+    // It has the value of a signal.
     Lone(u32),
-    /// An operation on one value, with its result's type.
+    // An operation on one value, with its result's type.
     Apply1(Op1, Ty, Operand),
-    /// An operation on two values, with its result's type.
+    // An operation on two values, with its result's type.
     Apply2(Op2, Ty, Operand, Operand),
-    /// An operation on one value with two parameters, with its result's type.
+    // An operation on one value with two parameters, with its result's type.
     ApplyConst(OpN, Ty, Operand, u32, u32),
-    /// `mux`.
+    // `mux`.
     Choice(Operand, Operand, Operand),
-    /// Two operations.
+    // Two operations.
     Deep(Nested),
 }
 

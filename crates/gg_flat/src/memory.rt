@@ -1,6 +1,6 @@
 //! Memories: their words, latency and ports.
 ghost use Rattle.std.specs.Prelude.{◌≡◌, ◌≤◌};
-ghost use Rattle.gg_flat.specs.Memory.{address_width, first_width};
+ghost use Rattle.gg_flat.specs.Memory.{address_width, first_width, read_count};
 
 use gg_bits::Ty;
 use std::alloc::AllocError;
@@ -208,4 +208,16 @@ pub fn address_width(depth: u32) -> u32
         }
     }
     32
+}
+
+impl Memory {
+    /// How many read registers the memory has.
+    pub fn read_count(&self) -> usize
+        ensures { result ≡ read_count self.now.latency self.now.readers }
+    {
+        match self.latency {
+            Latency::Zero => 0,
+            Latency::One(_) => self.readers.as_slice().len(),
+        }
+    }
 }

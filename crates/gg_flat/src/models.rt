@@ -58,7 +58,7 @@ impl Models {
         self.pieces.get_index_of(name)
     }
 
-    /// The name of the model at this place.
+    /// The name of the model at this place; none past the end.
     pub fn name(&self, place: usize) -> Option<&Name>
         ensures { option_copied result ≡ slice_get (model_names self.now) place }
     {
@@ -68,7 +68,7 @@ impl Models {
         }
     }
 
-    /// The flat circuit of the model at this place.
+    /// The flat circuit of the model at this place; none past the end.
     pub fn piece(&self, place: usize) -> Option<&Piece>
         ensures { option_copied result ≡ slice_get (model_circuits self.now) place }
     {

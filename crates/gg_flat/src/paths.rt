@@ -102,7 +102,7 @@ impl Paths {
         }
     }
 
-    /// The path with this number.
+    /// The path with this number; none past the end.
     pub fn get(&self, number: u32) -> Option<&Name>
         ensures { option_copied result ≡ slice_get self.now number }
     {

@@ -271,7 +271,7 @@ impl Piece {
         self.paths.find(path)
     }
 
-    /// The path of a signal.
+    /// The path of a signal; none past the end.
     pub fn path(&self, signal: u32) -> Option<&Name>
         ensures { option_copied result ≡ slice_get self.now.paths signal }
     {

@@ -5,8 +5,18 @@ ghost use Rattle.gg_flat.specs.Circuit.{signal_shapes};
 ghost use Rattle.gg_flat.specs.Room.{line_length, register_length, HasRoom};
 
 use crate::piece::{Driver, Piece, Register, Signal};
-use crate::state::zeros;
 use std::alloc::{AllocError, Global};
+
+/// This many zeros.
+///
+/// # Errors
+///
+/// Returns `AllocError` if an allocation fails.
+pub fn zeros(alloc: Global, count: usize) -> Result<Vec<u128>, AllocError>
+    ensures { IfOk result (λ values. values.items ≡ replicate count 0) }
+{
+    vec![in alloc; 0; count]
+}
 
 impl Driver {
     /// How many nodes the driver has.

@@ -2,7 +2,7 @@
 use Rattle.std.proofs.Common.{◌≡◌, ℕ, zero, suc, ◌+◌, ◌-◌, ◌<◌, Bool, true, false, List, [], ◌∷◌, ◌++◌, Option, Some, length, length-append, get_or, map, take, filter, if◌then◌else◌, refl, sym, ap, ◌∙◌, append_assoc, arith}
 use Rattle.std.proofs.lemmas.List.{map-append, take_more}
 use Rattle.gg_ast.specs.declared.module.Port.{Port}
-use Rattle.gg_flat.specs.Clocked.{clocks_from}
+use Rattle.gg_flat_tree.specs.Clocked.{clocks_from}
 use Rattle.gg_types.specs.Clocks.{clock_inputs, is_clock_input}
 
 inputs-append : (xs ys : List Port) → clock_inputs (xs ++ ys) ≡ clock_inputs xs ++ clock_inputs ys

@@ -7,7 +7,7 @@ use Rattle.std.proofs.lemmas.Simd.{map-map}
 use Rattle.gg_bits.specs.declared.types.Ty.{Ty}
 use Rattle.gg_bits.specs.Shape.{shape}
 use Rattle.gg_ast.specs.Tree.{ModuleTree}
-use Rattle.gg_flat.specs.Tree.{joined}
+use Rattle.gg_flat_tree.specs.Tree.{joined}
 use Rattle.gg_count.specs.Sites.{Site}
 use Rattle.gg_flattened.specs.declared.digest.Digest.{Digest}
 use Rattle.gg_flattened.specs.declared.digest.OwnMemory.{OwnMemory}

@@ -8,7 +8,7 @@ use Rattle.gg_ast.specs.declared.expression.Reference.{Reference}
 use Rattle.gg_ast.specs.declared.expression.Reference.TheVariants as reference
 use Rattle.gg_ast.specs.Term.{Term, NamedTerm, ConstantTerm, UnaryTerm, BinaryTerm, FixedTerm, MuxTerm}
 use Rattle.gg_ast.specs.Tree.{ModuleTree}
-use Rattle.gg_flat.specs.Clocked.{clock_at, clocks_from}
+use Rattle.gg_flat_tree.specs.Clocked.{clock_at, clocks_from}
 use Rattle.gg_flat.specs.WellFormed.{IsClock}
 use Rattle.gg_types.specs.Clocks.{clock_followed, clock_inputs, clock_named, root_of}
 use Rattle.gg_types.proofs.InputLemmas.{clock-below}

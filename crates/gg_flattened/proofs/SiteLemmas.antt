@@ -6,8 +6,8 @@ use Rattle.gg_ast.specs.Tree.{ModuleTree}
 use Rattle.gg_count.specs.Sites.{Held, Site, site_below, sites, held_at, module_at}
 use Rattle.gg_count.proofs.CountLemmas.{held_by-below}
 use Rattle.gg_count.proofs.PassLemmas.{numbers_of}
-use Rattle.gg_flat.specs.Clocked.{clock_at}
-use Rattle.gg_flat.specs.Tree.{joined}
+use Rattle.gg_flat_tree.specs.Clocked.{clock_at}
+use Rattle.gg_flat_tree.specs.Tree.{joined}
 use Rattle.gg_flattened.specs.declared.digest.Instance.{Instance}
 use Rattle.gg_flattened.specs.declared.sites.Around.{Around}
 use Rattle.gg_flattened.specs.declared.sites.Above.{Above}

@@ -18,7 +18,7 @@ use Rattle.gg_flat.specs.declared.piece.Register.{Register}
 use Rattle.gg_flat.specs.declared.piece.Signal.{Signal}
 use Rattle.gg_flat.specs.Circuit.{FlatCircuit}
 use Rattle.gg_flat.specs.Line.{shape_at}
-use Rattle.gg_flat.specs.Tree.{joined}
+use Rattle.gg_flat_tree.specs.Tree.{joined}
 use Rattle.gg_count.specs.Sites.{sites_of}
 use Rattle.gg_names.specs.Scope.{written}
 use Rattle.gg_flattened.specs.Connection.{ConnectedTo, Zeroed}

@@ -6,7 +6,7 @@
 use Rattle.std.specs.Prelude.{ℕ, List, [], ◌∷◌, Option, None, Some, length, map, codes}
 use Rattle.gg_ast.specs.Term.{Term, NamedTerm, ConstantTerm, UnaryTerm, BinaryTerm, FixedTerm, MuxTerm}
 use Rattle.gg_ast.specs.Tree.{ModuleTree}
-use Rattle.gg_flat.specs.Clocked.{clock_at, clocks_from}
+use Rattle.gg_flat_tree.specs.Clocked.{clock_at, clocks_from}
 use Rattle.gg_types.specs.Clocks.{clock_followed, clock_inputs}
 use Rattle.gg_count.specs.Sites.{Site, Step, module_at}
 use Rattle.gg_flattened.specs.Connection.{Connection, ConnectedTo, Zeroed, connection_in}

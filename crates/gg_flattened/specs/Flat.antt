@@ -6,8 +6,8 @@ use Rattle.gg_bits.specs.Shape.{Shape}
 use Rattle.gg_ast.specs.declared.statement.Reset.{Reset}
 use Rattle.gg_ast.specs.Tree.{ModuleTree}
 use Rattle.gg_flat.specs.declared.memory.Latency.{Latency}
-use Rattle.gg_flat.specs.Clocked.{clock_at}
-use Rattle.gg_flat.specs.Tree.{joined}
+use Rattle.gg_flat_tree.specs.Clocked.{clock_at}
+use Rattle.gg_flat_tree.specs.Tree.{joined}
 use Rattle.gg_count.specs.Sites.{Site, Outer, module_at}
 use Rattle.gg_flattened.specs.Memories.{Bank}
 use Rattle.gg_flattened.specs.Clocks.{clock_of, port_clock, site_clocks}

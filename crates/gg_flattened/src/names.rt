@@ -1,6 +1,6 @@
 //! Names with dots between them.
 ghost use Rattle.std.specs.Prelude.{◌≡◌, IfOk};
-ghost use Rattle.gg_flat.specs.Tree.{joined as joined_text};
+ghost use Rattle.gg_flat_tree.specs.Tree.{joined as joined_text};
 ghost use Rattle.gg_flattened.specs.Signals.{dotted as dotted_text, field_name as field_text};
 
 use gg_bits::Name;

@@ -1,8 +1,8 @@
 //! The sites of a circuit: its top and all instances below it.
 ghost use Rattle.std.specs.Prelude.{◌≡◌, ◌+◌, ◌<◌, ◌^◌, ◌++◌, ◌∷◌, [], map, length, Some, OnOk, IfOk, IfSome, All};
 ghost use Rattle.gg_count.specs.Sites.{sites as sites_below, all_sites, module_at, top_site};
-ghost use Rattle.gg_flat.specs.Clocked.{clock_at};
-ghost use Rattle.gg_flat.specs.Tree.{joined as joined_text};
+ghost use Rattle.gg_flat_tree.specs.Clocked.{clock_at};
+ghost use Rattle.gg_flat_tree.specs.Tree.{joined as joined_text};
 ghost use Rattle.gg_flattened.specs.Clocks.{clocks_given as clocks_of_instance};
 ghost use Rattle.gg_flattened.specs.Known.{types_of};
 ghost use Rattle.gg_flattened.specs.Views.{IsAbove, IsPlaceIn, site_of, step_of, AreDigests};
@@ -11,7 +11,7 @@ use crate::clocks::{clocks_given, top_clocks};
 use crate::digest::{Digest, Instance};
 use crate::names::joined;
 use gg_bits::Name;
-use gg_flat::clocks_at;
+use gg_flat_tree::clocks_at;
 use gg_types::Typed;
 use std::alloc::{AllocError, Global};
 

@@ -1,7 +1,7 @@
 //! The signals and memories of all sites, by their paths.
 ghost use Rattle.std.specs.Prelude.{◌≡◌, ◌≢◌, ◌++◌, ◌∷◌, [], map, flat_map, length, IfOk, OnOk, All, AllPairs, Contains, ◌<◌};
 ghost use Rattle.gg_bits.specs.Shape.{shape};
-ghost use Rattle.gg_flat.specs.Tree.{joined as joined_text};
+ghost use Rattle.gg_flat_tree.specs.Tree.{joined as joined_text};
 ghost use Rattle.gg_flattened.specs.Flat.{flat_signals, flat_memories};
 ghost use Rattle.gg_flattened.specs.IsFlat.{signals_of, memory_paths, number_of};
 ghost use Rattle.gg_flattened.specs.Known.{types_of};

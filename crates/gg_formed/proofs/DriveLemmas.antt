@@ -9,7 +9,7 @@ use Rattle.gg_flat.specs.declared.memory.Latency.TheVariants.{Zero, One}
 use Rattle.gg_flat.specs.Circuit.{FlatCircuit}
 use Rattle.gg_flat.specs.declared.memory.Reader.{Reader}
 use Rattle.gg_flat.specs.declared.piece.Driver.TheVariants.{MemoryWord}
-use Rattle.gg_flat.specs.Tree.{joined}
+use Rattle.gg_flat_tree.specs.Tree.{joined}
 use Rattle.gg_flat.specs.WellFormed.{IsDataOf, MayDrive, reader_driver}
 use Rattle.gg_count.specs.Sites.{Site, Outer}
 use Rattle.gg_flattened.specs.Flat.{Drive, Outside, Gets, Holds, Answers, drive_of}

@@ -17,7 +17,7 @@ use Rattle.gg_flat.specs.declared.piece.Signal.{Signal}
 use Rattle.gg_flat.specs.Circuit.{FlatCircuit, signal_shapes, driver_at, readers_at, latency_at, reader_at}
 use Rattle.gg_flat.specs.Line.{shape_at, value_at, HasType}
 use Rattle.gg_flat.specs.Memory.{address_width}
-use Rattle.gg_flat.specs.Tree.{joined}
+use Rattle.gg_flat_tree.specs.Tree.{joined}
 use Rattle.gg_flat.specs.WellFormed.{IsDataOf, MayDrive, IsReader, IsWriter, IsMemory, reader_driver, AreDriven, IsWellFormed}
 use Rattle.gg_flat.proofs.ListLemmas.{Contains-map}
 use Rattle.gg_count.specs.Sites.{Site, top_site, module_at, all_sites, sites}

@@ -18,7 +18,7 @@ use Rattle.gg_ast.specs.Tree.{ModuleTree, CircuitTree, module_names}
 use Rattle.gg_names.specs.Along.{along, along_from}
 use Rattle.gg_names.specs.Namespace.{name_by, name_by_kind, port_names, names_in, names_after}
 use Rattle.gg_names.specs.Repetitions.{repeated_in, repeated_in_field, repeated_port, repeated_by, repeated_by_kind, repeated_declarations, repetitions}
-use Rattle.gg_flat.specs.Tree.{joined}
+use Rattle.gg_flat_tree.specs.Tree.{joined}
 use Rattle.gg_flat.proofs.ListLemmas.{Contains-map}
 use Rattle.gg_count.specs.Sites.{Held, Site, top_site, module_at, held_at, held_by_kind, sites_from, sites_of}
 use Rattle.gg_flattened.specs.Flat.{FlatMemory, flat_memory, memories_at}

@@ -8,7 +8,7 @@ use Rattle.gg_ast.specs.Names.{AreNamesOfCircuit}
 use Rattle.gg_ast.specs.Places.{place_of}
 use Rattle.gg_ast.specs.Tree.{CircuitTree, module_names}
 use Rattle.gg_names.specs.Repetitions.{repetitions}
-use Rattle.gg_flat.specs.Tree.{joined}
+use Rattle.gg_flat_tree.specs.Tree.{joined}
 use Rattle.gg_flat.proofs.ListLemmas.{here, further}
 use Rattle.gg_count.specs.Sites.{Held, Site, held_at, module_at, sites_of, top_site}
 use Rattle.gg_flattened.specs.Flat.{FlatSignal, flat_signal, signals_at}

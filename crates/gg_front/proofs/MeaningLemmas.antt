@@ -6,7 +6,7 @@ use Rattle.gg_flattened.specs.IsFlat.{IsFlat}
 use Rattle.gg_tree.specs.IsTreeOf.{IsTreeOf}
 use Rattle.gg_flat.specs.Circuit.{FlatCircuit}
 use Rattle.gg_flat.specs.Reads.{IsLoop}
-use Rattle.gg_flat.specs.Tree.{InstanceTree}
+use Rattle.gg_flat_tree.specs.Tree.{InstanceTree}
 use Rattle.gg_flat.specs.WellFormed.{IsWellFormed}
 use Rattle.gg_order.specs.Design.{Ordered}
 use Rattle.gg_read.specs.Text.{Spells, HasNoFaultLine}

@@ -3,11 +3,11 @@ use Rattle.std.proofs.Common.{◌≡◌, ℕ, ◌+◌, List, [], ◌∷◌, Opti
 use Rattle.std.specs.Prelude.{flat_map}
 use Rattle.gg_ast.specs.declared.module.Port.{Port}
 use Rattle.gg_ast.specs.Tree.{CircuitTree}
-use Rattle.gg_flat.specs.Tree.{InstanceTree}
-use Rattle.gg_flat.specs.declared.tree.Instance.{Instance}
-use Rattle.gg_flat.specs.declared.tree.InstancePort.{InstancePort}
-use Rattle.gg_flat.specs.declared.tree.MemoryInstance.{MemoryInstance}
-use Rattle.gg_flat.specs.declared.tree.StopInstance.{StopInstance}
+use Rattle.gg_flat_tree.specs.Tree.{InstanceTree}
+use Rattle.gg_flat_tree.specs.declared.tree.Instance.{Instance}
+use Rattle.gg_flat_tree.specs.declared.tree.InstancePort.{InstancePort}
+use Rattle.gg_flat_tree.specs.declared.tree.MemoryInstance.{MemoryInstance}
+use Rattle.gg_flat_tree.specs.declared.tree.StopInstance.{StopInstance}
 use Rattle.gg_count.specs.Sites.{Site, Outer, module_at, sites_of}
 use Rattle.gg_flattened.specs.Flat.{FlatMemory, memories_at, signals_at}
 use Rattle.gg_tree.specs.IsTreeOf.{IsAt, Pairwise, IsParent, IsPortFor, IsMemoryAt, IsInstanceFor, AreInstances, IsMemoryFor, HeldMemory, held_memories, IsStopFor, HeldStop, held_stops, IsTreeOf, signal_ports, site_paths}

@@ -6,7 +6,7 @@ use Rattle.gg_count.specs.declared.counts.Excess.{Excess}
 use Rattle.gg_elab.specs.ElabText.{limit_of}
 use Rattle.gg_flattened.specs.IsFlat.{IsFlat}
 use Rattle.gg_flat.specs.Circuit.{FlatCircuit}
-use Rattle.gg_flat.specs.Tree.{path_at}
+use Rattle.gg_flat_tree.specs.Tree.{path_at}
 use Rattle.gg_order.specs.Loop.{IsToldLoop}
 use Rattle.gg_read.specs.FaultText as reading
 use Rattle.gg_read.specs.Text.{Spells, HasNoFaultLine, HasReadFault}

@@ -17,7 +17,7 @@ use Rattle.gg_flat.specs.Settled.{driver_value}
 use Rattle.gg_flat.specs.WellFormed.{MayDrive}
 use Rattle.gg_flat.specs.Run.{Start, IsRunFrom, column, later, state_at, row_at, inputs_at}
 use Rattle.gg_flat.specs.State.{IsState, opening}
-use Rattle.gg_flat.proofs.AlongLemmas.{IsState-opening}
+use Rattle.gg_flat.proofs.StateLemmas.{IsState-opening}
 use Rattle.gg_bits.specs.Shape.{Shape, shape}
 use Rattle.std.proofs.lemmas.Grind.{same_number_lists}
 use Rattle.gg_part.specs.PartRun.{part_row, part_rows}

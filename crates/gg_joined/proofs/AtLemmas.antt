@@ -9,7 +9,7 @@ use Rattle.gg_flat.specs.declared.piece.Driver.TheVariants.{Input}
 use Rattle.gg_flat.specs.declared.memory.Memory.{Memory}
 use Rattle.gg_flat.specs.Line.{value_at, shape_at}
 use Rattle.gg_flat.specs.Circuit.{FlatCircuit, signal_shapes, driver_at}
-use Rattle.gg_flat.specs.Tree.{path_at}
+use Rattle.gg_flat_tree.specs.Tree.{path_at}
 use Rattle.gg_flat.proofs.ListLemmas.{some-item}
 use Rattle.gg_part.specs.Part.{renamed_register, renamed_memory}
 use Rattle.gg_joined.specs.Joined.{by_number, place_among, without, globals_behind, held_behind, memories_behind, linked_driver, linked, driver_behind, signal_behind, joined}

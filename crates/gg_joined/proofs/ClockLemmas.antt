@@ -9,7 +9,7 @@ use Rattle.gg_flat.specs.declared.memory.Memory.{Memory}
 use Rattle.gg_flat.specs.declared.piece.Register.{Register}
 use Rattle.gg_flat.specs.Circuit.{FlatCircuit}
 use Rattle.gg_flat.specs.Clock.{Ratio, edges_at, ticks}
-use Rattle.gg_flat.specs.Clocked.{clocks_from, clock_at}
+use Rattle.gg_flat_tree.specs.Clocked.{clocks_from, clock_at}
 use Rattle.gg_flat.specs.Line.{value_at}
 use Rattle.gg_flat.specs.Memory.{Bank, found_word, next_word, next_words_from, next_words, words_read, late_reads, next_reads, next_bank, next_banks}
 use Rattle.gg_flat.specs.State.{State, taken_value, next_registers, next_state}

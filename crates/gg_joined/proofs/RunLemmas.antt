@@ -15,7 +15,7 @@ use Rattle.gg_bits.specs.declared.types.Kind.TheVariants.{UInt, SInt}
 use Rattle.gg_bits.specs.declared.types.Ty.{Ty}
 use Rattle.gg_flat.specs.declared.piece.Signal.{Signal}
 use Rattle.gg_flat.specs.declared.piece.Driver.TheVariants.{Computed}
-use Rattle.gg_flat.specs.Clocked.{clocks_from}
+use Rattle.gg_flat_tree.specs.Clocked.{clocks_from}
 use Rattle.gg_flat.specs.Line.{value_at, shape_at, connected_value, HasType}
 use Rattle.gg_flat.specs.Circuit.{FlatCircuit, signal_shapes, driver_at}
 use Rattle.gg_flat.specs.Clock.{Ratio, edges_at}

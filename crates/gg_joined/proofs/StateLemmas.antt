@@ -11,7 +11,7 @@ use Rattle.gg_flat.specs.Circuit.{FlatCircuit, register_shapes}
 use Rattle.gg_flat.specs.Line.{value_at, shape_at}
 use Rattle.gg_flat.specs.Memory.{Bank, AreWords, IsBank, bank_at, opening_bank, read_count}
 use Rattle.gg_flat.specs.State.{State, IsState, opening}
-use Rattle.gg_flat.proofs.AlongLemmas.{IsState-opening}
+use Rattle.gg_flat.proofs.StateLemmas.{IsState-opening}
 use Rattle.gg_flat.proofs.ListLemmas.{some-item}
 use Rattle.gg_part.specs.Part.{renamed_register, renamed_memory}
 use Rattle.gg_part.specs.PartRun.{part_state}

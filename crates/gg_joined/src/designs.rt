@@ -7,7 +7,8 @@ ghost use Rattle.gg_joined.specs.Joined.{CanJoin, joined, HasOrder};
 
 use crate::joining::join_circuit;
 use crate::laws::{joined_formed, joined_ordered};
-use gg_flat::{Piece, no_loop};
+use gg_flat::Piece;
+use gg_flat_run::no_loop;
 use gg_order::{Design, Order, OrderFault, order};
 use std::alloc::{AllocError, Global};
 

@@ -5,7 +5,7 @@ ghost use Rattle.gg_flat.specs.declared.paths.AddError.TheVariants.{Doubled};
 ghost use Rattle.gg_flat.specs.declared.piece.Signal.{Signal};
 ghost use Rattle.gg_flat.specs.Circuit.{no_circuit};
 ghost use Rattle.gg_flat.specs.Line.{value_at};
-ghost use Rattle.gg_flat.specs.Tree.{path_at};
+ghost use Rattle.gg_flat_tree.specs.Tree.{path_at};
 ghost use Rattle.gg_part.specs.Part.{renamed_register, renamed_memory};
 ghost use Rattle.gg_flat.specs.WellFormed.{IsWellFormed};
 ghost use Rattle.gg_joined.specs.Model.{IsModel};

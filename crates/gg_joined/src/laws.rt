@@ -2,7 +2,7 @@
 ghost use Rattle.std.specs.Prelude.{◌≡◌, ℕ, ◌<◌, List, [], length};
 ghost use Rattle.std.specs.List.{range_with_len};
 ghost use Rattle.gg_flat.specs.Circuit.{FlatCircuit};
-ghost use Rattle.gg_flat.specs.Clocked.{clocks_from};
+ghost use Rattle.gg_flat_tree.specs.Clocked.{clocks_from};
 ghost use Rattle.gg_flat.specs.Line.{value_at};
 ghost use Rattle.gg_flat.specs.WellFormed.{IsWellFormed};
 ghost use Rattle.gg_flat.specs.Order.{IsOrder};

@@ -12,8 +12,8 @@ use Rattle.gg_flat.specs.declared.piece.Driver.TheVariants.{MemoryWord}
 use Rattle.gg_flat.specs.Line.{value_at}
 use Rattle.gg_flat.specs.Circuit.{FlatCircuit, driver_at, latency_at, readers_at}
 use Rattle.gg_flat.specs.Memory.{LooksAmong}
-use Rattle.gg_flat.specs.Tree.{InstanceTree, port_count}
-use Rattle.gg_flat.specs.Scoped.{writers_at}
+use Rattle.gg_flat_tree.specs.Tree.{InstanceTree, port_count}
+use Rattle.gg_flat_tree.specs.Scoped.{writers_at}
 use Rattle.gg_flat.specs.WellFormed.{AreDriven, reader_driver}
 use Rattle.gg_flat.specs.Run.{Start}
 use Rattle.gg_moved.specs.KeepsToTree.{KeepsToTree}

@@ -16,7 +16,7 @@ use Rattle.gg_flat.specs.declared.piece.Driver.TheVariants.{Input, MemoryWord, R
 use Rattle.gg_flat.specs.Line.{value_at}
 use Rattle.gg_flat.specs.Circuit.{FlatCircuit, driver_at}
 use Rattle.gg_flat.specs.Reads.{NamesSignal}
-use Rattle.gg_flat.specs.Tree.{InstanceTree}
+use Rattle.gg_flat_tree.specs.Tree.{InstanceTree}
 use Rattle.gg_flat.proofs.WorkedCircuits.{eight}
 use Rattle.gg_flat.proofs.WorkedMemories.{two, high, signal, copy, ports}
 use Rattle.gg_flat.proofs.WorkedForms.{five, same}

@@ -6,8 +6,8 @@ use Rattle.std.specs.Prelude.{◌≡◌, ℕ, ◌-◌, ◌<◌, List, [], ◌==�
 use Rattle.std.specs.List.{range_with_len}
 use Rattle.gg_flat.specs.Circuit.{FlatCircuit, latency_at, readers_at}
 use Rattle.gg_flat.specs.Line.{value_at}
-use Rattle.gg_flat.specs.Scoped.{writers_at}
-use Rattle.gg_flat.specs.Tree.{InstanceTree, memory_at, port_count}
+use Rattle.gg_flat_tree.specs.Scoped.{writers_at}
+use Rattle.gg_flat_tree.specs.Tree.{InstanceTree, memory_at, port_count}
 use Rattle.gg_order.specs.Design.{Ordered}
 use Rattle.gg_partfile.specs.declared.request.Request.{Request}
 use Rattle.gg_cut.specs.declared.listed.Listed.{Listed}

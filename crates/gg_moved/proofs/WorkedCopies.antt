@@ -11,13 +11,13 @@ use Rattle.gg_flat.specs.declared.piece.Driver.{Driver}
 use Rattle.gg_flat.specs.declared.piece.Driver.TheVariants.{Held, Computed}
 use Rattle.gg_flat.specs.declared.piece.Register.{Register}
 use Rattle.gg_flat.specs.declared.piece.Signal.{Signal}
-use Rattle.gg_flat.specs.declared.tree.Instance.{Instance}
-use Rattle.gg_flat.specs.declared.tree.InstancePort.{InstancePort}
-use Rattle.gg_flat.specs.declared.tree.StopInstance.{StopInstance}
+use Rattle.gg_flat_tree.specs.declared.tree.Instance.{Instance}
+use Rattle.gg_flat_tree.specs.declared.tree.InstancePort.{InstancePort}
+use Rattle.gg_flat_tree.specs.declared.tree.StopInstance.{StopInstance}
 use Rattle.gg_flat.specs.Circuit.{FlatCircuit, driver_at, signal_shapes}
 use Rattle.gg_flat.specs.Line.{shape_at}
-use Rattle.gg_flat.specs.Scoped.{IsInputOf}
-use Rattle.gg_flat.specs.Tree.{InstanceTree, instance_at, path_at, stop_at}
+use Rattle.gg_flat_tree.specs.Scoped.{IsInputOf}
+use Rattle.gg_flat_tree.specs.Tree.{InstanceTree, instance_at, path_at, stop_at}
 use Rattle.gg_moved.specs.Moved.{IsMoved, moved_driver, moved_register, moved_stop, shifted, unclocked_register}
 use Rattle.gg_moved.specs.Copies.{above, Start, IsCopy}
 

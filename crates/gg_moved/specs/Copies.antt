@@ -7,8 +7,8 @@ use Rattle.gg_flat.specs.declared.piece.Driver.TheVariants.{Held}
 use Rattle.gg_flat.specs.declared.piece.Register.{Register}
 use Rattle.gg_flat.specs.Circuit.{FlatCircuit, signal_shapes, driver_at}
 use Rattle.gg_flat.specs.Line.{shape_at}
-use Rattle.gg_flat.specs.Scoped.{IsInputOf}
-use Rattle.gg_flat.specs.Tree.{InstanceTree, instance_at, memory_at, path_at, stop_at, Holds as IsHeldBy}
+use Rattle.gg_flat_tree.specs.Scoped.{IsInputOf}
+use Rattle.gg_flat_tree.specs.Tree.{InstanceTree, instance_at, memory_at, path_at, stop_at, Holds as IsHeldBy}
 use Rattle.gg_moved.specs.Moved.{IsMoved, moved_driver, moved_register, moved_memory, moved_port, moved_stop, shifted, unclocked_memory, unclocked_register}
 
 -- the place of the instance so many levels above that at place k

@@ -2,9 +2,9 @@
 -- Source: FIRRTL Specification, "Clock" types, "Instances" (which clock a Clock input follows is said where the instance stands).
 -- FireSim's clock domains: a part of a target knows only its own clock ports.
 use Rattle.std.specs.Prelude.{◌≡◌, ℕ, suc, List, [], ◌∷◌, Bool, Option, None, length, map, slice_index_or, if◌then◌else◌}
-use Rattle.gg_flat.specs.declared.tree.Instance.{Instance}
-use Rattle.gg_flat.specs.Clocked.{clock_at, clocks_from, top_clocks}
-use Rattle.gg_flat.specs.Tree.{InstanceTree, IsInnermost, memory_at}
+use Rattle.gg_flat_tree.specs.declared.tree.Instance.{Instance}
+use Rattle.gg_flat_tree.specs.Clocked.{clock_at, clocks_from, top_clocks}
+use Rattle.gg_flat_tree.specs.Tree.{InstanceTree, IsInnermost, memory_at}
 
 -- an instance that no other holds, whose Clock inputs are clocks
 abbrev pub alone : Instance → Instance

@@ -1,9 +1,9 @@
 -- A flat circuit that keeps to the tree of its instances.
 -- Source: FIRRTL Specification, "Instances", "Namespaces" and "Clock" types.
 use Rattle.gg_flat.specs.Circuit.{FlatCircuit}
-use Rattle.gg_flat.specs.Clocked.{IsClocked}
-use Rattle.gg_flat.specs.Scoped.{IsScoped}
-use Rattle.gg_flat.specs.Tree.{InstanceTree, IsTree}
+use Rattle.gg_flat_tree.specs.Clocked.{IsClocked}
+use Rattle.gg_flat_tree.specs.Scoped.{IsScoped}
+use Rattle.gg_flat_tree.specs.Tree.{InstanceTree, IsTree}
 use Rattle.gg_moved.specs.Copies.{HasCopies}
 
 -- The tree is one of the circuit, the circuit keeps to its scopes and has its clocks, and instances of one module are copies of

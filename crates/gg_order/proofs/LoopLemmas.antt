@@ -10,7 +10,7 @@ use Rattle.gg_flat.specs.Line.{value_at}
 use Rattle.gg_flat.specs.Circuit.{FlatCircuit}
 use Rattle.gg_flat.specs.Reads.{Reads, ReadsInTurn, IsLoop}
 use Rattle.gg_flat.specs.Order.{IsOrder}
-use Rattle.gg_flat.specs.Tree.{path_at}
+use Rattle.gg_flat_tree.specs.Tree.{path_at}
 use Rattle.gg_walk.specs.Graph.{GoesTo, IsOrderOf, IsRing}
 use Rattle.gg_walk.proofs.RotationLemmas.{IsRing-rotate}
 use Rattle.gg_order.specs.Loop.{IsBefore, IsToldLoop}

@@ -4,7 +4,8 @@ ghost use Rattle.gg_flat.specs.WellFormed.{IsWellFormed};
 ghost use Rattle.gg_flat.specs.Order.{IsOrder};
 
 use crate::ordering::Order;
-use gg_flat::{Piece, Tree};
+use gg_flat::Piece;
+use gg_flat_tree::Tree;
 use std::marker::Model;
 
 /// A flat circuit that is well formed, with a tree of instances and an order of evaluation. A contract sees these three.
@@ -36,7 +37,7 @@ impl Model for Design {
 
 impl Design {
     /// The design of a circuit, a tree of instances and an order of the circuit. The circuit is well formed, as
-    /// `Piece::check` tells. The order has each signal once, after all signals that it reads.
+    /// gg_flat_rules `is_well_formed` tells. The order has each signal once, after all signals that it reads.
     pub fn new(piece: Piece, tree: Tree, order: Order) -> Design
         requires formed { IsWellFormed piece }
         requires ordered { IsOrder piece order }

@@ -10,7 +10,8 @@ use crate::fault::OrderFault;
 use crate::graph::Dependencies;
 use crate::loops::told;
 use gg_bits::Ids;
-use gg_flat::{Piece, no_loop};
+use gg_flat::Piece;
+use gg_flat_run::no_loop;
 use gg_walk::{WalkFault, walk};
 use std::alloc::Global;
 

@@ -18,7 +18,7 @@ use Rattle.gg_flat.specs.declared.piece.Driver.TheVariants.{Input, Held, MemoryW
 use Rattle.gg_flat.specs.Line.{value_at, shape_at, shapes_of, op_at, HasType, HasShape, IsLine, IsSource, IsCondition}
 use Rattle.gg_flat.specs.Circuit.{FlatCircuit, signal_shapes, driver_at, readers_at, latency_at, reader_at}
 use Rattle.gg_flat.specs.Reads.{Names, ResetNames, NextNames}
-use Rattle.gg_flat.specs.Tree.{path_at}
+use Rattle.gg_flat_tree.specs.Tree.{path_at}
 use Rattle.gg_flat.specs.WellFormed.{IsDataOf, MayDrive, IsReset, IsRegister, IsReader, IsWriter, IsMemory, IsClock, IsClockedMemory, IsWellFormed, reader_driver}
 use Rattle.gg_flat.proofs.ListLemmas.{some-item, once-apart}
 use Rattle.gg_part.specs.Part.{IsPart, IsFrom, renamed_op, renamed_line, renamed_next, renamed_reset, renamed_register, renamed_reader, renamed_writer, renamed_memory, NamesBelow, ReadsAmong}

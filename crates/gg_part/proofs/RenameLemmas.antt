@@ -17,7 +17,7 @@ use Rattle.gg_flat.specs.declared.piece.Register.{Register}
 use Rattle.gg_flat.specs.declared.piece.Reset.{Reset}
 use Rattle.gg_flat.specs.Line.{value_at, shapes_of, line_shape, shape_at, op_value, with_node, line_value, connected_value}
 use Rattle.gg_flat.specs.Clock.{Ratio, edge, edges_at, ticks}
-use Rattle.gg_flat.specs.Clocked.{clock_at}
+use Rattle.gg_flat_tree.specs.Clocked.{clock_at}
 use Rattle.gg_flat.specs.Reads.{ResetNames, NextNames}
 use Rattle.gg_flat.specs.Memory.{Bank, read_word, found_word, hits, next_word, next_words_from, next_words, words_read, late_reads, next_reads, next_bank, read_count, opening_bank, WritesAmong}
 use Rattle.gg_flat.specs.State.{connected_or, reset_or, next_register}

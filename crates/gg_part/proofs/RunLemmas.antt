@@ -9,7 +9,7 @@ use Rattle.gg_flat.specs.declared.piece.Register.{Register}
 use Rattle.gg_flat.specs.declared.piece.Driver.{Driver}
 use Rattle.gg_flat.specs.declared.piece.Driver.TheVariants.{Input, Held, MemoryWord, ReadRegister, Computed}
 use Rattle.gg_flat.specs.Clock.{Ratio, edges_at, ticks}
-use Rattle.gg_flat.specs.Clocked.{clock_at}
+use Rattle.gg_flat_tree.specs.Clocked.{clock_at}
 use Rattle.gg_flat.specs.Line.{value_at, shape_at, AreTyped}
 use Rattle.gg_flat.specs.Circuit.{FlatCircuit, signal_shapes, driver_at}
 use Rattle.gg_flat.specs.Memory.{Bank, read_word, bank_at, next_banks, next_bank, opening_bank}
@@ -19,7 +19,7 @@ use Rattle.gg_flat.specs.Run.{Start, later, clocked_start, IsRunFrom, IsColumns,
 use Rattle.gg_flat.proofs.AdvanceLemmas.{length-next_registers, next_registers-at}
 use Rattle.gg_flat.proofs.BankLemmas.{length-next_banks, next_banks-at}
 use Rattle.gg_flat.proofs.TypedLemmas.{shape_at-in_shapes}
-use Rattle.gg_flat.proofs.AlongLemmas.{IsState-opening}
+use Rattle.gg_flat.proofs.StateLemmas.{IsState-opening}
 use Rattle.gg_flat.proofs.ListLemmas.{some-item}
 use Rattle.gg_part.specs.Part.{IsPart, IsFrom, renamed_register, renamed_memory}
 use Rattle.gg_part.specs.PartRun.{part_row, part_rows, part_state, part_ratios, part_start, part_columns}

@@ -5,7 +5,7 @@ ghost use Rattle.gg_flat.specs.declared.piece.Driver.TheVariants.{Input, Held};
 ghost use Rattle.gg_flat.specs.Circuit.{no_circuit, driver_at};
 ghost use Rattle.gg_flat.specs.Line.{value_at};
 ghost use Rattle.gg_flat.specs.Reads.{NamesSignal};
-ghost use Rattle.gg_flat.specs.Tree.{path_at};
+ghost use Rattle.gg_flat_tree.specs.Tree.{path_at};
 ghost use Rattle.gg_flat.specs.WellFormed.{IsWellFormed};
 ghost use Rattle.gg_part.specs.Part.{IsFrom, IsPart};
 ghost use Rattle.gg_part.specs.Choice.{NamesMemory, IsChoice};

@@ -7,7 +7,8 @@ ghost use Rattle.gg_part.specs.Building.{Holds, AreHeld};
 
 use crate::numbers::Numbers;
 use crate::part::Part;
-use gg_flat::{ClockNumbers, Driver, Piece};
+use gg_flat::{Driver, Piece};
+use gg_flat_tree::ClockNumbers;
 use std::alloc::{AllocError, Global};
 
 // The numbers of what a part has, all of them those of the whole circuit: its signals, those of them that come from

@@ -2,7 +2,8 @@
 ghost use Rattle.std.specs.Prelude.{◌≡◌};
 
 use gg_bits::{Ids, Items};
-use gg_flat::{ClockNumbers, Piece};
+use gg_flat::Piece;
+use gg_flat_tree::ClockNumbers;
 
 /// A part of a flat circuit. Code that makes one has to ensure that it is one (`IsPart` in `specs/Part`), as
 /// `part_of` does.

@@ -5,7 +5,7 @@ ghost use Rattle.gg_flat.specs.declared.memory.Reader as reader_type;
 ghost use Rattle.gg_flat.specs.declared.memory.Writer as writer_type;
 ghost use Rattle.gg_flat.specs.Reads.{Names, NextNames, ResetNames, RegisterNames};
 ghost use Rattle.gg_flat.specs.Memory.{WritesAmong};
-ghost use Rattle.gg_flat.specs.Scoped.{reader_fields, writer_fields};
+ghost use Rattle.gg_flat_tree.specs.Scoped.{reader_fields, writer_fields};
 ghost use Rattle.gg_flat.specs.WellFormed.{IsClock, IsClockedMemory};
 ghost use Rattle.gg_part.specs.Clocking.{LeadsTo, PortsFollow, clocks_of_ports};
 ghost use Rattle.gg_part.specs.Part.{renamed_op, renamed_node, renamed_line, renamed_next, renamed_reset, renamed_register, renamed_reader, renamed_writer, renamed_memory, NamesBelow, RegisterBelow, ReadsAmong, MemoryBelow};

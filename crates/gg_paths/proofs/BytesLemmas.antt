@@ -6,7 +6,7 @@ use Rattle.std.specs.List.{list_all}
 use Rattle.std.proofs.lemmas.Bool.{and_parts, and_from}
 use Rattle.std.proofs.lemmas.List.Folds.{list_all-append}
 use Rattle.gg_ast.specs.Names.{IsName, begins_name, is_name_byte}
-use Rattle.gg_flat.specs.Tree.{joined}
+use Rattle.gg_flat_tree.specs.Tree.{joined}
 use Rattle.gg_flattened.specs.Signals.{stop_name}
 use Rattle.gg_paths.specs.Paths.{HasPathBytes, IsPath, IsSignalPath, is_path_byte, is_signal_byte}
 

@@ -7,7 +7,7 @@ use Rattle.gg_ast.specs.Names.{AreNamesOfCircuit, is_name_byte}
 use Rattle.gg_ast.specs.Tree.{CircuitTree}
 use Rattle.gg_read.specs.Text.{Spells}
 use Rattle.gg_flat.specs.Circuit.{FlatCircuit}
-use Rattle.gg_flat.specs.Tree.{joined, path_at}
+use Rattle.gg_flat_tree.specs.Tree.{joined, path_at}
 use Rattle.gg_flattened.proofs.AmongLemmas.{from-map, from-flat_map}
 use Rattle.gg_flattened.specs.Flat.{FlatSignal, flat_signal, signals_at, flat_signals}
 use Rattle.gg_flattened.specs.IsFlat.{IsFlat}

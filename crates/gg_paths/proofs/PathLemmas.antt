@@ -12,7 +12,7 @@ use Rattle.gg_ast.specs.Names.{IsName, IsPortNamed, AreNamesOfKind, AreNamesOfSt
 use Rattle.gg_ast.specs.Places.{place_of}
 use Rattle.gg_ast.specs.Tree.{ModuleTree, CircuitTree, module_names}
 use Rattle.gg_flat.specs.Circuit.{FlatCircuit}
-use Rattle.gg_flat.specs.Tree.{InstanceTree}
+use Rattle.gg_flat_tree.specs.Tree.{InstanceTree}
 use Rattle.gg_flat.proofs.ListLemmas.{Contains-cases, further, here}
 use Rattle.gg_count.specs.Sites.{Held, Site, module_at, held_at, site_below, sites, sites_from, sites_of, top_site}
 use Rattle.gg_flattened.specs.Flat.{FlatSignal, flat_signal, signals_at, flat_signals, FlatMemory, flat_memory, memories_at}

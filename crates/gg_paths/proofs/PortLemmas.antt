@@ -11,9 +11,9 @@ use Rattle.gg_ast.specs.Names.{IsName, AreNamesOfCircuit}
 use Rattle.gg_ast.specs.Tree.{CircuitTree}
 use Rattle.gg_flat.specs.Circuit.{FlatCircuit, readers_at}
 use Rattle.gg_flat.specs.declared.memory.Memory.{Memory}
-use Rattle.gg_flat.specs.declared.tree.MemoryInstance.{MemoryInstance}
-use Rattle.gg_flat.specs.Scoped.{IsScoped, memory_fields, reader_fields, writer_fields, writers_at}
-use Rattle.gg_flat.specs.Tree.{InstanceTree, IsTree}
+use Rattle.gg_flat_tree.specs.declared.tree.MemoryInstance.{MemoryInstance}
+use Rattle.gg_flat_tree.specs.Scoped.{IsScoped, memory_fields, reader_fields, writer_fields, writers_at}
+use Rattle.gg_flat_tree.specs.Tree.{InstanceTree, IsTree}
 use Rattle.gg_flat.proofs.ListLemmas.{some-item}
 use Rattle.gg_count.specs.Sites.{Site, sites_of}
 use Rattle.gg_flattened.specs.Flat.{FlatMemory, memories_at}

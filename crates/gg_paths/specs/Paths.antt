@@ -5,7 +5,7 @@ use Rattle.std.specs.Prelude.{◌≡◌, ◌≢◌, ℕ, ◌<◌, Bool, true, �
 use Rattle.std.specs.List.{list_all}
 use Rattle.gg_ast.specs.Names.{IsName, is_name_byte}
 use Rattle.gg_flat.specs.Circuit.{FlatCircuit}
-use Rattle.gg_flat.specs.Tree.{InstanceTree}
+use Rattle.gg_flat_tree.specs.Tree.{InstanceTree}
 
 -- a byte of a name, or a dot
 abbrev pub is_path_byte : ℕ → Bool

@@ -18,8 +18,8 @@ use Rattle.gg_flat.specs.declared.piece.Driver.{Driver}
 use Rattle.gg_flat.specs.declared.piece.Driver.TheVariants.{Input, Held, MemoryWord, ReadRegister, Computed}
 use Rattle.gg_flat.specs.Circuit.{FlatCircuit, driver_at}
 use Rattle.gg_flat.specs.Reads.{Names, NamesSignal, NextNames, ResetNames, RegisterNames}
-use Rattle.gg_flat.specs.Scoped.{memory_fields, reader_fields, writer_fields}
-use Rattle.gg_flat.specs.Tree.{path_at}
+use Rattle.gg_flat_tree.specs.Scoped.{memory_fields, reader_fields, writer_fields}
+use Rattle.gg_flat_tree.specs.Tree.{path_at}
 use Rattle.gg_flat.proofs.ListLemmas.{map-same}
 use Rattle.gg_closed.proofs.ListLemmas.{flattened-in, flat_map-is}
 use Rattle.gg_pipe.specs.Reference.{Views, op_by, line_by, next_by, reset_by, register_by, reader_by, writer_by, memory_by, driver_by}

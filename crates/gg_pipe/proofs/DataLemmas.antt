@@ -3,8 +3,8 @@ use Rattle.std.proofs.Common.{◌≡◌, ℕ, ◌<◌, length, Bool, sym, ◌∙
 use Rattle.std.specs.Prelude.{Contains}
 use Rattle.gg_flat.specs.Circuit.{FlatCircuit, readers_at, reader_at}
 use Rattle.gg_flat.specs.WellFormed.{IsWellFormed}
-use Rattle.gg_flat.specs.Tree.{InstanceTree, IsTree, memory_at}
-use Rattle.gg_flat.specs.Scoped.{IsScoped, memory_fields}
+use Rattle.gg_flat_tree.specs.Tree.{InstanceTree, IsTree, memory_at}
+use Rattle.gg_flat_tree.specs.Scoped.{IsScoped, memory_fields}
 use Rattle.gg_cut.specs.declared.listed.Listed.{Listed}
 use Rattle.gg_cut.specs.Plan.{HasMemory}
 use Rattle.gg_closed.specs.Apart.{AreApart}

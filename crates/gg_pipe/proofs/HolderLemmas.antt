@@ -8,9 +8,9 @@ use Rattle.std.proofs.lemmas.List.FromFn.{get_or-range_with_len, length-range_wi
 use Rattle.std.proofs.lemmas.List.Elements.{Contains-get_or}
 use Rattle.gg_flat.specs.declared.piece.Driver.{Driver}
 use Rattle.gg_flat.specs.declared.piece.Driver.TheVariants.{Input, Held, MemoryWord, ReadRegister, Computed}
-use Rattle.gg_flat.specs.declared.tree.MemoryInstance.{MemoryInstance}
+use Rattle.gg_flat_tree.specs.declared.tree.MemoryInstance.{MemoryInstance}
 use Rattle.gg_flat.specs.Circuit.{FlatCircuit, driver_at}
-use Rattle.gg_flat.specs.Tree.{InstanceTree, IsTree, memory_at}
+use Rattle.gg_flat_tree.specs.Tree.{InstanceTree, IsTree, memory_at}
 use Rattle.gg_flat.proofs.ListLemmas.{in-range, once-apart}
 use Rattle.gg_cut.specs.declared.listed.Listed.{Listed}
 use Rattle.gg_cut.specs.Listed.{first_place, memory_owner}

@@ -10,7 +10,7 @@ use Rattle.gg_flat.specs.declared.piece.Driver.TheVariants.{Input}
 use Rattle.gg_flat.specs.Line.{value_at}
 use Rattle.gg_flat.specs.Circuit.{FlatCircuit, driver_at}
 use Rattle.gg_flat.specs.WellFormed.{IsWellFormed}
-use Rattle.gg_flat.specs.Tree.{path_at}
+use Rattle.gg_flat_tree.specs.Tree.{path_at}
 use Rattle.gg_flat.specs.State.{IsState}
 use Rattle.gg_flat.specs.Run.{Start, column}
 use Rattle.gg_flat.proofs.ListLemmas.{map-same, once-apart, filter-cases, range-below}

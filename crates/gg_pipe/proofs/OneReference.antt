@@ -15,8 +15,8 @@ use Rattle.gg_flat.specs.Circuit.{FlatCircuit, driver_at, readers_at, reader_at,
 use Rattle.gg_flat.specs.Reads.{NamesSignal, RegisterNames}
 use Rattle.gg_flat.specs.WellFormed.{reader_driver}
 use Rattle.gg_flat.specs.Run.{clocked_start}
-use Rattle.gg_flat.specs.Tree.{InstanceTree, memory_at, path_at}
-use Rattle.gg_flat.specs.Scoped.{IsFieldOf, IsVisible, IsWritten, memory_fields}
+use Rattle.gg_flat_tree.specs.Tree.{InstanceTree, memory_at, path_at}
+use Rattle.gg_flat_tree.specs.Scoped.{IsFieldOf, IsVisible, IsWritten, memory_fields}
 use Rattle.gg_flat.proofs.ListLemmas.{map-same}
 use Rattle.gg_flat.proofs.PathLemmas.{found-path}
 use Rattle.gg_moved.specs.KeepsToTree.{KeepsToTree}

@@ -12,7 +12,7 @@ use Rattle.gg_flat.specs.Line.{value_at}
 use Rattle.gg_flat.specs.Memory.{Bank, bank_at, opening_bank, read_count}
 use Rattle.gg_flat.specs.State.{IsState, State, opening}
 use Rattle.gg_flat.specs.Run.{IsRunFrom, Start, clocked_start}
-use Rattle.gg_flat.proofs.AlongLemmas.{IsState-opening}
+use Rattle.gg_flat.proofs.StateLemmas.{IsState-opening}
 use Rattle.gg_part.specs.Part.{IsPart}
 use Rattle.gg_part.specs.PartRun.{part_ratios, part_start, part_state}
 use Rattle.gg_part.specs.declared.part.Part.{Part}

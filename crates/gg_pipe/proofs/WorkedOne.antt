@@ -4,7 +4,7 @@ use Rattle.std.specs.Prelude.{codes, length, map}
 use Rattle.gg_flat.specs.declared.line.Op.TheVariants.{Ref}
 use Rattle.gg_flat.specs.declared.piece.Driver.TheVariants.{MemoryWord, Computed}
 use Rattle.gg_flat.specs.Circuit.{driver_at}
-use Rattle.gg_flat.specs.Tree.{InstanceTree}
+use Rattle.gg_flat_tree.specs.Tree.{InstanceTree}
 use Rattle.gg_flat.proofs.WorkedCircuits.{eight, node}
 use Rattle.gg_order.specs.Design.{Ordered}
 use Rattle.gg_partfile.specs.declared.request.Request.{Request}

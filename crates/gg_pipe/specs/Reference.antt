@@ -15,7 +15,7 @@ use Rattle.gg_flat.specs.declared.piece.Driver.{Driver}
 use Rattle.gg_flat.specs.declared.piece.Driver.TheVariants.{Input, Held, MemoryWord, ReadRegister, Computed}
 use Rattle.gg_flat.specs.Line.{value_at, shape_at}
 use Rattle.gg_flat.specs.Circuit.{FlatCircuit, signal_shapes, driver_at}
-use Rattle.gg_flat.specs.Tree.{path_at}
+use Rattle.gg_flat_tree.specs.Tree.{path_at}
 
 -- ---- other names for signals
 

@@ -2,7 +2,7 @@
 ghost use Rattle.std.specs.Prelude.{◌≡◌, ◌↔◌, ◌++◌, Contains, ℕ, ◌+◌, ◌<◌, ◌≤◌, List, [], Bool, None, length, map, slice_index_or};
 ghost use Rattle.std.specs.List.{range_with_len};
 ghost use Rattle.gg_flat.specs.Circuit.{FlatCircuit};
-ghost use Rattle.gg_flat.specs.Tree.{InstanceTree};
+ghost use Rattle.gg_flat_tree.specs.Tree.{InstanceTree};
 ghost use Rattle.gg_flat.specs.WellFormed.{IsWellFormed};
 ghost use Rattle.gg_flat.specs.Order.{IsOrder};
 ghost use Rattle.gg_flat.specs.Line.{value_at};

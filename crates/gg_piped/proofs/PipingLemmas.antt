@@ -11,8 +11,8 @@ use Rattle.std.proofs.lemmas.List.Sums.{length-filter, count_by-le-length}
 use Rattle.gg_flat.specs.declared.piece.Driver.TheVariants.{Input, Held}
 use Rattle.gg_flat.specs.Circuit.{FlatCircuit, driver_at}
 use Rattle.gg_flat.specs.Line.{value_at}
-use Rattle.gg_flat.specs.declared.tree.MemoryInstance.{MemoryInstance}
-use Rattle.gg_flat.specs.Tree.{InstanceTree, memory_at, path_at}
+use Rattle.gg_flat_tree.specs.declared.tree.MemoryInstance.{MemoryInstance}
+use Rattle.gg_flat_tree.specs.Tree.{InstanceTree, memory_at, path_at}
 use Rattle.gg_flat.specs.WellFormed.{MayDrive}
 use Rattle.gg_flat.proofs.ListLemmas.{Contains-filter, Contains-map, filter-cases, in-range}
 use Rattle.gg_order.specs.Design.{Ordered, IsDesign}

@@ -4,7 +4,7 @@ ghost use Rattle.gg_flat.specs.declared.paths.AddError.TheVariants.{Doubled};
 ghost use Rattle.gg_flat.specs.declared.piece.Signal.{Signal};
 ghost use Rattle.gg_flat.specs.Circuit.{no_circuit};
 ghost use Rattle.gg_flat.specs.Line.{value_at};
-ghost use Rattle.gg_flat.specs.Tree.{path_at};
+ghost use Rattle.gg_flat_tree.specs.Tree.{path_at};
 ghost use Rattle.gg_pipe.specs.Reference.{register_by, memory_by};
 ghost use Rattle.gg_pipe.specs.Made.{by_number, seen_signal, pipe_signal, pipe_register, pipe_signals, pipe_registers, reference_of};
 ghost use Rattle.gg_piped.specs.Tables.{seen_in, kept_in, views_by};

@@ -18,8 +18,8 @@ use Rattle.gg_cut.specs.Hosts.{leader}
 use Rattle.gg_cut.specs.Machines.{machine_count}
 use Rattle.gg_cut.specs.Plan.{IsCutBody, IsCutMachine}
 use Rattle.gg_plan.specs.Made.{HasAscending, IsTimedUnit, IsMadeBody, AreMachinesTo, AreMachines}
-use Rattle.gg_plan.proofs.HostLemmas.{leader-below}
-use Rattle.gg_plan.proofs.LeaderLemmas.{leaders-first, one-host}
+use Rattle.gg_cut_bridges.proofs.HostLemmas.{leader-below}
+use Rattle.gg_cut_bridges.proofs.LeaderLemmas.{leaders-first, one-host}
 
 -- ---- pieces that are alike
 

@@ -1,17 +1,5 @@
-pub mod HostLemmas
-pub mod LeaderLemmas
 pub mod AlikeLemmas
-pub mod NameLemmas
-pub mod CapacityLemmas
-pub mod MovedUnitLemmas
-pub mod MovedPartLemmas
-pub mod RegisterLemmas
-pub mod RoutedLemmas
-pub mod FollowerLemmas
-pub mod PlaceLemmas
-pub mod MachineLemmas
 pub mod ShareLemmas
-pub mod TimedLemmas
 pub mod NeedLemmas
 pub mod FaultlessLemmas
 pub mod PlanLemmas
@@ -26,7 +14,5 @@ pub mod WorkedFork
 pub mod WorkedDirect
 pub mod WorkedPipe
 pub mod WorkedCore
-pub mod PortLemmas
-pub mod SeatLemmas
-pub mod PlacedLemmas
 pub mod WorkedBridge
+pub mod FirstLemmas

@@ -1,11 +1,14 @@
 -- A plan from its machines and channels.
-use Rattle.std.proofs.Common.{◌≡◌, ℕ, ◌+◌, ◌<◌, None, List, [], ◌∷◌, Option, length, map, get_or, refl, sym, ◌∙◌, ap, subst, arith}
+use Rattle.std.proofs.Common.{◌≡◌, ℕ, ◌<◌, length, subst, None, List, [], ◌∷◌, Option, get_or, sym, ◌∙◌, ap, arith}
+use Rattle.gg_order.specs.Design.{Ordered}
+use Rattle.gg_cut.specs.declared.plan.Plan.{Plan}
+use Rattle.gg_cut.specs.Bridges.{Models, bridge_faults}
+use Rattle.gg_cut.specs.Machines.{first_source}
+use Rattle.gg_cut.specs.Plan.{IsPlan, wire_at, channels_to, channels_from, signals_of, givens_of, IsBody, IsCutPart, IsMachine, NeedsIn}
+use Rattle.gg_cut_parts.specs.declared.draft.Draft.{Draft}
 use Rattle.std.specs.Prelude.{All, AllPairs}
-use Rattle.std.proofs.lemmas.List.{length-map}
-use Rattle.std.proofs.lemmas.List.Elements.{All-map}
 use Rattle.gg_flat.specs.Circuit.{FlatCircuit}
 use Rattle.gg_flat.specs.WellFormed.{IsWellFormed}
-use Rattle.gg_order.specs.Design.{Ordered}
 use Rattle.gg_part.specs.declared.part.Part.{Part}
 use Rattle.gg_part.specs.Part.{IsPart}
 use Rattle.gg_partfile.specs.declared.request.Request.{Request}
@@ -15,22 +18,14 @@ use Rattle.gg_cut.specs.declared.plan.Machine.{Machine}
 use Rattle.gg_cut.specs.declared.plan.Channel.{Channel}
 use Rattle.gg_cut.specs.declared.listed.Listed.{Listed}
 use Rattle.gg_cut.specs.declared.wires.Wire.{Wire}
-use Rattle.gg_cut.specs.Listed.{listed_of, instance_of}
+use Rattle.gg_cut.specs.Listed.{listed_of}
 use Rattle.gg_cut.specs.Fault.{first_of, range_fault}
-use Rattle.gg_cut.specs.Machines.{first_source, machine_count}
-use Rattle.gg_cut.specs.Channels.{wire, capacity_of}
-use Rattle.gg_cut.specs.Bridges.{Models, bridge_faults}
+use Rattle.gg_cut.specs.Channels.{capacity_of}
 use Rattle.gg_cut.specs.Direct.{Hub, is_piped, plan_hub, plan_routes}
-use Rattle.gg_cut.specs.Plan.{wire_at, channels_to, channels_from, signals_of, givens_of, IsBody, IsCutPart, IsMachine, NeedsIn}
-use Rattle.gg_cut.specs.Seated.{Bridges, machine_end, plan_bridges, plan_wires, seat_of, seated_wire}
+use Rattle.gg_cut.specs.Seated.{Bridges, plan_bridges, plan_wires}
 use Rattle.gg_cut_seats.proofs.LowLemmas.{givens-alike, low-from, low-to, signals-alike}
-use Rattle.gg_cut_seats.proofs.SeatedLemmas.{seat-known}
-use Rattle.gg_plan.proofs.SeatLemmas.{plan-are, wires-as}
-use Rattle.gg_flat.specs.Tree.{InstanceTree, path_at}
-use Rattle.gg_routes.specs.Routes.{AreRoutes}
+use Rattle.gg_flat_tree.specs.Tree.{InstanceTree, path_at}
 use Rattle.gg_plan.proofs.FaultlessLemmas.{capacity-sound}
-use Rattle.gg_flat.specs.Line.{value_at}
-use Rattle.gg_plan.specs.Seats.{wire_by}
 use Rattle.gg_plan.specs.Made.{IsCapacity, IsServed, IsServedBody, IsFit, AreTold, IsWired, AreWired, AreChannels}
 
 -- ---- machines
@@ -88,9 +83,6 @@ pub machine-fit : (design : Ordered) (request : Request) (models : Models) (list
 machine-fit design request models listed m machine same formed law is =
     machine-served design request models formed law m machine (subst (λ (l : Listed). IsMachine design request models l (plan_hub design.circuit design.tree request) m machine) same is)
 
-pub units-count : (design : Ordered) (request : Request) (listed : Listed) → listed ≡ listed_of design.tree request → length listed.units ≡ length request.units
-units-count design request listed is = ap (λ (l : Listed). length l.units) is ∙ length-map request.units (instance_of design.tree)
-
 -- ---- channels
 
 with-some : {X : Type 0} (machines : List Machine) (m : ℕ) → m < length machines → (Machine → X) → X
@@ -121,55 +113,6 @@ channels-made design request whole capacity wires machines table channels same g
           };
     }
 
--- ---- what the plan's channels have
-
-module _ (design : Ordered) (request : Request) (listed : Listed) (same : listed ≡ listed_of design.tree request) (sound : AreRoutes design listed (plan_hub design.circuit design.tree request)) where
-  abbrev own_bridges : Bridges
-  own_bridges = plan_bridges design.circuit design.tree request
-
-  abbrev routed : List Wire
-  routed = plan_routes design.circuit design.tree request
-
-  -- each channel is between machines, by the numbers that they have without bridges
-  pub routed-ends : All (λ r. (r.producer < own_bridges.first + own_bridges.ins + own_bridges.outs) × (r.consumer < own_bridges.first + own_bridges.ins + own_bridges.outs)) routed
-  routed-ends = subst (λ (l : Listed). All (λ r. (r.producer < machine_count design.circuit l) × (r.consumer < machine_count design.circuit l)) routed) same sound.ends
-
-  -- and by those that they have in the plan
-  pub seated-ends : All (λ r. (r.producer < machine_end own_bridges) × (r.consumer < machine_end own_bridges)) (plan_wires design.circuit design.tree request)
-  seated-ends = All-map (λ r. (r.producer < machine_end own_bridges) × (r.consumer < machine_end own_bridges)) (seated_wire own_bridges) routed (λ k d lt.
-      let ends = routed-ends k d lt in
-      let w = get_or routed k d in
-      (seat-known own_bridges (plan-are design request) w.producer ends.0, seat-known own_bridges (plan-are design request) w.consumer ends.1))
-
-  -- each carries a signal of the circuit
-  pub seated-known : All (λ r. r.signal < length design.circuit.signals) (plan_wires design.circuit design.tree request)
-  seated-known = All-map (λ r. r.signal < length design.circuit.signals) (seated_wire own_bridges) routed sound.known
-
-  -- each channel is given by a machine
-  pub given-below : (wires : List Wire) (machines : List Machine) → wires ≡ plan_wires design.circuit design.tree request → length machines ≡ machine_end own_bridges → (c : ℕ) → c < length wires → (wire_at wires c).producer < length machines
-  given-below wires machines all total c lt =
-      let ends = subst (λ (l : List Wire). All (λ r. (r.producer < machine_end own_bridges) × (r.consumer < machine_end own_bridges)) l) (sym all) seated-ends in
-      let below = (ends c (wire 0 0 0) lt).0 in
-      omega (arith, below, total)
-
-  pub known-below : (wires : List Wire) (whole : FlatCircuit) → wires ≡ plan_wires design.circuit design.tree request → whole ≡ design.circuit → (c : ℕ) → c < length wires → (wire_at wires c).signal < length whole.signals
-  known-below wires whole all is c lt =
-      let known = subst (λ (l : List Wire). All (λ r. r.signal < length design.circuit.signals) l) (sym all) seated-known in
-      let below = known c (wire 0 0 0) lt in
-      let count = ap (λ (circuit : FlatCircuit). length circuit.signals) is in
-      omega (arith, below, count)
-
-  -- the channels at the numbers of a table are the plan's
-  module _ (numbers : List ℕ) (count : length numbers ≡ own_bridges.first + own_bridges.ins + own_bridges.outs) where
-    pub ends-within : (given : List ℕ) (wires : List Wire) → given ≡ numbers → wires ≡ routed → All (λ w. (w.producer < length given) × (w.consumer < length given)) wires
-    ends-within given wires same all = subst (λ (l : List ℕ). All (λ w. (w.producer < length l) × (w.consumer < length l)) wires) (sym same)
-        (subst (λ (l : List Wire). All (λ w. (w.producer < length numbers) × (w.consumer < length numbers)) l) (sym all)
-        (λ k d lt. let ends = routed-ends k d lt in let a = ends.0 in let b = ends.1 in (omega (arith, a, count), omega (arith, b, count))))
-
-    pub wires-planned : (given : List ℕ) (wires made : List Wire) → given ≡ numbers → wires ≡ routed → ((m : ℕ) → m < length numbers → value_at numbers m ≡ seat_of own_bridges m) → made ≡ map (wire_by given) wires → made ≡ plan_wires design.circuit design.tree request
-    wires-planned given wires made same all each is =
-        is ∙ ap (λ (l : List Wire). map (wire_by given) l) all ∙ ap (λ (l : List ℕ). map (wire_by l) routed) same ∙ wires-as own_bridges numbers routed each (ends-within numbers routed refl refl)
-
 -- each channel's capacity is one that a channel may have
 pub bounds-sound : (design : Ordered) (request : Request) (default : ℕ) (wires : List Wire) (machines : List Machine) (channels : List Channel) → IsCapacity default → range_fault request.capacity ≡ None → AreChannels design (capacity_of request.capacity default) (is_piped design.circuit request) wires machines channels → All (λ channel. IsCapacity channel.capacity) channels
 bounds-sound design request default wires machines channels own none are = λ c any lt.
@@ -182,3 +125,14 @@ pub bridges-at : (design : Ordered) (models : Models) (request : Request) (circu
     → first_of (bridge_faults circuit (length tree.stops) models request.bridges) ≡ first_of (bridge_faults design.circuit (length design.tree.stops) models request.bridges)
 bridges-at design models request circuit tree f t =
     ap (λ (k : FlatCircuit). first_of (bridge_faults k (length tree.stops) models request.bridges)) f ∙ ap (λ (k : InstanceTree). first_of (bridge_faults design.circuit (length k.stops) models request.bridges)) t
+
+-- ---- drafts
+
+-- the plan of a draft of this is a plan of it
+pub plan-same : (draft : Draft) (design : Ordered) (request : Request) (models : Models) (capacity : ℕ) (plan : Plan) → draft.design.now ≡ design → draft.request.now ≡ request → draft.models.now ≡ models → draft.default_capacity ≡ capacity
+    → IsPlan draft.design.now draft.request.now draft.models.now draft.default_capacity plan → IsPlan design request models capacity plan
+plan-same draft design request models capacity plan d r m k is =
+    subst (λ (x : Ordered). IsPlan x request models capacity plan) d
+    (subst (λ (x : Request). IsPlan draft.design.now x models capacity plan) r
+    (subst (λ (x : Models). IsPlan draft.design.now draft.request.now x capacity plan) m
+    (subst (λ (x : ℕ). IsPlan draft.design.now draft.request.now draft.models.now x plan) k is)))

@@ -9,7 +9,7 @@ use Rattle.gg_bits.specs.declared.ops.Op1.TheVariants.{Not}
 use Rattle.gg_flat.specs.declared.line.Op.TheVariants.{Ref, One}
 use Rattle.gg_flat.specs.declared.piece.Driver.TheVariants.{Input, Computed}
 use Rattle.gg_flat.specs.Circuit.{FlatCircuit}
-use Rattle.gg_flat.specs.Tree.{InstanceTree}
+use Rattle.gg_flat_tree.specs.Tree.{InstanceTree}
 use Rattle.gg_flat.proofs.WorkedCircuits.{eight, node}
 use Rattle.gg_flat.proofs.WorkedMemories.{signal, copy}
 use Rattle.gg_order.specs.Design.{Ordered}

@@ -11,9 +11,9 @@ use Rattle.gg_flat.specs.declared.memory.Latency.TheVariants.{Zero}
 use Rattle.gg_flat.specs.declared.piece.Driver.TheVariants.{Input, MemoryWord, Computed}
 use Rattle.gg_flat.specs.Circuit.{FlatCircuit, driver_at, reader_at, readers_at}
 use Rattle.gg_flat.specs.Memory.{WritesAmong}
-use Rattle.gg_flat.specs.Scoped.{writers_at}
+use Rattle.gg_flat_tree.specs.Scoped.{writers_at}
 use Rattle.gg_flat.specs.WellFormed.{IsClock}
-use Rattle.gg_flat.specs.Tree.{InstanceTree, memory_at}
+use Rattle.gg_flat_tree.specs.Tree.{InstanceTree, memory_at}
 use Rattle.gg_flat.proofs.WorkedCircuits.{one, eight, node, value}
 use Rattle.gg_flat.proofs.WorkedMemories.{two, high, signal, copy, ports, ports_order}
 use Rattle.gg_flat.proofs.WorkedForms.{only, both}

@@ -1,3 +1,2 @@
+pub mod Drafted
 pub mod Made
-pub mod MovedPart
-pub mod Seats

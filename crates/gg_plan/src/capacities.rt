@@ -1,19 +1,19 @@
 //! The capacities of channels, by their signals.
 ghost use Rattle.std.specs.Prelude.{◌≡◌, ℕ, ◌<◌, ◌^◌, length, All, IfOk};
 ghost use Rattle.gg_flat.specs.Line.{value_at};
-ghost use Rattle.gg_flat.specs.Tree.{path_at};
+ghost use Rattle.gg_flat_tree.specs.Tree.{path_at};
 ghost use Rattle.gg_cut.specs.Channels.{capacity_of};
 
-use crate::lists::{filled, set_named};
 use gg_bits::Name;
+use gg_cut_parts::{filled, set_named};
 use gg_flat::Piece;
 use std::alloc::{AllocError, Global};
 
-/// The capacity of a channel of each signal: the one that the request gives for its path, else the default.
-///
-/// # Errors
-///
-/// Returns `AllocError` if an allocation fails.
+// The capacity of a channel of each signal: the one that the request gives for its path, else the default.
+//
+// # Errors
+//
+// Returns `AllocError` if an allocation fails.
 pub(crate) fn capacity_table(
     alloc: Global,
     piece: &Piece,

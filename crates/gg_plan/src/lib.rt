@@ -8,33 +8,18 @@
 //!   `specs/Direct`;
 //! - `deps` returns the channels that a channel of a plan needs. It allocates nothing.
 //!
-//! A unit that isn't the first machine of its host gets the part of the first one, with its own numbers and paths
-//! (`moved`): so units of one host run one program. By a law of gg_duplicates that is the part that the plan asks for: inside of both
-//! units registers and ports follow the same Clock inputs (gg_cut_clocks).
+//! `draft_of` (`judged`) judges the request and makes gg_cut_parts' `Draft`. The machines are made of it as if there were no bridges
+//! (`machines`); gg_cut_bridges puts the bridges among them.
 //!
-//! The machines are made as if there were no bridges. Then those of the ports that a bridge has are left out, and a machine for each bridge
-//! is added behind all others (`seated`), by tables of the numbers that gg_cut's `specs/Seated` gives to all (`seats`).
-//!
-//! The time that `cut` takes is that of gg_split, gg_routes, gg_part and gg_needs, and otherwise linear, with one exception:
-//! to find the hosts it compares each entry of `share` with the units, of which there are at most 256.
+//! The time that `cut` takes is that of gg_split, gg_routes, gg_part, gg_needs and gg_cut_bridges, and otherwise linear.
 #![tactic(auto)]
 
-mod bridges;
 mod build;
 mod capacities;
 mod channels;
-mod hosts;
-mod lists;
+mod judged;
 mod machines;
-mod moved;
-mod moved_piece;
-mod names;
 mod needs;
-mod parts;
-mod places;
-mod ports;
-mod seated;
-mod seats;
 mod shares;
 
 pub use build::{cut, deps};

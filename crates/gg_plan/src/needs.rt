@@ -12,11 +12,11 @@ use gg_part::Part;
 use std::alloc::{AllocError, Global};
 use std::mem::replace;
 
-/// The needs of each channel, by the channel's number.
-///
-/// # Errors
-///
-/// Returns `AllocError` if an allocation fails.
+// The needs of each channel, by the channel's number.
+//
+// # Errors
+//
+// Returns `AllocError` if an allocation fails.
 pub(crate) fn needs_table(
     alloc: Global,
     wires: &[Wire],
@@ -71,23 +71,22 @@ fn tell_machine(
 // Writes the needs of the channels that a machine with a part gives into the table.
 fn tell_part(
     alloc: Global,
-    wires: &[Wire],
+    _wires: &[Wire],
     part: &Part,
     ins: &[u32],
     outs: &[u32],
-    number: usize,
+    _number: usize,
     table: &mut Vec<Ids>,
 ) -> Result<(), AllocError>
-    requires served { IsServed wires.now part.now ins.now outs.now }
-    requires ins { ins.now ≡ channels_to wires.now number }
-    requires outs { outs.now ≡ channels_from wires.now number }
-    requires count { length table.old.items ≡ length wires.now }
+    requires served { IsServed _wires.now part.now ins.now outs.now }
+    requires ins { ins.now ≡ channels_to _wires.now _number }
+    requires outs { outs.now ≡ channels_from _wires.now _number }
+    requires count { length table.old.items ≡ length _wires.now }
     ensures count { OnOk result (length table.new.items ≡ length table.old.items) }
-    ensures told { OnOk result ((c : ℕ) → c < length wires.now → (wire_at wires.now c).producer ≡ number → ArePartNeeds part.now ins.now (wire_at wires.now c).given (slice_index_or table.new.items c [])) }
-    ensures others { OnOk result ((c : ℕ) → c < length wires.now → (wire_at wires.now c).producer ≢ number → slice_index_or table.new.items c [] ≡ slice_index_or table.old.items c []) }
+    ensures told { OnOk result ((c : ℕ) → c < length _wires.now → (wire_at _wires.now c).producer ≡ _number
+        → ArePartNeeds part.now ins.now (wire_at _wires.now c).given (slice_index_or table.new.items c [])) }
+    ensures others { OnOk result ((c : ℕ) → c < length _wires.now → (wire_at _wires.now c).producer ≢ _number → slice_index_or table.new.items c [] ≡ slice_index_or table.old.items c []) }
 {
-    let _ = wires;
-    let _ = number;
     let mut lists = needs_of(alloc, &part.piece)?;
     put_all(alloc, &mut lists, ins, outs, table);
     Ok(())
@@ -108,7 +107,7 @@ fn put_all(alloc: Global, lists: &mut Vec<Ids>, ins: &[u32], outs: &[u32], table
     }
 }
 
-/// Takes the list at a place, and leaves an empty one there.
+// Takes the list at a place, and leaves an empty one there.
 pub(crate) fn take_list(alloc: Global, lists: &mut Vec<Ids>, place: usize) -> Ids
     requires { place < length lists.old.items }
     ensures list { result ≡ slice_index_or lists.old.items place [] }

@@ -1,56 +1,33 @@
 //! What the machines of a plan have, by the routed channels.
-ghost use Rattle.std.specs.Prelude.{◌≡◌, ◌==◌, ℕ, ◌<◌, if◌then◌else◌, None, [], length, slice_index_or, IfOk};
-ghost use Rattle.gg_moved.specs.KeepsToTree.{KeepsToTree};
-ghost use Rattle.gg_order.specs.Marks.{is_marked};
-ghost use Rattle.gg_cut.specs.Direct.{plan_hub, plan_routes, is_gone};
-ghost use Rattle.gg_cut.specs.Listed.{listed_of};
-ghost use Rattle.gg_cut.specs.Fault.{first_fault};
-ghost use Rattle.gg_split.specs.IsShare.{AreShares};
-ghost use Rattle.gg_routes.specs.Routes.{AreRoutes};
+ghost use Rattle.std.specs.Prelude.{◌≡◌, ◌==◌, ◌<◌, if◌then◌else◌, length, IfOk};
+ghost use Rattle.gg_cut_parts.specs.Draft.{draft_hub, IsDraft};
 ghost use Rattle.gg_plan.specs.Made.{ArePlanShares, IsRoutedShare};
 
-use crate::parts::copied;
-use gg_cut::Listed;
-use gg_order::Design;
-use gg_partfile::Request;
-use gg_routes::{Channels, staying};
-use gg_split::{Share, Sides, Split, sides_of};
+use gg_cut_parts::{Draft, copied};
+use gg_routes::staying;
+use gg_split::{Share, Sides, sides_of};
 use std::alloc::{AllocError, Global};
 
-/// What each machine has by the routed channels, from what it had before.
-///
-/// # Errors
-///
-/// Returns `AllocError` if an allocation fails.
-pub(crate) fn plan_shares(
-    alloc: Global,
-    design: &Design,
-    request: &Request,
-    listed: &Listed,
-    split: &Split,
-    routed: &Channels,
-) -> Result<Vec<Share>, AllocError>
-    requires keeps { KeepsToTree design.now.circuit design.now.tree }
-    requires listed { listed.now ≡ listed_of design.now.tree request.now }
-    requires faultless { first_fault design.now request.now ≡ None }
-    requires shares { AreShares design.now listed.now split.now.shares }
-    requires wires { routed.now.wires ≡ plan_routes design.now.circuit design.now.tree request.now }
-    requires gone { (s : ℕ) → s < length design.now.circuit.signals → is_marked routed.now.gone s ≡ is_gone (plan_hub design.now.circuit design.now.tree request.now) s }
-    requires sound { AreRoutes design.now listed.now (plan_hub design.now.circuit design.now.tree request.now) }
-    ensures { IfOk result (λ shares. ArePlanShares design.now listed.now (plan_hub design.now.circuit design.now.tree request.now) shares.items) }
+// What each machine of a draft has by the routed channels, from what it had before.
+//
+// # Errors
+//
+// Returns `AllocError` if an allocation fails.
+pub(crate) fn plan_shares(alloc: Global, draft: &Draft) -> Result<Vec<Share>, AllocError>
+    requires { IsDraft draft.now }
+    ensures { IfOk result (λ shares. ArePlanShares draft.now.design.now draft.now.listed (draft_hub draft.now) shares.items) }
 {
-    let _ = listed;
-    let _ = request;
-    let _ = design.order();
-    let wires = routed.wires.as_slice();
-    let before = split.shares.as_slice();
+    // for the invariant alone
+    let _ = draft.design.order();
+    let wires = draft.wires();
+    let before = draft.split.shares.as_slice();
     let sides = sides_of(alloc, wires, before.len())?;
     let first = &before[0];
     let hub = staying(
         alloc,
         wires,
-        routed.gone.as_slice(),
-        design.piece().signal_count(),
+        draft.routed.gone.as_slice(),
+        draft.design.piece().signal_count(),
         first.globals.as_slice(),
     )?;
     let mut shares = Vec::new(alloc);

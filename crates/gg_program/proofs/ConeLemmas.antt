@@ -11,8 +11,8 @@ use Rattle.gg_flat.specs.WellFormed.{IsWellFormed, MayDrive}
 use Rattle.gg_flat.specs.State.{State, IsState}
 use Rattle.gg_flat.specs.Settled.{Settled, driver_value}
 use Rattle.gg_flat.specs.Along.{settled_along}
-use Rattle.gg_flat.proofs.AgreeLemmas.{driver_value-agree}
-use Rattle.gg_flat.proofs.AlongLemmas.{Settled-along}
+use Rattle.gg_flat_run.proofs.AgreeLemmas.{driver_value-agree}
+use Rattle.gg_flat_run.proofs.AlongLemmas.{Settled-along}
 use Rattle.gg_part.specs.InOrder.{IsInOrder}
 use Rattle.gg_part.proofs.AlongLemmas.{IsOrder-numbers}
 use Rattle.gg_needs.proofs.ReachLemmas.{Reaches-itself, Reaches-on, Reaches-within}

@@ -15,7 +15,8 @@ ghost use Rattle.gg_program.specs.Search.{StandBehind};
 ghost use Rattle.gg_program.specs.Unset.{unset_among};
 
 use crate::steps::Steps;
-use gg_flat::{Piece, Signal, State};
+use gg_flat::{Piece, Signal};
+use gg_flat_run::{State, driver_value};
 use std::sync::ledger::Ledger;
 
 // Evaluates these signals, each after all signals that it reads. Each evaluation is a step.
@@ -106,5 +107,5 @@ fn driven(signal: &Signal, state: &State, values: &[u128], room: &mut [u128]) ->
     ensures value { result ≡ driver_value state.now [] values.now (shape signal.now.ty) signal.now.driver }
     ensures fits { Fits (shape signal.now.ty) result }
 {
-    signal.driver.value(signal.ty, state, &[], values, room)
+    driver_value(&signal.driver, signal.ty, state, &[], values, room)
 }

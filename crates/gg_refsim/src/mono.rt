@@ -10,7 +10,8 @@ ghost use Rattle.gg_flat.specs.WellFormed.{IsWellFormed};
 ghost use Rattle.gg_refsim.specs.Cycle.{Cycle, begun};
 
 use gg_clocks::{Ratio, Timing};
-use gg_flat::{Piece, State};
+use gg_flat::Piece;
+use gg_flat_run::State;
 use gg_order::Design;
 use std::alloc::{AllocError, Global};
 use std::error::Error;
@@ -137,9 +138,9 @@ impl<'a> Mono<'a> {
             → (printed ≡ outs.new) × (after ≡ self.new.state) }
     {
         let piece = self.design.piece();
-        piece.settle(
+        self.state.settle(
+            piece,
             self.design.order(),
-            &self.state,
             inputs,
             &mut self.signals,
             &mut self.scratch,

@@ -3,8 +3,8 @@ use Rattle.std.proofs.Common.{◌≢◌, ℕ, ◌<◌, List, Bool, get_or, sym, 
 use Rattle.std.specs.Prelude.{◌↔◌, Contains, All, AllPairs}
 use Rattle.std.proofs.lemmas.List.Elements.{All-contains, Contains-get_or}
 use Rattle.gg_flat.specs.Circuit.{FlatCircuit}
-use Rattle.gg_flat.specs.Tree.{InstanceTree, IsTree}
-use Rattle.gg_flat.specs.Scoped.{IsScoped}
+use Rattle.gg_flat_tree.specs.Tree.{InstanceTree, IsTree}
+use Rattle.gg_flat_tree.specs.Scoped.{IsScoped}
 use Rattle.gg_flat.specs.WellFormed.{IsWellFormed}
 use Rattle.gg_order.specs.Design.{Ordered, IsDesign}
 use Rattle.gg_part.specs.Choice.{IsChoice}

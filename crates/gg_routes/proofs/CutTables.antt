@@ -6,8 +6,8 @@ use Rattle.std.proofs.lemmas.Bool.{and_from, eqb-true}
 use Rattle.std.proofs.lemmas.List.{get_or_default}
 use Rattle.std.proofs.lemmas.List.Elements.{All-contains, Contains-get_or, Contains-append_right, Contains-append_cases}
 use Rattle.gg_flat.specs.Circuit.{FlatCircuit, driver_at}
-use Rattle.gg_flat.specs.Tree.{InstanceTree, memory_at, instance_at}
-use Rattle.gg_flat.specs.Scoped.{memory_fields, stop_signals, output_signals}
+use Rattle.gg_flat_tree.specs.Tree.{InstanceTree, memory_at, instance_at}
+use Rattle.gg_flat_tree.specs.Scoped.{memory_fields, stop_signals, output_signals}
 use Rattle.gg_flat.proofs.ListLemmas.{filter-cases, range-below}
 use Rattle.gg_order.specs.Marks.{is_marked}
 use Rattle.gg_cut.specs.declared.listed.Listed.{Listed}

@@ -4,7 +4,7 @@ use Rattle.std.specs.Prelude.{Contains, All, IfSome, flat_map}
 use Rattle.std.specs.Option.{option_to_list}
 use Rattle.std.proofs.lemmas.List.Elements.{Contains-get_or, Contains-append_cases}
 use Rattle.gg_flat.specs.Circuit.{FlatCircuit, driver_at}
-use Rattle.gg_flat.specs.Scoped.{memory_fields}
+use Rattle.gg_flat_tree.specs.Scoped.{memory_fields}
 use Rattle.gg_cut.specs.Direct.{driver_names}
 use Rattle.gg_routes.specs.Tables.{entry_at, AreKnown}
 use Rattle.gg_routes.proofs.ListTables.{flat-out, some-is}

@@ -3,8 +3,8 @@ use Rattle.std.proofs.Common.{◌≡◌, ◌≢◌, ℕ, suc, ◌+◌, ◌<◌, 
 use Rattle.std.specs.Prelude.{if◌then◌else◌, Contains}
 use Rattle.gg_flat.specs.Line.{value_at}
 use Rattle.gg_flat.specs.Circuit.{FlatCircuit, readers_at}
-use Rattle.gg_flat.specs.Tree.{InstanceTree, instance_at, memory_at, parent_place}
-use Rattle.gg_flat.specs.Scoped.{memory_fields}
+use Rattle.gg_flat_tree.specs.Tree.{InstanceTree, instance_at, memory_at, parent_place}
+use Rattle.gg_flat_tree.specs.Scoped.{memory_fields}
 use Rattle.gg_cut.specs.declared.wires.Wire.{Wire}
 use Rattle.gg_cut.specs.declared.listed.Listed.{Listed}
 use Rattle.gg_cut.specs.Listed.{owner_of}

@@ -3,8 +3,8 @@
 use Rattle.std.specs.Prelude.{◌≡◌, ◌≢◌, ◌↔◌, ◌⊎◌, ℕ, ◌<◌, List, Bool, length, Contains, All, AllPairs}
 use Rattle.gg_flat.specs.Circuit.{FlatCircuit}
 use Rattle.gg_flat.specs.WellFormed.{IsWellFormed}
-use Rattle.gg_flat.specs.Tree.{InstanceTree, IsTree}
-use Rattle.gg_flat.specs.Scoped.{IsScoped}
+use Rattle.gg_flat_tree.specs.Tree.{InstanceTree, IsTree}
+use Rattle.gg_flat_tree.specs.Scoped.{IsScoped}
 use Rattle.gg_flat.specs.Order.{IsOrder}
 use Rattle.gg_part.specs.Choice.{IsChoice}
 use Rattle.gg_cut.specs.declared.listed.Listed.{Listed}

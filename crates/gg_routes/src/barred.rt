@@ -1,7 +1,7 @@
 //! Marks on the signals that are no origins: those whose channels are piped, and the inputs that a bridge drives.
 ghost use Rattle.std.specs.Prelude.{◌≡◌, ℕ, ◌<◌, ◌||◌, ◌&&◌, length, bytes_eq, IfOk};
 ghost use Rattle.gg_flat.specs.Circuit.{driver_at};
-ghost use Rattle.gg_flat.specs.Tree.{path_at};
+ghost use Rattle.gg_flat_tree.specs.Tree.{path_at};
 ghost use Rattle.gg_order.specs.Marks.{is_marked};
 ghost use Rattle.gg_cut.specs.Direct.{is_input, is_piped, is_driven};
 ghost use Rattle.gg_cut.specs.Listed.{is_among};

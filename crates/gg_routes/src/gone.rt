@@ -2,7 +2,7 @@
 ghost use Rattle.std.specs.Prelude.{◌≡◌, ℕ, ◌<◌, length, map, filter, flat_map, All, Contains, IfOk};
 ghost use Rattle.std.specs.Option.{option_to_list};
 ghost use Rattle.gg_flat.specs.Circuit.{driver_at};
-ghost use Rattle.gg_flat.specs.Scoped.{memory_fields};
+ghost use Rattle.gg_flat_tree.specs.Scoped.{memory_fields};
 ghost use Rattle.gg_flat.specs.WellFormed.{IsWellFormed};
 ghost use Rattle.gg_cut.specs.Direct.{driver_names};
 ghost use Rattle.gg_routes.specs.Tables.{side_at, entry_at, AreKnown, is_kept, is_left, AreGone};

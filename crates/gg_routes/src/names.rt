@@ -1,11 +1,12 @@
 //! What drivers, registers and memories name.
 ghost use Rattle.std.specs.Prelude.{◌≡◌, ◌<◌, ◌++◌, [], ◌∷◌, Some, slice_get, length, flat_map, All, OnOk, IfOk};
 ghost use Rattle.gg_flat.specs.Circuit.{driver_at};
-ghost use Rattle.gg_flat.specs.Scoped.{reader_fields, writer_fields, memory_fields, stop_signals};
+ghost use Rattle.gg_flat_tree.specs.Scoped.{reader_fields, writer_fields, memory_fields, stop_signals};
 ghost use Rattle.gg_flat.specs.WellFormed.{IsWellFormed, MayDrive};
 ghost use Rattle.gg_cut.specs.Direct.{op_names, line_names, next_names, reset_names, register_names, driver_names};
 
-use gg_flat::{Driver, Line, Node, Op, Piece, Reader, Register, Reset, Tree, Writer};
+use gg_flat::{Driver, Line, Node, Op, Piece, Reader, Register, Reset, Writer};
+use gg_flat_tree::Tree;
 use std::alloc::{AllocError, Global};
 
 // What is named by the drivers of these signals, by the registers that they hold, and by these memories.

@@ -1,7 +1,7 @@
 -- The machines of a plan have all memories of the circuit.
 use Rattle.std.proofs.Common.{◌≡◌, ℕ, ◌<◌, ◌==◌, length, refl, arith}
 use Rattle.std.specs.Prelude.{Contains, Option, None, Some}
-use Rattle.gg_flat.specs.Tree.{InstanceTree, memory_at}
+use Rattle.gg_flat_tree.specs.Tree.{InstanceTree, memory_at}
 use Rattle.gg_order.specs.Design.{Ordered}
 use Rattle.gg_partfile.specs.declared.request.Request.{Request}
 use Rattle.gg_moved.specs.KeepsToTree.{KeepsToTree}

@@ -6,7 +6,7 @@ use Rattle.std.proofs.lemmas.List.Elements.{All-append, All-cons, All-head, All-
 use Rattle.gg_flat.specs.declared.piece.Driver.{Driver}
 use Rattle.gg_flat.specs.declared.piece.Driver.TheVariants.{Input, Held, MemoryWord, ReadRegister, Computed}
 use Rattle.gg_flat.specs.Circuit.{FlatCircuit, driver_at}
-use Rattle.gg_flat.specs.Tree.{InstanceTree, IsTree, memory_at, path_at}
+use Rattle.gg_flat_tree.specs.Tree.{InstanceTree, IsTree, memory_at, path_at}
 use Rattle.gg_flat.specs.WellFormed.{IsWellFormed, MayDrive}
 use Rattle.gg_paths.specs.Paths.{HavePaths, IsPath, IsSignalPath, is_path_byte, is_signal_byte}
 use Rattle.gg_cut.specs.Held.{AreHeldOnce}

@@ -12,7 +12,7 @@ use Rattle.gg_flat.specs.State.{IsState, State, opening}
 use Rattle.gg_flat.proofs.ListLemmas.{some-item}
 use Rattle.gg_flat.specs.Run.{Start, since}
 use Rattle.gg_flat.specs.Streams.{Flow}
-use Rattle.gg_flat.proofs.AlongLemmas.{IsState-at}
+use Rattle.gg_flat_run.proofs.AlongLemmas.{IsState-at}
 use Rattle.gg_cut.specs.declared.plan.Plan.{Plan}
 use Rattle.gg_pipe.specs.Made.{IsFresh, plan_reference}
 use Rattle.gg_pipe.specs.Reference.{IsReference, Views, reader_by}

@@ -7,12 +7,12 @@ use Rattle.gg_bits.specs.Shape.{shape}
 use Rattle.gg_flat.specs.declared.piece.Register.{Register}
 use Rattle.gg_flat.specs.Circuit.{FlatCircuit}
 use Rattle.gg_flat.specs.Clock.{Ratio, edges_at}
-use Rattle.gg_flat.specs.Clocked.{clocks_from}
+use Rattle.gg_flat_tree.specs.Clocked.{clocks_from}
 use Rattle.gg_flat.specs.Line.{value_at}
 use Rattle.gg_flat.specs.Run.{Start, row_at, since, state_at}
 use Rattle.gg_flat.specs.State.{State}
 use Rattle.gg_flat.specs.Streams.{Flow, state_in}
-use Rattle.gg_flat.specs.Tree.{path_at}
+use Rattle.gg_flat_tree.specs.Tree.{path_at}
 use Rattle.gg_part.specs.PartRun.{part_ratios, part_row, part_rows, part_start, part_state}
 use Rattle.gg_part.specs.declared.part.Part.{Part}
 use Rattle.gg_part.proofs.RunLemmas.{HasCounts, state-part}

@@ -9,7 +9,7 @@ use Rattle.gg_flat.specs.Circuit.{FlatCircuit, signal_shapes}
 use Rattle.gg_flat.specs.Line.{shape_at, value_at}
 use Rattle.gg_flat.specs.Run.{Start, column, since, state_at}
 use Rattle.gg_flat.specs.Streams.{Flow}
-use Rattle.gg_flat.proofs.SinceLemmas.{since-next, since-self}
+use Rattle.gg_flat_run.proofs.SinceLemmas.{since-next, since-self}
 use Rattle.gg_cut.specs.declared.plan.Channel.{Channel}
 use Rattle.gg_cut.specs.declared.plan.Plan.{Plan}
 use Rattle.gg_cut.specs.Direct.{plan_hub}

@@ -22,7 +22,7 @@ use Rattle.gg_flat.specs.Circuit.{FlatCircuit, driver_at, latency_at, reader_at,
 use Rattle.gg_flat.specs.Line.{shape_at, value_at}
 use Rattle.gg_flat.specs.Memory.{Bank, bank_at, read_count}
 use Rattle.gg_flat.specs.State.{IsState, State}
-use Rattle.gg_flat.specs.Tree.{InstanceTree, memory_at, path_at}
+use Rattle.gg_flat_tree.specs.Tree.{InstanceTree, memory_at, path_at}
 use Rattle.gg_snap_text.specs.declared.row.At.TheVariants.{Register, Read}
 use Rattle.gg_snap_text.specs.declared.row.Kind.TheVariants as kind
 use Rattle.gg_snap_text.specs.declared.row.Row.{Row}

@@ -5,7 +5,7 @@ use Rattle.std.proofs.lemmas.List.{append-nil, length-append, nil_from_length, t
 use Rattle.std.proofs.lemmas.List.Elements.{All-head, All-tail}
 use Rattle.gg_flat.specs.Circuit.{FlatCircuit}
 use Rattle.gg_flat.specs.State.{IsState, State, opening}
-use Rattle.gg_flat.proofs.AlongLemmas.{IsState-opening}
+use Rattle.gg_flat.proofs.StateLemmas.{IsState-opening}
 use Rattle.gg_snap_text.specs.declared.reading.Cursor.{Cursor}
 use Rattle.gg_snap_text.specs.declared.row.Row.{Row}
 use Rattle.gg_snap_text.specs.Known.{AreKnown, IsKnown}

@@ -6,8 +6,8 @@ use Rattle.std.proofs.lemmas.List.{take_all, length-take-le}
 use Rattle.gg_limits.specs.Limits.{cycle_limit}
 use Rattle.gg_flat.specs.Circuit.{FlatCircuit}
 use Rattle.gg_flat.specs.State.{IsState, State, opening}
-use Rattle.gg_flat.specs.Tree.{InstanceTree}
-use Rattle.gg_flat.proofs.AlongLemmas.{IsState-opening}
+use Rattle.gg_flat_tree.specs.Tree.{InstanceTree}
+use Rattle.gg_flat.proofs.StateLemmas.{IsState-opening}
 use Rattle.gg_snap_text.specs.Lines.{cycle_line, first_line, value_lines}
 use Rattle.gg_snap_text.specs.Table.{rows_of}
 use Rattle.gg_snap_text.specs.Places.{Ends}

@@ -17,7 +17,7 @@ use Rattle.gg_flat.specs.declared.memory.Latency.TheVariants.{Zero, One}
 use Rattle.gg_flat.specs.Circuit.{FlatCircuit, signal_shapes, driver_at, readers_at, latency_at, reader_at}
 use Rattle.gg_flat.specs.Line.{HasType, shape_at, value_at}
 use Rattle.gg_flat.specs.Memory.{read_count}
-use Rattle.gg_flat.specs.Tree.{InstanceTree, path_at, memory_at}
+use Rattle.gg_flat_tree.specs.Tree.{InstanceTree, path_at, memory_at}
 use Rattle.gg_flat.specs.WellFormed.{IsDataOf, IsReader, IsWellFormed, MayDrive, reader_driver}
 use Rattle.gg_flat.proofs.TypedLemmas.{has-reader, within-readers}
 use Rattle.gg_flat.proofs.ListLemmas.{further, once-apart, some-item}

@@ -8,7 +8,7 @@ use Rattle.gg_flat.specs.declared.piece.Driver.TheVariants.{Input, Held, ReadReg
 use Rattle.gg_flat.specs.declared.piece.Register.{Register as register}
 use Rattle.gg_flat.specs.Circuit.{FlatCircuit}
 use Rattle.gg_flat.specs.State.{State}
-use Rattle.gg_flat.specs.Tree.{InstanceTree}
+use Rattle.gg_flat_tree.specs.Tree.{InstanceTree}
 use Rattle.gg_flat.proofs.WorkedCircuits.{eight, one}
 use Rattle.gg_flat.proofs.WorkedMemories.{high, signal, two}
 use Rattle.gg_snap_text.specs.declared.row.At.TheVariants.{Register, Read, Words}

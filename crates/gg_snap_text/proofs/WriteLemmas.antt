@@ -12,7 +12,7 @@ use Rattle.gg_flat.specs.declared.piece.Signal.{Signal}
 use Rattle.gg_flat.specs.Circuit.{FlatCircuit, driver_at, signal_shapes}
 use Rattle.gg_flat.specs.Line.{shape_at, value_at}
 use Rattle.gg_flat.specs.State.{State}
-use Rattle.gg_flat.specs.Tree.{InstanceTree, memory_at, path_at}
+use Rattle.gg_flat_tree.specs.Tree.{InstanceTree, memory_at, path_at}
 use Rattle.gg_snap_text.specs.declared.row.At.TheVariants.{Words}
 use Rattle.gg_snap_text.specs.declared.row.Kind.TheVariants as kind
 use Rattle.gg_snap_text.specs.Table.{memory_row}

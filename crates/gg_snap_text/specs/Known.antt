@@ -6,7 +6,7 @@ use Rattle.gg_flat.specs.declared.piece.Driver.TheVariants.{Held}
 use Rattle.gg_flat.specs.Circuit.{FlatCircuit, register_shapes, driver_at, readers_at, latency_at}
 use Rattle.gg_flat.specs.Line.{shape_at, value_at}
 use Rattle.gg_flat.specs.Memory.{read_count}
-use Rattle.gg_flat.specs.Tree.{InstanceTree, memory_at}
+use Rattle.gg_flat_tree.specs.Tree.{InstanceTree, memory_at}
 use Rattle.gg_snap_text.specs.declared.row.At.{At}
 use Rattle.gg_snap_text.specs.declared.row.At.TheVariants.{Register, Read, Words}
 use Rattle.gg_snap_text.specs.declared.row.Row.{Row}

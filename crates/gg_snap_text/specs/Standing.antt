@@ -4,7 +4,7 @@ use Rattle.std.specs.Prelude.{◌≡◌, ℕ, suc, ◌<◌, ◌≤◌, List, [],
 use Rattle.gg_limits.specs.Limits.{cycle_limit}
 use Rattle.gg_flat.specs.Circuit.{FlatCircuit}
 use Rattle.gg_flat.specs.State.{State, IsState}
-use Rattle.gg_flat.specs.Tree.{InstanceTree}
+use Rattle.gg_flat_tree.specs.Tree.{InstanceTree}
 use Rattle.gg_snap_text.specs.Lines.{snap_lines, snap_text}
 use Rattle.gg_snap_text.specs.Table.{rows_of}
 use Rattle.gg_snap_text.specs.declared.fault.SnapFault.{SnapFault}

@@ -9,7 +9,7 @@ use Rattle.gg_flat.specs.declared.piece.Driver.{Driver}
 use Rattle.gg_flat.specs.declared.piece.Driver.TheVariants.{Input, Held, MemoryWord, ReadRegister, Computed}
 use Rattle.gg_flat.specs.Circuit.{FlatCircuit, signal_shapes, driver_at}
 use Rattle.gg_flat.specs.Line.{shape_at, value_at}
-use Rattle.gg_flat.specs.Tree.{InstanceTree, path_at, memory_at}
+use Rattle.gg_flat_tree.specs.Tree.{InstanceTree, path_at, memory_at}
 use Rattle.gg_snap_text.specs.declared.row.At.TheVariants.{Register, Read, Words}
 use Rattle.gg_snap_text.specs.declared.row.Kind.{Kind}
 use Rattle.gg_snap_text.specs.declared.row.Kind.TheVariants as kind

@@ -3,7 +3,7 @@
 use Rattle.std.specs.Prelude.{◌≡◌, ℕ, ◌<◌, length}
 use Rattle.gg_flat.specs.declared.piece.Driver.TheVariants.{Held}
 use Rattle.gg_flat.specs.Circuit.{FlatCircuit, driver_at}
-use Rattle.gg_flat.specs.Tree.{InstanceTree, memory_at}
+use Rattle.gg_flat_tree.specs.Tree.{InstanceTree, memory_at}
 
 -- a signal holds register r
 pub record HasHolder (circuit : FlatCircuit) (r : ℕ) : Type 0 where

@@ -7,7 +7,8 @@ ghost use Rattle.gg_snap_text.specs.Parts.{HasPart, HasSizeOf, IsPartState, put}
 ghost use Rattle.gg_snap_text.specs.Draft.{HasValue, with_value};
 
 use crate::row::At;
-use gg_flat::{Bank, Memory, Piece, State};
+use gg_flat::{Memory, Piece};
+use gg_flat_run::{Bank, State};
 use std::alloc::{AllocError, Global};
 use std::marker::Model;
 

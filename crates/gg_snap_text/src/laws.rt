@@ -3,7 +3,7 @@ ghost use Rattle.std.specs.Prelude.{◌≡◌, ◌<◌, ℕ, List, All, length};
 ghost use Rattle.gg_flat.specs.declared.piece.Driver.TheVariants.{Held};
 ghost use Rattle.gg_flat.specs.Circuit.{FlatCircuit, driver_at};
 ghost use Rattle.gg_flat.specs.State.{State};
-ghost use Rattle.gg_flat.specs.Tree.{InstanceTree, IsTree};
+ghost use Rattle.gg_flat_tree.specs.Tree.{InstanceTree, IsTree};
 ghost use Rattle.gg_flat.specs.WellFormed.{IsWellFormed};
 ghost use Rattle.gg_snap_text.specs.Known.{AreKnown, CanSave, IsPlain};
 ghost use Rattle.gg_snap_text.specs.Standing.{IsFirstFault, IsSnap};

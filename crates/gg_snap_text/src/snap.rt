@@ -13,7 +13,7 @@ use crate::reading::take_lines;
 use crate::table::rows_of;
 use crate::writing::text_of;
 use gg_bits::Name;
-use gg_flat::State;
+use gg_flat_run::State;
 use gg_order::Design;
 use std::alloc::{AllocError, Global};
 use std::marker::Model;

@@ -1,6 +1,6 @@
 //! The table of a design: what a snapshot of it can have values of, in the order of the lines.
 ghost use Rattle.std.specs.Prelude.{◌≡◌, ◌≢◌, ◌<◌, ◌++◌, ◌+◌, ◌^◌, ℕ, Some, None, IfOk, OnOk, MatchOption, All, AllPairs, length};
-ghost use Rattle.gg_flat.specs.Tree.{path_at, memory_at};
+ghost use Rattle.gg_flat_tree.specs.Tree.{path_at, memory_at};
 ghost use Rattle.gg_flat.specs.WellFormed.{IsWellFormed};
 ghost use Rattle.gg_snap_text.specs.declared.row.At.TheVariants.{Words};
 ghost use Rattle.gg_snap_text.specs.declared.row.Kind.TheVariants as kind;
@@ -9,7 +9,8 @@ ghost use Rattle.gg_snap_text.specs.Table.{by_path, channel_of, memory_rows, pip
 
 use crate::row::{At, Kind, Row};
 use gg_bits::Name;
-use gg_flat::{Driver, Memory, Piece, Tree};
+use gg_flat::{Driver, Memory, Piece};
+use gg_flat_tree::Tree;
 use gg_order::Design;
 use std::alloc::{AllocError, Global};
 

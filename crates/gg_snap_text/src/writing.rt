@@ -11,7 +11,7 @@ ghost use Rattle.gg_snap_text.specs.Lines.{address_text, cycle_line, line_of, ro
 
 use crate::row::{At, Row, word_of};
 use gg_bits::Name;
-use gg_flat::State;
+use gg_flat_run::State;
 use itoa::Buffer;
 use std::alloc::{AllocError, Global};
 

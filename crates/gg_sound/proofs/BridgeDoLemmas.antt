@@ -8,7 +8,7 @@ use Rattle.gg_flat.specs.Circuit.{FlatCircuit}
 use Rattle.gg_flat.specs.Line.{value_at}
 use Rattle.gg_flat.specs.Run.{Start, column, later, row_at, since}
 use Rattle.gg_flat.specs.State.{opening}
-use Rattle.gg_flat.proofs.SinceLemmas.{later-since, row-dropped}
+use Rattle.gg_flat_run.proofs.SinceLemmas.{later-since, row-dropped}
 use Rattle.gg_order.specs.Design.{Ordered}
 use Rattle.gg_part.specs.PartRun.{part_rows}
 use Rattle.gg_partfile.specs.declared.request.Request.{Request}

@@ -13,7 +13,7 @@ use Rattle.gg_flat.specs.declared.piece.Register.{Register}
 use Rattle.gg_flat.specs.Line.{value_at}
 use Rattle.gg_flat.specs.Circuit.{FlatCircuit, driver_at, readers_at, reader_at}
 use Rattle.gg_flat.specs.Reads.{NamesSignal, RegisterNames}
-use Rattle.gg_flat.specs.Scoped.{reader_fields, writer_fields, memory_fields}
+use Rattle.gg_flat_tree.specs.Scoped.{reader_fields, writer_fields, memory_fields}
 use Rattle.gg_flat.specs.WellFormed.{IsWellFormed, MayDrive}
 use Rattle.gg_part.specs.Part.{IsPart, IsFrom, MemoryBelow, ReadsAmong, RegisterBelow}
 use Rattle.gg_part.specs.Choice.{NamesMemory, IsChoice}

@@ -8,12 +8,12 @@ use Rattle.gg_flat.specs.Line.{value_at}
 use Rattle.gg_flat.specs.Circuit.{FlatCircuit}
 use Rattle.gg_flat.specs.Depends.{DependsOn}
 use Rattle.gg_flat.specs.Clock.{Ratio}
-use Rattle.gg_flat.specs.Clocked.{clocks_from}
+use Rattle.gg_flat_tree.specs.Clocked.{clocks_from}
 use Rattle.gg_flat.specs.State.{IsState, State}
 use Rattle.gg_flat.specs.Run.{IsRunFrom, Start, row_at, since}
 use Rattle.gg_flat.specs.WellFormed.{IsWellFormed}
-use Rattle.gg_flat.proofs.UniqueLemmas.{Settled-once}
-use Rattle.gg_flat.proofs.DependLemmas.{depends-reached}
+use Rattle.gg_flat_run.proofs.UniqueLemmas.{Settled-once}
+use Rattle.gg_flat_run.proofs.DependLemmas.{depends-reached}
 use Rattle.gg_part.specs.PartRun.{part_ratios, part_rows, part_start, part_state}
 use Rattle.gg_part.specs.InOrder.{IsInOrder}
 use Rattle.gg_part.specs.declared.part.Part.{Part}

@@ -1,7 +1,7 @@
 -- What is given with a plan: its request has no fault, its bridges' entries fit, and its channels are its routed links, at the numbers of
 -- the plan's machines.
 use Rattle.std.proofs.Common.{◌≡◌, ℕ, ◌<◌, None, length, take, sym, ap, subst, arith}
-use Rattle.gg_flat.specs.Tree.{path_at}
+use Rattle.gg_flat_tree.specs.Tree.{path_at}
 use Rattle.gg_order.specs.Design.{Ordered}
 use Rattle.gg_partfile.specs.declared.request.Request.{Request}
 use Rattle.gg_cut.specs.declared.plan.Plan.{Plan}

@@ -5,8 +5,8 @@ use Rattle.gg_flat.specs.Clock.{edges_at}
 use Rattle.gg_flat.specs.Settled.{Settled}
 use Rattle.gg_flat.specs.State.{IsState}
 use Rattle.gg_flat.specs.Run.{IsRunFrom, Start, row_at, since}
-use Rattle.gg_flat.proofs.AlongLemmas.{IsState-at}
-use Rattle.gg_flat.proofs.SinceLemmas.{since-add}
+use Rattle.gg_flat_run.proofs.AlongLemmas.{IsState-at}
+use Rattle.gg_flat_run.proofs.SinceLemmas.{since-add}
 use Rattle.gg_node.specs.Machine.{Port, latched_values}
 use Rattle.gg_memunit.specs.MemoryUnit.{IsMemoryPiece, ports_of}
 use Rattle.gg_memunit.proofs.ThroughLemmas.{served-through}

@@ -10,7 +10,7 @@ use Rattle.gg_flat.specs.Circuit.{FlatCircuit}
 use Rattle.gg_flat.specs.Line.{value_at}
 use Rattle.gg_flat.specs.Run.{Start, row_at, column, since}
 use Rattle.gg_flat.proofs.ListLemmas.{some-item, filter-cases, range-below, Contains-map}
-use Rattle.gg_flat.proofs.UniqueLemmas.{IsRunFrom-once}
+use Rattle.gg_flat_run.proofs.UniqueLemmas.{IsRunFrom-once}
 use Rattle.gg_order.specs.Design.{Ordered}
 use Rattle.gg_partfile.specs.declared.request.Request.{Request}
 use Rattle.gg_cut.specs.declared.plan.Body.{Body}

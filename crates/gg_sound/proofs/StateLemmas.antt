@@ -9,7 +9,7 @@ use Rattle.gg_flat.specs.declared.memory.Reader.{Reader}
 use Rattle.gg_flat.specs.declared.piece.Register.{Register}
 use Rattle.gg_flat.specs.Circuit.{FlatCircuit, register_shapes}
 use Rattle.gg_flat.specs.Clock.{Ratio}
-use Rattle.gg_flat.specs.Clocked.{clocks_from}
+use Rattle.gg_flat_tree.specs.Clocked.{clocks_from}
 use Rattle.gg_flat.specs.Line.{shape_at, value_at}
 use Rattle.gg_flat.specs.Memory.{AreWords, Bank, IsBank, bank_at, read_count}
 use Rattle.gg_flat.specs.State.{IsState, State}

@@ -19,9 +19,9 @@ use Rattle.gg_flat.specs.Run.{IsRunFrom, Start, inputs_at, later, row_at, state_
 use Rattle.gg_flat.specs.Settled.{Settled, driver_value}
 use Rattle.gg_flat.specs.State.{State, next_state}
 use Rattle.gg_flat.specs.WellFormed.{IsMemory, IsRegister, IsWellFormed, MayDrive, reader_driver}
-use Rattle.gg_flat.proofs.DependLemmas.{depends-reached}
+use Rattle.gg_flat_run.proofs.DependLemmas.{depends-reached}
 use Rattle.gg_flat.proofs.ListLemmas.{once-apart}
-use Rattle.gg_flat.proofs.UniqueLemmas.{Settled-once}
+use Rattle.gg_flat_run.proofs.UniqueLemmas.{Settled-once}
 use Rattle.gg_joined.specs.Model.{IsModel}
 use Rattle.gg_joined.specs.Turned.{place_in, turned, turned_back, turned_driver, turned_signal}
 use Rattle.gg_joined.proofs.NumberLemmas.{place-of}

@@ -1,7 +1,7 @@
 -- The part of a listed memory, cut once more, so that only the memory is left.
 -- Source: ICCAD 2019 (memories of a target as models of their own); FIRRTL Specification, "Memories".
 use Rattle.std.specs.Prelude.{◌≡◌, [], ◌∷◌, ◌++◌, map}
-use Rattle.gg_flat.specs.Clocked.{clocks_from}
+use Rattle.gg_flat_tree.specs.Clocked.{clocks_from}
 use Rattle.gg_flat.specs.Line.{value_at}
 use Rattle.gg_part.specs.Part.{IsPart}
 use Rattle.gg_part.specs.Building.{AreHeld}

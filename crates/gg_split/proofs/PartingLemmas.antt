@@ -5,7 +5,7 @@ use Rattle.std.proofs.lemmas.List.{get_or_default, length-map}
 use Rattle.std.proofs.lemmas.List.Elements.{All-map, Contains-get_or}
 use Rattle.gg_flat.specs.Line.{value_at}
 use Rattle.gg_flat.specs.Circuit.{FlatCircuit}
-use Rattle.gg_flat.specs.Tree.{InstanceTree, IsTree, memory_at}
+use Rattle.gg_flat_tree.specs.Tree.{InstanceTree, IsTree, memory_at}
 use Rattle.gg_moved.specs.KeepsToTree.{KeepsToTree}
 use Rattle.gg_order.specs.Design.{Ordered, IsDesign}
 use Rattle.gg_cut.specs.declared.wires.Wire.{Wire}

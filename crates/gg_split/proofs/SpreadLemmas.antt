@@ -5,7 +5,7 @@ use Rattle.std.specs.List.{range_with_len}
 use Rattle.std.proofs.lemmas.Bool.{cases_eq, ne_eqb}
 use Rattle.std.proofs.lemmas.List.{get_or-set_same, get_or-set_other, length-set, append-nil, map-append}
 use Rattle.gg_flat.specs.Line.{value_at}
-use Rattle.gg_flat.specs.Tree.{InstanceTree, memory_at}
+use Rattle.gg_flat_tree.specs.Tree.{InstanceTree, memory_at}
 use Rattle.gg_cut.proofs.RangeLemmas.{filter-more}
 use Rattle.gg_split.specs.Spread.{AreLists, IsPut, memories_below}
 

@@ -4,7 +4,7 @@ use Rattle.std.specs.Prelude.{Option, ◌&&◌, ◌==◌, nat_le, nat_lt, slice_
 use Rattle.std.proofs.lemmas.Bool.{cases_eq, ne_eqb}
 use Rattle.std.proofs.lemmas.List.{get_or-set_same, get_or-set_other, length-set, take_more, length-take-le, get_or-take, get_or_default}
 use Rattle.gg_flat.specs.Line.{value_at}
-use Rattle.gg_flat.specs.Tree.{InstanceTree}
+use Rattle.gg_flat_tree.specs.Tree.{InstanceTree}
 use Rattle.gg_cut.specs.declared.wires.Wire.{Wire}
 use Rattle.gg_cut.specs.Machines.{memory_after}
 use Rattle.gg_cut.specs.Listed.{first_place, unit_or_hub, has_signal, memory_or}

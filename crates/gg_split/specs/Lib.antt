@@ -1,3 +1,4 @@
+pub mod Beginning
 pub mod CanSplit
 pub mod Share
 pub mod IsShare

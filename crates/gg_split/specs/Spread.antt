@@ -3,7 +3,7 @@
 use Rattle.std.specs.Prelude.{◌≡◌, ◌↔◌, ◌⊎◌, ℕ, zero, suc, ◌<◌, List, [], ◌∷◌, ◌++◌, Bool, true, false, if◌then◌else◌, ◌||◌, ◌==◌, Option, Some, None, Contains, AllPairs, length, map, filter, slice_index_or}
 use Rattle.std.specs.List.{range_with_len}
 use Rattle.gg_flat.specs.Line.{value_at}
-use Rattle.gg_flat.specs.Tree.{InstanceTree, memory_at}
+use Rattle.gg_flat_tree.specs.Tree.{InstanceTree, memory_at}
 use Rattle.gg_cut.specs.declared.wires.Wire.{Wire}
 use Rattle.gg_flat.specs.Circuit.{FlatCircuit}
 use Rattle.gg_part.specs.InOrder.{IsAlong}

@@ -1,23 +1,24 @@
 //! The channels, in their order.
 ghost use Rattle.std.specs.Prelude.{◌≡◌, ℕ, ◌<◌, ◌++◌, length, map, All, OnOk, IfOk};
 ghost use Rattle.gg_flat.specs.Line.{value_at};
-ghost use Rattle.gg_flat.specs.Tree.{IsTree, instance_at, parent_place};
+ghost use Rattle.gg_flat_tree.specs.Tree.{IsTree, instance_at, parent_place};
 ghost use Rattle.gg_cut.specs.Listed.{owner_of, owner_of_instance};
 ghost use Rattle.gg_flat.specs.Circuit.{readers_at};
-ghost use Rattle.gg_flat.specs.Scoped.{writers_at};
+ghost use Rattle.gg_flat_tree.specs.Scoped.{writers_at};
 ghost use Rattle.gg_cut.specs.Machines.{first_unit, first_memory, source_after, tray_after, numbering_of};
 ghost use Rattle.gg_cut.specs.Channels.{wire, numbered, flattened, port_wire, port_wires, reader_wires, writer_wires, field_wires, source_wires, wires_of};
 ghost use Rattle.gg_split.specs.Spread.{held_wires};
 
 use gg_cut::{Listed, Numbering, Wire};
-use gg_flat::{InstancePort, Piece, Reader, Tree, Writer};
+use gg_flat::{Piece, Reader, Writer};
+use gg_flat_tree::{InstancePort, Tree};
 use std::alloc::{AllocError, Global};
 
-/// The channels of a cut, in their order. `owners` has the machine of each instance, and `holders` that of each top output.
-///
-/// # Errors
-///
-/// Returns `AllocError` if an allocation fails.
+// The channels of a cut, in their order. `owners` has the machine of each instance, and `holders` that of each top output.
+//
+// # Errors
+//
+// Returns `AllocError` if an allocation fails.
 pub(crate) fn channels(
     alloc: Global,
     piece: &Piece,
@@ -107,13 +108,12 @@ fn push_units(
 }
 
 // The machine outside an instance, from the machines of all instances.
-fn outside_of(piece: &Piece, tree: &Tree, owners: &[u32], place: u32) -> u32
-    requires fitting { IsTree piece.now tree.now }
+fn outside_of(_piece: &Piece, tree: &Tree, owners: &[u32], place: u32) -> u32
+    requires fitting { IsTree _piece.now tree.now }
     requires known { place < length tree.now.instances }
     requires count { length owners.now ≡ length tree.now.instances }
     ensures { result ≡ value_at owners.now (parent_place (instance_at tree.now place).parent) }
 {
-    let _ = piece;
     match tree.instances()[place as usize].parent {
         Some(parent) => owners[parent as usize],
         None => owners[0],
@@ -186,7 +186,9 @@ fn push_fields(
     number: u32,
 ) -> Result<(), AllocError>
     requires { memory < length piece.now.memories }
-    ensures { OnOk result (wires.new.items ≡ wires.old.items ++ (flattened (reader_wires outside number) (readers_at piece.now memory) ++ flattened (writer_wires outside number) (writers_at piece.now memory))) }
+    ensures { OnOk result (wires.new.items ≡ wires.old.items
+        ++ (flattened (reader_wires outside number) (readers_at piece.now memory)
+        ++ flattened (writer_wires outside number) (writers_at piece.now memory))) }
 {
     let memory = &piece.memories()[memory as usize];
     push_readers(wires, memory.readers.as_slice(), outside, number)?;

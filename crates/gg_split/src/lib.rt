@@ -17,6 +17,7 @@
 //! table of the owner of each signal.
 #![tactic(auto)]
 
+mod beginning;
 mod channels;
 mod owned;
 mod parting;

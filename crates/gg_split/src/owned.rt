@@ -6,14 +6,12 @@ ghost use Rattle.gg_cut.specs.Listed.{owner_of, memory_owner};
 ghost use Rattle.gg_cut.specs.Channels.{wires_of};
 ghost use Rattle.gg_cut.specs.Plan.{IsInner};
 ghost use Rattle.gg_closed.specs.Apart.{AreApart};
-ghost use Rattle.gg_split.specs.CanSplit.{CanSplit};
+ghost use Rattle.gg_split.specs.Beginning.{IsWhole};
 
-use crate::channels::channels;
-use crate::parting::numbering_of;
-use crate::tables::{memory_owners, signal_owners};
+use crate::beginning::{Beginning, Whole, begin};
+use crate::tables::memory_owners;
 use gg_bits::{Ids, Items};
-use gg_cut::{Listed, Wire, owners_of};
-use gg_flat::{Piece, Tree};
+use gg_cut::{Listed, Wire};
 use gg_order::Design;
 use std::alloc::{AllocError, Global};
 
@@ -53,32 +51,42 @@ pub fn owned_of(alloc: Global, design: &Design, listed: &Listed) -> Result<Owned
     ensures signals { IfOk result (λ found. (s : ℕ) → s < length design.now.circuit.signals → IsInner found.wires s → value_at found.signals s ≡ owner_of design.now.circuit design.now.tree listed.now s) }
     ensures memories { IfOk result (λ found. (place : ℕ) → place < length design.now.tree.memories → value_at found.memories place ≡ memory_owner design.now.tree listed.now place) }
 {
+    // for the invariant alone
     let _ = design.piece().signal_count();
-    let found = owned_in(alloc, design.piece(), design.tree(), design.order(), listed)?;
+    let whole = Whole {
+        piece: design.piece(),
+        tree: design.tree(),
+        order: design.order(),
+        listed,
+    };
+    let found = owned_in(alloc, &whole)?;
     Ok(found)
 }
 
 // The same of a circuit with its tree and an order.
-fn owned_in(
-    alloc: Global,
-    piece: &Piece,
-    tree: &Tree,
-    order: &[u32],
-    listed: &Listed,
-) -> Result<Owned, AllocError>
-    requires { CanSplit piece.now tree.now order.now listed.now }
-    ensures wires { IfOk result (λ found. found.wires ≡ wires_of piece.now tree.now listed.now) }
-    ensures count { IfOk result (λ found. length found.signals ≡ length piece.now.signals) }
-    ensures signals { IfOk result (λ found. (s : ℕ) → s < length piece.now.signals → IsInner found.wires s → value_at found.signals s ≡ owner_of piece.now tree.now listed.now s) }
-    ensures memories { IfOk result (λ found. (place : ℕ) → place < length tree.now.memories → value_at found.memories place ≡ memory_owner tree.now listed.now place) }
+fn owned_in(alloc: Global, whole: &Whole) -> Result<Owned, AllocError>
+    requires { IsWhole whole.now }
+    ensures wires { IfOk result (λ found. found.wires ≡ wires_of whole.now.piece.now whole.now.tree.now whole.now.listed.now) }
+    ensures count { IfOk result (λ found. length found.signals ≡ length whole.now.piece.now.signals) }
+    ensures signals { IfOk result (λ found. (s : ℕ) → s < length whole.now.piece.now.signals → IsInner found.wires s
+        → value_at found.signals s ≡ owner_of whole.now.piece.now whole.now.tree.now whole.now.listed.now s) }
+    ensures memories { IfOk result (λ found. (place : ℕ) → place < length whole.now.tree.now.memories → value_at found.memories place ≡ memory_owner whole.now.tree.now whole.now.listed.now place) }
 {
-    let _ = order;
-    let numbering = numbering_of(piece, listed)?;
-    let units = listed.units.as_slice();
-    let owners = owners_of(alloc, tree, &numbering, units)?;
-    let holders = signal_owners(alloc, tree, &numbering, units, piece.signals().len())?;
-    let wires = channels(alloc, piece, tree, &numbering, listed, &owners, &holders)?;
-    let memories = memory_owners(alloc, tree, &numbering, listed, &owners)?;
+    let beginning = begin(alloc, whole)?;
+    let memories = memory_owners(
+        alloc,
+        whole.tree,
+        &beginning.numbering,
+        whole.listed,
+        &beginning.owners,
+    )?;
+    let Beginning {
+        numbering: _,
+        owners,
+        holders,
+        wires,
+    } = beginning;
+    drop(owners);
     Ok(Owned {
         wires: Items::from(wires),
         signals: Ids::from(holders),

@@ -1,24 +1,20 @@
 //! The split: the channels of a cut, and what each machine has.
-ghost use Rattle.std.specs.Prelude.{◌≡◌, ℕ, ◌<◌, ◌^◌, [], length, set, slice_index_or, IfOk};
-ghost use Rattle.gg_flat.specs.Line.{value_at};
-ghost use Rattle.gg_flat.specs.Tree.{IsTree, memory_at};
+ghost use Rattle.std.specs.Prelude.{◌≡◌, ◌<◌, ◌^◌, [], length, set, slice_index_or, IfOk};
 ghost use Rattle.gg_moved.specs.KeepsToTree.{KeepsToTree};
-ghost use Rattle.gg_cut.specs.Listed.{first_place, has_signal, owner_of_instance, unit_or_hub};
-ghost use Rattle.gg_cut.specs.Machines.{machine_count, numbering_of};
+ghost use Rattle.gg_cut.specs.Machines.{machine_count};
 ghost use Rattle.gg_cut.specs.Channels.{wires_of};
 ghost use Rattle.gg_closed.specs.Apart.{AreApart};
+ghost use Rattle.gg_split.specs.Beginning.{IsBeginning, IsWhole, ordered_of};
 ghost use Rattle.gg_split.specs.Spread.{EachList, AreSignals, AreMemories};
-ghost use Rattle.gg_split.specs.CanSplit.{CanSplit};
 ghost use Rattle.gg_split.specs.IsShare.{AreShares, IsGathered, AreGathered};
 
-use crate::channels::channels;
+use crate::beginning::{Beginning, Whole, begin};
 use crate::pile::Pile;
 use crate::share::{Share, Split};
 use crate::spread::{memories, sides_of, spread};
-use crate::tables::{channels_of, memory_owners, signal_owners};
+use crate::tables::{channels_of, memory_owners};
 use gg_bits::{Ids, Items};
-use gg_cut::{Listed, Numbering, Wire, owners_of};
-use gg_flat::{Piece, Tree};
+use gg_cut::{Listed, Wire};
 use gg_order::Design;
 use std::alloc::{AllocError, Global};
 
@@ -34,82 +30,51 @@ pub fn split(alloc: Global, design: &Design, listed: &Listed) -> Result<Split, A
     ensures shares { IfOk result (λ split. AreShares design.now listed.now split.shares) }
     ensures few { IfOk result (λ split. machine_count design.now.circuit listed.now < 2 ^ 32) }
 {
+    // for the invariant alone
     let _ = design.piece().signal_count();
-    let split = split_all(alloc, design.piece(), design.tree(), design.order(), listed)?;
+    let whole = Whole {
+        piece: design.piece(),
+        tree: design.tree(),
+        order: design.order(),
+        listed,
+    };
+    let split = split_all(alloc, &whole)?;
     Ok(split)
 }
 
 // The channels, and what each machine has, if what is listed is apart.
-fn split_all(
-    alloc: Global,
-    piece: &Piece,
-    tree: &Tree,
-    order: &[u32],
-    listed: &Listed,
-) -> Result<Split, AllocError>
-    requires { CanSplit piece.now tree.now order.now listed.now }
-    ensures wires { IfOk result (λ split. split.wires ≡ wires_of piece.now tree.now listed.now) }
-    ensures shares { IfOk result (λ split. AreShares (record { circuit = piece.now; tree = tree.now; order = order.now }) listed.now split.shares) }
-    ensures few { IfOk result (λ split. machine_count piece.now listed.now < 2 ^ 32) }
+fn split_all(alloc: Global, whole: &Whole) -> Result<Split, AllocError>
+    requires { IsWhole whole.now }
+    ensures wires { IfOk result (λ split. split.wires ≡ wires_of whole.now.piece.now whole.now.tree.now whole.now.listed.now) }
+    ensures shares { IfOk result (λ split. AreShares (ordered_of whole.now) whole.now.listed.now split.shares) }
+    ensures few { IfOk result (λ split. machine_count whole.now.piece.now whole.now.listed.now < 2 ^ 32) }
 {
-    let numbering = numbering_of(piece, listed)?;
-    let units = listed.units.as_slice();
-    let owners = owners_of(alloc, tree, &numbering, units)?;
-    let holders = signal_owners(alloc, tree, &numbering, units, piece.signals().len())?;
-    let wires = channels(alloc, piece, tree, &numbering, listed, &owners, &holders)?;
-    let shares = shares(
-        alloc, piece, tree, order, &numbering, listed, &owners, &holders, &wires,
-    )?;
+    let beginning = begin(alloc, whole)?;
+    let shares = shares(alloc, whole, &beginning)?;
+    let Beginning {
+        numbering: _,
+        owners,
+        holders,
+        wires,
+    } = beginning;
+    drop(owners);
+    drop(holders);
     Ok(Split {
         wires: Items::from(wires),
         shares,
     })
 }
 
-/// The numbers of the machines.
-///
-/// # Errors
-///
-/// Returns `AllocError` if there are 4,294,967,296 machines or more.
-pub(crate) fn numbering_of(piece: &Piece, listed: &Listed) -> Result<Numbering, AllocError>
-    ensures numbers { IfOk result (λ numbering. numbering ≡ numbering_of piece.now listed.now) }
-    ensures few { IfOk result (λ numbering. machine_count piece.now listed.now < 2 ^ 32) }
+// What each machine has, from what the split begins with.
+fn shares(alloc: Global, whole: &Whole, beginning: &Beginning) -> Result<Items<Share>, AllocError>
+    requires whole { IsWhole whole.now }
+    requires beginning { IsBeginning whole.now beginning.now }
+    ensures { IfOk result (λ shares. AreShares (ordered_of whole.now) whole.now.listed.now shares) }
 {
-    let units = listed.units.as_slice().len() as u128;
-    let memories = listed.memories.as_slice().len() as u128;
-    let ins = piece.ins().len() as u128;
-    let outs = piece.outs().len() as u128;
-    if 1 + units + memories + ins + outs > u32::MAX as u128 {
-        return Err(AllocError);
-    }
-    Ok(Numbering::of(piece, listed))
-}
-
-// What each machine has, from the channels, the machine of each instance, and the machine of each signal by its instance.
-fn shares(
-    alloc: Global,
-    piece: &Piece,
-    tree: &Tree,
-    order: &[u32],
-    numbering: &Numbering,
-    listed: &Listed,
-    owners: &[u32],
-    holders: &[u32],
-    wires: &[Wire],
-) -> Result<Items<Share>, AllocError>
-    requires sound { CanSplit piece.now tree.now order.now listed.now }
-    requires numbering { numbering.now ≡ numbering_of piece.now listed.now }
-    requires held { length holders.now ≡ length piece.now.signals }
-    requires holders { (s : ℕ) → value_at holders.now s ≡ unit_or_hub (first_place (has_signal tree.now s) listed.now.units) }
-    requires count { length owners.now ≡ length tree.now.instances }
-    requires owners { (k : ℕ) → k < length tree.now.instances → value_at owners.now k ≡ owner_of_instance tree.now listed.now.units k }
-    requires wires { wires.now ≡ wires_of piece.now tree.now listed.now }
-    ensures { IfOk result (λ shares. AreShares (record { circuit = piece.now; tree = tree.now; order = order.now }) listed.now shares) }
-{
-    let count = numbering.count();
-    let mut sides = sides_of(alloc, wires, count)?;
-    let mut globals = signals_of(alloc, piece, tree, order, listed, holders, wires, count)?;
-    let mut memories = memories_of(alloc, piece, tree, numbering, listed, owners, count)?;
+    let count = beginning.numbering.count();
+    let mut sides = sides_of(alloc, &beginning.wires, count)?;
+    let mut globals = signals_of(alloc, whole, beginning, count)?;
+    let mut memories = memories_of(alloc, whole, beginning, count)?;
     let shares = gather(
         alloc,
         &mut sides.ins,
@@ -123,49 +88,48 @@ fn shares(
 // The signals of each machine, along the order.
 fn signals_of(
     alloc: Global,
-    piece: &Piece,
-    tree: &Tree,
-    order: &[u32],
-    listed: &Listed,
-    holders: &[u32],
-    wires: &[Wire],
+    whole: &Whole,
+    beginning: &Beginning,
     count: usize,
 ) -> Result<Vec<Pile>, AllocError>
-    requires sound { CanSplit piece.now tree.now order.now listed.now }
-    requires held { length holders.now ≡ length piece.now.signals }
-    requires holders { (s : ℕ) → value_at holders.now s ≡ unit_or_hub (first_place (has_signal tree.now s) listed.now.units) }
-    requires wires { wires.now ≡ wires_of piece.now tree.now listed.now }
-    requires count { count ≡ machine_count piece.now listed.now }
-    ensures { IfOk result (λ lists. EachList (AreSignals piece.now tree.now order.now listed.now) count lists.items) }
+    requires whole { IsWhole whole.now }
+    requires beginning { IsBeginning whole.now beginning.now }
+    requires count { count ≡ machine_count whole.now.piece.now whole.now.listed.now }
+    ensures { IfOk result (λ lists. EachList (AreSignals whole.now.piece.now whole.now.tree.now whole.now.order.now whole.now.listed.now) count lists.items) }
 {
-    let _ = tree;
-    let _ = listed;
-    let channels = channels_of(alloc, wires, piece.signals().len())?;
-    let lists = spread(alloc, wires, holders, &channels, order, count)?;
+    let wires: &[Wire] = &beginning.wires;
+    let channels = channels_of(alloc, wires, whole.piece.signals().len())?;
+    let lists = spread(
+        alloc,
+        wires,
+        &beginning.holders,
+        &channels,
+        whole.order,
+        count,
+    )?;
     Ok(lists)
 }
 
 // The memories of each machine.
 fn memories_of(
     alloc: Global,
-    piece: &Piece,
-    tree: &Tree,
-    numbering: &Numbering,
-    listed: &Listed,
-    owners: &[u32],
+    whole: &Whole,
+    beginning: &Beginning,
     count: usize,
 ) -> Result<Vec<Pile>, AllocError>
-    requires fitting { IsTree piece.now tree.now }
-    requires numbered { (place : ℕ) → place < length tree.now.memories → (memory_at tree.now place).memory ≡ place }
-    requires apart { AreApart tree.now listed.now }
-    requires numbering { numbering.now ≡ numbering_of piece.now listed.now }
-    requires known { length owners.now ≡ length tree.now.instances }
-    requires owners { (k : ℕ) → k < length tree.now.instances → value_at owners.now k ≡ owner_of_instance tree.now listed.now.units k }
-    requires count { count ≡ machine_count piece.now listed.now }
-    ensures { IfOk result (λ lists. EachList (AreMemories tree.now listed.now) count lists.items) }
+    requires whole { IsWhole whole.now }
+    requires beginning { IsBeginning whole.now beginning.now }
+    requires count { count ≡ machine_count whole.now.piece.now whole.now.listed.now }
+    ensures { IfOk result (λ lists. EachList (AreMemories whole.now.tree.now whole.now.listed.now) count lists.items) }
 {
-    let _ = piece;
-    let machines = memory_owners(alloc, tree, numbering, listed, owners)?;
+    let tree = whole.tree;
+    let machines = memory_owners(
+        alloc,
+        tree,
+        &beginning.numbering,
+        whole.listed,
+        &beginning.owners,
+    )?;
     let lists = memories(alloc, tree, &machines, count)?;
     Ok(lists)
 }

@@ -51,7 +51,7 @@ impl Pile {
         self.items.as_slice()
     }
 
-    /// Returns the list, and leaves the pile empty.
+    // Returns the list, and leaves the pile empty.
     pub(crate) fn take(&mut self, alloc: Global) -> Ids
         ensures given { result ≡ self.old }
         ensures left { self.new ≡ [] }
@@ -61,7 +61,7 @@ impl Pile {
     }
 }
 
-/// This many empty piles.
+// This many empty piles.
 pub(crate) fn piles(alloc: Global, count: usize) -> Result<Vec<Pile>, AllocError>
     ensures { IfOk result (λ piles. piles.items ≡ replicate count []) }
 {
@@ -72,7 +72,7 @@ pub(crate) fn piles(alloc: Global, count: usize) -> Result<Vec<Pile>, AllocError
     Ok(piles)
 }
 
-/// Adds a number at the end of the pile of a machine.
+// Adds a number at the end of the pile of a machine.
 pub(crate) fn put(piles: &mut [Pile], machine: u32, number: u32) -> Result<(), AllocError>
     requires { machine < length piles.old }
     ensures { OnOk result (IsPut (λ m. machine == m) number piles.old piles.new) }

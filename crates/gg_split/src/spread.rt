@@ -6,7 +6,7 @@ ghost use Rattle.gg_split.specs.Spread.{AreLists, IsPut, AreChannels, has, signa
 
 use crate::pile::{Pile, piles, put};
 use gg_cut::Wire;
-use gg_flat::Tree;
+use gg_flat_tree::Tree;
 use std::alloc::{AllocError, Global};
 
 /// The channels that each of `count` machines takes and those that it gives, by the machines' numbers. The lists ascend.
@@ -60,12 +60,12 @@ fn put_channels(wires: &[Wire], ins: &mut [Pile], outs: &mut [Pile]) -> Result<(
     Ok(())
 }
 
-/// The signals of each machine, among those of an order. A signal with a channel belongs to the machines at the ends
-/// of the channel. Any other signal belongs to its owner.
-///
-/// # Errors
-///
-/// Returns `AllocError` if an allocation fails.
+// The signals of each machine, among those of an order. A signal with a channel belongs to the machines at the ends
+// of the channel. Any other signal belongs to its owner.
+//
+// # Errors
+//
+// Returns `AllocError` if an allocation fails.
 pub(crate) fn spread(
     alloc: Global,
     wires: &[Wire],
@@ -138,11 +138,11 @@ fn put_both(wire: &Wire, signal: u32, lists: &mut [Pile]) -> Result<(), AllocErr
     put(lists, wire.consumer, signal)
 }
 
-/// The memories of each machine, by their numbers in the circuit.
-///
-/// # Errors
-///
-/// Returns `AllocError` if an allocation fails.
+// The memories of each machine, by their numbers in the circuit.
+//
+// # Errors
+//
+// Returns `AllocError` if an allocation fails.
 pub(crate) fn memories(
     alloc: Global,
     tree: &Tree,

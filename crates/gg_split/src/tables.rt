@@ -1,19 +1,19 @@
 //! Tables: the machine of each signal, the channel of each signal, the machine of each memory.
 ghost use Rattle.std.specs.Prelude.{◌≡◌, ℕ, ◌<◌, ◌≤◌, ◌^◌, ◌==◌, ◌&&◌, nat_le, nat_lt, None, length, replicate, slice_index_or, All, AllPairs, IfOk};
 ghost use Rattle.gg_flat.specs.Line.{value_at};
-ghost use Rattle.gg_flat.specs.Tree.{instance_at, memory_at};
+ghost use Rattle.gg_flat_tree.specs.Tree.{instance_at, memory_at};
 ghost use Rattle.gg_cut.specs.Listed.{first_place, unit_or_hub, has_signal, memory_or, owner_of_instance, memory_owner};
 ghost use Rattle.gg_split.specs.Spread.{claimed, AreChannels};
 
 use gg_cut::{Listed, Numbering, Wire};
-use gg_flat::Tree;
+use gg_flat_tree::Tree;
 use std::alloc::{AllocError, Global};
 
-/// The machine that each signal belongs to by the instance that has it: the unit, else the hub.
-///
-/// # Errors
-///
-/// Returns `AllocError` if an allocation fails.
+// The machine that each signal belongs to by the instance that has it: the unit, else the hub.
+//
+// # Errors
+//
+// Returns `AllocError` if an allocation fails.
 pub(crate) fn signal_owners(
     alloc: Global,
     tree: &Tree,
@@ -79,11 +79,11 @@ fn claim(owners: &mut [u32], first: u32, end: u32, number: u32)
     }
 }
 
-/// The channel of each signal, if it has one.
-///
-/// # Errors
-///
-/// Returns `AllocError` if an allocation fails.
+// The channel of each signal, if it has one.
+//
+// # Errors
+//
+// Returns `AllocError` if an allocation fails.
 pub(crate) fn channels_of(
     alloc: Global,
     wires: &[Wire],
@@ -123,11 +123,11 @@ fn mark_channels(wires: &[Wire], channels: &mut [Option<u32>])
     }
 }
 
-/// The machine of each memory, by its place in the tree. `owners` has the machine of each instance.
-///
-/// # Errors
-///
-/// Returns `AllocError` if an allocation fails.
+// The machine of each memory, by its place in the tree. `owners` has the machine of each instance.
+//
+// # Errors
+//
+// Returns `AllocError` if an allocation fails.
 pub(crate) fn memory_owners(
     alloc: Global,
     tree: &Tree,

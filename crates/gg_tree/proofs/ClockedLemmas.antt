@@ -8,9 +8,9 @@ use Rattle.std.proofs.lemmas.Simd.{map-map}
 use Rattle.gg_ast.specs.Places.{place_of}
 use Rattle.gg_ast.specs.Tree.{CircuitTree, module_names}
 use Rattle.gg_flat.specs.Circuit.{FlatCircuit, driver_at, readers_at}
-use Rattle.gg_flat.specs.Clocked.{AreParentsBefore, IsClockOf, IsClocked, clock_at, clocks_from, port_clocks, through_parent, top_clocks}
-use Rattle.gg_flat.specs.Scoped.{writers_at}
-use Rattle.gg_flat.specs.Tree.{InstanceTree, IsInnermost, instance_at, memory_at, stop_at}
+use Rattle.gg_flat_tree.specs.Clocked.{AreParentsBefore, IsClockOf, IsClocked, clock_at, clocks_from, port_clocks, through_parent, top_clocks}
+use Rattle.gg_flat_tree.specs.Scoped.{writers_at}
+use Rattle.gg_flat_tree.specs.Tree.{InstanceTree, IsInnermost, instance_at, memory_at, stop_at}
 use Rattle.gg_flat.specs.WellFormed.{IsClock}
 use Rattle.gg_flat.specs.declared.memory.Memory.{Memory}
 use Rattle.gg_flat.specs.declared.memory.Reader.{Reader}
@@ -18,7 +18,7 @@ use Rattle.gg_flat.specs.declared.memory.Writer.{Writer}
 use Rattle.gg_flat.specs.declared.piece.Driver.TheVariants.{Held}
 use Rattle.gg_flat.specs.declared.piece.Register.{Register}
 use Rattle.gg_flat.proofs.ListLemmas.{some-item}
-use Rattle.gg_flat.proofs.TopClockLemmas.{top_clocks-only}
+use Rattle.gg_flat_tree.proofs.TopClockLemmas.{top_clocks-only}
 use Rattle.gg_types.specs.Clocks.{clock_inputs}
 use Rattle.gg_count.specs.Sites.{Site, module_at, site_below, sites_of, top_site}
 use Rattle.gg_flattened.specs.Clocks.{clock_of, own_clocks, port_clock, site_clocks}

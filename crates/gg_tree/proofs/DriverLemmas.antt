@@ -17,7 +17,7 @@ use Rattle.gg_ast.specs.declared.statement.Reset as given
 use Rattle.gg_ast.specs.Places.{place_of}
 use Rattle.gg_ast.specs.Term.{Term, NamedTerm, ConstantTerm, UnaryTerm, BinaryTerm, FixedTerm, MuxTerm}
 use Rattle.gg_ast.specs.Tree.{CircuitTree, module_names}
-use Rattle.gg_flat.specs.Clocked.{clock_at}
+use Rattle.gg_flat_tree.specs.Clocked.{clock_at}
 use Rattle.gg_flat.specs.Circuit.{FlatCircuit, driver_at}
 use Rattle.gg_flat.specs.Line.{shape_at}
 use Rattle.gg_flat.specs.Reads.{NamesSignal, ResetNames, NextNames, RegisterNames}
@@ -28,9 +28,9 @@ use Rattle.gg_flat.specs.declared.piece.Driver.{Driver}
 use Rattle.gg_flat.specs.declared.piece.Driver.TheVariants.{Input, Held, MemoryWord, ReadRegister, Computed}
 use Rattle.gg_flat.specs.declared.piece.Register.{Register}
 use Rattle.gg_flat.specs.declared.piece.Reset as kept
-use Rattle.gg_flat.specs.declared.tree.InstancePort.{InstancePort}
-use Rattle.gg_flat.specs.Tree.{InstanceTree, IsInnermost, instance_at, joined}
-use Rattle.gg_flat.specs.Scoped.{IsScoped, IsVisible, IsWritten, IsOwnSink, IsChildsInput, IsInputOf}
+use Rattle.gg_flat_tree.specs.declared.tree.InstancePort.{InstancePort}
+use Rattle.gg_flat_tree.specs.Tree.{InstanceTree, IsInnermost, instance_at, joined}
+use Rattle.gg_flat_tree.specs.Scoped.{IsScoped, IsVisible, IsWritten, IsOwnSink, IsChildsInput, IsInputOf}
 use Rattle.gg_flat.proofs.ListLemmas.{some-item}
 use Rattle.gg_names.specs.Scope.{written}
 use Rattle.gg_count.specs.Sites.{Site, site_below, module_at, sites_of}

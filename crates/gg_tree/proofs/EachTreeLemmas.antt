@@ -8,11 +8,11 @@ use Rattle.gg_ast.specs.declared.statement.Stmt.{Stmt}
 use Rattle.gg_ast.specs.Places.{place_of}
 use Rattle.gg_ast.specs.Tree.{CircuitTree, module_names}
 use Rattle.gg_ast.proofs.NamePlaces.{place_of-lacks}
-use Rattle.gg_flat.specs.declared.tree.Instance.{Instance}
-use Rattle.gg_flat.specs.declared.tree.InstancePort.{InstancePort}
-use Rattle.gg_flat.specs.declared.tree.MemoryInstance.{MemoryInstance}
-use Rattle.gg_flat.specs.declared.tree.StopInstance.{StopInstance}
-use Rattle.gg_flat.specs.Tree.{InstanceTree, joined}
+use Rattle.gg_flat_tree.specs.declared.tree.Instance.{Instance}
+use Rattle.gg_flat_tree.specs.declared.tree.InstancePort.{InstancePort}
+use Rattle.gg_flat_tree.specs.declared.tree.MemoryInstance.{MemoryInstance}
+use Rattle.gg_flat_tree.specs.declared.tree.StopInstance.{StopInstance}
+use Rattle.gg_flat_tree.specs.Tree.{InstanceTree, joined}
 use Rattle.gg_flat.proofs.ListLemmas.{here, further, Contains-map}
 use Rattle.gg_types.specs.Clocks.{clock_inputs}
 use Rattle.gg_count.specs.Sites.{Outer, Site, module_at, sites_of}

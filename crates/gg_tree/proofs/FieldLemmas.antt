@@ -9,8 +9,8 @@ use Rattle.gg_ast.specs.declared.statement.Stmt.{Stmt}
 use Rattle.gg_ast.specs.declared.statement.StmtKind.{StmtKind}
 use Rattle.gg_ast.specs.declared.statement.StmtKind.TheVariants as says
 use Rattle.gg_ast.specs.Tree.{ModuleTree}
-use Rattle.gg_flat.specs.Tree.{joined}
-use Rattle.gg_flat.specs.Scoped.{reader_fields, writer_fields}
+use Rattle.gg_flat_tree.specs.Tree.{joined}
+use Rattle.gg_flat_tree.specs.Scoped.{reader_fields, writer_fields}
 use Rattle.gg_count.specs.Sites.{Site}
 use Rattle.gg_flattened.specs.Flat.{flat_memory}
 use Rattle.gg_flattened.specs.IsFlat.{number_of, reader_of, writer_of}

@@ -5,8 +5,8 @@ use Rattle.std.proofs.lemmas.List.{length-map, get_or-map}
 use Rattle.std.proofs.lemmas.Option.{slice_get-get_or, same_Some}
 use Rattle.gg_ast.specs.Places.{place_of}
 use Rattle.gg_ast.specs.Tree.{CircuitTree, module_names}
-use Rattle.gg_flat.specs.declared.tree.Instance.{Instance}
-use Rattle.gg_flat.specs.Tree.{InstanceTree, instance_at}
+use Rattle.gg_flat_tree.specs.declared.tree.Instance.{Instance}
+use Rattle.gg_flat_tree.specs.Tree.{InstanceTree, instance_at}
 use Rattle.gg_count.specs.Sites.{Site, Outer, site_below, sites, sites_of, sites_from, top_site}
 use Rattle.gg_flattened.specs.Flat.{FlatSignal, signals_at}
 use Rattle.gg_tree.specs.IsTreeOf.{site_paths, IsParent, IsInstanceFor, AreInstances, IsTreeOf}

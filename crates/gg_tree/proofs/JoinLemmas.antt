@@ -2,7 +2,7 @@
 use Rattle.std.proofs.Common.{◌≡◌, ◌≢◌, ℕ, List, [], ◌∷◌, ◌++◌, length, refl, sym, ap, ◌∙◌, subst, arith, append_assoc, length-append}
 use Rattle.std.specs.Prelude.{Contains}
 use Rattle.std.proofs.Math.Seq.{get_or-append_seam}
-use Rattle.gg_flat.specs.Tree.{joined, IsWithin}
+use Rattle.gg_flat_tree.specs.Tree.{joined, IsWithin}
 
 abbrev head_of : ℕ → List ℕ → ℕ
 head_of d [] = d

@@ -1,9 +1,9 @@
 -- A tree, of which some parts change step by step, keeps the others.
 use Rattle.std.proofs.Common.{◌≡◌, ℕ, List, ◌++◌, Option, sym, ap, ◌∙◌}
-use Rattle.gg_flat.specs.declared.tree.Instance.{Instance}
-use Rattle.gg_flat.specs.declared.tree.MemoryInstance.{MemoryInstance}
-use Rattle.gg_flat.specs.declared.tree.StopInstance.{StopInstance}
-use Rattle.gg_flat.specs.Tree.{InstanceTree, no_tree}
+use Rattle.gg_flat_tree.specs.declared.tree.Instance.{Instance}
+use Rattle.gg_flat_tree.specs.declared.tree.MemoryInstance.{MemoryInstance}
+use Rattle.gg_flat_tree.specs.declared.tree.StopInstance.{StopInstance}
+use Rattle.gg_flat_tree.specs.Tree.{InstanceTree, no_tree}
 use Rattle.gg_tree.specs.TreeParts.{with_clocks, with_instances, with_memories, with_register_clocks, with_stops}
 
 pub instances-kept : (old tree new : InstanceTree) (paths : List (List ℕ)) (instances : List Instance) → tree ≡ with_instances old tree.paths tree.instances → new ≡ with_instances tree paths instances → new ≡ with_instances old new.paths new.instances

@@ -8,8 +8,8 @@ use Rattle.std.proofs.lemmas.Option.{same_Some}
 use Rattle.gg_ast.specs.Places.{place_of}
 use Rattle.gg_ast.specs.Tree.{CircuitTree, module_names}
 use Rattle.gg_flat.specs.Circuit.{FlatCircuit}
-use Rattle.gg_flat.specs.Tree.{InstanceTree, IsInnermost, IsJustBelow, memory_at, path_at, joined}
-use Rattle.gg_flat.specs.Scoped.{IsMemoryField, memory_fields}
+use Rattle.gg_flat_tree.specs.Tree.{InstanceTree, IsInnermost, IsJustBelow, memory_at, path_at, joined}
+use Rattle.gg_flat_tree.specs.Scoped.{IsMemoryField, memory_fields}
 use Rattle.gg_count.specs.Sites.{Site, site_below, module_at, held_at, sites_of, top_site}
 use Rattle.gg_flattened.specs.Flat.{flat_memory, memories_at}
 use Rattle.gg_flattened.specs.IsFlat.{IsFlat}

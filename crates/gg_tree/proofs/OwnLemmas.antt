@@ -9,8 +9,8 @@ use Rattle.gg_bits.specs.Shape.{Shape}
 use Rattle.gg_ast.specs.declared.module.Port.{Port}
 use Rattle.gg_ast.specs.Places.{place_of}
 use Rattle.gg_ast.specs.Tree.{CircuitTree}
-use Rattle.gg_flat.specs.declared.tree.InstancePort.{InstancePort}
-use Rattle.gg_flat.specs.Tree.{joined}
+use Rattle.gg_flat_tree.specs.declared.tree.InstancePort.{InstancePort}
+use Rattle.gg_flat_tree.specs.Tree.{joined}
 use Rattle.gg_count.specs.Sites.{Site, module_at, sites_of}
 use Rattle.gg_flattened.specs.Flat.{FlatSignal, flat_signal, flat_signals}
 use Rattle.gg_tree.specs.IsTreeOf.{Pairwise, signal_paths, signal_ports, IsPortFor}

@@ -5,7 +5,7 @@ use Rattle.std.proofs.lemmas.Bool.{cases_lt}
 use Rattle.std.proofs.lemmas.Grind.{flat_map-append}
 use Rattle.std.proofs.Math.Seq.{take-append_seam}
 use Rattle.gg_ast.specs.Tree.{ModuleTree}
-use Rattle.gg_flat.specs.Tree.{InstanceTree, instance_at, Holds, IsInnermost}
+use Rattle.gg_flat_tree.specs.Tree.{InstanceTree, instance_at, Holds, IsInnermost}
 use Rattle.gg_count.specs.Sites.{Site, site_below, sites}
 use Rattle.gg_tree.proofs.PlaceLemmas.{within, within-some, Placed, Under, HeldFrom, held_from}
 

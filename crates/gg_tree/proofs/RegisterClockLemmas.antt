@@ -5,7 +5,7 @@ use Rattle.std.proofs.Math.Seq.{get_or-append-add}
 use Rattle.gg_ast.specs.declared.statement.Reset.{Reset}
 use Rattle.gg_ast.specs.Tree.{ModuleTree}
 use Rattle.gg_bits.specs.Shape.{Shape}
-use Rattle.gg_flat.specs.Clocked.{clock_at}
+use Rattle.gg_flat_tree.specs.Clocked.{clock_at}
 use Rattle.gg_flat.specs.WellFormed.{IsClock}
 use Rattle.gg_flat.specs.declared.memory.Latency.{Latency}
 use Rattle.gg_flat.specs.declared.memory.Latency.TheVariants.{Zero, One}

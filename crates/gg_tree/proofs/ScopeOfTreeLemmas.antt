@@ -12,9 +12,9 @@ use Rattle.gg_ast.specs.Places.{place_of}
 use Rattle.gg_ast.specs.Tree.{CircuitTree, module_names}
 use Rattle.gg_flat.specs.Circuit.{FlatCircuit, readers_at}
 use Rattle.gg_flat.specs.declared.memory.Memory.{Memory}
-use Rattle.gg_flat.specs.declared.tree.InstancePort.{InstancePort}
-use Rattle.gg_flat.specs.Tree.{InstanceTree, IsInnermost, IsWithin, IsJustBelow, instance_at, memory_at, path_at, joined}
-use Rattle.gg_flat.specs.Scoped.{IsPort, IsOwnPort, IsOwnField, IsFieldOf, input_signals, output_signals, reader_fields, writer_fields, writers_at, memory_fields}
+use Rattle.gg_flat_tree.specs.declared.tree.InstancePort.{InstancePort}
+use Rattle.gg_flat_tree.specs.Tree.{InstanceTree, IsInnermost, IsWithin, IsJustBelow, instance_at, memory_at, path_at, joined}
+use Rattle.gg_flat_tree.specs.Scoped.{IsPort, IsOwnPort, IsOwnField, IsFieldOf, input_signals, output_signals, reader_fields, writer_fields, writers_at, memory_fields}
 use Rattle.gg_flat.proofs.ListLemmas.{filter-cases, some-item}
 use Rattle.gg_count.specs.Sites.{Held, Site, module_at, held_at, sites_of, top_site}
 use Rattle.gg_flattened.specs.Flat.{flat_memory}

@@ -10,10 +10,10 @@ use Rattle.gg_ast.specs.declared.statement.Stmt.{Stmt}
 use Rattle.gg_ast.specs.Places.{place_of}
 use Rattle.gg_ast.specs.Tree.{CircuitTree, module_names}
 use Rattle.gg_flat.specs.Circuit.{FlatCircuit}
-use Rattle.gg_flat.specs.declared.tree.InstancePort.{InstancePort}
-use Rattle.gg_flat.specs.declared.tree.StopInstance.{StopInstance}
-use Rattle.gg_flat.specs.Scoped.{IsFieldOf, IsPort, IsStop, stop_signals}
-use Rattle.gg_flat.specs.Tree.{InstanceTree, IsInnermost, instance_at, joined, stop_at}
+use Rattle.gg_flat_tree.specs.declared.tree.InstancePort.{InstancePort}
+use Rattle.gg_flat_tree.specs.declared.tree.StopInstance.{StopInstance}
+use Rattle.gg_flat_tree.specs.Scoped.{IsFieldOf, IsPort, IsStop, stop_signals}
+use Rattle.gg_flat_tree.specs.Tree.{InstanceTree, IsInnermost, instance_at, joined, stop_at}
 use Rattle.gg_count.specs.Sites.{Site, module_at, sites_of}
 use Rattle.gg_flattened.specs.Clocks.{clock_of}
 use Rattle.gg_flattened.specs.IsFlat.{IsFlat}

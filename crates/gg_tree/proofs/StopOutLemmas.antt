@@ -7,9 +7,9 @@ use Rattle.gg_ast.specs.declared.module.Direction.TheVariants as direction
 use Rattle.gg_ast.specs.Places.{place_of}
 use Rattle.gg_ast.specs.Tree.{ModuleTree, CircuitTree, module_names}
 use Rattle.gg_flat.specs.Circuit.{FlatCircuit}
-use Rattle.gg_flat.specs.declared.tree.StopInstance.{StopInstance}
-use Rattle.gg_flat.specs.Scoped.{output_signals, stop_signals}
-use Rattle.gg_flat.specs.Tree.{InstanceTree, instance_at, joined}
+use Rattle.gg_flat_tree.specs.declared.tree.StopInstance.{StopInstance}
+use Rattle.gg_flat_tree.specs.Scoped.{output_signals, stop_signals}
+use Rattle.gg_flat_tree.specs.Tree.{InstanceTree, instance_at, joined}
 use Rattle.gg_count.specs.Sites.{Site, module_at, sites_of}
 use Rattle.gg_flattened.specs.Flat.{stop_paths}
 use Rattle.gg_flattened.specs.IsFlat.{IsFlat, number_of, port_names, top_ports}

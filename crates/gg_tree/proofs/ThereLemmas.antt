@@ -4,7 +4,7 @@ use Rattle.std.specs.Prelude.{Contains, All, IfSome, flat_map}
 use Rattle.gg_ast.specs.declared.module.Port.{Port}
 use Rattle.gg_ast.specs.Places.{place_of}
 use Rattle.gg_ast.specs.Tree.{ModuleTree, CircuitTree, module_names}
-use Rattle.gg_flat.specs.Tree.{joined}
+use Rattle.gg_flat_tree.specs.Tree.{joined}
 use Rattle.gg_flat.proofs.ListLemmas.{further, Contains-map}
 use Rattle.gg_count.specs.Sites.{Held, Site, Outer, top_site, site_below, sites, sites_of, sites_from, held_at, module_at}
 use Rattle.gg_flattened.specs.declared.digest.Digest.{Digest}

@@ -13,9 +13,9 @@ use Rattle.gg_flat.specs.declared.memory.Memory.{Memory}
 use Rattle.gg_flat.specs.declared.memory.Reader.{Reader}
 use Rattle.gg_flat.specs.declared.memory.Writer.{Writer}
 use Rattle.gg_flat.specs.declared.piece.Signal.{Signal}
-use Rattle.gg_flat.specs.declared.tree.InstancePort.{InstancePort}
-use Rattle.gg_flat.specs.declared.tree.MemoryInstance.{MemoryInstance}
-use Rattle.gg_flat.specs.Tree.{InstanceTree, IsTree, IsTop, IsBelow, IsInstance, IsHeld, IsInnermost, IsWithin, Holds, instance_at, memory_at, parent_place, path_at, joined, port_count}
+use Rattle.gg_flat_tree.specs.declared.tree.InstancePort.{InstancePort}
+use Rattle.gg_flat_tree.specs.declared.tree.MemoryInstance.{MemoryInstance}
+use Rattle.gg_flat_tree.specs.Tree.{InstanceTree, IsTree, IsTop, IsBelow, IsInstance, IsHeld, IsInnermost, IsWithin, Holds, instance_at, memory_at, parent_place, path_at, joined, port_count}
 use Rattle.gg_flat.proofs.ListLemmas.{some-item}
 use Rattle.gg_count.specs.Sites.{Held, Site, site_below, module_at, held_at, sites_of, top_site}
 use Rattle.gg_flattened.specs.Flat.{FlatSignal, FlatMemory, flat_memory, memories_at, flat_signals}

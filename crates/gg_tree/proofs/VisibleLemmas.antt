@@ -11,8 +11,8 @@ use Rattle.gg_ast.specs.declared.module.Port.{Port}
 use Rattle.gg_ast.specs.Places.{place_of}
 use Rattle.gg_ast.specs.Tree.{CircuitTree, module_names}
 use Rattle.gg_flat.specs.Circuit.{FlatCircuit}
-use Rattle.gg_flat.specs.Tree.{InstanceTree, IsInnermost, instance_at, joined}
-use Rattle.gg_flat.specs.Scoped.{IsVisible}
+use Rattle.gg_flat_tree.specs.Tree.{InstanceTree, IsInnermost, instance_at, joined}
+use Rattle.gg_flat_tree.specs.Scoped.{IsVisible}
 use Rattle.gg_names.specs.Scope.{written}
 use Rattle.gg_count.specs.Sites.{Held, Site, site_below, module_at, held_at, sites_of, top_site}
 use Rattle.gg_flattened.specs.Flat.{FlatSignal, flat_signals}

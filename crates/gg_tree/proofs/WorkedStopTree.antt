@@ -3,8 +3,8 @@ use Rattle.std.proofs.Common.{◌≡◌, ℕ, List, [], ◌∷◌, Option, Some,
 use Rattle.std.proofs.lemmas.Option.{same_Some}
 use Rattle.std.specs.Fmt.{digits}
 use Rattle.std.specs.Prelude.{slice_index_or}
-use Rattle.gg_flat.specs.declared.tree.StopInstance.{StopInstance}
-use Rattle.gg_flat.specs.Tree.{InstanceTree}
+use Rattle.gg_flat_tree.specs.declared.tree.StopInstance.{StopInstance}
+use Rattle.gg_flat_tree.specs.Tree.{InstanceTree}
 use Rattle.gg_flattened.specs.Known.{types_of}
 use Rattle.gg_tree.specs.IsTreeOf.{IsTreeOf}
 use Rattle.gg_flattened.proofs.WorkedStops.{circuit}

@@ -1,7 +1,7 @@
 -- The tree of the circuit in WorkedText, and two that aren't its tree.
 use Rattle.std.proofs.Common.{◌≡◌, ℕ, List, [], ◌∷◌, Some, None, false, true, codes, refl, arith}
-use Rattle.gg_flat.specs.declared.tree.Instance.{Instance}
-use Rattle.gg_flat.specs.Tree.{InstanceTree}
+use Rattle.gg_flat_tree.specs.declared.tree.Instance.{Instance}
+use Rattle.gg_flat_tree.specs.Tree.{InstanceTree}
 use Rattle.gg_flattened.specs.Known.{types_of}
 use Rattle.gg_tree.specs.IsTreeOf.{IsTreeOf}
 use Rattle.gg_flattened.proofs.WorkedText.{circuit}

@@ -3,11 +3,11 @@
 use Rattle.std.specs.Prelude.{◌≡◌, ℕ, Bool, List, [], ◌∷◌, ◌++◌, Option, Some, None, map, filter, flat_map, length, take, is_some}
 use Rattle.gg_ast.specs.declared.module.Port.{Port}
 use Rattle.gg_ast.specs.Tree.{ModuleTree, CircuitTree}
-use Rattle.gg_flat.specs.declared.tree.Instance.{Instance}
-use Rattle.gg_flat.specs.declared.tree.MemoryInstance.{MemoryInstance}
-use Rattle.gg_flat.specs.declared.tree.InstancePort.{InstancePort}
-use Rattle.gg_flat.specs.declared.tree.StopInstance.{StopInstance}
-use Rattle.gg_flat.specs.Tree.{InstanceTree, joined}
+use Rattle.gg_flat_tree.specs.declared.tree.Instance.{Instance}
+use Rattle.gg_flat_tree.specs.declared.tree.MemoryInstance.{MemoryInstance}
+use Rattle.gg_flat_tree.specs.declared.tree.InstancePort.{InstancePort}
+use Rattle.gg_flat_tree.specs.declared.tree.StopInstance.{StopInstance}
+use Rattle.gg_flat_tree.specs.Tree.{InstanceTree, joined}
 use Rattle.gg_flattened.specs.declared.digest.Digest.{Digest}
 use Rattle.gg_flattened.specs.declared.digest.OwnMemory.{OwnMemory}
 use Rattle.gg_flattened.specs.declared.sites.Around.{Around}

@@ -10,7 +10,7 @@ ghost use Rattle.gg_types.specs.Clocks.{clock_inputs};
 
 use crate::places::copied;
 use gg_ast::Port;
-use gg_flat::Tree;
+use gg_flat_tree::Tree;
 use gg_flattened::{Digest, Origin, OwnSignal, Place, clock_of};
 use gg_types::{Typed, is_clock_input};
 use std::alloc::AllocError;

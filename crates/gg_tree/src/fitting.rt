@@ -3,12 +3,13 @@ ghost use Rattle.std.specs.Prelude.{◌≢◌, None};
 ghost use Rattle.gg_ast.specs.Places.{place_of};
 ghost use Rattle.gg_ast.specs.Tree.{module_names};
 ghost use Rattle.gg_flattened.specs.IsFlat.{IsFlat};
-ghost use Rattle.gg_flat.specs.Clocked.{IsClocked};
-ghost use Rattle.gg_flat.specs.Scoped.{IsScoped};
-ghost use Rattle.gg_flat.specs.Tree.{IsTree};
+ghost use Rattle.gg_flat_tree.specs.Clocked.{IsClocked};
+ghost use Rattle.gg_flat_tree.specs.Scoped.{IsScoped};
+ghost use Rattle.gg_flat_tree.specs.Tree.{IsTree};
 ghost use Rattle.gg_tree.specs.IsTreeOf.{IsTreeOf};
 
-use gg_flat::{Piece, Tree};
+use gg_flat::Piece;
+use gg_flat_tree::Tree;
 use gg_types::Typed;
 
 /// The circuit's tree is a tree of its flat circuit; the flat circuit keeps to the tree's scopes, and has the tree's

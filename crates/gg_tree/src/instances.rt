@@ -6,14 +6,15 @@ ghost use Rattle.gg_count.specs.Sites.{sites_of};
 ghost use Rattle.gg_flattened.specs.IsFlat.{memory_paths};
 ghost use Rattle.gg_flattened.specs.Known.{types_of};
 ghost use Rattle.gg_flattened.specs.Views.{IsPlaceIn, AreDigests, site_of};
-ghost use Rattle.gg_flat.specs.Tree.{joined as joined_text, no_tree};
+ghost use Rattle.gg_flat_tree.specs.Tree.{joined as joined_text, no_tree};
 ghost use Rattle.gg_tree.specs.IsTreeOf.{Pairwise, AreInstances, signal_paths, memories_of};
 ghost use Rattle.gg_tree.specs.TreeParts.{is_signal, signals_among, IsPortAt, IsNumberAt, IsHolder, place_paths, signals_to, IsInstanceAt, with_instances};
 
 use crate::places::{copied, place_at};
 use gg_ast::{Direction, Port};
 use gg_bits::{Ids, Items, Name};
-use gg_flat::{AddError, ClockNumbers, Instance, InstancePort, Paths, Tree};
+use gg_flat::{AddError, Paths};
+use gg_flat_tree::{ClockNumbers, Instance, InstancePort, Tree};
 use gg_flattened::{Around, Digest, OwnMemory, Place, Table, ground_type, joined};
 use gg_types::Typed;
 use std::alloc::{AllocError, Global};

@@ -1,6 +1,6 @@
 //! Laws: facts about the definitions. Each is the contract of a function with an empty body.
 ghost use Rattle.gg_ast.specs.Tree.{CircuitTree};
-ghost use Rattle.gg_flat.specs.Tree.{InstanceTree};
+ghost use Rattle.gg_flat_tree.specs.Tree.{InstanceTree};
 ghost use Rattle.gg_tree.specs.IsTreeOf.{IsTreeOf};
 
 /// Each circuit has a tree.

@@ -6,13 +6,14 @@ ghost use Rattle.gg_flattened.specs.Flat.{flat_memories};
 ghost use Rattle.gg_flattened.specs.IsFlat.{memory_paths};
 ghost use Rattle.gg_flattened.specs.Known.{types_of};
 ghost use Rattle.gg_flattened.specs.Views.{IsPlaceIn, AreDigests, site_of};
-ghost use Rattle.gg_flat.specs.Tree.{joined as joined_text};
+ghost use Rattle.gg_flat_tree.specs.Tree.{joined as joined_text};
 ghost use Rattle.gg_tree.specs.IsTreeOf.{Pairwise, HeldMemory, held_memories, site_paths as paths_of_sites, memories_of};
 ghost use Rattle.gg_tree.specs.TreeParts.{IsMemoryPart, IsHeldFor, held_at_place, with_memories};
 
 use crate::places::{copied, place_at};
 use gg_bits::{Name, Names};
-use gg_flat::{AddError, ClockNumbers, MemoryInstance, Paths, Tree};
+use gg_flat::{AddError, Paths};
+use gg_flat_tree::{ClockNumbers, MemoryInstance, Tree};
 use gg_flattened::{Digest, OwnMemory, Place, Table, joined, port_clock};
 use gg_types::Typed;
 use std::alloc::{AllocError, Global};

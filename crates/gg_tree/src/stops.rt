@@ -3,12 +3,13 @@ ghost use Rattle.std.specs.Prelude.{List, ◌≡◌, ◌<◌, ◌++◌, [], map,
 ghost use Rattle.gg_count.specs.Sites.{module_at, sites_of};
 ghost use Rattle.gg_flattened.specs.Known.{types_of};
 ghost use Rattle.gg_flattened.specs.Views.{IsPlaceIn, AreDigests, site_of};
-ghost use Rattle.gg_flat.specs.Tree.{joined as joined_text};
+ghost use Rattle.gg_flat_tree.specs.Tree.{joined as joined_text};
 ghost use Rattle.gg_tree.specs.IsTreeOf.{Pairwise, HeldStop, held_stops, site_paths as paths_of_sites, signal_paths};
 ghost use Rattle.gg_tree.specs.TreeParts.{IsStopPart, IsAskedFor, stop_at_place, with_stops};
 
 use crate::places::place_at;
-use gg_flat::{Paths, StopInstance, Tree};
+use gg_flat::Paths;
+use gg_flat_tree::{StopInstance, Tree};
 use gg_flattened::{Digest, OwnStop, Place, Table, clock_of, joined};
 use gg_types::Typed;
 use std::alloc::{AllocError, Global};

@@ -14,7 +14,7 @@ use crate::memories::add_memories;
 use crate::places::site_paths;
 use crate::stops::add_stops;
 use gg_ast::Port;
-use gg_flat::Tree;
+use gg_flat_tree::Tree;
 use gg_flattened::{Digest, Place, Table};
 use gg_types::Typed;
 use std::alloc::{AllocError, Global};

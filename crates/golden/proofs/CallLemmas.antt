@@ -10,9 +10,9 @@ use Rattle.gg_words.specs.Meaning.{IsCommand}
 use Rattle.gg_words.specs.declared.command.Cmd.{Cmd}
 use Rattle.gg_cut.specs.Bridges.{Models}
 use Rattle.gg_told.proofs.EndingLemmas.{wants-ends}
-use Rattle.golden.specs.Commands.{order_of}
-use Rattle.golden.specs.Outcome.{Asked, Unasked, WantsMemoryFirst, Answered, CallEnded}
-use Rattle.golden.specs.Words.{AskForCommand, TellsUnasked}
+use Rattle.golden_case.specs.Commands.{order_of}
+use Rattle.golden_case.specs.Outcome.{Asked, Unasked, WantsMemoryFirst, Answered, CallEnded}
+use Rattle.golden_case.specs.Words.{AskForCommand, TellsUnasked}
 
 module _ {T : Type 0} {models : Models} {words : List (List ℕ)} {loads : Loads} {out : Puts} where
   -- the words ask for this command, which has ended

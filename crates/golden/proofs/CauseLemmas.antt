@@ -15,9 +15,9 @@ use Rattle.gg_words.specs.declared.command.Cmd.{Cmd}
 use Rattle.gg_words.specs.declared.command.WordFault.{WordFault}
 use Rattle.gg_words.specs.declared.command.WordFault.TheVariants as word
 use Rattle.gg_cut.specs.Bridges.{Models}
-use Rattle.golden.specs.Commands.{order_of}
-use Rattle.golden.specs.Outcome.{Outcome, Asked, Unasked, WantsMemoryFirst}
-use Rattle.golden.specs.Words.{AskForCommand, TellsUnasked, TellsWords}
+use Rattle.golden_case.specs.Commands.{order_of}
+use Rattle.golden_case.specs.Outcome.{Outcome, Asked, Unasked, WantsMemoryFirst}
+use Rattle.golden_case.specs.Words.{AskForCommand, TellsUnasked, TellsWords}
 
 -- words mean at most one thing
 abbrev pub OneMeaning : Type 0

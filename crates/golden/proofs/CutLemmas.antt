@@ -7,9 +7,9 @@ use Rattle.gg_order.specs.Design.{Ordered}
 use Rattle.gg_partfile.proofs.OnceLemmas.{request-once}
 use Rattle.gg_partfile.specs.Partition.{IsPartition}
 use Rattle.gg_partfile.specs.declared.request.Request.{Request}
-use Rattle.golden.specs.Check.{IsCutTextOf}
+use Rattle.golden_case.specs.Check.{IsCutTextOf}
 use Rattle.gg_told.specs.Order.{IsOnly}
-use Rattle.golden.proofs.PartitionLemmas.{DesignsAgree}
+use Rattle.golden_case.proofs.PartitionLemmas.{DesignsAgree}
 
 -- the cut of a request has only one text, and designs that are alike have the same one
 abbrev pub OneText : Type 0

@@ -33,21 +33,21 @@ use Rattle.gg_told.specs.Order.{IsOnly, Write}
 use Rattle.gg_told.specs.declared.endings.Ending.{Ending}
 use Rattle.gg_told.specs.declared.endings.Ending.TheVariants.{Refused, Unwritten, NoMemory}
 use Rattle.gg_told.proofs.EndingLemmas.{only-ends, wants-ends}
-use Rattle.golden.specs.Case.{IsFed}
-use Rattle.golden.specs.Demo.{IsDemoText, demo_capacity, setting_summary}
-use Rattle.golden.specs.Partition.{to_run}
-use Rattle.golden.specs.Replay.{IsSetting, Setting}
-use Rattle.golden.specs.Replayed.{fed_flow}
-use Rattle.golden.specs.declared.case.Fed.{Fed}
-use Rattle.golden.proofs.AloneLemmas.{circuit-alone}
-use Rattle.golden.proofs.CaseLemmas.{case-can, case-ordered}
-use Rattle.golden.proofs.FedLemmas.{to-replay}
-use Rattle.golden.proofs.FedLemmas as fed_setting
-use Rattle.golden.proofs.HandedLemmas.{no-models}
-use Rattle.golden.proofs.PartitionLemmas.{DesignsAgree}
-use Rattle.golden.proofs.ReplayLemmas.{AreSet, are-set, laid, opens, setting_of}
-use Rattle.golden.proofs.SettingLemmas.{circuits-same, cycles-same, layouts-same, rows-same}
-use Rattle.golden.proofs.TextLemmas.{OneRun}
+use Rattle.golden_case.specs.Case.{IsFed}
+use Rattle.golden_case.specs.Demo.{IsDemoText, demo_capacity, setting_summary}
+use Rattle.golden_case.specs.Partition.{to_run}
+use Rattle.golden_case.specs.Replay.{IsSetting, Setting}
+use Rattle.golden_case.specs.Replayed.{fed_flow}
+use Rattle.golden_case.specs.declared.case.Fed.{Fed}
+use Rattle.golden_case.proofs.AloneLemmas.{circuit-alone}
+use Rattle.golden_case.proofs.CaseLemmas.{case-can, case-ordered}
+use Rattle.golden_case.proofs.FedLemmas.{to-replay}
+use Rattle.golden_case.proofs.FedLemmas as fed_setting
+use Rattle.golden_case.proofs.HandedLemmas.{no-models}
+use Rattle.golden_case.proofs.PartitionLemmas.{DesignsAgree}
+use Rattle.golden_case.proofs.ReplayLemmas.{AreSet, are-set, laid, opens, setting_of}
+use Rattle.golden_case.proofs.SettingLemmas.{circuits-same, cycles-same, layouts-same, rows-same}
+use Rattle.golden_case.proofs.TextLemmas.{OneRun}
 
 -- ---- lines
 

@@ -11,9 +11,9 @@ use Rattle.gg_front.specs.declared.fault.FrontFault.TheVariants as front
 use Rattle.gg_front.proofs.AgreementLemmas.{OneFaultLine, read-once}
 use Rattle.gg_shape.specs.declared.fault.Fault.{Fault}
 use Rattle.gg_told.specs.Said.{Said}
-use Rattle.golden.specs.Lines.{TellsUnread, circuit_fault}
+use Rattle.golden_case.specs.Lines.{TellsUnread, circuit_fault}
 use Rattle.gg_told.specs.Order.{IsExactFile}
-use Rattle.golden.specs.Run.{TellsCircuit, circuit_file}
+use Rattle.golden_case.specs.Run.{TellsCircuit, circuit_file}
 use Rattle.gg_told.proofs.OrderLemmas.{exact-by}
 
 -- an accepted text has no fault

@@ -4,10 +4,10 @@ use Rattle.std.proofs.lemmas.List.{map-id}
 use Rattle.gg_io.specs.Told.{Holds, Told}
 use Rattle.gg_flat.proofs.ListLemmas.{map-same}
 use Rattle.gg_flat.specs.Circuit.{FlatCircuit}
-use Rattle.gg_flat.specs.Ports.{output_ports}
+use Rattle.gg_flat_tree.specs.OutputPorts.{output_ports}
 use Rattle.gg_flat.specs.Run.{IsRun, clocked_start, IsRunFrom}
 use Rattle.gg_flat.specs.declared.ports.Port.{Port}
-use Rattle.gg_flat.specs.Scoped.{stop_signals}
+use Rattle.gg_flat_tree.specs.Scoped.{stop_signals}
 use Rattle.gg_front.specs.Meaning.{MeansDesign}
 use Rattle.gg_order.specs.Design.{Ordered}
 use Rattle.gg_partfile.specs.Partition.{IsPartition}
@@ -28,13 +28,13 @@ use Rattle.gg_trace.specs.Trace.{Columns}
 use Rattle.gg_words.specs.Meaning.{IsCommand}
 use Rattle.gg_words.specs.declared.command.Cmd.{Cmd}
 use Rattle.gg_words.specs.declared.command.Cmd.TheVariants.{Resume, Run}
-use Rattle.golden.specs.Commands.{order_of}
-use Rattle.golden.specs.Outcome.{Asked, Outcome, Unasked, WantsMemoryFirst}
-use Rattle.golden.specs.Partition.{Known, partition_file_for, to_run, to_save}
-use Rattle.golden.specs.Resumed.{IsResumedText, snap_file_for}
-use Rattle.golden.specs.Run.{IsPlainText, IsTextOf, circuit_file, trace_file_for}
-use Rattle.golden.specs.RunText.{IsRunBy, IsRunText, columns_of, outputs_of, run_rows}
-use Rattle.golden.proofs.AloneLemmas.{fed-alone, kept-alone, run-alone, shown-alone}
+use Rattle.golden_case.specs.Commands.{order_of}
+use Rattle.golden_case.specs.Outcome.{Asked, Outcome, Unasked, WantsMemoryFirst}
+use Rattle.golden_case.specs.Partition.{Known, partition_file_for, to_run, to_save}
+use Rattle.golden_case.specs.Resumed.{IsResumedText, snap_file_for}
+use Rattle.golden_case.specs.Run.{IsPlainText, IsTextOf, circuit_file, trace_file_for}
+use Rattle.golden_case.specs.RunText.{IsRunBy, IsRunText, columns_of, outputs_of, run_rows}
+use Rattle.golden_case.proofs.AloneLemmas.{fed-alone, kept-alone, run-alone, shown-alone}
 use Rattle.golden.proofs.CauseLemmas.{ExactOrders, OneMeaning, asks-once}
 use Rattle.golden.proofs.NetworkLemmas.{refused-some}
 use Rattle.golden.proofs.StopLemmas.{ratios-plain, rows-plain}

@@ -26,12 +26,12 @@ use Rattle.gg_snap_text.specs.Standing.{IsSnap}
 use Rattle.gg_trace.specs.Header.{field}
 use Rattle.gg_trace.specs.Ports.{IsNamed}
 use Rattle.gg_trace.specs.Trace.{Columns, header_of}
-use Rattle.golden.specs.Meant.{AreMeant, Meant, meant_reference}
-use Rattle.golden.specs.Partition.{Known}
-use Rattle.golden.specs.RunText.{IsRunBy, fed_ports}
-use Rattle.golden.proofs.AloneLemmas.{faultless-first}
-use Rattle.golden.proofs.PartitionLemmas.{DesignsAgree}
-use Rattle.golden.proofs.TextLemmas.{feeds-moved}
+use Rattle.golden_case.specs.Meant.{AreMeant, Meant, meant_reference}
+use Rattle.golden_case.specs.Partition.{Known}
+use Rattle.golden_case.specs.RunText.{IsRunBy, fed_ports}
+use Rattle.golden_case.proofs.AloneLemmas.{faultless-first}
+use Rattle.golden_case.proofs.PartitionLemmas.{DesignsAgree}
+use Rattle.golden_case.proofs.TextLemmas.{feeds-moved}
 
 -- ---- the columns of a trace
 

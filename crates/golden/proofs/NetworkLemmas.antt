@@ -14,9 +14,9 @@ use Rattle.gg_told.proofs.OrderLemmas.{Cut, Judged, Lost, Why, why-stops}
 use Rattle.gg_words.specs.Meaning.{IsCommand}
 use Rattle.gg_words.specs.declared.command.Cmd.{Cmd}
 use Rattle.gg_words.specs.declared.command.Cmd.TheVariants.{Run}
-use Rattle.golden.specs.Network.{RanNetwork}
-use Rattle.golden.specs.Partition.{Known}
-use Rattle.golden.specs.Words.{AskForCommand, TellsUnasked}
+use Rattle.golden_case.specs.Network.{RanNetwork}
+use Rattle.golden_case.specs.Partition.{Known}
+use Rattle.golden_case.specs.Words.{AskForCommand, TellsUnasked}
 
 -- ---- a status of 0
 

@@ -3,7 +3,7 @@ use Rattle.std.proofs.Common.{◌≡◌, ℕ, List, refl, sym, ap, ◌∙◌, su
 use Rattle.gg_flat.specs.Circuit.{FlatCircuit}
 use Rattle.gg_flat.specs.Run.{IsColumns}
 use Rattle.gg_flat.specs.Streams.{Flow}
-use Rattle.gg_flat.specs.Tree.{InstanceTree}
+use Rattle.gg_flat_tree.specs.Tree.{InstanceTree}
 use Rattle.gg_moved.specs.KeepsToTree.{KeepsToTree}
 use Rattle.gg_order.specs.Design.{Ordered}
 use Rattle.gg_partfile.specs.declared.request.Request.{Request}
@@ -17,16 +17,16 @@ use Rattle.gg_pipe.proofs.StartLemmas.{plan-typed}
 use Rattle.gg_sound.specs.Built.{flow_of}
 use Rattle.gg_build.specs.Build.{IsToRun}
 use Rattle.gg_run.proofs.TextLemmas.{shown-text}
-use Rattle.golden.specs.Case.{IsFed}
-use Rattle.golden.specs.Network.{IsNetworkText}
-use Rattle.golden.specs.Partition.{Known}
-use Rattle.golden.specs.RunText.{IsRunBy, run_text, shown_ports}
-use Rattle.golden.specs.declared.case.Fed.{Fed}
-use Rattle.golden.proofs.BeginLemmas.{rows-of}
-use Rattle.golden.proofs.CaseLemmas.{case-can}
-use Rattle.golden.proofs.PartitionLemmas.{DesignsAgree}
-use Rattle.golden.proofs.TextLemmas.{alike-run, circuit-same, feeds-moved}
-use Rattle.golden.proofs.WholePortLemmas.{whole-text}
+use Rattle.golden_case.specs.Case.{IsFed}
+use Rattle.golden_case.specs.Network.{IsNetworkText}
+use Rattle.golden_case.specs.Partition.{Known}
+use Rattle.golden_case.specs.RunText.{IsRunBy, run_text, shown_ports}
+use Rattle.golden_case.specs.declared.case.Fed.{Fed}
+use Rattle.golden_case.proofs.BeginLemmas.{rows-of}
+use Rattle.golden_case.proofs.CaseLemmas.{case-can}
+use Rattle.golden_case.proofs.PartitionLemmas.{DesignsAgree}
+use Rattle.golden_case.proofs.TextLemmas.{alike-run, circuit-same, feeds-moved}
+use Rattle.golden_case.proofs.WholePortLemmas.{whole-text}
 
 module _ (known : Known) (agree : DesignsAgree) (circuit partition trace : List ℕ) (capacity : ℕ) (fed : Fed) (is : IsFed known circuit partition trace capacity fed)
     (rows : List (List ℕ)) (run : IsRunBy fed.case.design fed.case.cut.request known.models fed.trace.columns fed.trace.rows rows)

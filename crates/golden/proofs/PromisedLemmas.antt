@@ -27,20 +27,20 @@ use Rattle.gg_trace.specs.declared.faults.TraceFault.{TraceFault}
 use Rattle.gg_words.specs.Meaning.{IsCommand}
 use Rattle.gg_words.specs.declared.command.Cmd.{Cmd}
 use Rattle.gg_words.specs.declared.command.Cmd.TheVariants.{Run, Replay, Check, Demo, Save, Resume}
-use Rattle.golden.specs.Commands.{Asked, asked_by, asking, known_of, order_behind, order_by, order_of, read_order, trace_of}
-use Rattle.golden.specs.Limits.{circuit_limit, partition_limit, snap_limit, steps_limit, trace_limit}
-use Rattle.golden.specs.Lines.{TellsUnread, partition_fault, trace_fault}
-use Rattle.golden.specs.Network.{RanNetwork}
-use Rattle.golden.specs.Outcome.{Answered}
-use Rattle.golden.specs.Partition.{HasFault, IsPartitionFor, TellsPartitionFor, partition_file_for, to_run, to_save}
-use Rattle.golden.specs.Promised.{JudgedAt, Promised}
-use Rattle.golden.specs.Replay.{IsReplayOf, IsSetting, Setting, TellsSteps, replayed, steps_file_for, stopped_said}
-use Rattle.golden.specs.Resumed.{CanBeResumed, HaveSamePipes, HaveSameRatios, IsRestOf, IsResumedText}
-use Rattle.golden.specs.Saved.{IsSavedText, saved_file_for}
-use Rattle.golden.specs.Stepped.{ToldByNetwork}
-use Rattle.golden.specs.Run.{IsPlainText, IsTextOf, TellsCircuit, TellsTraceFor, circuit_file, trace_file_for}
-use Rattle.golden.specs.RunText.{fed_ports}
-use Rattle.golden.specs.Words.{AskForCommand, TellsUnasked}
+use Rattle.golden_case.specs.Commands.{Asked, asked_by, asking, known_of, order_behind, order_by, order_of, read_order, trace_of}
+use Rattle.golden_case.specs.Limits.{circuit_limit, partition_limit, snap_limit, steps_limit, trace_limit}
+use Rattle.golden_case.specs.Lines.{TellsUnread, partition_fault, trace_fault}
+use Rattle.golden_case.specs.Network.{RanNetwork}
+use Rattle.golden_case.specs.Outcome.{Answered}
+use Rattle.golden_case.specs.Partition.{HasFault, IsPartitionFor, TellsPartitionFor, partition_file_for, to_run, to_save}
+use Rattle.golden_case.specs.Promised.{JudgedAt, Promised}
+use Rattle.golden_case.specs.Replay.{IsReplayOf, IsSetting, Setting, TellsSteps, replayed, steps_file_for, stopped_said}
+use Rattle.golden_case.specs.Resumed.{CanBeResumed, HaveSamePipes, HaveSameRatios, IsRestOf, IsResumedText}
+use Rattle.golden_case.specs.Saved.{IsSavedText, saved_file_for}
+use Rattle.golden_case.specs.Stepped.{ToldByNetwork}
+use Rattle.golden_case.specs.Run.{IsPlainText, IsTextOf, TellsCircuit, TellsTraceFor, circuit_file, trace_file_for}
+use Rattle.golden_case.specs.RunText.{fed_ports}
+use Rattle.golden_case.specs.Words.{AskForCommand, TellsUnasked}
 use Rattle.golden.proofs.CauseLemmas.{Cause, ExactOrders, OneMeaning, cause, complete-status, cut-8, due-said, judged-file, lost-3, no_command-2, none-written, unasked-2, unasked-status, unwritten-4}
 use Rattle.golden.proofs.KnownLemmas.{OneRequest, resume-known, run-known, run-plain, written-0}
 

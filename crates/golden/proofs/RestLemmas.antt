@@ -8,11 +8,11 @@ use Rattle.gg_flat.specs.Line.{value_at}
 use Rattle.gg_flat.specs.Run.{IsRunFrom, Start, inputs_at, later, row_at, since}
 use Rattle.gg_flat.specs.Settled.{IsInputs}
 use Rattle.gg_flat.specs.State.{IsState, State}
-use Rattle.gg_flat.specs.Tree.{InstanceTree}
+use Rattle.gg_flat_tree.specs.Tree.{InstanceTree}
 use Rattle.gg_flat.specs.WellFormed.{IsWellFormed}
 use Rattle.gg_flat.specs.declared.ports.Port.{Port}
-use Rattle.gg_flat.proofs.AlongLemmas.{IsRunFrom-along}
-use Rattle.gg_flat.proofs.SinceLemmas.{later-since, since-add}
+use Rattle.gg_flat_run.proofs.AlongLemmas.{IsRunFrom-along}
+use Rattle.gg_flat_run.proofs.SinceLemmas.{later-since, since-add}
 use Rattle.gg_cut.specs.Bridges.{Models}
 use Rattle.gg_cut.specs.Clocks.{ratios_of}
 use Rattle.gg_cut.specs.Fault.{first_fault}
@@ -42,19 +42,19 @@ use Rattle.gg_told.specs.Order.{IsOnly}
 use Rattle.gg_told.specs.Said.{Said}
 use Rattle.gg_trace.specs.Last.{halts, row_count}
 use Rattle.gg_trace.specs.Printing.{text_from}
-use Rattle.golden.specs.Case.{IsFed}
-use Rattle.golden.specs.Lines.{few_rows, snap_fault}
-use Rattle.golden.specs.Resumed.{CanBeResumed, HasRest, IsResumedText, TellsLate, TellsNoSnap, rest_text, start_at}
-use Rattle.golden.specs.Partition.{to_save}
-use Rattle.golden.specs.RunText.{columns_of, outputs_kept, shown_ports}
-use Rattle.golden.specs.Runs.{TellsSnapOf, meant_by, resumed_flow, resumed_rows}
-use Rattle.golden.specs.declared.case.Fed.{Fed}
-use Rattle.golden.proofs.AloneLemmas.{circuit-alone}
-use Rattle.golden.proofs.CaseLemmas.{case-can, case-faultless, case-fresh, case-ordered}
-use Rattle.golden.proofs.FedLemmas.{fed-are}
-use Rattle.golden.proofs.PartitionLemmas.{DesignsAgree}
+use Rattle.golden_case.specs.Case.{IsFed}
+use Rattle.golden_case.specs.Lines.{few_rows, snap_fault}
+use Rattle.golden_case.specs.Resumed.{CanBeResumed, HasRest, IsResumedText, TellsLate, TellsNoSnap, rest_text, start_at}
+use Rattle.golden_case.specs.Partition.{to_save}
+use Rattle.golden_case.specs.RunText.{columns_of, outputs_kept, shown_ports}
+use Rattle.golden_case.specs.Runs.{TellsSnapOf, meant_by, resumed_flow, resumed_rows}
+use Rattle.golden_case.specs.declared.case.Fed.{Fed}
+use Rattle.golden_case.proofs.AloneLemmas.{circuit-alone}
+use Rattle.golden_case.proofs.CaseLemmas.{case-can, case-faultless, case-fresh, case-ordered}
+use Rattle.golden_case.proofs.FedLemmas.{fed-are}
+use Rattle.golden_case.proofs.PartitionLemmas.{DesignsAgree}
 use Rattle.golden.proofs.ResumedLemmas.{resumed-only}
-use Rattle.golden.proofs.WholePortLemmas.{shown-are, stops-shown}
+use Rattle.golden_case.proofs.WholePortLemmas.{shown-are, stops-shown}
 
 -- ---- cycles
 

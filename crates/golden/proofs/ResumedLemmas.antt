@@ -6,7 +6,7 @@ use Rattle.gg_cut.specs.Held.{AreHeldOnce}
 use Rattle.gg_cut.specs.Solves.{AreRows}
 use Rattle.gg_flat.specs.Circuit.{FlatCircuit}
 use Rattle.gg_flat.specs.State.{State}
-use Rattle.gg_flat.specs.Tree.{InstanceTree}
+use Rattle.gg_flat_tree.specs.Tree.{InstanceTree}
 use Rattle.gg_moved.specs.KeepsToTree.{KeepsToTree}
 use Rattle.gg_order.specs.Design.{IsDesign, Ordered}
 use Rattle.gg_partfile.specs.declared.request.Request.{Request}
@@ -21,14 +21,14 @@ use Rattle.gg_told.specs.Order.{IsExactFile, IsOnly, IsUniqueFile}
 use Rattle.gg_told.specs.Said.{Said}
 use Rattle.gg_told.proofs.OrderLemmas.{exact-by}
 use Rattle.gg_trace.specs.Printing.{text_from}
-use Rattle.golden.specs.Lines.{few_rows, snap_fault}
-use Rattle.golden.specs.Meant.{AreMeant, Meant, meant_reference}
-use Rattle.golden.specs.Resumed.{CanBeResumed, HasRest, IsResumedText, TellsLate, TellsNoSnap, rest_rows, rest_text, snap_file_for, start_at}
-use Rattle.golden.specs.Partition.{Known, to_save}
-use Rattle.golden.specs.RunText.{columns_of, outputs_kept, shown_ports, stops_kept}
+use Rattle.golden_case.specs.Lines.{few_rows, snap_fault}
+use Rattle.golden_case.specs.Meant.{AreMeant, Meant, meant_reference}
+use Rattle.golden_case.specs.Resumed.{CanBeResumed, HasRest, IsResumedText, TellsLate, TellsNoSnap, rest_rows, rest_text, snap_file_for, start_at}
+use Rattle.golden_case.specs.Partition.{Known, to_save}
+use Rattle.golden_case.specs.RunText.{columns_of, outputs_kept, shown_ports, stops_kept}
 use Rattle.golden.proofs.FromLemmas.{counts-from, texts-from}
 use Rattle.golden.proofs.MeantLemmas.{meant-faultless, meant-given, meant-is, meant-ordered, meant-paths, meant-snap, reference_order}
-use Rattle.golden.proofs.PartitionLemmas.{DesignsAgree}
+use Rattle.golden_case.proofs.PartitionLemmas.{DesignsAgree}
 
 -- ---- what snapshots are
 

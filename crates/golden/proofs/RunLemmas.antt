@@ -4,14 +4,14 @@ use Rattle.gg_told.specs.Order.{IsExact, IsUnique, Load, Order}
 use Rattle.gg_words.specs.declared.command.Cmd.{Cmd}
 use Rattle.gg_words.specs.declared.command.Cmd.TheVariants.{Run, Replay, Check, Demo, Save, Resume}
 use Rattle.gg_cut.specs.Bridges.{Models}
-use Rattle.golden.specs.Commands.{Asked, asked_by, known_of, order_behind, order_by, order_of}
-use Rattle.golden.specs.Partition.{Known, partition_file_for, to_run}
+use Rattle.golden_case.specs.Commands.{Asked, asked_by, known_of, order_behind, order_by, order_of}
+use Rattle.golden_case.specs.Partition.{Known, partition_file_for, to_run}
 use Rattle.golden.proofs.FrontLemmas.{NoFaultAccepted, circuit_file-exact}
-use Rattle.golden.proofs.PartitionLemmas.{DesignsAgree, FileApart, OneKey, partition_file-exact, partition_file-unique}
+use Rattle.golden_case.proofs.PartitionLemmas.{DesignsAgree, FileApart, OneKey, partition_file-exact, partition_file-unique}
 use Rattle.golden.proofs.ResumedLemmas.{NoSnapFault, OneCycle, OneSnapFault, PlansCanSave, snap_file-exact, snap_file-unique}
 use Rattle.golden.proofs.SavedLemmas.{saved_file-exact, saved_file-unique}
-use Rattle.golden.proofs.SettingLemmas.{steps_file-exact, steps_file-unique}
-use Rattle.golden.proofs.TextLemmas.{OneFlat}
+use Rattle.golden_case.proofs.SettingLemmas.{steps_file-exact, steps_file-unique}
+use Rattle.golden_case.proofs.TextLemmas.{OneFlat}
 use Rattle.golden.proofs.TraceLemmas.{NoFault, OneFirstFault, trace_file-exact, trace_file-unique}
 
 module _ (models : Models) (designs : DesignsAgree) (apart : FileApart) (key : OneKey) (agree : OneFlat) (once : OneFirstFault) (none : NoFault)

@@ -15,19 +15,19 @@ use Rattle.gg_told.proofs.EndingLemmas.{judged-map}
 use Rattle.gg_words.specs.Meaning.{IsCommand}
 use Rattle.gg_words.specs.declared.command.Cmd.{Cmd}
 use Rattle.gg_words.specs.declared.command.Cmd.TheVariants.{Replay}
-use Rattle.golden.specs.Case.{FedRead, IsFed, trace_order}
-use Rattle.golden.specs.Commands.{Asked, asking}
-use Rattle.golden.specs.Lines.{circuit_fault, partition_fault, trace_fault}
-use Rattle.golden.specs.Partition.{Known, TellsPartitionFor, partition_file_for}
-use Rattle.golden.specs.Replay.{IsReplayed, TellsSteps, steps_file_for}
-use Rattle.golden.specs.Replayed.{IsNetText, TellsStop, case_naming, fed_flow}
-use Rattle.golden.specs.Run.{TellsCircuit, TellsTraceFor, circuit_file, trace_file_for}
-use Rattle.golden.specs.Stepped.{IsSteppedText, IsToldText, TellsRefusedStep, TellsToldStep, ToldBehind, ToldByNetwork}
-use Rattle.golden.specs.Words.{AskForCommand, TellsUnasked}
-use Rattle.golden.specs.declared.case.Fed.{Fed}
-use Rattle.golden.proofs.FedLemmas.{named, stop-so, text-so}
-use Rattle.golden.proofs.PartitionLemmas.{DesignsAgree}
-use Rattle.golden.proofs.TextLemmas.{OneRun}
+use Rattle.golden_case.specs.Case.{FedRead, IsFed, trace_order}
+use Rattle.golden_case.specs.Commands.{Asked, asking}
+use Rattle.golden_case.specs.Lines.{circuit_fault, partition_fault, trace_fault}
+use Rattle.golden_case.specs.Partition.{Known, TellsPartitionFor, partition_file_for}
+use Rattle.golden_case.specs.Replay.{IsReplayed, TellsSteps, steps_file_for}
+use Rattle.golden_case.specs.Replayed.{IsNetText, TellsStop, case_naming, fed_flow}
+use Rattle.golden_case.specs.Run.{TellsCircuit, TellsTraceFor, circuit_file, trace_file_for}
+use Rattle.golden_case.specs.Stepped.{IsSteppedText, IsToldText, TellsRefusedStep, TellsToldStep, ToldBehind, ToldByNetwork}
+use Rattle.golden_case.specs.Words.{AskForCommand, TellsUnasked}
+use Rattle.golden_case.specs.declared.case.Fed.{Fed}
+use Rattle.golden_case.proofs.FedLemmas.{named, stop-so, text-so}
+use Rattle.golden_case.proofs.PartitionLemmas.{DesignsAgree}
+use Rattle.golden_case.proofs.TextLemmas.{OneRun}
 
 -- ---- bytes
 

@@ -7,13 +7,13 @@ use Rattle.gg_flat.specs.Circuit.{FlatCircuit}
 use Rattle.gg_flat.specs.Clock.{Ratio}
 use Rattle.gg_flat.specs.Order.{IsOrder}
 use Rattle.gg_flat.specs.Run.{IsRunFrom, Start, since, state_at}
-use Rattle.gg_flat.specs.Scoped.{stop_signals}
+use Rattle.gg_flat_tree.specs.Scoped.{stop_signals}
 use Rattle.gg_flat.specs.State.{IsState, State}
 use Rattle.gg_flat.specs.declared.ports.Port.{Port}
-use Rattle.gg_flat.proofs.AlongLemmas.{IsState-at}
-use Rattle.gg_flat.proofs.RunLemmas.{IsRunFrom-rest, state_at-append}
-use Rattle.gg_flat.proofs.SinceLemmas.{since-add}
-use Rattle.gg_flat.proofs.UniqueLemmas.{IsRunFrom-once}
+use Rattle.gg_flat_run.proofs.AlongLemmas.{IsState-at}
+use Rattle.gg_flat_run.proofs.RunLemmas.{IsRunFrom-rest, state_at-append}
+use Rattle.gg_flat_run.proofs.SinceLemmas.{since-add}
+use Rattle.gg_flat_run.proofs.UniqueLemmas.{IsRunFrom-once}
 use Rattle.gg_moved.specs.KeepsToTree.{KeepsToTree}
 use Rattle.gg_order.specs.Design.{IsDesign, Ordered}
 use Rattle.gg_partfile.specs.Partition.{IsPartition}
@@ -39,17 +39,17 @@ use Rattle.gg_trace.specs.Last.{has_halted, halts, row_count}
 use Rattle.gg_trace.specs.Printing.{text_from}
 use Rattle.gg_trace.specs.Trace.{Columns}
 use Rattle.gg_trace.proofs.LastLaws.{rows-before, rows-since, rows-stay, rows-within}
-use Rattle.golden.specs.Meant.{AreMeant, Meant, meaning, meant_reference, meant_values}
-use Rattle.golden.specs.Partition.{IsPartitionFor, to_run, to_save}
-use Rattle.golden.specs.Resumed.{CanBeResumed, HaveSamePipes, HaveSameRatios, IsRestOf, IsResumedText, rest_rows, rest_text, start_at}
-use Rattle.golden.specs.Run.{IsTextOf}
-use Rattle.golden.specs.RunText.{FeedsOnly, IsRunBy, columns_of, outputs_kept, outputs_of, run_rows, run_text, shown_ports, stops_kept}
-use Rattle.golden.specs.Saved.{HasRun, save_limit, state_before}
-use Rattle.golden.proofs.AloneLemmas.{circuit-alone, fed-alone, kept-alone, run-alone, shown-alone}
+use Rattle.golden_case.specs.Meant.{AreMeant, Meant, meaning, meant_reference, meant_values}
+use Rattle.golden_case.specs.Partition.{IsPartitionFor, to_run, to_save}
+use Rattle.golden_case.specs.Resumed.{CanBeResumed, HaveSamePipes, HaveSameRatios, IsRestOf, IsResumedText, rest_rows, rest_text, start_at}
+use Rattle.golden_case.specs.Run.{IsTextOf}
+use Rattle.golden_case.specs.RunText.{FeedsOnly, IsRunBy, columns_of, outputs_kept, outputs_of, run_rows, run_text, shown_ports, stops_kept}
+use Rattle.golden_case.specs.Saved.{HasRun, save_limit, state_before}
+use Rattle.golden_case.proofs.AloneLemmas.{circuit-alone, fed-alone, kept-alone, run-alone, shown-alone}
 use Rattle.golden.proofs.FromLemmas.{counts-from, texts-from}
 use Rattle.golden.proofs.MeantLemmas.{columns-few, columns-once, meant-faultless, meant-formed, meant-is, meant-ordered, meant-snap, reference_order}
-use Rattle.golden.proofs.PartitionLemmas.{DesignsAgree, fault-with-same}
-use Rattle.golden.proofs.TextLemmas.{only-text}
+use Rattle.golden_case.proofs.PartitionLemmas.{DesignsAgree, fault-with-same}
+use Rattle.golden_case.proofs.TextLemmas.{only-text}
 
 -- ---- how far a run may be saved
 

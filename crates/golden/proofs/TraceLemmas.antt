@@ -8,12 +8,12 @@ use Rattle.gg_trace.specs.FaultText.{fault_words}
 use Rattle.gg_trace.specs.Trace.{Columns, IsFirstFault}
 use Rattle.gg_trace.specs.declared.faults.TraceFault.{TraceFault}
 use Rattle.gg_told.specs.Said.{Said}
-use Rattle.golden.specs.Lines.{trace_fault}
+use Rattle.golden_case.specs.Lines.{trace_fault}
 use Rattle.gg_told.specs.Order.{IsExactFile, IsUniqueFile}
-use Rattle.golden.specs.Run.{trace_file_for, IsTraceFor, TellsTraceFor}
-use Rattle.golden.specs.RunText.{fed_ports}
+use Rattle.golden_case.specs.Run.{trace_file_for, IsTraceFor, TellsTraceFor}
+use Rattle.golden_case.specs.RunText.{fed_ports}
 use Rattle.gg_told.proofs.OrderLemmas.{exact-by}
-use Rattle.golden.proofs.TextLemmas.{OneFlat}
+use Rattle.golden_case.proofs.TextLemmas.{OneFlat}
 
 -- a trace has at most one first fault
 abbrev pub OneFirstFault : Type 0

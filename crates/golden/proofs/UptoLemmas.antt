@@ -6,7 +6,7 @@ use Rattle.gg_flat.specs.Circuit.{FlatCircuit}
 use Rattle.gg_flat.specs.Clock.{Ratio}
 use Rattle.gg_flat.specs.Run.{Start, clocked_start, state_at}
 use Rattle.gg_flat.specs.declared.ports.Port.{Port}
-use Rattle.gg_flat.proofs.UniqueLemmas.{IsRunFrom-once}
+use Rattle.gg_flat_run.proofs.UniqueLemmas.{IsRunFrom-once}
 use Rattle.gg_order.specs.Design.{Ordered}
 use Rattle.gg_partfile.specs.declared.request.BridgeEntry.{BridgeEntry}
 use Rattle.gg_partfile.specs.declared.request.Request.{Request}
@@ -28,7 +28,7 @@ use Rattle.gg_build.proofs.AlongLemmas.{given-along}
 use Rattle.gg_sound.specs.Built.{IsGiven, nameless}
 use Rattle.gg_flat.specs.State.{State}
 use Rattle.gg_flat.specs.Streams.{Flow}
-use Rattle.gg_flat.specs.Tree.{InstanceTree}
+use Rattle.gg_flat_tree.specs.Tree.{InstanceTree}
 use Rattle.gg_net.specs.Network.{Network, frame_of}
 use Rattle.gg_run.specs.Rows.{StandsAt}
 use Rattle.gg_snap.specs.Whole.{HasEnded, last_state}
@@ -45,20 +45,20 @@ use Rattle.gg_told.specs.declared.endings.Ending.{Ending}
 use Rattle.gg_told.specs.declared.endings.Ending.TheVariants.{NoMemory}
 use Rattle.gg_told.proofs.EndingLemmas.{judged-ends, judged-map, loads-same}
 use Rattle.gg_trace.specs.Last.{acts}
-use Rattle.golden.specs.Case.{FedRead, IsCase, IsFed, trace_order}
-use Rattle.golden.specs.Commands.{Asked, read_order}
-use Rattle.golden.specs.Lines.{few_rows}
-use Rattle.golden.specs.Partition.{Known, to_save}
-use Rattle.golden.specs.RunText.{shown_ports}
-use Rattle.golden.specs.Replayed.{IsToReplay, fed_flow}
-use Rattle.golden.specs.Runs.{FindsStop, Halted, IsUpto, Short, TellsEarly, meant_by, text_after, upto}
-use Rattle.golden.specs.Saved.{CanBeSaved, HasRun, IsSavedText, TellsFew, save_limit, saved_file_for}
-use Rattle.golden.specs.declared.case.Fed.{Fed}
-use Rattle.golden.proofs.BeginLemmas.{run-of}
-use Rattle.golden.proofs.CaseLemmas.{case-can, case-ends, case-ordered}
-use Rattle.golden.proofs.FedLemmas.{fed-are, fed-rows, own-run}
+use Rattle.golden_case.specs.Case.{FedRead, IsCase, IsFed, trace_order}
+use Rattle.golden_case.specs.Commands.{Asked, read_order}
+use Rattle.golden_case.specs.Lines.{few_rows}
+use Rattle.golden_case.specs.Partition.{Known, to_save}
+use Rattle.golden_case.specs.RunText.{shown_ports}
+use Rattle.golden_case.specs.Replayed.{IsToReplay, fed_flow}
+use Rattle.golden_case.specs.Runs.{FindsStop, Halted, IsUpto, Short, TellsEarly, meant_by, text_after, upto}
+use Rattle.golden_case.specs.Saved.{CanBeSaved, HasRun, IsSavedText, TellsFew, save_limit, saved_file_for}
+use Rattle.golden_case.specs.declared.case.Fed.{Fed}
+use Rattle.golden_case.proofs.BeginLemmas.{run-of}
+use Rattle.golden_case.proofs.CaseLemmas.{case-can, case-ends, case-ordered}
+use Rattle.golden_case.proofs.FedLemmas.{fed-are, fed-rows, own-run}
 use Rattle.golden.proofs.FirstLemmas.{first-alike, first-columns, first-columns-row, first-run, first-states, limit_of, none-limit, stop-limit, whole-none}
-use Rattle.golden.proofs.PartitionLemmas.{DesignsAgree}
+use Rattle.golden_case.proofs.PartitionLemmas.{DesignsAgree}
 use Rattle.golden.proofs.SavedLemmas.{saved-only}
 
 -- What is told of a network of the first rows, for the whole run.

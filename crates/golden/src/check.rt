@@ -1,23 +1,22 @@
 //! The command `check`.
 ghost use Rattle.std.specs.Prelude.{◌≤◌, ℕ, List};
 ghost use Rattle.gg_words.specs.Range.{IsCapacity};
-ghost use Rattle.golden.specs.Case.{IsCase};
-ghost use Rattle.golden.specs.Check.{IsCutTextOf};
-ghost use Rattle.golden.specs.Commands.{asking, read_order};
-ghost use Rattle.golden.specs.Handed.{AreHandedIn};
-ghost use Rattle.golden.specs.Partition.{Known, to_run};
+ghost use Rattle.golden_case.specs.Case.{IsCase};
+ghost use Rattle.golden_case.specs.Check.{IsCutTextOf};
+ghost use Rattle.golden_case.specs.Commands.{asking, read_order};
+ghost use Rattle.golden_case.specs.Handed.{AreHandedIn};
+ghost use Rattle.golden_case.specs.Partition.{Known, to_run};
 ghost use Rattle.gg_told.specs.Endings.{EndedOn, PrintsOn};
 ghost use Rattle.gg_told.specs.Order.{IsOnly, Write};
 ghost use Rattle.gg_told.specs.Ends.{loads_of, puts_of};
 ghost use Rattle.gg_told.specs.WentOn.{ShelfWentOn, SinkWentOn};
 
-use crate::case::{Case, read_case};
-use crate::checking::print_plan;
 use gg_check::{one_text, plan_is_told};
 use gg_flat::Models;
 use gg_front::one_meaning;
 use gg_io::{Shelf, Sink};
 use gg_told::Ending;
+use golden_case::{Case, print_plan, read_case};
 use std::alloc::Global;
 
 // Prints the cut of a case.

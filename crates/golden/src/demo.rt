@@ -17,19 +17,16 @@ ghost use Rattle.gg_told.specs.Ends.{puts_of};
 ghost use Rattle.gg_told.specs.Endings.{PrintsOrStops};
 ghost use Rattle.gg_told.specs.Order.{IsOnly};
 ghost use Rattle.gg_told.specs.WentOn.{SinkWentOn};
-ghost use Rattle.golden.specs.Case.{IsCase, IsFed};
-ghost use Rattle.golden.specs.Demo.{IsDemoText, demo_capacity};
-ghost use Rattle.golden.specs.Partition.{Cuts, to_run};
-ghost use Rattle.golden.specs.Replayed.{IsToReplay};
-ghost use Rattle.golden.specs.RunText.{FeedsOnly, fed_ports};
+ghost use Rattle.golden_case.specs.Case.{IsCase, IsFed};
+ghost use Rattle.golden_case.specs.Demo.{IsDemoText, demo_capacity};
+ghost use Rattle.golden_case.specs.Partition.{Cuts, to_run};
+ghost use Rattle.golden_case.specs.Replayed.{IsToReplay};
+ghost use Rattle.golden_case.specs.RunText.{FeedsOnly, fed_ports};
 
-use crate::case::{Case, Fed};
-use crate::limits::{CIRCUIT_LIMIT, PARTITION_LIMIT};
-use crate::partition::{Cut, cut_request, request_of};
-use crate::reading::inputs_of;
 use gg_bridge::Echo;
 use gg_demo::{circuit_text, partition_text, trace_text};
-use gg_flat::{Models, run_once};
+use gg_flat::Models;
+use gg_flat_run::run_once;
 use gg_front::{front, one_meaning};
 use gg_io::{Gate, Sink};
 use gg_net::Streams;
@@ -38,6 +35,9 @@ use gg_partfile::Request;
 use gg_run::{Sums, put_summary, sum_net};
 use gg_told::Ending;
 use gg_trace::Trace;
+use golden_case::{
+    CIRCUIT_LIMIT, Case, Cut, Fed, PARTITION_LIMIT, cut_request, inputs_of, request_of,
+};
 use std::alloc::{AllocError, Global};
 use std::marker::Brand;
 use std::thread::Threads;

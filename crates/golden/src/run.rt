@@ -2,28 +2,27 @@
 ghost use Rattle.std.specs.Prelude.{◌≡◌, ◌≤◌, ℕ, List, false};
 ghost use Rattle.gg_words.specs.Range.{IsCapacity};
 ghost use Rattle.gg_build.specs.Build.{HasBridges};
-ghost use Rattle.golden.specs.Bridges.{HaveModels};
-ghost use Rattle.golden.specs.Commands.{asking, fed_order};
-ghost use Rattle.golden.specs.Handed.{AreHandedIn};
-ghost use Rattle.golden.specs.Partition.{to_run};
+ghost use Rattle.golden_case.specs.Bridges.{HaveModels};
+ghost use Rattle.golden_case.specs.Commands.{asking, fed_order};
+ghost use Rattle.golden_case.specs.Handed.{AreHandedIn};
+ghost use Rattle.golden_case.specs.Partition.{to_run};
 ghost use Rattle.gg_told.specs.Endings.{EndedOn, said_by};
 ghost use Rattle.gg_told.specs.Order.{Write};
-ghost use Rattle.golden.specs.Run.{IsTextOf};
-ghost use Rattle.golden.specs.Case.{IsFed, PrintsFed, PrintsFedByNetwork};
-ghost use Rattle.golden.specs.Network.{RanNetwork};
+ghost use Rattle.golden_case.specs.Run.{IsTextOf};
+ghost use Rattle.golden_case.specs.Case.{IsFed, PrintsFed, PrintsFedByNetwork};
+ghost use Rattle.golden_case.specs.Network.{RanNetwork};
 ghost use Rattle.gg_told.specs.Ends.{loads_of, puts_of};
 ghost use Rattle.gg_told.specs.WentOn.{ShelfWentOn, SinkWentOn};
 
-use crate::case::{Fed, read_fed};
 use crate::laws::refusals_are_exact;
-use crate::printing::print_run;
-use crate::windows::print_fed;
 use gg_bits::Name;
 use gg_bridge::Bridge;
-use gg_flat::{Models, run_once};
+use gg_flat::Models;
+use gg_flat_run::run_once;
 use gg_front::one_meaning;
 use gg_io::{Gate, Shelf, Sink};
 use gg_told::Ending;
+use golden_case::{Fed, print_fed, print_run, read_fed};
 use std::alloc::Global;
 use std::thread::Threads;
 

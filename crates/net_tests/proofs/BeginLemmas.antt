@@ -9,9 +9,9 @@ use Rattle.gg_flat.specs.Order.{IsOrder}
 use Rattle.gg_flat.specs.Run.{IsColumns, IsRunFrom, Start, later, row_at, since}
 use Rattle.gg_flat.specs.State.{IsState, State}
 use Rattle.gg_flat.specs.Streams.{Flow}
-use Rattle.gg_flat.proofs.AlongLemmas.{IsRunFrom-along}
+use Rattle.gg_flat_run.proofs.AlongLemmas.{IsRunFrom-along}
 use Rattle.gg_flat.proofs.OrderLemmas.{IsLoop-none}
-use Rattle.gg_flat.proofs.SinceLemmas.{since-add}
+use Rattle.gg_flat_run.proofs.SinceLemmas.{since-add}
 use Rattle.gg_order.specs.Design.{Ordered}
 use Rattle.gg_order.proofs.FoundLemmas.{found-is}
 use Rattle.gg_partfile.specs.declared.request.Request.{Request}
@@ -22,7 +22,7 @@ use Rattle.gg_cut.specs.Held.{AreHeldOnce}
 use Rattle.gg_cut.specs.Listed.{is_among}
 use Rattle.gg_cut.specs.Plan.{IsPlan, wire_at}
 use Rattle.gg_cut.specs.Solves.{AreRows}
-use Rattle.gg_flat.specs.Tree.{path_at}
+use Rattle.gg_flat_tree.specs.Tree.{path_at}
 use Rattle.gg_node.specs.Machine.{no_state}
 use Rattle.gg_pipe.specs.Follows.{plan_token}
 use Rattle.gg_pipe.specs.Made.{plan_reference}

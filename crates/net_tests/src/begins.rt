@@ -14,7 +14,8 @@ use gg_bridge::Echo;
 use gg_build::{Begin, Node, build_from};
 use gg_clocks::{Ratio, Timing};
 use gg_cut::Plan;
-use gg_flat::{Models, State};
+use gg_flat::Models;
+use gg_flat_run::State;
 use gg_measure::run_to_end;
 use gg_net::{Net, Streams};
 use gg_order::Design;
@@ -48,7 +49,7 @@ fn advance(
     let mut scratch = piece.scratch(alloc)?;
     let order = design.order();
     let row = inputs.row(cycle);
-    piece.settle(order, state, row, &mut signals, &mut scratch);
+    state.settle(piece, order, row, &mut signals, &mut scratch);
     state.advance(piece, timing.edges(), &signals, &mut scratch);
     Ok(())
 }

@@ -2,7 +2,8 @@
 ghost use Rattle.std.specs.Prelude.{◌<◌, ◌-◌, ◌^◌, length};
 
 use gg_bits::{Ids, Items, Kind, Name, Ty};
-use gg_flat::{AddError, ClockNumbers, Driver, Instance, Models, Piece, Register, Signal, Tree};
+use gg_flat::{AddError, Driver, Models, Piece, Register, Signal};
+use gg_flat_tree::{ClockNumbers, Instance, Tree};
 use std::alloc::Global;
 
 // The name with this text.

@@ -5,7 +5,9 @@ ghost use Rattle.gg_part.specs.InOrder.{IsInOrder};
 
 use gg_bits::{Kind, Name, Ty};
 use gg_fame1::{NoMemory, Unit};
-use gg_flat::{Piece, State};
+use gg_flat::Piece;
+use gg_flat_rules::is_well_formed;
+use gg_flat_run::State;
 use gg_needs::needs_of;
 use gg_node::Host;
 use gg_order::Design;
@@ -17,7 +19,7 @@ use std::alloc::{AllocError, Global};
 fn tells(alloc: Global, piece: &Piece) -> Result<bool, AllocError> {
     let path = Name::from_str(alloc, "r")?;
     Ok(
-        piece.check()
+        is_well_formed(piece)
             && piece.find(&path) == Some(1)
             && piece.path(1) == Some(&path)
             && piece.outs() == [0].as_slice(),
@@ -33,10 +35,10 @@ fn has_values(alloc: Global, design: &Design, first: u128, second: u128) -> Resu
     let mut state = State::new(alloc, piece)?;
     let mut scratch = piece.scratch(alloc)?;
     let mut signals = piece.zeros(alloc)?;
-    piece.settle(design.order(), &state, &[], &mut signals, &mut scratch);
+    state.settle(piece, design.order(), &[], &mut signals, &mut scratch);
     let found = signals[0];
     state.advance(piece, &[], &signals, &mut scratch);
-    piece.settle(design.order(), &state, &[], &mut signals, &mut scratch);
+    state.settle(piece, design.order(), &[], &mut signals, &mut scratch);
     Ok(found == first && signals[0] == second)
 }
 

@@ -1,5 +1,5 @@
 use Rattle.std.proofs.Common.{ap, ◌∙◌, ◌++◌, ◌∷◌, [], List, ℕ, map, take, arith}
-use Rattle.gg_flat.specs.Tree.{path_at}
+use Rattle.gg_flat_tree.specs.Tree.{path_at}
 use Rattle.gg_check.specs.CheckText.{spaced}
 use Rattle.gg_check.specs.PlanText.{channel_names}
 use Rattle.gg_check.proofs.LineLemmas.{spaced-more}

@@ -1,6 +1,6 @@
 use Rattle.std.proofs.Common.{◌≡◌, [], map, take}
 use Rattle.std.specs.Prelude.{slice_index_or}
-use Rattle.gg_flat.specs.Clocked.{clock_at}
+use Rattle.gg_flat_tree.specs.Clocked.{clock_at}
 use Rattle.gg_cut.proofs.ratios.clocks_of.Given as goal
 
 abbrev pub invariant-loop-stop : goal.invariant-loop-stop

@@ -1,7 +1,7 @@
 use Rattle.std.proofs.Common.{ℕ, List, [], Option, map, ◌∙◌, ap₂}
 use Rattle.std.specs.Prelude.{slice_index_or}
-use Rattle.gg_flat.specs.Clocked.{clock_at}
-use Rattle.gg_flat.specs.declared.tree.StopInstance.{StopInstance}
+use Rattle.gg_flat_tree.specs.Clocked.{clock_at}
+use Rattle.gg_flat_tree.specs.declared.tree.StopInstance.{StopInstance}
 use Rattle.gg_cut.proofs.RatioLemmas.{stops-at}
 use Rattle.gg_cut.proofs.ratios.stop_clocks.Goals as goal
 

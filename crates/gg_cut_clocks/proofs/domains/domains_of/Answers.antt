@@ -1,5 +1,5 @@
 use Rattle.std.proofs.Common.{sym, subst}
-use Rattle.gg_flat.specs.Clocked.{AreParentsBefore}
+use Rattle.gg_flat_tree.specs.Clocked.{AreParentsBefore}
 use Rattle.gg_cut.proofs.KnownLemmas.{parents-before}
 use Rattle.gg_cut_clocks.proofs.domains.domains_of.Goals as goal
 

@@ -1,10 +1,10 @@
 use Rattle.std.proofs.Common.{◌≡◌, ◌<◌, ◌≤◌, ℕ, List, [], Bool, Option, None, length, get_or, map, sym, ap, ap₂, ◌∙◌, subst, subst₂}
 use Rattle.gg_flat.specs.declared.piece.Driver.TheVariants.{Held}
-use Rattle.gg_flat.specs.declared.tree.MemoryInstance.{MemoryInstance}
+use Rattle.gg_flat_tree.specs.declared.tree.MemoryInstance.{MemoryInstance}
 use Rattle.gg_flat.specs.Circuit.{FlatCircuit, driver_at}
-use Rattle.gg_flat.specs.Clocked.{AreParentsBefore, clock_at}
+use Rattle.gg_flat_tree.specs.Clocked.{AreParentsBefore, clock_at}
 use Rattle.gg_flat.specs.Line.{value_at}
-use Rattle.gg_flat.specs.Tree.{InstanceTree, instance_at}
+use Rattle.gg_flat_tree.specs.Tree.{InstanceTree, instance_at}
 use Rattle.gg_moved.specs.Domains.{FollowsInside, inner_clocks}
 use Rattle.gg_order.specs.Marks.{is_marked}
 use Rattle.gg_cut.specs.Listed.{AreMarks}

@@ -3,7 +3,7 @@ use Rattle.std.proofs.lemmas.List.{get_or_default, length-set}
 use Rattle.gg_flat.specs.declared.piece.Driver.TheVariants.{Held}
 use Rattle.gg_flat.specs.declared.piece.Signal.{Signal}
 use Rattle.gg_flat.specs.Circuit.{driver_at}
-use Rattle.gg_flat.specs.Clocked.{clock_at}
+use Rattle.gg_flat_tree.specs.Clocked.{clock_at}
 use Rattle.gg_flat.specs.Line.{value_at}
 use Rattle.gg_cut_clocks.specs.Innermost.{IsTimedBy}
 use Rattle.gg_cut_clocks.proofs.TableLemmas.{held-known, timed-more, timed-passed}

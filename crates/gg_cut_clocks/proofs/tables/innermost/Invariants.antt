@@ -1,6 +1,6 @@
 use Rattle.std.proofs.Common.{◌≡◌, ℕ, ◌<◌, length}
 use Rattle.gg_flat.specs.Line.{value_at}
-use Rattle.gg_flat.specs.Tree.{Holds, instance_at}
+use Rattle.gg_flat_tree.specs.Tree.{Holds, instance_at}
 use Rattle.gg_cut_clocks.specs.Innermost.{IsLast}
 use Rattle.gg_cut_clocks.proofs.tables.innermost.Given as goal
 

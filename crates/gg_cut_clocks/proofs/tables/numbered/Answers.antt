@@ -1,5 +1,5 @@
 use Rattle.std.proofs.Common.{◌≡◌, ◌∷◌, ◌++◌, [], ℕ, List, Option, Some, length, ap, ◌∙◌, arith}
-use Rattle.gg_flat.specs.Clocked.{clocks_from}
+use Rattle.gg_flat_tree.specs.Clocked.{clocks_from}
 use Rattle.gg_cut_clocks.proofs.TableLemmas.{clocks-length, clocks-push}
 use Rattle.gg_cut_clocks.proofs.tables.numbered.Goals as goal
 

@@ -1,5 +1,5 @@
 use Rattle.std.proofs.Common.{◌≡◌, [], take, map, slice_index_or}
-use Rattle.gg_flat.specs.Clocked.{clock_at}
+use Rattle.gg_flat_tree.specs.Clocked.{clock_at}
 use Rattle.gg_cut_clocks.proofs.tables.port_table.Given as goal
 
 abbrev pub invariant-loop-memory : goal.invariant-loop-memory

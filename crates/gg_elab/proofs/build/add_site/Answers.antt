@@ -2,7 +2,7 @@ use Rattle.std.proofs.Common.{◌≡◌, ℕ, List, [], ◌∷◌, ◌++◌, tak
 use Rattle.std.specs.Prelude.{Contains}
 use Rattle.std.proofs.lemmas.List.{append-nil, take_all}
 use Rattle.std.proofs.lemmas.Simd.{map-map}
-use Rattle.gg_flat.specs.Tree.{joined}
+use Rattle.gg_flat_tree.specs.Tree.{joined}
 use Rattle.gg_elab.specs.Building.{IsSoFarAt}
 use Rattle.gg_flattened.specs.Flat.{FlatSignal, flat_signal, signals_at}
 use Rattle.gg_flattened.specs.Views.{own_of, site_of}

@@ -1,5 +1,5 @@
 use Rattle.std.proofs.Common.{◌≡◌, ◌++◌, List, map, take}
-use Rattle.gg_flat.specs.Tree.{joined}
+use Rattle.gg_flat_tree.specs.Tree.{joined}
 use Rattle.gg_flattened.specs.Flat.{FlatSignal, flat_signal}
 use Rattle.gg_flattened.specs.Views.{site_of, own_of}
 use Rattle.gg_elab.specs.Building.{IsSoFarAt}

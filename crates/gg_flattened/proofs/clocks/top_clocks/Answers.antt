@@ -1,5 +1,5 @@
 use Rattle.std.proofs.Common.{List, Option, ℕ, ◌++◌, ◌+◌, ◌-◌, ap, ◌∙◌, arith}
-use Rattle.gg_flat.specs.Clocked.{clocks_from}
+use Rattle.gg_flat_tree.specs.Clocked.{clocks_from}
 use Rattle.gg_flattened.proofs.ClockLemmas.{clocks-more}
 use Rattle.gg_flattened.proofs.clocks.top_clocks.Goals as goal
 

@@ -1,5 +1,5 @@
 use Rattle.std.proofs.Common.{◌≡◌, ◌++◌, ◌-◌}
-use Rattle.gg_flat.specs.Clocked.{clocks_from}
+use Rattle.gg_flat_tree.specs.Clocked.{clocks_from}
 use Rattle.gg_flattened.proofs.clocks.top_clocks.Given as goal
 
 abbrev pub invariant-loop-number : goal.invariant-loop-number

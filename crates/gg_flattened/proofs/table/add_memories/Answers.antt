@@ -1,6 +1,6 @@
 use Rattle.std.proofs.Common.{subst₂, arith}
 use Rattle.std.specs.Prelude.{Contains}
-use Rattle.gg_flat.specs.Tree.{joined}
+use Rattle.gg_flat_tree.specs.Tree.{joined}
 use Rattle.gg_flattened.specs.declared.digest.OwnMemory.{OwnMemory}
 use Rattle.gg_flattened.proofs.FreshLemmas.{next-new}
 use Rattle.gg_flattened.proofs.table.add_memories.Goals as goal

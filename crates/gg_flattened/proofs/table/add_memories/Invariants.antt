@@ -1,5 +1,5 @@
 use Rattle.std.proofs.Common.{◌≡◌, ◌++◌, map, take}
-use Rattle.gg_flat.specs.Tree.{joined}
+use Rattle.gg_flat_tree.specs.Tree.{joined}
 use Rattle.gg_flattened.proofs.table.add_memories.Given as goal
 
 abbrev pub invariant-loop-memory : goal.invariant-loop-memory

@@ -1,6 +1,6 @@
 use Rattle.std.proofs.Common.{◌≡◌, ◌++◌, map, take}
 use Rattle.gg_bits.specs.Shape.{shape}
-use Rattle.gg_flat.specs.Tree.{joined}
+use Rattle.gg_flat_tree.specs.Tree.{joined}
 use Rattle.gg_flattened.proofs.table.add_signals.Given as goal
 
 abbrev pub invariant-loop-signal : goal.invariant-loop-signal

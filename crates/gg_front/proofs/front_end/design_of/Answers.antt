@@ -1,6 +1,6 @@
 -- A loop of the flat circuit is a first fault of the circuit. What holds of the flat circuit and its tree holds of the design.
 use Rattle.gg_flat.specs.Circuit.{FlatCircuit}
-use Rattle.gg_flat.specs.Tree.{InstanceTree}
+use Rattle.gg_flat_tree.specs.Tree.{InstanceTree}
 use Rattle.gg_flat.specs.WellFormed.{IsWellFormed}
 use Rattle.gg_flattened.specs.IsFlat.{IsFlat}
 use Rattle.gg_formed.specs.Held.{AreHeldOnce}

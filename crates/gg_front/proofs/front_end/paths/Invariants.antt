@@ -1,5 +1,5 @@
 use Rattle.std.proofs.Common.{◌≡◌, map, take}
-use Rattle.gg_flat.specs.Tree.{path_at}
+use Rattle.gg_flat_tree.specs.Tree.{path_at}
 use Rattle.gg_front.proofs.front_end.paths.Given as goal
 
 abbrev pub invariant-loop-signal : goal.invariant-loop-signal

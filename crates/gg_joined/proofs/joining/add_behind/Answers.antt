@@ -2,7 +2,7 @@ use Rattle.std.proofs.Common.{◌≡◌, ◌<◌, ◌+◌, ℕ, List, [], ◌++�
 use Rattle.std.specs.Prelude.{Contains}
 use Rattle.std.proofs.lemmas.List.{take-map, length-take-le, length-append, length-map, get_or-map}
 use Rattle.gg_flat.specs.Circuit.{FlatCircuit}
-use Rattle.gg_flat.specs.Tree.{path_at}
+use Rattle.gg_flat_tree.specs.Tree.{path_at}
 use Rattle.gg_joined.specs.Joined.{signal_behind}
 use Rattle.gg_joined.proofs.JoinLemmas.{fresh-behind}
 use Rattle.gg_joined.proofs.joining.add_behind.Goals as goal

@@ -3,7 +3,7 @@ use Rattle.std.specs.Prelude.{Contains}
 use Rattle.std.proofs.lemmas.List.{take_more, length-take-le}
 use Rattle.gg_flat.specs.declared.piece.Signal.{Signal}
 use Rattle.gg_flat.specs.Circuit.{FlatCircuit, no_circuit}
-use Rattle.gg_flat.specs.Tree.{path_at}
+use Rattle.gg_flat_tree.specs.Tree.{path_at}
 use Rattle.gg_joined.specs.Joined.{by_number, linked, linked_signal, place_among, place_at}
 use Rattle.gg_joined.proofs.NumberLemmas.{length-by}
 use Rattle.gg_joined.proofs.JoinLemmas.{number-more, fresh-at, signals-grow}

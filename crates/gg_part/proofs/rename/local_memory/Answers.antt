@@ -4,7 +4,7 @@ use Rattle.std.proofs.lemmas.List.{length-map}
 use Rattle.std.proofs.lemmas.List.Elements.{All-same}
 use Rattle.gg_flat.specs.declared.memory.Reader.{Reader}
 use Rattle.gg_flat.specs.declared.memory.Writer.{Writer}
-use Rattle.gg_flat.specs.Scoped.{reader_fields, writer_fields}
+use Rattle.gg_flat_tree.specs.Scoped.{reader_fields, writer_fields}
 use Rattle.gg_part.specs.Part.{renamed_reader, renamed_writer}
 use Rattle.gg_part.proofs.ClockLemmas.{leads-same, port-count, port-reader, port-writer, ports-follow}
 use Rattle.gg_part.proofs.rename.local_memory.Goals as goal

@@ -3,7 +3,7 @@ use Rattle.std.specs.Prelude.{Contains}
 use Rattle.std.proofs.lemmas.List.{map_more, take-map, length-take-le, length-append, length-map, get_or-map}
 use Rattle.gg_flat.specs.Circuit.{FlatCircuit}
 use Rattle.gg_flat.specs.Line.{value_at}
-use Rattle.gg_flat.specs.Tree.{path_at}
+use Rattle.gg_flat_tree.specs.Tree.{path_at}
 use Rattle.gg_flat.proofs.ListLemmas.{some-item}
 use Rattle.gg_pipe.specs.Made.{pipe_signal, pipe_signals}
 use Rattle.gg_piped.proofs.BuildLemmas.{signals-more, signals-few, fresh-behind, signals-grow}

@@ -1,5 +1,5 @@
 use Rattle.std.proofs.Common.{◌≡◌, ◌++◌, codes, length, map, take}
-use Rattle.gg_flat.specs.Tree.{path_at}
+use Rattle.gg_flat_tree.specs.Tree.{path_at}
 use Rattle.gg_pipe.specs.Made.{pipe_signals}
 use Rattle.gg_piped.proofs.made.add_pipes.Given as goal
 

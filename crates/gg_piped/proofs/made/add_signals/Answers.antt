@@ -2,7 +2,7 @@ use Rattle.std.proofs.Common.{◌<◌, ◌+◌, ℕ, List, [], length, take, get
 use Rattle.std.specs.Prelude.{Contains}
 use Rattle.std.proofs.lemmas.List.{take_more, length-take-le}
 use Rattle.gg_flat.specs.Circuit.{FlatCircuit, no_circuit}
-use Rattle.gg_flat.specs.Tree.{path_at}
+use Rattle.gg_flat_tree.specs.Tree.{path_at}
 use Rattle.gg_flat.proofs.ListLemmas.{some-item}
 use Rattle.gg_pipe.specs.Made.{by_number, seen_signal}
 use Rattle.gg_piped.specs.Tables.{views_by}

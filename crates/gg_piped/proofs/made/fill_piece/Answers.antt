@@ -1,7 +1,7 @@
 use Rattle.std.proofs.Common.{◌≢◌, List, ℕ, ◌++◌, codes, length, map, sym, ◌∙◌, ap, ap₂, subst}
 use Rattle.std.specs.Prelude.{AllPairs}
 use Rattle.gg_flat.specs.Circuit.{FlatCircuit}
-use Rattle.gg_flat.specs.Tree.{path_at}
+use Rattle.gg_flat_tree.specs.Tree.{path_at}
 use Rattle.gg_flat.specs.Line.{value_at}
 use Rattle.gg_pipe.specs.Reference.{register_by, memory_by}
 use Rattle.gg_pipe.specs.Made.{by_number, seen_signal, pipe_signals, pipe_registers}

@@ -1,7 +1,7 @@
 use Rattle.std.proofs.Common.{◌≢◌, ◌<◌, ◌+◌, ◌++◌, List, ℕ, codes, length, map, sym, ◌∙◌, ap, ap₂, subst, arith}
 use Rattle.std.specs.Prelude.{All, AllPairs}
 use Rattle.gg_flat.specs.Circuit.{FlatCircuit}
-use Rattle.gg_flat.specs.Tree.{path_at}
+use Rattle.gg_flat_tree.specs.Tree.{path_at}
 use Rattle.gg_order.specs.Design.{IsDesign}
 use Rattle.gg_cut.specs.declared.plan.Channel.{Channel}
 use Rattle.gg_pipe.specs.Made.{reference_of}

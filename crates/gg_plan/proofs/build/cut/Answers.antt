@@ -1,10 +1,8 @@
-use Rattle.std.proofs.lemmas.Result.{err_from_is_err_and}
-use Rattle.gg_cut.proofs.WholeFaultLemmas.{others-told}
-use Rattle.gg_plan.proofs.FaultlessLemmas.{entries-told}
+use Rattle.gg_plan.proofs.PlanLemmas.{plan-same}
 use Rattle.gg_plan.proofs.build.cut.Goals as goal
 
-pub returns-in_err-listed-clause-told : goal.returns-in_err-listed-clause-told
-returns-in_err-listed-clause-told c =
-    let p = err_from_is_err_and c.from_residual.result c.from_residual.ensures.1 in
-    let cause = c.in_err-listed.field-0.0 in
-    rw (p.1, p.2) (others-told c.args.design.now c.args.models.now c.args.request.now cause (entries-told c.args.design.now c.args.request.now cause c.in_err-listed.ensures.told))
+pub returns-clause-plan : goal.returns-clause-plan
+returns-clause-plan c =
+    let draft = c.in_ok-draft.draft in
+    let same = c.in_ok-draft.ensures in
+    plan-same draft c.args.design.now c.args.request.now c.args.models.now c.args.default_capacity c.in_ok-plan.plan same.design same.request same.models same.capacity c.in_ok-plan.ensures.plan

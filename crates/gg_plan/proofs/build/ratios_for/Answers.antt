@@ -6,5 +6,5 @@ use Rattle.gg_plan.proofs.build.ratios_for.Goals as goal
 pub clock_ratios-requires : goal.clock_ratios-requires
 clock_ratios-requires c =
     record {
-      range = subst (λ (l : List (List ℕ × (ℕ × ℕ))). ratio_fault l ≡ None) (sym c.as_slice.ensures) (faultless-ratios c.args.design.now c.args.request.now c.requires);
+      range = subst (λ (l : List (List ℕ × (ℕ × ℕ))). ratio_fault l ≡ None) (sym c.as_slice.ensures) (faultless-ratios c.args.draft.now.design.now c.args.draft.now.request.now c.requires.faultless);
     }

@@ -12,5 +12,5 @@ invariant-loop-number l =
     (length l.table.items ≡ length l.initial.table.items)
     × ((k : ℕ) → l.«number» ≤ k → slice_index_or l.table.items k [] ≡ slice_index_or l.initial.table.items k [])
     × (length l.channels.items ≡ l.«number»)
-    × ((k : ℕ) (any : Channel) → k < l.«number» → IsWired l.piece (capacity_of l.request.capacity l.default) (is_piped l.piece l.request) (wire_at l.wires k) (slice_index_or l.channels.items k any))
+    × ((k : ℕ) (any : Channel) → k < l.«number» → IsWired l.piece (capacity_of l.draft.request.now.capacity l.draft.default_capacity) (is_piped l.piece l.draft.request.now) (wire_at l.wires k) (slice_index_or l.channels.items k any))
     × ((k : ℕ) (any : Channel) → k < l.«number» → (slice_index_or l.channels.items k any).needs ≡ slice_index_or l.initial.table.items k [])

@@ -4,7 +4,7 @@ use Rattle.std.specs.List.{list_any}
 use Rattle.std.specs.Option.{option_to_list}
 use Rattle.std.proofs.lemmas.List.Elements.{All-filter}
 use Rattle.gg_flat.specs.Circuit.{driver_at}
-use Rattle.gg_flat.specs.Scoped.{memory_fields}
+use Rattle.gg_flat_tree.specs.Scoped.{memory_fields}
 use Rattle.gg_flat.proofs.ListLemmas.{filter-cases}
 use Rattle.gg_cut.specs.Direct.{driver_names}
 use Rattle.gg_routes.specs.Tables.{side_at, entry_at, AreKnown, is_kept, is_left}

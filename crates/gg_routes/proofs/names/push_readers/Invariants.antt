@@ -1,6 +1,6 @@
 use Rattle.std.proofs.Common.{◌≡◌, ◌++◌, take}
 use Rattle.std.specs.Prelude.{flat_map}
-use Rattle.gg_flat.specs.Scoped.{reader_fields}
+use Rattle.gg_flat_tree.specs.Scoped.{reader_fields}
 use Rattle.gg_routes.proofs.names.push_readers.Given as goal
 
 abbrev pub invariant-loop-reader : goal.invariant-loop-reader

@@ -2,7 +2,7 @@ use Rattle.std.proofs.Common.{◌≡◌, ℕ, ◌<◌, ◌++◌, List, Bool, fal
 use Rattle.std.specs.Prelude.{◌==◌, All, Contains, filter}
 use Rattle.std.specs.List.{list_any}
 use Rattle.std.proofs.Math.Bool.{or-false}
-use Rattle.gg_flat.specs.Scoped.{stop_signals}
+use Rattle.gg_flat_tree.specs.Scoped.{stop_signals}
 use Rattle.gg_order.specs.Marks.{is_marked}
 use Rattle.gg_cut.specs.declared.wires.Wire.{Wire}
 use Rattle.gg_routes.specs.declared.sides.Side.{Side}

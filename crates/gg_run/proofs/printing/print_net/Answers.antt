@@ -1,7 +1,7 @@
 use Rattle.std.proofs.Common.{◌≡◌, ◌-◌, refl, sym, ap, ◌∙◌, subst, arith}
 use Rattle.std.proofs.lemmas.Result.{IfOk-weaker}
 use Rattle.gg_cut.proofs.KnownLemmas.{parents-before}
-use Rattle.gg_flat.specs.Clocked.{AreParentsBefore}
+use Rattle.gg_flat_tree.specs.Clocked.{AreParentsBefore}
 use Rattle.gg_build.specs.Build.{run_from_zeros, run_token}
 use Rattle.gg_cut.specs.Seated.{first_kept_tray, plan_bridges}
 use Rattle.gg_order.specs.Design.{Ordered}

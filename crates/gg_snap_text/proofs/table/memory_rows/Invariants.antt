@@ -1,7 +1,7 @@
 use Rattle.std.proofs.Common.{◌≡◌, ◌<◌, ◌^◌, map}
 use Rattle.std.specs.Prelude.{All}
 use Rattle.std.specs.List.{range_with_len}
-use Rattle.gg_flat.specs.Tree.{path_at, memory_at}
+use Rattle.gg_flat_tree.specs.Tree.{path_at, memory_at}
 use Rattle.gg_snap_text.specs.declared.row.Row.{Row}
 use Rattle.gg_snap_text.specs.Table.{memory_row}
 use Rattle.gg_snap_text.proofs.table.memory_rows.Given as goal

@@ -1,6 +1,6 @@
 use Rattle.std.proofs.Common.{◌≡◌, ◌++◌, List, length, sym, ap, ap₂, ◌∙◌, subst, append_assoc}
 use Rattle.std.specs.Prelude.{◌≢◌, AllPairs}
-use Rattle.gg_flat.specs.Tree.{InstanceTree}
+use Rattle.gg_flat_tree.specs.Tree.{InstanceTree}
 use Rattle.gg_snap_text.specs.declared.row.Row.{Row}
 use Rattle.gg_snap_text.specs.Table.{by_path, memory_rows, pipe_rows, read_rows, register_rows}
 use Rattle.gg_snap_text.proofs.SortLemmas.{AreDistinct, own-distinct}

@@ -1,5 +1,5 @@
 use Rattle.std.proofs.Common.{◌≡◌, ◌∙◌, ◌+◌, ◌++◌, suc, map, sym, ap, arith}
-use Rattle.gg_flat.specs.declared.tree.Instance.{Instance}
+use Rattle.gg_flat_tree.specs.declared.tree.Instance.{Instance}
 use Rattle.gg_flat.specs.Line.{value_at}
 use Rattle.gg_cut.specs.Channels.{port_wire, port_wires}
 use Rattle.gg_split.proofs.NumberedLemmas.{numbered-pushed, unit-step, instance-read}

@@ -1,5 +1,5 @@
 use Rattle.std.proofs.Common.{◌∙◌, length, refl, sym, ap, arith}
-use Rattle.gg_flat.specs.declared.tree.MemoryInstance.{MemoryInstance}
+use Rattle.gg_flat_tree.specs.declared.tree.MemoryInstance.{MemoryInstance}
 use Rattle.gg_flat.specs.Line.{value_at}
 use Rattle.gg_split.proofs.NumberedLemmas.{memory-here}
 use Rattle.gg_split.proofs.SpreadLemmas.{AreLists-memory}

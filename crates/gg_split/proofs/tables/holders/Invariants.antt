@@ -1,6 +1,6 @@
 use Rattle.std.proofs.Common.{◌≡◌, ◌<◌, ℕ, length}
 use Rattle.gg_flat.specs.Line.{value_at}
-use Rattle.gg_flat.specs.Tree.{memory_at}
+use Rattle.gg_flat_tree.specs.Tree.{memory_at}
 use Rattle.gg_split.proofs.tables.holders.Given as goal
 
 abbrev pub invariant-loop-place : goal.invariant-loop-place

@@ -2,7 +2,7 @@ use Rattle.std.proofs.Common.{◌≡◌, ℕ, ◌<◌, List, ◌++◌, ◌∷◌
 use Rattle.std.specs.Prelude.{All, Contains, IfSome}
 use Rattle.std.proofs.lemmas.List.{length-map}
 use Rattle.std.proofs.lemmas.Grind.{get_or_default_zero}
-use Rattle.gg_flat.specs.Tree.{InstanceTree, joined, no_tree}
+use Rattle.gg_flat_tree.specs.Tree.{InstanceTree, joined, no_tree}
 use Rattle.gg_flat.proofs.ListLemmas.{Contains-map}
 use Rattle.gg_ast.specs.declared.module.Port.{Port}
 use Rattle.gg_ast.specs.Places.{place_of}

@@ -1,5 +1,5 @@
 use Rattle.std.proofs.Common.{◌≡◌, map, take}
-use Rattle.gg_flat.specs.Tree.{no_tree}
+use Rattle.gg_flat_tree.specs.Tree.{no_tree}
 use Rattle.gg_tree.specs.IsTreeOf.{AreInstances}
 use Rattle.gg_tree.specs.TreeParts.{place_paths, with_instances}
 use Rattle.gg_flattened.specs.Views.{site_of}

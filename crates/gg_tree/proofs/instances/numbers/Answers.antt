@@ -1,7 +1,7 @@
 use Rattle.std.proofs.Common.{◌≡◌, ℕ, ◌+◌, List, ◌++◌, ◌∷◌, [], take, subst, sym, ap, ◌∙◌, arith}
 use Rattle.std.specs.Prelude.{Contains}
 use Rattle.std.proofs.lemmas.List.Elements.{All-contains}
-use Rattle.gg_flat.specs.Tree.{joined}
+use Rattle.gg_flat_tree.specs.Tree.{joined}
 use Rattle.gg_flattened.specs.declared.digest.OwnMemory.{OwnMemory}
 use Rattle.gg_tree.specs.IsTreeOf.{IsAt, Pairwise}
 use Rattle.gg_tree.specs.TreeParts.{IsNumberAt}

@@ -2,8 +2,8 @@ use Rattle.std.proofs.Common.{◌+◌, List, take, subst, sym, arith, option_to_
 use Rattle.std.specs.Prelude.{Contains}
 use Rattle.std.proofs.lemmas.List.Elements.{All-contains}
 use Rattle.gg_ast.specs.declared.module.Port.{Port}
-use Rattle.gg_flat.specs.Tree.{joined}
-use Rattle.gg_flat.specs.declared.tree.InstancePort.{InstancePort}
+use Rattle.gg_flat_tree.specs.Tree.{joined}
+use Rattle.gg_flat_tree.specs.declared.tree.InstancePort.{InstancePort}
 use Rattle.gg_flat.proofs.ListLemmas.{Contains-filter}
 use Rattle.gg_tree.specs.IsTreeOf.{Pairwise}
 use Rattle.gg_tree.specs.TreeParts.{IsPortAt, is_signal, signals_among}

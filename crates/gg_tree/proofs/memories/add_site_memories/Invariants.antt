@@ -1,5 +1,5 @@
 use Rattle.std.proofs.Common.{◌≡◌, ◌++◌, List, map, take}
-use Rattle.gg_flat.specs.Tree.{joined}
+use Rattle.gg_flat_tree.specs.Tree.{joined}
 use Rattle.gg_flattened.specs.IsFlat.{memory_paths}
 use Rattle.gg_tree.specs.IsTreeOf.{Pairwise, HeldMemory, site_paths, memories_of}
 use Rattle.gg_tree.specs.TreeParts.{IsHeldFor, held_at_place, with_memories}

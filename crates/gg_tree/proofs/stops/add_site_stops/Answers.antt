@@ -1,8 +1,8 @@
 use Rattle.std.proofs.Common.{◌+◌, List, ◌++◌, ◌∷◌, [], map, take, subst, sym, ap, arith}
 use Rattle.std.specs.Prelude.{Contains}
 use Rattle.std.proofs.lemmas.List.Elements.{All-contains}
-use Rattle.gg_flat.specs.declared.tree.StopInstance.{StopInstance}
-use Rattle.gg_flat.specs.Tree.{InstanceTree, joined}
+use Rattle.gg_flat_tree.specs.declared.tree.StopInstance.{StopInstance}
+use Rattle.gg_flat_tree.specs.Tree.{InstanceTree, joined}
 use Rattle.gg_flattened.specs.declared.stops.OwnStop.{OwnStop}
 use Rattle.gg_flattened.proofs.FlatLemmas.{seam}
 use Rattle.gg_tree.specs.IsTreeOf.{Pairwise, HeldStop}

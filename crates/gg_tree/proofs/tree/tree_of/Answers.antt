@@ -1,7 +1,7 @@
 use Rattle.std.proofs.Common.{List, flat_map, map, subst, sym, ap, ◌∙◌}
 use Rattle.gg_ast.specs.Places.{place_of}
 use Rattle.gg_ast.specs.Tree.{module_names}
-use Rattle.gg_flat.specs.Tree.{InstanceTree}
+use Rattle.gg_flat_tree.specs.Tree.{InstanceTree}
 use Rattle.gg_types.specs.Clocks.{clock_inputs}
 use Rattle.gg_count.specs.Sites.{Site}
 use Rattle.gg_flattened.specs.Flat.{flat_memories, flat_signals}

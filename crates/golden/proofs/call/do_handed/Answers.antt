@@ -3,11 +3,11 @@ use Rattle.gg_cut.specs.Bridges.{Models}
 use Rattle.gg_told.specs.Ends.{loads_of, puts_of}
 use Rattle.gg_told.specs.Endings.{said_by}
 use Rattle.gg_told.proofs.EndingLemmas.{exit-is}
-use Rattle.golden.specs.Bridges.{models_in}
-use Rattle.golden.specs.Network.{RanNetwork}
-use Rattle.golden.specs.Outcome.{CallEnded}
-use Rattle.golden.specs.Partition.{to_run}
-use Rattle.golden.specs.Stepped.{ToldByNetwork}
+use Rattle.golden_case.specs.Bridges.{models_in}
+use Rattle.golden_case.specs.Network.{RanNetwork}
+use Rattle.golden_case.specs.Outcome.{CallEnded}
+use Rattle.golden_case.specs.Partition.{to_run}
+use Rattle.golden_case.specs.Stepped.{ToldByNetwork}
 use Rattle.golden.proofs.CallLemmas.{wanting-ends}
 use Rattle.golden.proofs.NetworkLemmas.{wants-some}
 use Rattle.golden.proofs.SteppedLemmas.{untold, wants-other}

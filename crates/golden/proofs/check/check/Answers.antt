@@ -2,10 +2,10 @@ use Rattle.std.proofs.Common.{refl}
 use Rattle.gg_told.specs.Ends.{loads_of}
 use Rattle.gg_told.specs.Order.{Write}
 use Rattle.gg_told.proofs.EndingLemmas.{IfRefused-map, exit-is, loads-on, only-ends, stopped-ends}
-use Rattle.golden.specs.Check.{IsCutTextOf}
-use Rattle.golden.specs.Commands.{asking}
-use Rattle.golden.specs.Partition.{to_run}
-use Rattle.golden.proofs.CaseLemmas.{case-ends, case-stops}
+use Rattle.golden_case.specs.Check.{IsCutTextOf}
+use Rattle.golden_case.specs.Commands.{asking}
+use Rattle.golden_case.specs.Partition.{to_run}
+use Rattle.golden_case.proofs.CaseLemmas.{case-ends, case-stops}
 use Rattle.golden.proofs.check.check.Goals as goal
 
 pub returns-in_err-case-clause-ended : goal.returns-in_err-case-clause-ended

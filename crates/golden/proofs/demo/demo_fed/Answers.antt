@@ -1,6 +1,6 @@
 use Rattle.std.proofs.Common.{[]}
-use Rattle.golden.proofs.CaseLemmas.{case-can}
-use Rattle.golden.proofs.WholePortLemmas.{fed-columns}
+use Rattle.golden_case.proofs.CaseLemmas.{case-can}
+use Rattle.golden_case.proofs.WholePortLemmas.{fed-columns}
 use Rattle.gg_demo.specs.TraceText.{demo_trace}
 use Rattle.golden.proofs.demo.demo_fed.Goals as goal
 

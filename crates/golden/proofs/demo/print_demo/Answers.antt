@@ -1,14 +1,14 @@
 use Rattle.std.proofs.Common.{[], refl, arith}
-use Rattle.golden.specs.Partition.{to_run}
+use Rattle.golden_case.specs.Partition.{to_run}
 use Rattle.gg_demo.specs.CircuitText.{demo_circuit}
 use Rattle.gg_demo.specs.PartitionText.{demo_partition}
 use Rattle.gg_demo.specs.TraceText.{demo_trace}
 use Rattle.gg_told.specs.Endings.{PrintsText, Wants}
 use Rattle.gg_told.proofs.EndingLemmas.{exit-is}
-use Rattle.golden.specs.Demo.{demo_capacity}
+use Rattle.golden_case.specs.Demo.{demo_capacity}
 use Rattle.golden.proofs.DemoLemmas.{demo-none, demo-two, sums-only}
-use Rattle.golden.proofs.FedLemmas.{to-replay}
-use Rattle.golden.proofs.PartitionLemmas.{designs-agree}
+use Rattle.golden_case.proofs.FedLemmas.{to-replay}
+use Rattle.golden_case.proofs.PartitionLemmas.{designs-agree}
 use Rattle.golden.proofs.demo.print_demo.Goals as goal
 
 pub sum_fed-requires-clause-run : goal.sum_fed-requires-clause-run

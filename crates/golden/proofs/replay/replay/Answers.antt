@@ -2,12 +2,12 @@ use Rattle.std.proofs.Common.{refl}
 use Rattle.gg_told.specs.Ends.{loads_of}
 use Rattle.gg_told.specs.Order.{Load, Write}
 use Rattle.gg_told.proofs.EndingLemmas.{IfRefused-map, exit-is, loads-on, stopped-ends}
-use Rattle.golden.specs.Commands.{asking}
-use Rattle.golden.specs.Replay.{IsReplayOf, steps_file_for}
-use Rattle.golden.specs.Partition.{to_run}
-use Rattle.golden.proofs.CaseLemmas.{fed-ends, fed-stops}
-use Rattle.golden.proofs.FedLemmas.{given}
-use Rattle.golden.proofs.HandedLemmas.{has-bridges}
+use Rattle.golden_case.specs.Commands.{asking}
+use Rattle.golden_case.specs.Replay.{IsReplayOf, steps_file_for}
+use Rattle.golden_case.specs.Partition.{to_run}
+use Rattle.golden_case.proofs.CaseLemmas.{fed-ends, fed-stops}
+use Rattle.golden_case.proofs.FedLemmas.{given}
+use Rattle.golden_case.proofs.HandedLemmas.{has-bridges}
 use Rattle.golden.proofs.SteppedLemmas.{by-ending, ended-other, files-other, read-told, untold}
 use Rattle.golden.proofs.replay.replay.Goals as goal
 

@@ -2,8 +2,8 @@ use Rattle.std.proofs.Common.{List, ℕ, refl, subst}
 use Rattle.gg_told.specs.Endings.{PrintsOn}
 use Rattle.gg_told.proofs.EndingLemmas.{exit-is}
 use Rattle.gg_told.proofs.WritingLemmas.{none-front}
-use Rattle.golden.specs.Partition.{to_save}
-use Rattle.golden.proofs.FedLemmas.{fed-ports}
+use Rattle.golden_case.specs.Partition.{to_save}
+use Rattle.golden_case.proofs.FedLemmas.{fed-ports}
 use Rattle.golden.proofs.RestLemmas.{resumed-can, resumed-text}
 use Rattle.golden.proofs.resume.print_rest.Goals as goal
 

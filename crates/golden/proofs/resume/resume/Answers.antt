@@ -2,10 +2,10 @@ use Rattle.std.proofs.Common.{refl}
 use Rattle.gg_told.specs.Ends.{loads_of}
 use Rattle.gg_told.specs.Order.{Load, Write}
 use Rattle.gg_told.proofs.EndingLemmas.{IfRefused-map, exit-is, loads-on, stopped-ends}
-use Rattle.golden.specs.Commands.{asking}
-use Rattle.golden.specs.Partition.{to_save}
-use Rattle.golden.specs.Resumed.{IsResumedText, snap_file_for}
-use Rattle.golden.proofs.CaseLemmas.{fed-ends, fed-stops}
+use Rattle.golden_case.specs.Commands.{asking}
+use Rattle.golden_case.specs.Partition.{to_save}
+use Rattle.golden_case.specs.Resumed.{IsResumedText, snap_file_for}
+use Rattle.golden_case.proofs.CaseLemmas.{fed-ends, fed-stops}
 use Rattle.golden.proofs.resume.resume.Goals as goal
 
 pub resume_fed-requires-clause-fed : goal.resume_fed-requires-clause-fed

@@ -4,9 +4,9 @@ use Rattle.gg_snap_text.specs.Standing.{IsSnap}
 use Rattle.gg_snap_text.specs.Table.{rows_of}
 use Rattle.gg_told.specs.Endings.{PrintsText, Stops, Wants}
 use Rattle.gg_told.proofs.EndingLemmas.{IfRefused-map, exit-is}
-use Rattle.golden.specs.Partition.{to_save}
-use Rattle.golden.proofs.CaseLemmas.{case-can-save, of-made}
-use Rattle.golden.proofs.PartitionLemmas.{designs-agree}
+use Rattle.golden_case.specs.Partition.{to_save}
+use Rattle.golden_case.proofs.CaseLemmas.{case-can-save, of-made}
+use Rattle.golden_case.proofs.PartitionLemmas.{designs-agree}
 use Rattle.golden.proofs.RestLemmas.{resumed-so, snap-tells}
 use Rattle.golden.proofs.resume.resume_bytes.Goals as goal
 

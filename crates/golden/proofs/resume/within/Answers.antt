@@ -1,6 +1,6 @@
 use Rattle.std.proofs.Common.{ℕ, ◌<◌, ap, ◌∙◌, subst, arith}
 use Rattle.gg_told.proofs.EndingLemmas.{IfRefused-map}
-use Rattle.golden.specs.Lines.{few_rows}
+use Rattle.golden_case.specs.Lines.{few_rows}
 use Rattle.golden.proofs.resume.within.Goals as goal
 
 pub returns-then-rows-cycle-clause-refused : goal.returns-then-rows-cycle-clause-refused

@@ -1,7 +1,7 @@
 use Rattle.std.proofs.Common.{length, sym, ap, ◌∙◌, subst, refl, arith}
 use Rattle.std.proofs.lemmas.Result.{IfOk-weaker}
 use Rattle.gg_cut.proofs.KnownLemmas.{parents-before}
-use Rattle.gg_flat.specs.Clocked.{AreParentsBefore}
+use Rattle.gg_flat_tree.specs.Clocked.{AreParentsBefore}
 use Rattle.gg_build.specs.Build.{run_from_zeros, run_token}
 use Rattle.gg_order.specs.Design.{Ordered}
 use Rattle.gg_partfile.specs.declared.request.Request.{Request}
@@ -10,9 +10,9 @@ use Rattle.gg_run.proofs.OpeningLemmas.{from-zeros}
 use Rattle.gg_run.proofs.OutputLemmas.{opening-is-net, outs-few, trays-told}
 use Rattle.gg_run.proofs.PrintedLemmas.{stops-are}
 use Rattle.gg_run.proofs.RunLemmas.{opening-stands}
-use Rattle.golden.specs.RunText.{shown_ports}
+use Rattle.golden_case.specs.RunText.{shown_ports}
 use Rattle.golden.proofs.UptoLemmas.{IfOk-both, none-asked, stands-end}
-use Rattle.golden.proofs.WholePortLemmas.{shown-few}
+use Rattle.golden_case.proofs.WholePortLemmas.{shown-few}
 use Rattle.golden.proofs.save.run_upto.Goals as goal
 
 pub shown_ports-requires : goal.shown_ports-requires

@@ -1,0 +1,12 @@
+pub mod CapacityLemmas
+pub mod DraftFollowerLemmas
+pub mod DraftLemmas
+pub mod FollowerLemmas
+pub mod MachineLemmas
+pub mod MovedPartLemmas
+pub mod MovedUnitLemmas
+pub mod PathLemmas
+pub mod PlaceLemmas
+pub mod RegisterLemmas
+pub mod RoutedLemmas
+pub mod TimedLemmas

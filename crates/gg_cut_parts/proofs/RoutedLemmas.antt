@@ -1,0 +1,74 @@
+-- The part of a unit by the routed channels, and by the channels before.
+use Rattle.std.proofs.Common.{◌≡◌, ◌≢◌, ℕ, ◌<◌, List, sym, ◌∙◌, subst}
+use Rattle.std.specs.Prelude.{Bool}
+use Rattle.gg_moved.specs.KeepsToTree.{KeepsToTree}
+use Rattle.gg_order.specs.Design.{Ordered, IsDesign}
+use Rattle.gg_part.specs.declared.part.Clocking.{Clocking}
+use Rattle.gg_part.specs.declared.part.Part.{Part}
+use Rattle.gg_part.specs.Building.{AreHeld}
+use Rattle.gg_part.specs.Clocking.{IsTimed}
+use Rattle.gg_partfile.specs.declared.request.Request.{Request}
+use Rattle.gg_cut.specs.declared.listed.Listed.{Listed}
+use Rattle.gg_cut.specs.Listed.{listed_of}
+use Rattle.gg_cut.specs.Machines.{first_source}
+use Rattle.gg_cut.specs.Direct.{Hub, hub_of, is_piped, plan_hub, routes, is_driven}
+use Rattle.gg_cut.specs.Plan.{channels_from, givens_of, IsCutPart}
+use Rattle.gg_closed.specs.Apart.{AreApart}
+use Rattle.gg_routes.specs.Share.{IsPlanShare}
+use Rattle.gg_routes.proofs.PlanLemmas.{plan-base}
+use Rattle.gg_routes.proofs.UnitLemmas.{ins-still, givens-still}
+use Rattle.gg_routes.proofs.ChoiceLemmas.{had, has-still}
+use Rattle.gg_cut_parts.specs.MovedPart.{IsUnitPart, IsUnitRouted, IsUnitShare}
+
+pub unit-routed : (design : Ordered) (listed : Listed) (piped driven : ℕ → Bool) (direct : Bool) (m : ℕ) → IsDesign design → KeepsToTree design.circuit design.tree → AreApart design.tree listed → m ≢ 0 → IsUnitRouted design listed (hub_of design.circuit design.tree listed piped driven direct) m
+unit-routed design listed piped driven direct m is keeps apart other =
+    let hub = hub_of design.circuit design.tree listed piped driven direct in
+    let base = plan-base design listed piped driven direct is keeps apart in
+    record {
+      signals = λ s. (had hub base m s, has-still hub base m s other);
+      ins = ins-still hub base m other;
+      givens = givens-still hub base m other;
+    }
+
+-- the same in a plan
+pub plan-unit-routed : (design : Ordered) (request : Request) (listed : Listed) → listed ≡ listed_of design.tree request → IsDesign design → KeepsToTree design.circuit design.tree → AreApart design.tree listed → (m : ℕ) → m ≢ 0 → IsUnitRouted design listed (plan_hub design.circuit design.tree request) m
+plan-unit-routed design request listed same is keeps apart m other =
+    subst (λ (l : Listed). IsUnitRouted design l (plan_hub design.circuit design.tree request) m) (sym same)
+    (unit-routed design (listed_of design.tree request) (is_piped design.circuit request) (is_driven design.circuit request) request.direct m is keeps (subst (AreApart design.tree) same apart) other)
+
+module _ (design : Ordered) (listed : Listed) (hub : Hub) (clocking : Clocking) (m : ℕ) (part : Part) (routed : IsUnitRouted design listed hub m) where
+  pub to-unit : IsCutPart design listed hub m part → IsTimed part.piece part.held part.memories clocking.registers clocking.ports → IsUnitPart design listed clocking m (givens_of (routes hub) (channels_from (routes hub) m)) part
+  to-unit cut timed =
+      record {
+        is = cut.is;
+        clocks = cut.clocks;
+        timed = timed;
+        signals = λ s. (λ h. (routed.signals s).0 ((cut.signals s).0 h), λ has. (cut.signals s).1 ((routed.signals s).1 has));
+        ins = cut.ins ∙ routed.ins;
+        outs = cut.outs;
+        held = subst (λ (l : List ℕ). AreHeld design.circuit part.globals l part.held) routed.ins cut.held;
+        memories = cut.memories;
+        ordered = cut.ordered;
+      }
+
+  pub from-unit : IsUnitPart design listed clocking m (givens_of (routes hub) (channels_from (routes hub) m)) part → IsCutPart design listed hub m part
+  from-unit cut =
+      record {
+        is = cut.is;
+        clocks = cut.clocks;
+        signals = λ s. (λ h. (routed.signals s).1 ((cut.signals s).0 h), λ has. (cut.signals s).1 ((routed.signals s).0 has));
+        ins = cut.ins ∙ sym routed.ins;
+        outs = cut.outs;
+        held = subst (λ (l : List ℕ). AreHeld design.circuit part.globals l part.held) (sym routed.ins) cut.held;
+        memories = cut.memories;
+        ordered = cut.ordered;
+      }
+
+pub unit-share : (design : Ordered) (listed : Listed) (hub : Hub) (n : ℕ) (ins outs globals banks : List ℕ) → IsUnitRouted design listed hub n → n < first_source listed → IsPlanShare design listed hub n ins outs globals banks → IsUnitShare design listed n globals banks
+unit-share design listed hub n ins outs globals banks routed low share =
+    record {
+      signals = λ s. (λ h. (routed.signals s).0 ((share.signals s).0 h), λ has. (share.signals s).1 ((routed.signals s).1 has));
+      within = (share.choice low).within;
+      banks = share.banks;
+      ascend = share.ascend;
+    }

@@ -1,0 +1,82 @@
+//! `Draft`: a cut in the making.
+ghost use Rattle.std.specs.Prelude.{◌≡◌};
+ghost use Rattle.gg_cut.specs.Machines.{numbering_of};
+ghost use Rattle.gg_cut_parts.specs.Draft.{IsDraft};
+
+use gg_cut::{Listed, Numbering, Wire};
+use gg_flat::Models;
+use gg_order::Design;
+use gg_partfile::Request;
+use gg_routes::Channels;
+use gg_split::Split;
+
+/// A cut in the making: what is cut, as a request without a fault asks, what is listed of it, what each machine has before
+/// the routing, and the channels after it.
+pub struct Draft<'a> {
+    /// What is cut.
+    pub design: &'a Design,
+    /// How it is cut.
+    pub request: &'a Request,
+    /// The models of bridges that are known.
+    pub models: &'a Models,
+    /// The capacity of the channels that the request doesn't name.
+    pub default_capacity: u32,
+    /// What the request lists.
+    pub listed: Listed,
+    /// The channels before the routing, and what each machine has by them.
+    pub split: Split,
+    /// The channels after the routing, and what leaves.
+    pub routed: Channels,
+}
+
+impl<'a> Drop for Draft<'a> {
+    fn drop(self) {
+        let Self {
+            design: _,
+            request: _,
+            models: _,
+            default_capacity: _,
+            listed,
+            split,
+            routed,
+        } = self;
+        drop(listed);
+        drop(split);
+        drop(routed);
+    }
+}
+
+impl<'a> Draft<'a> {
+    /// The numbers of the machines, as if there were no bridges.
+    pub fn numbering(&self) -> Numbering
+        requires { IsDraft self.now }
+        ensures { result ≡ numbering_of self.now.design.now.circuit self.now.listed }
+    {
+        Numbering::of(self.design.piece(), &self.listed)
+    }
+
+    /// The channels after the routing.
+    pub fn wires(&self) -> &[Wire]
+        ensures { result.now ≡ self.now.routed.wires }
+    {
+        self.routed.wires.as_slice()
+    }
+
+    /// What the request lists, from a draft that isn't needed any more.
+    pub fn into_listed(self) -> Listed
+        ensures { result ≡ self.entry.listed }
+    {
+        let Self {
+            design: _,
+            request: _,
+            models: _,
+            default_capacity: _,
+            listed,
+            split,
+            routed,
+        } = self;
+        drop(split);
+        drop(routed);
+        listed
+    }
+}

@@ -1,0 +1,90 @@
+//! The parts of the circuit that the machines run.
+ghost use Rattle.std.specs.Prelude.{◌≡◌, ◌<◌, ◌≤◌, length, All, AllPairs, IfOk};
+ghost use Rattle.gg_part.specs.Clocking.{IsTimed};
+ghost use Rattle.gg_cut.specs.Machines.{first_unit, first_memory, first_source};
+ghost use Rattle.gg_cut.specs.Plan.{signals_of, givens_of};
+ghost use Rattle.gg_cut_parts.specs.Draft.{IsMachineDraft, IsDraftPart};
+
+use crate::machine_draft::MachineDraft;
+use gg_bits::Ids;
+use gg_cut::Wire;
+use gg_part::{Part, part_in_order, part_of};
+use std::alloc::{AllocError, Global};
+
+/// The part of a machine that has one.
+///
+/// # Errors
+///
+/// Returns `AllocError` if an allocation fails.
+pub fn cut_part(alloc: Global, machine: &MachineDraft) -> Result<Part, AllocError>
+    requires machine { IsMachineDraft machine.now }
+    requires inside { machine.now.number < first_source machine.now.draft.now.listed }
+    ensures part { IfOk result (λ part. IsDraftPart machine.now.draft.now machine.now.number part) }
+    ensures ascend { IfOk result (λ part. AllPairs (λ a b. a < b) part.memories) }
+    ensures timed { IfOk result (λ part. first_unit ≤ machine.now.number
+        → machine.now.number < first_memory machine.now.draft.now.listed
+        → IsTimed part.piece part.held part.memories machine.now.domains.now.units.registers
+        machine.now.domains.now.units.ports) }
+{
+    let draft = machine.draft;
+    let share = machine.share;
+    // for the invariant alone
+    let _ = draft.design.order();
+    part_in_order();
+    let ins = signals(alloc, draft.wires(), share.ins.as_slice())?;
+    let outs = givens(alloc, draft.wires(), share.outs.as_slice())?;
+    let part = part_of(
+        alloc,
+        draft.design.piece(),
+        machine.domains.clocks(&draft.listed, machine.number),
+        machine.domains.clocking(&draft.listed, machine.number),
+        share.globals.as_slice(),
+        &ins,
+        &outs,
+        share.memories.as_slice(),
+    )?;
+    Ok(part)
+}
+
+// The signals that channels are taken with.
+fn signals(alloc: Global, wires: &[Wire], channels: &[u32]) -> Result<Vec<u32>, AllocError>
+    requires { All (λ channel. channel < length wires.now) channels.now }
+    ensures { IfOk result (λ signals. signals.items ≡ signals_of wires.now channels.now) }
+{
+    let mut signals = Vec::new(alloc);
+    for channel in channels {
+        signals.push(wires[*channel as usize].signal)?;
+    }
+    Ok(signals)
+}
+
+// The signals by which channels are given.
+//
+// # Errors
+//
+// Returns `AllocError` if an allocation fails.
+pub(crate) fn givens(
+    alloc: Global,
+    wires: &[Wire],
+    channels: &[u32],
+) -> Result<Vec<u32>, AllocError>
+    requires { All (λ channel. channel < length wires.now) channels.now }
+    ensures { IfOk result (λ givens. givens.items ≡ givens_of wires.now channels.now) }
+{
+    let mut givens = Vec::new(alloc);
+    for channel in channels {
+        givens.push(wires[*channel as usize].given)?;
+    }
+    Ok(givens)
+}
+
+/// A copy of a list of numbers.
+///
+/// # Errors
+///
+/// Returns `AllocError` if an allocation fails.
+pub fn copied(alloc: Global, numbers: &[u32]) -> Result<Ids, AllocError>
+    ensures { IfOk result (λ copy. copy ≡ numbers.now) }
+{
+    Ok(Ids::from(Vec::from_slice(alloc, numbers)?))
+}

@@ -1,4 +1,0 @@
-use Rattle.gg_flat.proofs.tree.Tree.add_memory.Goals as goal
-
-pub returns-in-Err-clause-doubled : goal.returns-in-Err-clause-doubled
-returns-in-Err-clause-doubled c = λ e. rw (← c.self.view_is) (c.in-Err.ensures.doubled.0 e)

@@ -1,0 +1,12 @@
+pub mod AgreeLemmas
+pub mod UniqueLemmas
+pub mod DependLemmas
+pub mod SettleLemmas
+pub mod LateLemmas
+pub mod ServedLemmas
+pub mod RunLemmas
+pub mod SinceLemmas
+pub mod AlongLemmas
+pub mod WorkedAlong
+pub mod WorkedRuns
+pub mod WorkedRatios

@@ -1,0 +1,4 @@
+pub mod TopClockLemmas
+pub mod WorkedTree
+pub mod WorkedScopes
+pub mod WorkedTreeClocks

@@ -1,0 +1,4 @@
+pub mod Tree
+pub mod Scoped
+pub mod OutputPorts
+pub mod Clocked

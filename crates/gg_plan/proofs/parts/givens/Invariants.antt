@@ -1,6 +1,0 @@
-use Rattle.std.proofs.Common.{◌≡◌, take}
-use Rattle.gg_cut.specs.Plan.{givens_of}
-use Rattle.gg_plan.proofs.parts.givens.Given as goal
-
-abbrev pub invariant-loop-channel : goal.invariant-loop-channel
-invariant-loop-channel l = l.givens.items ≡ givens_of l.wires (take l.channel-index l.channels)

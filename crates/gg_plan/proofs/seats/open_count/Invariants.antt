@@ -1,7 +1,0 @@
-use Rattle.std.proofs.Common.{◌≡◌, ◌≤◌}
-use Rattle.gg_cut.specs.Seated.{before}
-use Rattle.gg_plan.specs.Seats.{is_open}
-use Rattle.gg_plan.proofs.seats.open_count.Given as goal
-
-abbrev pub invariant-loop-place : goal.invariant-loop-place
-invariant-loop-place l = (l.count ≡ before (is_open l.takers) l.place) × (l.count ≤ l.place)
