@@ -7,7 +7,7 @@ use Rattle.gg_flat.specs.Circuit.{signal_shapes}
 use Rattle.gg_flat.specs.Line.{value_at, shape_at}
 use Rattle.gg_flat.specs.Settled.{IsInputs, in_shapes}
 use Rattle.gg_flat_tree.specs.Tree.{path_at}
-use Rattle.gg_joined.specs.Joined.{CanJoin}
+use Rattle.gg_bridge_joined.specs.Joined.{CanJoin}
 use Rattle.gg_bridge.specs.Echo.{echo_piece}
 use Rattle.gg_bridge.specs.Hosted.{ArePorts}
 use Rattle.gg_bridge.specs.Ports.{CanStand, IsAmong, front_of}

@@ -16,11 +16,11 @@ use Rattle.gg_flat.specs.Settled.{Settled}
 use Rattle.gg_flat.specs.State.{State, taken_value}
 use Rattle.gg_flat.specs.WellFormed.{IsWellFormed, MayDrive, IsRegister, IsClock}
 use Rattle.gg_flat.proofs.PathLemmas.{missing-path}
-use Rattle.gg_joined.specs.Joined.{copy_line}
-use Rattle.gg_joined.specs.Model.{IsModel, IsSaid, IsAnswer}
-use Rattle.gg_joined.proofs.FormedLemmas.{copy-source}
-use Rattle.gg_joined.proofs.NumberLemmas.{behind-first, behind-once}
-use Rattle.gg_joined.proofs.RunLemmas.{copy-value}
+use Rattle.gg_bridge_joined.specs.Joined.{copy_line}
+use Rattle.gg_bridge_joined.specs.Model.{IsModel, IsSaid, IsAnswer}
+use Rattle.gg_bridge_joined.proofs.FormedLemmas.{copy-source}
+use Rattle.gg_bridge_joined.proofs.NumberLemmas.{behind-first, behind-once}
+use Rattle.gg_bridge_joined.proofs.RunLemmas.{copy-value}
 use Rattle.fifo_bridge.specs.declared.model.Place.{Place}
 use Rattle.fifo_bridge.specs.Fifo.{fifo_piece, fifo_registers, fifo_state, next_place, taking}
 

@@ -9,7 +9,7 @@ use Rattle.gg_flat.specs.declared.piece.Register.{Register}
 use Rattle.gg_flat.specs.declared.piece.Signal.{Signal}
 use Rattle.gg_flat.specs.Circuit.{FlatCircuit}
 use Rattle.gg_flat.specs.State.{State}
-use Rattle.gg_joined.specs.Joined.{copy_line}
+use Rattle.gg_bridge_joined.specs.Joined.{copy_line}
 use Rattle.fifo_bridge.specs.declared.model.Place.{Place}
 
 -- ---- the circuit

@@ -1,6 +1,6 @@
 //! The model of a FIFO: its flat circuit.
 ghost use Rattle.std.specs.Prelude.{◌≡◌, ◌<◌, ◌^◌, ◌-◌, [], ◌∷◌, ◌++◌, length, IfOk, OnOk};
-ghost use Rattle.gg_joined.specs.Joined.{copy_line};
+ghost use Rattle.gg_bridge_joined.specs.Joined.{copy_line};
 ghost use Rattle.fifo_bridge.specs.Fifo.{fifo_piece, fifo_registers, fifo_signals, held, taking};
 
 use gg_bits::{Name, Ty};

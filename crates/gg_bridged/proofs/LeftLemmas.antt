@@ -8,9 +8,9 @@ use Rattle.gg_flat.specs.Circuit.{FlatCircuit}
 use Rattle.gg_flat.proofs.ListLemmas.{here, further}
 use Rattle.gg_partfile.specs.declared.request.BridgeEntry.{BridgeEntry}
 use Rattle.gg_partfile.specs.Size.{all_driven, all_seen}
-use Rattle.gg_joined.specs.All.{Attached, with_bridge, joined_all}
-use Rattle.gg_joined.specs.Joined.{without}
-use Rattle.gg_cut.specs.Bridges.{Models}
+use Rattle.gg_bridge_joined.specs.All.{Attached, with_bridge, joined_all}
+use Rattle.gg_bridge_joined.specs.Joined.{without}
+use Rattle.gg_cut_plan.specs.Bridges.{Models}
 use Rattle.gg_cut_seats.specs.Fitting.{attached_of}
 
 -- ---- filters

@@ -11,11 +11,11 @@ use Rattle.gg_flat_tree.specs.Tree.{path_at}
 use Rattle.gg_flat.proofs.ListLemmas.{here, further, Contains-cases}
 use Rattle.gg_partfile.specs.declared.request.BridgeEntry.{BridgeEntry}
 use Rattle.gg_partfile.specs.Size.{all_driven, all_seen}
-use Rattle.gg_joined.specs.All.{Attached, with_bridge, joined_all, CanAttachAll}
-use Rattle.gg_joined.specs.Joined.{CanJoin, joined, without}
-use Rattle.gg_joined.proofs.NumberLemmas.{left-in, left-is}
+use Rattle.gg_bridge_joined.specs.All.{Attached, with_bridge, joined_all, CanAttachAll}
+use Rattle.gg_bridge_joined.specs.Joined.{CanJoin, joined, without}
+use Rattle.gg_bridge_joined.proofs.NumberLemmas.{left-in, left-is}
 use Rattle.gg_bridge.specs.Ports.{CanStand, IsAmong, front_of, is_path_of, is_called, first_called, seen_at, driven_at, joined_at}
-use Rattle.gg_cut.specs.Bridges.{Models, model_of}
+use Rattle.gg_cut_plan.specs.Bridges.{Models, model_of}
 use Rattle.gg_cut_seats.specs.Fitting.{attached_of}
 use Rattle.gg_cut_seats.proofs.PortLemmas.{apart-once, back-once}
 use Rattle.gg_bridged.specs.Whole.{CanStandAll, with_bridges}

@@ -9,29 +9,29 @@ use Rattle.gg_order.specs.Design.{Ordered}
 use Rattle.gg_partfile.specs.declared.request.BridgeEntry.{BridgeEntry}
 use Rattle.gg_partfile.specs.declared.request.Request.{Request}
 use Rattle.gg_partfile.specs.Size.{all_driven, all_seen}
-use Rattle.gg_joined.specs.All.{Attached, CanAttachAll, joined_all}
-use Rattle.gg_joined.specs.Joined.{HasOrder}
-use Rattle.gg_joined.proofs.AllLemmas.{all-formed, all-ordered}
-use Rattle.gg_joined.proofs.EachLemmas.{each-can}
-use Rattle.gg_cut.specs.Bridges.{Models, bridge_faults}
-use Rattle.gg_cut.specs.Channels.{channel_names}
-use Rattle.gg_cut.specs.Direct.{Hub, is_driven, is_piped, plan_hub}
-use Rattle.gg_cut.specs.declared.listed.Listed.{Listed}
-use Rattle.gg_cut.specs.Fault.{first_fault, first_of, or_else}
-use Rattle.gg_cut.specs.Listed.{listed_of}
-use Rattle.gg_cut.specs.Seated.{output_count}
-use Rattle.gg_closed.specs.Apart.{AreApart}
-use Rattle.gg_closed.proofs.FaultlessLemmas.{faultless-apart}
+use Rattle.gg_bridge_joined.specs.All.{Attached, CanAttachAll, joined_all}
+use Rattle.gg_bridge_joined.specs.Joined.{HasOrder}
+use Rattle.gg_bridge_joined.proofs.AllLemmas.{all-formed, all-ordered}
+use Rattle.gg_bridge_joined.proofs.EachLemmas.{each-can}
+use Rattle.gg_cut_plan.specs.Bridges.{Models, bridge_faults}
+use Rattle.gg_cut_plan.specs.Channels.{channel_names}
+use Rattle.gg_cut_plan.specs.Direct.{Hub, is_driven, is_piped, plan_hub}
+use Rattle.gg_cut_plan.specs.declared.listed.Listed.{Listed}
+use Rattle.gg_cut_plan.specs.Fault.{first_fault, first_of, or_else}
+use Rattle.gg_cut_plan.specs.Listed.{listed_of}
+use Rattle.gg_cut_plan.specs.Seated.{output_count}
+use Rattle.gg_cut_laws.specs.Apart.{AreApart}
+use Rattle.gg_cut_laws.proofs.FaultlessLemmas.{faultless-apart}
 use Rattle.gg_cut_seats.specs.Fitting.{AreFitting, attached_of}
 use Rattle.gg_cut_seats.proofs.FittingLemmas.{all-fit}
 use Rattle.gg_cut_seats.proofs.AttachLemmas.{all-can-attach}
-use Rattle.gg_routes.proofs.RouteLemmas.{IsBase}
-use Rattle.gg_routes.proofs.RoutedLemmas.{routed-base}
-use Rattle.gg_pipe.specs.Links.{pipes_of}
-use Rattle.gg_pipe.specs.Made.{holder_of, keeper_of, plan_reference, views_in}
-use Rattle.gg_pipe.specs.Reference.{IsReference}
-use Rattle.gg_pipe.proofs.HolderLemmas.{keeper-is}
-use Rattle.gg_pipe.proofs.WholeReference.{made, ordered, whole-formed}
+use Rattle.gg_cut_routes.proofs.RouteLemmas.{IsBase}
+use Rattle.gg_cut_routes.proofs.RoutedLemmas.{routed-base}
+use Rattle.gg_cut_reference.specs.Links.{pipes_of}
+use Rattle.gg_cut_reference.specs.Made.{holder_of, keeper_of, plan_reference, views_in}
+use Rattle.gg_cut_reference.specs.Reference.{IsReference}
+use Rattle.gg_cut_reference.proofs.HolderLemmas.{keeper-is}
+use Rattle.gg_cut_reference.proofs.WholeReference.{made, ordered, whole-formed}
 use Rattle.gg_bridged.specs.Whole.{CanBridge, CanStandAll, driven_signal, plan_circuit, seen_signal}
 use Rattle.gg_bridged.proofs.NameLemmas.{ArePorts, with-joined, stand-all}
 use Rattle.gg_bridged.proofs.SeenLemmas.{driven-only, ports-at, seen-once, seen-only}

@@ -14,18 +14,18 @@ use Rattle.gg_flat.proofs.PathLemmas.{found-path}
 use Rattle.gg_order.specs.Design.{Ordered}
 use Rattle.gg_partfile.specs.declared.request.Request.{Request}
 use Rattle.gg_partfile.specs.Size.{all_driven, all_seen}
-use Rattle.gg_joined.specs.All.{Attached}
-use Rattle.gg_joined.specs.Joined.{without}
-use Rattle.gg_joined.proofs.NumberLemmas.{any-is, any-has}
-use Rattle.gg_closed.proofs.ListLemmas.{map-cases}
-use Rattle.gg_cut.specs.Bridges.{Models}
-use Rattle.gg_cut.specs.Direct.{Hub, plan_hub}
-use Rattle.gg_cut.specs.Listed.{is_among}
-use Rattle.gg_cut.specs.Seated.{open_ins, open_outs, output_count}
-use Rattle.gg_cut.proofs.PathLemmas.{among-contains}
+use Rattle.gg_bridge_joined.specs.All.{Attached}
+use Rattle.gg_bridge_joined.specs.Joined.{without}
+use Rattle.gg_bridge_joined.proofs.NumberLemmas.{any-is, any-has}
+use Rattle.gg_cut_laws.proofs.ListLemmas.{map-cases}
+use Rattle.gg_cut_plan.specs.Bridges.{Models}
+use Rattle.gg_cut_plan.specs.Direct.{Hub, plan_hub}
+use Rattle.gg_cut_plan.specs.Listed.{is_among}
+use Rattle.gg_cut_plan.specs.Seated.{open_ins, open_outs, output_count}
+use Rattle.gg_cut_plan.proofs.PathLemmas.{among-contains}
 use Rattle.gg_cut_seats.specs.Fitting.{attached_of}
-use Rattle.gg_pipe.specs.Links.{taken_as}
-use Rattle.gg_pipe.specs.Made.{plan_reference}
+use Rattle.gg_cut_reference.specs.Links.{taken_as}
+use Rattle.gg_cut_reference.specs.Made.{plan_reference}
 use Rattle.gg_bridged.specs.Whole.{CanBridge, driven_signal, plan_circuit, seen_signal}
 use Rattle.gg_bridged.proofs.LeftLemmas.{same-test, filter-at, filter-all, filter-map, ins-left, outs-left, same-clocks, drives-of, sees-of}
 use Rattle.gg_bridged.proofs.NameLemmas.{image-of}

@@ -14,17 +14,17 @@ use Rattle.gg_order.specs.Design.{Ordered}
 use Rattle.gg_part.specs.PartRun.{part_row, part_rows}
 use Rattle.gg_partfile.specs.declared.request.BridgeEntry.{BridgeEntry}
 use Rattle.gg_partfile.specs.declared.request.Request.{Request}
-use Rattle.gg_joined.specs.All.{Attached, HasInputs, RunsAllFrom, RunsModelFrom, RunsModelsFrom, joined_all, joined_state, joined_states, with_bridge}
-use Rattle.gg_joined.proofs.AllLemmas.{all-runs}
-use Rattle.gg_joined.proofs.AtLemmas.{long}
-use Rattle.gg_cut.specs.Bridges.{Models, model_of}
-use Rattle.gg_cut.specs.Plan.{entry_at}
-use Rattle.gg_cut.specs.Seated.{open_ins}
-use Rattle.gg_cut.specs.Solves.{AreRows, model_start}
+use Rattle.gg_bridge_joined.specs.All.{Attached, HasInputs, RunsAllFrom, RunsModelFrom, RunsModelsFrom, joined_all, joined_state, joined_states, with_bridge}
+use Rattle.gg_bridge_joined.proofs.AllLemmas.{all-runs}
+use Rattle.gg_bridge_joined.proofs.AtLemmas.{long}
+use Rattle.gg_cut_plan.specs.Bridges.{Models, model_of}
+use Rattle.gg_cut_plan.specs.Plan.{entry_at}
+use Rattle.gg_cut_plan.specs.Seated.{open_ins}
+use Rattle.gg_cut_plan.specs.Solves.{AreRows, model_start}
 use Rattle.gg_cut_seats.specs.Fitting.{attached_of}
-use Rattle.gg_pipe.specs.Made.{plan_reference}
-use Rattle.gg_pipe.proofs.FollowLemmas.{input-column}
-use Rattle.gg_pipe.proofs.ReferenceLemmas.{drop-part, later-less, later-row, part-zero, row-part}
+use Rattle.gg_cut_reference.specs.Made.{plan_reference}
+use Rattle.gg_cut_reference.proofs.FollowLemmas.{input-column}
+use Rattle.gg_cut_reference.proofs.ReferenceLemmas.{drop-part, later-less, later-row, part-zero, row-part}
 use Rattle.gg_bridged.specs.Whole.{CanBridge, RunsModel, RunsWhole, driven_signal, model_signals, plan_begin, plan_circuit, seen_signal, states_with}
 use Rattle.gg_bridged.proofs.PlanLemmas.{attach-all, circuit-formed, circuit-joined, reference-formed}
 use Rattle.gg_bridged.proofs.PortLemmas.{plan-ins}

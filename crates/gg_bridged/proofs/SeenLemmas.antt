@@ -9,17 +9,17 @@ use Rattle.gg_flat.specs.Line.{shape_at, value_at}
 use Rattle.gg_flat_tree.specs.Tree.{path_at}
 use Rattle.gg_flat.specs.WellFormed.{IsWellFormed}
 use Rattle.gg_flat.proofs.ListLemmas.{Contains-map, once-apart}
-use Rattle.gg_closed.proofs.ListLemmas.{map-cases}
-use Rattle.gg_cut.specs.Direct.{Hub}
-use Rattle.gg_cut.specs.Listed.{is_among, place_of}
-use Rattle.gg_cut.specs.Channels.{channel_names}
-use Rattle.gg_cut.specs.Bridges.{port_shape}
-use Rattle.gg_cut.proofs.PathLemmas.{first_place-Some, first_place-None, among-contains}
+use Rattle.gg_cut_laws.proofs.ListLemmas.{map-cases}
+use Rattle.gg_cut_plan.specs.Direct.{Hub}
+use Rattle.gg_cut_plan.specs.Listed.{is_among, place_of}
+use Rattle.gg_cut_plan.specs.Channels.{channel_names}
+use Rattle.gg_cut_plan.specs.Bridges.{port_shape}
+use Rattle.gg_cut_plan.proofs.PathLemmas.{first_place-Some, first_place-None, among-contains}
 use Rattle.gg_cut_seats.specs.Fitting.{ArePortsAt}
-use Rattle.gg_pipe.proofs.SeenLemmas.{taken-seen}
-use Rattle.gg_routes.proofs.RouteLemmas.{IsBase}
-use Rattle.gg_pipe.specs.Reference.{IsReference, IsPiped, Views}
-use Rattle.gg_pipe.specs.Links.{pipes_of, taken_as}
+use Rattle.gg_cut_reference.proofs.SeenLemmas.{taken-seen}
+use Rattle.gg_cut_routes.proofs.RouteLemmas.{IsBase}
+use Rattle.gg_cut_reference.specs.Reference.{IsReference, IsPiped, Views}
+use Rattle.gg_cut_reference.specs.Links.{pipes_of, taken_as}
 use Rattle.gg_bridge.specs.Ports.{is_called}
 use Rattle.gg_bridged.specs.Whole.{HasFreeFronts, signal_called}
 use Rattle.gg_bridged.proofs.NameLemmas.{IsOnly, called-has, has-called}

@@ -4,10 +4,10 @@ use Rattle.gg_flat.specs.Circuit.{FlatCircuit}
 use Rattle.gg_flat.specs.State.{State, IsState, opening}
 use Rattle.gg_flat.proofs.StateLemmas.{IsState-opening}
 use Rattle.gg_partfile.specs.declared.request.BridgeEntry.{BridgeEntry}
-use Rattle.gg_joined.specs.All.{joined_state}
-use Rattle.gg_joined.proofs.StateLemmas.{opening-joined, state-joined}
+use Rattle.gg_bridge_joined.specs.All.{joined_state}
+use Rattle.gg_bridge_joined.proofs.StateLemmas.{opening-joined, state-joined}
 use Rattle.gg_bridge.specs.Ports.{front_of, seen_at, driven_at, joined_at}
-use Rattle.gg_cut.specs.Bridges.{Models, model_of}
+use Rattle.gg_cut_plan.specs.Bridges.{Models, model_of}
 use Rattle.gg_bridged.specs.Whole.{states_with, with_bridges}
 
 pub zeros-with : (models : Models) (one : FlatCircuit) (entries : List BridgeEntry) → states_with models (opening one) entries ≡ opening (with_bridges models one entries)

@@ -15,9 +15,9 @@ use Rattle.gg_partfile.specs.declared.request.Request.{Request}
 use Rattle.gg_partfile.specs.Request.{no_request}
 use Rattle.gg_bridge.specs.Echo.{echo_piece}
 use Rattle.gg_bridge.proofs.WorkedEcho.{two}
-use Rattle.gg_cut.specs.Bridges.{Models}
-use Rattle.gg_cut.specs.Seated.{open_ins, open_outs}
-use Rattle.gg_cut.proofs.WorkedPair.{input, output}
+use Rattle.gg_cut_plan.specs.Bridges.{Models}
+use Rattle.gg_cut_plan.specs.Seated.{open_ins, open_outs}
+use Rattle.gg_cut_plan.proofs.WorkedPair.{input, output}
 use Rattle.gg_order.specs.Found.{found_order}
 use Rattle.gg_bridged.specs.Whole.{driven_signal, model_signals, plan_circuit, seen_signal}
 

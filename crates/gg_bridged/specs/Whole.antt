@@ -10,22 +10,22 @@ use Rattle.gg_flat.specs.Run.{Start, column}
 use Rattle.gg_flat.specs.State.{State, opening}
 use Rattle.gg_flat_tree.specs.Tree.{path_at}
 use Rattle.gg_part.specs.PartRun.{part_rows}
-use Rattle.gg_moved.specs.KeepsToTree.{KeepsToTree}
+use Rattle.gg_part_moved.specs.KeepsToTree.{KeepsToTree}
 use Rattle.gg_order.specs.Design.{Ordered, IsDesign}
 use Rattle.gg_partfile.specs.declared.request.BridgeEntry.{BridgeEntry}
 use Rattle.gg_partfile.specs.declared.request.Request.{Request}
-use Rattle.gg_joined.specs.All.{joined_state}
+use Rattle.gg_bridge_joined.specs.All.{joined_state}
 use Rattle.gg_bridge.specs.Ports.{CanStand, joined_at}
-use Rattle.gg_cut.specs.Bridges.{Models, model_of}
-use Rattle.gg_cut.specs.Direct.{plan_hub}
-use Rattle.gg_cut.specs.Fault.{first_fault_with}
-use Rattle.gg_cut.specs.Listed.{place_of}
-use Rattle.gg_cut.specs.Plan.{entry_at}
-use Rattle.gg_cut.specs.Seated.{open_ins}
-use Rattle.gg_cut.specs.Solves.{AreRows, model_start}
+use Rattle.gg_cut_plan.specs.Bridges.{Models, model_of}
+use Rattle.gg_cut_plan.specs.Direct.{plan_hub}
+use Rattle.gg_cut_plan.specs.Fault.{first_fault_with}
+use Rattle.gg_cut_plan.specs.Listed.{place_of}
+use Rattle.gg_cut_plan.specs.Plan.{entry_at}
+use Rattle.gg_cut_plan.specs.Seated.{open_ins}
+use Rattle.gg_cut_plan.specs.Solves.{AreRows, model_start}
 use Rattle.gg_cut_seats.specs.Fitting.{AreModels}
-use Rattle.gg_pipe.specs.Links.{taken_as}
-use Rattle.gg_pipe.specs.Made.{plan_reference}
+use Rattle.gg_cut_reference.specs.Links.{taken_as}
+use Rattle.gg_cut_reference.specs.Made.{plan_reference}
 
 -- ---- the circuit
 

@@ -5,15 +5,15 @@ ghost use Rattle.gg_flat.specs.State.{IsState};
 ghost use Rattle.gg_flat.specs.WellFormed.{IsWellFormed};
 ghost use Rattle.gg_order.specs.Design.{Ordered};
 ghost use Rattle.gg_partfile.specs.declared.request.Request.{Request};
-ghost use Rattle.gg_joined.specs.Joined.{HasOrder};
-ghost use Rattle.gg_cut.specs.Bridges.{Models};
-ghost use Rattle.gg_cut.specs.Clocks.{ratios_of};
-ghost use Rattle.gg_cut.specs.Direct.{plan_hub};
-ghost use Rattle.gg_cut.specs.Seated.{open_ins, open_outs, output_count};
-ghost use Rattle.gg_cut.specs.Solves.{AreRows};
-ghost use Rattle.gg_pipe.specs.Follows.{plan_start};
-ghost use Rattle.gg_pipe.specs.Links.{taken_as};
-ghost use Rattle.gg_pipe.specs.Made.{plan_reference};
+ghost use Rattle.gg_bridge_joined.specs.Joined.{HasOrder};
+ghost use Rattle.gg_cut_plan.specs.Bridges.{Models};
+ghost use Rattle.gg_cut_plan.specs.Clocks.{ratios_of};
+ghost use Rattle.gg_cut_plan.specs.Direct.{plan_hub};
+ghost use Rattle.gg_cut_plan.specs.Seated.{open_ins, open_outs, output_count};
+ghost use Rattle.gg_cut_plan.specs.Solves.{AreRows};
+ghost use Rattle.gg_cut_reference.specs.Follows.{plan_start};
+ghost use Rattle.gg_cut_reference.specs.Links.{taken_as};
+ghost use Rattle.gg_cut_reference.specs.Made.{plan_reference};
 ghost use Rattle.gg_bridged.specs.Whole.{CanBridge, CanStandAll, RunsWhole, plan_begin, plan_circuit};
 
 /// The circuit with the bridges' models is well formed, and has an order of evaluation.

@@ -1,4 +1,4 @@
-//! The circuit that the network of a plan with bridges computes: the reference circuit of gg_pipe with the models of the bridges in it.
+//! The circuit that the network of a plan with bridges computes: the reference circuit of gg_cut_reference with the models of the bridges in it.
 //!
 //! The definitions in `specs/` say what it is, where it starts, and what a run of it is. The crate has laws alone:
 //! its functions compute nothing. For a request without a fault, and models as bridges have them, it promises:

@@ -3,23 +3,23 @@ use Rattle.std.proofs.Common.{◌≡◌, ℕ, List, [], None, length, sym, ap, s
 use Rattle.gg_flat.specs.Circuit.{FlatCircuit}
 use Rattle.gg_flat.specs.Run.{IsColumns}
 use Rattle.gg_flat.specs.State.{State}
-use Rattle.gg_moved.specs.KeepsToTree.{KeepsToTree}
+use Rattle.gg_part_moved.specs.KeepsToTree.{KeepsToTree}
 use Rattle.gg_order.specs.Design.{IsDesign, Ordered}
 use Rattle.gg_partfile.specs.declared.request.BridgeEntry.{BridgeEntry}
 use Rattle.gg_partfile.specs.declared.request.Request.{Request}
-use Rattle.gg_cut.specs.declared.plan.Plan.{Plan}
-use Rattle.gg_cut.specs.Bridges.{Models}
-use Rattle.gg_cut.specs.Direct.{plan_hub}
-use Rattle.gg_cut.specs.Fault.{first_fault_with}
-use Rattle.gg_cut.specs.Held.{AreHeldOnce}
-use Rattle.gg_cut.specs.Listed.{listed_of}
-use Rattle.gg_cut.specs.Plan.{IsBody, IsPlan}
+use Rattle.gg_cut_plan.specs.declared.plan.Plan.{Plan}
+use Rattle.gg_cut_plan.specs.Bridges.{Models}
+use Rattle.gg_cut_plan.specs.Direct.{plan_hub}
+use Rattle.gg_cut_plan.specs.Fault.{first_fault_with}
+use Rattle.gg_cut_plan.specs.Held.{AreHeldOnce}
+use Rattle.gg_cut_plan.specs.Listed.{listed_of}
+use Rattle.gg_cut_plan.specs.Plan.{IsBody, IsPlan}
 use Rattle.gg_cut_seats.specs.Fitting.{AreModels}
-use Rattle.gg_pipe.specs.Made.{plan_reference}
-use Rattle.gg_pipe.proofs.PlanLemmas.{plan-columns}
+use Rattle.gg_cut_reference.specs.Made.{plan_reference}
+use Rattle.gg_cut_reference.proofs.PlanLemmas.{plan-columns}
 use Rattle.gg_bridged.specs.Whole.{CanBridge, HasFreeFronts, plan_circuit, with_bridges}
 use Rattle.gg_bridged.proofs.PlanLemmas.{faultless as no-fault}
-use Rattle.gg_sound.specs.Built.{nameless}
+use Rattle.gg_build_laws.specs.Built.{nameless}
 use Rattle.gg_build.specs.Build.{HasBridges, NeedsNone}
 
 pub needs-none : (design : Ordered) (request : Request) (models : Models) (default : ℕ) (plan : Plan) → IsPlan design request models default plan → request.bridges ≡ [] → NeedsNone plan

@@ -11,15 +11,15 @@ use Rattle.gg_order.specs.Design.{Ordered}
 use Rattle.gg_partfile.specs.declared.request.Request.{Request}
 use Rattle.gg_part.specs.PartRun.{part_ratios, part_start}
 use Rattle.gg_part.specs.declared.part.Part.{Part}
-use Rattle.gg_cut.specs.declared.plan.Body.{Body}
-use Rattle.gg_cut.specs.declared.plan.Body.TheVariants.{Cut, Memory, Source, Tray, Bridge}
-use Rattle.gg_cut.specs.declared.plan.Plan.{Plan}
-use Rattle.gg_pipe.specs.Follows.{plan_start, plan_token}
-use Rattle.gg_pipe.proofs.StartLemmas.{start-token}
+use Rattle.gg_cut_plan.specs.declared.plan.Body.{Body}
+use Rattle.gg_cut_plan.specs.declared.plan.Body.TheVariants.{Cut, Memory, Source, Tray, Bridge}
+use Rattle.gg_cut_plan.specs.declared.plan.Plan.{Plan}
+use Rattle.gg_cut_reference.specs.Follows.{plan_start, plan_token}
+use Rattle.gg_cut_reference.proofs.StartLemmas.{start-token}
 use Rattle.gg_node.specs.Machine.{Machine, machine_at, no_state}
 use Rattle.gg_net.specs.Network.{Network}
-use Rattle.gg_sound.specs.Built.{AreBuilt, IsBuilt, body_start, machine_in, nameless, no_token, opening_of}
-use Rattle.gg_sound.proofs.ZeroLemmas.{begins-there}
+use Rattle.gg_build_laws.specs.Built.{AreBuilt, IsBuilt, body_start, machine_in, nameless, no_token, opening_of}
+use Rattle.gg_build_laws.proofs.ZeroLemmas.{begins-there}
 use Rattle.gg_build.specs.declared.begin.Begin.{Begin}
 use Rattle.gg_build.specs.Begin.{AreTokens, part_begin, starts_of, state_from}
 use Rattle.gg_build.specs.Build.{Begins, IsOpeningFrom, IsOpeningOf, IsStarted, IsToBegin, IsToRun, IsToStart}

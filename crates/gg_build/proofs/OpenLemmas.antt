@@ -4,9 +4,9 @@ use Rattle.std.proofs.lemmas.List.{get_or-map, length-map}
 use Rattle.gg_flat.specs.Line.{value_at}
 use Rattle.gg_flat.specs.Run.{Start}
 use Rattle.gg_flat.specs.Streams.{Flow}
-use Rattle.gg_cut.specs.declared.plan.Body.{Body}
-use Rattle.gg_cut.specs.declared.plan.Plan.{Plan}
-use Rattle.gg_pipe.specs.Follows.{plan_token}
+use Rattle.gg_cut_plan.specs.declared.plan.Body.{Body}
+use Rattle.gg_cut_plan.specs.declared.plan.Plan.{Plan}
+use Rattle.gg_cut_reference.specs.Follows.{plan_token}
 use Rattle.gg_node.specs.Machine.{Machine, machine_at, no_machine}
 use Rattle.gg_net.specs.declared.shape.Wire.{Wire}
 use Rattle.gg_net.specs.declared.shape.Station.{Station}
@@ -16,12 +16,12 @@ use Rattle.gg_net.specs.Kept.{IsSound}
 use Rattle.gg_net.specs.Net.{entry_of, IsListed, opening_net, Opens}
 use Rattle.gg_bridged.proofs.PortLemmas.{plan-ins}
 use Rattle.gg_bridged.proofs.RunLemmas.{whole-runs}
-use Rattle.gg_sound.specs.Built.{machine_in, wires_of_plan, AreBuilt, IsBuilt, body_start, flow_of, plan_frame}
-use Rattle.gg_sound.proofs.PlanLemmas.{plan-listed, plan-wired, plan-no-ring}
-use Rattle.gg_sound.proofs.FitLemmas.{kind-is}
-use Rattle.gg_sound.proofs.SolvedLemmas.{plan-solved}
-use Rattle.gg_sound.proofs.OpeningLemmas.{built-opening}
-use Rattle.gg_sound.proofs.WithinLemmas.{plan-within}
+use Rattle.gg_build_laws.specs.Built.{machine_in, wires_of_plan, AreBuilt, IsBuilt, body_start, flow_of, plan_frame}
+use Rattle.gg_build_laws.proofs.PlanLemmas.{plan-listed, plan-wired, plan-no-ring}
+use Rattle.gg_build_laws.proofs.FitLemmas.{kind-is}
+use Rattle.gg_build_laws.proofs.SolvedLemmas.{plan-solved}
+use Rattle.gg_build_laws.proofs.OpeningLemmas.{built-opening}
+use Rattle.gg_build_laws.proofs.WithinLemmas.{plan-within}
 use Rattle.gg_build.specs.declared.node.Node.{Node}
 use Rattle.gg_build.specs.Node.{machines_of}
 use Rattle.gg_build.specs.declared.begin.Begin.{Begin}

@@ -5,14 +5,14 @@ use Rattle.gg_flat.specs.Circuit.{FlatCircuit}
 use Rattle.gg_flat.specs.Line.{value_at}
 use Rattle.gg_flat.specs.Run.{Start}
 use Rattle.gg_flat.specs.State.{State}
-use Rattle.gg_cut.specs.declared.plan.Body.{Body}
-use Rattle.gg_cut.specs.declared.plan.Machine as planned
-use Rattle.gg_cut.specs.declared.plan.Plan.{Plan}
+use Rattle.gg_cut_plan.specs.declared.plan.Body.{Body}
+use Rattle.gg_cut_plan.specs.declared.plan.Machine as planned
+use Rattle.gg_cut_plan.specs.declared.plan.Plan.{Plan}
 use Rattle.gg_node.specs.Machine.{Machine, machine_at, no_machine}
 use Rattle.gg_net.specs.declared.shape.Station.{Station}
 use Rattle.gg_net.specs.Net.{entry_of}
 use Rattle.gg_net.specs.Stations.{hosted, stationed, IsStationed, HasStation, AreStationed}
-use Rattle.gg_sound.specs.Built.{machine_in, nameless}
+use Rattle.gg_build_laws.specs.Built.{machine_in, nameless}
 use Rattle.gg_build.specs.declared.node.Node.{Node}
 use Rattle.gg_build.specs.declared.node.Node.TheVariants as node
 use Rattle.gg_build.specs.Groups.{group_at, IsMember, AreGroups, HasEarlier}

@@ -6,25 +6,25 @@ use Rattle.gg_flat.specs.State.{IsState}
 use Rattle.gg_flat.specs.Streams.{Flow}
 use Rattle.gg_order.specs.Design.{Ordered}
 use Rattle.gg_partfile.specs.declared.request.Request.{Request}
-use Rattle.gg_cut.specs.declared.plan.Body.{Body}
-use Rattle.gg_cut.specs.declared.plan.BridgeBody.{BridgeBody}
-use Rattle.gg_cut.specs.declared.plan.Body.TheVariants.{Cut, Memory, Source, Tray, Bridge}
-use Rattle.gg_cut.specs.declared.plan.Plan.{Plan}
-use Rattle.gg_cut.specs.Bridges.{Models}
-use Rattle.gg_cut.specs.Direct.{Hub, routes, plan_hub}
-use Rattle.gg_cut.specs.Hosts.{machine_of, least_machine, group_of, leader_in, leader, host_of}
-use Rattle.gg_cut.specs.Listed.{listed_of}
-use Rattle.gg_cut.specs.Plan.{wire_at, IsBody}
-use Rattle.gg_cut.proofs.RangeLemmas.{filter-few}
-use Rattle.gg_closed.proofs.FaultlessLemmas.{faultless-few}
-use Rattle.gg_pipe.specs.Made.{plan_reference}
+use Rattle.gg_cut_plan.specs.declared.plan.Body.{Body}
+use Rattle.gg_cut_plan.specs.declared.plan.BridgeBody.{BridgeBody}
+use Rattle.gg_cut_plan.specs.declared.plan.Body.TheVariants.{Cut, Memory, Source, Tray, Bridge}
+use Rattle.gg_cut_plan.specs.declared.plan.Plan.{Plan}
+use Rattle.gg_cut_plan.specs.Bridges.{Models}
+use Rattle.gg_cut_plan.specs.Direct.{Hub, routes, plan_hub}
+use Rattle.gg_cut_plan.specs.Hosts.{machine_of, least_machine, group_of, leader_in, leader, host_of}
+use Rattle.gg_cut_plan.specs.Listed.{listed_of}
+use Rattle.gg_cut_plan.specs.Plan.{wire_at, IsBody}
+use Rattle.gg_cut_plan.proofs.RangeLemmas.{filter-few}
+use Rattle.gg_cut_laws.proofs.FaultlessLemmas.{faultless-few}
+use Rattle.gg_cut_reference.specs.Made.{plan_reference}
 use Rattle.gg_bridged.proofs.PlanLemmas.{faultless as no-fault}
 use Rattle.gg_bridged.proofs.PortLemmas.{plan-ins}
-use Rattle.gg_sound.specs.Built.{IsGiven, body_start, machine_in, nameless}
-use Rattle.gg_sound.proofs.BodyLemmas.{attached-once, attached-ports, unit-formed, unit-ordered, source-known, source-some, source-few}
-use Rattle.gg_sound.proofs.FitLemmas.{outs-count}
-use Rattle.gg_sound.proofs.StandLemmas.{memory-formed, memory-chosen, memory-alone}
-use Rattle.gg_sound.proofs.SeenLemmas.{seen-typed}
+use Rattle.gg_build_laws.specs.Built.{IsGiven, body_start, machine_in, nameless}
+use Rattle.gg_build_laws.proofs.BodyLemmas.{attached-once, attached-ports, unit-formed, unit-ordered, source-known, source-some, source-few}
+use Rattle.gg_build_laws.proofs.FitLemmas.{outs-count}
+use Rattle.gg_build_laws.proofs.StandLemmas.{memory-formed, memory-chosen, memory-alone}
+use Rattle.gg_build_laws.proofs.SeenLemmas.{seen-typed}
 use Rattle.gg_build.specs.declared.begin.Begin.{Begin}
 use Rattle.gg_build.specs.Begin.{starts_of}
 use Rattle.gg_build.specs.Build.{IsFaultless, IsToStart}

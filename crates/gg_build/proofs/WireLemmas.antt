@@ -4,22 +4,22 @@ use Rattle.std.specs.Prelude.{All, Contains, Option, ◌==◌}
 use Rattle.std.proofs.lemmas.List.{get_or-map, length-map, get_or_default, ext_get_or}
 use Rattle.gg_flat.specs.Line.{value_at}
 use Rattle.gg_flat.proofs.ListLemmas.{some-item}
-use Rattle.gg_cut.specs.declared.plan.Plan.{Plan}
-use Rattle.gg_cut.specs.declared.plan.Machine as planned
-use Rattle.gg_cut.specs.declared.plan.Channel.{Channel}
-use Rattle.gg_cut.specs.declared.wires.Wire.{Wire as Link}
-use Rattle.gg_cut.specs.Direct.{plan_routes}
-use Rattle.gg_cut.specs.Seated.{plan_bridges, plan_wires, seated_wire}
-use Rattle.gg_cut.specs.Plan.{wire_at as link_at, channels_to, channels_from}
-use Rattle.gg_cut.proofs.RangeLemmas.{filter-few}
-use Rattle.gg_closed.proofs.FaultlessLemmas.{faultless-few}
+use Rattle.gg_cut_plan.specs.declared.plan.Plan.{Plan}
+use Rattle.gg_cut_plan.specs.declared.plan.Machine as planned
+use Rattle.gg_cut_plan.specs.declared.plan.Channel.{Channel}
+use Rattle.gg_cut_plan.specs.declared.wires.Wire.{Wire as Link}
+use Rattle.gg_cut_plan.specs.Direct.{plan_routes}
+use Rattle.gg_cut_plan.specs.Seated.{plan_bridges, plan_wires, seated_wire}
+use Rattle.gg_cut_plan.specs.Plan.{wire_at as link_at, channels_to, channels_from}
+use Rattle.gg_cut_plan.proofs.RangeLemmas.{filter-few}
+use Rattle.gg_cut_laws.proofs.FaultlessLemmas.{faultless-few}
 use Rattle.gg_bridged.proofs.PlanLemmas.{faultless as no-fault}
 use Rattle.gg_net.specs.declared.shape.Wire.{Wire}
 use Rattle.gg_net.specs.Network.{wire_at}
-use Rattle.gg_sound.specs.Built.{nameless, first_token, wire_of, wires_of_plan}
-use Rattle.gg_sound.proofs.LinkLemmas.{AreLinks, length-from, wire-from}
-use Rattle.gg_sound.proofs.ListedLemmas.{given-at, given-in, taken-at, taken-in, at-in, at-out}
-use Rattle.gg_sound.proofs.GivenLemmas.{links-of}
+use Rattle.gg_build_laws.specs.Built.{nameless, first_token, wire_of, wires_of_plan}
+use Rattle.gg_build_laws.proofs.LinkLemmas.{AreLinks, length-from, wire-from}
+use Rattle.gg_build_laws.proofs.ListedLemmas.{given-at, given-in, taken-at, taken-in, at-in, at-out}
+use Rattle.gg_build_laws.proofs.GivenLemmas.{links-of}
 use Rattle.gg_build.specs.Begin.{AreTokens}
 use Rattle.gg_build.specs.Build.{IsFaultless}
 use Rattle.gg_build.specs.Wires.{channels_at, IsPlace, AreListed, ArePlaces, AreWires}

@@ -1,10 +1,10 @@
 -- Hosts that the machines of a plan don't have.
 use Rattle.std.proofs.Common.{◌≡◌, ℕ, List, [], ◌∷◌, refl, arith}
 use Rattle.gg_flat.specs.Run.{Start}
-use Rattle.gg_cut.specs.declared.plan.Body.{Body}
-use Rattle.gg_cut.specs.declared.plan.Body.TheVariants.{Tray}
-use Rattle.gg_cut.specs.declared.plan.Machine as planned
-use Rattle.gg_cut.specs.declared.plan.Plan.{Plan}
+use Rattle.gg_cut_plan.specs.declared.plan.Body.{Body}
+use Rattle.gg_cut_plan.specs.declared.plan.Body.TheVariants.{Tray}
+use Rattle.gg_cut_plan.specs.declared.plan.Machine as planned
+use Rattle.gg_cut_plan.specs.declared.plan.Plan.{Plan}
 use Rattle.gg_net.specs.declared.shape.Station.{Station}
 use Rattle.gg_build.specs.declared.node.Node.{Node}
 use Rattle.gg_build.specs.Hosts.{IsPlacement}

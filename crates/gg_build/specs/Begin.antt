@@ -7,9 +7,9 @@ use Rattle.gg_flat.specs.Run.{Start}
 use Rattle.gg_flat.specs.State.{State, opening}
 use Rattle.gg_part.specs.PartRun.{part_ratios, part_state}
 use Rattle.gg_part.specs.declared.part.Part.{Part}
-use Rattle.gg_cut.specs.declared.plan.Body.{Body}
-use Rattle.gg_cut.specs.declared.plan.Body.TheVariants.{Cut, Memory, Source, Tray, Bridge}
-use Rattle.gg_cut.specs.declared.plan.Channel.{Channel}
+use Rattle.gg_cut_plan.specs.declared.plan.Body.{Body}
+use Rattle.gg_cut_plan.specs.declared.plan.Body.TheVariants.{Cut, Memory, Source, Tray, Bridge}
+use Rattle.gg_cut_plan.specs.declared.plan.Channel.{Channel}
 use Rattle.gg_node.specs.Machine.{no_state}
 use Rattle.gg_build.specs.declared.begin.Begin.{Begin}
 

@@ -10,18 +10,18 @@ use Rattle.gg_flat.specs.Run.{Start}
 use Rattle.gg_flat.specs.Streams.{Flow}
 use Rattle.gg_order.specs.Design.{Ordered}
 use Rattle.gg_partfile.specs.declared.request.Request.{Request}
-use Rattle.gg_cut.specs.declared.plan.Plan.{Plan}
-use Rattle.gg_cut.specs.Bridges.{Models}
-use Rattle.gg_cut.specs.declared.plan.Body.TheVariants.{Bridge}
-use Rattle.gg_cut.specs.declared.plan.BridgeBody.{BridgeBody}
-use Rattle.gg_cut.specs.Plan.{IsPlan}
-use Rattle.gg_pipe.specs.Follows.{plan_start, plan_token}
+use Rattle.gg_cut_plan.specs.declared.plan.Plan.{Plan}
+use Rattle.gg_cut_plan.specs.Bridges.{Models}
+use Rattle.gg_cut_plan.specs.declared.plan.Body.TheVariants.{Bridge}
+use Rattle.gg_cut_plan.specs.declared.plan.BridgeBody.{BridgeBody}
+use Rattle.gg_cut_plan.specs.Plan.{IsPlan}
+use Rattle.gg_cut_reference.specs.Follows.{plan_start, plan_token}
 use Rattle.gg_order.specs.Found.{found_order}
 use Rattle.gg_bridged.specs.Whole.{CanBridge, plan_begin, plan_circuit}
 use Rattle.gg_node.specs.Machine.{Machine}
 use Rattle.gg_net.specs.Network.{Network}
 use Rattle.gg_net.specs.Net.{opening_net}
-use Rattle.gg_sound.specs.Built.{AreBuilt, IsGiven, body_start, flow_of, machine_in, no_token, opening_of, wires_of_plan}
+use Rattle.gg_build_laws.specs.Built.{AreBuilt, IsGiven, body_start, flow_of, machine_in, no_token, opening_of, wires_of_plan}
 use Rattle.gg_build.specs.declared.begin.Begin.{Begin}
 use Rattle.gg_build.specs.Begin.{AreTokens, starts_of}
 

@@ -12,18 +12,18 @@ use Rattle.gg_part.specs.Choice.{IsChoice}
 use Rattle.gg_part.specs.InOrder.{IsInOrder}
 use Rattle.gg_part.specs.declared.part.Part.{Part}
 use Rattle.gg_bridge.specs.Hosted.{ArePorts}
-use Rattle.gg_cut.specs.Alike.{AreAlike, IsLike}
-use Rattle.gg_cut.specs.declared.plan.Body.{Body}
-use Rattle.gg_cut.specs.declared.plan.Body.TheVariants.{Cut, Memory, Source, Tray, Bridge}
-use Rattle.gg_cut.specs.declared.plan.Machine as planned
-use Rattle.gg_cut.specs.declared.plan.Plan.{Plan}
+use Rattle.gg_cut_plan.specs.Alike.{AreAlike, IsLike}
+use Rattle.gg_cut_plan.specs.declared.plan.Body.{Body}
+use Rattle.gg_cut_plan.specs.declared.plan.Body.TheVariants.{Cut, Memory, Source, Tray, Bridge}
+use Rattle.gg_cut_plan.specs.declared.plan.Machine as planned
+use Rattle.gg_cut_plan.specs.declared.plan.Plan.{Plan}
 use Rattle.gg_memunit.specs.MemoryUnit.{IsMemoryPiece, started_unit}
 use Rattle.gg_node.specs.Machine.{Machine, machine_at}
 use Rattle.gg_net.specs.declared.shape.Station.{Station}
 use Rattle.gg_net.specs.Net.{entry_of}
 use Rattle.gg_net.specs.Stations.{AreStationed, stationed}
-use Rattle.gg_sound.specs.Alone.{IsCutAgain}
-use Rattle.gg_sound.specs.Built.{IsBuilt, IsUnitOf, machine_in, nameless}
+use Rattle.gg_build_laws.specs.Alone.{IsCutAgain}
+use Rattle.gg_build_laws.specs.Built.{IsBuilt, IsUnitOf, machine_in, nameless}
 use Rattle.gg_build.specs.declared.node.Node.{Node}
 use Rattle.gg_build.specs.declared.node.Node.TheVariants as node
 use Rattle.gg_build.specs.Bridges.{Table, AreApart, HasOwn}

@@ -1,16 +1,16 @@
 //! The bridges that are handed in, by their names.
 ghost use Rattle.std.specs.Prelude.{◌≡◌, ◌≢◌, map, AllPairs, IfOk, OnOk};
 ghost use Rattle.gg_flat.specs.State.{opening};
-ghost use Rattle.gg_joined.specs.Turned.{turned};
+ghost use Rattle.gg_bridge_joined.specs.Turned.{turned};
 ghost use Rattle.gg_bridge.specs.Hosted.{started_bridge, ArePorts};
-ghost use Rattle.gg_cut.specs.declared.plan.Body.TheVariants.{Bridge as OfBridge};
+ghost use Rattle.gg_cut_plan.specs.declared.plan.Body.TheVariants.{Bridge as OfBridge};
 ghost use Rattle.gg_build.specs.Bridges.{IsTold, KeepsOthers, TellsBridges};
 ghost use Rattle.gg_build.specs.Hosts.{IsHost};
 
 use crate::node::Node;
 use gg_bits::{Ids, Name};
 use gg_bridge::{Bridge, Hosted};
-use gg_cut::BridgeBody;
+use gg_cut_plan::BridgeBody;
 use std::alloc::{AllocError, Global};
 use std::collections::HashMap;
 

@@ -2,7 +2,7 @@
 ghost use Rattle.std.specs.Prelude.{◌≡◌, ◌^◌, ◌<◌, ◌++◌, ◌∷◌, [], length, map, slice_set, All, IfOk, OnOk};
 ghost use Rattle.gg_build.specs.Groups.{AreGroups, IsHostFor, group_at};
 
-use gg_cut::Machine;
+use gg_cut_plan::Machine;
 use std::alloc::{AllocError, Global};
 
 // The machines of a plan by hosts.

@@ -1,6 +1,6 @@
 //! The network of a plan, before its first cycle.
 //!
-//! A plan (gg_cut) names machines and channels. A network (gg_net) has hosts with machines, and channels with queues.
+//! A plan (gg_cut_plan) names machines and channels. A network (gg_net) has hosts with machines, and channels with queues.
 //! The crate promises:
 //!
 //! - [`build`] builds the network of a plan for an input trace (`IsOpeningOf` in `specs/Build`). It has each machine of

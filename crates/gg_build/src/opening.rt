@@ -3,7 +3,7 @@ ghost use Rattle.std.specs.Prelude.{◌≡◌, IfOk};
 ghost use Rattle.gg_flat.specs.Run.{Start};
 ghost use Rattle.gg_order.specs.Design.{Ordered};
 ghost use Rattle.gg_partfile.specs.declared.request.Request.{Request};
-ghost use Rattle.gg_pipe.specs.Follows.{plan_token};
+ghost use Rattle.gg_cut_reference.specs.Follows.{plan_token};
 ghost use Rattle.gg_build.specs.Build.{Begins, HasBridges, IsOpeningFrom, IsOpeningOf, IsStarted, IsToBegin, IsToRun, IsToStart};
 
 use crate::begin::Begin;
@@ -12,7 +12,7 @@ use crate::placement::{Placement, placement_of};
 use crate::wires::wires_of;
 use gg_bits::Name;
 use gg_bridge::Bridge;
-use gg_cut::Plan;
+use gg_cut_plan::Plan;
 use gg_net::{Net, Shape, Streams};
 use gg_trace::Trace;
 use std::alloc::{AllocError, Global};

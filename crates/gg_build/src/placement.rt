@@ -18,7 +18,7 @@ use crate::node::Node;
 use crate::ports::ports_of;
 use gg_bits::{Ids, Items, Name};
 use gg_bridge::Bridge;
-use gg_cut::{Machine, Plan};
+use gg_cut_plan::{Machine, Plan};
 use gg_flat::{Memory, Piece};
 use gg_net::{ServedPort, Station};
 use gg_trace::Trace;

@@ -3,7 +3,7 @@ ghost use Rattle.std.specs.Prelude.{◌≡◌, ◌^◌, ◌<◌, ◌≤◌, [], 
 ghost use Rattle.gg_limits.specs.Limits.{cycle_limit};
 ghost use Rattle.gg_flat.specs.Line.{value_at};
 ghost use Rattle.gg_flat.specs.WellFormed.{IsWellFormed};
-ghost use Rattle.gg_cut.specs.Alike.{IsLike};
+ghost use Rattle.gg_cut_plan.specs.Alike.{IsLike};
 ghost use Rattle.gg_fame5.specs.Shared as shared_units;
 ghost use Rattle.gg_build.specs.Begin.{starts_of};
 ghost use Rattle.gg_build.specs.Hosts.{IsUnitPart, AreUnits, ArePicked, ArePickedFor, ArePlaced, CanAllBegin, RunUnits};
@@ -14,7 +14,7 @@ use crate::starts::{all_ratios, all_states};
 use crate::wires::note;
 use gg_bits::Ids;
 use gg_clocks::Ratio;
-use gg_cut::{Body, Machine};
+use gg_cut_plan::{Body, Machine};
 use gg_fame1::NoMemory;
 use gg_fame5::Shared;
 use gg_flat::Piece;

@@ -1,164 +1,167 @@
--- Direct channels, and what leaves the hub, worked by hand.
-use Rattle.std.proofs.Common.{◌≡◌, ℕ, List, [], ◌∷◌, Bool, true, false, Option, Some, None, refl}
-use Rattle.std.specs.Prelude.{◌==◌, map}
+-- The plan of the two units of WorkedShare, asked for with direct channels, in full.
+--
+-- `u.a` comes from the source of `x`, and `p` and `q` come from `u` and `v`. `x` goes to the hub too, which makes `v.a` of it.
+use Rattle.std.proofs.Common.{◌≡◌, false, ℕ, ◌<◌, List, [], ◌∷◌, true, set, refl, arith, lit<, lit≤}
+use Rattle.std.specs.Prelude.{codes, slice_index_or}
 use Rattle.gg_bits.specs.declared.ops.Op1.TheVariants.{Not}
-use Rattle.gg_flat.specs.declared.line.Node.{Node}
 use Rattle.gg_flat.specs.declared.line.Op.TheVariants.{Ref, One}
-use Rattle.gg_flat.specs.declared.piece.Driver.TheVariants.{Input, Held, MemoryWord, Computed}
-use Rattle.gg_flat.specs.declared.piece.Reset.{Reset}
-use Rattle.gg_flat.specs.declared.piece.Signal.{Signal}
-use Rattle.gg_flat.specs.Line.{value_at}
-use Rattle.gg_flat.proofs.WorkedCircuits.{eight, nine, node}
-use Rattle.gg_flat.proofs.WorkedMemories.{signal, copy}
-use Rattle.gg_cut.specs.declared.wires.Wire.{Wire}
-use Rattle.gg_cut.specs.Channels.{wire}
-use Rattle.gg_cut.proofs.WorkedPair.{circuit, tree, listed}
-use Rattle.gg_cut.specs.Direct.{Hub, hub_of, routes, is_direct, is_gone, origin}
+use Rattle.gg_flat.specs.declared.piece.Driver.TheVariants.{Input, Computed}
+use Rattle.gg_flat.proofs.WorkedCircuits.{eight, node}
+use Rattle.gg_flat.proofs.WorkedMemories.{signal}
+use Rattle.gg_part.specs.Part.{IsPart}
+use Rattle.gg_part.specs.declared.part.Part.{Part}
+use Rattle.gg_partfile.specs.declared.request.Request.{Request}
+use Rattle.gg_cut_plan.specs.declared.plan.Body.TheVariants.{Cut, Source, Tray}
+use Rattle.gg_cut_plan.specs.declared.plan.Machine.{Machine}
+use Rattle.gg_cut_plan.specs.declared.plan.Channel.{Channel}
+use Rattle.gg_cut_plan.specs.declared.wires.Wire.{Wire}
+use Rattle.gg_cut_plan.specs.Direct.{Hub, plan_hub, plan_routes}
+use Rattle.gg_cut_plan.specs.Channels.{capacity_of}
+use Rattle.gg_cut_plan.specs.Plan.{IsPlan, IsMachine, IsChannel, IsCutPart, wire_at}
+use Rattle.gg_cut.proofs.WorkedTests.{each-below, ascending, names-below, has-needs}
+use Rattle.gg_cut.proofs.WorkedHosts.{shared-two}
+use Rattle.gg_cut.proofs.WorkedParts.{is-part, no-memories, is-cut-part}
+use Rattle.gg_cut.proofs.WorkedShare.{circuit, tree, design, listed, part_u, part_v, u-part, v-part}
+use Rattle.gg_cut.proofs.WorkedShare as share
 
-abbrev none : ℕ → Bool
-none s = false
+abbrev request : Request
+request = record share.request { direct = true }
 
-abbrev channel : ℕ → ℕ → ℕ → ℕ → Wire
-channel signal given producer consumer = record { signal = signal; given = given; producer = producer; consumer = consumer }
+abbrev wires : List Wire
+wires = plan_routes circuit tree request
 
--- ---- two units that feed each other
+abbrev routed : Hub
+routed = plan_hub circuit tree request
 
-abbrev hub : Hub
-hub = hub_of circuit tree listed none none true
+-- ---- the parts
 
--- signals: 0 x, 1 q, 2 a.x, 3 a.k, 4 a.p, 5 a.q, 6 b.m, 7 b.n
-pair-origins : map (origin hub) (0 ∷ 1 ∷ 2 ∷ 4 ∷ 7 ∷ []) ≡ Some 0 ∷ None ∷ None ∷ Some 4 ∷ Some 7 ∷ []
-pair-origins = refl
-
-pair-direct : map (is_direct hub) (1 ∷ 2 ∷ 3 ∷ 6 ∷ 0 ∷ []) ≡ true ∷ true ∷ true ∷ true ∷ false ∷ []
-pair-direct = refl
-
-pair-gone : map (is_gone hub) (0 ∷ 4 ∷ 5 ∷ 7 ∷ 1 ∷ []) ≡ true ∷ true ∷ true ∷ true ∷ false ∷ []
-pair-gone = refl
-
--- a.x is given by x, a.k by b.n, b.m by a.p, q by a.q
-pair : routes hub ≡ channel 2 0 3 1 ∷ channel 3 7 2 1 ∷ channel 6 4 1 2 ∷ channel 1 5 1 4 ∷ []
-pair = refl
-
--- not asked for: all channels are as they were
-pair-plain : routes (hub_of circuit tree listed none none false) ≡ channel 0 0 3 0 ∷ channel 2 2 0 1 ∷ channel 3 3 0 1 ∷ channel 4 4 1 0 ∷ channel 5 5 1 0 ∷ channel 6 6 0 2 ∷ channel 7 7 2 0 ∷ channel 1 1 0 4 ∷ []
-pair-plain = refl
-
--- `b.n` is piped: it is no origin, so `a.k` is not direct and `b.n` stays
-pair-piped : routes (hub_of circuit tree listed (λ s. s == 7) none true) ≡ channel 2 0 3 1 ∷ channel 3 3 0 1 ∷ channel 6 4 1 2 ∷ channel 7 7 2 0 ∷ channel 1 5 1 4 ∷ []
-pair-piped = refl
-
--- a bridge drives `x`: it is no origin, so `a.x` is not direct and `x` stays
-pair-driven : routes (hub_of circuit tree listed none (λ s. s == 0) true) ≡ channel 0 0 3 0 ∷ channel 2 2 0 1 ∷ channel 3 7 2 1 ∷ channel 6 4 1 2 ∷ channel 1 5 1 4 ∷ []
-pair-driven = refl
-
--- ---- hubs by their lists
-
--- signals with these owners, these channels, and these fields of the hub's memories; machine 2 is a memory, 3 and more are
--- sources and trays
-abbrev made_of : List Signal → List ℕ → List Wire → List ℕ → Hub
-made_of signals owners base held =
+-- the hub takes `x` and makes `v.a`
+abbrev hub : Part
+hub =
     record {
-      circuit = record { paths = []; signals = signals; registers = []; memories = []; ins = []; outs = []; clocks = 0 };
-      owner = value_at owners;
-      base = base;
-      held = held;
-      stops = [];
-      memory = λ m. m == 2;
-      piped = none;
-      driven = none;
-      direct = true;
+      piece =
+          record {
+            paths = codes "x" ∷ codes "v.a" ∷ [];
+            signals =
+                signal eight (Input 0)
+                ∷ signal eight (Computed (node eight (Ref 0) ∷ node eight (One Not 0) ∷ [])) ∷ [];
+            registers = [];
+            memories = [];
+            ins = 0 ∷ [];
+            outs = 1 ∷ [];
+            clocks = 0;
+          };
+      globals = 0 ∷ 6 ∷ [];
+      held = [];
+      memories = [];
+      clocks = [];
     }
 
--- `x` goes to unit `u` and to a node, and its complement to unit `v`: two units of one module, where machine 2 is a unit too
-abbrev two : Hub
-two =
-    record
-    (made_of
-    (signal eight (Input 0) ∷ copy eight 4 ∷ copy eight 7 ∷ copy eight 0 ∷ signal eight (Held 0) ∷ signal eight (Held 0) ∷ signal eight (Computed (node eight (Ref 0) ∷ node eight (One Not 0) ∷ [])) ∷ signal eight (Held 1) ∷ [])
-    (0 ∷ 0 ∷ 0 ∷ 1 ∷ 1 ∷ 1 ∷ 2 ∷ 2 ∷ []) (wire 0 3 0 ∷ wire 3 0 1 ∷ wire 4 1 0 ∷ wire 6 0 2 ∷ wire 7 2 0 ∷ wire 1 0 4 ∷ wire 2 0 5 ∷ []) [])
-    { memory = none }
+hub-part : IsPart circuit hub.piece hub.globals [] [] []
+hub-part =
+    is-part circuit hub.piece hub.globals refl refl refl refl refl refl
+    ((lit< tt, refl), ((names-below 2 (node eight (Ref 0) ∷ node eight (One Not 0) ∷ []) refl, refl), tt))
+    ((lit< tt, refl), tt) refl refl refl
 
--- `x` and `u.a` are a fork of the source
-fork : routes two ≡ channel 0 0 3 0 ∷ channel 3 0 3 1 ∷ channel 6 6 0 2 ∷ channel 1 4 1 4 ∷ channel 2 7 2 5 ∷ []
-fork = refl
+hub-cut : IsCutPart design listed routed 0 hub
+hub-cut = is-cut-part design listed routed 0 hub hub-part refl refl refl refl refl refl refl refl (no-memories tree listed 0 refl) refl
 
--- a chain of two wires, of which the first is a field of a memory of the hub
-abbrev chain : List ℕ → Hub
-chain held = made_of (signal eight (Input 0) ∷ copy eight 0 ∷ copy eight 1 ∷ copy eight 2 ∷ copy eight 1 ∷ []) (0 ∷ 0 ∷ 0 ∷ 1 ∷ 0 ∷ []) (wire 0 3 0 ∷ wire 3 0 1 ∷ []) held
+u-cut : IsCutPart design listed routed 1 part_u
+u-cut = is-cut-part design listed routed 1 part_u u-part refl refl refl refl refl refl refl refl (no-memories tree listed 1 refl) refl
 
-chain-left : routes (chain []) ≡ channel 3 0 3 1 ∷ []
-chain-left = refl
+v-cut : IsCutPart design listed routed 2 part_v
+v-cut = is-cut-part design listed routed 2 part_v v-part refl refl refl refl refl refl refl refl (no-memories tree listed 2 refl) refl
 
-chain-gone : map (is_gone (chain [])) (0 ∷ 1 ∷ 2 ∷ 3 ∷ 4 ∷ []) ≡ true ∷ true ∷ true ∷ false ∷ true ∷ []
-chain-gone = refl
+-- ---- the plan
 
--- a memory names a copy, so the in-channel stays; the out-channel is direct all the same
-chain-held : routes (chain (4 ∷ [])) ≡ channel 0 0 3 0 ∷ channel 3 0 3 1 ∷ []
-chain-held = refl
+abbrev machines : List Machine
+machines =
+    record { name = codes "hub:"; host = 0; body = Cut hub; ins = 0 ∷ []; outs = 2 ∷ [] }
+    ∷ record { name = codes "u"; host = 1; body = Cut part_u; ins = 1 ∷ []; outs = 3 ∷ [] }
+    ∷ record { name = codes "v"; host = 1; body = Cut part_v; ins = 2 ∷ []; outs = 4 ∷ [] }
+    ∷ record { name = codes "in:x"; host = 2; body = Source 0; ins = []; outs = 0 ∷ 1 ∷ [] }
+    ∷ record { name = codes "out:p"; host = 3; body = Tray; ins = 3 ∷ []; outs = [] }
+    ∷ record { name = codes "out:q"; host = 4; body = Tray; ins = 4 ∷ []; outs = [] } ∷ []
 
--- an output that is named in the hub is not direct, and so its in-channel stays
-named-output : routes (made_of (signal eight (Input 0) ∷ copy eight 0 ∷ signal eight (Computed (node eight (Ref 1) ∷ node eight (One Not 0) ∷ [])) ∷ []) (0 ∷ 0 ∷ 0 ∷ []) (wire 0 3 0 ∷ wire 1 0 4 ∷ []) []) ≡ channel 0 0 3 0 ∷ channel 1 1 0 4 ∷ []
-named-output = refl
+abbrev channel : ℕ → List ℕ → ℕ → ℕ → List ℕ → Channel
+channel s name producer consumer needs =
+    record { signal = s; name = name; ty = eight; producer = producer; consumer = consumer; capacity = 2; pipe = false; needs = needs }
 
--- what a listed memory gives is no direct channel
-memory-word : routes (made_of (signal eight (MemoryWord 0 0 2 3) ∷ copy eight 0 ∷ []) (2 ∷ 0 ∷ []) (wire 0 2 0 ∷ wire 1 0 4 ∷ []) []) ≡ channel 0 0 2 0 ∷ channel 1 1 0 4 ∷ []
-memory-word = refl
+abbrev channels : List Channel
+channels =
+    channel 0 (codes "x") 3 0 []
+    ∷ channel 3 (codes "u.a") 3 1 []
+    ∷ channel 6 (codes "v.a") 0 2 (0 ∷ [])
+    ∷ channel 1 (codes "p") 1 4 []
+    ∷ channel 2 (codes "q") 2 5 [] ∷ []
 
--- a unit that feeds itself
-self : routes (made_of (signal eight (Held 0) ∷ copy eight 0 ∷ []) (1 ∷ 1 ∷ []) (wire 0 1 0 ∷ wire 1 0 1 ∷ []) []) ≡ channel 1 0 1 1 ∷ []
-self = refl
+is-machine : (m : ℕ) (any : Machine) → m < 6 → IsMachine design request [] listed routed m (slice_index_or machines m any)
+is-machine m any =
+    each-below (λ k. IsMachine design request [] listed routed k (slice_index_or machines k any)) 6 (
+      record { name = refl; host = refl; body = (lit< tt, hub-cut); ins = refl; outs = refl },
+      (
+        record { name = refl; host = refl; body = (lit< tt, u-cut); ins = refl; outs = refl },
+        (
+          record { name = refl; host = refl; body = (lit< tt, v-cut); ins = refl; outs = refl },
+          (
+            record { name = refl; host = refl; body = (lit< tt, refl); ins = refl; outs = refl },
+            (
+              record { name = refl; host = refl; body = (lit≤ tt, lit< tt); ins = refl; outs = refl },
+              (record { name = refl; host = refl; body = (lit≤ tt, lit< tt); ins = refl; outs = refl }, tt),
+            ),
+          ),
+        ),
+      ),
+    ) m
 
--- a stop is not direct, and so its in-channel stays
-stop : routes (record (made_of (signal eight (Input 0) ∷ copy eight 0 ∷ []) (0 ∷ 0 ∷ []) (wire 0 3 0 ∷ wire 1 0 4 ∷ []) []) { stops = 1 ∷ [] }) ≡ channel 0 0 3 0 ∷ channel 1 1 0 4 ∷ []
-stop = refl
+is-channel : (c : ℕ) (any : Channel) → c < 5 → IsChannel design (capacity_of [] 2) (λ s. false) machines (wire_at wires c) (slice_index_or channels c any)
+is-channel c any =
+    each-below (λ k. IsChannel design (capacity_of [] 2) (λ s. false) machines (wire_at wires k) (slice_index_or channels k any)) 5 (
+      record { signal = refl; name = refl; type = refl; producer = refl; consumer = refl; bound = refl; pipe = refl; ascending = ascending [] refl; needs = λ other. refl },
+      (
+        record { signal = refl; name = refl; type = refl; producer = refl; consumer = refl; bound = refl; pipe = refl; ascending = ascending [] refl; needs = λ other. refl },
+        (
+          record { signal = refl; name = refl; type = refl; producer = refl; consumer = refl; bound = refl; pipe = refl; ascending = ascending (0 ∷ []) refl; needs = λ other. has-needs hub (0 ∷ []) 6 (0 ∷ []) refl },
+          (
+            record { signal = refl; name = refl; type = refl; producer = refl; consumer = refl; bound = refl; pipe = refl; ascending = ascending [] refl; needs = λ other. has-needs part_u (1 ∷ []) 4 [] refl },
+            (record { signal = refl; name = refl; type = refl; producer = refl; consumer = refl; bound = refl; pipe = refl; ascending = ascending [] refl; needs = λ other. has-needs part_v (2 ∷ []) 7 [] refl }, tt),
+          ),
+        ),
+      ),
+    ) c
 
--- a reference to a narrower signal is no copy
-wider : routes (made_of (signal eight (Input 0) ∷ signal nine (Computed (node eight (Ref 0) ∷ [])) ∷ []) (0 ∷ 0 ∷ []) (wire 0 3 0 ∷ wire 1 0 4 ∷ []) []) ≡ channel 0 0 3 0 ∷ channel 1 1 0 4 ∷ []
-wider = refl
+pub is-plan : IsPlan design request [] 2 (record { machines = machines; channels = channels; listed = listed; ratios = [] })
+is-plan =
+    record {
+      listed = refl;
+      ratios = refl;
+      machine_total = refl;
+      few = lit< tt;
+      channel_total = refl;
+      machine = is-machine;
+      channel = is-channel;
+      shared =
+          shared-two machines 1 2 9 (lit< tt) (λ e. absurd (omega (arith, e))) refl refl
+          (λ any other. record { signals = refl; clocks = refl; registers = refl; memories = refl; ins = refl; outs = λ s. (λ c. c, λ c. c) })
+          (λ any other. record { signals = refl; clocks = refl; registers = refl; memories = refl; ins = refl; outs = λ s. (λ c. c, λ c. c) });
+    }
 
--- ---- what the hub needs besides
+-- ---- what is no plan of the cut
 
--- a hub with one register, with this reset and this line
-abbrev with_register : Hub → Option Reset → List Node → Hub
-with_register hub reset next = record hub { circuit = record (hub.circuit) { registers = record { ty = eight; reset = reset; next = Some next; clock = None } ∷ [] } }
+abbrev any_machine : Machine
+any_machine = record { name = []; host = 0; body = Tray; ins = []; outs = [] }
 
-abbrev refers : ℕ → List Node
-refers s = node eight (Ref s) ∷ []
+abbrev any_channel : Channel
+any_channel = channel 0 [] 0 0 []
 
--- `x`, a copy of it, the port `u.a`, which refers to the copy, and a register
-abbrev kept_in : Option Reset → List Node → Hub
-kept_in reset next =
-    with_register
-    (made_of (signal eight (Input 0) ∷ copy eight 0 ∷ copy eight 1 ∷ signal eight (Held 0) ∷ []) (0 ∷ 0 ∷ 1 ∷ 0 ∷ []) (wire 0 3 0 ∷ wire 2 0 1 ∷ []) [])
-    reset next
+-- the plan that was right without direct channels
+passed-on : ¬ IsPlan design request [] 2 (record { machines = share.machines; channels = share.channels; listed = listed; ratios = [] })
+passed-on is = let count : 7 ≡ 5 = is.channel_total in absurd (omega (arith, count))
 
--- a register reads the copy, so the in-channel stays; the out-channel is direct all the same
-register-reads : routes (kept_in None (refers 1)) ≡ channel 0 0 3 0 ∷ channel 2 0 3 1 ∷ []
-register-reads = refl
+-- a direct channel that still comes from the hub
+from-hub : ¬ IsPlan design request [] 2 (record { machines = machines; channels = set channels 1 (channel 3 (codes "u.a") 0 1 []); listed = listed; ratios = [] })
+from-hub is = let giver : 0 ≡ 3 = (is.channel 1 any_channel (lit< tt)).producer in absurd (omega (arith, giver))
 
-register-reset : routes (kept_in (Some (record { condition = refers 1; init = refers 3 })) (refers 3)) ≡ channel 0 0 3 0 ∷ channel 2 0 3 1 ∷ []
-register-reset = refl
-
-register-start : routes (kept_in (Some (record { condition = refers 3; init = refers 1 })) (refers 3)) ≡ channel 0 0 3 0 ∷ channel 2 0 3 1 ∷ []
-register-start = refl
-
--- a register that reads only itself
-register-apart : routes (kept_in None (refers 3)) ≡ channel 2 0 3 1 ∷ []
-register-apart = refl
-
--- the address of a memory's word is a copy
-word-address : routes (made_of (signal eight (Input 0) ∷ copy eight 0 ∷ copy eight 0 ∷ signal eight (MemoryWord 0 0 1 3) ∷ []) (0 ∷ 0 ∷ 1 ∷ 0 ∷ []) (wire 0 3 0 ∷ wire 2 0 1 ∷ []) []) ≡ channel 0 0 3 0 ∷ channel 2 0 3 1 ∷ []
-word-address = refl
-
--- an output refers to another: the other is named, and the first refers to an out-channel, so neither is direct
-output-of-output : routes (made_of (signal eight (Input 0) ∷ copy eight 0 ∷ copy eight 1 ∷ []) (0 ∷ 0 ∷ 0 ∷ []) (wire 0 3 0 ∷ wire 1 0 4 ∷ wire 2 0 5 ∷ []) []) ≡ channel 0 0 3 0 ∷ channel 1 1 0 4 ∷ channel 2 2 0 5 ∷ []
-output-of-output = refl
-
--- an output that is named in the hub refers to `x`, so `x` stays for it, though `u.a` is direct
-one-of-two : routes (made_of (signal eight (Input 0) ∷ copy eight 0 ∷ copy eight 0 ∷ signal eight (Computed (node eight (Ref 1) ∷ node eight (One Not 0) ∷ [])) ∷ []) (0 ∷ 0 ∷ 1 ∷ 0 ∷ []) (wire 0 3 0 ∷ wire 2 0 1 ∷ wire 1 0 4 ∷ []) []) ≡ channel 0 0 3 0 ∷ channel 2 0 3 1 ∷ channel 1 1 0 4 ∷ []
-one-of-two = refl
-
--- a fork of three: what `u` gives goes to `u` itself, to a port of a listed memory, and to an output
-fork-of-three : routes (made_of (signal eight (Held 0) ∷ copy eight 0 ∷ copy eight 0 ∷ copy eight 0 ∷ []) (1 ∷ 0 ∷ 1 ∷ 2 ∷ []) (wire 2 0 1 ∷ wire 0 1 0 ∷ wire 3 0 2 ∷ wire 1 0 4 ∷ []) []) ≡ channel 2 0 1 1 ∷ channel 3 0 1 2 ∷ channel 1 0 1 4 ∷ []
-fork-of-three = refl
+-- a direct channel under the name of its origin
+renamed : ¬ IsPlan design request [] 2 (record { machines = machines; channels = set channels 1 (channel 0 (codes "x") 3 1 []); listed = listed; ratios = [] })
+renamed is = let signal : 0 ≡ 3 = (is.channel 1 any_channel (lit< tt)).signal in absurd (omega (arith, signal))

@@ -1,15 +1,2 @@
-pub mod Machines
-pub mod Listed
-pub mod Clocks
-pub mod Named
-pub mod Fault
-pub mod Channels
-pub mod Hosts
-pub mod Alike
-pub mod Owners
-pub mod Direct
-pub mod Bridges
-pub mod Seated
-pub mod Plan
-pub mod Solves
-pub mod Held
+pub mod Drafted
+pub mod Made

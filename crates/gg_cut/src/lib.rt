@@ -1,43 +1,25 @@
-//! What a request for a cut asks for, which faults it may have, and what the plan of a cut is.
+//! The plan of a cut: from a design and a request to the machines with their pieces and the channels with their
+//! needs.
 //!
-//! A request lists instances (units), lists of units that share a host, memories, capacities of channels, channels that are
-//! pipes, and ratios of clocks, and says whether channels are direct. The definitions in `specs/` say:
+//! gg_cut_plan's `IsPlan` defines what a plan is. The crate promises:
 //!
-//! - what a request lists, by places in the tree of instances (Listed);
-//! - which ratios the clocks of the circuit have (Clocks);
-//! - which faults it has, and in what order they are reported (Fault);
-//! - which machines there are, and what their numbers are (Machines);
-//! - which channels there are, and between which machines (Channels); which of them are direct, and what leaves the hub (Direct);
-//! - who shares a host (Hosts);
-//! - what the plan is: the machines with their pieces, the channels and their needs (Plan).
+//! - `cut` returns the plan of a design, a request and the models of bridges that are known exactly if the request has no fault, and
+//!   else its first fault. Each channel's capacity is from 1 to 4,096. The channels are those that are left by gg_cut_plan's
+//!   `specs/Direct`;
+//! - `deps` returns the channels that a channel of a plan needs. It allocates nothing.
 //!
-//! The crate promises:
+//! `draft_of` (`judged`) judges the request and makes gg_cut_parts' `Draft`. The machines are made of it as if there were no bridges
+//! (`machines`); gg_cut_bridges puts the bridges among them.
 //!
-//! - `part_ratios` returns the ratios of clocks that follow those of the circuit, and `stop_ratios` those of the clocks that stops
-//!   follow;
-//! - a [`Numbering`] tells the number of each machine, and what the machine with a number is;
-//! - `owners_of` gives each instance its machine: the unit that the instance is in, else the hub;
-//! - the channels carry exactly the signals by which they are counted and named (`channels_agree`).
-//!
-//! gg_cut_rules finds the first fault of a request.
+//! The time that `cut` takes is that of gg_cut_split, gg_cut_routes, gg_part, gg_part_needs and gg_cut_bridges, and otherwise linear.
 #![tactic(auto)]
 
-mod fault;
-mod laws;
-mod listed;
-mod marks;
-mod numbering;
-mod owners;
-mod plan;
-mod ratios;
-mod wires;
+mod build;
+mod capacities;
+mod channels;
+mod judged;
+mod machines;
+mod needs;
+mod shares;
 
-pub use fault::CutFault;
-pub use laws::channels_agree;
-pub use listed::Listed;
-pub use marks::{marks_of, unmarked};
-pub use numbering::{Numbering, Role};
-pub use owners::{owners_of, parent_of};
-pub use plan::{Body, BridgeBody, Channel, Machine, Plan};
-pub use ratios::{part_ratios, stop_ratios};
-pub use wires::Wire;
+pub use build::{cut, deps};

@@ -5,9 +5,9 @@ use Rattle.std.specs.List.{list_any, range_with_len}
 use Rattle.std.proofs.lemmas.List.{get_or-map, get_or_default, get_or_push, get_or_append_left, length-append}
 use Rattle.std.proofs.lemmas.Bool.{cases_lt}
 use Rattle.gg_flat.specs.Line.{value_at}
-use Rattle.gg_cut.specs.Hosts.{machine_of, least_machine, group_of, leader_in, leader, host_of}
-use Rattle.gg_cut.proofs.FindLemmas.{rest-at}
-use Rattle.gg_cut.proofs.RangeLemmas.{filter-more}
+use Rattle.gg_cut_plan.specs.Hosts.{machine_of, least_machine, group_of, leader_in, leader, host_of}
+use Rattle.gg_cut_plan.proofs.FindLemmas.{rest-at}
+use Rattle.gg_cut_plan.proofs.RangeLemmas.{filter-more}
 
 -- ---- the least machine of a list
 

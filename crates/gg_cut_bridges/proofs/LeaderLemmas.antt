@@ -8,14 +8,14 @@ use Rattle.std.proofs.lemmas.List.Elements.{Contains-append_right}
 use Rattle.gg_flat.proofs.ListLemmas.{here, further}
 use Rattle.gg_order.specs.Design.{Ordered}
 use Rattle.gg_partfile.specs.declared.request.Request.{Request}
-use Rattle.gg_cut.specs.declared.fault.CutFault.TheVariants.{UnknownUnit, Doubled}
-use Rattle.gg_cut.specs.Fault.{first_clash, same_path, entries, repeated, unshared, entry_faults, first_fault}
-use Rattle.gg_cut.specs.Hosts.{machine_of, least_machine, group_of, leader_in, leader, host_of}
-use Rattle.gg_cut.specs.Listed.{is_among}
-use Rattle.gg_cut.proofs.FindLemmas.{first_clash-append, none-at, none-map}
-use Rattle.gg_cut.proofs.RangeLemmas.{filter-more}
-use Rattle.gg_closed.proofs.FaultlessLemmas.{no-entry-fault}
-use Rattle.gg_duplicates.proofs.GroupLemmas.{HasUnit, has-unit, unit-tested, least-in, fresh, unit-one, either-none, entries-in, entry-known, find-some}
+use Rattle.gg_cut_plan.specs.declared.fault.CutFault.TheVariants.{UnknownUnit, Doubled}
+use Rattle.gg_cut_plan.specs.Fault.{first_clash, same_path, entries, repeated, unshared, entry_faults, first_fault}
+use Rattle.gg_cut_plan.specs.Hosts.{machine_of, least_machine, group_of, leader_in, leader, host_of}
+use Rattle.gg_cut_plan.specs.Listed.{is_among}
+use Rattle.gg_cut_plan.proofs.FindLemmas.{first_clash-append, none-at, none-map}
+use Rattle.gg_cut_plan.proofs.RangeLemmas.{filter-more}
+use Rattle.gg_cut_laws.proofs.FaultlessLemmas.{no-entry-fault}
+use Rattle.gg_cut_share.proofs.GroupLemmas.{HasUnit, has-unit, unit-tested, least-in, fresh, unit-one, either-none, entries-in, entry-known, find-some}
 use Rattle.gg_cut_bridges.proofs.HostLemmas.{leader-cons, least-member, least-below}
 
 -- ---- first machines

@@ -6,11 +6,11 @@ use Rattle.gg_flat.specs.Circuit.{FlatCircuit}
 use Rattle.gg_flat_tree.specs.Tree.{InstanceTree, path_at}
 use Rattle.gg_order.specs.Design.{Ordered}
 use Rattle.gg_partfile.specs.declared.request.Request.{Request}
-use Rattle.gg_cut.specs.declared.listed.Listed.{Listed}
-use Rattle.gg_cut.specs.Machines.{Counts, memory_after, source_after, tray_after, numbering_of}
-use Rattle.gg_cut.specs.Plan.{cut_names, tray_names}
-use Rattle.gg_cut.specs.Seated.{output_count}
-use Rattle.gg_cut.proofs.TrayLemmas.{halt-tray, out-tray}
+use Rattle.gg_cut_plan.specs.declared.listed.Listed.{Listed}
+use Rattle.gg_cut_plan.specs.Machines.{Counts, memory_after, source_after, tray_after, numbering_of}
+use Rattle.gg_cut_plan.specs.Plan.{cut_names, tray_names}
+use Rattle.gg_cut_plan.specs.Seated.{output_count}
+use Rattle.gg_cut_plan.proofs.TrayLemmas.{halt-tray, out-tray}
 
 -- ---- one name, and four lists of names after it
 

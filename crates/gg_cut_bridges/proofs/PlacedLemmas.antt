@@ -11,26 +11,26 @@ use Rattle.gg_flat_tree.specs.Tree.{InstanceTree, path_at}
 use Rattle.gg_order.specs.Design.{Ordered}
 use Rattle.gg_partfile.specs.declared.request.BridgeEntry.{BridgeEntry}
 use Rattle.gg_partfile.specs.declared.request.Request.{Request}
-use Rattle.gg_cut.specs.declared.listed.Listed.{Listed}
-use Rattle.gg_cut.specs.declared.plan.Body.{Body}
-use Rattle.gg_cut.specs.declared.plan.Body.TheVariants.{Source, Tray, Bridge}
-use Rattle.gg_cut.specs.declared.plan.BridgeBody.{BridgeBody}
-use Rattle.gg_cut.specs.declared.plan.Machine.{Machine}
-use Rattle.gg_cut.specs.declared.wires.Wire.{Wire}
-use Rattle.gg_cut.specs.Alike.{AreAlike}
-use Rattle.gg_cut.specs.Bridges.{Models}
-use Rattle.gg_cut.specs.Direct.{Hub, plan_hub, plan_routes}
-use Rattle.gg_cut.specs.Fault.{first_fault}
-use Rattle.gg_cut.specs.Hosts.{machine_of, group_of, leader_in, leader}
-use Rattle.gg_cut.specs.Listed.{listed_of, place_of, unit_or_hub}
-use Rattle.gg_cut.specs.Machines.{numbering_of}
-use Rattle.gg_cut.specs.Plan.{channels_to, channels_from, entry_at, port_place, wire_at, IsBody, IsBridgeBody, IsMachine, cut_names, machine_names}
-use Rattle.gg_cut.specs.Seated.{Bridges, before, first_bridge, first_kept_tray, machine_end, one_if, or_bridge, plan_bridges, plan_wires, undriven, unseen}
-use Rattle.gg_cut.proofs.PathLemmas.{first_place-Some}
+use Rattle.gg_cut_plan.specs.declared.listed.Listed.{Listed}
+use Rattle.gg_cut_plan.specs.declared.plan.Body.{Body}
+use Rattle.gg_cut_plan.specs.declared.plan.Body.TheVariants.{Source, Tray, Bridge}
+use Rattle.gg_cut_plan.specs.declared.plan.BridgeBody.{BridgeBody}
+use Rattle.gg_cut_plan.specs.declared.plan.Machine.{Machine}
+use Rattle.gg_cut_plan.specs.declared.wires.Wire.{Wire}
+use Rattle.gg_cut_plan.specs.Alike.{AreAlike}
+use Rattle.gg_cut_plan.specs.Bridges.{Models}
+use Rattle.gg_cut_plan.specs.Direct.{Hub, plan_hub, plan_routes}
+use Rattle.gg_cut_plan.specs.Fault.{first_fault}
+use Rattle.gg_cut_plan.specs.Hosts.{machine_of, group_of, leader_in, leader}
+use Rattle.gg_cut_plan.specs.Listed.{listed_of, place_of, unit_or_hub}
+use Rattle.gg_cut_plan.specs.Machines.{numbering_of}
+use Rattle.gg_cut_plan.specs.Plan.{channels_to, channels_from, entry_at, port_place, wire_at, IsBody, IsBridgeBody, IsMachine, cut_names, machine_names}
+use Rattle.gg_cut_plan.specs.Seated.{Bridges, before, first_bridge, first_kept_tray, machine_end, one_if, or_bridge, plan_bridges, plan_wires, undriven, unseen}
+use Rattle.gg_cut_plan.proofs.PathLemmas.{first_place-Some}
 use Rattle.gg_cut_seats.proofs.NameLemmas.{bridge-named, kept-named}
 use Rattle.gg_cut_seats.proofs.OpenLemmas.{in-place}
 use Rattle.gg_cut_seats.proofs.SeatedLemmas.{before-strict, seat-source, seat-tray}
-use Rattle.gg_duplicates.proofs.GroupLemmas.{find-some, has-unit}
+use Rattle.gg_cut_share.proofs.GroupLemmas.{find-some, has-unit}
 use Rattle.gg_cut_bridges.specs.Seats.{AreSeated, ArePlanMachines, AreSides, AreTakers, IsBridgeAdded, IsModelled, machine_by}
 use Rattle.gg_cut_bridges.proofs.HostLemmas.{leader-below}
 use Rattle.gg_cut_bridges.proofs.LeaderLemmas.{leaders-first, one-host}

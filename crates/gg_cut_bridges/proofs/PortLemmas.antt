@@ -8,13 +8,13 @@ use Rattle.std.proofs.lemmas.Slice.Eq.{bytes_eq-Decides}
 use Rattle.gg_flat.specs.Line.{value_at}
 use Rattle.gg_flat_tree.specs.Tree.{path_at}
 use Rattle.gg_partfile.specs.declared.request.BridgeEntry.{BridgeEntry}
-use Rattle.gg_cut.specs.Listed.{is_among, place_of}
-use Rattle.gg_cut.specs.Channels.{wire}
-use Rattle.gg_cut.specs.declared.wires.Wire.{Wire}
-use Rattle.gg_cut.specs.Plan.{port_place, wire_at}
-use Rattle.gg_cut.specs.Seated.{lister}
-use Rattle.gg_cut.proofs.FindLemmas.{rest-at}
-use Rattle.gg_cut.proofs.PathLemmas.{first_place-Some}
+use Rattle.gg_cut_plan.specs.Listed.{is_among, place_of}
+use Rattle.gg_cut_plan.specs.Channels.{wire}
+use Rattle.gg_cut_plan.specs.declared.wires.Wire.{Wire}
+use Rattle.gg_cut_plan.specs.Plan.{port_place, wire_at}
+use Rattle.gg_cut_plan.specs.Seated.{lister}
+use Rattle.gg_cut_plan.proofs.FindLemmas.{rest-at}
+use Rattle.gg_cut_plan.proofs.PathLemmas.{first_place-Some}
 use Rattle.gg_cut_bridges.specs.Seats.{one_more, ports_of}
 
 eq-back : (a b : List ℕ) → bytes_eq a b ≡ bytes_eq b a

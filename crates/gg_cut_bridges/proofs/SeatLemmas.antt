@@ -11,10 +11,10 @@ use Rattle.gg_flat_tree.specs.Tree.{path_at}
 use Rattle.gg_order.specs.Design.{Ordered}
 use Rattle.gg_partfile.specs.declared.request.BridgeEntry.{BridgeEntry}
 use Rattle.gg_partfile.specs.declared.request.Request.{Request}
-use Rattle.gg_cut.specs.declared.wires.Wire.{Wire}
-use Rattle.gg_cut.specs.Seated.{Bridges, AreBridges, before, undriven, unseen, first_bridge, first_kept_tray, lister, machine_end, one_if, or_bridge, plan_bridges, seat_of, seated}
-use Rattle.gg_cut.specs.declared.listed.Listed.{Listed}
-use Rattle.gg_cut.specs.Listed.{listed_of}
+use Rattle.gg_cut_plan.specs.declared.wires.Wire.{Wire}
+use Rattle.gg_cut_plan.specs.Seated.{Bridges, AreBridges, before, undriven, unseen, first_bridge, first_kept_tray, lister, machine_end, one_if, or_bridge, plan_bridges, seat_of, seated}
+use Rattle.gg_cut_plan.specs.declared.listed.Listed.{Listed}
+use Rattle.gg_cut_plan.specs.Listed.{listed_of}
 use Rattle.gg_cut_seats.proofs.BridgeLemmas.{are-bridges}
 use Rattle.gg_cut_seats.proofs.CountLemmas.{before-same}
 use Rattle.gg_cut_seats.proofs.SeatedLemmas.{seat-known, seat-low, seat-source, seat-tray}

@@ -4,14 +4,14 @@ use Rattle.gg_flat.specs.Circuit.{FlatCircuit}
 use Rattle.gg_flat.specs.Line.{value_at}
 use Rattle.gg_flat_tree.specs.Tree.{InstanceTree, path_at}
 use Rattle.gg_partfile.specs.declared.request.BridgeEntry.{BridgeEntry}
-use Rattle.gg_cut.specs.declared.listed.Listed.{Listed}
-use Rattle.gg_cut.specs.declared.plan.Body.TheVariants.{Source, Tray}
-use Rattle.gg_cut.specs.declared.plan.Machine.{Machine}
-use Rattle.gg_cut.specs.declared.wires.Wire.{Wire}
-use Rattle.gg_cut.specs.Listed.{listed_of}
-use Rattle.gg_cut.specs.Plan.{channels_to, channels_from, entry_at}
-use Rattle.gg_cut.specs.Seated.{Bridges, before, first_bridge, first_kept_tray, machine_end, undriven, unseen}
-use Rattle.gg_split.specs.Spread.{AreLists}
+use Rattle.gg_cut_plan.specs.declared.listed.Listed.{Listed}
+use Rattle.gg_cut_plan.specs.declared.plan.Body.TheVariants.{Source, Tray}
+use Rattle.gg_cut_plan.specs.declared.plan.Machine.{Machine}
+use Rattle.gg_cut_plan.specs.declared.wires.Wire.{Wire}
+use Rattle.gg_cut_plan.specs.Listed.{listed_of}
+use Rattle.gg_cut_plan.specs.Plan.{channels_to, channels_from, entry_at}
+use Rattle.gg_cut_plan.specs.Seated.{Bridges, before, first_bridge, first_kept_tray, machine_end, undriven, unseen}
+use Rattle.gg_cut_split.specs.Spread.{AreLists}
 use Rattle.gg_cut_parts.specs.declared.draft.Draft.{Draft}
 use Rattle.gg_cut_bridges.specs.declared.hosts.Hosts.{Hosts}
 use Rattle.gg_cut_bridges.specs.declared.seating.Seating.{Seating}

@@ -5,18 +5,18 @@ use Rattle.std.proofs.lemmas.List.Elements.{All-map}
 use Rattle.gg_flat.specs.Circuit.{FlatCircuit}
 use Rattle.gg_order.specs.Design.{Ordered}
 use Rattle.gg_partfile.specs.declared.request.Request.{Request}
-use Rattle.gg_cut.specs.declared.plan.Machine.{Machine}
-use Rattle.gg_cut.specs.declared.listed.Listed.{Listed}
-use Rattle.gg_cut.specs.declared.wires.Wire.{Wire}
-use Rattle.gg_cut.specs.Listed.{listed_of}
-use Rattle.gg_cut.specs.Machines.{machine_count}
-use Rattle.gg_cut.specs.Channels.{wire}
-use Rattle.gg_cut.specs.Direct.{plan_hub, plan_routes}
-use Rattle.gg_cut.specs.Plan.{wire_at}
-use Rattle.gg_cut.specs.Seated.{Bridges, machine_end, plan_bridges, plan_wires, seat_of, seated_wire}
+use Rattle.gg_cut_plan.specs.declared.plan.Machine.{Machine}
+use Rattle.gg_cut_plan.specs.declared.listed.Listed.{Listed}
+use Rattle.gg_cut_plan.specs.declared.wires.Wire.{Wire}
+use Rattle.gg_cut_plan.specs.Listed.{listed_of}
+use Rattle.gg_cut_plan.specs.Machines.{machine_count}
+use Rattle.gg_cut_plan.specs.Channels.{wire}
+use Rattle.gg_cut_plan.specs.Direct.{plan_hub, plan_routes}
+use Rattle.gg_cut_plan.specs.Plan.{wire_at}
+use Rattle.gg_cut_plan.specs.Seated.{Bridges, machine_end, plan_bridges, plan_wires, seat_of, seated_wire}
 use Rattle.gg_cut_seats.proofs.SeatedLemmas.{seat-known}
 use Rattle.gg_cut_bridges.proofs.SeatLemmas.{plan-are, wires-as}
-use Rattle.gg_routes.specs.Routes.{AreRoutes}
+use Rattle.gg_cut_routes.specs.Routes.{AreRoutes}
 use Rattle.gg_flat.specs.Line.{value_at}
 use Rattle.gg_cut_bridges.specs.Seats.{wire_by}
 

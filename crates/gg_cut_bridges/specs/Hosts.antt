@@ -3,7 +3,7 @@
 use Rattle.std.specs.Prelude.{◌≡◌, ℕ, ◌<◌, length}
 use Rattle.gg_flat.specs.Line.{value_at}
 use Rattle.gg_partfile.specs.declared.request.Request.{Request}
-use Rattle.gg_cut.specs.Hosts.{host_of, leader}
+use Rattle.gg_cut_plan.specs.Hosts.{host_of, leader}
 use Rattle.gg_cut_bridges.specs.declared.hosts.Hosts.{Hosts}
 
 -- the hosts of the first `count` machines: the first machine of each one's host, and the host's number

@@ -1,9 +1,9 @@
 -- The machines of a draft with their bridges.
 -- Source: ICCAD 2019 (bridges: models in the host's own code that stand at a target's ports).
 use Rattle.std.specs.Prelude.{◌≡◌, ℕ, ◌<◌, ◌≤◌, ◌^◌, List}
-use Rattle.gg_cut.specs.declared.plan.Machine.{Machine}
-use Rattle.gg_cut.specs.declared.wires.Wire.{Wire}
-use Rattle.gg_cut.specs.Seated.{Bridges, first_bridge, first_kept_tray, plan_bridges, plan_wires}
+use Rattle.gg_cut_plan.specs.declared.plan.Machine.{Machine}
+use Rattle.gg_cut_plan.specs.declared.wires.Wire.{Wire}
+use Rattle.gg_cut_plan.specs.Seated.{Bridges, first_bridge, first_kept_tray, plan_bridges, plan_wires}
 use Rattle.gg_cut_parts.specs.Draft.{IsDraft, draft_hub}
 use Rattle.gg_cut_bridges.specs.Seats.{ArePlanMachines, AreSeated, AreSeats, AreSides, AreTakers}
 use Rattle.gg_cut_parts.specs.declared.draft.Draft.{Draft}

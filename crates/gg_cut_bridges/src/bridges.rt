@@ -3,17 +3,17 @@ ghost use Rattle.std.specs.Prelude.{◌≡◌, ℕ, ◌<◌, ◌^◌, Some, [], 
 ghost use Rattle.gg_flat.specs.Line.{value_at};
 ghost use Rattle.gg_flat.specs.Models.{model_names};
 ghost use Rattle.gg_flat_tree.specs.Tree.{path_at};
-ghost use Rattle.gg_cut.specs.Bridges.{model_named};
-ghost use Rattle.gg_cut.specs.Plan.{port_place, wire_at};
-ghost use Rattle.gg_cut.specs.Seated.{machine_end};
+ghost use Rattle.gg_cut_plan.specs.Bridges.{model_named};
+ghost use Rattle.gg_cut_plan.specs.Plan.{port_place, wire_at};
+ghost use Rattle.gg_cut_plan.specs.Seated.{machine_end};
 ghost use Rattle.gg_cut_bridges.specs.Seating.{draft_bridges, IsSeating};
 ghost use Rattle.gg_cut_bridges.specs.Seats.{IsModelled};
 
 use crate::ports::put_ports;
 use crate::seating::{Seating, given, taken};
 use gg_bits::{Ids, Name};
-use gg_cut::{BridgeBody, Wire};
 use gg_cut_parts::set_named;
+use gg_cut_plan::{BridgeBody, Wire};
 use gg_flat::{Models, Piece};
 use gg_partfile::BridgeEntry;
 use std::alloc::{AllocError, Global};

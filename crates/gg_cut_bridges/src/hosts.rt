@@ -2,13 +2,13 @@
 ghost use Rattle.std.specs.Prelude.{◌≡◌, ℕ, ◌+◌, ◌-◌, ◌<◌, ◌≤◌, ◌^◌, ◌==◌, min, if◌then◌else◌, length, filter, IfOk};
 ghost use Rattle.std.specs.List.{list_any, range_with_len};
 ghost use Rattle.gg_flat.specs.Line.{value_at};
-ghost use Rattle.gg_cut.specs.Hosts.{machine_of, least_machine, leader, host_of};
+ghost use Rattle.gg_cut_plan.specs.Hosts.{machine_of, least_machine, leader, host_of};
 ghost use Rattle.gg_cut_parts.specs.Draft.{IsDraft};
 ghost use Rattle.gg_cut_bridges.specs.Hosts.{AreHosts};
 
 use gg_bits::{Name, Names};
-use gg_cut::Numbering;
 use gg_cut_parts::{Draft, numbers, picked};
+use gg_cut_plan::Numbering;
 use std::alloc::{AllocError, Global};
 
 /// The hosts of machines, by the machines' numbers.

@@ -1,7 +1,7 @@
 //! The machines of a plan with its bridges, from those of a draft, which is made as if there were no bridges.
 //!
 //! The sources and the trays of the ports that a bridge has are left out, and a machine for each bridge is added behind all others. The
-//! numbers of gg_cut's `specs/Seated` stand in tables. The crate promises:
+//! numbers of gg_cut_plan's `specs/Seated` stand in tables. The crate promises:
 //!
 //! - `seats_of` gives the numbers of the machines, of which there are fewer than 2^32, and the channels between them;
 //! - `seat_machines` puts the sources, the trays and the bridges behind the hub, the units and the listed memories, so that these

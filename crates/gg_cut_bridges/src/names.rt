@@ -2,13 +2,13 @@
 ghost use Rattle.std.specs.Prelude.{◌≡◌, ◌<◌, ◌≤◌, ◌-◌, length, codes, ◌++◌, IfOk};
 ghost use Rattle.gg_flat.specs.Line.{value_at};
 ghost use Rattle.gg_flat_tree.specs.Tree.{path_at};
-ghost use Rattle.gg_cut.specs.Machines.{machine_count};
-ghost use Rattle.gg_cut.specs.Plan.{cut_names};
+ghost use Rattle.gg_cut_plan.specs.Machines.{machine_count};
+ghost use Rattle.gg_cut_plan.specs.Plan.{cut_names};
 ghost use Rattle.gg_cut_parts.specs.Draft.{IsDraft};
 
 use gg_bits::Name;
-use gg_cut::Role;
 use gg_cut_parts::{Draft, signal_name};
+use gg_cut_plan::Role;
 use gg_flat::Piece;
 use gg_flat_tree::Tree;
 use std::alloc::{AllocError, Global};

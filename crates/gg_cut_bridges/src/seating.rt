@@ -7,7 +7,7 @@ use crate::hosts::{Hosts, hosts_of};
 use crate::seats::Seats;
 use gg_bits::Ids;
 use gg_cut_parts::{Draft, copied};
-use gg_split::{Sides, sides_of};
+use gg_cut_split::{Sides, sides_of};
 use std::alloc::{AllocError, Global};
 
 // The hosts of the machines, and the channels that they take and give.

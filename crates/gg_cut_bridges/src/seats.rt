@@ -2,15 +2,15 @@
 ghost use Rattle.std.specs.Prelude.{◌≡◌, ℕ, ◌+◌, ◌-◌, ◌<◌, ◌≤◌, ◌^◌, ◌++◌, ◌==◌, if◌then◌else◌, length, map, All, IfOk, OnOk};
 ghost use Rattle.std.specs.List.{range_with_len};
 ghost use Rattle.gg_flat.specs.Line.{value_at};
-ghost use Rattle.gg_cut.specs.Seated.{before, machine_end, seat_of};
+ghost use Rattle.gg_cut_plan.specs.Seated.{before, machine_end, seat_of};
 ghost use Rattle.gg_cut_parts.specs.Draft.{IsDraft};
 ghost use Rattle.gg_cut_bridges.specs.Seating.{draft_bridges, AreDraftSeats, AreDraftTakers, AreStarts};
 ghost use Rattle.gg_cut_bridges.specs.Seats.{is_open, seat_by, wire_by};
 
 use crate::hosts::one_if;
 use crate::ports::takers_of;
-use gg_cut::Wire;
 use gg_cut_parts::{Draft, numbers};
+use gg_cut_plan::Wire;
 use std::alloc::{AllocError, Global};
 
 /// Which bridge has each port.

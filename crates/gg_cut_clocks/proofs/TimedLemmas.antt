@@ -18,28 +18,28 @@ use Rattle.gg_flat_tree.specs.Tree.{InstanceTree, Holds, IsTree, instance_at, me
 use Rattle.gg_flat.specs.WellFormed.{IsClock, IsClockedMemory, IsWellFormed}
 use Rattle.gg_flat.proofs.ListLemmas.{some-item}
 use Rattle.gg_flat_tree.proofs.TopClockLemmas.{top_clocks-step}
-use Rattle.gg_moved.specs.Copies.{above}
-use Rattle.gg_moved.specs.KeepsToTree.{KeepsToTree}
-use Rattle.gg_moved.specs.Moved.{moved_driver}
+use Rattle.gg_part_moved.specs.Copies.{above}
+use Rattle.gg_part_moved.specs.KeepsToTree.{KeepsToTree}
+use Rattle.gg_part_moved.specs.Moved.{moved_driver}
 use Rattle.gg_order.specs.Design.{Ordered}
 use Rattle.gg_order.specs.Marks.{is_marked}
 use Rattle.gg_part.specs.declared.part.Clocking.{Clocking}
 use Rattle.gg_part.specs.Clocking.{AreTimed, LeadsTo, clocks_of_ports}
-use Rattle.gg_cut.specs.declared.listed.Listed.{Listed}
-use Rattle.gg_cut.specs.Listed.{memory_owner, owner_of_instance}
-use Rattle.gg_cut.specs.Machines.{first_memory, first_unit, unit_number}
-use Rattle.gg_cut.specs.Plan.{HasMemory, Makes, clock_home, machine_clocks}
-use Rattle.gg_cut.proofs.KnownLemmas.{parents-before}
-use Rattle.gg_closed.specs.Apart.{AreApart}
-use Rattle.gg_closed.proofs.ClosedLemmas.{owner-listed, owner-unlisted}
-use Rattle.gg_closed.proofs.ListLemmas.{Somewhere}
-use Rattle.gg_closed.proofs.MakerLemmas.{find-unit, given-out, owner-signal}
-use Rattle.gg_closed.proofs.TreeLemmas.{above as stands-above, innermost, lies-holder}
-use Rattle.gg_closed.proofs.WrittenLemmas.{inner-plain}
-use Rattle.gg_duplicates.specs.Again.{AreHomes, IsUnitAgain, again_at, cut_wires}
-use Rattle.gg_duplicates.proofs.HomeLemmas.{home-none, home-unit, lies-of}
-use Rattle.gg_duplicates.proofs.LiesLemmas.{lies-in, owner-in}
-use Rattle.gg_duplicates.proofs.UnitSignalLemmas.{IsAtUnit, at-held, end-at, inner-held}
+use Rattle.gg_cut_plan.specs.declared.listed.Listed.{Listed}
+use Rattle.gg_cut_plan.specs.Listed.{memory_owner, owner_of_instance}
+use Rattle.gg_cut_plan.specs.Machines.{first_memory, first_unit, unit_number}
+use Rattle.gg_cut_plan.specs.Plan.{HasMemory, Makes, clock_home, machine_clocks}
+use Rattle.gg_cut_plan.proofs.KnownLemmas.{parents-before}
+use Rattle.gg_cut_laws.specs.Apart.{AreApart}
+use Rattle.gg_cut_laws.proofs.ClosedLemmas.{owner-listed, owner-unlisted}
+use Rattle.gg_cut_laws.proofs.ListLemmas.{Somewhere}
+use Rattle.gg_cut_laws.proofs.MakerLemmas.{find-unit, given-out, owner-signal}
+use Rattle.gg_cut_laws.proofs.TreeLemmas.{above as stands-above, innermost, lies-holder}
+use Rattle.gg_cut_laws.proofs.WrittenLemmas.{inner-plain}
+use Rattle.gg_cut_share.specs.Again.{AreHomes, IsUnitAgain, again_at, cut_wires}
+use Rattle.gg_cut_share.proofs.HomeLemmas.{home-none, home-unit, lies-of}
+use Rattle.gg_cut_share.proofs.LiesLemmas.{lies-in, owner-in}
+use Rattle.gg_cut_share.proofs.UnitSignalLemmas.{IsAtUnit, at-held, end-at, inner-held}
 use Rattle.gg_cut_clocks.specs.Domains.{AreUnitClocks, AreWholeClocks}
 use Rattle.gg_cut_clocks.proofs.TableLemmas.{clocks-length, held-known, led-on, port-leads}
 

@@ -5,13 +5,13 @@ use Rattle.std.specs.Prelude.{◌≡◌, ℕ, ◌<◌, ◌^◌, List, [], Bool, 
 use Rattle.gg_flat.specs.declared.piece.Driver.TheVariants.{Held}
 use Rattle.gg_flat.specs.Circuit.{FlatCircuit, driver_at}
 use Rattle.gg_flat_tree.specs.Clocked.{top_clocks}
-use Rattle.gg_moved.specs.Domains.{FollowsInside, ports_inside}
+use Rattle.gg_part_moved.specs.Domains.{FollowsInside, ports_inside}
 use Rattle.gg_order.specs.Design.{Ordered}
 use Rattle.gg_order.specs.Marks.{is_marked}
 use Rattle.gg_part.specs.declared.part.Clocking.{Clocking}
 use Rattle.gg_part.specs.Clocking.{clocks_of_ports}
-use Rattle.gg_cut.specs.declared.listed.Listed.{Listed}
-use Rattle.gg_duplicates.specs.Again.{AreHomes}
+use Rattle.gg_cut_plan.specs.declared.listed.Listed.{Listed}
+use Rattle.gg_cut_share.specs.Again.{AreHomes}
 use Rattle.gg_cut_clocks.specs.declared.domains.Domains.{Domains}
 
 -- the clocks of the circuit that its registers and the ports of its memories follow

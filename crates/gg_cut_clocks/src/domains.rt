@@ -1,15 +1,15 @@
 //! `Domains`: what the machines of a cut follow.
 ghost use Rattle.std.specs.Prelude.{◌≡◌, ℕ, ◌≤◌, ◌<◌, ◌^◌, [], length, slice_index_or, All, IfOk, OnOk};
-ghost use Rattle.gg_moved.specs.KeepsToTree.{KeepsToTree};
-ghost use Rattle.gg_cut.specs.Held.{AreHeldOnce};
-ghost use Rattle.gg_cut.specs.Machines.{first_unit, first_memory};
-ghost use Rattle.gg_cut.specs.Plan.{clock_home};
+ghost use Rattle.gg_part_moved.specs.KeepsToTree.{KeepsToTree};
+ghost use Rattle.gg_cut_plan.specs.Held.{AreHeldOnce};
+ghost use Rattle.gg_cut_plan.specs.Machines.{first_unit, first_memory};
+ghost use Rattle.gg_cut_plan.specs.Plan.{clock_home};
 ghost use Rattle.gg_cut_clocks.specs.Domains.{AreDomains, AreUnitClocks};
 
 use crate::tables::{inner_table, innermost, port_table, register_table};
 use crate::whole::whole_clocking;
 use gg_bits::Items;
-use gg_cut::{Listed, marks_of};
+use gg_cut_plan::{Listed, marks_of};
 use gg_flat_tree::ClockNumbers;
 use gg_order::Design;
 use gg_part::Clocking;

@@ -4,25 +4,25 @@ use Rattle.std.specs.Prelude.{All, AllPairs, Contains}
 use Rattle.std.proofs.lemmas.Bool.{cases_eq, cases_lt}
 use Rattle.gg_flat.specs.Circuit.{FlatCircuit}
 use Rattle.gg_flat_tree.specs.Tree.{path_at}
-use Rattle.gg_moved.specs.KeepsToTree.{KeepsToTree}
+use Rattle.gg_part_moved.specs.KeepsToTree.{KeepsToTree}
 use Rattle.gg_order.specs.Design.{IsDesign, Ordered}
 use Rattle.gg_part.specs.declared.part.Clocking.{Clocking}
 use Rattle.gg_part.specs.declared.part.Part.{Part}
 use Rattle.gg_part.specs.Clocking.{AreTimed, IsTimed}
 use Rattle.gg_part.proofs.AlongLemmas.{IsInOrder-along}
-use Rattle.gg_cut.specs.declared.listed.Listed.{Listed}
-use Rattle.gg_cut.specs.declared.plan.Body.{Body}
-use Rattle.gg_cut.specs.declared.plan.Body.TheVariants.{Cut, Memory, Source, Tray, Bridge}
-use Rattle.gg_cut.specs.Alike.{AreAlike}
-use Rattle.gg_cut.specs.Direct.{Hub, routes}
-use Rattle.gg_cut.specs.Machines.{first_memory, first_source, first_tray, first_unit, machine_count}
-use Rattle.gg_cut.specs.Plan.{IsCutBody, IsCutPart, Makes, channels_from, channels_to, givens_of, machine_clocks, signals_of}
-use Rattle.gg_closed.specs.Apart.{AreApart}
-use Rattle.gg_duplicates.specs.Again.{HasSignal, IsUnitAgain, again_at, cut_wires}
+use Rattle.gg_cut_plan.specs.declared.listed.Listed.{Listed}
+use Rattle.gg_cut_plan.specs.declared.plan.Body.{Body}
+use Rattle.gg_cut_plan.specs.declared.plan.Body.TheVariants.{Cut, Memory, Source, Tray, Bridge}
+use Rattle.gg_cut_plan.specs.Alike.{AreAlike}
+use Rattle.gg_cut_plan.specs.Direct.{Hub, routes}
+use Rattle.gg_cut_plan.specs.Machines.{first_memory, first_source, first_tray, first_unit, machine_count}
+use Rattle.gg_cut_plan.specs.Plan.{IsCutBody, IsCutPart, Makes, channels_from, channels_to, givens_of, machine_clocks, signals_of}
+use Rattle.gg_cut_laws.specs.Apart.{AreApart}
+use Rattle.gg_cut_share.specs.Again.{HasSignal, IsUnitAgain, again_at, cut_wires}
 use Rattle.gg_cut_clocks.specs.Domains.{AreUnitClocks}
 use Rattle.gg_cut_clocks.proofs.TimedLemmas.{machine-timed, top-clocks, whole-timed}
-use Rattle.gg_split.specs.declared.share.Share.{Share}
-use Rattle.gg_plan.specs.Made.{HasAscending, IsTimedUnit}
+use Rattle.gg_cut_split.specs.declared.share.Share.{Share}
+use Rattle.gg_cut.specs.Made.{HasAscending, IsTimedUnit}
 use Rattle.gg_cut_parts.specs.MovedPart.{IsFollower, IsMovedPiece, IsUnitRouted, IsUnitShare}
 use Rattle.gg_cut_parts.proofs.FollowerLemmas.{follows, ready}
 use Rattle.gg_cut_parts.proofs.MachineLemmas.{cut-part}

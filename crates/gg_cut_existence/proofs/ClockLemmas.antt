@@ -14,18 +14,18 @@ use Rattle.gg_flat_tree.specs.declared.tree.MemoryInstance.{MemoryInstance}
 use Rattle.gg_flat.specs.Circuit.{FlatCircuit, driver_at}
 use Rattle.gg_flat_tree.specs.Clocked.{clock_at}
 use Rattle.gg_flat_tree.specs.Tree.{IsInnermost}
-use Rattle.gg_moved.specs.Domains.{FollowsInside, inner_clocks}
-use Rattle.gg_moved.specs.KeepsToTree.{KeepsToTree}
+use Rattle.gg_part_moved.specs.Domains.{FollowsInside, inner_clocks}
+use Rattle.gg_part_moved.specs.KeepsToTree.{KeepsToTree}
 use Rattle.gg_order.specs.Design.{IsDesign, Ordered}
 use Rattle.gg_order.specs.Marks.{is_marked}
 use Rattle.gg_part.specs.declared.part.Clocking.{Clocking}
 use Rattle.gg_part.specs.Clocking.{clocks_of_ports}
-use Rattle.gg_cut.specs.declared.listed.Listed.{Listed}
-use Rattle.gg_cut.specs.Held.{AreHeldOnce}
-use Rattle.gg_cut.proofs.OriginLemmas.{any-finds}
-use Rattle.gg_closed.specs.Apart.{AreApart}
-use Rattle.gg_closed.proofs.TreeLemmas.{innermost, innermost-one}
-use Rattle.gg_duplicates.specs.Again.{AreHomes}
+use Rattle.gg_cut_plan.specs.declared.listed.Listed.{Listed}
+use Rattle.gg_cut_plan.specs.Held.{AreHeldOnce}
+use Rattle.gg_cut_plan.proofs.OriginLemmas.{any-finds}
+use Rattle.gg_cut_laws.specs.Apart.{AreApart}
+use Rattle.gg_cut_laws.proofs.TreeLemmas.{innermost, innermost-one}
+use Rattle.gg_cut_share.specs.Again.{AreHomes}
 use Rattle.gg_cut_clocks.specs.Domains.{AreUnitClocks, AreWholeClocks}
 use Rattle.gg_cut_clocks.proofs.FollowLemmas.{ports-follow}
 use Rattle.gg_cut_clocks.proofs.TableLemmas.{held-known}

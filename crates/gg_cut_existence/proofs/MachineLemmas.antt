@@ -4,32 +4,32 @@ use Rattle.std.proofs.lemmas.Bool.{cases_lt}
 use Rattle.std.proofs.lemmas.List.{get_or_default}
 use Rattle.gg_flat_tree.specs.Tree.{path_at}
 use Rattle.gg_flat.proofs.ListLemmas.{some-item}
-use Rattle.gg_moved.specs.KeepsToTree.{KeepsToTree}
+use Rattle.gg_part_moved.specs.KeepsToTree.{KeepsToTree}
 use Rattle.gg_order.specs.Design.{IsDesign, Ordered}
 use Rattle.gg_part.specs.declared.part.Clocking.{Clocking}
 use Rattle.gg_partfile.specs.declared.request.Request.{Request}
-use Rattle.gg_cut.specs.declared.listed.Listed.{Listed}
-use Rattle.gg_cut.specs.declared.plan.Body.{Body}
-use Rattle.gg_cut.specs.declared.plan.Machine.{Machine}
-use Rattle.gg_cut.specs.Alike.{AreAlike}
-use Rattle.gg_cut.specs.Direct.{Hub, is_driven, is_piped, plan_hub, routes}
-use Rattle.gg_cut.specs.Fault.{first_fault}
-use Rattle.gg_cut.specs.Held.{AreHeldOnce}
-use Rattle.gg_cut.specs.Hosts.{host_of, leader}
-use Rattle.gg_cut.specs.Listed.{listed_of}
-use Rattle.gg_cut.specs.Machines.{machine_count}
-use Rattle.gg_cut.specs.Plan.{channels_from, channels_to, cut_names}
-use Rattle.gg_closed.specs.Apart.{AreApart}
-use Rattle.gg_closed.proofs.FaultlessLemmas.{faultless-apart}
-use Rattle.gg_duplicates.specs.Again.{IsUnitAgain}
-use Rattle.gg_duplicates.proofs.AgainLemmas.{unit-again}
-use Rattle.gg_duplicates.proofs.PairLemmas.{paired}
+use Rattle.gg_cut_plan.specs.declared.listed.Listed.{Listed}
+use Rattle.gg_cut_plan.specs.declared.plan.Body.{Body}
+use Rattle.gg_cut_plan.specs.declared.plan.Machine.{Machine}
+use Rattle.gg_cut_plan.specs.Alike.{AreAlike}
+use Rattle.gg_cut_plan.specs.Direct.{Hub, is_driven, is_piped, plan_hub, routes}
+use Rattle.gg_cut_plan.specs.Fault.{first_fault}
+use Rattle.gg_cut_plan.specs.Held.{AreHeldOnce}
+use Rattle.gg_cut_plan.specs.Hosts.{host_of, leader}
+use Rattle.gg_cut_plan.specs.Listed.{listed_of}
+use Rattle.gg_cut_plan.specs.Machines.{machine_count}
+use Rattle.gg_cut_plan.specs.Plan.{channels_from, channels_to, cut_names}
+use Rattle.gg_cut_laws.specs.Apart.{AreApart}
+use Rattle.gg_cut_laws.proofs.FaultlessLemmas.{faultless-apart}
+use Rattle.gg_cut_share.specs.Again.{IsUnitAgain}
+use Rattle.gg_cut_share.proofs.AgainLemmas.{unit-again}
+use Rattle.gg_cut_share.proofs.PairLemmas.{paired}
 use Rattle.gg_cut_clocks.specs.Domains.{AreUnitClocks}
-use Rattle.gg_routes.specs.Routes.{AreRoutes}
-use Rattle.gg_routes.proofs.RoutedLemmas.{plan-routed}
-use Rattle.gg_plan.specs.Made.{AreMachines, AreMachinesTo, IsMadeBody}
+use Rattle.gg_cut_routes.specs.Routes.{AreRoutes}
+use Rattle.gg_cut_routes.proofs.RoutedLemmas.{plan-routed}
+use Rattle.gg_cut.specs.Made.{AreMachines, AreMachinesTo, IsMadeBody}
 use Rattle.gg_cut_parts.specs.MovedPart.{IsUnitRouted}
-use Rattle.gg_plan.proofs.AlikeLemmas.{machines-made, machines-more, machines-none}
+use Rattle.gg_cut.proofs.AlikeLemmas.{machines-made, machines-more, machines-none}
 use Rattle.gg_cut_bridges.proofs.HostLemmas.{leader-below}
 use Rattle.gg_cut_bridges.proofs.LeaderLemmas.{leaders-first}
 use Rattle.gg_cut_parts.proofs.RoutedLemmas.{plan-unit-routed}

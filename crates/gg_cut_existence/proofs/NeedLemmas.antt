@@ -12,8 +12,8 @@ use Rattle.gg_flat.specs.Circuit.{FlatCircuit, driver_at}
 use Rattle.gg_flat.specs.Line.{value_at}
 use Rattle.gg_flat.specs.Reads.{IsPath, Names, NamesSignal, Reaches, Reads}
 use Rattle.gg_flat.proofs.ListLemmas.{Contains-cases, Contains-filter, filter-cases, further, in-range, numbers-up, range-below}
-use Rattle.gg_needs.specs.Needs.{AreNeeds, AreNeedsOfOuts}
-use Rattle.gg_needs.proofs.ReachLemmas.{Reaches-itself}
+use Rattle.gg_part_needs.specs.Needs.{AreNeeds, AreNeedsOfOuts}
+use Rattle.gg_part_needs.proofs.ReachLemmas.{Reaches-itself}
 use Rattle.gg_part.specs.InOrder.{IsInOrder}
 use Rattle.gg_cut_existence.proofs.DecideLemmas.{Decided, IsAny, any-below, both, either, holds, holds-true, is-below, true-holds}
 use Rattle.gg_cut_existence.proofs.FilledLemmas.{IsFilled, filled}

@@ -5,29 +5,29 @@ use Rattle.std.proofs.lemmas.Bool.{cases_eq, cases_lt}
 use Rattle.std.proofs.lemmas.List.FromFn.{get_or-map-range_with_len, length-map-range_with_len}
 use Rattle.gg_flat.specs.Line.{value_at}
 use Rattle.gg_flat_tree.specs.Tree.{path_at}
-use Rattle.gg_moved.specs.KeepsToTree.{KeepsToTree}
+use Rattle.gg_part_moved.specs.KeepsToTree.{KeepsToTree}
 use Rattle.gg_order.specs.Design.{IsDesign, Ordered}
 use Rattle.gg_partfile.specs.declared.request.Request.{Request}
-use Rattle.gg_cut.specs.declared.listed.Listed.{Listed}
-use Rattle.gg_cut.specs.declared.plan.Body.TheVariants.{Bridge, Source, Tray}
-use Rattle.gg_cut.specs.declared.plan.BridgeBody.{BridgeBody}
-use Rattle.gg_cut.specs.declared.plan.Machine.{Machine}
-use Rattle.gg_cut.specs.declared.wires.Wire.{Wire}
-use Rattle.gg_cut.specs.Bridges.{Models, bridge_faults}
-use Rattle.gg_cut.specs.Direct.{Hub, plan_hub}
-use Rattle.gg_cut.specs.Fault.{IsSmall, first_fault, first_of}
-use Rattle.gg_cut.specs.Hosts.{host_of}
-use Rattle.gg_cut.specs.Listed.{listed_of}
-use Rattle.gg_cut.specs.Plan.{channels_from, channels_to, entry_at, port_place, wire_at}
-use Rattle.gg_cut.specs.Seated.{Bridges, before, first_bridge, first_kept_tray, machine_end, plan_bridges, plan_wires, undriven, unseen}
-use Rattle.gg_closed.proofs.FaultlessLemmas.{faultless-few}
+use Rattle.gg_cut_plan.specs.declared.listed.Listed.{Listed}
+use Rattle.gg_cut_plan.specs.declared.plan.Body.TheVariants.{Bridge, Source, Tray}
+use Rattle.gg_cut_plan.specs.declared.plan.BridgeBody.{BridgeBody}
+use Rattle.gg_cut_plan.specs.declared.plan.Machine.{Machine}
+use Rattle.gg_cut_plan.specs.declared.wires.Wire.{Wire}
+use Rattle.gg_cut_plan.specs.Bridges.{Models, bridge_faults}
+use Rattle.gg_cut_plan.specs.Direct.{Hub, plan_hub}
+use Rattle.gg_cut_plan.specs.Fault.{IsSmall, first_fault, first_of}
+use Rattle.gg_cut_plan.specs.Hosts.{host_of}
+use Rattle.gg_cut_plan.specs.Listed.{listed_of}
+use Rattle.gg_cut_plan.specs.Plan.{channels_from, channels_to, entry_at, port_place, wire_at}
+use Rattle.gg_cut_plan.specs.Seated.{Bridges, before, first_bridge, first_kept_tray, machine_end, plan_bridges, plan_wires, undriven, unseen}
+use Rattle.gg_cut_laws.proofs.FaultlessLemmas.{faultless-few}
 use Rattle.gg_cut_seats.specs.Fitting.{AreFitting}
 use Rattle.gg_cut_seats.proofs.FittingLemmas.{all-fit}
-use Rattle.gg_routes.proofs.FewLemmas.{few-machines}
-use Rattle.gg_routes.proofs.RoutedLemmas.{plan-routed}
+use Rattle.gg_cut_routes.proofs.FewLemmas.{few-machines}
+use Rattle.gg_cut_routes.proofs.RoutedLemmas.{plan-routed}
 use Rattle.gg_cut_bridges.specs.Seats.{ArePlanMachines, AreSeated, AreSides, AreTakers, IsBridgeAdded, IsModelled, machine_by, one_more}
 use Rattle.gg_cut_bridges.proofs.PlacedLemmas.{bridge-more, counts-none, last-placed, source-less, source-more, tray-less, tray-more}
-use Rattle.gg_plan.proofs.FirstLemmas.{first-seated}
+use Rattle.gg_cut.proofs.FirstLemmas.{first-seated}
 use Rattle.gg_cut_bridges.proofs.SeatLemmas.{before-few}
 use Rattle.gg_cut_existence.proofs.MachineLemmas.{HasMachines}
 

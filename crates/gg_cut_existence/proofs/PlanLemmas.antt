@@ -5,30 +5,30 @@ use Rattle.gg_bits.specs.Shape.{shape, uint}
 use Rattle.gg_flat.specs.declared.piece.Signal.{Signal}
 use Rattle.gg_flat_tree.specs.Tree.{path_at}
 use Rattle.gg_flat.proofs.ListLemmas.{some-item}
-use Rattle.gg_moved.specs.KeepsToTree.{KeepsToTree}
+use Rattle.gg_part_moved.specs.KeepsToTree.{KeepsToTree}
 use Rattle.gg_order.specs.Design.{IsDesign, Ordered}
 use Rattle.gg_part.proofs.FormedLemmas.{IsWellFormed-part}
 use Rattle.gg_partfile.specs.declared.request.Request.{Request}
-use Rattle.gg_cut.specs.declared.listed.Listed.{Listed}
-use Rattle.gg_cut.specs.declared.plan.Channel.{Channel}
-use Rattle.gg_cut.specs.declared.plan.Machine.{Machine}
-use Rattle.gg_cut.specs.declared.plan.Plan.{Plan}
-use Rattle.gg_cut.specs.declared.wires.Wire.{Wire}
-use Rattle.gg_cut.specs.Bridges.{Models}
-use Rattle.gg_cut.specs.Channels.{capacity_of, wire}
-use Rattle.gg_cut.specs.Clocks.{ratios_of}
-use Rattle.gg_cut.specs.Direct.{is_piped, plan_hub}
-use Rattle.gg_cut.specs.Fault.{IsSmall, first_fault, first_fault_with}
-use Rattle.gg_cut.specs.Held.{AreHeldOnce}
-use Rattle.gg_cut.specs.Listed.{listed_of}
-use Rattle.gg_cut.specs.Plan.{IsPlan, wire_at}
-use Rattle.gg_cut.specs.Seated.{plan_wires}
-use Rattle.gg_cut.proofs.WholeFaultLemmas.{faultless-bridges, faultless-others}
-use Rattle.gg_routes.specs.Routes.{AreRoutes}
-use Rattle.gg_routes.proofs.RoutedLemmas.{plan-routed}
-use Rattle.gg_plan.specs.Made.{AreChannels, IsWired}
+use Rattle.gg_cut_plan.specs.declared.listed.Listed.{Listed}
+use Rattle.gg_cut_plan.specs.declared.plan.Channel.{Channel}
+use Rattle.gg_cut_plan.specs.declared.plan.Machine.{Machine}
+use Rattle.gg_cut_plan.specs.declared.plan.Plan.{Plan}
+use Rattle.gg_cut_plan.specs.declared.wires.Wire.{Wire}
+use Rattle.gg_cut_plan.specs.Bridges.{Models}
+use Rattle.gg_cut_plan.specs.Channels.{capacity_of, wire}
+use Rattle.gg_cut_plan.specs.Clocks.{ratios_of}
+use Rattle.gg_cut_plan.specs.Direct.{is_piped, plan_hub}
+use Rattle.gg_cut_plan.specs.Fault.{IsSmall, first_fault, first_fault_with}
+use Rattle.gg_cut_plan.specs.Held.{AreHeldOnce}
+use Rattle.gg_cut_plan.specs.Listed.{listed_of}
+use Rattle.gg_cut_plan.specs.Plan.{IsPlan, wire_at}
+use Rattle.gg_cut_plan.specs.Seated.{plan_wires}
+use Rattle.gg_cut_plan.proofs.WholeFaultLemmas.{faultless-bridges, faultless-others}
+use Rattle.gg_cut_routes.specs.Routes.{AreRoutes}
+use Rattle.gg_cut_routes.proofs.RoutedLemmas.{plan-routed}
+use Rattle.gg_cut.specs.Made.{AreChannels, IsWired}
 use Rattle.gg_cut_bridges.specs.Seats.{ArePlanMachines}
-use Rattle.gg_plan.proofs.PlanLemmas.{channels-made, machine-fit}
+use Rattle.gg_cut.proofs.PlanLemmas.{channels-made, machine-fit}
 use Rattle.gg_cut_bridges.proofs.WireLemmas.{given-below, seated-known}
 use Rattle.gg_cut_existence.proofs.FilledLemmas.{IsFilled, Something, filled}
 use Rattle.gg_cut_existence.proofs.MachineLemmas.{machines-there}

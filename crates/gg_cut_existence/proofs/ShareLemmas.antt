@@ -8,24 +8,24 @@ use Rattle.std.proofs.lemmas.List.Elements.{Contains-get_or}
 use Rattle.std.proofs.lemmas.List.FromFn.{get_or-map-range_with_len}
 use Rattle.std.proofs.lemmas.List.Kept.{AllPairs-filter}
 use Rattle.gg_flat.proofs.ListLemmas.{Contains-filter, Contains-map, filter-cases}
-use Rattle.gg_moved.specs.KeepsToTree.{KeepsToTree}
+use Rattle.gg_part_moved.specs.KeepsToTree.{KeepsToTree}
 use Rattle.gg_order.specs.Design.{IsDesign, Ordered}
 use Rattle.gg_part.specs.InOrder.{Precedes}
-use Rattle.gg_cut.specs.declared.listed.Listed.{Listed}
-use Rattle.gg_cut.specs.declared.wires.Wire.{Wire}
-use Rattle.gg_cut.specs.Channels.{wire, wires_of}
-use Rattle.gg_cut.specs.Direct.{Hub, hub_of, is_gone, routes}
-use Rattle.gg_cut.specs.Listed.{memory_owner, owner_of}
-use Rattle.gg_cut.specs.Plan.{IsInner, Makes, Takes, channels_from, channels_to, givens_of, signals_of, wire_at}
-use Rattle.gg_closed.specs.Apart.{AreApart}
-use Rattle.gg_closed.proofs.ChoiceLemmas.{gets-known}
-use Rattle.gg_closed.proofs.ListLemmas.{map-cases}
-use Rattle.gg_split.specs.Share.{IsShareOf}
-use Rattle.gg_split.specs.Spread.{AreMemories, AreSignals, memories_below}
-use Rattle.gg_split.proofs.ShareLemmas.{memories-are, shared}
-use Rattle.gg_routes.specs.Routes.{AreRoutes}
-use Rattle.gg_routes.specs.Share.{IsPlanShare, stays_by}
-use Rattle.gg_routes.proofs.PlanLemmas.{hub-plan-share, other-plan-share}
+use Rattle.gg_cut_plan.specs.declared.listed.Listed.{Listed}
+use Rattle.gg_cut_plan.specs.declared.wires.Wire.{Wire}
+use Rattle.gg_cut_plan.specs.Channels.{wire, wires_of}
+use Rattle.gg_cut_plan.specs.Direct.{Hub, hub_of, is_gone, routes}
+use Rattle.gg_cut_plan.specs.Listed.{memory_owner, owner_of}
+use Rattle.gg_cut_plan.specs.Plan.{IsInner, Makes, Takes, channels_from, channels_to, givens_of, signals_of, wire_at}
+use Rattle.gg_cut_laws.specs.Apart.{AreApart}
+use Rattle.gg_cut_laws.proofs.ChoiceLemmas.{gets-known}
+use Rattle.gg_cut_laws.proofs.ListLemmas.{map-cases}
+use Rattle.gg_cut_split.specs.Share.{IsShareOf}
+use Rattle.gg_cut_split.specs.Spread.{AreMemories, AreSignals, memories_below}
+use Rattle.gg_cut_split.proofs.ShareLemmas.{memories-are, shared}
+use Rattle.gg_cut_routes.specs.Routes.{AreRoutes}
+use Rattle.gg_cut_routes.specs.Share.{IsPlanShare, stays_by}
+use Rattle.gg_cut_routes.proofs.PlanLemmas.{hub-plan-share, other-plan-share}
 use Rattle.gg_cut_existence.proofs.DecideLemmas.{Decided, all-three, either, holds, holds-true, is-below, true-holds}
 use Rattle.gg_cut_existence.proofs.FilledLemmas.{has-cases}
 

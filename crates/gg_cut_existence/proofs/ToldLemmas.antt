@@ -7,16 +7,16 @@ use Rattle.std.proofs.lemmas.List.Elements.{Contains-get_or}
 use Rattle.std.proofs.lemmas.List.FromFn.{get_or-map-range_with_len}
 use Rattle.gg_flat.specs.Line.{value_at}
 use Rattle.gg_flat.proofs.ListLemmas.{once-apart, some-item}
-use Rattle.gg_needs.specs.Needs.{AreNeedsOfOuts}
+use Rattle.gg_part_needs.specs.Needs.{AreNeedsOfOuts}
 use Rattle.gg_part.specs.declared.part.Part.{Part}
-use Rattle.gg_cut.specs.declared.plan.Body.{Body}
-use Rattle.gg_cut.specs.declared.plan.Body.TheVariants.{Cut, Memory, Source, Tray, Bridge}
-use Rattle.gg_cut.specs.declared.plan.Machine.{Machine}
-use Rattle.gg_cut.specs.declared.wires.Wire.{Wire}
-use Rattle.gg_cut.specs.Plan.{NeedsIn, channels_from, channels_to, wire_at}
-use Rattle.gg_plan.specs.Made.{AreGiven, ArePartNeeds, ArePut, AreTold, IsFit, IsServed, IsServedBody}
+use Rattle.gg_cut_plan.specs.declared.plan.Body.{Body}
+use Rattle.gg_cut_plan.specs.declared.plan.Body.TheVariants.{Cut, Memory, Source, Tray, Bridge}
+use Rattle.gg_cut_plan.specs.declared.plan.Machine.{Machine}
+use Rattle.gg_cut_plan.specs.declared.wires.Wire.{Wire}
+use Rattle.gg_cut_plan.specs.Plan.{NeedsIn, channels_from, channels_to, wire_at}
+use Rattle.gg_cut.specs.Made.{AreGiven, ArePartNeeds, ArePut, AreTold, IsFit, IsServed, IsServedBody}
 use Rattle.gg_cut_parts.proofs.MachineLemmas.{from-below}
-use Rattle.gg_plan.proofs.NeedLemmas.{given-cut, given-memory, given-once, part-told}
+use Rattle.gg_cut.proofs.NeedLemmas.{given-cut, given-memory, given-once, part-told}
 use Rattle.gg_cut_existence.proofs.FilledLemmas.{IsFilled, Something, filled, place_in, placed}
 use Rattle.gg_cut_existence.proofs.NeedLemmas.{HasNeeds, needs-there}
 

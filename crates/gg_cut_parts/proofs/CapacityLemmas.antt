@@ -6,7 +6,7 @@ use Rattle.std.proofs.lemmas.Grind.{get_or-set_at}
 use Rattle.std.proofs.lemmas.Slice.Eq.{bytes_eq-Decides}
 use Rattle.gg_flat_tree.specs.Tree.{path_at}
 use Rattle.gg_flat.proofs.ListLemmas.{once-apart}
-use Rattle.gg_cut.proofs.PathLemmas.{HoldsPath, holds-path}
+use Rattle.gg_cut_plan.proofs.PathLemmas.{HoldsPath, holds-path}
 
 -- setting the capacity of a path's signal sets it for this path and no other
 pub capacity-set : (paths : List (List ℕ)) (path : List ℕ) (signal capacity : ℕ) (table : List ℕ) → AllPairs (λ a b. a ≢ b) paths → slice_get paths signal ≡ Some path → length table ≡ length paths → (s : ℕ) → s < length paths

@@ -3,17 +3,17 @@ use Rattle.std.proofs.Common.{◌≡◌, ℕ, ◌<◌, ◌≤◌, ◌^◌, List,
 use Rattle.std.specs.Prelude.{All, AllPairs}
 use Rattle.gg_flat.specs.Circuit.{FlatCircuit}
 use Rattle.gg_flat.specs.Line.{value_at}
-use Rattle.gg_moved.specs.Moved.{shifted}
+use Rattle.gg_part_moved.specs.Moved.{shifted}
 use Rattle.gg_order.specs.Design.{Ordered, IsDesign}
 use Rattle.gg_part.specs.declared.part.Clocking.{Clocking}
 use Rattle.gg_part.specs.declared.part.Part.{Part}
 use Rattle.gg_part.specs.Building.{AreHeld}
 use Rattle.gg_part.specs.Clocking.{IsTimed}
 use Rattle.gg_part.specs.Part.{IsPart}
-use Rattle.gg_cut.specs.declared.listed.Listed.{Listed}
-use Rattle.gg_cut.specs.Direct.{Hub, routes}
-use Rattle.gg_cut.specs.Plan.{channels_from, givens_of, machine_clocks}
-use Rattle.gg_duplicates.specs.Again.{IsUnitAgain, again_at, unit_first}
+use Rattle.gg_cut_plan.specs.declared.listed.Listed.{Listed}
+use Rattle.gg_cut_plan.specs.Direct.{Hub, routes}
+use Rattle.gg_cut_plan.specs.Plan.{channels_from, givens_of, machine_clocks}
+use Rattle.gg_cut_share.specs.Again.{IsUnitAgain, again_at, unit_first}
 use Rattle.gg_cut_parts.specs.declared.machine_draft.MachineDraft.{MachineDraft}
 use Rattle.gg_cut_parts.specs.Draft.{IsDraftPart, IsMachineDraft, draft_hub}
 use Rattle.gg_cut_parts.specs.MovedPart.{IsUnitRouted, IsUnitShare, IsMovedPiece, IsFollower, HoldAgain}

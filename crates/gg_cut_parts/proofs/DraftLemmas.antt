@@ -2,9 +2,9 @@
 use Rattle.std.proofs.Common.{◌≡◌, ℕ, ◌<◌, length, ◌∙◌, ap, ◌≢◌}
 use Rattle.std.proofs.lemmas.List.{length-map}
 use Rattle.gg_order.specs.Design.{Ordered, IsDesign}
-use Rattle.gg_cut.specs.declared.listed.Listed.{Listed}
-use Rattle.gg_cut.specs.Listed.{listed_of, instance_of}
-use Rattle.gg_cut.specs.Machines.{first_source}
+use Rattle.gg_cut_plan.specs.declared.listed.Listed.{Listed}
+use Rattle.gg_cut_plan.specs.Listed.{listed_of, instance_of}
+use Rattle.gg_cut_plan.specs.Machines.{first_source}
 use Rattle.gg_partfile.specs.declared.request.Request.{Request}
 use Rattle.gg_cut_parts.specs.declared.draft.Draft.{Draft}
 use Rattle.gg_cut_parts.specs.declared.machine_draft.MachineDraft.{MachineDraft}

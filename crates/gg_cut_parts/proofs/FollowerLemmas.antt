@@ -6,20 +6,20 @@ use Rattle.std.proofs.lemmas.List.Elements.{Contains-get_or}
 use Rattle.gg_flat.specs.Circuit.{FlatCircuit}
 use Rattle.gg_flat.specs.Line.{value_at}
 use Rattle.gg_flat.specs.WellFormed.{IsWellFormed}
-use Rattle.gg_moved.specs.KeepsToTree.{KeepsToTree}
-use Rattle.gg_moved.specs.Moved.{shifted}
+use Rattle.gg_part_moved.specs.KeepsToTree.{KeepsToTree}
+use Rattle.gg_part_moved.specs.Moved.{shifted}
 use Rattle.gg_order.specs.Design.{Ordered}
 use Rattle.gg_part.specs.declared.part.Clocking.{Clocking}
 use Rattle.gg_part.specs.declared.part.Part.{Part}
 use Rattle.gg_part.specs.Building.{AreHeld}
 use Rattle.gg_part.specs.Clocking.{AreTimed, IsTimed}
 use Rattle.gg_part.specs.Part.{IsPart}
-use Rattle.gg_cut.specs.declared.listed.Listed.{Listed}
-use Rattle.gg_cut.specs.Direct.{Hub, routes}
-use Rattle.gg_cut.specs.Plan.{channels_to, channels_from, signals_of, givens_of, IsCutPart, Makes, machine_clocks}
-use Rattle.gg_closed.specs.Apart.{AreApart}
-use Rattle.gg_closed.proofs.ListLemmas.{Somewhere, map-cases}
-use Rattle.gg_duplicates.specs.Again.{HasSignal, IsUnitAgain, again_at, cut_wires, unit_first}
+use Rattle.gg_cut_plan.specs.declared.listed.Listed.{Listed}
+use Rattle.gg_cut_plan.specs.Direct.{Hub, routes}
+use Rattle.gg_cut_plan.specs.Plan.{channels_to, channels_from, signals_of, givens_of, IsCutPart, Makes, machine_clocks}
+use Rattle.gg_cut_laws.specs.Apart.{AreApart}
+use Rattle.gg_cut_laws.proofs.ListLemmas.{Somewhere, map-cases}
+use Rattle.gg_cut_share.specs.Again.{HasSignal, IsUnitAgain, again_at, cut_wires, unit_first}
 use Rattle.gg_cut_clocks.specs.Domains.{AreUnitClocks}
 use Rattle.gg_cut_clocks.proofs.TimedLemmas.{machine-timed}
 use Rattle.gg_cut_parts.specs.MovedPart.{IsUnitPart, IsUnitRouted, IsUnitShare, IsMovedPiece, IsFollower, HoldAgain}

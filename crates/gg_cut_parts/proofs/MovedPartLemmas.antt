@@ -18,9 +18,9 @@ use Rattle.gg_flat.specs.Line.{shape_at, value_at}
 use Rattle.gg_flat.specs.Reads.{NamesSignal}
 use Rattle.gg_flat.specs.WellFormed.{IsClock, IsClockedMemory}
 use Rattle.gg_flat.proofs.ListLemmas.{once-apart, Contains-map}
-use Rattle.gg_moved.specs.KeepsToTree.{KeepsToTree}
-use Rattle.gg_moved.specs.Moved.{moved_driver, unclocked_reader, unclocked_register, unclocked_memory, unclocked_writer}
-use Rattle.gg_moved.proofs.MovedLemmas.{from-moved}
+use Rattle.gg_part_moved.specs.KeepsToTree.{KeepsToTree}
+use Rattle.gg_part_moved.specs.Moved.{moved_driver, unclocked_reader, unclocked_register, unclocked_memory, unclocked_writer}
+use Rattle.gg_part_moved.proofs.MovedLemmas.{from-moved}
 use Rattle.gg_order.specs.Design.{Ordered}
 use Rattle.gg_part.specs.declared.part.Clocking.{Clocking}
 use Rattle.gg_part.specs.declared.part.Part.{Part}
@@ -28,11 +28,11 @@ use Rattle.gg_part.specs.Building.{Holds, AreHeld}
 use Rattle.gg_part.specs.Clocking.{AreTimed, IsTimed, LeadsTo, PortsFollow, clocks_of_ports}
 use Rattle.gg_part.specs.InOrder.{IsInOrder}
 use Rattle.gg_part.specs.Part.{IsPart, IsFrom, IsRegisterFrom, IsMemoryFrom, RegisterBelow, MemoryBelow, renamed_reader, renamed_register, renamed_memory, renamed_writer}
-use Rattle.gg_cut.specs.declared.listed.Listed.{Listed}
-use Rattle.gg_cut.specs.Alike.{IsAlike}
-use Rattle.gg_cut.specs.Plan.{channels_to, signals_of, Takes, HasMemory, machine_clocks}
-use Rattle.gg_closed.proofs.ListLemmas.{map-cases}
-use Rattle.gg_duplicates.specs.Again.{IsUnitAgain, HasSignal, again_at, cut_wires}
+use Rattle.gg_cut_plan.specs.declared.listed.Listed.{Listed}
+use Rattle.gg_cut_plan.specs.Alike.{IsAlike}
+use Rattle.gg_cut_plan.specs.Plan.{channels_to, signals_of, Takes, HasMemory, machine_clocks}
+use Rattle.gg_cut_laws.proofs.ListLemmas.{map-cases}
+use Rattle.gg_cut_share.specs.Again.{IsUnitAgain, HasSignal, again_at, cut_wires}
 use Rattle.gg_cut_clocks.specs.Domains.{AreUnitClocks}
 use Rattle.gg_cut_clocks.proofs.TimedLemmas.{register-same, ports-same}
 use Rattle.gg_cut_parts.specs.MovedPart.{IsUnitPart, IsUnitShare, AreGivens, IsMovedPiece, IsMovedPart}

@@ -9,17 +9,17 @@ use Rattle.gg_flat.specs.declared.piece.Register.{Register}
 use Rattle.gg_flat.specs.Circuit.{driver_at}
 use Rattle.gg_flat.specs.Line.{value_at}
 use Rattle.gg_flat.proofs.ListLemmas.{some-item, once-apart, Contains-map}
-use Rattle.gg_moved.specs.Moved.{moved_driver, moved_register, moved_memory, unclocked_register, unclocked_memory}
-use Rattle.gg_moved.proofs.MovedLemmas.{register-moved, memory-moved}
+use Rattle.gg_part_moved.specs.Moved.{moved_driver, moved_register, moved_memory, unclocked_register, unclocked_memory}
+use Rattle.gg_part_moved.proofs.MovedLemmas.{register-moved, memory-moved}
 use Rattle.gg_order.specs.Design.{Ordered}
 use Rattle.gg_part.specs.declared.part.Clocking.{Clocking}
 use Rattle.gg_part.specs.declared.part.Part.{Part}
 use Rattle.gg_part.specs.Building.{Holds}
 use Rattle.gg_part.specs.Part.{IsFrom, renamed_register, renamed_memory}
-use Rattle.gg_cut.specs.declared.listed.Listed.{Listed}
-use Rattle.gg_cut.specs.Plan.{channels_to, signals_of, Makes, HasMemory}
-use Rattle.gg_closed.proofs.ListLemmas.{map-cases, AllPairs-map}
-use Rattle.gg_duplicates.specs.Again.{IsUnitAgain, HasSignal, again_at, cut_wires, unit_first}
+use Rattle.gg_cut_plan.specs.declared.listed.Listed.{Listed}
+use Rattle.gg_cut_plan.specs.Plan.{channels_to, signals_of, Makes, HasMemory}
+use Rattle.gg_cut_laws.proofs.ListLemmas.{map-cases, AllPairs-map}
+use Rattle.gg_cut_share.specs.Again.{IsUnitAgain, HasSignal, again_at, cut_wires, unit_first}
 use Rattle.gg_cut_parts.specs.MovedPart.{HoldAgain, IsUnitPart, IsUnitShare, AreGivens}
 
 module _ (design : Ordered) (listed : Listed) (clocking : Clocking) (m n : ℕ) (leader : Part) (again : IsUnitAgain design listed m n) (own_givens : List ℕ) (cut : IsUnitPart design listed clocking m own_givens leader) where

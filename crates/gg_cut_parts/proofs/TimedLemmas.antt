@@ -3,20 +3,20 @@ use Rattle.std.proofs.Common.{◌≡◌, ◌⊎◌, inl, inr, ℕ, zero, suc, �
 use Rattle.std.specs.Prelude.{Contains}
 use Rattle.std.proofs.lemmas.Bool.{cases_lt}
 use Rattle.gg_flat.specs.WellFormed.{IsWellFormed}
-use Rattle.gg_moved.specs.KeepsToTree.{KeepsToTree}
+use Rattle.gg_part_moved.specs.KeepsToTree.{KeepsToTree}
 use Rattle.gg_order.specs.Design.{Ordered}
 use Rattle.gg_part.specs.declared.part.Clocking.{Clocking}
 use Rattle.gg_part.specs.Clocking.{AreTimed}
-use Rattle.gg_cut.specs.declared.listed.Listed.{Listed}
-use Rattle.gg_cut.specs.Direct.{Hub, routes}
-use Rattle.gg_cut.specs.Machines.{first_memory, first_source, first_unit}
-use Rattle.gg_cut.specs.Plan.{channels_to, machine_clocks, signals_of, Makes}
-use Rattle.gg_closed.specs.Apart.{AreApart}
+use Rattle.gg_cut_plan.specs.declared.listed.Listed.{Listed}
+use Rattle.gg_cut_plan.specs.Direct.{Hub, routes}
+use Rattle.gg_cut_plan.specs.Machines.{first_memory, first_source, first_unit}
+use Rattle.gg_cut_plan.specs.Plan.{channels_to, machine_clocks, signals_of, Makes}
+use Rattle.gg_cut_laws.specs.Apart.{AreApart}
 use Rattle.gg_cut_clocks.specs.declared.domains.Domains.{Domains}
 use Rattle.gg_cut_clocks.specs.Domains.{AreDomains}
 use Rattle.gg_cut_clocks.proofs.TimedLemmas.{machine-timed, top-clocks, whole-timed}
-use Rattle.gg_duplicates.specs.Again.{HasSignal, cut_wires}
-use Rattle.gg_routes.specs.Share.{IsPlanShare}
+use Rattle.gg_cut_share.specs.Again.{HasSignal, cut_wires}
+use Rattle.gg_cut_routes.specs.Share.{IsPlanShare}
 use Rattle.gg_cut_parts.specs.MovedPart.{IsUnitRouted}
 
 module _ (design : Ordered) (listed : Listed) (hub : Hub) (keeps : KeepsToTree design.circuit design.tree) (apart : AreApart design.tree listed) (formed : IsWellFormed design.circuit) (domains : Domains) (are : AreDomains design listed domains) (ins outs globals memories : List ℕ) (clocking : Clocking) where

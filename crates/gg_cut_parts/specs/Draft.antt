@@ -2,21 +2,21 @@
 -- Source: MEMOCODE 2009 (a network of machines that are latency-insensitive); ICCAD 2019 (instances and memories of a
 -- target as models of their own).
 use Rattle.std.specs.Prelude.{◌≡◌, ℕ, ◌<◌, ◌≤◌, ◌^◌, None, length}
-use Rattle.gg_moved.specs.KeepsToTree.{KeepsToTree}
+use Rattle.gg_part_moved.specs.KeepsToTree.{KeepsToTree}
 use Rattle.gg_order.specs.Marks.{is_marked}
 use Rattle.gg_part.specs.declared.part.Part.{Part}
-use Rattle.gg_cut.specs.Bridges.{bridge_faults}
-use Rattle.gg_cut.specs.Direct.{Hub, plan_hub, plan_routes, is_gone}
-use Rattle.gg_cut.specs.Fault.{IsSmall, first_fault, first_of}
-use Rattle.gg_cut.specs.Held.{AreHeldOnce}
-use Rattle.gg_cut.specs.Listed.{listed_of}
-use Rattle.gg_cut.specs.Machines.{machine_count}
-use Rattle.gg_cut.specs.Plan.{IsCutPart}
-use Rattle.gg_closed.specs.Apart.{AreApart}
+use Rattle.gg_cut_plan.specs.Bridges.{bridge_faults}
+use Rattle.gg_cut_plan.specs.Direct.{Hub, plan_hub, plan_routes, is_gone}
+use Rattle.gg_cut_plan.specs.Fault.{IsSmall, first_fault, first_of}
+use Rattle.gg_cut_plan.specs.Held.{AreHeldOnce}
+use Rattle.gg_cut_plan.specs.Listed.{listed_of}
+use Rattle.gg_cut_plan.specs.Machines.{machine_count}
+use Rattle.gg_cut_plan.specs.Plan.{IsCutPart}
+use Rattle.gg_cut_laws.specs.Apart.{AreApart}
 use Rattle.gg_cut_clocks.specs.Domains.{AreDomains}
-use Rattle.gg_split.specs.IsShare.{AreShares}
-use Rattle.gg_routes.specs.Routes.{AreRoutes}
-use Rattle.gg_routes.specs.Share.{IsPlanShare}
+use Rattle.gg_cut_split.specs.IsShare.{AreShares}
+use Rattle.gg_cut_routes.specs.Routes.{AreRoutes}
+use Rattle.gg_cut_routes.specs.Share.{IsPlanShare}
 use Rattle.gg_cut_parts.specs.declared.draft.Draft.{Draft}
 use Rattle.gg_cut_parts.specs.declared.machine_draft.MachineDraft.{MachineDraft}
 use Rattle.gg_limits.specs.Limits.{capacity_limit}

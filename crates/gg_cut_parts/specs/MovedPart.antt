@@ -13,11 +13,11 @@ use Rattle.gg_part.specs.Part.{IsPart}
 use Rattle.gg_part.specs.Building.{AreHeld}
 use Rattle.gg_part.specs.Clocking.{IsTimed}
 use Rattle.gg_part.specs.InOrder.{IsInOrder}
-use Rattle.gg_cut.specs.declared.listed.Listed.{Listed}
-use Rattle.gg_cut.specs.Alike.{IsAlike}
-use Rattle.gg_cut.specs.Direct.{Hub, routes}
-use Rattle.gg_cut.specs.Plan.{channels_to, channels_from, signals_of, givens_of, MakesBy, Takes, HasMemory, IsCutPart, machine_clocks}
-use Rattle.gg_duplicates.specs.Again.{HasSignal, cut_wires}
+use Rattle.gg_cut_plan.specs.declared.listed.Listed.{Listed}
+use Rattle.gg_cut_plan.specs.Alike.{IsAlike}
+use Rattle.gg_cut_plan.specs.Direct.{Hub, routes}
+use Rattle.gg_cut_plan.specs.Plan.{channels_to, channels_from, signals_of, givens_of, MakesBy, Takes, HasMemory, IsCutPart, machine_clocks}
+use Rattle.gg_cut_share.specs.Again.{HasSignal, cut_wires}
 
 -- ---- the piece
 

@@ -1,14 +1,14 @@
 //! `Draft`: a cut in the making.
 ghost use Rattle.std.specs.Prelude.{◌≡◌};
-ghost use Rattle.gg_cut.specs.Machines.{numbering_of};
+ghost use Rattle.gg_cut_plan.specs.Machines.{numbering_of};
 ghost use Rattle.gg_cut_parts.specs.Draft.{IsDraft};
 
-use gg_cut::{Listed, Numbering, Wire};
+use gg_cut_plan::{Listed, Numbering, Wire};
+use gg_cut_routes::Channels;
+use gg_cut_split::Split;
 use gg_flat::Models;
 use gg_order::Design;
 use gg_partfile::Request;
-use gg_routes::Channels;
-use gg_split::Split;
 
 /// A cut in the making: what is cut, as a request without a fault asks, what is listed of it, what each machine has before
 /// the routing, and the channels after it.

@@ -3,12 +3,12 @@ ghost use Rattle.std.specs.Prelude.{◌≡◌, ◌≢◌, ℕ, ◌<◌, ◌≤�
 ghost use Rattle.gg_flat.specs.declared.piece.Driver.TheVariants.{Held};
 ghost use Rattle.gg_flat.specs.Circuit.{driver_at};
 ghost use Rattle.gg_flat.specs.Line.{value_at};
-ghost use Rattle.gg_moved.specs.Moved.{shifted};
+ghost use Rattle.gg_part_moved.specs.Moved.{shifted};
 ghost use Rattle.gg_part.specs.Building.{AreHeld};
 ghost use Rattle.gg_part.specs.Clocking.{IsTimed};
 ghost use Rattle.gg_part.specs.Part.{IsPart};
-ghost use Rattle.gg_cut.specs.Machines.{first_unit, first_memory};
-ghost use Rattle.gg_duplicates.specs.Again.{IsUnitAgain, unit_first};
+ghost use Rattle.gg_cut_plan.specs.Machines.{first_unit, first_memory};
+ghost use Rattle.gg_cut_share.specs.Again.{IsUnitAgain, unit_first};
 ghost use Rattle.gg_cut_parts.specs.Draft.{draft_hub, IsDraft, IsDraftPart, IsMachineDraft};
 ghost use Rattle.gg_cut_parts.specs.MovedPart.{IsFollower, HoldAgain, HasAgain};
 

@@ -1,13 +1,13 @@
 //! The parts of the circuit that the machines run.
 ghost use Rattle.std.specs.Prelude.{◌≡◌, ◌<◌, ◌≤◌, length, All, AllPairs, IfOk};
 ghost use Rattle.gg_part.specs.Clocking.{IsTimed};
-ghost use Rattle.gg_cut.specs.Machines.{first_unit, first_memory, first_source};
-ghost use Rattle.gg_cut.specs.Plan.{signals_of, givens_of};
+ghost use Rattle.gg_cut_plan.specs.Machines.{first_unit, first_memory, first_source};
+ghost use Rattle.gg_cut_plan.specs.Plan.{signals_of, givens_of};
 ghost use Rattle.gg_cut_parts.specs.Draft.{IsMachineDraft, IsDraftPart};
 
 use crate::machine_draft::MachineDraft;
 use gg_bits::Ids;
-use gg_cut::Wire;
+use gg_cut_plan::Wire;
 use gg_part::{Part, part_in_order, part_of};
 use std::alloc::{AllocError, Global};
 

@@ -5,12 +5,12 @@ use Rattle.std.proofs.lemmas.Bool.{cases_Bool, cases_lt}
 use Rattle.std.proofs.lemmas.List.{get_or_append_left, get_or_push, length_push, take_more}
 use Rattle.std.proofs.lemmas.Slice.Eq.{bytes_eq-Decides}
 use Rattle.gg_flat.specs.Clock.{Ratio}
-use Rattle.gg_cut.specs.Clocks.{is_ratio, ratio_with}
-use Rattle.gg_cut.specs.Fault.{or_else, ratio_fault, unknown_clock}
-use Rattle.gg_cut.specs.Listed.{is_among}
-use Rattle.gg_cut.specs.Named.{AreNamed, ratio_named}
-use Rattle.gg_cut.specs.declared.fault.CutFault.TheVariants.{WrongRatio}
-use Rattle.gg_cut.proofs.FindLemmas.{find-same, none-map}
+use Rattle.gg_cut_plan.specs.Clocks.{is_ratio, ratio_with}
+use Rattle.gg_cut_plan.specs.Fault.{or_else, ratio_fault, unknown_clock}
+use Rattle.gg_cut_plan.specs.Listed.{is_among}
+use Rattle.gg_cut_plan.specs.Named.{AreNamed, ratio_named}
+use Rattle.gg_cut_plan.specs.declared.fault.CutFault.TheVariants.{WrongRatio}
+use Rattle.gg_cut_plan.proofs.FindLemmas.{find-same, none-map}
 
 -- a set of names has the same unknown name
 pub unknown-same : (set names : List (List ℕ)) (clocks : List (List ℕ × (ℕ × ℕ))) → ((path : List ℕ) → is_among set path ≡ is_among names path) → unknown_clock set clocks ≡ unknown_clock names clocks

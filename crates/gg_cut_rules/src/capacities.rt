@@ -1,13 +1,13 @@
 //! Channels by name, and the faults of capacities.
 ghost use Rattle.std.specs.Prelude.{◌≡◌, ◌==◌, ◌<◌, length, All};
-ghost use Rattle.gg_cut.specs.Listed.{AreMarks, is_among};
-ghost use Rattle.gg_cut.specs.Channels.{channel_names};
-ghost use Rattle.gg_cut.specs.Fault.{Tells, unknown_channel, range_fault};
+ghost use Rattle.gg_cut_plan.specs.Listed.{AreMarks, is_among};
+ghost use Rattle.gg_cut_plan.specs.Channels.{channel_names};
+ghost use Rattle.gg_cut_plan.specs.Fault.{Tells, unknown_channel, range_fault};
 ghost use Rattle.std.specs.Prelude.{option_map};
-ghost use Rattle.gg_cut.specs.declared.fault.CutFault.TheVariants.{UnknownChannel};
+ghost use Rattle.gg_cut_plan.specs.declared.fault.CutFault.TheVariants.{UnknownChannel};
 
 use gg_bits::Name;
-use gg_cut::CutFault;
+use gg_cut_plan::CutFault;
 use gg_flat::Piece;
 use gg_limits::CAPACITY_LIMIT;
 

@@ -1,14 +1,14 @@
 //! The ratios of clocks, and their faults.
 ghost use Rattle.std.specs.Prelude.{◌≡◌, ℕ, List, [], ◌+◌, ◌-◌, ◌<◌, ◌^◌, Some, None, true, length, map, option_map, slice_get, IfOk};
-ghost use Rattle.gg_cut.specs.Clocks.{is_ratio, ratio_of, ratio_with, ratios_of};
-ghost use Rattle.gg_cut.specs.Fault.{Tells, unknown_clock, ratio_fault};
-ghost use Rattle.gg_cut.specs.Named.{AreNamed};
-ghost use Rattle.gg_cut.specs.declared.fault.CutFault.TheVariants.{UnknownClock};
+ghost use Rattle.gg_cut_plan.specs.Clocks.{is_ratio, ratio_of, ratio_with, ratios_of};
+ghost use Rattle.gg_cut_plan.specs.Fault.{Tells, unknown_clock, ratio_fault};
+ghost use Rattle.gg_cut_plan.specs.Named.{AreNamed};
+ghost use Rattle.gg_cut_plan.specs.declared.fault.CutFault.TheVariants.{UnknownClock};
 
 use crate::paths::{has, set_of};
 use gg_bits::Name;
 use gg_clocks::Ratio;
-use gg_cut::CutFault;
+use gg_cut_plan::CutFault;
 use gg_flat::{AddError, Paths};
 use gg_flat_tree::Tree;
 use std::alloc::{AllocError, Global};

@@ -2,13 +2,13 @@
 ghost use Rattle.std.specs.Prelude.{◌≡◌, ◌++◌, ◌<◌, ◌^◌, not, find, option_map, length, MatchBool, MatchOption, IfOk, IfErr};
 ghost use Rattle.std.specs.Prelude.{None, Some};
 ghost use Rattle.std.specs.List.{list_any};
-ghost use Rattle.gg_cut.specs.Listed.{is_among};
-ghost use Rattle.gg_cut.specs.Fault.{Tells, dotted, rest_behind, lacks_counterpart, lacks_in, unmatched};
-ghost use Rattle.gg_cut.specs.declared.fault.CutFault.TheVariants.{Unmatched, NoMemory};
+ghost use Rattle.gg_cut_plan.specs.Listed.{is_among};
+ghost use Rattle.gg_cut_plan.specs.Fault.{Tells, dotted, rest_behind, lacks_counterpart, lacks_in, unmatched};
+ghost use Rattle.gg_cut_plan.specs.declared.fault.CutFault.TheVariants.{Unmatched, NoMemory};
 
 use crate::paths::{has, set_of};
 use gg_bits::{Name, Names};
-use gg_cut::CutFault;
+use gg_cut_plan::CutFault;
 use gg_flat::Paths;
 use std::alloc::{AllocError, Global};
 

@@ -1,12 +1,12 @@
 //! The faults of a request's entries.
 ghost use Rattle.std.specs.Prelude.{◌≡◌, [], ◌∷◌, ◌+◌, ◌-◌, ◌<◌, ◌^◌, ◌++◌, ◌==◌, Some, not, option_map, find, length, OnOk};
-ghost use Rattle.gg_cut.specs.Listed.{is_among};
-ghost use Rattle.gg_cut.specs.Fault.{IsTold, Tells, unknown_unit, unshared, unknown_memory, first_clash, same_path, repeated, entries, other_in, other_module, module_of};
-ghost use Rattle.gg_cut.specs.declared.fault.CutFault.TheVariants.{UnknownUnit, Doubled, OtherModule, UnknownMemory};
+ghost use Rattle.gg_cut_plan.specs.Listed.{is_among};
+ghost use Rattle.gg_cut_plan.specs.Fault.{IsTold, Tells, unknown_unit, unshared, unknown_memory, first_clash, same_path, repeated, entries, other_in, other_module, module_of};
+ghost use Rattle.gg_cut_plan.specs.declared.fault.CutFault.TheVariants.{UnknownUnit, Doubled, OtherModule, UnknownMemory};
 
 use crate::paths::{copied, has, instance, is_instance, is_memory, set_of};
 use gg_bits::{Name, Names};
-use gg_cut::CutFault;
+use gg_cut_plan::CutFault;
 use gg_flat::{AddError, Paths};
 use gg_flat_tree::Tree;
 use std::alloc::Global;

@@ -1,4 +1,4 @@
-//! The first fault of a request for a cut, by the definitions of gg_cut.
+//! The first fault of a request for a cut, by the definitions of gg_cut_plan.
 //!
 //! The crate promises:
 //!

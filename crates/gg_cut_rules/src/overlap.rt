@@ -3,14 +3,14 @@ ghost use Rattle.std.specs.Prelude.{◌≡◌, ℕ, List, ◌<◌, ◌||◌, fal
 ghost use Rattle.std.specs.List.{list_any};
 ghost use Rattle.gg_flat_tree.specs.Tree.{instance_at};
 ghost use Rattle.gg_order.specs.Marks.{is_marked};
-ghost use Rattle.gg_cut.specs.Listed.{ParentsBefore, AreMarks, instance_of, lies};
-ghost use Rattle.gg_cut.specs.Fault.{Tells, overlapping};
-ghost use Rattle.gg_cut.specs.declared.fault.CutFault.TheVariants.{Doubled};
+ghost use Rattle.gg_cut_plan.specs.Listed.{ParentsBefore, AreMarks, instance_of, lies};
+ghost use Rattle.gg_cut_plan.specs.Fault.{Tells, overlapping};
+ghost use Rattle.gg_cut_plan.specs.declared.fault.CutFault.TheVariants.{Doubled};
 
 use crate::entries::doubled;
 use crate::paths::instance;
 use gg_bits::Name;
-use gg_cut::{CutFault, parent_of, unmarked};
+use gg_cut_plan::{CutFault, parent_of, unmarked};
 use gg_flat_tree::Tree;
 use std::alloc::Global;
 

@@ -1,10 +1,10 @@
 //! Instances and memories by their paths, and sets of paths.
 ghost use Rattle.std.specs.Prelude.{◌≡◌, ℕ, List, ◌+◌, ◌-◌, ◌<◌, ◌≤◌, ◌^◌, ◌||◌, length, bytes_eq, IfOk, IfErr};
-ghost use Rattle.gg_cut.specs.Listed.{is_among, place_of, is_instance_path, is_memory_path};
-ghost use Rattle.gg_cut.specs.declared.fault.CutFault.TheVariants.{NoMemory};
+ghost use Rattle.gg_cut_plan.specs.Listed.{is_among, place_of, is_instance_path, is_memory_path};
+ghost use Rattle.gg_cut_plan.specs.declared.fault.CutFault.TheVariants.{NoMemory};
 
 use gg_bits::Name;
-use gg_cut::CutFault;
+use gg_cut_plan::CutFault;
 use gg_flat::{AddError, Paths};
 use gg_flat_tree::Tree;
 use std::alloc::Global;

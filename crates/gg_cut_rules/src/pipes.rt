@@ -1,14 +1,14 @@
 //! The faults of pipes.
 ghost use Rattle.std.specs.Prelude.{◌≡◌, ◌<◌, ◌^◌, not, option_map, find, length, All};
-ghost use Rattle.gg_cut.specs.Listed.{AreMarks, is_among};
-ghost use Rattle.gg_cut.specs.Channels.{channel_names};
-ghost use Rattle.gg_cut.specs.Fault.{Tells, repeated};
-ghost use Rattle.gg_cut.specs.declared.fault.CutFault.TheVariants.{UnknownPipe, DoubledPipe};
+ghost use Rattle.gg_cut_plan.specs.Listed.{AreMarks, is_among};
+ghost use Rattle.gg_cut_plan.specs.Channels.{channel_names};
+ghost use Rattle.gg_cut_plan.specs.Fault.{Tells, repeated};
+ghost use Rattle.gg_cut_plan.specs.declared.fault.CutFault.TheVariants.{UnknownPipe, DoubledPipe};
 
 use crate::capacities::is_channel;
 use crate::entries::none_repeated;
 use gg_bits::Name;
-use gg_cut::CutFault;
+use gg_cut_plan::CutFault;
 use gg_flat::Piece;
 use std::alloc::Global;
 

@@ -2,13 +2,13 @@
 ghost use Rattle.std.specs.Prelude.{◌≡◌, [], ◌∷◌, if◌then◌else◌, ◌<◌, ◌^◌, ◌++◌, length, map, filter, OnOk, IfOk, IfErr};
 ghost use Rattle.std.specs.List.{range_with_len};
 ghost use Rattle.gg_flat_tree.specs.Tree.{path_at};
-ghost use Rattle.gg_cut.specs.Listed.{instance_of, is_among};
-ghost use Rattle.gg_cut.specs.declared.fault.CutFault.TheVariants.{NoMemory};
+ghost use Rattle.gg_cut_plan.specs.Listed.{instance_of, is_among};
+ghost use Rattle.gg_cut_plan.specs.declared.fault.CutFault.TheVariants.{NoMemory};
 
 use crate::overlap::place;
 use crate::paths::{has, set_of};
 use gg_bits::Name;
-use gg_cut::CutFault;
+use gg_cut_plan::CutFault;
 use gg_flat::Paths;
 use gg_flat_tree::Tree;
 use std::alloc::{AllocError, Global};

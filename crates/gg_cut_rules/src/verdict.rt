@@ -1,10 +1,10 @@
 //! The judgement of a request.
 ghost use Rattle.std.specs.Prelude.{◌≡◌, ◌+◌, ◌<◌, ◌^◌, length, option_map, nat_lt, if◌then◌else◌, Some, None, All, IfOk, IfErr};
 ghost use Rattle.gg_flat_tree.specs.Tree.{IsTree};
-ghost use Rattle.gg_moved.specs.KeepsToTree.{KeepsToTree};
-ghost use Rattle.gg_cut.specs.Listed.{listed_of};
-ghost use Rattle.gg_cut.specs.Fault.{IsSmall, Tells, first_of, entry_faults, channel_faults, pipe_faults, clock_faults, too_many_channels, most_units};
-ghost use Rattle.gg_cut.specs.declared.fault.CutFault.TheVariants.{TooManyUnits, TooManyChannels, NoMemory};
+ghost use Rattle.gg_part_moved.specs.KeepsToTree.{KeepsToTree};
+ghost use Rattle.gg_cut_plan.specs.Listed.{listed_of};
+ghost use Rattle.gg_cut_plan.specs.Fault.{IsSmall, Tells, first_of, entry_faults, channel_faults, pipe_faults, clock_faults, too_many_channels, most_units};
+ghost use Rattle.gg_cut_plan.specs.declared.fault.CutFault.TheVariants.{TooManyUnits, TooManyChannels, NoMemory};
 
 use crate::capacities::{capacities_in_range, channels_exist};
 use crate::clocks::{clocks_exist, ratios_in_range};
@@ -16,7 +16,7 @@ use crate::overlap::none_overlap;
 use crate::pipes::{pipes_exist, pipes_once};
 use crate::signals::{listed_memories, listed_units};
 use gg_bits::Ids;
-use gg_cut::{CutFault, Listed, marks_of};
+use gg_cut_plan::{CutFault, Listed, marks_of};
 use gg_flat::Piece;
 use gg_flat_tree::Tree;
 use gg_order::Design;

@@ -12,13 +12,13 @@ use Rattle.gg_flat.specs.Line.{shape_at, value_at}
 use Rattle.gg_flat.specs.Models.{model_names, model_circuits}
 use Rattle.gg_flat_tree.specs.Tree.{path_at}
 use Rattle.gg_partfile.specs.declared.request.BridgeEntry.{BridgeEntry}
-use Rattle.gg_cut.specs.Listed.{place_of}
-use Rattle.gg_cut.specs.Channels.{channel_names}
-use Rattle.gg_cut.specs.Bridges.{Models, same_kind, same_shape, is_of_shape, port_shape, fit_ports, shapes_at, model_named, model_or}
-use Rattle.gg_joined.specs.Model.{IsModel}
-use Rattle.gg_joined.specs.All.{Attached, CanAttach, CanAttachEach}
+use Rattle.gg_cut_plan.specs.Listed.{place_of}
+use Rattle.gg_cut_plan.specs.Channels.{channel_names}
+use Rattle.gg_cut_plan.specs.Bridges.{Models, same_kind, same_shape, is_of_shape, port_shape, fit_ports, shapes_at, model_named, model_or}
+use Rattle.gg_bridge_joined.specs.Model.{IsModel}
+use Rattle.gg_bridge_joined.specs.All.{Attached, CanAttach, CanAttachEach}
 use Rattle.gg_flat.proofs.ListLemmas.{some-item}
-use Rattle.gg_joined.proofs.EachLemmas.{second-once}
+use Rattle.gg_bridge_joined.proofs.EachLemmas.{second-once}
 use Rattle.gg_cut_seats.specs.Fitting.{IsFitting, AreFitting, attached_of, ArePortsAt, AreModels}
 use Rattle.gg_cut_seats.proofs.FittingLemmas.{both-true}
 

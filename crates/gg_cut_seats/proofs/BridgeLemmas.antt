@@ -6,10 +6,10 @@ use Rattle.gg_flat.specs.Line.{value_at}
 use Rattle.gg_flat.specs.Circuit.{FlatCircuit}
 use Rattle.gg_flat_tree.specs.Tree.{path_at}
 use Rattle.gg_partfile.specs.declared.request.BridgeEntry.{BridgeEntry}
-use Rattle.gg_cut.specs.Listed.{is_among}
-use Rattle.gg_cut.specs.declared.listed.Listed.{Listed}
-use Rattle.gg_cut.proofs.PathLemmas.{first_place-Some}
-use Rattle.gg_cut.specs.Seated.{Bridges, before, undriven, unseen, first_kept_tray, first_bridge, or_bridge, seat_of, AreBridges, IsSeen, IsDriven, lister, bridges_of}
+use Rattle.gg_cut_plan.specs.Listed.{is_among}
+use Rattle.gg_cut_plan.specs.declared.listed.Listed.{Listed}
+use Rattle.gg_cut_plan.proofs.PathLemmas.{first_place-Some}
+use Rattle.gg_cut_plan.specs.Seated.{Bridges, before, undriven, unseen, first_kept_tray, first_bridge, or_bridge, seat_of, AreBridges, IsSeen, IsDriven, lister, bridges_of}
 use Rattle.gg_cut_seats.proofs.SeatedLemmas.{seat-low, seat-source, seat-tray, before-strict}
 
 module _ (b : Bridges) where

@@ -7,14 +7,14 @@ use Rattle.gg_flat.specs.Models.{model_names}
 use Rattle.gg_flat_tree.specs.Tree.{path_at}
 use Rattle.gg_flat.proofs.PathLemmas.{found-path}
 use Rattle.gg_partfile.specs.declared.request.BridgeEntry.{BridgeEntry}
-use Rattle.gg_cut.specs.declared.fault.CutFault.TheVariants.{UnknownBridge, WrongPort, UnfitBridge}
-use Rattle.gg_cut.specs.Listed.{is_among}
-use Rattle.gg_cut.specs.Channels.{channel_names}
-use Rattle.gg_cut.specs.Fault.{first_of}
-use Rattle.gg_cut.specs.Bridges.{Models, unknown_bridge, wrong_port, model_named, fits_model, fit_ports, shapes_at, unfit_bridge, Before, none_before, before_next, own_faults, faults_after}
-use Rattle.gg_cut.proofs.PathLemmas.{among-contains}
-use Rattle.gg_cut.proofs.FindLemmas.{none-at, none-front, none-back, none-map}
-use Rattle.gg_joined.proofs.PairLemmas.{AllPairs-append}
+use Rattle.gg_cut_plan.specs.declared.fault.CutFault.TheVariants.{UnknownBridge, WrongPort, UnfitBridge}
+use Rattle.gg_cut_plan.specs.Listed.{is_among}
+use Rattle.gg_cut_plan.specs.Channels.{channel_names}
+use Rattle.gg_cut_plan.specs.Fault.{first_of}
+use Rattle.gg_cut_plan.specs.Bridges.{Models, unknown_bridge, wrong_port, model_named, fits_model, fit_ports, shapes_at, unfit_bridge, Before, none_before, before_next, own_faults, faults_after}
+use Rattle.gg_cut_plan.proofs.PathLemmas.{among-contains}
+use Rattle.gg_cut_plan.proofs.FindLemmas.{none-at, none-front, none-back, none-map}
+use Rattle.gg_bridge_joined.proofs.PairLemmas.{AllPairs-append}
 use Rattle.gg_cut_seats.specs.Fitting.{IsFitting, AreFitting}
 
 -- ---- one name more

@@ -4,9 +4,9 @@ use Rattle.std.specs.List.{range_with_len}
 use Rattle.std.proofs.lemmas.Bool.{cases_lt}
 use Rattle.std.proofs.lemmas.List.{length-map}
 use Rattle.std.proofs.lemmas.List.FromFn.{get_or-range_with_len, length-range_with_len}
-use Rattle.gg_cut.specs.declared.wires.Wire.{Wire}
-use Rattle.gg_cut.specs.Plan.{wire_at, channels_to, channels_from, signals_of, givens_of}
-use Rattle.gg_cut.specs.Seated.{Bridges, before, undriven, unseen, first_bridge, first_kept_tray, or_bridge, seat_of, seated_wire, seated}
+use Rattle.gg_cut_plan.specs.declared.wires.Wire.{Wire}
+use Rattle.gg_cut_plan.specs.Plan.{wire_at, channels_to, channels_from, signals_of, givens_of}
+use Rattle.gg_cut_plan.specs.Seated.{Bridges, before, undriven, unseen, first_bridge, first_kept_tray, or_bridge, seat_of, seated_wire, seated}
 use Rattle.gg_cut_seats.proofs.SeatedLemmas.{seat-low, seat-source, seat-tray}
 use Rattle.gg_cut_seats.proofs.WireLemmas.{filter-alike, same-test}
 

@@ -6,11 +6,11 @@ use Rattle.gg_flat_tree.specs.Tree.{path_at}
 use Rattle.gg_order.specs.Design.{Ordered}
 use Rattle.gg_partfile.specs.declared.request.BridgeEntry.{BridgeEntry}
 use Rattle.gg_partfile.specs.declared.request.Request.{Request}
-use Rattle.gg_cut.specs.declared.listed.Listed.{Listed}
-use Rattle.gg_cut.specs.Listed.{listed_of, instance_of}
-use Rattle.gg_cut.specs.Plan.{cut_names, entry_at, machine_names, open_tray_names, tray_names}
-use Rattle.gg_cut.specs.Seated.{Bridges, AreBridges, IsKept, before, undriven, unseen, first_bridge, machine_end, open_ins, open_outs, output_count, plan_bridges, seat_of}
-use Rattle.gg_cut.proofs.TrayLemmas.{out-tray, halt-tray}
+use Rattle.gg_cut_plan.specs.declared.listed.Listed.{Listed}
+use Rattle.gg_cut_plan.specs.Listed.{listed_of, instance_of}
+use Rattle.gg_cut_plan.specs.Plan.{cut_names, entry_at, machine_names, open_tray_names, tray_names}
+use Rattle.gg_cut_plan.specs.Seated.{Bridges, AreBridges, IsKept, before, undriven, unseen, first_bridge, machine_end, open_ins, open_outs, output_count, plan_bridges, seat_of}
+use Rattle.gg_cut_plan.proofs.TrayLemmas.{out-tray, halt-tray}
 use Rattle.gg_cut_seats.proofs.BridgeLemmas.{are-bridges}
 use Rattle.gg_cut_seats.proofs.OpenLemmas.{ins-count, in-place, outs-count, out-place, stop-before}
 use Rattle.gg_cut_seats.proofs.SeatedLemmas.{Seat, low, source, tray, bridge, seat-kind}

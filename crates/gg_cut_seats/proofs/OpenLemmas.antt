@@ -10,8 +10,8 @@ use Rattle.gg_flat_tree.specs.Tree.{InstanceTree, path_at}
 use Rattle.gg_partfile.specs.Size.{all_driven, all_seen}
 use Rattle.gg_partfile.specs.declared.request.BridgeEntry.{BridgeEntry}
 use Rattle.gg_partfile.specs.declared.request.Request.{Request}
-use Rattle.gg_cut.specs.Listed.{is_among}
-use Rattle.gg_cut.specs.Seated.{Bridges, before, undriven, unseen, lister, plan_bridges, open_ins, open_outs}
+use Rattle.gg_cut_plan.specs.Listed.{is_among}
+use Rattle.gg_cut_plan.specs.Seated.{Bridges, before, undriven, unseen, lister, plan_bridges, open_ins, open_outs}
 use Rattle.gg_cut_seats.proofs.CountLemmas.{before-same, before-behind, filter-count, filter-place, IsAt}
 
 none-more : (o : Option ℕ) → is_none (option_map suc o) ≡ is_none o

@@ -10,10 +10,10 @@ use Rattle.gg_flat.proofs.PathLemmas.{found-path}
 use Rattle.gg_partfile.specs.Size.{all_driven, all_seen}
 use Rattle.gg_partfile.specs.declared.request.BridgeEntry.{BridgeEntry}
 use Rattle.gg_partfile.specs.declared.request.Request.{Request}
-use Rattle.gg_cut.specs.Listed.{is_among}
-use Rattle.gg_cut.specs.Plan.{entry_at}
-use Rattle.gg_cut.specs.Seated.{lister, plan_bridges}
-use Rattle.gg_cut.proofs.PathLemmas.{first_place-Some, among-contains}
+use Rattle.gg_cut_plan.specs.Listed.{is_among}
+use Rattle.gg_cut_plan.specs.Plan.{entry_at}
+use Rattle.gg_cut_plan.specs.Seated.{lister, plan_bridges}
+use Rattle.gg_cut_plan.proofs.PathLemmas.{first_place-Some, among-contains}
 use Rattle.gg_cut_seats.proofs.OpenLemmas.{lister-none}
 
 -- ---- lists of paths

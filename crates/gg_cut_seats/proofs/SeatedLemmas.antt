@@ -2,7 +2,7 @@
 use Rattle.std.proofs.Common.{◌≡◌, ℕ, zero, suc, ◌+◌, ◌-◌, ◌<◌, ◌≤◌, Bool, true, false, nat_lt, if◌then◌else◌, Option, Some, None, refl, sym, ◌∙◌, ap, ap₂, subst, inl, inr, ◌⊎◌, arith}
 use Rattle.std.specs.Prelude.{is_none}
 use Rattle.std.proofs.lemmas.Bool.{cases_lt, lt-ltb, le-ltb}
-use Rattle.gg_cut.specs.Seated.{Bridges, one_if, before, undriven, unseen, first_kept_tray, first_bridge, machine_end, or_bridge, giver_of, keeper_of, seat_of, AreBridges, IsKept}
+use Rattle.gg_cut_plan.specs.Seated.{Bridges, one_if, before, undriven, unseen, first_kept_tray, first_bridge, machine_end, or_bridge, giver_of, keeper_of, seat_of, AreBridges, IsKept}
 
 -- ---- how many are kept
 

@@ -4,10 +4,10 @@ use Rattle.std.specs.Prelude.{All, cond}
 use Rattle.std.specs.List.{range_with_len}
 use Rattle.std.proofs.lemmas.List.{get_or-map, length-map}
 use Rattle.std.proofs.lemmas.List.FromFn.{get_or-range_with_len, length-range_with_len}
-use Rattle.gg_cut.specs.declared.wires.Wire.{Wire}
-use Rattle.gg_cut.specs.Channels.{wire}
-use Rattle.gg_cut.specs.Plan.{wire_at, channels_to, channels_from}
-use Rattle.gg_cut.specs.Seated.{Bridges, seat_of, seated_wire, seated, AreBridges, IsKept}
+use Rattle.gg_cut_plan.specs.declared.wires.Wire.{Wire}
+use Rattle.gg_cut_plan.specs.Channels.{wire}
+use Rattle.gg_cut_plan.specs.Plan.{wire_at, channels_to, channels_from}
+use Rattle.gg_cut_plan.specs.Seated.{Bridges, seat_of, seated_wire, seated, AreBridges, IsKept}
 use Rattle.gg_cut_seats.proofs.SeatedLemmas.{seat-once}
 
 pub filter-alike : (f g : ℕ → Bool) (xs : List ℕ) → ((i : ℕ) → i < length xs → f (get_or xs i 0) ≡ g (get_or xs i 0)) → filter f xs ≡ filter g xs

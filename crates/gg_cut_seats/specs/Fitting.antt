@@ -6,10 +6,10 @@ use Rattle.gg_flat.specs.Line.{shape_at}
 use Rattle.gg_flat.specs.Models.{model_names}
 use Rattle.gg_flat_tree.specs.Tree.{path_at}
 use Rattle.gg_partfile.specs.declared.request.BridgeEntry.{BridgeEntry}
-use Rattle.gg_joined.specs.Model.{IsModel}
-use Rattle.gg_joined.specs.All.{Attached}
-use Rattle.gg_cut.specs.Channels.{channel_names}
-use Rattle.gg_cut.specs.Bridges.{Models, model_named, model_of, port_shape, fit_ports, shapes_at}
+use Rattle.gg_bridge_joined.specs.Model.{IsModel}
+use Rattle.gg_bridge_joined.specs.All.{Attached}
+use Rattle.gg_cut_plan.specs.Channels.{channel_names}
+use Rattle.gg_cut_plan.specs.Bridges.{Models, model_named, model_of, port_shape, fit_ports, shapes_at}
 
 -- An entry names a model, its ports are outputs and inputs, and they have the model's types.
 pub record IsFitting (circuit : FlatCircuit) (outs : List ℕ) (models : Models) (entry : BridgeEntry) : Type 0 where

@@ -7,15 +7,15 @@ ghost use Rattle.gg_order.specs.Design.{Ordered};
 ghost use Rattle.gg_partfile.specs.declared.request.BridgeEntry.{BridgeEntry};
 ghost use Rattle.gg_partfile.specs.declared.request.Request.{Request};
 ghost use Rattle.gg_partfile.specs.Size.{all_driven, all_seen};
-ghost use Rattle.gg_cut.specs.Listed.{is_among, listed_of};
-ghost use Rattle.gg_cut.specs.declared.listed.Listed.{Listed};
-ghost use Rattle.gg_cut.specs.Fault.{first_of};
-ghost use Rattle.gg_cut.specs.Bridges.{Models, bridge_faults};
+ghost use Rattle.gg_cut_plan.specs.Listed.{is_among, listed_of};
+ghost use Rattle.gg_cut_plan.specs.declared.listed.Listed.{Listed};
+ghost use Rattle.gg_cut_plan.specs.Fault.{first_of};
+ghost use Rattle.gg_cut_plan.specs.Bridges.{Models, bridge_faults};
 ghost use Rattle.gg_cut_seats.specs.Fitting.{AreFitting, ArePortsAt, AreModels, attached_of};
-ghost use Rattle.gg_joined.specs.All.{CanAttachEach};
-ghost use Rattle.gg_cut.specs.declared.wires.Wire.{Wire};
-ghost use Rattle.gg_cut.specs.Plan.{channels_to, channels_from, cut_names, entry_at, machine_names};
-ghost use Rattle.gg_cut.specs.Seated.{Bridges, AreBridges, IsKept, IsSeen, IsDriven, before, undriven, unseen, bridges_of, plan_bridges, first_bridge, open_ins, open_outs, seat_of, seated, machine_end};
+ghost use Rattle.gg_bridge_joined.specs.All.{CanAttachEach};
+ghost use Rattle.gg_cut_plan.specs.declared.wires.Wire.{Wire};
+ghost use Rattle.gg_cut_plan.specs.Plan.{channels_to, channels_from, cut_names, entry_at, machine_names};
+ghost use Rattle.gg_cut_plan.specs.Seated.{Bridges, AreBridges, IsKept, IsSeen, IsDriven, before, undriven, unseen, bridges_of, plan_bridges, first_bridge, open_ins, open_outs, seat_of, seated, machine_end};
 
 /// Each machine has a number among all.
 pub fn seats_known()

@@ -1,6 +1,6 @@
 //! Numbers of machines with bridges, and what entries of bridges without a fault have.
 //!
-//! The definitions of the numbers are gg_cut's (Seated); those in `specs/` say when entries fit a circuit and models
+//! The definitions of the numbers are gg_cut_plan's (Seated); those in `specs/` say when entries fit a circuit and models
 //! (Fitting). The crate has laws alone: its functions compute nothing. They say:
 //!
 //! - each machine of the cut has a number in the plan (`seats_known`), which it shares with none if no bridge takes its place

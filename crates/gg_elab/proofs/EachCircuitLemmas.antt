@@ -10,19 +10,19 @@ use Rattle.gg_ast.specs.declared.statement.StmtKind.{StmtKind}
 use Rattle.gg_ast.specs.declared.statement.StmtKind.TheVariants as says
 use Rattle.gg_ast.specs.Places.{place_of}
 use Rattle.gg_ast.specs.Tree.{CircuitTree, ModuleTree, module_names}
-use Rattle.gg_count.specs.Sites.{Site, module_at, sites_of}
+use Rattle.gg_elab_count.specs.Sites.{Site, module_at, sites_of}
 use Rattle.gg_flat.specs.declared.memory.Memory.{Memory}
 use Rattle.gg_flat.specs.Circuit.{FlatCircuit}
 use Rattle.gg_flat.specs.Line.{shape_at}
-use Rattle.gg_formed.specs.Fitting.{AreFitting}
+use Rattle.gg_elab_laws.specs.Fitting.{AreFitting}
 use Rattle.gg_types.specs.Clocks.{clock_inputs}
 use Rattle.gg_types.specs.Types.{type_faults}
-use Rattle.gg_flattened.specs.Flat.{FlatMemory, FlatSignal, flat_memories, flat_memory, flat_signals, memories_at, stop_paths}
-use Rattle.gg_flattened.specs.IsFlat.{IsFlat, bindings_of, memory_paths, number_of, port_names, reader_of, signals_of, top_ports, writer_of}
-use Rattle.gg_flattened.specs.Known.{types_of}
-use Rattle.gg_flattened.specs.Meaning.{Bindings}
-use Rattle.gg_flattened.specs.Memories.{Bank, bank_of}
-use Rattle.gg_flattened.specs.Signals.{OwnBank, bank_of_kind, own_bank, own_banks}
+use Rattle.gg_elab_sites.specs.Flat.{FlatMemory, FlatSignal, flat_memories, flat_memory, flat_signals, memories_at, stop_paths}
+use Rattle.gg_elab_sites.specs.IsFlat.{IsFlat, bindings_of, memory_paths, number_of, port_names, reader_of, signals_of, top_ports, writer_of}
+use Rattle.gg_elab_sites.specs.Known.{types_of}
+use Rattle.gg_elab_sites.specs.Meaning.{Bindings}
+use Rattle.gg_elab_sites.specs.Memories.{Bank, bank_of}
+use Rattle.gg_elab_sites.specs.Signals.{OwnBank, bank_of_kind, own_bank, own_banks}
 use Rattle.gg_elab.specs.Building.{HasMemories}
 use Rattle.gg_elab.proofs.EachSignalLemmas.{Built, all-built, none-built}
 use Rattle.gg_elab.proofs.SizedLemmas.{IsSized, WordSized, bank-sized, shape-sized, signals-sized, type_of}

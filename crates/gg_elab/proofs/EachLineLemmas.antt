@@ -19,13 +19,13 @@ use Rattle.gg_flat.specs.Reads.{Names}
 use Rattle.gg_flat_tree.specs.Tree.{joined}
 use Rattle.gg_flat.proofs.ListLemmas.{Contains-cases}
 use Rattle.gg_flat.proofs.TypedLemmas.{pattern_of-lt}
-use Rattle.gg_names.specs.Scope.{written}
+use Rattle.gg_shape_names.specs.Scope.{written}
 use Rattle.gg_types.specs.Literal.{literal_fits, literal_number, literal_value}
 use Rattle.gg_types.specs.Types.{is_width, literal_shape}
 use Rattle.gg_types.proofs.WidthLemmas.{answer-wide}
-use Rattle.gg_flattened.specs.Connection.{Connection, ConnectedTo, Zeroed}
-use Rattle.gg_flattened.specs.IsFlat.{IsConditionOf, IsLineFor, IsLineOf}
-use Rattle.gg_flattened.specs.Meaning.{Context, named, named_if, takes, term_shape}
+use Rattle.gg_elab_sites.specs.Connection.{Connection, ConnectedTo, Zeroed}
+use Rattle.gg_elab_sites.specs.IsFlat.{IsConditionOf, IsLineFor, IsLineOf}
+use Rattle.gg_elab_sites.specs.Meaning.{Context, named, named_if, takes, term_shape}
 use Rattle.gg_elab.specs.Growing.{Added, IsCut, IsResultNode, IsZeroNode, IsZeroOf}
 use Rattle.gg_elab.proofs.LineLemmas.{added_fix, added_literal, added_mux, added_no_literal, added_nothing, added_one, added_reference, added_two}
 use Rattle.gg_elab.proofs.SizedLemmas.{IsSized, one-bit, type_of}

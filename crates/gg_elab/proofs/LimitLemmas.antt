@@ -2,14 +2,14 @@
 use Rattle.std.proofs.Common.{◌≡◌, ℕ, suc, ◌+◌, ◌<◌, List, [], ◌∷◌, length, map, get_or, Option, Some, refl, sym, ap, ◌∙◌, arith}
 use Rattle.std.proofs.lemmas.List.{length-map}
 use Rattle.gg_ast.specs.Tree.{ModuleTree}
-use Rattle.gg_count.specs.declared.counts.Counts.{Counts}
-use Rattle.gg_count.specs.declared.counts.Excess.{Excess}
-use Rattle.gg_count.specs.Counts.{counts_of, first_excess}
-use Rattle.gg_count.specs.Sites.{module_at}
-use Rattle.gg_flattened.specs.declared.digest.Digest.{Digest}
+use Rattle.gg_elab_count.specs.declared.counts.Counts.{Counts}
+use Rattle.gg_elab_count.specs.declared.counts.Excess.{Excess}
+use Rattle.gg_elab_count.specs.Counts.{counts_of, first_excess}
+use Rattle.gg_elab_count.specs.Sites.{module_at}
+use Rattle.gg_elab_sites.specs.declared.digest.Digest.{Digest}
 use Rattle.gg_elab.specs.Limits.{own_counts, excess_over}
-use Rattle.gg_flattened.specs.Signals.{Types, own_signals}
-use Rattle.gg_flattened.specs.Views.{own_of, AreDigests}
+use Rattle.gg_elab_sites.specs.Signals.{Types, own_signals}
+use Rattle.gg_elab_sites.specs.Views.{own_of, AreDigests}
 
 counted-from : (types : Types) (k : ℕ) (rest : List ModuleTree) (ds : List Digest) → length ds ≡ length rest → ((j : ℕ) (any : Digest) → j < length rest → length (get_or ds j any).signals.items ≡ length (own_signals types (k + j) (module_at rest j))) → map (λ d. length d.signals.items) ds ≡ own_counts types k rest
 counted-from types k [] [] count each = refl

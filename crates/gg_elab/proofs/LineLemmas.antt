@@ -25,8 +25,8 @@ use Rattle.gg_flat.specs.Reads.{Names}
 use Rattle.gg_flat.proofs.NameLemmas.{Names-push, Names-new, Names-push_cases}
 use Rattle.gg_types.specs.Literal.{literal_value}
 use Rattle.gg_types.specs.Types.{literal_shape}
-use Rattle.gg_flattened.specs.Lines.{Laid, laid_node, laid, with_laid, with_number, with_signal, with_literal, with_result, with_term, last_of}
-use Rattle.gg_flattened.specs.Meaning.{Context, named, accepted, term_shape, term_value, TermNames}
+use Rattle.gg_elab_sites.specs.Lines.{Laid, laid_node, laid, with_laid, with_number, with_signal, with_literal, with_result, with_term, last_of}
+use Rattle.gg_elab_sites.specs.Meaning.{Context, named, accepted, term_shape, term_value, TermNames}
 use Rattle.gg_elab.specs.Growing.{IsZeroNode, IsResultNode, HaveShapes, StandsFor, Added}
 
 -- ---- lists

@@ -6,7 +6,7 @@ use Rattle.gg_ast.specs.Term.{Term}
 use Rattle.gg_flat.specs.declared.line.Node.{Node}
 use Rattle.gg_elab.specs.declared.expression.Stand.{Stand}
 use Rattle.gg_elab.specs.Growing.{IsPlaced, Added}
-use Rattle.gg_flattened.specs.Meaning.{Context, term_shape}
+use Rattle.gg_elab_sites.specs.Meaning.{Context, term_shape}
 use Rattle.gg_elab.proofs.LineLemmas.{shape_at-last}
 
 pub placed-weaker : {E : Type 0} (r : Result Stand E) (P Q : Node → Type 0) (old new : List Node) → ((n : Node) → P n → Q n) → IfOk r (λ s. IsPlaced P old new s) → IfOk r (λ s. IsPlaced Q old new s)

@@ -7,9 +7,9 @@ use Rattle.gg_ast.specs.declared.expression.Reference.{Reference}
 use Rattle.gg_ast.specs.Places.{place_of}
 use Rattle.gg_ast.proofs.NamePlaces.{place_of-below}
 use Rattle.gg_flat_tree.specs.Tree.{joined}
-use Rattle.gg_names.specs.Scope.{written}
-use Rattle.gg_flattened.specs.Meaning.{Context, named, named_if}
-use Rattle.gg_flattened.proofs.NameLemmas.{Differ, place_of-at, place_of-missing}
+use Rattle.gg_shape_names.specs.Scope.{written}
+use Rattle.gg_elab_sites.specs.Meaning.{Context, named, named_if}
+use Rattle.gg_elab_sites.proofs.NameLemmas.{Differ, place_of-at, place_of-missing}
 
 -- the answer of a search for a path is the path's place
 pub found-path : (paths : List (List ℕ)) (path : List ℕ) (r : Option ℕ) → Differ paths → IfSome r (λ s. slice_get paths s ≡ Some path) → IfNone r (¬ Contains paths path) → r ≡ place_of path paths

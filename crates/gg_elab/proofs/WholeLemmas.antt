@@ -9,7 +9,7 @@ use Rattle.std.proofs.lemmas.Simd.{map-map}
 use Rattle.gg_ast.specs.declared.module.Direction.{Direction}
 use Rattle.gg_ast.specs.declared.module.Port.{Port}
 use Rattle.gg_ast.specs.Tree.{ModuleTree}
-use Rattle.gg_count.specs.Sites.{Site, module_at, all_sites, sites_from}
+use Rattle.gg_elab_count.specs.Sites.{Site, module_at, all_sites, sites_from}
 use Rattle.gg_flat.specs.declared.memory.Memory.{Memory}
 use Rattle.gg_bits.specs.Shape.{Shape, shape}
 use Rattle.gg_flat.specs.declared.piece.Driver.TheVariants.{Input}
@@ -18,19 +18,19 @@ use Rattle.gg_flat.specs.declared.piece.Signal.{Signal}
 use Rattle.gg_flat.specs.Circuit.{FlatCircuit, signal_shapes, driver_at}
 use Rattle.gg_flat.specs.Line.{shape_at, HasType}
 use Rattle.gg_flat.specs.WellFormed.{IsRegister}
-use Rattle.gg_formed.specs.Fitting.{FitsDriver, AreFitting}
+use Rattle.gg_elab_laws.specs.Fitting.{FitsDriver, AreFitting}
 use Rattle.gg_elab.specs.Building.{IsSoFar, HasMemories}
 use Rattle.gg_flat_tree.specs.Tree.{joined}
 use Rattle.gg_types.specs.Clocks.{clock_inputs}
-use Rattle.gg_flattened.specs.declared.digest.Digest.{Digest}
-use Rattle.gg_flattened.specs.declared.sites.Place.{Place}
-use Rattle.gg_flattened.specs.declared.stops.OwnStop as kept_stop
-use Rattle.gg_flattened.specs.Flat.{FlatSignal, FlatMemory, flat_signals, flat_memories, stop_paths, stop_paths_at}
-use Rattle.gg_flattened.specs.IsFlat.{IsFlatOf, IsMemoryOf, signals_of, memory_paths, number_of, port_name, port_names, top_ports}
-use Rattle.gg_flattened.specs.Meaning.{Signals, Bindings}
-use Rattle.gg_flattened.specs.Signals.{OwnStop, Types}
-use Rattle.gg_flattened.specs.Views.{IsDigest, own_stop_of, site_of}
-use Rattle.gg_flattened.proofs.FlatLemmas.{one_more}
+use Rattle.gg_elab_sites.specs.declared.digest.Digest.{Digest}
+use Rattle.gg_elab_sites.specs.declared.sites.Place.{Place}
+use Rattle.gg_elab_sites.specs.declared.stops.OwnStop as kept_stop
+use Rattle.gg_elab_sites.specs.Flat.{FlatSignal, FlatMemory, flat_signals, flat_memories, stop_paths, stop_paths_at}
+use Rattle.gg_elab_sites.specs.IsFlat.{IsFlatOf, IsMemoryOf, signals_of, memory_paths, number_of, port_name, port_names, top_ports}
+use Rattle.gg_elab_sites.specs.Meaning.{Signals, Bindings}
+use Rattle.gg_elab_sites.specs.Signals.{OwnStop, Types}
+use Rattle.gg_elab_sites.specs.Views.{IsDigest, own_stop_of, site_of}
+use Rattle.gg_elab_sites.proofs.FlatLemmas.{one_more}
 
 -- what a circuit's names stand for by its types, its signals and the paths of its memories
 abbrev bound : Types → Signals → List (List ℕ) → Bindings

@@ -9,13 +9,13 @@ use Rattle.gg_flat.specs.declared.memory.Memory.{Memory}
 use Rattle.gg_flat.specs.Circuit.{FlatCircuit, signal_shapes, driver_at}
 use Rattle.gg_flat.specs.Line.{shape_at, HasType}
 use Rattle.gg_flat.specs.WellFormed.{IsRegister}
-use Rattle.gg_formed.specs.Fitting.{FitsDriver}
-use Rattle.gg_flattened.specs.declared.digest.OwnMemory.{OwnMemory}
-use Rattle.gg_flattened.specs.Flat.{Drive, Outside, Gets, Holds, Answers, FlatSignal, FlatMemory, flat_memory}
-use Rattle.gg_flattened.specs.IsFlat.{IsComputed, IsRegisterOf, IsDriven, answer, number_of, is_outside, is_register, count_before, IsMemoryOf}
-use Rattle.gg_flattened.specs.Meaning.{Bindings, in_scope}
-use Rattle.gg_flattened.specs.Known.{types_of}
-use Rattle.gg_flattened.specs.Views.{own_bank_of, site_of, table_bindings}
+use Rattle.gg_elab_laws.specs.Fitting.{FitsDriver}
+use Rattle.gg_elab_sites.specs.declared.digest.OwnMemory.{OwnMemory}
+use Rattle.gg_elab_sites.specs.Flat.{Drive, Outside, Gets, Holds, Answers, FlatSignal, FlatMemory, flat_memory}
+use Rattle.gg_elab_sites.specs.IsFlat.{IsComputed, IsRegisterOf, IsDriven, answer, number_of, is_outside, is_register, count_before, IsMemoryOf}
+use Rattle.gg_elab_sites.specs.Meaning.{Bindings, in_scope}
+use Rattle.gg_elab_sites.specs.Known.{types_of}
+use Rattle.gg_elab_sites.specs.Views.{own_bank_of, site_of, table_bindings}
 use Rattle.gg_elab.specs.declared.site.Site.{Site}
 
 -- A driver and a register, if there is one, are made for a signal with this drive.

@@ -11,10 +11,10 @@ use Rattle.gg_flat.specs.Line.{shape_at, value_at, shapes_of, op_at, HasShape, H
 use Rattle.gg_flat.specs.Reads.{Names}
 use Rattle.gg_elab.specs.declared.expression.Stand.{Stand}
 use Rattle.gg_elab.specs.declared.scope.Scope as kept
-use Rattle.gg_flattened.specs.Known.{types_of}
-use Rattle.gg_flattened.specs.Lines.{laid, with_term}
-use Rattle.gg_flattened.specs.Meaning.{Context, in_scope, term_shape, term_value, TermNames}
-use Rattle.gg_flattened.specs.Views.{table_bindings}
+use Rattle.gg_elab_sites.specs.Known.{types_of}
+use Rattle.gg_elab_sites.specs.Lines.{laid, with_term}
+use Rattle.gg_elab_sites.specs.Meaning.{Context, in_scope, term_shape, term_value, TermNames}
+use Rattle.gg_elab_sites.specs.Views.{table_bindings}
 
 -- where an expression is written, with what its names stand for
 abbrev pub context_of : kept.Scope → Context

@@ -1,12 +1,12 @@
 -- Which count of a circuit is above its limit, if any.
--- Source: this program's own; the counts and the limits are gg_count's.
+-- Source: this program's own; the counts and the limits are gg_elab_count's.
 use Rattle.std.specs.Prelude.{◌≡◌, ℕ, suc, List, [], ◌∷◌, Option, Some, None, Result, Ok, Err, length}
 use Rattle.gg_ast.specs.Tree.{ModuleTree}
-use Rattle.gg_count.specs.declared.counts.Excess.{Excess}
-use Rattle.gg_count.specs.Counts.{counts_of, first_excess}
+use Rattle.gg_elab_count.specs.declared.counts.Excess.{Excess}
+use Rattle.gg_elab_count.specs.Counts.{counts_of, first_excess}
 use Rattle.gg_elab.specs.declared.fault.ElabFault.{ElabFault}
 use Rattle.gg_elab.specs.declared.fault.ElabFault.TheVariants.{TooLarge, NoMemory}
-use Rattle.gg_flattened.specs.Signals.{Types, own_signals}
+use Rattle.gg_elab_sites.specs.Signals.{Types, own_signals}
 
 -- the number of own signals of each module, from place k on
 abbrev pub own_counts : Types → ℕ → List ModuleTree → List ℕ

@@ -2,27 +2,27 @@
 ghost use Rattle.std.specs.Prelude.{◌≡◌, ◌≢◌, ◌<◌, ◌^◌, length, map, Some, None, Err, IfOk};
 ghost use Rattle.gg_ast.specs.Places.{place_of};
 ghost use Rattle.gg_ast.specs.Tree.{module_names};
-ghost use Rattle.gg_flattened.specs.Views.{AreDigests};
-ghost use Rattle.gg_flattened.specs.IsFlat.{IsFlat, IsFlatWith};
-ghost use Rattle.gg_formed.specs.Fitting.{AreFitting};
-ghost use Rattle.gg_formed.specs.Held.{AreHeldOnce};
+ghost use Rattle.gg_elab_sites.specs.Views.{AreDigests};
+ghost use Rattle.gg_elab_sites.specs.IsFlat.{IsFlat, IsFlatWith};
+ghost use Rattle.gg_elab_laws.specs.Fitting.{AreFitting};
+ghost use Rattle.gg_elab_laws.specs.Held.{AreHeldOnce};
 ghost use Rattle.gg_flat_tree.specs.Clocked.{IsClocked};
 ghost use Rattle.gg_flat_tree.specs.Scoped.{IsScoped};
 ghost use Rattle.gg_flat_tree.specs.Tree.{IsTree};
 ghost use Rattle.gg_flat.specs.WellFormed.{IsWellFormed};
-ghost use Rattle.gg_tree.specs.IsTreeOf.{IsTreeOf};
-ghost use Rattle.gg_flattened.specs.Known.{types_of};
+ghost use Rattle.gg_elab_tree.specs.IsTreeOf.{IsTreeOf};
+ghost use Rattle.gg_elab_sites.specs.Known.{types_of};
 ghost use Rattle.gg_elab.specs.Limits.{excess_over, IsAnswered};
 
 use crate::build::add_sites;
 use crate::fault::ElabFault;
 use crate::ports::{add_all_memories, add_ports, add_stops};
-use gg_count::count;
+use gg_elab_count::count;
+use gg_elab_laws::{distinct, formed, top_of};
+use gg_elab_sites::{Digest, Place, clock_count, digests, places, table_of};
+use gg_elab_tree::{fits, tree_of};
 use gg_flat::Piece;
 use gg_flat_tree::Tree;
-use gg_flattened::{Digest, Place, clock_count, digests, places, table_of};
-use gg_formed::{distinct, formed, top_of};
-use gg_tree::{fits, tree_of};
 use gg_types::Typed;
 use std::alloc::{AllocError, Global};
 

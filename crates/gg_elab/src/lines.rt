@@ -3,18 +3,18 @@ ghost use Rattle.std.specs.Prelude.{◌≡◌, Some, None, IfOk, OnOk};
 ghost use Rattle.gg_bits.specs.Shape.{shape};
 ghost use Rattle.gg_flat.specs.Line.{HasType, IsSource, IsCondition};
 ghost use Rattle.gg_elab.specs.Growing.{context_of, IsCut, IsZeroOf};
-ghost use Rattle.gg_flattened.specs.IsFlat.{IsLineFor, IsLineOf, IsConditionOf};
+ghost use Rattle.gg_elab_sites.specs.IsFlat.{IsLineFor, IsLineOf, IsConditionOf};
 ghost use Rattle.gg_bits.specs.ResultType.{is_condition};
-ghost use Rattle.gg_flattened.specs.Meaning.{takes as takes_shape};
-ghost use Rattle.gg_flattened.specs.Views.{seen, connection};
-ghost use Rattle.gg_flattened.specs.Connection.{Zeroed};
+ghost use Rattle.gg_elab_sites.specs.Meaning.{takes as takes_shape};
+ghost use Rattle.gg_elab_sites.specs.Views.{seen, connection};
+ghost use Rattle.gg_elab_sites.specs.Connection.{Zeroed};
 
 use crate::expression::add_expression;
 use crate::scope::Scope;
 use gg_ast::Expr;
 use gg_bits::{Kind, Ty, Val};
+use gg_elab_sites::Source;
 use gg_flat::{Line, Node, Op};
-use gg_flattened::Source;
 use std::alloc::{AllocError, Global};
 
 // Whether a sink of the first type can take a value of the second.

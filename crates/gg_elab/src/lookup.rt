@@ -1,12 +1,12 @@
 //! The signal that a reference names.
 ghost use Rattle.std.specs.Prelude.{◌≡◌, IfOk};
-ghost use Rattle.gg_flattened.specs.Meaning.{named};
+ghost use Rattle.gg_elab_sites.specs.Meaning.{named};
 ghost use Rattle.gg_elab.specs.Growing.{context_of};
 
 use crate::scope::Scope;
 use gg_ast::Reference;
-use gg_flattened::{joined, value_type};
-use gg_names::written;
+use gg_elab_sites::{joined, value_type};
+use gg_shape_names::written;
 use std::alloc::{AllocError, Global};
 
 // The signal that a reference names, by its number.

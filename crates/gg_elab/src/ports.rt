@@ -1,24 +1,24 @@
 //! The memories, the ports and the stops of the flat circuit.
 ghost use Rattle.std.specs.Prelude.{◌≡◌, ◌<◌, ◌++◌, ◌∷◌, [], List, map, length, All, IfOk, OnOk};
 ghost use Rattle.gg_ast.specs.declared.module.Direction.TheVariants as direction;
-ghost use Rattle.gg_count.specs.Sites.{module_at};
+ghost use Rattle.gg_elab_count.specs.Sites.{module_at};
 ghost use Rattle.gg_flat_tree.specs.Clocked.{clock_at as clock_at_number};
 ghost use Rattle.gg_flat_tree.specs.Tree.{joined as joined_text};
-ghost use Rattle.gg_flattened.specs.Clocks.{port_clock as clock_of_port, site_clocks};
-ghost use Rattle.gg_flattened.specs.Views.{IsPlaceIn, site_of, AreDigests};
+ghost use Rattle.gg_elab_sites.specs.Clocks.{port_clock as clock_of_port, site_clocks};
+ghost use Rattle.gg_elab_sites.specs.Views.{IsPlaceIn, site_of, AreDigests};
 ghost use Rattle.gg_elab.specs.Building.{HasMemories, memory_of};
-ghost use Rattle.gg_flattened.specs.Flat.{FlatMemory, flat_memories, stop_paths};
-ghost use Rattle.gg_flattened.specs.IsFlat.{IsMemoryOf, reader_of, writer_of, number_of, field_number, port_names};
-ghost use Rattle.gg_flattened.specs.Known.{types_of};
+ghost use Rattle.gg_elab_sites.specs.Flat.{FlatMemory, flat_memories, stop_paths};
+ghost use Rattle.gg_elab_sites.specs.IsFlat.{IsMemoryOf, reader_of, writer_of, number_of, field_number, port_names};
+ghost use Rattle.gg_elab_sites.specs.Known.{types_of};
 
 use crate::site::Site;
 use gg_ast::{Direction, Port};
 use gg_bits::Name;
-use gg_flat::{Memory, Paths, Piece, Reader, Readers, Writer, Writers};
-use gg_flat_tree::clock_at;
-use gg_flattened::{
+use gg_elab_sites::{
     Digest, OwnMemory, OwnStop, Place, Table, field_name, ground_type, joined, number, port_clock,
 };
+use gg_flat::{Memory, Paths, Piece, Reader, Readers, Writer, Writers};
+use gg_flat_tree::clock_at;
 use gg_types::Typed;
 use std::alloc::{AllocError, Global};
 

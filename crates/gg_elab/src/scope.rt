@@ -2,7 +2,7 @@
 ghost use Rattle.std.specs.Prelude.{◌≡◌, ◌<◌, length};
 
 use gg_bits::Name;
-use gg_flattened::Table;
+use gg_elab_sites::Table;
 use gg_types::Typed;
 
 // What gives an expression its meaning: what the type checks say, the circuit's signals, the site's path, and the

@@ -3,10 +3,10 @@ ghost use Rattle.std.specs.Prelude.{◌≡◌, length};
 ghost use Rattle.std.specs.Coded.{codes, Coded-set};
 ghost use Rattle.std.proofs.Props.{props};
 ghost use Rattle.gg_ast.specs.contracts.expression.Expr as expression;
-ghost use Rattle.gg_flattened.specs.Known.{types_of};
-ghost use Rattle.gg_flattened.specs.Views.{AreDigests, IsPlaceIn};
+ghost use Rattle.gg_elab_sites.specs.Known.{types_of};
+ghost use Rattle.gg_elab_sites.specs.Views.{AreDigests, IsPlaceIn};
 
-use gg_flattened::{Digest, Place, Table};
+use gg_elab_sites::{Digest, Place, Table};
 use gg_types::Typed;
 
 // A site, and what gives its signals their drivers: what the type checks say, the circuit's signals, and what each

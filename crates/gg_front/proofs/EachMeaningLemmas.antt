@@ -9,21 +9,21 @@ use Rattle.gg_flat.specs.Run.{opening_start}
 use Rattle.gg_flat.specs.WellFormed.{IsWellFormed}
 use Rattle.gg_flat_run.proofs.AlongLemmas.{IsRun-along}
 use Rattle.gg_flat_run.proofs.UniqueLemmas.{IsRunFrom-once}
-use Rattle.gg_names.specs.declared.fault.Repetition.{Repetition}
-use Rattle.gg_names.specs.Repetitions.{repetitions}
+use Rattle.gg_shape_names.specs.declared.fault.Repetition.{Repetition}
+use Rattle.gg_shape_names.specs.Repetitions.{repetitions}
 use Rattle.gg_order.specs.Design.{IsDesign, Ordered}
 use Rattle.gg_order.specs.Found.{found_order}
 use Rattle.gg_order.proofs.FoundLemmas.{found-is}
 use Rattle.gg_read.proofs.NamesSpelt.{circuit-named}
 use Rattle.gg_shape.specs.Shape.{missing_top, named_faults, repeated_name, repeated_names}
-use Rattle.gg_flattened.proofs.NameLemmas.{Differ}
-use Rattle.gg_tree.proofs.DeclaredLemmas.{append-none}
-use Rattle.gg_tree.proofs.EachTreeLemmas.{tree-there}
-use Rattle.gg_tree.proofs.ElementLemmas.{some-of}
-use Rattle.gg_formed.proofs.CircuitFormedLemmas.{circuit-formed}
-use Rattle.gg_formed.proofs.ModuleNameLemmas.{memory-paths-differ}
-use Rattle.gg_formed.proofs.SignalPathLemmas.{signal-paths-differ}
-use Rattle.gg_formed.proofs.TopLemmas.{has-top}
+use Rattle.gg_elab_sites.proofs.NameLemmas.{Differ}
+use Rattle.gg_elab_tree.proofs.DeclaredLemmas.{append-none}
+use Rattle.gg_elab_tree.proofs.EachTreeLemmas.{tree-there}
+use Rattle.gg_elab_tree.proofs.ElementLemmas.{some-of}
+use Rattle.gg_elab_laws.proofs.CircuitFormedLemmas.{circuit-formed}
+use Rattle.gg_elab_laws.proofs.ModuleNameLemmas.{memory-paths-differ}
+use Rattle.gg_elab_laws.proofs.SignalPathLemmas.{signal-paths-differ}
+use Rattle.gg_elab_laws.proofs.TopLemmas.{has-top}
 use Rattle.gg_elab.proofs.EachCircuitLemmas.{flat-there}
 use Rattle.gg_elab.proofs.FewStopLemmas.{few-within}
 use Rattle.gg_front.specs.Accepted.{IsAcceptedText}

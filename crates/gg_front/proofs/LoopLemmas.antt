@@ -4,7 +4,7 @@ use Rattle.std.specs.Prelude.{IfErr}
 use Rattle.std.specs.List.{All}
 use Rattle.std.proofs.lemmas.List.Elements.{All-cons}
 use Rattle.gg_ast.specs.Tree.{CircuitTree}
-use Rattle.gg_flattened.specs.IsFlat.{IsFlat}
+use Rattle.gg_elab_sites.specs.IsFlat.{IsFlat}
 use Rattle.gg_flat.specs.Circuit.{FlatCircuit}
 use Rattle.gg_flat.specs.Reads.{ReadsInTurn, IsLoop}
 use Rattle.gg_order.specs.Design.{Ordered}

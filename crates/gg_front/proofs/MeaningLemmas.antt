@@ -2,8 +2,8 @@
 use Rattle.std.proofs.Common.{◌≡◌, ℕ, List, None, Result, Ok, Err, sym, subst}
 use Rattle.std.specs.Prelude.{IfOk}
 use Rattle.gg_ast.specs.Tree.{CircuitTree}
-use Rattle.gg_flattened.specs.IsFlat.{IsFlat}
-use Rattle.gg_tree.specs.IsTreeOf.{IsTreeOf}
+use Rattle.gg_elab_sites.specs.IsFlat.{IsFlat}
+use Rattle.gg_elab_tree.specs.IsTreeOf.{IsTreeOf}
 use Rattle.gg_flat.specs.Circuit.{FlatCircuit}
 use Rattle.gg_flat.specs.Reads.{IsLoop}
 use Rattle.gg_flat_tree.specs.Tree.{InstanceTree}

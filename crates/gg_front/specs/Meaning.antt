@@ -2,8 +2,8 @@
 -- and an order. The bytes mean at most one flat circuit and one tree.
 -- Source: FIRRTL Specification, as the crates cite it that read, check and flatten a circuit.
 use Rattle.std.specs.Prelude.{◌≡◌, ℕ, List}
-use Rattle.gg_flattened.specs.IsFlat.{IsFlat}
-use Rattle.gg_tree.specs.IsTreeOf.{IsTreeOf}
+use Rattle.gg_elab_sites.specs.IsFlat.{IsFlat}
+use Rattle.gg_elab_tree.specs.IsTreeOf.{IsTreeOf}
 use Rattle.gg_flat.specs.Circuit.{FlatCircuit}
 use Rattle.gg_flat.specs.Run.{IsColumns, IsRun}
 use Rattle.gg_flat.specs.WellFormed.{IsWellFormed}

@@ -23,7 +23,7 @@ pub fn one_meaning()
     ensures tree { (bytes : List ℕ) (one other : Ordered) → MeansDesign bytes one → MeansDesign bytes other → one.tree ≡ other.tree }
 {
     one_circuit();
-    gg_flattened::one_flat();
+    gg_elab_sites::one_flat();
 }
 
 /// The bytes of an accepted circuit mean a design: a well-formed flat circuit, the tree of its instances and an order.

@@ -2,14 +2,14 @@
 ghost use Rattle.std.specs.Prelude.{◌≡◌, ◌↔◌, ◌+◌, ◌-◌, ◌*◌, ◌<◌, suc, List, Option, Some, length, map, IsPermutation};
 ghost use Rattle.gg_flat.specs.Streams.{Flow};
 ghost use Rattle.gg_net.specs.declared.event.Event.{Event};
-ghost use Rattle.gg_marking.specs.Marking.{Layout, opening_marking};
-ghost use Rattle.gg_progress.specs.Counts.{Counts, counts_of, HasBegun, IsAllowed, AreAtMost, AreSame, CanRun, IsMarkingOf};
-ghost use Rattle.gg_progress.specs.Measure.{left, sum_below};
+ghost use Rattle.gg_net_marking.specs.Marking.{Layout, opening_marking};
+ghost use Rattle.gg_net_progress.specs.Counts.{Counts, counts_of, HasBegun, IsAllowed, AreAtMost, AreSame, CanRun, IsMarkingOf};
+ghost use Rattle.gg_net_progress.specs.Measure.{left, sum_below};
 ghost use Rattle.gg_net.specs.Network.{Network, Frame, frame_of};
 ghost use Rattle.gg_net.specs.Kept.{Kept, IsSound};
 ghost use Rattle.gg_net.specs.Step.{Ready, Step};
-ghost use Rattle.gg_marking.specs.Steps.{Steps};
-ghost use Rattle.gg_marking.specs.Fits.{HasLayout, marking_of};
+ghost use Rattle.gg_net_marking.specs.Steps.{Steps};
+ghost use Rattle.gg_net_marking.specs.Fits.{HasLayout, marking_of};
 ghost use Rattle.gg_measure.specs.At.{IsAt};
 ghost use Rattle.gg_measure.specs.Nets.{AllStandAt, AreDrained, HaveKept, dues_at, net_left};
 

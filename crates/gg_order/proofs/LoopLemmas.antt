@@ -11,8 +11,8 @@ use Rattle.gg_flat.specs.Circuit.{FlatCircuit}
 use Rattle.gg_flat.specs.Reads.{Reads, ReadsInTurn, IsLoop}
 use Rattle.gg_flat.specs.Order.{IsOrder}
 use Rattle.gg_flat_tree.specs.Tree.{path_at}
-use Rattle.gg_walk.specs.Graph.{GoesTo, IsOrderOf, IsRing}
-use Rattle.gg_walk.proofs.RotationLemmas.{IsRing-rotate}
+use Rattle.gg_graph.specs.Graph.{GoesTo, IsOrderOf, IsRing}
+use Rattle.gg_graph.proofs.RotationLemmas.{IsRing-rotate}
 use Rattle.gg_order.specs.Loop.{IsBefore, IsToldLoop}
 
 -- ---- an order of the graph is an order of the circuit, and a ring is a loop

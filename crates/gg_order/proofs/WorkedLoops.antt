@@ -10,7 +10,7 @@ use Rattle.gg_flat.proofs.NameLemmas.{Contains-one}
 use Rattle.gg_flat.proofs.WorkedCircuits.{eight, node}
 use Rattle.gg_flat.proofs.WorkedForms.{three, apart}
 use Rattle.gg_flat.proofs.WorkedMemories.{copy}
-use Rattle.gg_walk.proofs.WorkedRows.{distinct}
+use Rattle.gg_graph.proofs.WorkedRows.{distinct}
 use Rattle.gg_order.specs.Loop.{IsBefore, IsToldLoop}
 
 -- ---- three signals that read each other, and one that reads one of them

@@ -4,7 +4,7 @@ ghost use Rattle.gg_flat.specs.Reads.{Names, NamesSignal};
 ghost use Rattle.gg_order.specs.Places.{NamesBelow};
 
 use gg_flat::{Driver, Node, Op, Piece};
-use gg_walk::{Graph, Target};
+use gg_graph::{Graph, Target};
 use std::marker::Model;
 
 // What the signals of a well-formed circuit read. A contract sees the circuit.

@@ -5,7 +5,7 @@ ghost use Rattle.gg_flat.specs.Line.{value_at};
 ghost use Rattle.gg_flat.specs.Reads.{Reads};
 ghost use Rattle.gg_flat_tree.specs.Tree.{path_at};
 ghost use Rattle.gg_flat.specs.WellFormed.{IsWellFormed};
-ghost use Rattle.gg_walk.specs.Graph.{IsRing};
+ghost use Rattle.gg_graph.specs.Graph.{IsRing};
 ghost use Rattle.gg_order.specs.Loop.{IsBefore, IsToldLoop};
 
 use gg_bits::{Ids, Name};

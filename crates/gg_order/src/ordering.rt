@@ -12,7 +12,7 @@ use crate::loops::told;
 use gg_bits::Ids;
 use gg_flat::Piece;
 use gg_flat_run::no_loop;
-use gg_walk::{WalkFault, walk};
+use gg_graph::{WalkFault, walk};
 use std::alloc::Global;
 
 /// An order of evaluation: the signals of a circuit by their numbers, each once, after all that it reads.

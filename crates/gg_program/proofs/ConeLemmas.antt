@@ -15,7 +15,7 @@ use Rattle.gg_flat_run.proofs.AgreeLemmas.{driver_value-agree}
 use Rattle.gg_flat_run.proofs.AlongLemmas.{Settled-along}
 use Rattle.gg_part.specs.InOrder.{IsInOrder}
 use Rattle.gg_part.proofs.AlongLemmas.{IsOrder-numbers}
-use Rattle.gg_needs.proofs.ReachLemmas.{Reaches-itself, Reaches-on, Reaches-within}
+use Rattle.gg_part_needs.proofs.ReachLemmas.{Reaches-itself, Reaches-on, Reaches-within}
 use Rattle.gg_program.specs.ConeValue.{HasNeeds, MaySettle, IsConeValue}
 use Rattle.gg_program.specs.Slots.{inputs_in}
 use Rattle.gg_program.specs.Right.{AreRight}

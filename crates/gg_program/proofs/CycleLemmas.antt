@@ -17,7 +17,7 @@ use Rattle.gg_flat.specs.Settled.{Settled, in_shapes}
 use Rattle.gg_flat.proofs.TypedLemmas.{shape_at-in_shapes, AreTyped-zeros, AreTyped-set}
 use Rattle.gg_part.specs.InOrder.{IsInOrder}
 use Rattle.gg_order.specs.Marks.{is_marked}
-use Rattle.gg_needs.proofs.ReachLemmas.{Reaches-on, Reaches-within, along-reaches}
+use Rattle.gg_part_needs.proofs.ReachLemmas.{Reaches-on, Reaches-within, along-reaches}
 use Rattle.gg_program.specs.Slots.{Slotted, IsDone, NoneDone, AreSlots, HasInput, HasInputs, HasNeeded, with_input, inputs_in, DoneWith}
 use Rattle.gg_program.specs.Right.{AreRight, InCycle, IsInner}
 use Rattle.gg_program.specs.Search.{Searched, IsGathered, IsFull, StandBehind}

@@ -10,10 +10,10 @@ use Rattle.gg_ast.specs.Rows.{rows_of, register_rows, kind_rows}
 use Rattle.gg_ast.specs.declared.module.GroundType.{GroundType}
 use Rattle.gg_ast.specs.Term.{Term}
 use Rattle.gg_ast.specs.Tree.{CircuitTree}
-use Rattle.gg_row.specs.declared.cursor.RowFault.{RowFault}
+use Rattle.gg_read_row.specs.declared.cursor.RowFault.{RowFault}
 use Rattle.gg_read.specs.declared.stage.OpenRegister.{OpenRegister}
 use Rattle.gg_read.specs.declared.stage.Stage.{Stage}
-use Rattle.gg_row.specs.LineRows.{statement_row}
+use Rattle.gg_read_row.specs.LineRows.{statement_row}
 use Rattle.gg_read.specs.Text.{is_version, without_version, place_after, after_statement}
 use Rattle.gg_read.specs.Stages.{stage_place, open_row, reset_row, Advances}
 

@@ -10,9 +10,9 @@ use Rattle.gg_lex.specs.Lines.{Lexes}
 use Rattle.gg_lex.proofs.EveryLine.{every_line}
 use Rattle.gg_ast.specs.Row.{Row}
 use Rattle.gg_ast.specs.Tree.{CircuitTree}
-use Rattle.gg_row.specs.Reading.{row_at}
-use Rattle.gg_row.proofs.RowLaws.{spelt-row_at}
-use Rattle.gg_row.proofs.RowsSpelt.{row-spells}
+use Rattle.gg_read_row.specs.Reading.{row_at}
+use Rattle.gg_read_row.proofs.RowLaws.{spelt-row_at}
+use Rattle.gg_read_row.proofs.RowsSpelt.{row-spells}
 use Rattle.gg_read.specs.declared.stage.Stage.{Stage}
 use Rattle.gg_read.specs.declared.stage.Stage.TheVariants.{Start, Version, Header, Ports, Statements, Fields, Open}
 use Rattle.gg_read.specs.Stages.{stage_place, HasRead}

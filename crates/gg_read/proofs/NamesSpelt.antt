@@ -15,9 +15,9 @@ use Rattle.gg_ast.specs.Rows.{field_row, kind_rows, module_rows, port_row, regis
 use Rattle.gg_ast.specs.Term.{Term}
 use Rattle.gg_ast.specs.Tree.{CircuitTree, ModuleTree}
 use Rattle.gg_lex.specs.declared.token.Tok.{Tok}
-use Rattle.gg_row.specs.declared.row.LineRow.TheVariants as line
-use Rattle.gg_row.specs.Forms.{SpellsRow}
-use Rattle.gg_row.proofs.NamesSpelt.{line-named}
+use Rattle.gg_read_row.specs.declared.row.LineRow.TheVariants as line
+use Rattle.gg_read_row.specs.Forms.{SpellsRow}
+use Rattle.gg_read_row.proofs.NamesSpelt.{line-named}
 use Rattle.gg_read.specs.Text.{AreRows, LinePlace, LineTokens, Spells, is_version, without_version}
 
 -- ---- rows

@@ -9,16 +9,16 @@ use Rattle.std.proofs.Math.Seq.{take-length}
 use Rattle.gg_lex.specs.Lines.{Lexes}
 use Rattle.gg_ast.specs.Row.{Row, numbered}
 use Rattle.gg_ast.specs.Tree.{CircuitTree}
-use Rattle.gg_row.specs.declared.cursor.RowFault.{RowFault}
-use Rattle.gg_row.specs.declared.cursor.RowFault.TheVariants.{NoForm, NoMemory}
-use Rattle.gg_row.specs.declared.row.LineRow.{LineRow}
+use Rattle.gg_read_row.specs.declared.cursor.RowFault.{RowFault}
+use Rattle.gg_read_row.specs.declared.cursor.RowFault.TheVariants.{NoForm, NoMemory}
+use Rattle.gg_read_row.specs.declared.row.LineRow.{LineRow}
 use Rattle.gg_read.specs.declared.stage.Stage.{Stage}
 use Rattle.gg_read.specs.declared.stage.Stage.TheVariants.{Start, Version, Header, Ports, Statements, Fields, Open}
 use Rattle.gg_read.specs.declared.text.ReadFault.{ReadFault}
 use Rattle.gg_read.specs.declared.text.ReadFault.TheVariants as because
 use Rattle.gg_read.specs.Causes.{IsFaultOf}
-use Rattle.gg_row.specs.LineRows.{row_of, TellsRow}
-use Rattle.gg_row.specs.Forms.{SpellsRow}
+use Rattle.gg_read_row.specs.LineRows.{row_of, TellsRow}
+use Rattle.gg_read_row.specs.Forms.{SpellsRow}
 use Rattle.gg_read.specs.Stages.{stage_place, IsStage, Advances, Ends, HasRead, IsWholeRow, IsRowOf, IsRowStep, IsPlaced, IsMissed, IsFaulty, IsStep}
 use Rattle.gg_read.specs.Text.{LineTokens, IsTooDeep, IsBlank, IsFaultLine, HasNoFaultLine, Spells, HasReadFault, place_after}
 use Rattle.gg_read.proofs.LineSteps.{HasRead-row, HasRead-blank, HasRead-fault, HasRead-incomplete, HasRead-whole, HasRead-faultless, empty_shallow}

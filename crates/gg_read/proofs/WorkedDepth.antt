@@ -16,7 +16,7 @@ use Rattle.gg_ast.specs.declared.statement.StmtKind.TheVariants.{Node}
 use Rattle.gg_ast.specs.Row.{numbered, CircuitRow, ModuleRow, NodeRow}
 use Rattle.gg_ast.specs.Term.{Term, NamedTerm, UnaryTerm}
 use Rattle.gg_ast.specs.Tree.{CircuitTree}
-use Rattle.gg_row.specs.Forms.{SpellsExpr}
+use Rattle.gg_read_row.specs.Forms.{SpellsExpr}
 use Rattle.gg_read.specs.declared.text.ReadFault.TheVariants.{TooDeep}
 use Rattle.gg_read.specs.Text.{AfterCircuit, InPorts, InStatements, opened, closed, IsTooDeep, IsForm, Spells, HasReadFault}
 use Rattle.gg_read.proofs.WorkedForms.{text_of, holding, form, shallow}

@@ -8,17 +8,17 @@ use Rattle.gg_ast.specs.Names.{IsName, AreNamesOfTerm}
 use Rattle.gg_ast.specs.Row.{Row, Numbered, numbered, RegisterOpenRow, ResetRow}
 use Rattle.gg_ast.specs.Rows.{rows_of}
 use Rattle.gg_ast.specs.Tree.{CircuitTree, IsOpenToPorts, IsOpenToFields}
-use Rattle.gg_row.specs.declared.cursor.RowFault.{RowFault}
-use Rattle.gg_row.specs.declared.cursor.RowFault.TheVariants.{NoForm, NoMemory}
-use Rattle.gg_row.specs.declared.row.LineRow.{LineRow}
+use Rattle.gg_read_row.specs.declared.cursor.RowFault.{RowFault}
+use Rattle.gg_read_row.specs.declared.cursor.RowFault.TheVariants.{NoForm, NoMemory}
+use Rattle.gg_read_row.specs.declared.row.LineRow.{LineRow}
 use Rattle.gg_read.specs.declared.stage.OpenRegister.{OpenRegister}
 use Rattle.gg_read.specs.declared.stage.Stage.{Stage}
 use Rattle.gg_read.specs.declared.stage.Stage.TheVariants.{Start, Version, Header, Ports, Statements, Fields, Open}
 use Rattle.gg_read.specs.declared.text.ReadFault.{ReadFault}
 use Rattle.gg_read.specs.declared.text.ReadFault.TheVariants as because
 use Rattle.gg_read.specs.Causes.{IsFaultOf}
-use Rattle.gg_row.specs.Forms.{SpellsRow}
-use Rattle.gg_row.specs.LineRows.{row_of}
+use Rattle.gg_read_row.specs.Forms.{SpellsRow}
+use Rattle.gg_read_row.specs.LineRows.{row_of}
 use Rattle.gg_read.specs.Text.{IsBlank, IsForm, IsAtFault, IsTooDeep, AreShallow, LinePlace, AtStart, AfterVersion, AfterCircuit, InPorts, InStatements, InFields, AwaitsReset, LineTokens, AreLineTokens, AreRows, IsEndPlace, without_version, after_version, after_circuit, after_module, after_port, after_statement, after_open, after_memory, after_field, after_reset}
 
 -- the tokens and the bad place of a line

@@ -14,7 +14,7 @@ use Rattle.gg_ast.specs.Rows.{rows_of}
 use Rattle.gg_ast.specs.Tree.{CircuitTree}
 use Rattle.gg_read.specs.declared.text.ReadFault.{ReadFault}
 use Rattle.gg_read.specs.declared.text.ReadFault.TheVariants.{NotText, Syntax, Outside, TooDeep, NoMemory}
-use Rattle.gg_row.specs.Forms.{SpellsRow}
+use Rattle.gg_read_row.specs.Forms.{SpellsRow}
 
 -- what a line has: its tokens, up to the first byte that begins none, and that byte's place if there is one
 pub record LineTokens : Type 0 where

@@ -5,7 +5,7 @@
 //! causes that holds there. A text spells at most one circuit (`one_circuit`) and has at most one fault line
 //! (`one_fault_line`). A text that is UTF-8 has one of the two (`every_text`). It has both only if the line has too
 //! many open brackets (`spelt_but_too_deep`). The names of a circuit that a text spells are names (`spelt_names`). Only `NoMemory` has no cause in the text. What a single line spells is
-//! defined in gg_row.
+//! defined in gg_read_row.
 #![tactic(auto)]
 
 mod fault;

@@ -3,7 +3,7 @@ ghost use Rattle.std.specs.Prelude.{◌≡◌, ℕ, ◌+◌, ◌<◌, ◌≤◌,
 ghost use Rattle.std.specs.Str.{IsUtf8};
 ghost use Rattle.gg_ast.specs.Tree.{CircuitTree};
 ghost use Rattle.gg_read.specs.Causes.{IsFaultOf};
-ghost use Rattle.gg_row.specs.LineRows.{AreNamesOfLine};
+ghost use Rattle.gg_read_row.specs.LineRows.{AreNamesOfLine};
 ghost use Rattle.gg_read.specs.Stages.{line_of, IsStage, IsRowOf, IsPlaced, IsStep, IsMissed, TellsBlank};
 ghost use Rattle.gg_read.specs.Text.{LineTokens, IsFaultLine, HasNoFaultLine, Spells, HasReadFault};
 
@@ -12,7 +12,7 @@ use crate::stage::{Stage, advance, finish};
 use gg_ast::Circuit;
 use gg_bits::Name;
 use gg_lex::{LexedLine, Tok, lex};
-use gg_row::{LineRow, RowFault, read_row};
+use gg_read_row::{LineRow, RowFault, read_row};
 use std::alloc::Global;
 
 /// Why no circuit was read.

@@ -6,7 +6,7 @@ use Rattle.gg_net.specs.declared.event.Event.{Event}
 use Rattle.gg_net.specs.declared.shape.Wire.{Wire}
 use Rattle.gg_net.specs.Network.{Network, entered, opening_queue}
 use Rattle.gg_net.specs.Kept.{Kept, list_at}
-use Rattle.gg_marking.specs.Steps.{IsStep}
+use Rattle.gg_net_marking.specs.Steps.{IsStep}
 
 -- the log of these channels before the first cycle: the tokens with which they open
 abbrev pub opening_log : List Wire → List (List ℕ)

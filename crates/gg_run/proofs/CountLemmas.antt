@@ -5,16 +5,16 @@ use Rattle.std.specs.List.{prefix_len}
 use Rattle.std.proofs.lemmas.List.{drop_all, get_or-drop, length-drop}
 use Rattle.gg_order.specs.Design.{Ordered}
 use Rattle.gg_partfile.specs.declared.request.Request.{Request}
-use Rattle.gg_cut.specs.Bridges.{Models}
-use Rattle.gg_cut.specs.Direct.{Hub, plan_hub}
-use Rattle.gg_cut.specs.Listed.{listed_of}
-use Rattle.gg_cut.specs.Machines.{first_source}
-use Rattle.gg_cut.specs.Plan.{IsBody, IsPlan}
-use Rattle.gg_cut.specs.Seated.{first_bridge, first_kept_tray, open_ins, plan_bridges}
-use Rattle.gg_cut.specs.declared.listed.Listed.{Listed}
-use Rattle.gg_cut.specs.declared.plan.Body.{Body}
-use Rattle.gg_cut.specs.declared.plan.Body.TheVariants.{Cut, Memory, Source, Tray, Bridge}
-use Rattle.gg_cut.specs.declared.plan.Plan.{Plan}
+use Rattle.gg_cut_plan.specs.Bridges.{Models}
+use Rattle.gg_cut_plan.specs.Direct.{Hub, plan_hub}
+use Rattle.gg_cut_plan.specs.Listed.{listed_of}
+use Rattle.gg_cut_plan.specs.Machines.{first_source}
+use Rattle.gg_cut_plan.specs.Plan.{IsBody, IsPlan}
+use Rattle.gg_cut_plan.specs.Seated.{first_bridge, first_kept_tray, open_ins, plan_bridges}
+use Rattle.gg_cut_plan.specs.declared.listed.Listed.{Listed}
+use Rattle.gg_cut_plan.specs.declared.plan.Body.{Body}
+use Rattle.gg_cut_plan.specs.declared.plan.Body.TheVariants.{Cut, Memory, Source, Tray, Bridge}
+use Rattle.gg_cut_plan.specs.declared.plan.Plan.{Plan}
 use Rattle.gg_cut_seats.proofs.OpenLemmas.{ins-count}
 use Rattle.gg_run.specs.Trays.{body_is_inner, body_is_tray, is_inner, is_tray}
 

@@ -2,12 +2,12 @@
 use Rattle.std.proofs.Common.{◌≡◌, ℕ, zero, suc, ◌+◌, ◌<◌, ◌≤◌, List, [], length, get_or, sym, ap, ◌∙◌, subst, arith}
 use Rattle.std.specs.Prelude.{Bool, true, false, Ok, Err, slice_index}
 use Rattle.std.proofs.lemmas.List.{get_or-map}
-use Rattle.gg_demo.specs.Folded.{IsFolded}
-use Rattle.gg_demo.specs.declared.fold.Fold.{Fold}
+use Rattle.gg_demo_text.specs.Folded.{IsFolded}
+use Rattle.gg_demo_text.specs.declared.fold.Fold.{Fold}
 use Rattle.gg_flat.specs.Circuit.{FlatCircuit}
 use Rattle.gg_flat.specs.Line.{value_at}
 use Rattle.gg_flat.specs.Run.{row_at}
-use Rattle.gg_told.specs.declared.endings.Ending.TheVariants.{NoMemory}
+use Rattle.gg_command.specs.declared.endings.Ending.TheVariants.{NoMemory}
 use Rattle.gg_run.specs.Rows.{outputs_in}
 use Rattle.gg_run.specs.Sums.{FoldsRow, FoldsRows, output_column}
 use Rattle.gg_run.specs.Taken.{Took, TookTo}

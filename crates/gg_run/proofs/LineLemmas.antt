@@ -3,10 +3,10 @@ use Rattle.std.proofs.Common.{◌≡◌, ℕ, List, ◌++◌, ap, ◌∙◌}
 use Rattle.std.specs.Prelude.{Result, Err}
 use Rattle.std.specs.Io.KnownBytes.{append_known}
 use Rattle.gg_io.specs.declared.output.Sink
-use Rattle.gg_told.specs.Endings.{PrintsOn}
-use Rattle.gg_told.specs.WentOn.{SinkWentOn}
-use Rattle.gg_told.specs.declared.endings.Ending.{Ending}
-use Rattle.gg_told.proofs.WritingLemmas.{append_known-append, on-then, prints-first, prints-then}
+use Rattle.gg_command.specs.Endings.{PrintsOn}
+use Rattle.gg_command.specs.WentOn.{SinkWentOn}
+use Rattle.gg_command.specs.declared.endings.Ending.{Ending}
+use Rattle.gg_command.proofs.WritingLemmas.{append_known-append, on-then, prints-first, prints-then}
 
 -- the text is on the output, after what was there before
 pub record Stands {K : Type 0} (sink : Sink.Ghosts K) (out out' : K) (text : List ℕ) : Type 0 where

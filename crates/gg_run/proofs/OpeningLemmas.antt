@@ -4,9 +4,9 @@ use Rattle.std.specs.Prelude.{Option}
 use Rattle.std.proofs.lemmas.List.{length-map}
 use Rattle.gg_flat.specs.Line.{value_at}
 use Rattle.gg_flat.specs.Streams.{Flow}
-use Rattle.gg_cut.specs.declared.plan.Plan.{Plan}
+use Rattle.gg_cut_plan.specs.declared.plan.Plan.{Plan}
 use Rattle.gg_flat.specs.Run.{Start}
-use Rattle.gg_pipe.specs.Follows.{plan_start}
+use Rattle.gg_cut_reference.specs.Follows.{plan_start}
 use Rattle.gg_node.specs.Machine.{Machine, latch_at, machine_at}
 use Rattle.gg_node.proofs.EmptyLemmas.{empty-after}
 use Rattle.gg_net.specs.declared.shape.Wire.{Wire}
@@ -14,14 +14,14 @@ use Rattle.gg_net.specs.Kept.{BetweenAt, IsSound, Kept, list_at}
 use Rattle.gg_net.specs.Net.{IsOpening, opening_net}
 use Rattle.gg_net.specs.Network.{Network, entered, entered_by, frame_of, got_by, kind_of, opening_queue, queue_at, takes, wire_at}
 use Rattle.gg_net.proofs.OpenLemmas.{machine-open, queue-opens}
-use Rattle.gg_marking.proofs.OpeningLemmas.{none-put}
-use Rattle.gg_sound.specs.Built.{body_start, flow_of, wires_of_plan}
+use Rattle.gg_net_marking.proofs.OpeningLemmas.{none-put}
+use Rattle.gg_build_laws.specs.Built.{body_start, flow_of, wires_of_plan}
 use Rattle.gg_bridged.proofs.PortLemmas.{plan-ins}
 use Rattle.gg_bridged.proofs.RunLemmas.{whole-runs}
-use Rattle.gg_sound.proofs.OpeningLemmas.{built-opening}
-use Rattle.gg_sound.proofs.PlanLemmas.{plan-no-ring, plan-wired}
-use Rattle.gg_sound.proofs.SolvedLemmas.{plan-solved}
-use Rattle.gg_sound.proofs.ZeroLemmas.{built-with-zeros, zero-tokens}
+use Rattle.gg_build_laws.proofs.OpeningLemmas.{built-opening}
+use Rattle.gg_build_laws.proofs.PlanLemmas.{plan-no-ring, plan-wired}
+use Rattle.gg_build_laws.proofs.SolvedLemmas.{plan-solved}
+use Rattle.gg_build_laws.proofs.ZeroLemmas.{built-with-zeros, zero-tokens}
 use Rattle.gg_build.specs.Build.{IsOpeningFrom, IsOpeningOf, IsToRun, IsToRunFrom, run_from_zeros, run_token}
 
 -- the queue that a channel opens with, by the token in it

@@ -7,17 +7,17 @@ use Rattle.gg_flat.specs.Circuit.{FlatCircuit}
 use Rattle.gg_flat.specs.Run.{Start, row_at}
 use Rattle.gg_flat.specs.Streams.{Flow}
 use Rattle.gg_order.specs.Design.{Ordered}
-use Rattle.gg_cut.specs.Direct.{Hub, plan_hub}
-use Rattle.gg_cut.specs.Machines.{first_source}
-use Rattle.gg_cut.specs.Listed.{listed_of}
-use Rattle.gg_cut.specs.Bridges.{Models}
-use Rattle.gg_cut.specs.Seated.{Bridges, first_bridge, first_kept_tray, machine_end, open_ins, plan_bridges}
-use Rattle.gg_cut.specs.Plan.{IsBody}
-use Rattle.gg_cut.specs.declared.listed.Listed.{Listed}
-use Rattle.gg_cut.specs.declared.plan.Body.{Body}
-use Rattle.gg_cut.specs.declared.plan.Body.TheVariants.{Cut, Memory, Source, Tray, Bridge}
-use Rattle.gg_cut.specs.declared.plan.Channel.{Channel}
-use Rattle.gg_cut.specs.declared.plan.Plan.{Plan}
+use Rattle.gg_cut_plan.specs.Direct.{Hub, plan_hub}
+use Rattle.gg_cut_plan.specs.Machines.{first_source}
+use Rattle.gg_cut_plan.specs.Listed.{listed_of}
+use Rattle.gg_cut_plan.specs.Bridges.{Models}
+use Rattle.gg_cut_plan.specs.Seated.{Bridges, first_bridge, first_kept_tray, machine_end, open_ins, plan_bridges}
+use Rattle.gg_cut_plan.specs.Plan.{IsBody}
+use Rattle.gg_cut_plan.specs.declared.listed.Listed.{Listed}
+use Rattle.gg_cut_plan.specs.declared.plan.Body.{Body}
+use Rattle.gg_cut_plan.specs.declared.plan.Body.TheVariants.{Cut, Memory, Source, Tray, Bridge}
+use Rattle.gg_cut_plan.specs.declared.plan.Channel.{Channel}
+use Rattle.gg_cut_plan.specs.declared.plan.Plan.{Plan}
 use Rattle.gg_partfile.specs.declared.request.Request.{Request}
 use Rattle.gg_bridged.specs.Whole.{plan_circuit}
 use Rattle.gg_run.proofs.TrayLinkLemmas.{IsTrayLink, tray-link, trays-there}
@@ -26,9 +26,9 @@ use Rattle.gg_node.specs.Machine.{KeepsLast, Machine, kept_value, machine_at}
 use Rattle.gg_net.specs.Network.{Network, Frame, Kind, frame_of, kind_of, kind_at, wire_at}
 use Rattle.gg_net.specs.Kept.{Kept, list_at}
 use Rattle.gg_measure.specs.Nets.{AllStandAt}
-use Rattle.gg_sound.specs.Built.{IsBuilt, body_start, machine_in, nameless, tray_rows, wires_of_plan}
-use Rattle.gg_sound.proofs.FitLemmas.{kind-is}
-use Rattle.gg_sound.proofs.LinkLemmas.{length-from, wire-from}
+use Rattle.gg_build_laws.specs.Built.{IsBuilt, body_start, machine_in, nameless, tray_rows, wires_of_plan}
+use Rattle.gg_build_laws.proofs.FitLemmas.{kind-is}
+use Rattle.gg_build_laws.proofs.LinkLemmas.{length-from, wire-from}
 use Rattle.gg_build.specs.Build.{IsOpeningFrom, IsToRunFrom, run_token}
 use Rattle.gg_run.specs.Rows.{AreTraysOf, IsNetOfPlan, StillHas, outputs_in, told_value}
 use Rattle.gg_run.proofs.TrayLemmas.{tray-keeps, tray-only, tray-tells}

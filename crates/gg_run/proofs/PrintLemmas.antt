@@ -15,12 +15,12 @@ use Rattle.gg_trace.specs.Printing.{header_line, row_line, text_from}
 use Rattle.gg_trace.specs.Table.{row_of}
 use Rattle.gg_io.specs.Count.{Rose}
 use Rattle.gg_io.specs.declared.output.Sink
-use Rattle.gg_told.specs.Ends.{IsFront}
-use Rattle.gg_told.specs.Endings.{Prints, PrintsOn}
-use Rattle.gg_told.specs.WentOn.{SinkWentOn}
-use Rattle.gg_told.specs.declared.endings.Ending.{Ending}
-use Rattle.gg_told.specs.declared.endings.Ending.TheVariants.{NoMemory, Refused, Unwritten}
-use Rattle.gg_told.proofs.WritingLemmas.{append_known-append, append_known-nil, on-then, prints-more, rose-earlier, stop-within}
+use Rattle.gg_command.specs.Ends.{IsFront}
+use Rattle.gg_command.specs.Endings.{Prints, PrintsOn}
+use Rattle.gg_command.specs.WentOn.{SinkWentOn}
+use Rattle.gg_command.specs.declared.endings.Ending.{Ending}
+use Rattle.gg_command.specs.declared.endings.Ending.TheVariants.{NoMemory, Refused, Unwritten}
+use Rattle.gg_command.proofs.WritingLemmas.{append_known-append, append_known-nil, on-then, prints-more, rose-earlier, stop-within}
 use Rattle.gg_run.specs.Rows.{outputs_in}
 use Rattle.gg_run.specs.Printed.{PrintsRow, is_halt, rows_since, rows_to, shown_columns, text_of, text_since}
 use Rattle.gg_run.specs.Taken.{Took, TookSome, TookTo}

@@ -8,15 +8,15 @@ use Rattle.gg_flat.specs.Streams.{Flow}
 use Rattle.gg_flat_tree.specs.Tree.{InstanceTree}
 use Rattle.gg_flat.specs.declared.ports.Port.{Port}
 use Rattle.gg_build.specs.Build.{IsToRunFrom}
-use Rattle.gg_cut.specs.Clocks.{stop_ratios}
-use Rattle.gg_cut.specs.declared.plan.Plan.{Plan}
+use Rattle.gg_cut_plan.specs.Clocks.{stop_ratios}
+use Rattle.gg_cut_plan.specs.declared.plan.Plan.{Plan}
 use Rattle.gg_io.specs.declared.output.Sink
 use Rattle.gg_net.specs.Network.{Network}
 use Rattle.gg_order.specs.Design.{Ordered}
 use Rattle.gg_bridged.specs.Whole.{plan_circuit}
-use Rattle.gg_told.specs.Endings.{PrintsOn}
-use Rattle.gg_told.specs.WentOn.{SinkWentOn}
-use Rattle.gg_told.specs.declared.endings.Ending.{Ending}
+use Rattle.gg_command.specs.Endings.{PrintsOn}
+use Rattle.gg_command.specs.WentOn.{SinkWentOn}
+use Rattle.gg_command.specs.declared.endings.Ending.{Ending}
 use Rattle.gg_trace.specs.Printing.{header_line}
 use Rattle.gg_trace.proofs.LastLaws.{rows-within}
 use Rattle.gg_run.specs.Printed.{PrintsRow, RowForm, RowsAreKept, is_halt, out_columns, plan_stops, rows_since, text_since}

@@ -5,14 +5,14 @@ use Rattle.std.proofs.lemmas.Bool.{cases_lt}
 use Rattle.gg_flat.specs.Run.{Start}
 use Rattle.gg_flat.specs.Streams.{Flow}
 use Rattle.gg_build.specs.Build.{IsOpeningFrom, IsToRunFrom, run_token}
-use Rattle.gg_cut.specs.Seated.{first_kept_tray, plan_bridges}
-use Rattle.gg_cut.specs.declared.plan.Plan.{Plan}
+use Rattle.gg_cut_plan.specs.Seated.{first_kept_tray, plan_bridges}
+use Rattle.gg_cut_plan.specs.declared.plan.Plan.{Plan}
 use Rattle.gg_measure.specs.Nets.{AllStandAt}
 use Rattle.gg_net.specs.Kept.{Kept}
 use Rattle.gg_net.specs.Network.{Frame, Network, frame_of}
-use Rattle.gg_sound.specs.Built.{tray_rows}
-use Rattle.gg_told.specs.declared.endings.Ending.{Ending}
-use Rattle.gg_told.specs.declared.endings.Ending.TheVariants.{NoMemory}
+use Rattle.gg_build_laws.specs.Built.{tray_rows}
+use Rattle.gg_command.specs.declared.endings.Ending.{Ending}
+use Rattle.gg_command.specs.declared.endings.Ending.TheVariants.{NoMemory}
 use Rattle.gg_run.specs.Rows.{AreTraysOf, StandsAt, TraysKeep, run_row}
 use Rattle.gg_run.specs.Taken.{IsRanOut, Ran, TakesSome, Took, TookTo, WentBy}
 use Rattle.gg_run.specs.Taken.Took.{Wants}

@@ -5,7 +5,7 @@ use Rattle.gg_flat.specs.Clock.{Ratio}
 use Rattle.gg_flat.specs.Streams.{Flow}
 use Rattle.gg_flat.specs.declared.ports.Port.{Port}
 use Rattle.gg_build.specs.Build.{IsToRun, run_from_zeros}
-use Rattle.gg_cut.specs.declared.plan.Plan.{Plan}
+use Rattle.gg_cut_plan.specs.declared.plan.Plan.{Plan}
 use Rattle.gg_net.specs.Network.{Network}
 use Rattle.gg_bridged.specs.Whole.{plan_circuit}
 use Rattle.gg_run.specs.Printed.{IsFirst, SeesStop, ends_run, plan_stops}

@@ -9,9 +9,9 @@ use Rattle.gg_flat.specs.Run.{row_at, column}
 use Rattle.gg_flat.specs.Streams.{Flow}
 use Rattle.gg_flat.specs.declared.ports.Port.{Port}
 use Rattle.gg_build.specs.Build.{IsToRun, run_from_zeros}
-use Rattle.gg_cut.specs.Seated.{first_kept_tray, plan_bridges}
-use Rattle.gg_cut.specs.declared.plan.Plan.{Plan}
-use Rattle.gg_pipe.specs.Follows.{plan_start}
+use Rattle.gg_cut_plan.specs.Seated.{first_kept_tray, plan_bridges}
+use Rattle.gg_cut_plan.specs.declared.plan.Plan.{Plan}
+use Rattle.gg_cut_reference.specs.Follows.{plan_start}
 use Rattle.gg_bridged.specs.Whole.{plan_circuit}
 use Rattle.gg_trace.specs.Last.{acts, halts, row_count}
 use Rattle.gg_trace.specs.Printing.{row_line, trace_text}

@@ -5,8 +5,8 @@ use Rattle.std.proofs.lemmas.List.{ext_get_or, get_or-take, length-map, length-t
 use Rattle.gg_flat.specs.Line.{value_at}
 use Rattle.gg_flat.specs.Run.{Start, row_at}
 use Rattle.gg_flat.specs.Streams.{Flow}
-use Rattle.gg_cut.specs.Seated.{first_kept_tray, plan_bridges}
-use Rattle.gg_cut.specs.declared.plan.Plan.{Plan}
+use Rattle.gg_cut_plan.specs.Seated.{first_kept_tray, plan_bridges}
+use Rattle.gg_cut_plan.specs.declared.plan.Plan.{Plan}
 use Rattle.gg_bridged.specs.Whole.{plan_circuit}
 use Rattle.gg_net.specs.declared.event.Event.{Event}
 use Rattle.gg_net.specs.declared.shape.Wire.{Wire}
@@ -14,19 +14,19 @@ use Rattle.gg_net.specs.Kept.{Kept}
 use Rattle.gg_net.specs.Net.{IsOpening, opening_net}
 use Rattle.gg_net.specs.Network.{Network, frame_of}
 use Rattle.gg_node.specs.Machine.{Machine, kept_value, machine_at}
-use Rattle.gg_marking.specs.Fits.{HasLayout, marking_of}
-use Rattle.gg_marking.specs.LayoutOf.{layout_of}
-use Rattle.gg_marking.specs.Marking.{Layout, Marking}
-use Rattle.gg_marking.specs.Steps.{Steps}
-use Rattle.gg_marking.proofs.LayoutLemmas.{has-layout}
-use Rattle.gg_marking.proofs.OpeningLemmas.{opens-so}
-use Rattle.gg_marking.proofs.StepsLemmas.{steps-frame, steps-kept}
-use Rattle.gg_progress.specs.Counts.{AreAtMost, counts_of}
-use Rattle.gg_progress.proofs.EndLemmas.{opening-lowest}
+use Rattle.gg_net_marking.specs.Fits.{HasLayout, marking_of}
+use Rattle.gg_net_marking.specs.LayoutOf.{layout_of}
+use Rattle.gg_net_marking.specs.Marking.{Layout, Marking}
+use Rattle.gg_net_marking.specs.Steps.{Steps}
+use Rattle.gg_net_marking.proofs.LayoutLemmas.{has-layout}
+use Rattle.gg_net_marking.proofs.OpeningLemmas.{opens-so}
+use Rattle.gg_net_marking.proofs.StepsLemmas.{steps-frame, steps-kept}
+use Rattle.gg_net_progress.specs.Counts.{AreAtMost, counts_of}
+use Rattle.gg_net_progress.proofs.EndLemmas.{opening-lowest}
 use Rattle.gg_measure.specs.Nets.{AllStandAt}
 use Rattle.gg_measure.proofs.NetLemmas.{allowed-of, begun-of, can-run}
 use Rattle.gg_measure.proofs.WayLemmas.{steps-up}
-use Rattle.gg_sound.specs.Built.{tray_rows, wires_of_plan}
+use Rattle.gg_build_laws.specs.Built.{tray_rows, wires_of_plan}
 use Rattle.gg_build.specs.Build.{IsOpeningFrom, IsToRunFrom, run_token}
 use Rattle.gg_run.specs.Rows.{IsNetOfPlan, TraysKeep, outputs_in}
 use Rattle.gg_run.proofs.OpeningLemmas.{begins-so, opening-kept}

@@ -6,23 +6,23 @@ use Rattle.gg_flat.specs.Line.{value_at}
 use Rattle.gg_flat.specs.Run.{Start, row_at}
 use Rattle.gg_order.specs.Design.{Ordered}
 use Rattle.gg_partfile.specs.declared.request.Request.{Request}
-use Rattle.gg_cut.specs.Bridges.{Models}
-use Rattle.gg_cut.specs.Direct.{plan_hub, plan_routes}
-use Rattle.gg_cut.specs.Plan.{wire_at, channels_to}
-use Rattle.gg_cut.specs.Seated.{first_bridge, first_kept_tray, open_outs, output_count, plan_bridges, plan_wires}
-use Rattle.gg_cut.specs.Solves.{columns_of, streams}
-use Rattle.gg_cut.specs.declared.plan.Plan.{Plan}
+use Rattle.gg_cut_plan.specs.Bridges.{Models}
+use Rattle.gg_cut_plan.specs.Direct.{plan_hub, plan_routes}
+use Rattle.gg_cut_plan.specs.Plan.{wire_at, channels_to}
+use Rattle.gg_cut_plan.specs.Seated.{first_bridge, first_kept_tray, open_outs, output_count, plan_bridges, plan_wires}
+use Rattle.gg_cut_plan.specs.Solves.{columns_of, streams}
+use Rattle.gg_cut_plan.specs.declared.plan.Plan.{Plan}
 use Rattle.gg_cut_seats.proofs.OpenLemmas.{outs-count}
-use Rattle.gg_pipe.specs.Follows.{plan_token}
-use Rattle.gg_pipe.specs.Links.{taken_as}
+use Rattle.gg_cut_reference.specs.Follows.{plan_token}
+use Rattle.gg_cut_reference.specs.Links.{taken_as}
 use Rattle.gg_net.specs.Kept.{list_at}
 use Rattle.gg_bridged.specs.Whole.{RunsWhole, plan_circuit}
 use Rattle.gg_bridged.proofs.PortLemmas.{plan-outs}
 use Rattle.gg_bridged.proofs.RunLemmas.{whole-runs}
-use Rattle.gg_sound.specs.Built.{IsGiven}
-use Rattle.gg_sound.proofs.ListedLemmas.{taken-is}
-use Rattle.gg_sound.proofs.SeatLemmas.{seated-many}
-use Rattle.gg_sound.proofs.SolveLemmas.{plan-output-value, plan-tray}
+use Rattle.gg_build_laws.specs.Built.{IsGiven}
+use Rattle.gg_build_laws.proofs.ListedLemmas.{taken-is}
+use Rattle.gg_build_laws.proofs.SeatLemmas.{seated-many}
+use Rattle.gg_build_laws.proofs.SolveLemmas.{plan-output-value, plan-tray}
 
 module _ (design : Ordered) (request : Request) (models : Models) (default : ℕ) (plan : Plan) (columns : List (List ℕ)) (n : ℕ) (start : Start) (rows : List (List ℕ)) (given : IsGiven design request models default plan columns n start rows) where
   abbrev kept : List ℕ

@@ -1,7 +1,7 @@
 -- Worked rows: stops that are looked for in a run of five cycles. Each row has one value that is shown, and behind it a stop's condition.
 use Rattle.std.proofs.Common.{◌≡◌, ℕ, zero, suc, ◌<◌, [], ◌∷◌, Bool, true, false, refl, arith}
 use Rattle.std.specs.Prelude.{Some, None, Result, Ok, nat_eq, nat_lt}
-use Rattle.gg_told.specs.declared.endings.Ending.{Ending}
+use Rattle.gg_command.specs.declared.endings.Ending.{Ending}
 use Rattle.gg_run.specs.Printed.{IsFirst, SeesStop}
 
 -- a stop that acts in cycle 3 is noted

@@ -3,8 +3,8 @@
 -- k-th token of each queue is the value of its signal in cycle k, in whatever order the nodes go on).
 use Rattle.std.specs.Prelude.{ℕ, ◌≡◌, ◌<◌, ◌+◌, List, Bool, Option, None, Some, Result, Ok, IfOk, true, false, not, nat_lt, ◌&&◌, length, map, take, drop}
 use Rattle.gg_build.specs.Build.{IsOpeningOf}
-use Rattle.gg_cut.specs.Clocks.{ratios_of, stop_ratios}
-use Rattle.gg_cut.specs.declared.plan.Plan.{Plan}
+use Rattle.gg_cut_plan.specs.Clocks.{ratios_of, stop_ratios}
+use Rattle.gg_cut_plan.specs.declared.plan.Plan.{Plan}
 use Rattle.gg_flat.specs.Clock.{Ratio}
 use Rattle.gg_flat.specs.Circuit.{FlatCircuit}
 use Rattle.gg_flat.specs.Run.{column}
@@ -13,9 +13,9 @@ use Rattle.gg_io.specs.declared.output.Sink
 use Rattle.gg_net.specs.Network.{Network}
 use Rattle.gg_order.specs.Design.{Ordered}
 use Rattle.gg_partfile.specs.declared.request.Request.{Request}
-use Rattle.gg_told.specs.Endings.{PrintsOn}
-use Rattle.gg_told.specs.WentOn.{SinkWentOn}
-use Rattle.gg_told.specs.declared.endings.Ending.{Ending}
+use Rattle.gg_command.specs.Endings.{PrintsOn}
+use Rattle.gg_command.specs.WentOn.{SinkWentOn}
+use Rattle.gg_command.specs.declared.endings.Ending.{Ending}
 use Rattle.gg_trace.specs.Last.{acts, halts, row_count}
 use Rattle.gg_trace.specs.Printing.{row_line, text_from, trace_text}
 use Rattle.gg_trace.specs.Table.{row_of}

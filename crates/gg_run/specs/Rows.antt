@@ -7,15 +7,15 @@ use Rattle.gg_flat.specs.Line.{value_at}
 use Rattle.gg_flat.specs.Run.{Start, row_at}
 use Rattle.gg_flat.specs.Streams.{Flow}
 use Rattle.gg_build.specs.Build.{IsToRunFrom}
-use Rattle.gg_cut.specs.declared.plan.Plan.{Plan}
-use Rattle.gg_cut.specs.Seated.{first_kept_tray, plan_bridges}
-use Rattle.gg_marking.specs.Steps.{Steps}
+use Rattle.gg_cut_plan.specs.declared.plan.Plan.{Plan}
+use Rattle.gg_cut_plan.specs.Seated.{first_kept_tray, plan_bridges}
+use Rattle.gg_net_marking.specs.Steps.{Steps}
 use Rattle.gg_measure.specs.Nets.{AllStandAt}
 use Rattle.gg_node.specs.Machine.{Behaviour, RunsPiece, GivesColumn, KeepsLast, Machine, machine_at, kept_value}
 use Rattle.gg_net.specs.declared.event.Event.{Event}
 use Rattle.gg_net.specs.Network.{Network, frame_of, wire_at}
 use Rattle.gg_bridged.specs.Whole.{plan_circuit}
-use Rattle.gg_sound.specs.Built.{AreBuilt, body_start, plan_frame}
+use Rattle.gg_build_laws.specs.Built.{AreBuilt, body_start, plan_frame}
 
 -- ---- one tray
 

@@ -2,10 +2,10 @@
 -- Source: this program's own. MEMOCODE 2009 for steps and their count.
 use Rattle.std.specs.Prelude.{◌≡◌, ℕ, suc, List, ◌++◌, Bool, true, Result, Ok, length, slice_index}
 use Rattle.gg_build.specs.Build.{IsOpeningOf, IsToRun}
-use Rattle.gg_cut.specs.declared.plan.Plan.{Plan}
-use Rattle.gg_demo.specs.Folded.{IsFolded}
-use Rattle.gg_demo.specs.SummaryText.{fold_line, last_line, network_line, size_line}
-use Rattle.gg_demo.specs.declared.fold.Fold.{Fold}
+use Rattle.gg_cut_plan.specs.declared.plan.Plan.{Plan}
+use Rattle.gg_demo_text.specs.Folded.{IsFolded}
+use Rattle.gg_demo_text.specs.SummaryText.{fold_line, last_line, network_line, size_line}
+use Rattle.gg_demo_text.specs.declared.fold.Fold.{Fold}
 use Rattle.gg_flat.specs.Circuit.{FlatCircuit}
 use Rattle.gg_flat.specs.Line.{value_at}
 use Rattle.gg_flat.specs.Run.{column}
@@ -14,7 +14,7 @@ use Rattle.gg_measure.specs.Nets.{net_left}
 use Rattle.gg_net.specs.Kept.{Kept}
 use Rattle.gg_net.specs.Network.{Network}
 use Rattle.gg_bridged.specs.Whole.{plan_circuit}
-use Rattle.gg_told.specs.declared.endings.Ending.{Ending}
+use Rattle.gg_command.specs.declared.endings.Ending.{Ending}
 use Rattle.gg_run.specs.declared.sums.Sums.{Sums}
 
 -- the column of out-signal k of a circuit in a run

@@ -3,8 +3,8 @@
 use Rattle.std.specs.Prelude.{◌≡◌, ℕ, zero, suc, ◌<◌, ◌≤◌, ◌+◌, ◌⊎◌, List, Bool, true, false, Result, Ok, Err, IfErr}
 use Rattle.gg_measure.specs.Nets.{AllStandAt}
 use Rattle.gg_net.specs.Network.{Network, frame_of}
-use Rattle.gg_told.specs.declared.endings.Ending.{Ending}
-use Rattle.gg_told.specs.declared.endings.Ending.TheVariants.{NoMemory}
+use Rattle.gg_command.specs.declared.endings.Ending.{Ending}
+use Rattle.gg_command.specs.declared.endings.Ending.TheVariants.{NoMemory}
 use Rattle.gg_run.specs.Rows.{TraysKeep}
 
 -- The first n rows from that of cycle `begin` on were taken, and after each of them it was to go on. `takes` tells what the taking of a row

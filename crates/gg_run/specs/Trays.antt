@@ -1,9 +1,9 @@
 -- Which machines of a plan are trays, by what they do.
 -- Source: ICCAD 2019 (sinks at the outputs of a target).
 use Rattle.std.specs.Prelude.{Bool, true, false}
-use Rattle.gg_cut.specs.declared.plan.Body.{Body}
-use Rattle.gg_cut.specs.declared.plan.Body.TheVariants.{Cut, Memory, Source, Tray, Bridge}
-use Rattle.gg_cut.specs.declared.plan.Machine.{Machine}
+use Rattle.gg_cut_plan.specs.declared.plan.Body.{Body}
+use Rattle.gg_cut_plan.specs.declared.plan.Body.TheVariants.{Cut, Memory, Source, Tray, Bridge}
+use Rattle.gg_cut_plan.specs.declared.plan.Machine.{Machine}
 
 -- whether what a machine does is neither that of a tray nor that of a bridge
 abbrev pub body_is_inner : Body → Bool

@@ -2,15 +2,15 @@
 ghost use Rattle.std.specs.Prelude.{◌≡◌, ℕ, ◌+◌, ◌<◌, ◌≤◌, List, length, take};
 ghost use Rattle.gg_flat.specs.Run.{Start};
 ghost use Rattle.gg_flat.specs.Streams.{Flow};
-ghost use Rattle.gg_pipe.specs.Follows.{plan_start};
-ghost use Rattle.gg_cut.specs.Seated.{first_kept_tray, plan_bridges};
-ghost use Rattle.gg_cut.specs.declared.plan.Plan.{Plan};
+ghost use Rattle.gg_cut_reference.specs.Follows.{plan_start};
+ghost use Rattle.gg_cut_plan.specs.Seated.{first_kept_tray, plan_bridges};
+ghost use Rattle.gg_cut_plan.specs.declared.plan.Plan.{Plan};
 ghost use Rattle.gg_net.specs.Kept.{Kept};
 ghost use Rattle.gg_net.specs.Network.{Network, frame_of};
 ghost use Rattle.gg_measure.specs.Nets.{AllStandAt};
 ghost use Rattle.gg_bridged.specs.Whole.{plan_circuit};
 ghost use Rattle.gg_build.specs.Build.{IsOpeningFrom, IsOpeningOf, IsToRun, IsToRunFrom, run_from_zeros, run_token};
-ghost use Rattle.gg_sound.specs.Built.{tray_rows};
+ghost use Rattle.gg_build_laws.specs.Built.{tray_rows};
 ghost use Rattle.gg_run.specs.Rows.{IsNetOfPlan, TraysKeep, outputs_in};
 ghost use Rattle.gg_run.specs.Window.{window_end};
 

@@ -1,13 +1,13 @@
 //! The lines of the summary are written.
 ghost use Rattle.std.specs.Prelude.{◌≡◌, List, ℕ, IfOk, string_bytes};
 ghost use Rattle.gg_run.specs.Sums.{sums_text};
-ghost use Rattle.gg_told.specs.Endings.{PrintsOn};
-ghost use Rattle.gg_told.specs.WentOn.{SinkWentOn};
+ghost use Rattle.gg_command.specs.Endings.{PrintsOn};
+ghost use Rattle.gg_command.specs.WentOn.{SinkWentOn};
 
 use crate::sums::Sums;
-use gg_demo::{fold_line, last_line, network_line, size_line};
+use gg_command::{Ending, put};
+use gg_demo_text::{fold_line, last_line, network_line, size_line};
 use gg_io::Sink;
-use gg_told::{Ending, put};
 use std::alloc::{AllocError, Global};
 
 // Writes a line, if it was allocated.

@@ -4,9 +4,9 @@ ghost use Rattle.gg_run.specs.Printed.{PrintsRow};
 
 use crate::taking::Rows;
 use gg_clocks::Ratio;
+use gg_command::{Ending, put};
 use gg_flat::Ports;
 use gg_io::Sink;
-use gg_told::{Ending, put};
 use gg_trace::{acts, row_text};
 use std::alloc::Global;
 use std::marker::Model;

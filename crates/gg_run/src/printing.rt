@@ -1,15 +1,15 @@
 //! `print_net`, `print_from`: the run of the reference circuit of a plan is printed from the plan's network.
 ghost use Rattle.std.specs.Prelude.{◌≡◌, ◌+◌, ◌-◌, ◌≤◌, ℕ, List, IfOk, length};
 ghost use Rattle.gg_build.specs.Build.{HasBridges, IsOpeningFrom, IsToRun, IsToRunFrom, run_token};
-ghost use Rattle.gg_cut.specs.declared.plan.Plan.{Plan};
+ghost use Rattle.gg_cut_plan.specs.declared.plan.Plan.{Plan};
 ghost use Rattle.gg_flat.specs.Run.{Start};
 ghost use Rattle.gg_measure.specs.Nets.{AllStandAt};
-ghost use Rattle.gg_cut.specs.Seated.{first_kept_tray, plan_bridges};
+ghost use Rattle.gg_cut_plan.specs.Seated.{first_kept_tray, plan_bridges};
 ghost use Rattle.gg_bridged.specs.Whole.{plan_circuit};
 ghost use Rattle.gg_run.specs.Printed.{AreKept, RowsAreKept, out_columns, plan_stops, rows_since, rows_to, text_of, text_since};
 ghost use Rattle.gg_run.specs.Rows.{AreTraysOf};
-ghost use Rattle.gg_told.specs.Endings.{PrintsOn};
-ghost use Rattle.gg_told.specs.WentOn.{SinkWentOn};
+ghost use Rattle.gg_command.specs.Endings.{PrintsOn};
+ghost use Rattle.gg_command.specs.WentOn.{SinkWentOn};
 
 use crate::printer::RowPrinter;
 use crate::run::run_rows;
@@ -18,12 +18,12 @@ use gg_bits::Name;
 use gg_bridge::Bridge;
 use gg_build::{Node, build};
 use gg_clocks::Ratio;
-use gg_cut::{Plan, stop_ratios};
+use gg_command::{Ending, put};
+use gg_cut_plan::{Plan, stop_ratios};
 use gg_flat::Ports;
 use gg_io::{Gate, Sink};
 use gg_net::{Net, Streams};
 use gg_order::Design;
-use gg_told::{Ending, put};
 use gg_trace::{Trace, header_text};
 use std::alloc::Global;
 use std::thread::Threads;

@@ -2,13 +2,13 @@
 ghost use Rattle.std.specs.Prelude.{◌≡◌, ℕ, ◌+◌, ◌<◌, ◌≤◌, List, length};
 ghost use Rattle.gg_flat.specs.Line.{value_at};
 ghost use Rattle.gg_flat.specs.Run.{Start};
-ghost use Rattle.gg_cut.specs.declared.plan.Plan.{Plan};
+ghost use Rattle.gg_cut_plan.specs.declared.plan.Plan.{Plan};
 ghost use Rattle.gg_bridged.specs.Whole.{plan_circuit};
 ghost use Rattle.gg_node.specs.Machine.{machine_at};
 ghost use Rattle.gg_net.specs.Kept.{list_at};
 ghost use Rattle.gg_measure.specs.Nets.{AllStandAt};
 ghost use Rattle.gg_build.specs.Build.{IsToRunFrom, run_token};
-ghost use Rattle.gg_sound.specs.Built.{tray_rows};
+ghost use Rattle.gg_build_laws.specs.Built.{tray_rows};
 ghost use Rattle.gg_run.specs.Rows.{AreTraysOf, IsNetOfPlan, StillHas, outputs_in, told_value};
 
 use gg_bridge::Bridge;

@@ -3,10 +3,10 @@ ghost use Rattle.std.specs.Prelude.{◌≡◌, ◌+◌, ◌-◌, ◌<◌, ◌≤
 ghost use Rattle.gg_build.specs.Build.{IsOpeningFrom, IsToRunFrom, run_token};
 ghost use Rattle.gg_limits.specs.Limits.{cycle_limit};
 ghost use Rattle.gg_flat.specs.Run.{Start};
-ghost use Rattle.gg_cut.specs.Seated.{first_kept_tray, plan_bridges};
-ghost use Rattle.gg_cut.specs.declared.plan.Plan.{Plan};
+ghost use Rattle.gg_cut_plan.specs.Seated.{first_kept_tray, plan_bridges};
+ghost use Rattle.gg_cut_plan.specs.declared.plan.Plan.{Plan};
 ghost use Rattle.gg_measure.specs.Nets.{AllStandAt};
-ghost use Rattle.gg_sound.specs.Built.{tray_rows};
+ghost use Rattle.gg_build_laws.specs.Built.{tray_rows};
 ghost use Rattle.gg_run.specs.Rows.{AreTraysOf, StandsAt, run_row};
 ghost use Rattle.gg_run.specs.Taken.{IsRanOut, Ran, TakesSome, Took, TookTo, WentBy, answer_of};
 
@@ -15,10 +15,10 @@ use crate::taking::Rows;
 use crate::window::{run_window, window_end};
 use gg_bridge::Bridge;
 use gg_build::Node;
+use gg_command::Ending;
 use gg_io::Gate;
 use gg_net::{Net, Streams};
 use gg_ring::Ring;
-use gg_told::Ending;
 use std::alloc::Global;
 use std::thread::Threads;
 

@@ -1,7 +1,7 @@
 //! `run_to_stop`: a network is run, and looked at for a stop.
 ghost use Rattle.std.specs.Prelude.{◌≡◌, ◌+◌, ◌≤◌, ℕ, List, IfOk, IfErr, None, length};
 ghost use Rattle.gg_build.specs.Build.{IsOpeningOf, IsToRun, run_from_zeros};
-ghost use Rattle.gg_cut.specs.declared.plan.Plan.{Plan};
+ghost use Rattle.gg_cut_plan.specs.declared.plan.Plan.{Plan};
 ghost use Rattle.gg_flat.specs.declared.ports.Port.{Port};
 ghost use Rattle.gg_measure.specs.Nets.{AllStandAt};
 ghost use Rattle.gg_net.specs.Network.{frame_of};
@@ -15,9 +15,9 @@ use crate::trays::Trays;
 use gg_bridge::Bridge;
 use gg_build::Node;
 use gg_clocks::Ratio;
+use gg_command::Ending;
 use gg_io::Gate;
 use gg_net::{Net, Streams};
-use gg_told::Ending;
 use gg_trace::acts;
 use std::alloc::Global;
 use std::thread::Threads;

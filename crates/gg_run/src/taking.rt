@@ -1,9 +1,9 @@
 //! `Rows`: what is done with the rows of a run.
 ghost use Rattle.std.specs.Prelude.{ℕ, ◌≤◌, List, Bool, Result, length};
 ghost use Rattle.gg_limits.specs.Limits.{cycle_limit};
-ghost use Rattle.gg_told.specs.declared.endings.Ending.{Ending};
+ghost use Rattle.gg_command.specs.declared.endings.Ending.{Ending};
 
-use gg_told::Ending;
+use gg_command::Ending;
 
 /// What is done with the rows of a run, one after another. Each row changes a value of type T, which holds what came of the rows so far.
 pub trait Rows<T> {

@@ -1,14 +1,14 @@
 //! `Trays`: which machines of a plan are trays.
 ghost use Rattle.std.specs.Prelude.{◌≡◌, ◌≤◌, ◌-◌, ℕ, length};
 ghost use Rattle.std.specs.List.{prefix_len};
-ghost use Rattle.gg_cut.specs.Bridges.{Models};
-ghost use Rattle.gg_cut.specs.Plan.{IsPlan};
-ghost use Rattle.gg_cut.specs.Seated.{first_bridge, first_kept_tray, plan_bridges};
+ghost use Rattle.gg_cut_plan.specs.Bridges.{Models};
+ghost use Rattle.gg_cut_plan.specs.Plan.{IsPlan};
+ghost use Rattle.gg_cut_plan.specs.Seated.{first_bridge, first_kept_tray, plan_bridges};
 ghost use Rattle.gg_order.specs.Design.{Ordered};
 ghost use Rattle.gg_partfile.specs.declared.request.Request.{Request};
 ghost use Rattle.gg_run.specs.Trays.{is_inner, is_tray};
 
-use gg_cut::{Body, Machine, Plan};
+use gg_cut_plan::{Body, Machine, Plan};
 
 /// The trays of a plan: they stand one behind another.
 #[derive(Clone, Copy)]

@@ -11,8 +11,8 @@ use Rattle.indexmap.specs.IndexSet.{insert_key}
 use Rattle.gg_ast.specs.declared.expression.Reference.{Reference}
 use Rattle.gg_ast.specs.declared.expression.Reference.TheVariants as references
 use Rattle.gg_ast.specs.declared.statement.Stmt.{Stmt}
-use Rattle.gg_names.specs.Namespace.{connected_by, connects, is_reference_to}
-use Rattle.gg_names.specs.Scope.{same_reference}
+use Rattle.gg_shape_names.specs.Namespace.{connected_by, connects, is_reference_to}
+use Rattle.gg_shape_names.specs.Scope.{same_reference}
 use Rattle.gg_shape.specs.Shape.{is_connected}
 use Rattle.gg_shape.specs.declared.connected.Key.{Key}
 use Rattle.gg_shape.specs.contracts.connected.KeyPartialEq.TheImpl.{eq-value}

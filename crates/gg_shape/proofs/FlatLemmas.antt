@@ -3,8 +3,8 @@ use Rattle.std.proofs.Common.{◌≡◌, ℕ, ◌+◌, ◌<◌, List, [], ◌++�
 use Rattle.std.specs.List.{flat_map}
 use Rattle.std.proofs.lemmas.List.{drop_more}
 use Rattle.gg_ast.specs.Tree.{ModuleTree, empty_module}
-use Rattle.gg_names.specs.Modules.{module_at}
-use Rattle.gg_names.proofs.AlongLemmas.{first-front, left, left-from}
+use Rattle.gg_shape_names.specs.Modules.{module_at}
+use Rattle.gg_shape_names.proofs.AlongLemmas.{first-front, left, left-from}
 use Rattle.gg_shape.specs.declared.fault.Fault.{Fault}
 use Rattle.gg_shape.specs.declared.fault.CheckFault.{CheckFault}
 use Rattle.gg_shape.specs.declared.fault.CheckFault.TheVariants.{F, NoMemory}

@@ -6,11 +6,11 @@ use Rattle.gg_ast.specs.declared.module.Port.{Port}
 use Rattle.gg_ast.specs.declared.statement.Stmt.{Stmt}
 use Rattle.gg_ast.specs.Places.{place_of}
 use Rattle.gg_ast.specs.Tree.{ModuleTree, names_of}
-use Rattle.gg_names.specs.Namespace.{module_named, name_by, names_after, entries_by, scope_after}
-use Rattle.gg_names.specs.Modules.{module_at}
-use Rattle.gg_names.proofs.FindLemmas.{module-at}
-use Rattle.gg_names.proofs.BlockLemmas.{at-place, at-none}
-use Rattle.gg_names.proofs.ScopeLemmas.{names_after-push, scope_after-push, names-front}
+use Rattle.gg_shape_names.specs.Namespace.{module_named, name_by, names_after, entries_by, scope_after}
+use Rattle.gg_shape_names.specs.Modules.{module_at}
+use Rattle.gg_shape_names.proofs.FindLemmas.{module-at}
+use Rattle.gg_shape_names.proofs.BlockLemmas.{at-place, at-none}
+use Rattle.gg_shape_names.proofs.ScopeLemmas.{names_after-push, scope_after-push, names-front}
 use Rattle.gg_shape.specs.Shape.{unconnected_among, unconnected_sinks}
 use Rattle.gg_shape.specs.Told.{TellsConnected, TellsFirst, is_among}
 

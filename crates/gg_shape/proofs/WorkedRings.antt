@@ -3,10 +3,10 @@ use Rattle.std.proofs.Common.{◌≡◌, ℕ, zero, suc, ◌<◌, List, [], ◌�
 use Rattle.std.specs.Prelude.{Contains}
 use Rattle.std.specs.List.{IsDistinct}
 use Rattle.gg_ast.specs.Tree.{ModuleTree, CircuitTree}
-use Rattle.gg_names.specs.Modules.{Holds}
-use Rattle.gg_walk.specs.Graph.{node_at, IsOrderOf}
-use Rattle.gg_walk.proofs.RingLemmas.{no_ring}
-use Rattle.gg_walk.proofs.WorkedRows.{one, two, five, distinct}
+use Rattle.gg_shape_names.specs.Modules.{Holds}
+use Rattle.gg_graph.specs.Graph.{node_at, IsOrderOf}
+use Rattle.gg_graph.proofs.RingLemmas.{no_ring}
+use Rattle.gg_graph.proofs.WorkedRows.{one, two, five, distinct}
 use Rattle.gg_shape.specs.Rings.{HasNoRing, IsRingOf, ring_names}
 use Rattle.gg_shape.proofs.WorkedCircuits.{instance, module_with, circuit_with, family_with, inst_i, wired}
 

@@ -1,6 +1,6 @@
 -- What a check returns, given the faults in the order of the text.
 -- Source: this program's own.
-pub use Rattle.gg_names.specs.Along.{along, along_from, first}
+pub use Rattle.gg_shape_names.specs.Along.{along, along_from, first}
 use Rattle.std.specs.Prelude.{◌≡◌, Bool, true, false, List, [], ◌∷◌, Some, Result, Ok, Err}
 use Rattle.gg_shape.specs.declared.fault.Fault.{Fault}
 use Rattle.gg_shape.specs.declared.fault.CheckFault.{CheckFault}

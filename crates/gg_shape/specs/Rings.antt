@@ -2,10 +2,10 @@
 -- Source: FIRRTL Specification, "Instances": a module may not have an instance of itself, directly or through others.
 use Rattle.std.specs.Prelude.{◌≡◌, ℕ, List, [], ◌∷◌, ◌++◌, length, map}
 use Rattle.gg_ast.specs.Tree.{CircuitTree}
-use Rattle.gg_names.specs.Modules.{Holds, module_at}
+use Rattle.gg_shape_names.specs.Modules.{Holds, module_at}
 use Rattle.gg_shape.specs.declared.fault.Fault.{Fault}
 use Rattle.gg_shape.specs.declared.fault.Fault.TheVariants.{ModuleRing}
-use Rattle.gg_walk.specs.Graph.{IsRing}
+use Rattle.gg_graph.specs.Graph.{IsRing}
 
 -- distinct modules, by their places, each of which has an instance of the next, the last of the first
 abbrev pub IsRingOf : CircuitTree → List ℕ → Type 0

@@ -15,12 +15,12 @@ use Rattle.gg_ast.specs.declared.statement.StmtKind as statements
 use Rattle.gg_ast.specs.declared.statement.StmtKind.TheVariants.{Wire, Node, Register, Instance, Memory, Connect, Invalid, Skip, Stop, Report}
 use Rattle.gg_ast.specs.Term.{Term, NamedTerm, ConstantTerm, UnaryTerm, BinaryTerm, FixedTerm, MuxTerm}
 use Rattle.gg_ast.specs.Tree.{ModuleTree, CircuitTree}
-use Rattle.gg_names.specs.declared.fault.Repetition.{Repetition}
-use Rattle.gg_names.specs.declared.role.Role.{Role}
-use Rattle.gg_names.specs.declared.role.Role.TheVariants as roles
-use Rattle.gg_names.specs.Namespace.{module_named, entry_by_port, entries_by, scope_after, scope_of, meaning_of, has_value, is_sink, is_source, needs_connection, connected_by, connects}
-use Rattle.gg_names.specs.Repetitions.{repetitions}
-use Rattle.gg_names.specs.Scope.{written}
+use Rattle.gg_shape_names.specs.declared.fault.Repetition.{Repetition}
+use Rattle.gg_shape_names.specs.declared.role.Role.{Role}
+use Rattle.gg_shape_names.specs.declared.role.Role.TheVariants as roles
+use Rattle.gg_shape_names.specs.Namespace.{module_named, entry_by_port, entries_by, scope_after, scope_of, meaning_of, has_value, is_sink, is_source, needs_connection, connected_by, connects}
+use Rattle.gg_shape_names.specs.Repetitions.{repetitions}
+use Rattle.gg_shape_names.specs.Scope.{written}
 use Rattle.gg_shape.specs.declared.fault.Fault.{Fault}
 use Rattle.gg_shape.specs.declared.fault.Fault.TheVariants.{MissingTop, RepeatedName, UnknownName, SecondConnection, Unconnected, ConnectedSource}
 use Rattle.gg_shape.specs.Faults.{along, fault_if}

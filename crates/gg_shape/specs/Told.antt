@@ -12,14 +12,14 @@ use Rattle.gg_ast.specs.declared.statement.Field.{Field}
 use Rattle.gg_ast.specs.declared.statement.MemoryField as fields
 use Rattle.gg_ast.specs.declared.statement.Stmt.{Stmt}
 use Rattle.gg_ast.specs.Tree.{ModuleTree, CircuitTree}
-use Rattle.gg_names.specs.declared.role.Role.{Role}
-use Rattle.gg_names.specs.declared.role.PortKind.{PortKind}
-use Rattle.gg_names.specs.declared.role.PortKind.TheVariants.{Reader, Writer}
-use Rattle.gg_names.specs.declared.role.PortField.{PortField}
-use Rattle.gg_names.specs.Memory.{readers_in, writers_in, port_fields}
-use Rattle.gg_names.specs.Modules.{module_at}
-use Rattle.gg_names.specs.Namespace.{names_after, scope_after, instance_port, port_field}
-use Rattle.gg_names.specs.Scope.{same_reference}
+use Rattle.gg_shape_names.specs.declared.role.Role.{Role}
+use Rattle.gg_shape_names.specs.declared.role.PortKind.{PortKind}
+use Rattle.gg_shape_names.specs.declared.role.PortKind.TheVariants.{Reader, Writer}
+use Rattle.gg_shape_names.specs.declared.role.PortField.{PortField}
+use Rattle.gg_shape_names.specs.Memory.{readers_in, writers_in, port_fields}
+use Rattle.gg_shape_names.specs.Modules.{module_at}
+use Rattle.gg_shape_names.specs.Namespace.{names_after, scope_after, instance_port, port_field}
+use Rattle.gg_shape_names.specs.Scope.{same_reference}
 use Rattle.gg_shape.specs.declared.connected.Key.{Key}
 use Rattle.gg_shape.specs.declared.connected.Key.TheVariants.{Local, PortOf, FieldOf}
 use Rattle.gg_shape.specs.declared.fault.Fault.{Fault}

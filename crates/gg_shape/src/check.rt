@@ -13,7 +13,7 @@ use crate::references::check_references;
 use crate::rings::check_rings;
 use crate::unconnected::check_unconnected;
 use gg_ast::Circuit;
-use gg_names::{NamesFault, Namespace};
+use gg_shape_names::{NamesFault, Namespace};
 use std::alloc::Global;
 
 /// What `shape` returns in place of Ok.

@@ -1,7 +1,7 @@
 //! `Connected`: what is connected in a module.
 ghost use Rattle.std.specs.Prelude.{◌≡◌, [], ◌∷◌, ◌++◌, IfOk, OnOk};
 ghost use Rattle.gg_ast.specs.declared.expression.Reference.{Reference as References};
-ghost use Rattle.gg_names.specs.Scope.{written};
+ghost use Rattle.gg_shape_names.specs.Scope.{written};
 ghost use Rattle.gg_shape.specs.Told.{reference_of, is_among};
 
 use gg_ast::Reference;

@@ -1,7 +1,7 @@
 //! F4, F6: sinks that are connected twice, and sources that are connected.
 ghost use Rattle.std.specs.Prelude.{◌≡◌, ◌<◌, ◌∷◌, [], ◌++◌, length, IfOk, OnOk, List, flat_map};
 ghost use Rattle.gg_ast.specs.declared.statement.Stmt.{Stmt as AStatement};
-ghost use Rattle.gg_names.specs.Namespace.{scope_of};
+ghost use Rattle.gg_shape_names.specs.Namespace.{scope_of};
 ghost use Rattle.gg_shape.specs.Faults.{Answers, along};
 ghost use Rattle.gg_shape.specs.Shape.{in_modules, second_connections, second_by, connected_sources, source_by};
 ghost use Rattle.gg_shape.specs.Told.{TellsConnected, TellsFirst, module_of};
@@ -9,7 +9,7 @@ ghost use Rattle.gg_shape.specs.Told.{TellsConnected, TellsFirst, module_of};
 use crate::connected::{Connected, key_of};
 use crate::fault::{CheckFault, Fault};
 use gg_ast::Stmt;
-use gg_names::{Namespace, connection, is_sink, is_source, written};
+use gg_shape_names::{Namespace, connection, is_sink, is_source, written};
 use std::alloc::{AllocError, Global};
 
 // Refuses the first connection of the circuit whose sink is already connected. If there is none, returns what is

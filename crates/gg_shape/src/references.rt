@@ -1,6 +1,6 @@
 //! F3: references that name nothing that has a value, and instances of modules that don't exist.
 ghost use Rattle.std.specs.Prelude.{◌≡◌, ◌++◌, ◌<◌, length};
-ghost use Rattle.gg_names.specs.Namespace.{entries_by, name_by};
+ghost use Rattle.gg_shape_names.specs.Namespace.{entries_by, name_by};
 ghost use Rattle.gg_shape.specs.Faults.{Answers};
 ghost use Rattle.gg_shape.specs.Shape.{in_modules, unknown_names, unknown_module, unknown_reference, unknown_in, unknown_in_reset, unknown_in_arguments, unknown_in_kind};
 ghost use Rattle.gg_shape.specs.Told.{IsBefore, module_of, scope_before};
@@ -8,7 +8,7 @@ ghost use Rattle.gg_shape.specs.Told.{IsBefore, module_of, scope_before};
 use crate::fault::{CheckFault, Fault};
 use gg_ast::{Argument, Expr, ExprKind, Reference, Reset, Stmt, StmtKind};
 use gg_bits::Name;
-use gg_names::{Namespace, declared_name, has_value, written};
+use gg_shape_names::{Namespace, declared_name, has_value, written};
 use std::alloc::Global;
 
 // A position in a module: what is declared before it.

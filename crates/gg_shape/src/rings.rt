@@ -1,14 +1,14 @@
 //! F7: modules that have instances of each other in a ring.
 ghost use Rattle.std.specs.Prelude.{◌≡◌, ◌<◌, ◌∷◌, ℕ, List, length, map, slice_index, IfOk};
-ghost use Rattle.gg_names.specs.Modules.{module_at};
+ghost use Rattle.gg_shape_names.specs.Modules.{module_at};
 ghost use Rattle.gg_shape.specs.Rings.{HasNoRing, IsRingOf, TellsRing, ring_names};
 ghost use Rattle.gg_shape.specs.Judged.{AnswersRing};
 
 use crate::fault::{CheckFault, Fault};
 use gg_ast::Circuit;
 use gg_bits::{Name, Names};
-use gg_names::Namespace;
-use gg_walk::{WalkFault, walk};
+use gg_graph::{WalkFault, walk};
+use gg_shape_names::Namespace;
 use std::alloc::{AllocError, Global};
 
 // Refuses a circuit with a ring of modules; any one ring may be reported.

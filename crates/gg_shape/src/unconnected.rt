@@ -1,6 +1,6 @@
 //! F5: sinks that are not connected.
 ghost use Rattle.std.specs.Prelude.{◌≡◌, ◌<◌, ◌++◌, List, length, flat_map, map, IfOk};
-ghost use Rattle.gg_names.specs.Namespace.{instance_port, instance_ports, module_named, memory_entries};
+ghost use Rattle.gg_shape_names.specs.Namespace.{instance_port, instance_ports, module_named, memory_entries};
 ghost use Rattle.gg_shape.specs.Faults.{Answers};
 ghost use Rattle.gg_shape.specs.Shape.{in_modules, unconnected_sinks, unconnected_among, unconnected_entry, unconnected_port, unconnected_by};
 ghost use Rattle.gg_shape.specs.Told.{TellsFirst, is_among, inputs_of, is_in, names_as as names_of_kind, reference_of, unconnected_input, unconnected_of_field, unconnected_of_port, unconnected_in_field};
@@ -9,7 +9,7 @@ use crate::connected::{Connected, Key, text_of};
 use crate::fault::{CheckFault, Fault};
 use gg_ast::{Circuit, Direction, Field, MemoryField, Module, Port, Stmt, StmtKind};
 use gg_bits::Name;
-use gg_names::{
+use gg_shape_names::{
     Namespace, PortField, PortKind, Role, field_text, instance_port_role, needs_connection,
     port_fields, port_role,
 };

@@ -4,19 +4,19 @@ use Rattle.std.specs.Prelude.{Contains, Option, None, Some}
 use Rattle.gg_flat_tree.specs.Tree.{InstanceTree, memory_at}
 use Rattle.gg_order.specs.Design.{Ordered}
 use Rattle.gg_partfile.specs.declared.request.Request.{Request}
-use Rattle.gg_moved.specs.KeepsToTree.{KeepsToTree}
-use Rattle.gg_cut.specs.declared.listed.Listed.{Listed}
-use Rattle.gg_cut.specs.declared.plan.Body.{Body}
-use Rattle.gg_cut.specs.declared.plan.Body.TheVariants.{Cut, Memory, Source, Tray, Bridge}
-use Rattle.gg_cut.specs.declared.plan.Plan.{Plan}
-use Rattle.gg_cut.specs.Bridges.{Models}
-use Rattle.gg_cut.specs.Direct.{plan_hub}
-use Rattle.gg_cut.specs.Listed.{first_place, listed_of, memory_or, memory_owner, owner_of_instance}
-use Rattle.gg_cut.specs.Machines.{first_source}
-use Rattle.gg_cut.specs.Plan.{HasMemory, IsBody, IsPlan}
-use Rattle.gg_cut.proofs.PathLemmas.{first_place-Some}
-use Rattle.gg_cut.proofs.WireLemmas.{unit_or_hub-below}
-use Rattle.gg_sound.specs.Built.{machine_in, nameless}
+use Rattle.gg_part_moved.specs.KeepsToTree.{KeepsToTree}
+use Rattle.gg_cut_plan.specs.declared.listed.Listed.{Listed}
+use Rattle.gg_cut_plan.specs.declared.plan.Body.{Body}
+use Rattle.gg_cut_plan.specs.declared.plan.Body.TheVariants.{Cut, Memory, Source, Tray, Bridge}
+use Rattle.gg_cut_plan.specs.declared.plan.Plan.{Plan}
+use Rattle.gg_cut_plan.specs.Bridges.{Models}
+use Rattle.gg_cut_plan.specs.Direct.{plan_hub}
+use Rattle.gg_cut_plan.specs.Listed.{first_place, listed_of, memory_or, memory_owner, owner_of_instance}
+use Rattle.gg_cut_plan.specs.Machines.{first_source}
+use Rattle.gg_cut_plan.specs.Plan.{HasMemory, IsBody, IsPlan}
+use Rattle.gg_cut_plan.proofs.PathLemmas.{first_place-Some}
+use Rattle.gg_cut_plan.proofs.WireLemmas.{unit_or_hub-below}
+use Rattle.gg_build_laws.specs.Built.{machine_in, nameless}
 use Rattle.gg_snap.specs.Gathered.{IsKeptBy, kept_by}
 
 -- a memory belongs to a machine before the first source

@@ -4,22 +4,22 @@ use Rattle.gg_limits.specs.Limits.{cycle_limit}
 use Rattle.gg_flat.specs.Run.{Start}
 use Rattle.gg_flat.specs.State.{IsState}
 use Rattle.gg_flat.specs.Streams.{Flow}
-use Rattle.gg_moved.specs.KeepsToTree.{KeepsToTree}
+use Rattle.gg_part_moved.specs.KeepsToTree.{KeepsToTree}
 use Rattle.gg_order.specs.Design.{IsDesign, Ordered}
 use Rattle.gg_partfile.specs.declared.request.BridgeEntry.{BridgeEntry}
 use Rattle.gg_partfile.specs.declared.request.Request.{Request}
-use Rattle.gg_cut.specs.declared.plan.Plan.{Plan}
-use Rattle.gg_cut.specs.Bridges.{Models}
-use Rattle.gg_cut.specs.Clocks.{ratios_of}
-use Rattle.gg_cut.specs.Fault.{first_fault}
-use Rattle.gg_cut.specs.Held.{AreHeldOnce}
-use Rattle.gg_cut.specs.Plan.{IsPlan}
-use Rattle.gg_cut.specs.Seated.{first_bridge, plan_bridges}
-use Rattle.gg_cut.specs.Solves.{AreRows}
-use Rattle.gg_pipe.specs.Made.{plan_reference}
+use Rattle.gg_cut_plan.specs.declared.plan.Plan.{Plan}
+use Rattle.gg_cut_plan.specs.Bridges.{Models}
+use Rattle.gg_cut_plan.specs.Clocks.{ratios_of}
+use Rattle.gg_cut_plan.specs.Fault.{first_fault}
+use Rattle.gg_cut_plan.specs.Held.{AreHeldOnce}
+use Rattle.gg_cut_plan.specs.Plan.{IsPlan}
+use Rattle.gg_cut_plan.specs.Seated.{first_bridge, plan_bridges}
+use Rattle.gg_cut_plan.specs.Solves.{AreRows}
+use Rattle.gg_cut_reference.specs.Made.{plan_reference}
 use Rattle.gg_bridged.specs.Whole.{states_with, with_bridges}
-use Rattle.gg_sound.specs.Built.{IsGiven}
-use Rattle.gg_sound.proofs.GivenLemmas.{faultless}
+use Rattle.gg_build_laws.specs.Built.{IsGiven}
+use Rattle.gg_build_laws.proofs.GivenLemmas.{faultless}
 use Rattle.gg_build.specs.Build.{IsToRunFrom}
 
 -- What is given with a plan without bridges: the run is one of the reference circuit.

@@ -10,16 +10,16 @@ use Rattle.gg_flat.specs.Run.{Start}
 use Rattle.gg_flat.specs.State.{State}
 use Rattle.gg_flat.specs.Streams.{Flow}
 use Rattle.gg_order.specs.Design.{Ordered}
-use Rattle.gg_cut.specs.declared.plan.Channel.{Channel}
-use Rattle.gg_cut.specs.declared.plan.Plan.{Plan}
-use Rattle.gg_cut.specs.Direct.{plan_hub}
-use Rattle.gg_cut.specs.Listed.{listed_of}
-use Rattle.gg_cut.specs.Plan.{IsBody}
-use Rattle.gg_pipe.specs.Made.{plan_reference}
-use Rattle.gg_pipe.proofs.PlanLemmas.{plan-made}
+use Rattle.gg_cut_plan.specs.declared.plan.Channel.{Channel}
+use Rattle.gg_cut_plan.specs.declared.plan.Plan.{Plan}
+use Rattle.gg_cut_plan.specs.Direct.{plan_hub}
+use Rattle.gg_cut_plan.specs.Listed.{listed_of}
+use Rattle.gg_cut_plan.specs.Plan.{IsBody}
+use Rattle.gg_cut_reference.specs.Made.{plan_reference}
+use Rattle.gg_cut_reference.proofs.PlanLemmas.{plan-made}
 use Rattle.gg_build.specs.declared.begin.Begin.{Begin}
 use Rattle.gg_build.specs.Begin.{AreTokens}
-use Rattle.gg_sound.specs.Built.{nameless}
+use Rattle.gg_build_laws.specs.Built.{nameless}
 use Rattle.gg_build.specs.Build.{Begins, HasBridges, IsToBegin}
 use Rattle.gg_snap.specs.Gathered.{pipe_number}
 use Rattle.gg_snap.specs.Whole.{CanBegin}

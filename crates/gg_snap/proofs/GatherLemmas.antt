@@ -7,12 +7,12 @@ use Rattle.gg_flat.specs.Circuit.{FlatCircuit}
 use Rattle.gg_flat.specs.Line.{value_at}
 use Rattle.gg_flat.specs.Memory.{Bank, bank_at}
 use Rattle.gg_flat.specs.State.{State}
-use Rattle.gg_cut.specs.declared.plan.Body.{Body}
-use Rattle.gg_cut.specs.declared.plan.Machine as planned
-use Rattle.gg_cut.specs.declared.plan.Plan.{Plan}
+use Rattle.gg_cut_plan.specs.declared.plan.Body.{Body}
+use Rattle.gg_cut_plan.specs.declared.plan.Machine as planned
+use Rattle.gg_cut_plan.specs.declared.plan.Plan.{Plan}
 use Rattle.gg_node.specs.Machine.{Machine}
 use Rattle.gg_net.specs.Network.{Network}
-use Rattle.gg_sound.specs.Built.{machine_in, nameless}
+use Rattle.gg_build_laws.specs.Built.{machine_in, nameless}
 use Rattle.gg_snap_text.specs.Parts.{HasPart, HasSizeOf}
 use Rattle.gg_snap_text.proofs.PartLemmas.{no_bank}
 use Rattle.gg_snap.specs.Gathered.{AreDone, ArePipes, HoldsBody, IsAll, IsSized, held_by, kept_by, newest_tokens}

@@ -20,29 +20,29 @@ use Rattle.gg_part.specs.Part.{IsFrom, IsPart}
 use Rattle.gg_part.proofs.FormedLemmas.{IsWellFormed-part}
 use Rattle.gg_order.specs.Design.{IsDesign, Ordered}
 use Rattle.gg_partfile.specs.declared.request.Request.{Request}
-use Rattle.gg_moved.specs.KeepsToTree.{KeepsToTree}
-use Rattle.gg_pipe.specs.Made.{AllHeld}
-use Rattle.gg_cut.specs.declared.listed.Listed.{Listed}
-use Rattle.gg_cut.specs.declared.plan.Body.{Body}
-use Rattle.gg_cut.specs.declared.plan.Body.TheVariants.{Cut, Memory, Source, Tray, Bridge}
-use Rattle.gg_cut.specs.declared.plan.Plan.{Plan}
-use Rattle.gg_cut.specs.declared.wires.Wire.{Wire}
-use Rattle.gg_cut.specs.Bridges.{Models}
-use Rattle.gg_cut.specs.Channels.{numbered, source_wires}
-use Rattle.gg_cut.specs.Direct.{Hub, bare_of, copied, direct_of, if_plain, if_wide, is_direct, is_own, is_taken, left_by, may_be_direct, origin, origin_within, plan_hub, routes}
-use Rattle.gg_cut.specs.Fault.{first_fault}
-use Rattle.gg_cut.specs.Listed.{listed_of, owner_of}
-use Rattle.gg_cut.specs.Machines.{first_source}
-use Rattle.gg_cut.specs.Plan.{IsBody, IsPlan, MakesBy, Takes}
-use Rattle.gg_cut.proofs.OriginLemmas.{any-finds, clash}
-use Rattle.gg_cut.proofs.WireLemmas.{Each, owner-below, rest-below, rest_wires}
-use Rattle.gg_closed.proofs.FaultlessLemmas.{faultless-apart, faultless-few}
-use Rattle.gg_closed.proofs.ListLemmas.{map-cases}
-use Rattle.gg_routes.proofs.ChoiceLemmas.{Made, has-still, hub-has, inner-item, ins-before, item-inner, made-wire, wire-made, wire-taken}
-use Rattle.gg_routes.proofs.RouteLemmas.{IsBase, apart-at, same-wire}
-use Rattle.gg_routes.proofs.RoutedLemmas.{plan-routed, routed-base}
-use Rattle.gg_sound.specs.Built.{machine_in, nameless}
-use Rattle.gg_sound.proofs.MemoryPartLemmas.{IsMemoryPart, memory-part}
+use Rattle.gg_part_moved.specs.KeepsToTree.{KeepsToTree}
+use Rattle.gg_cut_reference.specs.Made.{AllHeld}
+use Rattle.gg_cut_plan.specs.declared.listed.Listed.{Listed}
+use Rattle.gg_cut_plan.specs.declared.plan.Body.{Body}
+use Rattle.gg_cut_plan.specs.declared.plan.Body.TheVariants.{Cut, Memory, Source, Tray, Bridge}
+use Rattle.gg_cut_plan.specs.declared.plan.Plan.{Plan}
+use Rattle.gg_cut_plan.specs.declared.wires.Wire.{Wire}
+use Rattle.gg_cut_plan.specs.Bridges.{Models}
+use Rattle.gg_cut_plan.specs.Channels.{numbered, source_wires}
+use Rattle.gg_cut_plan.specs.Direct.{Hub, bare_of, copied, direct_of, if_plain, if_wide, is_direct, is_own, is_taken, left_by, may_be_direct, origin, origin_within, plan_hub, routes}
+use Rattle.gg_cut_plan.specs.Fault.{first_fault}
+use Rattle.gg_cut_plan.specs.Listed.{listed_of, owner_of}
+use Rattle.gg_cut_plan.specs.Machines.{first_source}
+use Rattle.gg_cut_plan.specs.Plan.{IsBody, IsPlan, MakesBy, Takes}
+use Rattle.gg_cut_plan.proofs.OriginLemmas.{any-finds, clash}
+use Rattle.gg_cut_plan.proofs.WireLemmas.{Each, owner-below, rest-below, rest_wires}
+use Rattle.gg_cut_laws.proofs.FaultlessLemmas.{faultless-apart, faultless-few}
+use Rattle.gg_cut_laws.proofs.ListLemmas.{map-cases}
+use Rattle.gg_cut_routes.proofs.ChoiceLemmas.{Made, has-still, hub-has, inner-item, ins-before, item-inner, made-wire, wire-made, wire-taken}
+use Rattle.gg_cut_routes.proofs.RouteLemmas.{IsBase, apart-at, same-wire}
+use Rattle.gg_cut_routes.proofs.RoutedLemmas.{plan-routed, routed-base}
+use Rattle.gg_build_laws.specs.Built.{machine_in, nameless}
+use Rattle.gg_build_laws.proofs.MemoryPartLemmas.{IsMemoryPart, memory-part}
 use Rattle.gg_snap.specs.Gathered.{IsHeldBy, held_by}
 
 -- ---- a signal that is no copy

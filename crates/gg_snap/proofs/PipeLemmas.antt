@@ -8,8 +8,8 @@ use Rattle.std.proofs.lemmas.List.Folds.{list_any_at}
 use Rattle.std.proofs.lemmas.List.FromFn.{get_or-map-range_with_len, length-map-range_with_len}
 use Rattle.std.proofs.lemmas.Grind.{same_number_lists}
 use Rattle.gg_flat.specs.Line.{value_at}
-use Rattle.gg_cut.specs.declared.plan.Channel.{Channel}
-use Rattle.gg_cut.proofs.OriginLemmas.{any-finds}
+use Rattle.gg_cut_plan.specs.declared.plan.Channel.{Channel}
+use Rattle.gg_cut_plan.proofs.OriginLemmas.{any-finds}
 use Rattle.gg_build.specs.Begin.{AreTokens}
 use Rattle.gg_snap.specs.Gathered.{AreApart, ArePipes, HaveNumbers, is_piped_by, pipe_number}
 use Rattle.gg_snap.proofs.NumberLemmas.{below-less, chosen-is}

@@ -9,26 +9,26 @@ use Rattle.std.proofs.lemmas.List.Folds.{list_any_at}
 use Rattle.gg_flat.specs.Line.{value_at}
 use Rattle.gg_flat.specs.State.{State}
 use Rattle.gg_flat.proofs.ListLemmas.{some-item}
-use Rattle.gg_moved.specs.KeepsToTree.{KeepsToTree}
+use Rattle.gg_part_moved.specs.KeepsToTree.{KeepsToTree}
 use Rattle.gg_order.specs.Design.{IsDesign, Ordered}
 use Rattle.gg_partfile.specs.declared.request.Request.{Request}
-use Rattle.gg_cut.specs.declared.plan.Channel.{Channel}
-use Rattle.gg_cut.specs.declared.plan.Plan.{Plan}
-use Rattle.gg_cut.specs.declared.wires.Wire.{Wire}
-use Rattle.gg_cut.specs.Bridges.{Models}
-use Rattle.gg_cut.specs.Direct.{Hub, is_piped, plan_hub, routes}
-use Rattle.gg_cut.specs.Fault.{first_fault}
-use Rattle.gg_cut.specs.Listed.{first_place}
-use Rattle.gg_cut.specs.Plan.{IsPlan, wire_at}
-use Rattle.gg_cut.specs.Seated.{Bridges, plan_bridges, plan_wires, seated_wire}
-use Rattle.gg_cut.proofs.OriginLemmas.{any-finds, finds-any}
+use Rattle.gg_cut_plan.specs.declared.plan.Channel.{Channel}
+use Rattle.gg_cut_plan.specs.declared.plan.Plan.{Plan}
+use Rattle.gg_cut_plan.specs.declared.wires.Wire.{Wire}
+use Rattle.gg_cut_plan.specs.Bridges.{Models}
+use Rattle.gg_cut_plan.specs.Direct.{Hub, is_piped, plan_hub, routes}
+use Rattle.gg_cut_plan.specs.Fault.{first_fault}
+use Rattle.gg_cut_plan.specs.Listed.{first_place}
+use Rattle.gg_cut_plan.specs.Plan.{IsPlan, wire_at}
+use Rattle.gg_cut_plan.specs.Seated.{Bridges, plan_bridges, plan_wires, seated_wire}
+use Rattle.gg_cut_plan.proofs.OriginLemmas.{any-finds, finds-any}
 use Rattle.gg_cut_seats.proofs.LowLemmas.{wire-signal}
-use Rattle.gg_closed.proofs.PlaceLemmas.{same-bool}
-use Rattle.gg_routes.proofs.ChoiceLemmas.{any-wire}
-use Rattle.gg_routes.proofs.RouteLemmas.{IsBase, routes-known, routes-once}
-use Rattle.gg_routes.proofs.RoutedLemmas.{routed-base}
-use Rattle.gg_pipe.specs.Follows.{plan_token, token_or}
-use Rattle.gg_pipe.specs.Links.{is_carried, pipes_of}
+use Rattle.gg_cut_laws.proofs.PlaceLemmas.{same-bool}
+use Rattle.gg_cut_routes.proofs.ChoiceLemmas.{any-wire}
+use Rattle.gg_cut_routes.proofs.RouteLemmas.{IsBase, routes-known, routes-once}
+use Rattle.gg_cut_routes.proofs.RoutedLemmas.{routed-base}
+use Rattle.gg_cut_reference.specs.Follows.{plan_token, token_or}
+use Rattle.gg_cut_reference.specs.Links.{is_carried, pipes_of}
 use Rattle.gg_snap.specs.Gathered.{AreApart, is_piped_by, pipe_number}
 use Rattle.gg_snap.proofs.NumberLemmas.{below-less, chosen, chosen-at, chosen-place, filter-same}
 use Rattle.gg_snap.proofs.PipeLemmas.{channel-of, piped-at}

@@ -13,10 +13,10 @@ use Rattle.gg_flat.proofs.ListLemmas.{some-item}
 use Rattle.gg_flat.specs.Run.{Start, since}
 use Rattle.gg_flat.specs.Streams.{Flow}
 use Rattle.gg_flat_run.proofs.AlongLemmas.{IsState-at}
-use Rattle.gg_cut.specs.declared.plan.Plan.{Plan}
-use Rattle.gg_pipe.specs.Made.{IsFresh, plan_reference}
-use Rattle.gg_pipe.specs.Reference.{IsReference, Views, reader_by}
-use Rattle.gg_pipe.proofs.PlanLemmas.{plan-formed, plan-made}
+use Rattle.gg_cut_plan.specs.declared.plan.Plan.{Plan}
+use Rattle.gg_cut_reference.specs.Made.{IsFresh, plan_reference}
+use Rattle.gg_cut_reference.specs.Reference.{IsReference, Views, reader_by}
+use Rattle.gg_cut_reference.proofs.PlanLemmas.{plan-formed, plan-made}
 use Rattle.gg_build.specs.Build.{IsToRunFrom}
 use Rattle.gg_snap_text.specs.Parts.{HasSizeOf}
 use Rattle.gg_snap_text.proofs.PartLemmas.{no_bank}

@@ -16,32 +16,32 @@ use Rattle.gg_flat_tree.specs.Tree.{path_at}
 use Rattle.gg_part.specs.PartRun.{part_ratios, part_row, part_rows, part_start, part_state}
 use Rattle.gg_part.specs.declared.part.Part.{Part}
 use Rattle.gg_part.proofs.RunLemmas.{HasCounts, state-part}
-use Rattle.gg_cut.specs.declared.plan.Body.{Body}
-use Rattle.gg_cut.specs.declared.plan.Body.TheVariants.{Cut, Memory, Source, Tray, Bridge}
-use Rattle.gg_cut.specs.declared.plan.Machine as planned
-use Rattle.gg_cut.specs.declared.plan.Plan.{Plan}
-use Rattle.gg_cut.specs.Direct.{plan_hub}
-use Rattle.gg_cut.specs.Listed.{listed_of}
-use Rattle.gg_cut.specs.Plan.{IsBody, IsCutPart}
-use Rattle.gg_closed.proofs.FaultlessLemmas.{faultless-apart, faultless-few}
-use Rattle.gg_routes.proofs.RoutedLemmas.{plan-routed}
-use Rattle.gg_pipe.specs.Made.{IsFresh, plan_reference, plan_seen}
-use Rattle.gg_pipe.specs.Reference.{with_paths}
-use Rattle.gg_pipe.proofs.PlanLemmas.{plan-part}
-use Rattle.gg_pipe.proofs.ReferenceLemmas.{drop-part, state-paths}
+use Rattle.gg_cut_plan.specs.declared.plan.Body.{Body}
+use Rattle.gg_cut_plan.specs.declared.plan.Body.TheVariants.{Cut, Memory, Source, Tray, Bridge}
+use Rattle.gg_cut_plan.specs.declared.plan.Machine as planned
+use Rattle.gg_cut_plan.specs.declared.plan.Plan.{Plan}
+use Rattle.gg_cut_plan.specs.Direct.{plan_hub}
+use Rattle.gg_cut_plan.specs.Listed.{listed_of}
+use Rattle.gg_cut_plan.specs.Plan.{IsBody, IsCutPart}
+use Rattle.gg_cut_laws.proofs.FaultlessLemmas.{faultless-apart, faultless-few}
+use Rattle.gg_cut_routes.proofs.RoutedLemmas.{plan-routed}
+use Rattle.gg_cut_reference.specs.Made.{IsFresh, plan_reference, plan_seen}
+use Rattle.gg_cut_reference.specs.Reference.{with_paths}
+use Rattle.gg_cut_reference.proofs.PlanLemmas.{plan-part}
+use Rattle.gg_cut_reference.proofs.ReferenceLemmas.{drop-part, state-paths}
 use Rattle.gg_node.specs.Machine.{Machine, RunsPiece, machine_at, no_state}
 use Rattle.gg_net.specs.Network.{Frame, Kind, Network, frame_of, kind_at, kind_of}
 use Rattle.gg_net.specs.Kept.{IsStateOf, Kept, ins_of, rows_at, run_state, served_by, start_at}
 use Rattle.gg_build.specs.Build.{IsToRunFrom, run_token}
-use Rattle.gg_sound.specs.Built.{IsBuilt, IsMemoryOf, IsUnitOf, body_rows, body_start, body_state, flow_of, machine_in, nameless, rows_of, states_of}
-use Rattle.gg_sound.proofs.AlikeLemmas.{state-alike}
-use Rattle.gg_sound.proofs.BeginLemmas.{memory-begins}
-use Rattle.gg_sound.proofs.FitLemmas.{kind-is}
-use Rattle.gg_sound.proofs.MemoryPartLemmas.{memory-part}
-use Rattle.gg_sound.proofs.RowLemmas.{models_in, rows-at}
-use Rattle.gg_sound.proofs.SeenLemmas.{seen-typed}
-use Rattle.gg_sound.proofs.ShownLemmas.{rows-twice, seen-twice}
-use Rattle.gg_sound.proofs.StateLemmas.{ratios-again}
+use Rattle.gg_build_laws.specs.Built.{IsBuilt, IsMemoryOf, IsUnitOf, body_rows, body_start, body_state, flow_of, machine_in, nameless, rows_of, states_of}
+use Rattle.gg_build_laws.proofs.AlikeLemmas.{state-alike}
+use Rattle.gg_build_laws.proofs.BeginLemmas.{memory-begins}
+use Rattle.gg_build_laws.proofs.FitLemmas.{kind-is}
+use Rattle.gg_build_laws.proofs.MemoryPartLemmas.{memory-part}
+use Rattle.gg_build_laws.proofs.RowLemmas.{models_in, rows-at}
+use Rattle.gg_build_laws.proofs.SeenLemmas.{seen-typed}
+use Rattle.gg_build_laws.proofs.ShownLemmas.{rows-twice, seen-twice}
+use Rattle.gg_build_laws.proofs.StateLemmas.{ratios-again}
 use Rattle.gg_run.specs.Rows.{StandsAt}
 use Rattle.gg_snap_text.specs.Parts.{IsPartState}
 use Rattle.gg_snap.specs.Gathered.{AreIn, HoldsBody}

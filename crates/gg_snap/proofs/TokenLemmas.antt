@@ -10,23 +10,23 @@ use Rattle.gg_flat.specs.Line.{shape_at, value_at}
 use Rattle.gg_flat.specs.Run.{Start, column, since, state_at}
 use Rattle.gg_flat.specs.Streams.{Flow}
 use Rattle.gg_flat_run.proofs.SinceLemmas.{since-next, since-self}
-use Rattle.gg_cut.specs.declared.plan.Channel.{Channel}
-use Rattle.gg_cut.specs.declared.plan.Plan.{Plan}
-use Rattle.gg_cut.specs.Direct.{plan_hub}
-use Rattle.gg_cut.specs.Solves.{AreRows, stream}
-use Rattle.gg_pipe.specs.Follows.{plan_token}
-use Rattle.gg_pipe.specs.Links.{pipes_of}
-use Rattle.gg_pipe.specs.Made.{AllHeld, IsFresh, plan_reference}
-use Rattle.gg_pipe.specs.Reference.{IsPipeRegister}
-use Rattle.gg_pipe.proofs.PipeLemmas.{IsPipe, after, shifted-here, shifted-high}
-use Rattle.gg_pipe.proofs.PlanLemmas.{plan-made}
+use Rattle.gg_cut_plan.specs.declared.plan.Channel.{Channel}
+use Rattle.gg_cut_plan.specs.declared.plan.Plan.{Plan}
+use Rattle.gg_cut_plan.specs.Direct.{plan_hub}
+use Rattle.gg_cut_plan.specs.Solves.{AreRows, stream}
+use Rattle.gg_cut_reference.specs.Follows.{plan_token}
+use Rattle.gg_cut_reference.specs.Links.{pipes_of}
+use Rattle.gg_cut_reference.specs.Made.{AllHeld, IsFresh, plan_reference}
+use Rattle.gg_cut_reference.specs.Reference.{IsPipeRegister}
+use Rattle.gg_cut_reference.proofs.PipeLemmas.{IsPipe, after, shifted-here, shifted-high}
+use Rattle.gg_cut_reference.proofs.PlanLemmas.{plan-made}
 use Rattle.gg_net.specs.declared.shape.Wire.{Wire}
 use Rattle.gg_net.specs.Network.{Frame, Network, queue_at, wire_at}
 use Rattle.gg_net.specs.Kept.{Kept, list_at}
 use Rattle.gg_net.proofs.StateLemmas.{column-at}
-use Rattle.gg_sound.specs.Built.{first_token, wires_of_plan}
-use Rattle.gg_sound.proofs.LinkLemmas.{length-from, wire-from}
-use Rattle.gg_sound.proofs.SolvedLemmas.{stream-at}
+use Rattle.gg_build_laws.specs.Built.{first_token, wires_of_plan}
+use Rattle.gg_build_laws.proofs.LinkLemmas.{length-from, wire-from}
+use Rattle.gg_build_laws.proofs.SolvedLemmas.{stream-at}
 use Rattle.gg_build.specs.Build.{IsToRunFrom, run_token}
 use Rattle.gg_run.specs.Rows.{StandsAt}
 use Rattle.gg_snap.specs.Gathered.{ArePipes, IsAll, newest, newest_tokens, pipe_number}

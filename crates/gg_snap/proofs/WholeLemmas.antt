@@ -4,17 +4,17 @@ use Rattle.std.proofs.lemmas.Bool.{cases_lt}
 use Rattle.gg_flat.specs.declared.piece.Driver.TheVariants.{Held}
 use Rattle.gg_flat.specs.Circuit.{FlatCircuit}
 use Rattle.gg_flat_tree.specs.Tree.{InstanceTree}
-use Rattle.gg_moved.specs.KeepsToTree.{KeepsToTree}
+use Rattle.gg_part_moved.specs.KeepsToTree.{KeepsToTree}
 use Rattle.gg_order.specs.Design.{IsDesign, Ordered}
 use Rattle.gg_partfile.specs.declared.request.Request.{Request}
-use Rattle.gg_cut.specs.Direct.{is_driven, is_piped, plan_hub}
-use Rattle.gg_cut.specs.Fault.{first_fault}
-use Rattle.gg_cut.specs.Listed.{listed_of}
-use Rattle.gg_closed.proofs.FaultlessLemmas.{faultless-apart}
-use Rattle.gg_routes.proofs.RoutedLemmas.{routed-base}
-use Rattle.gg_pipe.specs.Made.{AllHeld, holder_of, keeper_of, plan_reference}
-use Rattle.gg_pipe.proofs.WholeReference.{made}
-use Rattle.gg_pipe.specs.Reference.{IsReference, Views, driver_by}
+use Rattle.gg_cut_plan.specs.Direct.{is_driven, is_piped, plan_hub}
+use Rattle.gg_cut_plan.specs.Fault.{first_fault}
+use Rattle.gg_cut_plan.specs.Listed.{listed_of}
+use Rattle.gg_cut_laws.proofs.FaultlessLemmas.{faultless-apart}
+use Rattle.gg_cut_routes.proofs.RoutedLemmas.{routed-base}
+use Rattle.gg_cut_reference.specs.Made.{AllHeld, holder_of, keeper_of, plan_reference}
+use Rattle.gg_cut_reference.proofs.WholeReference.{made}
+use Rattle.gg_cut_reference.specs.Reference.{IsReference, Views, driver_by}
 use Rattle.gg_snap_text.specs.Whole.{HasHolder, IsWhole}
 
 module _ (one all : FlatCircuit) (views : Views) (pipes : List ℕ) (reference : IsReference one all views pipes) (tree : InstanceTree) (keeps : KeepsToTree one tree) (held : AllHeld one) where

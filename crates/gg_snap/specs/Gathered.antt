@@ -7,13 +7,13 @@ use Rattle.gg_flat.specs.Circuit.{FlatCircuit}
 use Rattle.gg_flat.specs.Line.{value_at}
 use Rattle.gg_flat.specs.Memory.{bank_at}
 use Rattle.gg_flat.specs.State.{State, opening}
-use Rattle.gg_cut.specs.declared.plan.Body.{Body}
-use Rattle.gg_cut.specs.declared.plan.Body.TheVariants.{Cut, Memory, Source, Tray, Bridge}
-use Rattle.gg_cut.specs.declared.plan.Channel.{Channel}
-use Rattle.gg_cut.specs.declared.plan.Plan.{Plan}
+use Rattle.gg_cut_plan.specs.declared.plan.Body.{Body}
+use Rattle.gg_cut_plan.specs.declared.plan.Body.TheVariants.{Cut, Memory, Source, Tray, Bridge}
+use Rattle.gg_cut_plan.specs.declared.plan.Channel.{Channel}
+use Rattle.gg_cut_plan.specs.declared.plan.Plan.{Plan}
 use Rattle.gg_node.specs.Machine.{Machine, RunsPiece, machine_at}
 use Rattle.gg_net.specs.Network.{Network, queue_at}
-use Rattle.gg_sound.specs.Built.{machine_in}
+use Rattle.gg_build_laws.specs.Built.{machine_in}
 use Rattle.gg_snap_text.specs.Parts.{HasSizeOf, IsPartState}
 
 -- a machine runs a piece

@@ -5,9 +5,9 @@ use Rattle.std.specs.Prelude.{◌≡◌, ℕ, drop, List, []}
 use Rattle.gg_flat.specs.Run.{Start, since, state_at}
 use Rattle.gg_flat.specs.State.{State}
 use Rattle.gg_flat.specs.Streams.{Flow}
-use Rattle.gg_cut.specs.declared.plan.Plan.{Plan}
+use Rattle.gg_cut_plan.specs.declared.plan.Plan.{Plan}
 use Rattle.gg_order.specs.Design.{Ordered}
-use Rattle.gg_pipe.specs.Made.{plan_reference}
+use Rattle.gg_cut_reference.specs.Made.{plan_reference}
 use Rattle.gg_net.specs.Network.{Network}
 use Rattle.gg_build.specs.Build.{IsToRunFrom, run_token}
 use Rattle.gg_run.specs.Rows.{StandsAt}

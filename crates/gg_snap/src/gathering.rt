@@ -2,7 +2,7 @@
 ghost use Rattle.std.specs.Prelude.{◌≡◌, ℕ, ◌<◌, ◌≤◌, ◌^◌, All, IfOk, MatchOption, OnOk, length};
 ghost use Rattle.gg_flat.specs.Memory.{bank_at};
 ghost use Rattle.gg_flat.specs.State.{State, opening};
-ghost use Rattle.gg_cut.specs.declared.plan.Plan.{Plan};
+ghost use Rattle.gg_cut_plan.specs.declared.plan.Plan.{Plan};
 ghost use Rattle.gg_node.specs.Machine.{machine_at};
 ghost use Rattle.gg_net.specs.Network.{queue_at};
 ghost use Rattle.gg_build.specs.Node.{machines_of};
@@ -12,7 +12,7 @@ ghost use Rattle.gg_snap.specs.Gathered.{AreApart, AreDone, AreIn, HoldsBody, Ho
 use crate::pipes::pipes_of;
 use gg_bridge::Bridge;
 use gg_build::Node;
-use gg_cut::{Body, Machine, Plan};
+use gg_cut_plan::{Body, Machine, Plan};
 use gg_flat::{Piece, Streams};
 use gg_flat_run::State;
 use gg_net::Net;

@@ -3,11 +3,11 @@ ghost use Rattle.std.specs.Prelude.{◌≡◌, ℕ, ◌+◌, ◌-◌, ◌^◌, �
 ghost use Rattle.std.specs.List.{range_with_len};
 ghost use Rattle.gg_flat.specs.Line.{value_at};
 ghost use Rattle.gg_order.specs.Marks.{is_marked};
-ghost use Rattle.gg_cut.specs.declared.plan.Channel.{Channel};
+ghost use Rattle.gg_cut_plan.specs.declared.plan.Channel.{Channel};
 ghost use Rattle.gg_build.specs.Begin.{AreTokens};
 ghost use Rattle.gg_snap.specs.Gathered.{ArePipes, AreApart, HaveNumbers, is_piped_by, number_below, pipe_number};
 
-use gg_cut::{Channel, unmarked};
+use gg_cut_plan::{Channel, unmarked};
 use std::alloc::{AllocError, Global};
 
 // For each signal that has a pipe, by their numbers, the token of its channel. `tokens` has a token for each channel.

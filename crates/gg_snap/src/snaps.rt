@@ -2,7 +2,7 @@
 ghost use Rattle.std.specs.Prelude.{◌≡◌, ◌≤◌, ℕ, List, IfOk};
 ghost use Rattle.gg_flat.specs.Run.{Start};
 ghost use Rattle.gg_limits.specs.Limits.{cycle_limit};
-ghost use Rattle.gg_pipe.specs.Made.{AllHeld, IsFresh, plan_reference};
+ghost use Rattle.gg_cut_reference.specs.Made.{AllHeld, IsFresh, plan_reference};
 ghost use Rattle.gg_build.specs.Build.{IsOpeningFrom, run_token};
 ghost use Rattle.gg_snap.specs.Whole.{CanBegin, HasEnded, last_state};
 
@@ -10,7 +10,7 @@ use crate::gathering::gather;
 use crate::pipes::tokens_of;
 use gg_bridge::Bridge;
 use gg_build::{Begin, Node, build_from};
-use gg_cut::Plan;
+use gg_cut_plan::Plan;
 use gg_net::{Net, Streams};
 use gg_order::Design;
 use gg_snap_text::Snap;

@@ -6,8 +6,8 @@ use Rattle.std.specs.List.{flat_map}
 use Rattle.gg_ast.specs.declared.expression.Reference.{Reference}
 use Rattle.gg_ast.specs.declared.module.Port.{Port}
 use Rattle.gg_ast.specs.declared.statement.Stmt.{Stmt}
-use Rattle.gg_names.specs.declared.role.Role.{Role}
-use Rattle.gg_names.specs.Namespace.{name_by, names_after, port_names}
+use Rattle.gg_shape_names.specs.declared.role.Role.{Role}
+use Rattle.gg_shape_names.specs.Namespace.{name_by, names_after, port_names}
 use Rattle.gg_types.specs.declared.sort.Own.{Own}
 use Rattle.gg_types.specs.Named.{AreNext}
 use Rattle.gg_types.specs.Owned.{port_own}

@@ -23,18 +23,18 @@ use Rattle.gg_ast.specs.declared.statement.StmtKind.TheVariants as kinds
 use Rattle.gg_ast.specs.Term.{Term, NamedTerm, ConstantTerm, UnaryTerm, BinaryTerm, FixedTerm, MuxTerm}
 use Rattle.gg_ast.specs.Tree.{ModuleTree, CircuitTree}
 use Rattle.gg_flat.specs.Memory.{first_width, address_width}
-use Rattle.gg_names.specs.declared.role.Role.{Role}
-use Rattle.gg_names.specs.declared.role.Role.TheVariants as roles
-use Rattle.gg_names.specs.declared.role.PortField.{PortField}
-use Rattle.gg_names.specs.declared.role.PortField.TheVariants.{Addr, En, Clk, Data, Mask}
-use Rattle.gg_names.specs.Memory.{memory_ports, port_fields}
-use Rattle.gg_names.specs.Modules.{module_at}
-use Rattle.gg_names.specs.Namespace.{module_named, entry_by_port, entries_by, entries_by_kind, instance_ports, instance_port, port_entries, port_field, scope_of, meaning_of, names_in, role_of_port, role_of_instance_port}
-use Rattle.gg_names.specs.Scope.{entry_of, first_name, same_reference}
+use Rattle.gg_shape_names.specs.declared.role.Role.{Role}
+use Rattle.gg_shape_names.specs.declared.role.Role.TheVariants as roles
+use Rattle.gg_shape_names.specs.declared.role.PortField.{PortField}
+use Rattle.gg_shape_names.specs.declared.role.PortField.TheVariants.{Addr, En, Clk, Data, Mask}
+use Rattle.gg_shape_names.specs.Memory.{memory_ports, port_fields}
+use Rattle.gg_shape_names.specs.Modules.{module_at}
+use Rattle.gg_shape_names.specs.Namespace.{module_named, entry_by_port, entries_by, entries_by_kind, instance_ports, instance_port, port_entries, port_field, scope_of, meaning_of, names_in, role_of_port, role_of_instance_port}
+use Rattle.gg_shape_names.specs.Scope.{entry_of, first_name, same_reference}
 use Rattle.gg_shape.specs.declared.fault.Fault.{Fault}
 use Rattle.gg_shape.specs.declared.fault.Word.{Word}
 use Rattle.gg_shape.specs.declared.fault.Word.TheVariants as words
-use Rattle.gg_names.specs.Along.{along, along_from}
+use Rattle.gg_shape_names.specs.Along.{along, along_from}
 use Rattle.gg_shape.specs.Faults.{fault_if}
 use Rattle.gg_types.specs.declared.sort.Own.{Own}
 use Rattle.gg_types.specs.declared.sort.Own.TheVariants as own

@@ -20,7 +20,7 @@ use Rattle.gg_ast.specs.declared.statement.StmtKind.{StmtKind}
 use Rattle.gg_ast.specs.declared.statement.StmtKind.TheVariants.{Wire, Node, Register, Instance, Memory, Connect, Invalid, Report}
 use Rattle.gg_ast.specs.Term.{Term, NamedTerm, ConstantTerm, UnaryTerm, BinaryTerm, FixedTerm, MuxTerm}
 use Rattle.gg_ast.specs.Tree.{ModuleTree}
-use Rattle.gg_names.specs.Along.{first}
+use Rattle.gg_shape_names.specs.Along.{first}
 use Rattle.gg_shape.specs.declared.fault.Fault.{Fault}
 use Rattle.gg_shape.specs.declared.fault.Fault.TheVariants.{WrongKind, WrongWidth, LiteralTooLarge, TooWide, WrongClock}
 use Rattle.gg_shape.specs.declared.fault.Word.TheVariants as word

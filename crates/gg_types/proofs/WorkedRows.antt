@@ -39,7 +39,7 @@ use Rattle.gg_shape.specs.declared.fault.Word.TheVariants as word
 use Rattle.gg_types.specs.Literal.{digit}
 use Rattle.gg_types.specs.declared.sort.Own.TheVariants.{Single}
 use Rattle.gg_types.specs.declared.sort.Sort.TheVariants as sort
-use Rattle.gg_names.specs.declared.role.Role.TheVariants.{InputPort}
+use Rattle.gg_shape_names.specs.declared.role.Role.TheVariants.{InputPort}
 use Rattle.gg_types.specs.Types.{type_faults, known_in, report_faults}
 
 -- ---- the parts of the counter

@@ -8,14 +8,14 @@ use Rattle.gg_ast.specs.declared.module.GroundType.{GroundType}
 use Rattle.gg_ast.specs.declared.module.Port.{Port}
 use Rattle.gg_ast.specs.declared.statement.Field.{Field}
 use Rattle.gg_flat.specs.Memory.{address_width}
-use Rattle.gg_names.specs.declared.role.Role.{Role}
-use Rattle.gg_names.specs.declared.role.Role.TheVariants as roles
-use Rattle.gg_names.specs.declared.role.PortField.{PortField}
-use Rattle.gg_names.specs.declared.role.PortField.TheVariants.{Addr, En, Clk, Data, Mask}
+use Rattle.gg_shape_names.specs.declared.role.Role.{Role}
+use Rattle.gg_shape_names.specs.declared.role.Role.TheVariants as roles
+use Rattle.gg_shape_names.specs.declared.role.PortField.{PortField}
+use Rattle.gg_shape_names.specs.declared.role.PortField.TheVariants.{Addr, En, Clk, Data, Mask}
 use Rattle.gg_types.specs.Fields.{first_said, type_said, depth_said}
 use Rattle.gg_types.specs.Named.{find_named}
-use Rattle.gg_names.specs.Scope.{first_name}
-use Rattle.gg_names.specs.Namespace.{meaning_of}
+use Rattle.gg_shape_names.specs.Scope.{first_name}
+use Rattle.gg_shape_names.specs.Namespace.{meaning_of}
 use Rattle.gg_types.specs.declared.sort.Sort.{Sort}
 use Rattle.gg_types.specs.declared.sort.Sort.TheVariants.{Clock}
 use Rattle.gg_types.specs.declared.sort.Own.{Own}

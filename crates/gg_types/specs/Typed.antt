@@ -4,10 +4,10 @@ use Rattle.std.specs.Prelude.{◌≡◌, ℕ, ◌<◌, List, [], Option, length,
 use Rattle.gg_bits.specs.Shape.{shape}
 use Rattle.gg_ast.specs.Places.{place_of}
 use Rattle.gg_ast.specs.Tree.{CircuitTree, ModuleTree}
-use Rattle.gg_names.specs.Modules.{module_at, Holds}
-use Rattle.gg_names.specs.Namespace.{names_in}
+use Rattle.gg_shape_names.specs.Modules.{module_at, Holds}
+use Rattle.gg_shape_names.specs.Namespace.{names_in}
 use Rattle.gg_shape.specs.Judged.{IsShaped}
-use Rattle.gg_walk.specs.Graph.{IsOrderOf}
+use Rattle.gg_graph.specs.Graph.{IsOrderOf}
 use Rattle.gg_types.specs.declared.sort.Own.{Own}
 use Rattle.gg_types.specs.declared.sort.Sort.{Sort}
 use Rattle.gg_types.specs.declared.sort.Sort.TheVariants as sorts

@@ -29,10 +29,10 @@ use Rattle.gg_shape.specs.declared.fault.Fault.{Fault}
 use Rattle.gg_shape.specs.declared.fault.Fault.TheVariants.{UnknownName, WrongKind, WrongWidth, WrongParameter, LiteralTooLarge, TooWide, WrongClock}
 use Rattle.gg_shape.specs.declared.fault.Word.{Word}
 use Rattle.gg_shape.specs.declared.fault.Word.TheVariants as words
-use Rattle.gg_names.specs.Along.{along}
-use Rattle.gg_names.specs.declared.role.Role.{Role}
-use Rattle.gg_names.specs.Scope.{written}
-use Rattle.gg_names.specs.Namespace.{scope_of}
+use Rattle.gg_shape_names.specs.Along.{along}
+use Rattle.gg_shape_names.specs.declared.role.Role.{Role}
+use Rattle.gg_shape_names.specs.Scope.{written}
+use Rattle.gg_shape_names.specs.Namespace.{scope_of}
 use Rattle.gg_shape.specs.Faults.{fault_if}
 use Rattle.gg_types.specs.Literal.{literal_fits}
 use Rattle.gg_types.specs.Clocks.{is_input, leads_to_input}

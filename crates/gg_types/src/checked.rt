@@ -1,18 +1,18 @@
 //! `Typed`: a circuit without faults of shape and types.
 ghost use Rattle.std.specs.Prelude.{◌≡◌, ◌<◌, [], length};
 ghost use Rattle.std.specs.Option.{option_map};
-ghost use Rattle.gg_names.specs.Modules.{module_at, Holds};
+ghost use Rattle.gg_shape_names.specs.Modules.{module_at, Holds};
 ghost use Rattle.gg_shape.specs.Judged.{IsShaped};
 ghost use Rattle.gg_types.specs.Clocks.{clock_followed};
 ghost use Rattle.gg_types.specs.Typed.{IsTyped, sort};
 ghost use Rattle.gg_types.specs.Types.{sort_named, type_faults};
-ghost use Rattle.gg_walk.specs.Graph.{IsOrderOf};
+ghost use Rattle.gg_graph.specs.Graph.{IsOrderOf};
 
 use crate::lookup::sort_of_name;
 use crate::sort::{Own, Sort, Typing};
 use gg_ast::Reference;
 use gg_bits::{Items, Ty};
-use gg_names::Namespace;
+use gg_shape_names::Namespace;
 use std::marker::Model;
 
 /// A circuit with none of the faults F1 to F14: its names, their type data (`Own`), and an order of its modules.

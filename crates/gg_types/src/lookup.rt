@@ -1,15 +1,15 @@
 //! The types of what references name.
 ghost use Rattle.std.specs.Prelude.{◌≡◌, ◌<◌, Some, length};
 ghost use Rattle.std.specs.Option.{option_map};
-ghost use Rattle.gg_names.specs.Modules.{module_at};
-ghost use Rattle.gg_names.specs.Namespace.{names_in, scope_of};
+ghost use Rattle.gg_shape_names.specs.Modules.{module_at};
+ghost use Rattle.gg_shape_names.specs.Namespace.{names_in, scope_of};
 ghost use Rattle.gg_types.specs.Named.{find_named, owned};
 ghost use Rattle.gg_types.specs.Owned.{known_entry, typed_by, single, field_of};
 
 use crate::sort::{Own, Sort, field_sort, sort_of};
 use gg_ast::Reference;
 use gg_bits::Name;
-use gg_names::{Namespace, PortField, Role, first_name};
+use gg_shape_names::{Namespace, PortField, Role, first_name};
 
 /// The type of what a reference names in a module, given the type data of the first of its declared names. None if it names
 /// nothing that has a type there.

@@ -6,7 +6,7 @@ ghost use Rattle.gg_types.specs.Sorts.{sort_of};
 use gg_ast::GroundType;
 use gg_bits::{Kind, Ty};
 use gg_flat::address_width;
-use gg_names::PortField;
+use gg_shape_names::PortField;
 
 /// A type as it is written, or that of an expression with such types.
 #[derive(Clone, Copy, PartialEq, Eq)]

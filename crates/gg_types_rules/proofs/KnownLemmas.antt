@@ -4,9 +4,9 @@ use Rattle.std.specs.List.{flat_map}
 use Rattle.gg_ast.specs.declared.module.Port.{Port}
 use Rattle.gg_ast.specs.declared.statement.Stmt.{Stmt}
 use Rattle.gg_ast.specs.Tree.{CircuitTree, ModuleTree}
-use Rattle.gg_names.specs.Modules.{module_at}
-use Rattle.gg_names.specs.Namespace.{names_in, scope_of}
-use Rattle.gg_names.specs.Along.{along}
+use Rattle.gg_shape_names.specs.Modules.{module_at}
+use Rattle.gg_shape_names.specs.Namespace.{names_in, scope_of}
+use Rattle.gg_shape_names.specs.Along.{along}
 use Rattle.gg_types_rules.specs.declared.known.Known.{Known}
 use Rattle.gg_types.specs.Clocks.{leads_to_input}
 use Rattle.gg_types_rules.specs.Known.{names_seen, roles_seen, traced_seen}

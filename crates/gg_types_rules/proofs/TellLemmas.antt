@@ -4,7 +4,7 @@ use Rattle.std.proofs.Math.ListN.{get_or-append}
 use Rattle.std.proofs.Math.Seq.{get_or-append_seam}
 use Rattle.std.proofs.lemmas.Bool.Decides.{nat_tests}
 use Rattle.gg_ast.specs.Tree.{ModuleTree}
-use Rattle.gg_names.specs.Modules.{module_at}
+use Rattle.gg_shape_names.specs.Modules.{module_at}
 use Rattle.gg_types.specs.declared.sort.Own.{Own}
 use Rattle.gg_types.specs.Typed.{TellsOwn, TellModules, TellsClocks, TellAllClocks}
 

@@ -2,9 +2,9 @@
 use Rattle.std.specs.Prelude.{ℕ, Bool, List, Option}
 use Rattle.gg_ast.specs.declared.expression.Reference.{Reference}
 use Rattle.gg_ast.specs.Tree.{ModuleTree}
-use Rattle.gg_names.specs.declared.role.Role.{Role}
-use Rattle.gg_names.specs.Modules.{module_at}
-use Rattle.gg_names.specs.Namespace.{names_in, scope_of}
+use Rattle.gg_shape_names.specs.declared.role.Role.{Role}
+use Rattle.gg_shape_names.specs.Modules.{module_at}
+use Rattle.gg_shape_names.specs.Namespace.{names_in, scope_of}
 use Rattle.gg_types.specs.declared.sort.Own.{Own}
 use Rattle.gg_types_rules.specs.declared.known.Known.{Known}
 use Rattle.gg_types.specs.Named.{owned, flagged}

@@ -1,24 +1,24 @@
 //! `types`: the first fault of a circuit's types, or the circuit with its names' types.
 ghost use Rattle.std.specs.Prelude.{◌≡◌, ◌<◌, ◌++◌, ◌∷◌, ℕ, List, [], IfOk, length, flat_map, take};
-ghost use Rattle.gg_names.specs.Modules.{module_at, Holds};
-ghost use Rattle.gg_names.specs.Namespace.{scope_of};
+ghost use Rattle.gg_shape_names.specs.Modules.{module_at, Holds};
+ghost use Rattle.gg_shape_names.specs.Namespace.{scope_of};
 ghost use Rattle.gg_shape.specs.Faults.{Answers};
 ghost use Rattle.gg_shape.specs.Judged.{IsShaped};
 ghost use Rattle.gg_shape.specs.Rings.{HasNoRing};
 ghost use Rattle.gg_types.specs.Clocks.{leads_to_input};
 ghost use Rattle.gg_types.specs.Typed.{TellsOwn, TellModules, TellsClocks, TellAllClocks};
 ghost use Rattle.gg_types.specs.Types.{module_type_faults, faults_of_module, type_faults};
-ghost use Rattle.gg_walk.specs.Graph.{IsOrderOf, IsRing};
+ghost use Rattle.gg_graph.specs.Graph.{IsOrderOf, IsRing};
 
 use crate::clocks::{Traces, trace};
 use crate::known::Known;
 use crate::module::judge_all;
 use gg_ast::{Circuit, Module};
 use gg_bits::Items;
-use gg_names::{NamesFault, Namespace};
+use gg_graph::{Graph, WalkFault, walk};
 use gg_shape::CheckFault;
+use gg_shape_names::{NamesFault, Namespace};
 use gg_types::{Own, Typed};
-use gg_walk::{Graph, WalkFault, walk};
 use std::alloc::{AllocError, Global};
 
 /// What `types` returns in place of Ok.

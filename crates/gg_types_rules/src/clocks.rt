@@ -1,8 +1,8 @@
 //! Where names lead, through the drivers of wires and nodes: whether to an input port (F14), and to which Clock input.
 ghost use Rattle.std.specs.Prelude.{◌≡◌, ◌<◌, ◌+◌, ◌*◌, ◌≤◌, ◌-◌, ◌%◌, ◌/◌, ◌++◌, ℕ, List, IfOk, IfSome, length, map, flat_map, option_copied, option_to_list, slice_index, Some, None, if◌then◌else◌};
 ghost use Rattle.gg_ast.specs.Tree.{ModuleTree};
-ghost use Rattle.gg_names.specs.Modules.{module_at};
-ghost use Rattle.gg_names.specs.Namespace.{names_in};
+ghost use Rattle.gg_shape_names.specs.Modules.{module_at};
+ghost use Rattle.gg_shape_names.specs.Namespace.{names_in};
 ghost use Rattle.gg_types.specs.Clocks.{bare as bare_name, driven_by, is_followed as leads_on, is_outside as comes_from_outside, leads, leads_to_input, way_of_port as port_way, ways_by, ways_of};
 ghost use Rattle.gg_types.specs.Named.{flagged};
 ghost use Rattle.gg_types.specs.Places.{ArePlaces, TellsNext, Reaches, next_at, place_in, with_driven, way_at};
@@ -12,7 +12,7 @@ use crate::circuit::module_of;
 use crate::inputs::{clock_numbers, numbers_reached};
 use gg_ast::{Direction, Expr, ExprKind, Module, Port, Reference, Stmt, StmtKind};
 use gg_bits::Name;
-use gg_names::Namespace;
+use gg_shape_names::Namespace;
 use gg_types::Way;
 use std::alloc::{AllocError, Global};
 use std::marker::Model;
@@ -37,7 +37,7 @@ impl Drop for Ways<'_, '_> {
 
 impl<'b, 'a> Model for Ways<'b, 'a> {
     ghost use Rattle.std.specs.Prelude.{◌≡◌, ◌<◌, ℕ, List, length, map};
-    ghost use Rattle.gg_names.specs.Modules.{module_at};
+    ghost use Rattle.gg_shape_names.specs.Modules.{module_at};
     ghost use Rattle.gg_types.specs.declared.way.Way.{Way as Road};
     ghost use Rattle.gg_types.specs.Clocks.{ways_of};
 

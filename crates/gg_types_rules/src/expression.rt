@@ -14,8 +14,8 @@ use crate::known::Known;
 use crate::results::{result_const, result_mux, result1, result2};
 use gg_ast::{Expr, ExprKind, Literal, Reference};
 use gg_bits::{Bad, Op1, Op2, OpN, Ty};
-use gg_names::written;
 use gg_shape::{CheckFault, Fault, Word};
+use gg_shape_names::written;
 use gg_types::{Sort, is_width, literal};
 use std::alloc::Global;
 

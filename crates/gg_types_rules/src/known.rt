@@ -6,7 +6,7 @@ ghost use Rattle.gg_types_rules.specs.Known.{roles_seen, traced_seen, owned_seen
 
 use gg_ast::Reference;
 use gg_bits::Name;
-use gg_names::Namespace;
+use gg_shape_names::Namespace;
 use gg_types::{Own, Sort, sort_of_name};
 
 // The names of a module, which of them lead to an input port, and the type data of the first of them.

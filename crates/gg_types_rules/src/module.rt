@@ -1,7 +1,7 @@
 //! The ports and statements of a module, one after another.
 ghost use Rattle.std.specs.Prelude.{◌≡◌, ◌++◌, [], map, flat_map, OnOk, length};
-ghost use Rattle.gg_names.specs.Namespace.{names_after};
-ghost use Rattle.gg_names.specs.Along.{along};
+ghost use Rattle.gg_shape_names.specs.Namespace.{names_after};
+ghost use Rattle.gg_shape_names.specs.Along.{along};
 ghost use Rattle.gg_shape.specs.Faults.{Answers};
 ghost use Rattle.gg_types_rules.specs.Known.{names_seen, roles_seen, traced_seen, owned_seen};
 ghost use Rattle.gg_types.specs.Owned.{port_own};

@@ -1,6 +1,6 @@
 //! The faults of a statement's types, and what it declares.
 ghost use Rattle.std.specs.Prelude.{◌≡◌, ◌++◌, ◌∷◌, [], ℕ, List, Some, OnOk, ◌+◌, length, option_map};
-ghost use Rattle.gg_names.specs.Namespace.{name_by};
+ghost use Rattle.gg_shape_names.specs.Namespace.{name_by};
 ghost use Rattle.gg_shape.specs.declared.fault.Word.TheVariants as words;
 ghost use Rattle.gg_shape.specs.Faults.{Answers};
 ghost use Rattle.gg_types.specs.declared.sort.Own.TheVariants.{Single};
@@ -15,8 +15,8 @@ use crate::fields::judge_fields;
 use crate::known::Known;
 use crate::places::{clock, clocked, condition, connected, declared_type, stored_type};
 use gg_ast::{Argument, Expr, Field, GroundType, Reference, Report, Reset, Stmt, StmtKind};
-use gg_names::written;
 use gg_shape::{CheckFault, Fault, Word};
+use gg_shape_names::written;
 use gg_types::{Own, Sort, said_depth, said_type, sort_of};
 use std::alloc::Global;
 

@@ -11,9 +11,9 @@ use Rattle.gg_net.specs.Kept.{MachineAt, Kept}
 use Rattle.gg_net.specs.Queue.{Held}
 use Rattle.gg_net.specs.Stations.{hosted, stationed, machines_by}
 use Rattle.gg_net.specs.Net.{AreListed, AreParts, joined}
-use Rattle.gg_seats.specs.Pass.{MachineWentOn, EventsDone}
-use Rattle.gg_seats.specs.Seats.{Linked, MayStand, TakeSeatOf, PutSeatOf}
-use Rattle.gg_seats.proofs.AgainLemmas.{linked-again}
+use Rattle.gg_workers_pass.specs.Pass.{MachineWentOn, EventsDone}
+use Rattle.gg_workers_pass.specs.Seats.{Linked, MayStand, TakeSeatOf, PutSeatOf}
+use Rattle.gg_workers_pass.proofs.AgainLemmas.{linked-again}
 use Rattle.gg_workers.specs.declared.worker.LinkedHost.{LinkedHost}
 use Rattle.gg_workers.specs.LinkedHosts.{DoneAt, AreLinkedHosts, AreNumbered}
 use Rattle.gg_workers.specs.Apart.{WereStationed, WasJoined, WereLinked, AreSeats}

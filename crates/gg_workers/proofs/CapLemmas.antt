@@ -5,7 +5,7 @@ use Rattle.std.proofs.Math.Nat.{mul-le-mul_left}
 use Rattle.gg_flat.specs.Streams.{Flow}
 use Rattle.gg_node.specs.Machine.{machine_at}
 use Rattle.gg_net.specs.Network.{Network}
-use Rattle.gg_seats.specs.Pass.{RisesTo}
+use Rattle.gg_workers_pass.specs.Pass.{RisesTo}
 use Rattle.gg_workers.specs.Work.{IsLater}
 
 pub on-ok : {A B : Type 0} (r : Result A B) (P Q : A → Type 0) → ((x : A) → P x → Q x) → IfOk r P → IfOk r Q

@@ -5,9 +5,9 @@ use Rattle.gg_net.specs.declared.shape.Station.{Station}
 use Rattle.gg_net.specs.Network.{wire_at, kind_at, Frame}
 use Rattle.gg_net.specs.Kept.{IsWired}
 use Rattle.gg_net.specs.Net.{IsListed, AreListed}
-use Rattle.gg_seats.specs.SeatLists.{AreOnce, RowIsThere, RowTakenOut, AreLeft}
-use Rattle.gg_seats.specs.declared.machine_seats.MachineSeats.{MachineSeats}
-use Rattle.gg_seats.proofs.AllLemmas.{ins-once, outs-once, ins-of, outs-of, row-there, row-is, left-more}
+use Rattle.gg_workers_pass.specs.SeatLists.{AreOnce, RowIsThere, RowTakenOut, AreLeft}
+use Rattle.gg_workers_pass.specs.declared.machine_seats.MachineSeats.{MachineSeats}
+use Rattle.gg_workers_pass.proofs.AllLemmas.{ins-once, outs-once, ins-of, outs-of, row-there, row-is, left-more}
 use Rattle.gg_workers.specs.declared.host_seats.HostSeats.{HostSeats}
 use Rattle.gg_workers.specs.HostSeats.{IsEmptyFor, IsFilledFor, seats_at, EachMachine}
 

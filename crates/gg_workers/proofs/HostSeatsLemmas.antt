@@ -4,7 +4,7 @@ use Rattle.std.proofs.lemmas.Bool.{cases_eq}
 use Rattle.gg_node.specs.Machine.{Machine}
 use Rattle.gg_net.specs.declared.shape.Station.{Station}
 use Rattle.gg_net.specs.Stations.{hosted, IsStationed, AreStationed}
-use Rattle.gg_seats.specs.declared.machine_seats.MachineSeats.{MachineSeats}
+use Rattle.gg_workers_pass.specs.declared.machine_seats.MachineSeats.{MachineSeats}
 use Rattle.gg_workers.specs.declared.host_seats.HostSeats.{HostSeats}
 use Rattle.gg_workers.specs.HostSeats.{seats_at, HasPlaces, EachMachine}
 use Rattle.gg_workers.proofs.ListLemmas.{set_cases}

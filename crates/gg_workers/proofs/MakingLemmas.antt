@@ -11,12 +11,12 @@ use Rattle.gg_net.specs.Kept.{Kept}
 use Rattle.gg_net.specs.Queue.{Held}
 use Rattle.gg_net.specs.Stations.{hosted, stationed, machines_by, HasStation, AreStationed}
 use Rattle.gg_net.specs.Net.{IsListed, AreListed}
-use Rattle.gg_seats.specs.declared.machine_seats.MachineSeats.{MachineSeats}
-use Rattle.gg_seats.specs.Seats.{Linked, AreNew}
-use Rattle.gg_seats.specs.Pass.{HasSeats, HasNewSeats, MachineWentOn}
-use Rattle.gg_seats.proofs.EventLemmas.{some-of}
-use Rattle.gg_seats.proofs.NetLemmas.{takes-placed, puts-placed}
-use Rattle.gg_seats.proofs.WentLemmas.{went-nowhere}
+use Rattle.gg_workers_pass.specs.declared.machine_seats.MachineSeats.{MachineSeats}
+use Rattle.gg_workers_pass.specs.Seats.{Linked, AreNew}
+use Rattle.gg_workers_pass.specs.Pass.{HasSeats, HasNewSeats, MachineWentOn}
+use Rattle.gg_workers_pass.proofs.EventLemmas.{some-of}
+use Rattle.gg_workers_pass.proofs.NetLemmas.{takes-placed, puts-placed}
+use Rattle.gg_workers_pass.proofs.WentLemmas.{went-nowhere}
 use Rattle.gg_workers.specs.declared.worker.LinkedHost.{LinkedHost}
 use Rattle.gg_workers.specs.declared.host_seats.HostSeats.{HostSeats}
 use Rattle.gg_workers.specs.LinkedHosts.{ReadyAt, AreLinkedHosts}

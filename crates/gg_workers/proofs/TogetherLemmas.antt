@@ -3,7 +3,7 @@ use Rattle.std.proofs.Common.{◌≡◌, ℕ, ◌<◌, List, [], ◌∷◌, ◌+
 use Rattle.std.specs.Prelude.{All, take}
 use Rattle.std.proofs.Math.Seq.{take-append_seam}
 use Rattle.gg_node.specs.Machine.{Machine}
-use Rattle.gg_seats.specs.declared.machine_seats.MachineSeats.{MachineSeats}
+use Rattle.gg_workers_pass.specs.declared.machine_seats.MachineSeats.{MachineSeats}
 use Rattle.gg_workers.specs.declared.worker.LinkedHost.{LinkedHost}
 use Rattle.gg_workers.specs.declared.worker.Worker.{Worker}
 use Rattle.gg_workers.specs.LinkedHosts.{IsLinkedHost, AreLinkedHosts, AreNumbered}

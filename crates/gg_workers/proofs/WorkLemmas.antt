@@ -15,15 +15,15 @@ use Rattle.gg_net.specs.Queue.{Held}
 use Rattle.gg_net.specs.Stations.{hosted, stationed, machines_by, IsStationed, AreStationed}
 use Rattle.gg_net.specs.Net.{net_of, IsNet}
 use Rattle.gg_net.proofs.PartLemmas.{frame-rejoined}
-use Rattle.gg_seats.specs.SeatLists.{AllThere, AreBack}
-use Rattle.gg_seats.specs.Pass.{HasSeats, MachineWentOn, EventsDone}
-use Rattle.gg_seats.specs.Seats.{Linked, MayStand}
-use Rattle.gg_seats.specs.declared.machine_seats.MachineSeats.{MachineSeats}
-use Rattle.gg_seats.proofs.AgainLemmas.{machine-stationed}
-use Rattle.gg_seats.proofs.AllLemmas.{all-back, all-hold}
-use Rattle.gg_seats.proofs.EventLemmas.{some-of}
-use Rattle.gg_seats.proofs.NetLemmas.{closed-net}
-use Rattle.gg_seats.proofs.LaterLemmas.{cycles-rise, serves-rise, puts-rise, takes-rise, latch-rises, fire-rises, serve-rises, finish-rises}
+use Rattle.gg_workers_pass.specs.SeatLists.{AllThere, AreBack}
+use Rattle.gg_workers_pass.specs.Pass.{HasSeats, MachineWentOn, EventsDone}
+use Rattle.gg_workers_pass.specs.Seats.{Linked, MayStand}
+use Rattle.gg_workers_pass.specs.declared.machine_seats.MachineSeats.{MachineSeats}
+use Rattle.gg_workers_pass.proofs.AgainLemmas.{machine-stationed}
+use Rattle.gg_workers_pass.proofs.AllLemmas.{all-back, all-hold}
+use Rattle.gg_workers_pass.proofs.EventLemmas.{some-of}
+use Rattle.gg_workers_pass.proofs.NetLemmas.{closed-net}
+use Rattle.gg_workers_pass.proofs.LaterLemmas.{cycles-rise, serves-rise, puts-rise, takes-rise, latch-rises, fire-rises, serve-rises, finish-rises}
 use Rattle.gg_workers.specs.declared.worker.LinkedHost.{LinkedHost}
 use Rattle.gg_workers.specs.declared.host_seats.HostSeats.{HostSeats}
 use Rattle.gg_workers.specs.LinkedHosts.{DoneAt, AreLinkedHosts, AreNumbered}

@@ -8,8 +8,8 @@ use Rattle.gg_net.specs.Network.{Network, Frame, wire_at, producer_of, consumer_
 use Rattle.gg_net.specs.Kept.{list_at, BetweenAt, HasKept, MachineAt, NeedsChannel, Kept}
 use Rattle.gg_net.specs.Step.{CanLatch, CanFire, CanServe, CanFinish}
 use Rattle.gg_net.proofs.WorkedNets.{fed, fed_wires, fed_flow, fed-wired, fed-solved, no-needs}
-use Rattle.gg_seats.specs.Tries.{StandsBelow}
-use Rattle.gg_seats.specs.Pass.{RisesTo}
+use Rattle.gg_workers_pass.specs.Tries.{StandsBelow}
+use Rattle.gg_workers_pass.specs.Pass.{RisesTo}
 use Rattle.gg_workers.specs.Work.{CountsRose, ReadyDone, IsLater}
 
 abbrev source : ℕ → Machine

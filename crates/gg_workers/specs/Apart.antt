@@ -11,10 +11,10 @@ use Rattle.gg_net.specs.Network.{Network, wire_at}
 use Rattle.gg_net.specs.Queue.{Held}
 use Rattle.gg_net.specs.Stations.{AreStationed}
 use Rattle.gg_net.specs.Net.{joined, AreParts}
-use Rattle.gg_seats.specs.SeatLists.{IsBack}
-use Rattle.gg_seats.specs.Pass.{HasSeats}
-use Rattle.gg_seats.specs.Seats.{Linked}
-use Rattle.gg_seats.specs.declared.machine_seats.MachineSeats.{MachineSeats}
+use Rattle.gg_workers_pass.specs.SeatLists.{IsBack}
+use Rattle.gg_workers_pass.specs.Pass.{HasSeats}
+use Rattle.gg_workers_pass.specs.Seats.{Linked}
+use Rattle.gg_workers_pass.specs.declared.machine_seats.MachineSeats.{MachineSeats}
 use Rattle.gg_workers.specs.declared.back.ReturnLists.{ReturnLists}
 use Rattle.gg_workers.specs.declared.worker.LinkedHost.{LinkedHost}
 use Rattle.gg_workers.specs.declared.host_seats.HostSeats.{HostSeats}

@@ -6,7 +6,7 @@ use Rattle.gg_flat.specs.Line.{value_at}
 use Rattle.gg_node.specs.Machine.{Machine}
 use Rattle.gg_net.specs.declared.shape.Station.{Station}
 use Rattle.gg_net.specs.Stations.{hosted}
-use Rattle.gg_seats.specs.declared.machine_seats.MachineSeats.{MachineSeats}
+use Rattle.gg_workers_pass.specs.declared.machine_seats.MachineSeats.{MachineSeats}
 use Rattle.gg_workers.specs.declared.host_seats.HostSeats.{HostSeats}
 
 -- The row has the seats of these channels, in their order, out of the list of all.

@@ -8,8 +8,8 @@ use Rattle.gg_link.specs.Seats.{SeatState}
 use Rattle.gg_node.specs.Machine.{Machine, machine_at}
 use Rattle.gg_net.specs.declared.shape.Station.{Station}
 use Rattle.gg_net.specs.Network.{Network, frame_of}
-use Rattle.gg_seats.specs.Pass.{HasSeats, HasNewSeats, MachineWentOn, EventsDone}
-use Rattle.gg_seats.specs.declared.machine_seats.MachineSeats.{MachineSeats}
+use Rattle.gg_workers_pass.specs.Pass.{HasSeats, HasNewSeats, MachineWentOn, EventsDone}
+use Rattle.gg_workers_pass.specs.declared.machine_seats.MachineSeats.{MachineSeats}
 use Rattle.gg_workers.specs.declared.worker.LinkedHost.{LinkedHost}
 
 -- ---- one machine

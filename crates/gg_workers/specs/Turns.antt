@@ -2,7 +2,7 @@
 -- Source: this program's own.
 use Rattle.std.specs.Prelude.{◌≡◌, ℕ, ◌<◌, List, Bool, true, false, length, map, slice_index_or, sum_by}
 use Rattle.gg_node.specs.Machine.{Machine}
-use Rattle.gg_seats.specs.Rows.{steps_by}
+use Rattle.gg_workers_pass.specs.Rows.{steps_by}
 use Rattle.gg_workers.specs.declared.worker.LinkedHost.{LinkedHost}
 
 -- Each number is less than all before it. A worker's hosts lie so, and a turn goes through them from the last.

@@ -7,8 +7,8 @@ use Rattle.gg_node.specs.Machine.{machine_at}
 use Rattle.gg_net.specs.Network.{Network, producer_of, consumer_of, puts, takes, serves, frame_of}
 use Rattle.gg_net.specs.Kept.{Kept}
 use Rattle.gg_net.specs.Step.{CanLatch, CanFire, CanServe, CanFinish}
-use Rattle.gg_seats.specs.Tries.{StandsBelow}
-use Rattle.gg_seats.specs.Pass.{RisesTo}
+use Rattle.gg_workers_pass.specs.Tries.{StandsBelow}
+use Rattle.gg_workers_pass.specs.Pass.{RisesTo}
 
 -- No count has fallen, and none is above both what `upto` cycles make of it and what it was.
 pub record CountsRose (upto : ℕ) (old new : Network) : Type 0 where

@@ -5,7 +5,7 @@ ghost use Rattle.gg_net.specs.Network.{frame_of};
 ghost use Rattle.gg_net.specs.Kept.{Kept};
 ghost use Rattle.gg_net.specs.Net.{AreListed};
 ghost use Rattle.gg_net.specs.Stations.{machines_by};
-ghost use Rattle.gg_seats.specs.Seats.{TakeSeatOf, PutSeatOf};
+ghost use Rattle.gg_workers_pass.specs.Seats.{TakeSeatOf, PutSeatOf};
 ghost use Rattle.gg_workers.specs.Apart.{row_of, consumer_in, producer_in, MachineBack, HostBack, IsOwned, AreOwned, AllOwned, AllBack};
 
 use crate::host_seats::HostSeats;
@@ -14,7 +14,7 @@ use gg_flat::Streams;
 use gg_link::Link;
 use gg_net::Station;
 use gg_node::Host;
-use gg_seats::{Era, MachineSeats, put_back};
+use gg_workers_pass::{Era, MachineSeats, put_back};
 
 // Parts hosts from the seats of their machines, both in the order of the hosts.
 pub(crate) fn separate<H: Drop, S: Drop, T: Drop>(

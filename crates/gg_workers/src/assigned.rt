@@ -14,7 +14,7 @@ use gg_io::Gate;
 use gg_link::Link;
 use gg_net::Station;
 use gg_node::Host;
-use gg_seats::Era;
+use gg_workers_pass::Era;
 use std::thread::Threads;
 
 // Runs the machines of these hosts by the workers, host h by worker h mod the number of workers. Each worker ends before a

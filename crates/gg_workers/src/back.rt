@@ -5,7 +5,7 @@ ghost use Rattle.gg_net.specs.Network.{frame_of};
 ghost use Rattle.gg_net.specs.Kept.{Kept};
 ghost use Rattle.gg_net.specs.Net.{AreListed, AreParts, joined};
 ghost use Rattle.gg_net.specs.Stations.{machines_by};
-ghost use Rattle.gg_seats.specs.Seats.{TakeSeatOf, PutSeatOf};
+ghost use Rattle.gg_workers_pass.specs.Seats.{TakeSeatOf, PutSeatOf};
 ghost use Rattle.gg_workers.specs.Apart.{WereStationed, WasJoined, WereLinked, AreSeats, AreReturnLists};
 ghost use Rattle.gg_workers.specs.LinkedHosts.{DoneAt, AreLinkedHosts, AreNumbered};
 ghost use Rattle.gg_workers.specs.Work.{IsLater};
@@ -17,7 +17,7 @@ use gg_flat::Streams;
 use gg_link::Link;
 use gg_net::{Parts, Queue, Shape, Station};
 use gg_node::Host;
-use gg_seats::{Era, close_all, unwrap_all};
+use gg_workers_pass::{Era, close_all, unwrap_all};
 use std::alloc::Global;
 
 // The hosts in their order, without seats, and the seats by channel. `takes` and `puts` are as long as the channels.

@@ -5,14 +5,14 @@ ghost use Rattle.gg_net.specs.Network.{frame_of};
 ghost use Rattle.gg_net.specs.Kept.{IsWired};
 ghost use Rattle.gg_net.specs.Stations.{AreStationed};
 ghost use Rattle.gg_net.specs.Net.{AreListed};
-ghost use Rattle.gg_seats.specs.SeatLists.{AreOnce, RowIsThere, RowTakenOut};
-ghost use Rattle.gg_seats.specs.declared.machine_seats.MachineSeats.{MachineSeats};
+ghost use Rattle.gg_workers_pass.specs.SeatLists.{AreOnce, RowIsThere, RowTakenOut};
+ghost use Rattle.gg_workers_pass.specs.declared.machine_seats.MachineSeats.{MachineSeats};
 ghost use Rattle.gg_workers.specs.HostSeats.{IsEmptyFor, IsFilledFor, HasPlaces, EachMachine};
 
 use crate::host_seats::HostSeats;
 use gg_net::Station;
 use gg_node::Host;
-use gg_seats::{Era, MachineSeats, take_out, wrap_all};
+use gg_workers_pass::{Era, MachineSeats, take_out, wrap_all};
 
 // Moves the seats of the channels at a station into the lists of its machine.
 fn fill_seats<S: Drop, T: Drop>(

@@ -5,7 +5,7 @@ ghost use Rattle.gg_workers.specs.HostSeats.{IsEmptyFor, HasPlaces, EachMachine}
 
 use gg_net::Station;
 use gg_node::Host;
-use gg_seats::MachineSeats;
+use gg_workers_pass::MachineSeats;
 use std::alloc::{AllocError, Global};
 
 // The seats of the machines of one host.

@@ -5,7 +5,7 @@ ghost use Rattle.gg_net.specs.declared.event.Event.{Event};
 ghost use Rattle.gg_net.specs.Network.{Network};
 ghost use Rattle.gg_net.specs.Kept.{Kept};
 ghost use Rattle.gg_net.specs.Step.{Ready};
-ghost use Rattle.gg_marking.specs.Steps.{Steps};
+ghost use Rattle.gg_net_marking.specs.Steps.{Steps};
 ghost use Rattle.gg_measure.specs.Nets.{cycle_at, machine_of, net_left};
 ghost use Rattle.gg_workers.specs.Work.{IsLater};
 

@@ -5,7 +5,7 @@ ghost use Rattle.gg_workers.specs.Making.{HaveTheirSeats};
 
 use crate::host_seats::HostSeats;
 use crate::worker::LinkedHost;
-use gg_seats::MachineSeats;
+use gg_workers_pass::MachineSeats;
 use std::alloc::Global;
 use std::mem;
 

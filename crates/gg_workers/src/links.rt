@@ -4,7 +4,7 @@ ghost use Rattle.std.specs.Vec.{vec_capacity};
 ghost use Rattle.gg_flat.specs.Line.{value_at};
 ghost use Rattle.gg_net.specs.Network.{takes};
 ghost use Rattle.gg_net.specs.Net.{AreParts, joined};
-ghost use Rattle.gg_seats.specs.Seats.{Linked, AreNew};
+ghost use Rattle.gg_workers_pass.specs.Seats.{Linked, AreNew};
 ghost use Rattle.gg_workers.specs.Apart.{AreReturnLists};
 
 use crate::back::ReturnLists;
@@ -12,7 +12,7 @@ use gg_flat::Streams;
 use gg_link::Link;
 use gg_net::{Net, Queue, Shape};
 use gg_node::Host;
-use gg_seats::{Era, close_all, open_all};
+use gg_workers_pass::{Era, close_all, open_all};
 use std::alloc::{AllocError, Global};
 
 // The number of tokens that were taken from each channel.

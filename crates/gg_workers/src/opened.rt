@@ -6,7 +6,7 @@ ghost use Rattle.gg_net.specs.Network.{takes, frame_of};
 ghost use Rattle.gg_net.specs.Kept.{Kept};
 ghost use Rattle.gg_net.specs.Net.{AreListed, AreParts, joined};
 ghost use Rattle.gg_net.specs.Stations.{machines_by, AreStationed};
-ghost use Rattle.gg_seats.specs.Seats.{Linked, AreNew};
+ghost use Rattle.gg_workers_pass.specs.Seats.{Linked, AreNew};
 ghost use Rattle.gg_workers.specs.Apart.{WasJoined, AreReturnLists};
 ghost use Rattle.gg_workers.specs.Making.{IsReserved};
 ghost use Rattle.gg_workers.specs.Opened.{IsOpened};
@@ -19,7 +19,7 @@ use gg_flat::Streams;
 use gg_link::Link;
 use gg_net::{Parts, Queue, Shape};
 use gg_node::Host;
-use gg_seats::Era;
+use gg_workers_pass::Era;
 use std::alloc::{AllocError, Global};
 
 // All memory that an opening takes, but for the links' own. `X` are the links.

@@ -15,7 +15,7 @@ use gg_io::Gate;
 use gg_link::Link;
 use gg_net::{Net, Parts};
 use gg_node::Host;
-use gg_seats::Era;
+use gg_workers_pass::Era;
 use std::alloc::{AllocError, Global};
 use std::marker::Brand;
 use std::thread::Threads;

@@ -4,7 +4,7 @@ ghost use Rattle.gg_net.specs.Network.{frame_of};
 ghost use Rattle.gg_net.specs.Kept.{Kept};
 ghost use Rattle.gg_net.specs.Net.{AreListed};
 ghost use Rattle.gg_net.specs.Stations.{machines_by, AreStationed};
-ghost use Rattle.gg_seats.specs.Seats.{Linked, AreNew};
+ghost use Rattle.gg_workers_pass.specs.Seats.{Linked, AreNew};
 ghost use Rattle.gg_workers.specs.LinkedHosts.{ReadyAt, AreLinkedHosts, AreNumbered};
 ghost use Rattle.gg_workers.specs.Assigned.{Assigning};
 ghost use Rattle.gg_workers.specs.Making.{AreIdle, IsReserved};
@@ -17,7 +17,7 @@ use gg_flat::Streams;
 use gg_link::Link;
 use gg_net::{Queue, Station};
 use gg_node::Host;
-use gg_seats::Era;
+use gg_workers_pass::Era;
 use std::alloc::{AllocError, Global};
 
 // Memory for the hosts and workers of a network, and then the hosts and workers.

@@ -13,7 +13,7 @@ use gg_io::Gate;
 use gg_link::Link;
 use gg_net::Station;
 use gg_node::Host;
-use gg_seats::Era;
+use gg_workers_pass::Era;
 use std::thread;
 use std::thread::Threads;
 

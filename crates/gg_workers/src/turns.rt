@@ -13,7 +13,7 @@ use gg_io::Gate;
 use gg_link::Link;
 use gg_net::Station;
 use gg_node::Host;
-use gg_seats::{Era, MachineSeats, pass};
+use gg_workers_pass::{Era, MachineSeats, pass};
 use std::{hint, thread};
 
 // A worker ends after so many turns in a row without a step.

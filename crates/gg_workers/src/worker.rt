@@ -1,5 +1,5 @@
 //! `LinkedHost` and `Worker`: what one host and one thread of the system have.
-use gg_seats::MachineSeats;
+use gg_workers_pass::MachineSeats;
 
 // A host with the seats of its machines, by thread. `S` are the seats that take, `T` those that put.
 #[derive(Drop)]

@@ -1,15 +1,15 @@
 -- How a call ends whose command has ended, or whose words were no command.
 use Rattle.std.proofs.Common.{◌≡◌, ℕ, List, [], refl, sym, ◌∙◌}
 use Rattle.std.specs.Prelude.{Result, Err}
-use Rattle.gg_told.specs.Ends.{Loads, Puts, Reports}
-use Rattle.gg_told.specs.Endings.{IfRefused, EndedOn, said_by}
-use Rattle.gg_told.specs.declared.endings.Ending.{Ending}
-use Rattle.gg_told.specs.declared.endings.Ending.TheVariants.{Refused, Unwritten, NoMemory}
-use Rattle.gg_told.proofs.WritingLemmas.{append_known-nil}
+use Rattle.gg_command.specs.Ends.{Loads, Puts, Reports}
+use Rattle.gg_command.specs.Endings.{IfRefused, EndedOn, said_by}
+use Rattle.gg_command.specs.declared.endings.Ending.{Ending}
+use Rattle.gg_command.specs.declared.endings.Ending.TheVariants.{Refused, Unwritten, NoMemory}
+use Rattle.gg_command.proofs.WritingLemmas.{append_known-nil}
 use Rattle.gg_words.specs.Meaning.{IsCommand}
 use Rattle.gg_words.specs.declared.command.Cmd.{Cmd}
-use Rattle.gg_cut.specs.Bridges.{Models}
-use Rattle.gg_told.proofs.EndingLemmas.{wants-ends}
+use Rattle.gg_cut_plan.specs.Bridges.{Models}
+use Rattle.gg_command.proofs.EndingLemmas.{wants-ends}
 use Rattle.golden_case.specs.Commands.{order_of}
 use Rattle.golden_case.specs.Outcome.{Asked, Unasked, WantsMemoryFirst, Answered, CallEnded}
 use Rattle.golden_case.specs.Words.{AskForCommand, TellsUnasked}

@@ -4,35 +4,35 @@ use Rattle.std.specs.Prelude.{Result, slice_index}
 use Rattle.std.proofs.lemmas.List.{length-map}
 use Rattle.gg_build.specs.Build.{NeedsNone, circuit_order, circuit_rows}
 use Rattle.gg_build.proofs.AloneLemmas.{needs-none}
-use Rattle.gg_demo.specs.CircuitText.{demo_circuit}
-use Rattle.gg_demo.specs.PartitionText.{demo_partition}
-use Rattle.gg_demo.specs.SummaryText.{demo_summary, fold_line, folded, last_line, network_line, size_line}
-use Rattle.gg_demo.specs.TraceText.{demo_cycles, demo_trace}
-use Rattle.gg_cut.specs.Direct.{plan_hub}
+use Rattle.gg_demo_text.specs.CircuitText.{demo_circuit}
+use Rattle.gg_demo_text.specs.PartitionText.{demo_partition}
+use Rattle.gg_demo_text.specs.SummaryText.{demo_summary, fold_line, folded, last_line, network_line, size_line}
+use Rattle.gg_demo_text.specs.TraceText.{demo_cycles, demo_trace}
+use Rattle.gg_cut_plan.specs.Direct.{plan_hub}
 use Rattle.gg_flat.specs.Circuit.{FlatCircuit}
-use Rattle.gg_marking.specs.Fits.{HasLayout, marking_of}
-use Rattle.gg_marking.specs.Marking.{Layout, Marking, opening_marking}
+use Rattle.gg_net_marking.specs.Fits.{HasLayout, marking_of}
+use Rattle.gg_net_marking.specs.Marking.{Layout, Marking, opening_marking}
 use Rattle.gg_measure.specs.Nets.{net_left}
 use Rattle.gg_measure.proofs.NetLemmas.{can-run, left-is}
 use Rattle.gg_net.specs.Kept.{Kept}
 use Rattle.gg_net.specs.Net.{opening_net}
 use Rattle.gg_net.specs.Network.{Network, frame_of, kind_of}
 use Rattle.gg_order.specs.Design.{Ordered}
-use Rattle.gg_progress.specs.Counts.{counts_of}
-use Rattle.gg_progress.specs.Measure.{all_dues, left}
-use Rattle.gg_progress.proofs.EndLemmas.{opening-left}
-use Rattle.gg_pipe.specs.Follows.{plan_start}
-use Rattle.gg_pipe.specs.Links.{taken_as}
+use Rattle.gg_net_progress.specs.Counts.{counts_of}
+use Rattle.gg_net_progress.specs.Measure.{all_dues, left}
+use Rattle.gg_net_progress.proofs.EndLemmas.{opening-left}
+use Rattle.gg_cut_reference.specs.Follows.{plan_start}
+use Rattle.gg_cut_reference.specs.Links.{taken_as}
 use Rattle.gg_bridged.specs.Whole.{plan_circuit}
-use Rattle.gg_sound.specs.Built.{IsGiven, no_token, wires_of_plan}
+use Rattle.gg_build_laws.specs.Built.{IsGiven, no_token, wires_of_plan}
 use Rattle.gg_run.specs.Sums.{AreSums, FoldsRows, output_column, sums_text}
 use Rattle.gg_run.specs.declared.sums.Sums.{Sums}
-use Rattle.gg_told.specs.Ends.{Loads, Puts}
-use Rattle.gg_told.specs.Endings.{EndedOn, PrintsOrStops, PrintsText, Stops, Wants}
-use Rattle.gg_told.specs.Order.{IsOnly, Write}
-use Rattle.gg_told.specs.declared.endings.Ending.{Ending}
-use Rattle.gg_told.specs.declared.endings.Ending.TheVariants.{Refused, Unwritten, NoMemory}
-use Rattle.gg_told.proofs.EndingLemmas.{only-ends, wants-ends}
+use Rattle.gg_command.specs.Ends.{Loads, Puts}
+use Rattle.gg_command.specs.Endings.{EndedOn, PrintsOrStops, PrintsText, Stops, Wants}
+use Rattle.gg_command.specs.Order.{IsOnly, Write}
+use Rattle.gg_command.specs.declared.endings.Ending.{Ending}
+use Rattle.gg_command.specs.declared.endings.Ending.TheVariants.{Refused, Unwritten, NoMemory}
+use Rattle.gg_command.proofs.EndingLemmas.{only-ends, wants-ends}
 use Rattle.golden_case.specs.Case.{IsFed}
 use Rattle.golden_case.specs.Demo.{IsDemoText, demo_capacity, setting_summary}
 use Rattle.golden_case.specs.Partition.{to_run}

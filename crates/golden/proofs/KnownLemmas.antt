@@ -12,16 +12,16 @@ use Rattle.gg_front.specs.Meaning.{MeansDesign}
 use Rattle.gg_order.specs.Design.{Ordered}
 use Rattle.gg_partfile.specs.Partition.{IsPartition}
 use Rattle.gg_partfile.specs.declared.request.Request.{Request}
-use Rattle.gg_cut.specs.Bridges.{Models}
-use Rattle.gg_cut.specs.Clocks.{ratios_of}
-use Rattle.gg_cut.specs.Direct.{plan_hub}
-use Rattle.gg_pipe.specs.Links.{taken_as}
-use Rattle.gg_pipe.proofs.NothingLemmas.{plan-plain, plan-taken-same}
+use Rattle.gg_cut_plan.specs.Bridges.{Models}
+use Rattle.gg_cut_plan.specs.Clocks.{ratios_of}
+use Rattle.gg_cut_plan.specs.Direct.{plan_hub}
+use Rattle.gg_cut_reference.specs.Links.{taken_as}
+use Rattle.gg_cut_reference.proofs.NothingLemmas.{plan-plain, plan-taken-same}
 use Rattle.gg_run.specs.Printed.{plan_stops}
-use Rattle.gg_told.specs.Ends.{Loads}
-use Rattle.gg_told.specs.Order.{IsOnly, IsWritten}
-use Rattle.gg_told.proofs.EndsLemmas.{Failed, Stopped, Wanted, WhyEnds, Wrote, ends-why}
-use Rattle.gg_told.proofs.OrderLemmas.{told-bytes, why-stops}
+use Rattle.gg_command.specs.Ends.{Loads}
+use Rattle.gg_command.specs.Order.{IsOnly, IsWritten}
+use Rattle.gg_command.proofs.EndsLemmas.{Failed, Stopped, Wanted, WhyEnds, Wrote, ends-why}
+use Rattle.gg_command.proofs.OrderLemmas.{told-bytes, why-stops}
 use Rattle.gg_trace.specs.Last.{halts, row_count}
 use Rattle.gg_trace.specs.Printing.{trace_text}
 use Rattle.gg_trace.specs.Trace.{Columns}

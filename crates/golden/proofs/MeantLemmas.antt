@@ -11,17 +11,17 @@ use Rattle.gg_flat.specs.declared.ports.Port.{Port}
 use Rattle.gg_order.specs.Design.{Ordered}
 use Rattle.gg_partfile.proofs.OnceLemmas.{request-once}
 use Rattle.gg_partfile.specs.declared.request.Request.{Request}
-use Rattle.gg_check.specs.Alike.{AreAlike}
-use Rattle.gg_check.proofs.SameCutLemmas.{alike-is}
-use Rattle.gg_paths.specs.Paths.{HavePaths}
-use Rattle.gg_paths.proofs.FreshLemmas.{none-piped}
-use Rattle.gg_paths.proofs.PortLemmas.{have-paths}
-use Rattle.gg_cut.specs.Bridges.{Models}
-use Rattle.gg_cut.specs.Direct.{plan_hub}
-use Rattle.gg_cut.specs.Fault.{first_fault}
-use Rattle.gg_pipe.specs.Links.{pipes_of}
-use Rattle.gg_pipe.specs.Made.{IsFresh}
-use Rattle.gg_pipe.proofs.PlanLemmas.{plan-formed, plan-ordered}
+use Rattle.gg_cut_text.specs.Alike.{AreAlike}
+use Rattle.gg_cut_text.proofs.SameCutLemmas.{alike-is}
+use Rattle.gg_front_paths.specs.Paths.{HavePaths}
+use Rattle.gg_front_paths.proofs.FreshLemmas.{none-piped}
+use Rattle.gg_front_paths.proofs.PortLemmas.{have-paths}
+use Rattle.gg_cut_plan.specs.Bridges.{Models}
+use Rattle.gg_cut_plan.specs.Direct.{plan_hub}
+use Rattle.gg_cut_plan.specs.Fault.{first_fault}
+use Rattle.gg_cut_reference.specs.Links.{pipes_of}
+use Rattle.gg_cut_reference.specs.Made.{IsFresh}
+use Rattle.gg_cut_reference.proofs.PlanLemmas.{plan-formed, plan-ordered}
 use Rattle.gg_snap_text.specs.Standing.{IsSnap}
 use Rattle.gg_trace.specs.Header.{field}
 use Rattle.gg_trace.specs.Ports.{IsNamed}

@@ -3,14 +3,14 @@ use Rattle.std.proofs.Common.{◌≡◌, ℕ, List, Bool, false, sym, ap, ◌∙
 use Rattle.std.specs.Prelude.{Err, IfOk, Ok, Option, Result}
 use Rattle.std.specs.Io.KnownBytes.{append_known}
 use Rattle.gg_io.specs.Told.{Told}
-use Rattle.gg_told.specs.Order.{IsExact, IsJudgement, Order}
-use Rattle.gg_told.specs.Ends.{Loads, Puts}
-use Rattle.gg_told.specs.Endings.{IfRefused, Prints, StopsBy, said_by, said_of}
-use Rattle.gg_told.specs.Said.{Said}
-use Rattle.gg_told.specs.declared.endings.Ending.{Ending}
-use Rattle.gg_told.specs.declared.endings.Ending.TheVariants.{NoMemory, Refused, Unwritten}
-use Rattle.gg_told.proofs.EndsLemmas.{unjudged-0}
-use Rattle.gg_told.proofs.OrderLemmas.{Cut, Judged, Lost, Why, why-stops}
+use Rattle.gg_command.specs.Order.{IsExact, IsJudgement, Order}
+use Rattle.gg_command.specs.Ends.{Loads, Puts}
+use Rattle.gg_command.specs.Endings.{IfRefused, Prints, StopsBy, said_by, said_of}
+use Rattle.gg_command.specs.Said.{Said}
+use Rattle.gg_command.specs.declared.endings.Ending.{Ending}
+use Rattle.gg_command.specs.declared.endings.Ending.TheVariants.{NoMemory, Refused, Unwritten}
+use Rattle.gg_command.proofs.EndsLemmas.{unjudged-0}
+use Rattle.gg_command.proofs.OrderLemmas.{Cut, Judged, Lost, Why, why-stops}
 use Rattle.gg_words.specs.Meaning.{IsCommand}
 use Rattle.gg_words.specs.declared.command.Cmd.{Cmd}
 use Rattle.gg_words.specs.declared.command.Cmd.TheVariants.{Run}

@@ -4,17 +4,17 @@ use Rattle.gg_flat.specs.Circuit.{FlatCircuit}
 use Rattle.gg_flat.specs.Run.{IsColumns}
 use Rattle.gg_flat.specs.Streams.{Flow}
 use Rattle.gg_flat_tree.specs.Tree.{InstanceTree}
-use Rattle.gg_moved.specs.KeepsToTree.{KeepsToTree}
+use Rattle.gg_part_moved.specs.KeepsToTree.{KeepsToTree}
 use Rattle.gg_order.specs.Design.{Ordered}
 use Rattle.gg_partfile.specs.declared.request.Request.{Request}
 use Rattle.gg_partfile.proofs.OnceLemmas.{request-once}
-use Rattle.gg_check.specs.Alike.{AreAlike}
-use Rattle.gg_check.proofs.SameCutLemmas.{alike-is}
+use Rattle.gg_cut_text.specs.Alike.{AreAlike}
+use Rattle.gg_cut_text.proofs.SameCutLemmas.{alike-is}
 use Rattle.gg_bridged.specs.Whole.{CanBridge, HasFreeFronts, plan_circuit}
-use Rattle.gg_cut.specs.Held.{AreHeldOnce}
-use Rattle.gg_pipe.specs.Follows.{plan_start}
-use Rattle.gg_pipe.proofs.StartLemmas.{plan-typed}
-use Rattle.gg_sound.specs.Built.{flow_of}
+use Rattle.gg_cut_plan.specs.Held.{AreHeldOnce}
+use Rattle.gg_cut_reference.specs.Follows.{plan_start}
+use Rattle.gg_cut_reference.proofs.StartLemmas.{plan-typed}
+use Rattle.gg_build_laws.specs.Built.{flow_of}
 use Rattle.gg_build.specs.Build.{IsToRun}
 use Rattle.gg_run.proofs.TextLemmas.{shown-text}
 use Rattle.golden_case.specs.Case.{IsFed}

@@ -7,20 +7,20 @@ use Rattle.gg_io.specs.Told.{Holds}
 use Rattle.gg_read.specs.Text.{HasReadFault}
 use Rattle.gg_read.specs.declared.text.ReadFault.{ReadFault}
 use Rattle.gg_flat.specs.Circuit.{FlatCircuit}
-use Rattle.gg_cut.specs.Bridges.{Models}
+use Rattle.gg_cut_plan.specs.Bridges.{Models}
 use Rattle.gg_front.specs.Accepted.{IsAcceptedText}
 use Rattle.gg_front.specs.Meaning.{Means, MeansDesign}
 use Rattle.gg_front.specs.declared.fault.FrontFault.TheVariants as front
-use Rattle.gg_marking.specs.Goes as goes
+use Rattle.gg_net_marking.specs.Goes as goes
 use Rattle.gg_order.specs.Design.{Ordered}
 use Rattle.gg_partfile.specs.Partition.{IsPartition}
 use Rattle.gg_partfile.specs.declared.request.Request.{Request}
-use Rattle.gg_told.specs.Said.{Said}
-use Rattle.gg_told.specs.Order.{Order, Load, Write, StopsAt, DueAt, IsDueAccepted, IsOnly, IsExact, IsExactFile, IsUnique, IsUniqueFile, IsJudgement}
-use Rattle.gg_told.specs.Ends.{Loads, Puts, Reports, Tells}
-use Rattle.gg_told.proofs.EndsLemmas.{SaysDue}
-use Rattle.gg_told.proofs.OrderLemmas.{IsOnlyDue, first-only, later-only}
-use Rattle.gg_told.proofs.WritingLemmas.{append_known-nil}
+use Rattle.gg_command.specs.Said.{Said}
+use Rattle.gg_command.specs.Order.{Order, Load, Write, StopsAt, DueAt, IsDueAccepted, IsOnly, IsExact, IsExactFile, IsUnique, IsUniqueFile, IsJudgement}
+use Rattle.gg_command.specs.Ends.{Loads, Puts, Reports, Tells}
+use Rattle.gg_command.proofs.EndsLemmas.{SaysDue}
+use Rattle.gg_command.proofs.OrderLemmas.{IsOnlyDue, first-only, later-only}
+use Rattle.gg_command.proofs.WritingLemmas.{append_known-nil}
 use Rattle.gg_trace.specs.FaultText.{fault_words}
 use Rattle.gg_trace.specs.Trace.{IsFirstFault}
 use Rattle.gg_trace.specs.declared.faults.TraceFault.{TraceFault}

@@ -13,21 +13,21 @@ use Rattle.gg_flat.specs.WellFormed.{IsWellFormed}
 use Rattle.gg_flat.specs.declared.ports.Port.{Port}
 use Rattle.gg_flat_run.proofs.AlongLemmas.{IsRunFrom-along}
 use Rattle.gg_flat_run.proofs.SinceLemmas.{later-since, since-add}
-use Rattle.gg_cut.specs.Bridges.{Models}
-use Rattle.gg_cut.specs.Clocks.{ratios_of}
-use Rattle.gg_cut.specs.Fault.{first_fault}
-use Rattle.gg_cut.specs.Solves.{AreRows}
-use Rattle.gg_moved.specs.KeepsToTree.{KeepsToTree}
+use Rattle.gg_cut_plan.specs.Bridges.{Models}
+use Rattle.gg_cut_plan.specs.Clocks.{ratios_of}
+use Rattle.gg_cut_plan.specs.Fault.{first_fault}
+use Rattle.gg_cut_plan.specs.Solves.{AreRows}
+use Rattle.gg_part_moved.specs.KeepsToTree.{KeepsToTree}
 use Rattle.gg_order.specs.Design.{IsDesign, Ordered}
 use Rattle.gg_partfile.specs.declared.request.BridgeEntry.{BridgeEntry}
 use Rattle.gg_partfile.specs.declared.request.Request.{Request}
-use Rattle.gg_pipe.specs.Made.{AllHeld, plan_reference}
-use Rattle.gg_pipe.proofs.PlanLemmas.{plan-formed}
+use Rattle.gg_cut_reference.specs.Made.{AllHeld, plan_reference}
+use Rattle.gg_cut_reference.proofs.PlanLemmas.{plan-formed}
 use Rattle.gg_bridged.specs.Whole.{CanBridge, plan_begin, plan_circuit, states_with}
 use Rattle.gg_bridged.proofs.PlanLemmas.{circuit-formed}
 use Rattle.gg_bridged.proofs.StateLemmas.{states-with}
 use Rattle.gg_build.specs.Build.{circuit_order}
-use Rattle.gg_sound.specs.Built.{IsGiven}
+use Rattle.gg_build_laws.specs.Built.{IsGiven}
 use Rattle.gg_run.specs.Printed.{plan_stops, rows_since, text_since}
 use Rattle.gg_snap.specs.Whole.{CanBegin}
 use Rattle.gg_snap_text.specs.Known.{AreKnown}
@@ -38,8 +38,8 @@ use Rattle.gg_snap_text.specs.FaultText.{fault_words}
 use Rattle.gg_snap_text.specs.declared.fault.SnapFault.{SnapFault}
 use Rattle.gg_snap_text.specs.declared.fault.SnapFault.TheVariants as snap
 use Rattle.gg_snap_text.specs.declared.fault.SnapFault.TheVariants.{S1}
-use Rattle.gg_told.specs.Order.{IsOnly}
-use Rattle.gg_told.specs.Said.{Said}
+use Rattle.gg_command.specs.Order.{IsOnly}
+use Rattle.gg_command.specs.Said.{Said}
 use Rattle.gg_trace.specs.Last.{halts, row_count}
 use Rattle.gg_trace.specs.Printing.{text_from}
 use Rattle.golden_case.specs.Case.{IsFed}

@@ -1,25 +1,25 @@
 -- What `resume` answers for the bytes of its files is one: the text, or what is reported for the snapshot.
 use Rattle.std.proofs.Common.{◌≡◌, ◌⊎◌, ◌-◌, ℕ, List, None, refl, sym, ap, ◌∙◌, subst, inl, inr, arith}
-use Rattle.gg_cut.specs.Bridges.{Models}
-use Rattle.gg_cut.specs.Fault.{first_fault}
-use Rattle.gg_cut.specs.Held.{AreHeldOnce}
-use Rattle.gg_cut.specs.Solves.{AreRows}
+use Rattle.gg_cut_plan.specs.Bridges.{Models}
+use Rattle.gg_cut_plan.specs.Fault.{first_fault}
+use Rattle.gg_cut_plan.specs.Held.{AreHeldOnce}
+use Rattle.gg_cut_plan.specs.Solves.{AreRows}
 use Rattle.gg_flat.specs.Circuit.{FlatCircuit}
 use Rattle.gg_flat.specs.State.{State}
 use Rattle.gg_flat_tree.specs.Tree.{InstanceTree}
-use Rattle.gg_moved.specs.KeepsToTree.{KeepsToTree}
+use Rattle.gg_part_moved.specs.KeepsToTree.{KeepsToTree}
 use Rattle.gg_order.specs.Design.{IsDesign, Ordered}
 use Rattle.gg_partfile.specs.declared.request.Request.{Request}
-use Rattle.gg_paths.specs.Paths.{HavePaths}
-use Rattle.gg_pipe.specs.Made.{plan_reference}
+use Rattle.gg_front_paths.specs.Paths.{HavePaths}
+use Rattle.gg_cut_reference.specs.Made.{plan_reference}
 use Rattle.gg_run.specs.Printed.{plan_stops}
 use Rattle.gg_snap_text.specs.FaultText.{fault_words}
 use Rattle.gg_snap_text.specs.Known.{CanSave}
 use Rattle.gg_snap_text.specs.Standing.{IsFirstFault, IsSnap}
 use Rattle.gg_snap_text.specs.declared.fault.SnapFault.TheVariants.{S1}
-use Rattle.gg_told.specs.Order.{IsExactFile, IsOnly, IsUniqueFile}
-use Rattle.gg_told.specs.Said.{Said}
-use Rattle.gg_told.proofs.OrderLemmas.{exact-by}
+use Rattle.gg_command.specs.Order.{IsExactFile, IsOnly, IsUniqueFile}
+use Rattle.gg_command.specs.Said.{Said}
+use Rattle.gg_command.proofs.OrderLemmas.{exact-by}
 use Rattle.gg_trace.specs.Printing.{text_from}
 use Rattle.golden_case.specs.Lines.{few_rows, snap_fault}
 use Rattle.golden_case.specs.Meant.{AreMeant, Meant, meant_reference}

@@ -1,9 +1,9 @@
 -- The orders of the commands.
 use Rattle.std.proofs.Common.{ℕ, List, [], Option, None, Some}
-use Rattle.gg_told.specs.Order.{IsExact, IsUnique, Load, Order}
+use Rattle.gg_command.specs.Order.{IsExact, IsUnique, Load, Order}
 use Rattle.gg_words.specs.declared.command.Cmd.{Cmd}
 use Rattle.gg_words.specs.declared.command.Cmd.TheVariants.{Run, Replay, Check, Demo, Save, Resume}
-use Rattle.gg_cut.specs.Bridges.{Models}
+use Rattle.gg_cut_plan.specs.Bridges.{Models}
 use Rattle.golden_case.specs.Commands.{Asked, asked_by, known_of, order_behind, order_by, order_of}
 use Rattle.golden_case.specs.Partition.{Known, partition_file_for, to_run}
 use Rattle.golden.proofs.FrontLemmas.{NoFaultAccepted, circuit_file-exact}

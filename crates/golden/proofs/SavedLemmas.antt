@@ -1,13 +1,13 @@
 -- What `save` answers for the bytes of its files is one: the text, or what is reported for the trace.
 use Rattle.std.proofs.Common.{◌≡◌, ◌⊎◌, ℕ, List, ◌≤◌, refl, sym, ap, ◌∙◌, subst, inl, inr, arith}
-use Rattle.gg_cut.specs.Bridges.{Models}
+use Rattle.gg_cut_plan.specs.Bridges.{Models}
 use Rattle.gg_flat.specs.Run.{IsRunFrom}
 use Rattle.gg_flat_run.proofs.UniqueLemmas.{IsRunFrom-once}
-use Rattle.gg_pipe.specs.Follows.{plan_start}
+use Rattle.gg_cut_reference.specs.Follows.{plan_start}
 use Rattle.gg_partfile.proofs.OnceLemmas.{request-once}
 use Rattle.gg_snap_text.specs.Lines.{snap_text}
-use Rattle.gg_told.specs.Order.{IsExactFile, IsJudgement, IsOnly, IsUniqueFile}
-use Rattle.gg_told.specs.Said.{Said}
+use Rattle.gg_command.specs.Order.{IsExactFile, IsJudgement, IsOnly, IsUniqueFile}
+use Rattle.gg_command.specs.Said.{Said}
 use Rattle.golden_case.specs.Lines.{few_rows}
 use Rattle.golden_case.specs.Meant.{Meant, meant_reference, meant_values}
 use Rattle.golden_case.specs.Partition.{to_save}

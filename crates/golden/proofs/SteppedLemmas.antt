@@ -3,15 +3,15 @@ use Rattle.std.proofs.Common.{◌≡◌, ◌≢◌, ◌⊎◌, ℕ, List, inl, i
 use Rattle.std.specs.Prelude.{Err, Ok, Option, Result}
 use Rattle.gg_io.specs.Told.{Told}
 use Rattle.gg_net.specs.declared.event.Event.{Event}
-use Rattle.gg_steps.specs.Naming.{Naming}
-use Rattle.gg_steps.specs.Steps.{steps_of}
-use Rattle.gg_told.specs.Order.{CanBe, File, IsRefused}
-use Rattle.gg_told.specs.Ends.{Loads, Puts, Reports, Tells}
-use Rattle.gg_told.specs.Endings.{IfRefused, Prints, PrintsOrStops, PrintsText, Stops, StopsBy, Wants, said_by, said_of}
-use Rattle.gg_told.specs.Said.{Said, cannot_load, is_over}
-use Rattle.gg_told.specs.declared.endings.Ending.{Ending}
-use Rattle.gg_told.specs.declared.endings.Ending.TheVariants.{NoMemory, Refused, Unwritten}
-use Rattle.gg_told.proofs.EndingLemmas.{judged-map}
+use Rattle.gg_replay_steps.specs.Naming.{Naming}
+use Rattle.gg_replay_steps.specs.Steps.{steps_of}
+use Rattle.gg_command.specs.Order.{CanBe, File, IsRefused}
+use Rattle.gg_command.specs.Ends.{Loads, Puts, Reports, Tells}
+use Rattle.gg_command.specs.Endings.{IfRefused, Prints, PrintsOrStops, PrintsText, Stops, StopsBy, Wants, said_by, said_of}
+use Rattle.gg_command.specs.Said.{Said, cannot_load, is_over}
+use Rattle.gg_command.specs.declared.endings.Ending.{Ending}
+use Rattle.gg_command.specs.declared.endings.Ending.TheVariants.{NoMemory, Refused, Unwritten}
+use Rattle.gg_command.proofs.EndingLemmas.{judged-map}
 use Rattle.gg_words.specs.Meaning.{IsCommand}
 use Rattle.gg_words.specs.declared.command.Cmd.{Cmd}
 use Rattle.gg_words.specs.declared.command.Cmd.TheVariants.{Replay}

@@ -14,23 +14,23 @@ use Rattle.gg_flat_run.proofs.AlongLemmas.{IsState-at}
 use Rattle.gg_flat_run.proofs.RunLemmas.{IsRunFrom-rest, state_at-append}
 use Rattle.gg_flat_run.proofs.SinceLemmas.{since-add}
 use Rattle.gg_flat_run.proofs.UniqueLemmas.{IsRunFrom-once}
-use Rattle.gg_moved.specs.KeepsToTree.{KeepsToTree}
+use Rattle.gg_part_moved.specs.KeepsToTree.{KeepsToTree}
 use Rattle.gg_order.specs.Design.{IsDesign, Ordered}
 use Rattle.gg_partfile.specs.Partition.{IsPartition}
 use Rattle.gg_partfile.specs.declared.request.Request.{Request}
 use Rattle.gg_partfile.proofs.OnceLemmas.{request-once}
-use Rattle.gg_cut.specs.Bridges.{Models}
-use Rattle.gg_cut.specs.Clocks.{ratios_of, stop_ratios}
-use Rattle.gg_cut.specs.Direct.{plan_hub}
-use Rattle.gg_cut.specs.Fault.{first_fault, first_fault_with}
-use Rattle.gg_cut.specs.Held.{AreHeldOnce}
-use Rattle.gg_cut.specs.Solves.{AreRows}
-use Rattle.gg_pipe.specs.Follows.{plan_start}
-use Rattle.gg_pipe.specs.Links.{taken_as}
-use Rattle.gg_pipe.specs.Made.{AllHeld, plan_reference}
-use Rattle.gg_pipe.proofs.OneReference.{one-reference, one-start}
-use Rattle.gg_pipe.proofs.PlanLemmas.{plan-ordered}
-use Rattle.gg_pipe.proofs.StartLemmas.{plan-typed}
+use Rattle.gg_cut_plan.specs.Bridges.{Models}
+use Rattle.gg_cut_plan.specs.Clocks.{ratios_of, stop_ratios}
+use Rattle.gg_cut_plan.specs.Direct.{plan_hub}
+use Rattle.gg_cut_plan.specs.Fault.{first_fault, first_fault_with}
+use Rattle.gg_cut_plan.specs.Held.{AreHeldOnce}
+use Rattle.gg_cut_plan.specs.Solves.{AreRows}
+use Rattle.gg_cut_reference.specs.Follows.{plan_start}
+use Rattle.gg_cut_reference.specs.Links.{taken_as}
+use Rattle.gg_cut_reference.specs.Made.{AllHeld, plan_reference}
+use Rattle.gg_cut_reference.proofs.OneReference.{one-reference, one-start}
+use Rattle.gg_cut_reference.proofs.PlanLemmas.{plan-ordered}
+use Rattle.gg_cut_reference.proofs.StartLemmas.{plan-typed}
 use Rattle.gg_run.specs.Printed.{plan_stops}
 use Rattle.gg_snap_text.specs.Lines.{snap_text}
 use Rattle.gg_snap_text.specs.Standing.{IsSnap}

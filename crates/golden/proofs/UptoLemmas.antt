@@ -10,22 +10,22 @@ use Rattle.gg_flat_run.proofs.UniqueLemmas.{IsRunFrom-once}
 use Rattle.gg_order.specs.Design.{Ordered}
 use Rattle.gg_partfile.specs.declared.request.BridgeEntry.{BridgeEntry}
 use Rattle.gg_partfile.specs.declared.request.Request.{Request}
-use Rattle.gg_cut.specs.Bridges.{Models}
-use Rattle.gg_cut.specs.Clocks.{ratios_of}
-use Rattle.gg_pipe.specs.Follows.{plan_start}
-use Rattle.gg_pipe.specs.Made.{plan_reference}
-use Rattle.gg_cut.specs.Direct.{plan_hub}
-use Rattle.gg_cut.specs.Listed.{listed_of}
-use Rattle.gg_cut.specs.Plan.{IsBody, IsPlan}
-use Rattle.gg_cut.specs.declared.plan.Body.{Body}
-use Rattle.gg_cut.specs.declared.plan.Plan.{Plan}
+use Rattle.gg_cut_plan.specs.Bridges.{Models}
+use Rattle.gg_cut_plan.specs.Clocks.{ratios_of}
+use Rattle.gg_cut_reference.specs.Follows.{plan_start}
+use Rattle.gg_cut_reference.specs.Made.{plan_reference}
+use Rattle.gg_cut_plan.specs.Direct.{plan_hub}
+use Rattle.gg_cut_plan.specs.Listed.{listed_of}
+use Rattle.gg_cut_plan.specs.Plan.{IsBody, IsPlan}
+use Rattle.gg_cut_plan.specs.declared.plan.Body.{Body}
+use Rattle.gg_cut_plan.specs.declared.plan.Plan.{Plan}
 use Rattle.gg_measure.specs.Nets.{AllStandAt}
 use Rattle.gg_run.proofs.OpeningLemmas.{from-zeros}
 use Rattle.gg_run.proofs.OutputLemmas.{net-stays, opening-is-net}
 use Rattle.gg_bridged.specs.Whole.{plan_circuit}
 use Rattle.gg_build.specs.Build.{HasBridges, IsOpeningOf, IsToRun, circuit_order, circuit_rows, run_from_zeros, run_token}
 use Rattle.gg_build.proofs.AlongLemmas.{given-along}
-use Rattle.gg_sound.specs.Built.{IsGiven, nameless}
+use Rattle.gg_build_laws.specs.Built.{IsGiven, nameless}
 use Rattle.gg_flat.specs.State.{State}
 use Rattle.gg_flat.specs.Streams.{Flow}
 use Rattle.gg_flat_tree.specs.Tree.{InstanceTree}
@@ -37,13 +37,13 @@ use Rattle.gg_snap_text.specs.Standing.{IsSnap}
 use Rattle.gg_run.specs.Printed.{IsFirst, ends_run, is_halt, plan_stops}
 use Rattle.gg_snap_text.specs.Lines.{snap_text}
 use Rattle.gg_snap_text.specs.Table.{rows_of}
-use Rattle.gg_told.specs.Ends.{Loads, Puts}
-use Rattle.gg_told.specs.Endings.{EndedOn, IfRefused, PrintsOrStops, StopsBy}
-use Rattle.gg_told.specs.Order.{IsOnly, Load, Write}
-use Rattle.gg_told.specs.Said.{Said}
-use Rattle.gg_told.specs.declared.endings.Ending.{Ending}
-use Rattle.gg_told.specs.declared.endings.Ending.TheVariants.{NoMemory}
-use Rattle.gg_told.proofs.EndingLemmas.{judged-ends, judged-map, loads-same}
+use Rattle.gg_command.specs.Ends.{Loads, Puts}
+use Rattle.gg_command.specs.Endings.{EndedOn, IfRefused, PrintsOrStops, StopsBy}
+use Rattle.gg_command.specs.Order.{IsOnly, Load, Write}
+use Rattle.gg_command.specs.Said.{Said}
+use Rattle.gg_command.specs.declared.endings.Ending.{Ending}
+use Rattle.gg_command.specs.declared.endings.Ending.TheVariants.{NoMemory}
+use Rattle.gg_command.proofs.EndingLemmas.{judged-ends, judged-map, loads-same}
 use Rattle.gg_trace.specs.Last.{acts}
 use Rattle.golden_case.specs.Case.{FedRead, IsCase, IsFed, trace_order}
 use Rattle.golden_case.specs.Commands.{Asked, read_order}

@@ -6,16 +6,16 @@ ghost use Rattle.golden_case.specs.Check.{IsCutTextOf};
 ghost use Rattle.golden_case.specs.Commands.{asking, read_order};
 ghost use Rattle.golden_case.specs.Handed.{AreHandedIn};
 ghost use Rattle.golden_case.specs.Partition.{Known, to_run};
-ghost use Rattle.gg_told.specs.Endings.{EndedOn, PrintsOn};
-ghost use Rattle.gg_told.specs.Order.{IsOnly, Write};
-ghost use Rattle.gg_told.specs.Ends.{loads_of, puts_of};
-ghost use Rattle.gg_told.specs.WentOn.{ShelfWentOn, SinkWentOn};
+ghost use Rattle.gg_command.specs.Endings.{EndedOn, PrintsOn};
+ghost use Rattle.gg_command.specs.Order.{IsOnly, Write};
+ghost use Rattle.gg_command.specs.Ends.{loads_of, puts_of};
+ghost use Rattle.gg_command.specs.WentOn.{ShelfWentOn, SinkWentOn};
 
-use gg_check::{one_text, plan_is_told};
+use gg_command::Ending;
+use gg_cut_text::{one_text, plan_is_told};
 use gg_flat::Models;
 use gg_front::one_meaning;
 use gg_io::{Shelf, Sink};
-use gg_told::Ending;
 use golden_case::{Case, print_plan, read_case};
 use std::alloc::Global;
 

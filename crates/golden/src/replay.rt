@@ -1,9 +1,9 @@
 //! The command `replay`.
 ghost use Rattle.std.specs.Prelude.{◌≤◌, ℕ, List};
-ghost use Rattle.gg_told.specs.Ends.{loads_of, puts_of};
-ghost use Rattle.gg_told.specs.Endings.{EndedOn, PrintsOrStops, said_by};
-ghost use Rattle.gg_told.specs.Order.{Load, Write};
-ghost use Rattle.gg_told.specs.WentOn.{ShelfWentOn, SinkWentOn};
+ghost use Rattle.gg_command.specs.Ends.{loads_of, puts_of};
+ghost use Rattle.gg_command.specs.Endings.{EndedOn, PrintsOrStops, said_by};
+ghost use Rattle.gg_command.specs.Order.{Load, Write};
+ghost use Rattle.gg_command.specs.WentOn.{ShelfWentOn, SinkWentOn};
 ghost use Rattle.gg_words.specs.Range.{IsCapacity};
 ghost use Rattle.gg_build.specs.Build.{HasBridges};
 ghost use Rattle.golden_case.specs.Bridges.{HaveModels};
@@ -16,12 +16,12 @@ ghost use Rattle.golden_case.specs.Stepped.{IsToldText, TellsToldStep, ToldBehin
 
 use gg_bits::Name;
 use gg_bridge::Bridge;
+use gg_command::{Ending, load};
 use gg_flat::Models;
 use gg_flat_run::run_once;
 use gg_front::one_meaning;
 use gg_io::{Shelf, Sink};
-use gg_steps::read_steps;
-use gg_told::{Ending, load};
+use gg_replay_steps::read_steps;
 use golden_case::{Fed, STEPS_LIMIT, names_of, read_fed, replay_net};
 use std::alloc::Global;
 use std::marker::Brand;

@@ -1,14 +1,14 @@
 //! The command `save`.
 ghost use Rattle.std.specs.Prelude.{◌≡◌, ◌≤◌, ℕ, List, None, IfErr, IfOk};
 ghost use Rattle.gg_build.specs.Build.{run_from_zeros, run_token};
-ghost use Rattle.gg_cut.specs.Bridges.{Models};
+ghost use Rattle.gg_cut_plan.specs.Bridges.{Models};
 ghost use Rattle.gg_limits.specs.Limits.{cycle_limit};
-ghost use Rattle.gg_pipe.specs.Follows.{plan_start};
+ghost use Rattle.gg_cut_reference.specs.Follows.{plan_start};
 ghost use Rattle.gg_run.specs.Rows.{StandsAt};
-ghost use Rattle.gg_told.specs.Endings.{EndedOn, IfRefused, PrintsOrStops};
-ghost use Rattle.gg_told.specs.Ends.{loads_of, puts_of};
-ghost use Rattle.gg_told.specs.Order.{IsOnly, Load, Write};
-ghost use Rattle.gg_told.specs.WentOn.{ShelfWentOn, SinkWentOn};
+ghost use Rattle.gg_command.specs.Endings.{EndedOn, IfRefused, PrintsOrStops};
+ghost use Rattle.gg_command.specs.Ends.{loads_of, puts_of};
+ghost use Rattle.gg_command.specs.Order.{IsOnly, Load, Write};
+ghost use Rattle.gg_command.specs.WentOn.{ShelfWentOn, SinkWentOn};
 ghost use Rattle.gg_words.specs.Range.{IsCapacity};
 ghost use Rattle.golden_case.specs.Case.{IsCase, IsFed};
 ghost use Rattle.golden_case.specs.Commands.{asking, read_order};
@@ -21,7 +21,8 @@ ghost use Rattle.golden_case.specs.Saved.{CanBeSaved, IsSavedText, TellsFew, sav
 use gg_bits::Name;
 use gg_bridge::Echo;
 use gg_build::{Node, build};
-use gg_cut::stop_ratios;
+use gg_command::{Ending, put};
+use gg_cut_plan::stop_ratios;
 use gg_flat::Models;
 use gg_front::one_meaning;
 use gg_io::{Gate, Shelf, Sink};
@@ -29,7 +30,6 @@ use gg_net::{Net, Streams};
 use gg_run::{run_to_stop, trays_of};
 use gg_snap::{plans_can_save, snapshot};
 use gg_snap_text::snap_text;
-use gg_told::{Ending, put};
 use golden_case::{Fed, end_few, read_fed, reference_of, shown_ports};
 use std::alloc::{AllocError, Global};
 use std::marker::Brand;

@@ -4,12 +4,12 @@ use Rattle.gg_flat.specs.Run.{IsRunFrom, Start, clocked_start}
 use Rattle.gg_flat.specs.State.{State}
 use Rattle.gg_order.specs.Design.{Ordered}
 use Rattle.gg_partfile.specs.declared.request.Request.{Request}
-use Rattle.gg_cut.specs.Bridges.{Models}
-use Rattle.gg_cut.specs.Clocks.{ratios_of}
-use Rattle.gg_cut.specs.Solves.{AreRows}
-use Rattle.gg_pipe.specs.Follows.{plan_start}
-use Rattle.gg_pipe.specs.Made.{plan_reference}
-use Rattle.gg_pipe.proofs.StartLemmas.{opening-rows}
+use Rattle.gg_cut_plan.specs.Bridges.{Models}
+use Rattle.gg_cut_plan.specs.Clocks.{ratios_of}
+use Rattle.gg_cut_plan.specs.Solves.{AreRows}
+use Rattle.gg_cut_reference.specs.Follows.{plan_start}
+use Rattle.gg_cut_reference.specs.Made.{plan_reference}
+use Rattle.gg_cut_reference.proofs.StartLemmas.{opening-rows}
 use Rattle.gg_bridged.specs.Whole.{plan_begin, plan_circuit}
 use Rattle.gg_bridged.proofs.StateLemmas.{zeros-with}
 use Rattle.golden_case.specs.RunText.{IsRunBy}

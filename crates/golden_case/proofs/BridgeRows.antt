@@ -5,8 +5,8 @@ use Rattle.gg_flat.specs.Circuit.{no_circuit}
 use Rattle.gg_order.specs.Design.{Ordered}
 use Rattle.gg_partfile.specs.Partition.{IsPartition}
 use Rattle.gg_partfile.specs.declared.request.Request.{Request}
-use Rattle.gg_cut.specs.Bridges.{Models}
-use Rattle.gg_cut.specs.declared.fault.CutFault.TheVariants.{UnknownBridge}
+use Rattle.gg_cut_plan.specs.Bridges.{Models}
+use Rattle.gg_cut_plan.specs.declared.fault.CutFault.TheVariants.{UnknownBridge}
 use Rattle.golden_case.specs.Lines.{partition_fault}
 use Rattle.golden_case.specs.Partition.{Cuts, HasFault, OfBridges, OfRequest, to_run, to_save}
 use Rattle.golden_case.proofs.PartitionLemmas.{FileApart, OneKey, fault-once}

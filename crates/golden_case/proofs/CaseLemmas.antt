@@ -10,28 +10,28 @@ use Rattle.gg_flat.specs.Models.{model_names}
 use Rattle.gg_flat.specs.Order.{IsOrder}
 use Rattle.gg_flat_tree.specs.Tree.{InstanceTree}
 use Rattle.gg_flat.proofs.OrderLemmas.{IsLoop-none}
-use Rattle.gg_cut.specs.Bridges.{Models}
-use Rattle.gg_cut.specs.Fault.{first_fault}
-use Rattle.gg_cut.specs.Held.{AreHeldOnce}
+use Rattle.gg_cut_plan.specs.Bridges.{Models}
+use Rattle.gg_cut_plan.specs.Fault.{first_fault}
+use Rattle.gg_cut_plan.specs.Held.{AreHeldOnce}
 use Rattle.gg_cut_seats.specs.Fitting.{AreModels}
-use Rattle.gg_moved.specs.KeepsToTree.{KeepsToTree}
+use Rattle.gg_part_moved.specs.KeepsToTree.{KeepsToTree}
 use Rattle.gg_order.specs.Design.{IsDesign, Ordered}
 use Rattle.gg_partfile.specs.declared.request.Request.{Request}
-use Rattle.gg_paths.specs.Paths.{HavePaths}
-use Rattle.gg_paths.proofs.FreshLemmas.{none-bridged, none-piped}
-use Rattle.gg_paths.proofs.PortLemmas.{have-paths}
+use Rattle.gg_front_paths.specs.Paths.{HavePaths}
+use Rattle.gg_front_paths.proofs.FreshLemmas.{none-bridged, none-piped}
+use Rattle.gg_front_paths.proofs.PortLemmas.{have-paths}
 use Rattle.gg_snap_text.specs.Known.{CanSave}
-use Rattle.gg_pipe.specs.Made.{IsFresh, plan_reference}
+use Rattle.gg_cut_reference.specs.Made.{IsFresh, plan_reference}
 use Rattle.gg_bridged.specs.Whole.{CanBridge, plan_circuit}
 use Rattle.gg_order.proofs.FoundLemmas.{found-is}
 use Rattle.gg_bridged.proofs.PlanLemmas.{circuit-formed, circuit-ordered}
 use Rattle.gg_build.specs.Build.{circuit_order}
-use Rattle.gg_told.specs.Said.{Said}
-use Rattle.gg_told.specs.Order.{Order}
-use Rattle.gg_told.specs.Ends.{Loads, Puts}
-use Rattle.gg_told.specs.Endings.{EndedOn, StopsBy}
-use Rattle.gg_told.specs.declared.endings.Ending.{Ending}
-use Rattle.gg_told.proofs.EndingLemmas.{GoOn, accepted-ends, later-stops, loads-same}
+use Rattle.gg_command.specs.Said.{Said}
+use Rattle.gg_command.specs.Order.{Order}
+use Rattle.gg_command.specs.Ends.{Loads, Puts}
+use Rattle.gg_command.specs.Endings.{EndedOn, StopsBy}
+use Rattle.gg_command.specs.declared.endings.Ending.{Ending}
+use Rattle.gg_command.proofs.EndingLemmas.{GoOn, accepted-ends, later-stops, loads-same}
 use Rattle.golden_case.specs.Case.{IsCase, CaseRead, FedRead, case_order, trace_order}
 use Rattle.golden_case.specs.Commands.{Asked, read_order, fed_order}
 use Rattle.golden_case.specs.Handed.{AreHandedIn, IsBridgeName, is_word_byte}

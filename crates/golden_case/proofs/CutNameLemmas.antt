@@ -15,40 +15,40 @@ use Rattle.gg_flat_tree.specs.Scoped.{memory_fields}
 use Rattle.gg_flat_tree.specs.Tree.{memory_at, path_at}
 use Rattle.gg_flat_tree.specs.declared.tree.MemoryInstance.{MemoryInstance}
 use Rattle.gg_flat.proofs.ListLemmas.{once-apart}
-use Rattle.gg_moved.specs.KeepsToTree.{KeepsToTree}
+use Rattle.gg_part_moved.specs.KeepsToTree.{KeepsToTree}
 use Rattle.gg_order.specs.Design.{IsDesign, Ordered}
 use Rattle.gg_partfile.specs.Size.{all_driven, all_seen}
 use Rattle.gg_partfile.specs.declared.request.BridgeEntry.{BridgeEntry}
 use Rattle.gg_partfile.specs.declared.request.Request.{Request}
-use Rattle.gg_cut.specs.Bridges.{Models}
-use Rattle.gg_cut.specs.Channels.{channel_signals, flattened, port_signals, wire}
-use Rattle.gg_cut.specs.Direct.{plan_hub, plan_routes}
-use Rattle.gg_cut.specs.Machines.{first_memory, first_source, is_memory}
-use Rattle.gg_cut.specs.Fault.{first_fault}
-use Rattle.gg_cut.specs.Listed.{is_among, lies, listed_of}
-use Rattle.gg_cut.specs.Plan.{machine_names, wire_at}
-use Rattle.gg_cut.specs.Seated.{machine_end, open_ins, open_outs, output_count, plan_bridges, plan_wires, seated_wire}
-use Rattle.gg_cut.specs.declared.listed.Listed.{Listed}
-use Rattle.gg_cut.specs.declared.wires.Wire.{Wire}
-use Rattle.gg_cut.proofs.ChainLemmas.{lies-self}
+use Rattle.gg_cut_plan.specs.Bridges.{Models}
+use Rattle.gg_cut_plan.specs.Channels.{channel_signals, flattened, port_signals, wire}
+use Rattle.gg_cut_plan.specs.Direct.{plan_hub, plan_routes}
+use Rattle.gg_cut_plan.specs.Machines.{first_memory, first_source, is_memory}
+use Rattle.gg_cut_plan.specs.Fault.{first_fault}
+use Rattle.gg_cut_plan.specs.Listed.{is_among, lies, listed_of}
+use Rattle.gg_cut_plan.specs.Plan.{machine_names, wire_at}
+use Rattle.gg_cut_plan.specs.Seated.{machine_end, open_ins, open_outs, output_count, plan_bridges, plan_wires, seated_wire}
+use Rattle.gg_cut_plan.specs.declared.listed.Listed.{Listed}
+use Rattle.gg_cut_plan.specs.declared.wires.Wire.{Wire}
+use Rattle.gg_cut_plan.proofs.ChainLemmas.{lies-self}
 use Rattle.gg_cut_seats.specs.Fitting.{AreFitting}
 use Rattle.gg_cut_seats.proofs.LowLemmas.{wire-signal}
 use Rattle.gg_cut_seats.proofs.NameLemmas.{names-count}
-use Rattle.gg_cut.proofs.KnownLemmas.{parents-before, signals-known}
-use Rattle.gg_closed.specs.Apart.{AreApart}
-use Rattle.gg_closed.specs.Longest.{listed_paths}
-use Rattle.gg_closed.proofs.FaultlessLemmas.{faultless-apart, faultless-known}
-use Rattle.gg_closed.proofs.ListLemmas.{AllPairs-append, AllPairs-map, map-cases}
-use Rattle.gg_closed.proofs.ListedLemmas.{listed-are, memory-paths}
-use Rattle.gg_closed.proofs.LongestLemmas.{Among, First, Behind, ArePaths, among}
-use Rattle.gg_closed.proofs.OnceLemmas.{signals-once}
+use Rattle.gg_cut_plan.proofs.KnownLemmas.{parents-before, signals-known}
+use Rattle.gg_cut_laws.specs.Apart.{AreApart}
+use Rattle.gg_cut_laws.specs.Longest.{listed_paths}
+use Rattle.gg_cut_laws.proofs.FaultlessLemmas.{faultless-apart, faultless-known}
+use Rattle.gg_cut_laws.proofs.ListLemmas.{AllPairs-append, AllPairs-map, map-cases}
+use Rattle.gg_cut_laws.proofs.ListedLemmas.{listed-are, memory-paths}
+use Rattle.gg_cut_laws.proofs.LongestLemmas.{Among, First, Behind, ArePaths, among}
+use Rattle.gg_cut_laws.proofs.OnceLemmas.{signals-once}
 use Rattle.gg_bridged.specs.Whole.{CanBridge}
 use Rattle.gg_bridged.proofs.PlanLemmas.{fit}
-use Rattle.gg_routes.specs.Routes.{AreRoutes}
-use Rattle.gg_routes.proofs.RoutedLemmas.{plan-routed}
-use Rattle.gg_check.specs.CheckText.{channel_name}
-use Rattle.gg_paths.specs.Paths.{HavePaths, IsPath, is_path_byte}
-use Rattle.gg_steps.specs.Spelling.{AreUsable, IsUsable}
+use Rattle.gg_cut_routes.specs.Routes.{AreRoutes}
+use Rattle.gg_cut_routes.proofs.RoutedLemmas.{plan-routed}
+use Rattle.gg_cut_text.specs.CheckText.{channel_name}
+use Rattle.gg_front_paths.specs.Paths.{HavePaths, IsPath, is_path_byte}
+use Rattle.gg_replay_steps.specs.Spelling.{AreUsable, IsUsable}
 use Rattle.golden_case.specs.Handed.{IsBridgeName}
 use Rattle.golden_case.specs.Replay.{naming_of, port_names}
 use Rattle.golden_case.proofs.AloneLemmas.{faultless-first}

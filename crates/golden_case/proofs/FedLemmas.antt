@@ -8,22 +8,22 @@ use Rattle.gg_flat_tree.specs.Tree.{InstanceTree}
 use Rattle.gg_flat.specs.declared.ports.Port.{Port}
 use Rattle.gg_order.specs.Design.{Ordered}
 use Rattle.gg_partfile.specs.declared.request.Request.{Request}
-use Rattle.gg_cut.specs.Clocks.{stop_ratios}
-use Rattle.gg_cut.specs.Bridges.{Models}
-use Rattle.gg_cut.specs.declared.plan.Plan.{Plan}
-use Rattle.gg_marking.specs.Fits.{marking_of}
-use Rattle.gg_marking.specs.Marking.{Layout, Marking}
-use Rattle.gg_progress.specs.Measure.{all_dues}
-use Rattle.gg_paths.specs.Paths.{HavePaths}
+use Rattle.gg_cut_plan.specs.Clocks.{stop_ratios}
+use Rattle.gg_cut_plan.specs.Bridges.{Models}
+use Rattle.gg_cut_plan.specs.declared.plan.Plan.{Plan}
+use Rattle.gg_net_marking.specs.Fits.{marking_of}
+use Rattle.gg_net_marking.specs.Marking.{Layout, Marking}
+use Rattle.gg_net_progress.specs.Measure.{all_dues}
+use Rattle.gg_front_paths.specs.Paths.{HavePaths}
 use Rattle.gg_bridged.specs.Whole.{CanBridge, plan_circuit}
-use Rattle.gg_pipe.specs.Follows.{plan_start}
-use Rattle.gg_sound.specs.Built.{IsGiven}
+use Rattle.gg_cut_reference.specs.Follows.{plan_start}
+use Rattle.gg_build_laws.specs.Built.{IsGiven}
 use Rattle.gg_build.specs.Build.{circuit_order, circuit_rows}
 use Rattle.gg_build.proofs.AlongLemmas.{given-along}
-use Rattle.gg_steps.specs.Steps.{steps_of}
-use Rattle.gg_told.specs.Said.{Said}
-use Rattle.gg_told.specs.Endings.{Prints}
-use Rattle.gg_told.specs.declared.endings.Ending.{Ending}
+use Rattle.gg_replay_steps.specs.Steps.{steps_of}
+use Rattle.gg_command.specs.Said.{Said}
+use Rattle.gg_command.specs.Endings.{Prints}
+use Rattle.gg_command.specs.declared.endings.Ending.{Ending}
 use Rattle.gg_trace.specs.Fields.{text_lines}
 use Rattle.gg_trace.specs.Last.{halts, row_count}
 use Rattle.gg_trace.specs.Printing.{trace_text}

@@ -9,23 +9,23 @@ use Rattle.gg_flat_tree.specs.Scoped.{writers_at}
 use Rattle.gg_flat_tree.specs.Tree.{memory_at, port_count}
 use Rattle.gg_flat.specs.declared.memory.Memory.{Memory}
 use Rattle.gg_flat_tree.specs.declared.tree.MemoryInstance.{MemoryInstance}
-use Rattle.gg_moved.specs.KeepsToTree.{KeepsToTree}
+use Rattle.gg_part_moved.specs.KeepsToTree.{KeepsToTree}
 use Rattle.gg_order.specs.Design.{IsDesign, Ordered}
 use Rattle.gg_partfile.specs.declared.request.Request.{Request}
-use Rattle.gg_cut.specs.Bridges.{Models}
-use Rattle.gg_cut.specs.Direct.{is_driven, is_piped, plan_routes}
-use Rattle.gg_cut.specs.Seated.{plan_bridges, seated_wire}
-use Rattle.gg_cut.specs.Machines.{first_memory, first_source, is_memory}
-use Rattle.gg_cut.specs.Fault.{first_fault}
-use Rattle.gg_cut.specs.Listed.{listed_of}
-use Rattle.gg_cut.specs.Plan.{IsPlan}
-use Rattle.gg_cut.specs.declared.listed.Listed.{Listed}
-use Rattle.gg_cut.specs.declared.plan.Plan.{Plan}
-use Rattle.gg_cut.specs.declared.wires.Wire.{Wire}
-use Rattle.gg_closed.specs.Apart.{AreFew}
-use Rattle.gg_closed.proofs.FaultlessLemmas.{faultless-few}
-use Rattle.gg_routes.proofs.RoutedLemmas.{routed-base}
-use Rattle.gg_sound.proofs.WordLemmas.{memory-few}
+use Rattle.gg_cut_plan.specs.Bridges.{Models}
+use Rattle.gg_cut_plan.specs.Direct.{is_driven, is_piped, plan_routes}
+use Rattle.gg_cut_plan.specs.Seated.{plan_bridges, seated_wire}
+use Rattle.gg_cut_plan.specs.Machines.{first_memory, first_source, is_memory}
+use Rattle.gg_cut_plan.specs.Fault.{first_fault}
+use Rattle.gg_cut_plan.specs.Listed.{listed_of}
+use Rattle.gg_cut_plan.specs.Plan.{IsPlan}
+use Rattle.gg_cut_plan.specs.declared.listed.Listed.{Listed}
+use Rattle.gg_cut_plan.specs.declared.plan.Plan.{Plan}
+use Rattle.gg_cut_plan.specs.declared.wires.Wire.{Wire}
+use Rattle.gg_cut_laws.specs.Apart.{AreFew}
+use Rattle.gg_cut_laws.proofs.FaultlessLemmas.{faultless-few}
+use Rattle.gg_cut_routes.proofs.RoutedLemmas.{routed-base}
+use Rattle.gg_build_laws.proofs.WordLemmas.{memory-few}
 use Rattle.golden_case.specs.Replay.{port_names}
 use Rattle.golden_case.specs.Replayed.{AreFewNames}
 

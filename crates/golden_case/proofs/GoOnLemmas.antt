@@ -10,34 +10,34 @@ use Rattle.gg_flat_tree.specs.Tree.{memory_at, path_at, port_count}
 use Rattle.gg_bridged.specs.Whole.{CanBridge}
 use Rattle.gg_order.specs.Design.{Ordered}
 use Rattle.gg_partfile.specs.declared.request.Request.{Request}
-use Rattle.gg_cut.specs.Bridges.{Models}
-use Rattle.gg_cut.specs.Seated.{machine_end, plan_bridges, plan_wires}
-use Rattle.gg_cut.specs.Machines.{first_memory, first_source, is_memory}
-use Rattle.gg_cut.specs.Listed.{listed_of}
-use Rattle.gg_cut.specs.Plan.{machine_names}
-use Rattle.gg_cut.specs.declared.listed.Listed.{Listed}
-use Rattle.gg_cut.specs.declared.wires.Wire.{Wire}
-use Rattle.gg_closed.proofs.FaultlessLemmas.{faultless-apart}
-use Rattle.gg_check.specs.CheckText.{channel_name}
+use Rattle.gg_cut_plan.specs.Bridges.{Models}
+use Rattle.gg_cut_plan.specs.Seated.{machine_end, plan_bridges, plan_wires}
+use Rattle.gg_cut_plan.specs.Machines.{first_memory, first_source, is_memory}
+use Rattle.gg_cut_plan.specs.Listed.{listed_of}
+use Rattle.gg_cut_plan.specs.Plan.{machine_names}
+use Rattle.gg_cut_plan.specs.declared.listed.Listed.{Listed}
+use Rattle.gg_cut_plan.specs.declared.wires.Wire.{Wire}
+use Rattle.gg_cut_laws.proofs.FaultlessLemmas.{faultless-apart}
+use Rattle.gg_cut_text.specs.CheckText.{channel_name}
 use Rattle.gg_net.specs.declared.event.Event.{Event}
 use Rattle.gg_net.specs.declared.event.Event.TheVariants.{Latch, Fire, Serve, Finish}
 use Rattle.gg_net.specs.declared.event.StepRefusal.{StepRefusal}
 use Rattle.gg_net.specs.declared.event.StepRefusal.TheVariants.{Stranger}
-use Rattle.gg_marking.specs.Goes.{after_step, replayed_from, step_refusal}
-use Rattle.gg_marking.specs.Marking.{Layout, Marking, has_port, is_channel, is_machine, opening_marking, or_next, refusal, unless}
-use Rattle.gg_marking.specs.Marking as marks
-use Rattle.gg_progress.specs.Counts.{CanRun, IsAllowed, IsMarkingOf, counts_of}
-use Rattle.gg_progress.specs.Measure.{all_dues, left}
-use Rattle.gg_progress.proofs.EndLemmas.{level-shape, opening-allowed, opening-left}
-use Rattle.gg_progress.proofs.ReplayLemmas.{goes-past, left-longer, longer-left}
-use Rattle.gg_layout.specs.CutLayout.{IsLayoutOf, machine_ports, memory_of}
-use Rattle.gg_paths.specs.Paths.{HavePaths}
-use Rattle.gg_steps.specs.Naming.{Naming, ports_at}
-use Rattle.gg_steps.specs.Spelling.{HasNames, IsLengthened}
-use Rattle.gg_steps.specs.Steps.{step_of, steps_of}
-use Rattle.gg_steps.proofs.LengthenLaws.{lengthened}
-use Rattle.gg_steps.proofs.SpellingLaws.{step-read}
-use Rattle.gg_steps.proofs.UsableLaws.{has-line}
+use Rattle.gg_net_marking.specs.Goes.{after_step, replayed_from, step_refusal}
+use Rattle.gg_net_marking.specs.Marking.{Layout, Marking, has_port, is_channel, is_machine, opening_marking, or_next, refusal, unless}
+use Rattle.gg_net_marking.specs.Marking as marks
+use Rattle.gg_net_progress.specs.Counts.{CanRun, IsAllowed, IsMarkingOf, counts_of}
+use Rattle.gg_net_progress.specs.Measure.{all_dues, left}
+use Rattle.gg_net_progress.proofs.EndLemmas.{level-shape, opening-allowed, opening-left}
+use Rattle.gg_net_progress.proofs.ReplayLemmas.{goes-past, left-longer, longer-left}
+use Rattle.gg_build_layout.specs.CutLayout.{IsLayoutOf, machine_ports, memory_of}
+use Rattle.gg_front_paths.specs.Paths.{HavePaths}
+use Rattle.gg_replay_steps.specs.Naming.{Naming, ports_at}
+use Rattle.gg_replay_steps.specs.Spelling.{HasNames, IsLengthened}
+use Rattle.gg_replay_steps.specs.Steps.{step_of, steps_of}
+use Rattle.gg_replay_steps.proofs.LengthenLaws.{lengthened}
+use Rattle.gg_replay_steps.proofs.SpellingLaws.{step-read}
+use Rattle.gg_replay_steps.proofs.UsableLaws.{has-line}
 use Rattle.gg_trace.specs.Fields.{text_lines}
 use Rattle.golden_case.specs.Handed.{IsBridgeName}
 use Rattle.golden_case.specs.Replay.{naming_of, port_names}

@@ -12,20 +12,20 @@ use Rattle.gg_flat.specs.Models.{model_circuits, model_names}
 use Rattle.gg_flat.specs.Run.{Start}
 use Rattle.gg_flat.specs.State.{State, opening}
 use Rattle.gg_flat.specs.WellFormed.{IsWellFormed}
-use Rattle.gg_joined.specs.Model.{IsModel}
+use Rattle.gg_bridge_joined.specs.Model.{IsModel}
 use Rattle.gg_order.specs.Design.{Ordered}
 use Rattle.gg_partfile.specs.declared.request.BridgeEntry.{BridgeEntry}
 use Rattle.gg_partfile.specs.declared.request.Request.{Request}
-use Rattle.gg_cut.specs.Bridges.{Models, model_named, model_or}
-use Rattle.gg_cut.specs.Listed.{place_of}
-use Rattle.gg_cut.specs.Seated.{output_count}
+use Rattle.gg_cut_plan.specs.Bridges.{Models, model_named, model_or}
+use Rattle.gg_cut_plan.specs.Listed.{place_of}
+use Rattle.gg_cut_plan.specs.Seated.{output_count}
 use Rattle.gg_cut_seats.specs.Fitting.{IsFitting}
-use Rattle.gg_cut.specs.declared.plan.Plan.{Plan}
-use Rattle.gg_cut.proofs.PathLemmas.{first_place-Some}
+use Rattle.gg_cut_plan.specs.declared.plan.Plan.{Plan}
+use Rattle.gg_cut_plan.proofs.PathLemmas.{first_place-Some}
 use Rattle.gg_bridged.specs.Whole.{CanBridge}
-use Rattle.gg_sound.specs.Built.{IsGiven}
-use Rattle.gg_sound.proofs.BodyLemmas.{attached-entry}
-use Rattle.gg_sound.proofs.GivenLemmas.{entries-fit}
+use Rattle.gg_build_laws.specs.Built.{IsGiven}
+use Rattle.gg_build_laws.proofs.BodyLemmas.{attached-entry}
+use Rattle.gg_build_laws.proofs.GivenLemmas.{entries-fit}
 use Rattle.gg_build.specs.Build.{HasBridges}
 use Rattle.golden_case.specs.Bridges.{CanHandIn, HaveModels, models_in}
 use Rattle.golden_case.specs.Handed.{AreHandedIn, IsBridgeName, most_signals}

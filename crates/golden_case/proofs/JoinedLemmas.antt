@@ -5,13 +5,13 @@ use Rattle.gg_flat.specs.Circuit.{FlatCircuit}
 use Rattle.gg_partfile.specs.declared.request.BridgeEntry.{BridgeEntry}
 use Rattle.gg_bridge.specs.Ports.{CanStand, joined_at}
 use Rattle.gg_bridged.specs.Whole.{CanStandAll, with_bridges}
-use Rattle.gg_cut.specs.Bridges.{Models, model_of, model_or}
-use Rattle.gg_cut.specs.Listed.{place_of}
+use Rattle.gg_cut_plan.specs.Bridges.{Models, model_of, model_or}
+use Rattle.gg_cut_plan.specs.Listed.{place_of}
 use Rattle.gg_flat.specs.Models.{model_circuits, model_names}
-use Rattle.gg_joined.specs.Model.{IsModel}
+use Rattle.gg_bridge_joined.specs.Model.{IsModel}
 use Rattle.std.specs.Prelude.{All, option_and_then}
 use Rattle.std.proofs.lemmas.Option.{same_Some}
-use Rattle.gg_cut.proofs.FindLemmas.{rest-at}
+use Rattle.gg_cut_plan.proofs.FindLemmas.{rest-at}
 
 module _ (models : Models) (one : FlatCircuit) where
   pub joined-first : (entries : List BridgeEntry) (k : ℕ) (entry : BridgeEntry) → k < length entries → entry ≡ get_or entries k entry → CanStandAll models one (drop k entries) → CanStand one entry.name (model_of models entry) entry.sees entry.drives

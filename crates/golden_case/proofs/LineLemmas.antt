@@ -3,15 +3,15 @@ use Rattle.std.proofs.Common.{◌≡◌, ℕ, zero, suc, ◌+◌, ◌<◌, List,
 use Rattle.std.specs.Prelude.{Option, Result, Err, flat_map}
 use Rattle.std.specs.Io.KnownBytes.{append_known}
 use Rattle.gg_io.specs.declared.output.Sink
-use Rattle.gg_told.specs.declared.endings.Ending.{Ending}
-use Rattle.gg_cut.specs.declared.plan.Machine.{Machine}
-use Rattle.gg_cut.specs.declared.plan.Plan.{Plan}
-use Rattle.gg_check.specs.PlanText.{channel_names, line_of_channel, line_of_machine, machine_names, plan_text}
-use Rattle.gg_told.specs.Ends.{IsFront}
-use Rattle.gg_check.proofs.LineLemmas.{lines-more}
-use Rattle.gg_told.specs.Endings.{Prints, PrintsOn}
-use Rattle.gg_told.specs.WentOn.{SinkWentOn}
-use Rattle.gg_told.proofs.WritingLemmas.{on-then, prints-first, rose-earlier, stop-within, append_known-append}
+use Rattle.gg_command.specs.declared.endings.Ending.{Ending}
+use Rattle.gg_cut_plan.specs.declared.plan.Machine.{Machine}
+use Rattle.gg_cut_plan.specs.declared.plan.Plan.{Plan}
+use Rattle.gg_cut_text.specs.PlanText.{channel_names, line_of_channel, line_of_machine, machine_names, plan_text}
+use Rattle.gg_command.specs.Ends.{IsFront}
+use Rattle.gg_cut_text.proofs.LineLemmas.{lines-more}
+use Rattle.gg_command.specs.Endings.{Prints, PrintsOn}
+use Rattle.gg_command.specs.WentOn.{SinkWentOn}
+use Rattle.gg_command.proofs.WritingLemmas.{on-then, prints-first, rose-earlier, stop-within, append_known-append}
 
 -- the first lines are a front part of all lines
 pub lines-front : {A : Type 0} (f : A → List ℕ) (xs : List A) (i : ℕ) → IsFront (flat_map f (take i xs)) (flat_map f xs)

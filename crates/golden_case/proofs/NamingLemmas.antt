@@ -1,7 +1,7 @@
 -- The names of a cut, with one more machine.
 use Rattle.std.proofs.Common.{◌≡◌, ℕ, zero, suc, ◌+◌, ◌<◌, List, [], ◌∷◌, ◌++◌, length, map, take, get_or, refl, sym, ap, ◌∙◌, arith, append_assoc}
 use Rattle.std.specs.List.{range_with_len}
-use Rattle.gg_steps.specs.Naming.{Naming}
+use Rattle.gg_replay_steps.specs.Naming.{Naming}
 
 -- what a function makes of the first items of a list, and of one more
 map-more : {A B : Type 0} (f : A → B) (xs : List A) (m : ℕ) (d : A) → m < length xs → map f (take m xs) ++ f (get_or xs m d) ∷ [] ≡ map f (take (suc m) xs)

@@ -6,8 +6,8 @@ use Rattle.std.proofs.lemmas.List.{get_or-map, take_all}
 use Rattle.std.proofs.lemmas.List.FromFn.{get_or-range_with_len, length-range_with_len}
 use Rattle.gg_flat.specs.Streams.{Flow}
 use Rattle.gg_build.specs.Build.{IsToRun, IsOpeningOf}
-use Rattle.gg_cut.specs.declared.plan.Channel.{Channel}
-use Rattle.gg_cut.specs.declared.plan.Plan.{Plan}
+use Rattle.gg_cut_plan.specs.declared.plan.Channel.{Channel}
+use Rattle.gg_cut_plan.specs.declared.plan.Plan.{Plan}
 use Rattle.gg_node.specs.Machine.{machine_at}
 use Rattle.gg_net.specs.declared.event.Event.{Event}
 use Rattle.gg_net.specs.declared.event.StepRefusal.{StepRefusal}
@@ -15,28 +15,28 @@ use Rattle.gg_net.specs.declared.shape.Wire.{Wire}
 use Rattle.gg_net.specs.Kept.{Kept, list_at}
 use Rattle.gg_net.specs.Net.{IsOpening, opening_net}
 use Rattle.gg_net.specs.Network.{Frame, Network, puts, entered, takes}
-use Rattle.gg_marking.specs.Goes.{Stopped}
-use Rattle.gg_marking.specs.Steps.{Steps, StopsAt}
-use Rattle.gg_marking.proofs.StepsLemmas.{steps-frame}
-use Rattle.gg_pipe.specs.Follows.{plan_start}
+use Rattle.gg_net_marking.specs.Goes.{Stopped}
+use Rattle.gg_net_marking.specs.Steps.{Steps, StopsAt}
+use Rattle.gg_net_marking.proofs.StepsLemmas.{steps-frame}
+use Rattle.gg_cut_reference.specs.Follows.{plan_start}
 use Rattle.gg_replay.specs.Log.{AreFronts, opening_log, tokens_at}
 use Rattle.gg_replay.specs.ReplayText.{channel_line}
 use Rattle.gg_replay.proofs.OpeningLemmas.{first-fronts}
-use Rattle.gg_sound.specs.Built.{no_token, wires_of_plan}
-use Rattle.gg_sound.proofs.LinkLemmas.{length-from}
-use Rattle.gg_sound.proofs.OpeningLemmas.{built-opening}
-use Rattle.gg_sound.proofs.ZeroLemmas.{built-with-zeros}
-use Rattle.gg_steps.specs.Naming.{Naming}
-use Rattle.gg_told.specs.declared.endings.Ending.{Ending}
-use Rattle.gg_told.specs.declared.endings.Ending.TheVariants.{NoMemory}
-use Rattle.gg_told.specs.Said.{Said, line_of}
+use Rattle.gg_build_laws.specs.Built.{no_token, wires_of_plan}
+use Rattle.gg_build_laws.proofs.LinkLemmas.{length-from}
+use Rattle.gg_build_laws.proofs.OpeningLemmas.{built-opening}
+use Rattle.gg_build_laws.proofs.ZeroLemmas.{built-with-zeros}
+use Rattle.gg_replay_steps.specs.Naming.{Naming}
+use Rattle.gg_command.specs.declared.endings.Ending.{Ending}
+use Rattle.gg_command.specs.declared.endings.Ending.TheVariants.{NoMemory}
+use Rattle.gg_command.specs.Said.{Said, line_of}
 use Rattle.golden_case.specs.Lines.{step_fault}
-use Rattle.gg_told.specs.Ends.{Puts}
-use Rattle.gg_told.specs.Endings.{IfRefused, PrintsOrStops, Stops}
+use Rattle.gg_command.specs.Ends.{Puts}
+use Rattle.gg_command.specs.Endings.{IfRefused, PrintsOrStops, Stops}
 use Rattle.golden_case.specs.Replay.{stopped_by}
 use Rattle.golden_case.specs.Replayed.{IsNetText, Opened, TellsStop, name_in, net_line, net_text, width_in}
 use Rattle.golden_case.specs.declared.case.Fed.{Fed}
-use Rattle.gg_told.proofs.EndingLemmas.{IfRefused-map}
+use Rattle.gg_command.proofs.EndingLemmas.{IfRefused-map}
 
 module _ (plan : Plan) (columns : List (List ℕ)) (n : ℕ) (flow : Flow) (net : Network) (opens : IsOpeningOf plan columns n net) where
   -- before the first cycle a log of the tokens with which the channels open is right

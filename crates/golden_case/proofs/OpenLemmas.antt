@@ -11,7 +11,7 @@ use Rattle.gg_flat.specs.declared.ports.Port.{Port}
 use Rattle.gg_partfile.specs.Size.{all_driven}
 use Rattle.gg_partfile.specs.declared.request.BridgeEntry.{BridgeEntry}
 use Rattle.gg_partfile.specs.declared.request.Request.{Request}
-use Rattle.gg_cut.specs.Listed.{is_among}
+use Rattle.gg_cut_plan.specs.Listed.{is_among}
 use Rattle.golden_case.specs.RunText.{fed_ports, ports_without}
 use Rattle.golden_case.proofs.WholePortLemmas.{without-at}
 

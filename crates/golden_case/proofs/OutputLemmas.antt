@@ -16,7 +16,7 @@ use Rattle.gg_order.specs.Design.{Ordered}
 use Rattle.gg_partfile.specs.Size.{all_seen}
 use Rattle.gg_partfile.specs.declared.request.BridgeEntry.{BridgeEntry}
 use Rattle.gg_partfile.specs.declared.request.Request.{Request}
-use Rattle.gg_cut.specs.Listed.{is_among}
+use Rattle.gg_cut_plan.specs.Listed.{is_among}
 use Rattle.golden_case.specs.RunText.{outputs_of, ports_without, shown_ports}
 use Rattle.golden_case.proofs.OpenLemmas.{open-same}
 use Rattle.golden_case.proofs.WholePortLemmas.{without-at}

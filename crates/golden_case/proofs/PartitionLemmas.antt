@@ -2,13 +2,13 @@
 use Rattle.std.proofs.Common.{◌≡◌, ◌≢◌, ℕ, ◌++◌, List, [], None, Some, true, refl, sym, ap, ◌∙◌, subst, inl, inr}
 use Rattle.std.specs.Prelude.{Err, IfOk, Ok, Result, codes}
 use Rattle.std.proofs.lemmas.Option.{same_Some}
-use Rattle.gg_cut.specs.Bridges.{Models}
-use Rattle.gg_cut.specs.Fault.{first_fault_with}
-use Rattle.gg_cut.specs.Fault as cut
-use Rattle.gg_cut.specs.declared.fault.CutFault.{CutFault}
-use Rattle.gg_cut.specs.declared.fault.CutFault.TheVariants as cut_fault
-use Rattle.gg_check.specs.Alike.{AreAlike}
-use Rattle.gg_check.proofs.SameCutLemmas.{alike-is}
+use Rattle.gg_cut_plan.specs.Bridges.{Models}
+use Rattle.gg_cut_plan.specs.Fault.{first_fault_with}
+use Rattle.gg_cut_plan.specs.Fault as cut
+use Rattle.gg_cut_plan.specs.declared.fault.CutFault.{CutFault}
+use Rattle.gg_cut_plan.specs.declared.fault.CutFault.TheVariants as cut_fault
+use Rattle.gg_cut_text.specs.Alike.{AreAlike}
+use Rattle.gg_cut_text.proofs.SameCutLemmas.{alike-is}
 use Rattle.gg_flat.specs.Circuit.{FlatCircuit}
 use Rattle.gg_front.specs.Meaning.{Means, MeansDesign}
 use Rattle.gg_io.specs.Told.{Told}
@@ -18,14 +18,14 @@ use Rattle.gg_partfile.proofs.OnceLemmas.{request-once}
 use Rattle.gg_partfile.specs.Partition.{IsPartition}
 use Rattle.gg_partfile.specs.declared.fault.PartFault.TheVariants as file_fault
 use Rattle.gg_partfile.specs.declared.request.Request.{Request}
-use Rattle.gg_told.specs.Said.{Said}
-use Rattle.gg_told.specs.Endings.{IfRefused}
-use Rattle.gg_told.specs.declared.endings.Ending.{Ending}
-use Rattle.gg_told.proofs.EndingLemmas.{IfRefused-map}
+use Rattle.gg_command.specs.Said.{Said}
+use Rattle.gg_command.specs.Endings.{IfRefused}
+use Rattle.gg_command.specs.declared.endings.Ending.{Ending}
+use Rattle.gg_command.proofs.EndingLemmas.{IfRefused-map}
 use Rattle.golden_case.specs.declared.partition.Cut.{Cut}
 use Rattle.golden_case.specs.Lines.{partition_fault}
-use Rattle.gg_told.specs.Order.{CanBe, IsExactFile, IsUniqueFile, IsRefused}
-use Rattle.gg_told.proofs.OrderLemmas.{exact-by}
+use Rattle.gg_command.specs.Order.{CanBe, IsExactFile, IsUniqueFile, IsRefused}
+use Rattle.gg_command.proofs.OrderLemmas.{exact-by}
 use Rattle.golden_case.specs.Partition.{Cuts, HasFault, Known, OfBridges, OfFile, OfRequest, IsPartitionFor, TellsPartitionOf, TellsPartitionFor, partition_file_for, partition_file_of}
 
 -- ---- the fault of bytes

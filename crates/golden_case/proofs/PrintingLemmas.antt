@@ -9,10 +9,10 @@ use Rattle.gg_flat.specs.State.{State, next_state}
 use Rattle.gg_io.specs.declared.output.Sink
 use Rattle.gg_refsim.specs.Cycle.{Simulation, Cycle, outputs}
 use Rattle.gg_trace.specs.Table.{Table, row_of}
-use Rattle.gg_told.specs.declared.endings.Ending.{Ending}
+use Rattle.gg_command.specs.declared.endings.Ending.{Ending}
 use Rattle.gg_flat.specs.Clock.{Ratio, edges_at}
-use Rattle.gg_told.specs.WentOn.{SinkWentOn}
-use Rattle.gg_told.proofs.WritingLemmas.{on-then}
+use Rattle.gg_command.specs.WentOn.{SinkWentOn}
+use Rattle.gg_command.proofs.WritingLemmas.{on-then}
 use Rattle.gg_run.specs.Printed.{PrintsRow, RowForm}
 use Rattle.gg_run.specs.Rows.{outputs_in}
 use Rattle.gg_run.specs.Taken.{Took, TookTo}

@@ -8,8 +8,8 @@ use Rattle.gg_trace.specs.Trace.{Columns, IfFirstFault, IsFirstFault}
 use Rattle.gg_trace.specs.declared.faults.TraceFault.{TraceFault}
 use Rattle.gg_trace.specs.declared.faults.TraceFault.TheVariants as trace
 use Rattle.gg_trace.specs.declared.faults.TraceFault.TheVariants.{Heading, RowNumber, NotHexadecimal, TooWide, FieldCount, TooManyRows}
-use Rattle.gg_told.specs.Said.{Said}
-use Rattle.gg_told.specs.Order.{CanBe, IsRefused}
+use Rattle.gg_command.specs.Said.{Said}
+use Rattle.gg_command.specs.Order.{CanBe, IsRefused}
 use Rattle.golden_case.specs.Run.{trace_file_for, trace_file_of}
 use Rattle.gg_front.specs.Meaning.{Means}
 use Rattle.gg_io.specs.Told.{Told}

@@ -12,44 +12,44 @@ use Rattle.gg_flat_tree.specs.Tree.{path_at}
 use Rattle.gg_flat.proofs.ListLemmas.{some-item}
 use Rattle.gg_order.specs.Design.{Ordered}
 use Rattle.gg_partfile.specs.declared.request.Request.{Request}
-use Rattle.gg_cut.specs.Channels.{capacity_of}
-use Rattle.gg_cut.specs.Direct.{is_piped}
-use Rattle.gg_cut.specs.Bridges.{Models}
-use Rattle.gg_cut.specs.Seated.{machine_end, plan_bridges, plan_wires}
-use Rattle.gg_cut.specs.Listed.{listed_of}
-use Rattle.gg_cut.specs.Plan.{IsChannel, machine_names, wire_at}
-use Rattle.gg_cut.specs.Solves.{stream}
-use Rattle.gg_cut.specs.declared.listed.Listed.{Listed}
-use Rattle.gg_cut.specs.declared.plan.Channel.{Channel}
-use Rattle.gg_cut.specs.declared.plan.Machine as planned
-use Rattle.gg_cut.specs.declared.plan.Plan.{Plan}
-use Rattle.gg_cut.specs.declared.wires.Wire.{Wire}
-use Rattle.gg_check.specs.CheckText.{channel_name}
-use Rattle.gg_check.proofs.SameCutLemmas.{lines-same}
+use Rattle.gg_cut_plan.specs.Channels.{capacity_of}
+use Rattle.gg_cut_plan.specs.Direct.{is_piped}
+use Rattle.gg_cut_plan.specs.Bridges.{Models}
+use Rattle.gg_cut_plan.specs.Seated.{machine_end, plan_bridges, plan_wires}
+use Rattle.gg_cut_plan.specs.Listed.{listed_of}
+use Rattle.gg_cut_plan.specs.Plan.{IsChannel, machine_names, wire_at}
+use Rattle.gg_cut_plan.specs.Solves.{stream}
+use Rattle.gg_cut_plan.specs.declared.listed.Listed.{Listed}
+use Rattle.gg_cut_plan.specs.declared.plan.Channel.{Channel}
+use Rattle.gg_cut_plan.specs.declared.plan.Machine as planned
+use Rattle.gg_cut_plan.specs.declared.plan.Plan.{Plan}
+use Rattle.gg_cut_plan.specs.declared.wires.Wire.{Wire}
+use Rattle.gg_cut_text.specs.CheckText.{channel_name}
+use Rattle.gg_cut_text.proofs.SameCutLemmas.{lines-same}
 use Rattle.gg_node.specs.Machine.{Machine}
 use Rattle.gg_net.specs.declared.event.Event.{Event}
 use Rattle.gg_net.specs.Kept.{Kept, list_at}
 use Rattle.gg_net.specs.Net.{opening_net}
 use Rattle.gg_net.specs.Network.{Frame, Network, frame_of}
 use Rattle.gg_net.specs.Network as network
-use Rattle.gg_marking.specs.Fits.{HasLayout, marking_of}
-use Rattle.gg_marking.specs.Goes.{Stopped, replayed_from}
-use Rattle.gg_marking.specs.Marking.{Layout, opening_marking, entered, puts, takes}
-use Rattle.gg_marking.specs.Steps.{Steps, StopsAt}
-use Rattle.gg_marking.proofs.CountLemmas.{puts-are, entered-are, takes-are}
-use Rattle.gg_marking.proofs.OpeningLemmas.{opens-so}
-use Rattle.gg_marking.proofs.StepsLemmas.{all-done, steps-frame, stops-at}
+use Rattle.gg_net_marking.specs.Fits.{HasLayout, marking_of}
+use Rattle.gg_net_marking.specs.Goes.{Stopped, replayed_from}
+use Rattle.gg_net_marking.specs.Marking.{Layout, opening_marking, entered, puts, takes}
+use Rattle.gg_net_marking.specs.Steps.{Steps, StopsAt}
+use Rattle.gg_net_marking.proofs.CountLemmas.{puts-are, entered-are, takes-are}
+use Rattle.gg_net_marking.proofs.OpeningLemmas.{opens-so}
+use Rattle.gg_net_marking.proofs.StepsLemmas.{all-done, steps-frame, stops-at}
 use Rattle.gg_measure.proofs.NetLemmas.{can-run}
-use Rattle.gg_progress.specs.Counts.{CanRun}
-use Rattle.gg_pipe.specs.Follows.{plan_start, plan_token}
-use Rattle.gg_pipe.proofs.StartLemmas.{start-token}
-use Rattle.gg_sound.specs.Built.{AreBuilt, IsGiven, flow_of, no_token, opening_of, wires_of_plan}
-use Rattle.gg_sound.proofs.LinkLemmas.{length-from}
-use Rattle.gg_sound.proofs.OpeningLemmas.{built-opening}
-use Rattle.gg_sound.proofs.SolvedLemmas.{stream-at}
-use Rattle.gg_sound.proofs.ZeroLemmas.{built-with-zeros}
-use Rattle.gg_layout.specs.CutLayout.{IsLayoutOf}
-use Rattle.gg_layout.proofs.LayoutLemmas.{plan-layout, plan-in-order}
+use Rattle.gg_net_progress.specs.Counts.{CanRun}
+use Rattle.gg_cut_reference.specs.Follows.{plan_start, plan_token}
+use Rattle.gg_cut_reference.proofs.StartLemmas.{start-token}
+use Rattle.gg_build_laws.specs.Built.{AreBuilt, IsGiven, flow_of, no_token, opening_of, wires_of_plan}
+use Rattle.gg_build_laws.proofs.LinkLemmas.{length-from}
+use Rattle.gg_build_laws.proofs.OpeningLemmas.{built-opening}
+use Rattle.gg_build_laws.proofs.SolvedLemmas.{stream-at}
+use Rattle.gg_build_laws.proofs.ZeroLemmas.{built-with-zeros}
+use Rattle.gg_build_layout.specs.CutLayout.{IsLayoutOf}
+use Rattle.gg_build_layout.proofs.LayoutLemmas.{plan-layout, plan-in-order}
 use Rattle.gg_replay.specs.ReplayText.{channel_line}
 use Rattle.golden_case.specs.Replay.{Setting, channel_told, naming_of, port_names, replay_text}
 use Rattle.golden_case.specs.RunText.{IsRunBy}

@@ -5,21 +5,21 @@ use Rattle.gg_flat.specs.Order.{IsOrder}
 use Rattle.gg_order.specs.Design.{Ordered}
 use Rattle.gg_partfile.proofs.OnceLemmas.{request-once}
 use Rattle.gg_partfile.specs.declared.request.Request.{Request}
-use Rattle.gg_check.specs.Alike.{AreAlike}
-use Rattle.gg_check.proofs.SameCutLemmas.{alike-is}
-use Rattle.gg_marking.specs.Marking.{Layout, Marking, opening_marking}
-use Rattle.gg_marking.specs.Goes.{Stopped, replayed_from}
-use Rattle.gg_layout.specs.CutLayout.{IsLayoutOf}
-use Rattle.gg_layout.proofs.OneLemmas.{one-layout}
+use Rattle.gg_cut_text.specs.Alike.{AreAlike}
+use Rattle.gg_cut_text.proofs.SameCutLemmas.{alike-is}
+use Rattle.gg_net_marking.specs.Marking.{Layout, Marking, opening_marking}
+use Rattle.gg_net_marking.specs.Goes.{Stopped, replayed_from}
+use Rattle.gg_build_layout.specs.CutLayout.{IsLayoutOf}
+use Rattle.gg_build_layout.proofs.OneLemmas.{one-layout}
 use Rattle.gg_bridged.specs.Whole.{plan_circuit}
-use Rattle.gg_steps.specs.Naming.{Naming}
-use Rattle.gg_steps.specs.Steps.{steps_of}
-use Rattle.gg_told.specs.Said.{Said}
-use Rattle.gg_told.specs.Order.{IsExactFile, IsUniqueFile}
+use Rattle.gg_replay_steps.specs.Naming.{Naming}
+use Rattle.gg_replay_steps.specs.Steps.{steps_of}
+use Rattle.gg_command.specs.Said.{Said}
+use Rattle.gg_command.specs.Order.{IsExactFile, IsUniqueFile}
 use Rattle.golden_case.specs.Partition.{Known}
 use Rattle.golden_case.specs.Replay.{AreDone, IsSetting, Setting, TellsSteps, naming_of, replay_text, replayed, steps_file_for, stopped_by, stopped_said}
 use Rattle.golden_case.specs.RunText.{FeedsOnly}
-use Rattle.gg_told.proofs.OrderLemmas.{exact-by}
+use Rattle.gg_command.proofs.OrderLemmas.{exact-by}
 use Rattle.golden_case.proofs.PartitionLemmas.{DesignsAgree}
 use Rattle.golden_case.proofs.TextLemmas.{OneRun, circuit-same, same-run}
 

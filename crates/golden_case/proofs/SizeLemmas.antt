@@ -9,17 +9,17 @@ use Rattle.std.proofs.lemmas.List.Sums.{sum_by-cons}
 use Rattle.gg_bits.specs.Shape.{shape}
 use Rattle.gg_ast.specs.Places.{place_of}
 use Rattle.gg_ast.specs.Tree.{ModuleTree, empty_module, module_at, module_names}
-use Rattle.gg_count.specs.declared.counts.Counts.{Counts}
-use Rattle.gg_count.specs.declared.counts.Excess.{Excess}
-use Rattle.gg_count.specs.declared.counts.Measure.TheVariants as measures
-use Rattle.gg_count.specs.Counts.{counts_of, excess_of, first_excess}
-use Rattle.gg_count.specs.Sites.{Site, all_sites, sites_from}
+use Rattle.gg_elab_count.specs.declared.counts.Counts.{Counts}
+use Rattle.gg_elab_count.specs.declared.counts.Excess.{Excess}
+use Rattle.gg_elab_count.specs.declared.counts.Measure.TheVariants as measures
+use Rattle.gg_elab_count.specs.Counts.{counts_of, excess_of, first_excess}
+use Rattle.gg_elab_count.specs.Sites.{Site, all_sites, sites_from}
 use Rattle.gg_flat.specs.Circuit.{FlatCircuit}
 use Rattle.gg_flat.specs.Line.{value_at}
 use Rattle.gg_flat.specs.declared.piece.Signal.{Signal}
-use Rattle.gg_flattened.specs.Flat.{FlatSignal, flat_signal, flat_signals, signals_at}
-use Rattle.gg_flattened.specs.Known.{types_of}
-use Rattle.gg_flattened.specs.Signals.{Types, own_signals}
+use Rattle.gg_elab_sites.specs.Flat.{FlatSignal, flat_signal, flat_signals, signals_at}
+use Rattle.gg_elab_sites.specs.Known.{types_of}
+use Rattle.gg_elab_sites.specs.Signals.{Types, own_signals}
 use Rattle.gg_elab.specs.Limits.{excess_over, own_counts}
 use Rattle.gg_front.specs.Meaning.{Means}
 

@@ -4,8 +4,8 @@ use Rattle.std.specs.Prelude.{Option, flat_map}
 use Rattle.std.specs.List.{range_with_len}
 use Rattle.gg_flat.specs.Streams.{Flow}
 use Rattle.gg_net.specs.declared.event.Event.{Event}
-use Rattle.gg_steps.specs.Naming.{Naming}
-use Rattle.gg_told.specs.Said.{Said}
+use Rattle.gg_replay_steps.specs.Naming.{Naming}
+use Rattle.gg_command.specs.Said.{Said}
 use Rattle.golden_case.specs.Replayed.{IsNetText, TellsStop, net_line}
 use Rattle.golden_case.specs.declared.case.Fed.{Fed}
 

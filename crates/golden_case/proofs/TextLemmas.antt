@@ -9,10 +9,10 @@ use Rattle.gg_partfile.specs.Partition.{IsPartition}
 use Rattle.gg_partfile.specs.declared.request.Request.{Request}
 use Rattle.gg_partfile.proofs.OnceLemmas.{request-once}
 use Rattle.gg_bridged.specs.Whole.{plan_circuit}
-use Rattle.gg_cut.specs.Bridges.{Models}
-use Rattle.gg_cut.specs.Clocks.{ratios_of}
-use Rattle.gg_check.specs.Alike.{AreAlike}
-use Rattle.gg_check.proofs.SameCutLemmas.{alike-is}
+use Rattle.gg_cut_plan.specs.Bridges.{Models}
+use Rattle.gg_cut_plan.specs.Clocks.{ratios_of}
+use Rattle.gg_cut_text.specs.Alike.{AreAlike}
+use Rattle.gg_cut_text.proofs.SameCutLemmas.{alike-is}
 use Rattle.golden_case.specs.Partition.{Known}
 use Rattle.golden_case.specs.Run.{IsTextOf}
 use Rattle.golden_case.specs.RunText.{Feeds, FeedsOnly, IsRunBy, run_text}

@@ -19,19 +19,19 @@ use Rattle.gg_flat_tree.specs.Tree.{path_at}
 use Rattle.gg_flat.specs.WellFormed.{IsWellFormed}
 use Rattle.gg_flat.specs.declared.piece.Signal.{Signal}
 use Rattle.gg_flat.specs.declared.ports.Port.{Port}
-use Rattle.gg_joined.proofs.AtLemmas.{long, shape-old}
+use Rattle.gg_bridge_joined.proofs.AtLemmas.{long, shape-old}
 use Rattle.gg_bridge.specs.Ports.{driven_at, front_of, joined_at, seen_at}
-use Rattle.gg_moved.specs.KeepsToTree.{KeepsToTree}
+use Rattle.gg_part_moved.specs.KeepsToTree.{KeepsToTree}
 use Rattle.gg_order.specs.Design.{Ordered}
 use Rattle.gg_partfile.specs.Size.{all_driven, all_seen}
 use Rattle.gg_partfile.specs.declared.request.BridgeEntry.{BridgeEntry}
 use Rattle.gg_partfile.specs.declared.request.Request.{Request}
-use Rattle.gg_cut.specs.Bridges.{Models, model_of}
-use Rattle.gg_cut.specs.Direct.{plan_hub}
-use Rattle.gg_cut.specs.Listed.{is_among}
-use Rattle.gg_cut.specs.Seated.{open_ins, open_outs, output_count}
-use Rattle.gg_pipe.specs.Links.{taken_as}
-use Rattle.gg_pipe.specs.Made.{plan_reference}
+use Rattle.gg_cut_plan.specs.Bridges.{Models, model_of}
+use Rattle.gg_cut_plan.specs.Direct.{plan_hub}
+use Rattle.gg_cut_plan.specs.Listed.{is_among}
+use Rattle.gg_cut_plan.specs.Seated.{open_ins, open_outs, output_count}
+use Rattle.gg_cut_reference.specs.Links.{taken_as}
+use Rattle.gg_cut_reference.specs.Made.{plan_reference}
 use Rattle.gg_bridged.specs.Whole.{CanBridge, plan_circuit, with_bridges}
 use Rattle.gg_bridged.proofs.PlanLemmas.{reference-made}
 use Rattle.gg_bridged.proofs.PortLemmas.{plan-ins, plan-outs}

@@ -4,7 +4,7 @@
 use Rattle.std.specs.Prelude.{◌≡◌, ◌≢◌, ℕ, ◌≤◌, List, All, AllPairs, length, map, sum}
 use Rattle.gg_flat.specs.Circuit.{FlatCircuit}
 use Rattle.gg_flat.specs.State.{State, opening}
-use Rattle.gg_cut.specs.Bridges.{Models}
+use Rattle.gg_cut_plan.specs.Bridges.{Models}
 use Rattle.golden_case.specs.Handed.{IsBridgeName, most_signals}
 
 -- the models of bridges, each with its bridge's name

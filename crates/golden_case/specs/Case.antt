@@ -3,21 +3,21 @@
 use Rattle.std.specs.Prelude.{ℕ, ◌≤◌, IfOk, List, Result}
 use Rattle.gg_limits.specs.Limits.{cycle_limit}
 use Rattle.gg_bridged.specs.Whole.{plan_circuit}
-use Rattle.gg_cut.specs.Bridges.{Models}
-use Rattle.gg_cut.specs.Plan.{IsPlan}
-use Rattle.gg_cut.specs.Seated.{first_kept_tray, plan_bridges}
+use Rattle.gg_cut_plan.specs.Bridges.{Models}
+use Rattle.gg_cut_plan.specs.Plan.{IsPlan}
+use Rattle.gg_cut_plan.specs.Seated.{first_kept_tray, plan_bridges}
 use Rattle.gg_flat.specs.Run.{IsColumns}
 use Rattle.gg_front.specs.Meaning.{MeansDesign}
 use Rattle.gg_io.specs.Told.{Told}
-use Rattle.gg_moved.specs.KeepsToTree.{KeepsToTree}
+use Rattle.gg_part_moved.specs.KeepsToTree.{KeepsToTree}
 use Rattle.gg_order.specs.Design.{IsDesign}
 use Rattle.gg_io.specs.declared.output.Sink
-use Rattle.gg_cut.specs.Held.{AreHeldOnce}
-use Rattle.gg_pipe.specs.Made.{AllHeld}
+use Rattle.gg_cut_plan.specs.Held.{AreHeldOnce}
+use Rattle.gg_cut_reference.specs.Made.{AllHeld}
 use Rattle.gg_run.specs.Printed.{AreKept, out_columns}
-use Rattle.gg_told.specs.Endings.{PrintsOn}
-use Rattle.gg_told.specs.declared.endings.Ending.{Ending}
-use Rattle.gg_told.specs.Order.{CanBe, Order, Write}
+use Rattle.gg_command.specs.Endings.{PrintsOn}
+use Rattle.gg_command.specs.declared.endings.Ending.{Ending}
+use Rattle.gg_command.specs.Order.{CanBe, Order, Write}
 use Rattle.gg_words.specs.Range.{IsCapacity}
 use Rattle.golden_case.specs.Commands.{Asked, read_order, fed_order}
 use Rattle.golden_case.specs.Handed.{AreHandedIn}

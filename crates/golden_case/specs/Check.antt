@@ -5,7 +5,7 @@ use Rattle.gg_front.specs.Meaning.{MeansDesign}
 use Rattle.gg_order.specs.Design.{Ordered}
 use Rattle.gg_partfile.specs.Partition.{IsPartition}
 use Rattle.gg_partfile.specs.declared.request.Request.{Request}
-use Rattle.gg_check.specs.CheckText.{IsTextOfCut}
+use Rattle.gg_cut_text.specs.CheckText.{IsTextOfCut}
 
 -- The text of the cut of a design that these bytes mean, by the request that the partition holds. `capacity` is that of
 -- the channels that the request doesn't name.

@@ -2,12 +2,12 @@
 -- a partition.
 -- Source: this program's own.
 use Rattle.std.specs.Prelude.{ℕ, List, [], Option, Some, None}
-use Rattle.gg_cut.specs.Bridges.{Models}
+use Rattle.gg_cut_plan.specs.Bridges.{Models}
 use Rattle.gg_words.specs.declared.command.Cmd.{Cmd}
 use Rattle.gg_words.specs.declared.command.Cmd.TheVariants.{Run, Replay, Check, Demo, Save, Resume}
 use Rattle.golden_case.specs.Check.{IsCutTextOf}
 use Rattle.golden_case.specs.Demo.{IsDemoText}
-use Rattle.gg_told.specs.Order.{Order, Load, Write}
+use Rattle.gg_command.specs.Order.{Order, Load, Write}
 use Rattle.golden_case.specs.Partition.{Known, partition_file_for, to_run, to_save}
 use Rattle.golden_case.specs.Replay.{IsReplayOf, steps_file_for}
 use Rattle.golden_case.specs.Resumed.{IsResumedText, snap_file_for}

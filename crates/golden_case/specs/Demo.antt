@@ -1,10 +1,10 @@
 -- The text that `demo` writes: the summary of the run of the circuit that it makes.
--- Source: this program's own. gg_demo has the three texts and the lines.
+-- Source: this program's own. gg_demo_text has the three texts and the lines.
 use Rattle.std.specs.Prelude.{◌≡◌, ℕ, List, [], length}
-use Rattle.gg_demo.specs.CircuitText.{demo_circuit}
-use Rattle.gg_demo.specs.PartitionText.{demo_partition}
-use Rattle.gg_demo.specs.SummaryText.{demo_summary}
-use Rattle.gg_demo.specs.TraceText.{demo_trace}
+use Rattle.gg_demo_text.specs.CircuitText.{demo_circuit}
+use Rattle.gg_demo_text.specs.PartitionText.{demo_partition}
+use Rattle.gg_demo_text.specs.SummaryText.{demo_summary}
+use Rattle.gg_demo_text.specs.TraceText.{demo_trace}
 use Rattle.gg_bridged.specs.Whole.{plan_circuit}
 use Rattle.gg_run.specs.Sums.{output_column}
 use Rattle.golden_case.specs.Partition.{to_run}

@@ -5,8 +5,8 @@ use Rattle.std.specs.Prelude.{◌≡◌, ◌≢◌, ℕ, ◌<◌, ◌≤◌, Boo
 use Rattle.std.specs.List.{list_all}
 use Rattle.std.specs.Char.{is_ascii_alphanumeric}
 use Rattle.gg_flat.specs.Models.{model_names}
-use Rattle.gg_joined.specs.Model.{IsModel}
-use Rattle.gg_cut.specs.Bridges.{Models}
+use Rattle.gg_bridge_joined.specs.Model.{IsModel}
+use Rattle.gg_cut_plan.specs.Bridges.{Models}
 
 -- an ASCII letter, a digit or `_`
 abbrev pub is_word_byte : ℕ → Bool

@@ -6,7 +6,7 @@ use Rattle.clap.specs.declared.error.kind.ErrorKind.TheVariants as kind
 use Rattle.gg_read.specs.FaultText.{fault_text}
 use Rattle.gg_read.specs.declared.text.ReadFault.{ReadFault}
 use Rattle.gg_read.specs.declared.text.ReadFault.TheVariants.{NoMemory}
-use Rattle.gg_told.specs.Said.{Said, line_of}
+use Rattle.gg_command.specs.Said.{Said, line_of}
 
 -- the words aren't a command: `golden: words` followed by this text
 abbrev pub words_said : List ℕ → Said

@@ -1,13 +1,13 @@
 -- What a circuit, a partition and a trace mean for `save` and `resume`.
--- Source: this program's own, by the crates that read these files (gg_front, gg_partfile, gg_trace) and judge a request (gg_cut).
+-- Source: this program's own, by the crates that read these files (gg_front, gg_partfile, gg_trace) and judge a request (gg_cut_plan).
 use Rattle.std.specs.Prelude.{ℕ, List}
-use Rattle.gg_cut.specs.Held.{AreHeldOnce}
+use Rattle.gg_cut_plan.specs.Held.{AreHeldOnce}
 use Rattle.gg_flat.specs.Circuit.{FlatCircuit}
 use Rattle.gg_front.specs.Meaning.{MeansDesign}
-use Rattle.gg_moved.specs.KeepsToTree.{KeepsToTree}
+use Rattle.gg_part_moved.specs.KeepsToTree.{KeepsToTree}
 use Rattle.gg_order.specs.Design.{IsDesign, Ordered}
 use Rattle.gg_partfile.specs.declared.request.Request.{Request}
-use Rattle.gg_pipe.specs.Made.{AllHeld, plan_reference}
+use Rattle.gg_cut_reference.specs.Made.{AllHeld, plan_reference}
 use Rattle.gg_snap_text.specs.declared.row.Row.{Row}
 use Rattle.gg_snap_text.specs.Table.{rows_of}
 use Rattle.golden_case.specs.Partition.{Cuts, Known}

@@ -7,14 +7,14 @@ use Rattle.gg_front.specs.Meaning.{MeansDesign}
 use Rattle.gg_order.specs.Design.{IsDesign, Ordered}
 use Rattle.gg_partfile.specs.declared.request.Request.{Request}
 use Rattle.gg_bridged.specs.Whole.{plan_circuit}
-use Rattle.gg_cut.specs.Plan.{IsPlan}
-use Rattle.gg_cut.specs.Seated.{first_kept_tray, plan_bridges}
-use Rattle.gg_cut.specs.declared.plan.Plan.{Plan}
+use Rattle.gg_cut_plan.specs.Plan.{IsPlan}
+use Rattle.gg_cut_plan.specs.Seated.{first_kept_tray, plan_bridges}
+use Rattle.gg_cut_plan.specs.declared.plan.Plan.{Plan}
 use Rattle.gg_run.specs.Printed.{AreKept, plan_stops}
 use Rattle.gg_trace.specs.Last.{halts, row_count}
 use Rattle.gg_trace.specs.Printing.{trace_text}
-use Rattle.gg_told.specs.Ends.{Loads, Puts}
-use Rattle.gg_told.specs.Order.{CanBe, IsOnly}
+use Rattle.gg_command.specs.Ends.{Loads, Puts}
+use Rattle.gg_command.specs.Order.{CanBe, IsOnly}
 use Rattle.golden_case.specs.Partition.{Cuts, Known, partition_file_for}
 use Rattle.golden_case.specs.Run.{IsTextOf, circuit_file, trace_file_for}
 use Rattle.golden_case.specs.RunText.{Feeds, shown_ports}

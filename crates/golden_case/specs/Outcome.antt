@@ -2,11 +2,11 @@
 -- Source: this program's own.
 use Rattle.std.specs.Prelude.{◌≡◌, ℕ, List, [], Result}
 use Rattle.std.specs.Io.KnownBytes.{append_known}
-use Rattle.gg_told.specs.Said.{Said, out_of_memory}
-use Rattle.gg_told.specs.Ends.{Ends, Loads, Puts, Reports, Says}
-use Rattle.gg_told.specs.Endings.{said_by}
-use Rattle.gg_told.specs.declared.endings.Ending.{Ending}
-use Rattle.gg_cut.specs.Bridges.{Models}
+use Rattle.gg_command.specs.Said.{Said, out_of_memory}
+use Rattle.gg_command.specs.Ends.{Ends, Loads, Puts, Reports, Says}
+use Rattle.gg_command.specs.Endings.{said_by}
+use Rattle.gg_command.specs.declared.endings.Ending.{Ending}
+use Rattle.gg_cut_plan.specs.Bridges.{Models}
 use Rattle.gg_words.specs.Meaning.{IsCommand}
 use Rattle.gg_words.specs.declared.command.Cmd.{Cmd}
 use Rattle.golden_case.specs.Commands.{order_of}

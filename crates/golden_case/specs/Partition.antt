@@ -3,19 +3,19 @@
 -- faults are this program's own: P1 is a fault of the file, P2 to P16 are faults, for a design and for the models that are
 -- handed in, of the request that it holds, and P17 is one of the request for a command.
 use Rattle.std.specs.Prelude.{◌≡◌, ◌≢◌, ℕ, Bool, true, false, List, [], Some, None, codes}
-use Rattle.gg_cut.specs.Bridges.{Models}
-use Rattle.gg_cut.specs.Fault as cut
-use Rattle.gg_cut.specs.declared.fault.CutFault.{CutFault}
+use Rattle.gg_cut_plan.specs.Bridges.{Models}
+use Rattle.gg_cut_plan.specs.Fault as cut
+use Rattle.gg_cut_plan.specs.declared.fault.CutFault.{CutFault}
 use Rattle.gg_front.specs.Meaning.{MeansDesign}
 use Rattle.gg_order.specs.Design.{Ordered}
 use Rattle.gg_partfile.specs.Fault as file
 use Rattle.gg_partfile.specs.Partition.{IsPartition}
 use Rattle.gg_partfile.specs.declared.fault.PartFault.TheVariants.{WrongKey}
 use Rattle.gg_partfile.specs.declared.request.Request.{Request}
-use Rattle.gg_told.specs.Said.{Said}
+use Rattle.gg_command.specs.Said.{Said}
 use Rattle.golden_case.specs.Limits.{partition_limit}
 use Rattle.golden_case.specs.Lines.{partition_fault}
-use Rattle.gg_told.specs.Order.{File}
+use Rattle.gg_command.specs.Order.{File}
 
 -- What is known beside the files: the models that are handed in, each with the name of its bridge, and whether the command is `save` or
 -- `resume`. For these two a partition may ask for no bridge.

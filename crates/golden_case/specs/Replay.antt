@@ -10,30 +10,30 @@ use Rattle.gg_flat_tree.specs.Tree.{InstanceTree, memory_at, path_at}
 use Rattle.gg_front.specs.Meaning.{MeansDesign}
 use Rattle.gg_order.specs.Design.{Ordered}
 use Rattle.gg_partfile.specs.declared.request.Request.{Request}
-use Rattle.gg_cut.specs.Direct.{is_piped}
-use Rattle.gg_cut.specs.Seated.{machine_end, plan_bridges, plan_wires}
-use Rattle.gg_cut.specs.Machines.{first_memory, is_memory}
-use Rattle.gg_cut.specs.Listed.{listed_of}
-use Rattle.gg_cut.specs.Plan.{machine_names, wire_at}
-use Rattle.gg_cut.specs.Solves.{stream}
-use Rattle.gg_cut.specs.declared.listed.Listed.{Listed}
-use Rattle.gg_cut.specs.declared.wires.Wire.{Wire}
-use Rattle.gg_check.specs.CheckText.{channel_name}
+use Rattle.gg_cut_plan.specs.Direct.{is_piped}
+use Rattle.gg_cut_plan.specs.Seated.{machine_end, plan_bridges, plan_wires}
+use Rattle.gg_cut_plan.specs.Machines.{first_memory, is_memory}
+use Rattle.gg_cut_plan.specs.Listed.{listed_of}
+use Rattle.gg_cut_plan.specs.Plan.{machine_names, wire_at}
+use Rattle.gg_cut_plan.specs.Solves.{stream}
+use Rattle.gg_cut_plan.specs.declared.listed.Listed.{Listed}
+use Rattle.gg_cut_plan.specs.declared.wires.Wire.{Wire}
+use Rattle.gg_cut_text.specs.CheckText.{channel_name}
 use Rattle.gg_net.specs.declared.event.Event.{Event}
-use Rattle.gg_marking.specs.Marking.{Layout, Marking, opening_marking, entered, puts, takes}
-use Rattle.gg_marking.specs.Goes.{Stopped, replayed_from}
-use Rattle.gg_progress.specs.Measure.{all_dues}
-use Rattle.gg_layout.specs.CutLayout.{IsLayoutOf}
+use Rattle.gg_net_marking.specs.Marking.{Layout, Marking, opening_marking, entered, puts, takes}
+use Rattle.gg_net_marking.specs.Goes.{Stopped, replayed_from}
+use Rattle.gg_net_progress.specs.Measure.{all_dues}
+use Rattle.gg_build_layout.specs.CutLayout.{IsLayoutOf}
 use Rattle.gg_trace.specs.Fields.{text_lines}
-use Rattle.gg_steps.specs.Naming.{Naming}
-use Rattle.gg_steps.specs.Spelling.{IsLengthened}
-use Rattle.gg_steps.specs.Steps.{steps_of}
-use Rattle.gg_steps.specs.Cause.{cause_text}
+use Rattle.gg_replay_steps.specs.Naming.{Naming}
+use Rattle.gg_replay_steps.specs.Spelling.{IsLengthened}
+use Rattle.gg_replay_steps.specs.Steps.{steps_of}
+use Rattle.gg_replay_steps.specs.Cause.{cause_text}
 use Rattle.gg_replay.specs.ReplayText.{channel_line}
-use Rattle.gg_told.specs.Said.{Said}
+use Rattle.gg_command.specs.Said.{Said}
 use Rattle.golden_case.specs.Limits.{steps_limit}
 use Rattle.golden_case.specs.Lines.{step_fault}
-use Rattle.gg_told.specs.Order.{File, IsOnly}
+use Rattle.gg_command.specs.Order.{File, IsOnly}
 use Rattle.golden_case.specs.Partition.{Cuts, Known}
 use Rattle.golden_case.specs.RunText.{Feeds, IsRunBy}
 

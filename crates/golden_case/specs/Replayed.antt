@@ -5,20 +5,20 @@ use Rattle.std.specs.List.{range_with_len}
 use Rattle.gg_flat.specs.Line.{value_at}
 use Rattle.gg_flat.specs.Streams.{Flow}
 use Rattle.gg_flat_tree.specs.Tree.{InstanceTree, path_at}
-use Rattle.gg_cut.specs.Bridges.{Models}
-use Rattle.gg_cut.specs.declared.plan.Plan.{Plan}
+use Rattle.gg_cut_plan.specs.Bridges.{Models}
+use Rattle.gg_cut_plan.specs.declared.plan.Plan.{Plan}
 use Rattle.gg_node.specs.Machine.{Machine}
 use Rattle.gg_net.specs.declared.event.Event.{Event}
 use Rattle.gg_net.specs.Kept.{Kept, list_at}
 use Rattle.gg_net.specs.Net.{opening_net}
 use Rattle.gg_net.specs.Network.{Network, puts, entered, takes}
-use Rattle.gg_marking.specs.Goes.{Stopped}
-use Rattle.gg_marking.specs.Steps.{Steps, StopsAt}
-use Rattle.gg_sound.specs.Built.{AreBuilt, no_token, opening_of, wires_of_plan}
+use Rattle.gg_net_marking.specs.Goes.{Stopped}
+use Rattle.gg_net_marking.specs.Steps.{Steps, StopsAt}
+use Rattle.gg_build_laws.specs.Built.{AreBuilt, no_token, opening_of, wires_of_plan}
 use Rattle.gg_build.specs.Build.{IsToRun, flow_along}
-use Rattle.gg_steps.specs.Naming.{Naming}
+use Rattle.gg_replay_steps.specs.Naming.{Naming}
 use Rattle.gg_replay.specs.ReplayText.{channel_line}
-use Rattle.gg_told.specs.Said.{Said}
+use Rattle.gg_command.specs.Said.{Said}
 use Rattle.golden_case.specs.Replay.{port_names, stopped_by}
 use Rattle.golden_case.specs.declared.case.Case.{Case}
 use Rattle.golden_case.specs.declared.case.Fed.{Fed}

@@ -1,8 +1,8 @@
 -- The file of a snapshot, and the text that `resume` writes.
 -- Source: this program's own. ICCAD 2019 (Golden Gate) for target cycles as rows.
 use Rattle.std.specs.Prelude.{◌≡◌, ◌↔◌, ℕ, ◌+◌, ◌-◌, ◌<◌, ◌≤◌, ◌⊎◌, Contains, List}
-use Rattle.gg_cut.specs.Clocks.{ratio_of, ratios_of}
-use Rattle.gg_cut.specs.Solves.{AreRows}
+use Rattle.gg_cut_plan.specs.Clocks.{ratio_of, ratios_of}
+use Rattle.gg_cut_plan.specs.Solves.{AreRows}
 use Rattle.gg_flat.specs.Run.{Start}
 use Rattle.gg_flat.specs.State.{State}
 use Rattle.gg_flat.specs.declared.ports.Port.{Port}
@@ -11,8 +11,8 @@ use Rattle.gg_run.specs.Printed.{plan_stops}
 use Rattle.gg_snap_text.specs.FaultText.{fault_words}
 use Rattle.gg_snap_text.specs.Standing.{IsFirstFault, IsSnap}
 use Rattle.gg_snap_text.specs.declared.fault.SnapFault.TheVariants.{S1}
-use Rattle.gg_told.specs.Order.{File}
-use Rattle.gg_told.specs.Said.{Said}
+use Rattle.gg_command.specs.Order.{File}
+use Rattle.gg_command.specs.Said.{Said}
 use Rattle.gg_trace.specs.Last.{halts, row_count}
 use Rattle.gg_trace.specs.Printing.{text_from, trace_text}
 use Rattle.golden_case.specs.Limits.{snap_limit}

@@ -19,10 +19,10 @@ use Rattle.gg_trace.specs.Printing.{trace_text}
 use Rattle.gg_trace.specs.FaultText.{fault_words}
 use Rattle.gg_trace.specs.Trace.{Columns, IsFirstFault}
 use Rattle.gg_trace.specs.declared.faults.TraceFault.{TraceFault}
-use Rattle.gg_told.specs.Said.{Said}
+use Rattle.gg_command.specs.Said.{Said}
 use Rattle.golden_case.specs.Limits.{circuit_limit, trace_limit}
 use Rattle.golden_case.specs.Lines.{circuit_fault, trace_fault}
-use Rattle.gg_told.specs.Order.{File}
+use Rattle.gg_command.specs.Order.{File}
 use Rattle.golden_case.specs.Partition.{Known}
 use Rattle.golden_case.specs.RunText.{IsTraceOf, IsRunText, columns_of, fed_ports, outputs_of}
 

@@ -1,6 +1,6 @@
 -- The text of the run of a design on a trace, with the pipes, the clocks and the bridges of a request: what `run` writes.
 -- Source: ICCAD 2019 (Golden Gate) for target cycles as rows; FIRRTL Specification for what a cycle is (crate gg_flat). MEMOCODE 2009
--- (a buffer with a token in it at the start) for pipes, by which gg_pipe defines the reference circuit. Ratios of clocks are this
+-- (a buffer with a token in it at the start) for pipes, by which gg_cut_reference defines the reference circuit. Ratios of clocks are this
 -- program's own (gg_flat's `edge`). ICCAD 2019 too for bridges, by which gg_bridged defines the circuit with their models.
 use Rattle.std.specs.Prelude.{◌≡◌, ℕ, List, filter, map, not}
 use Rattle.gg_flat.specs.Circuit.{FlatCircuit}
@@ -16,11 +16,11 @@ use Rattle.gg_flat_tree.specs.Tree.{InstanceTree, instance_at, path_at}
 use Rattle.gg_order.specs.Design.{Ordered}
 use Rattle.gg_partfile.specs.Size.{all_driven, all_seen}
 use Rattle.gg_partfile.specs.declared.request.Request.{Request}
-use Rattle.gg_cut.specs.Bridges.{Models}
-use Rattle.gg_cut.specs.Clocks.{ratios_of}
-use Rattle.gg_cut.specs.Direct.{plan_hub}
-use Rattle.gg_cut.specs.Listed.{is_among}
-use Rattle.gg_pipe.specs.Links.{taken_as}
+use Rattle.gg_cut_plan.specs.Bridges.{Models}
+use Rattle.gg_cut_plan.specs.Clocks.{ratios_of}
+use Rattle.gg_cut_plan.specs.Direct.{plan_hub}
+use Rattle.gg_cut_plan.specs.Listed.{is_among}
+use Rattle.gg_cut_reference.specs.Links.{taken_as}
 use Rattle.gg_bridged.specs.Whole.{plan_circuit}
 use Rattle.gg_run.specs.Printed.{plan_stops}
 
@@ -94,7 +94,7 @@ run_text design request rows n = trace_text (shown_ports design request) (column
 -- The text of the run of a design with the pipes, the clocks and the bridges of a request. The trace gives the columns of the circuit's
 -- inputs that no bridge drives for some cycles, and `rows` is the run on them of the reference circuit with the bridges' models.
 -- The reference circuit has the same inputs as the circuit, and it is the
--- circuit itself if the request asks for no pipe (gg_pipe's law `nothing_piped`). A stop ends the text, but not the run that is spoken
+-- circuit itself if the request asks for no pipe (gg_cut_reference's law `nothing_piped`). A stop ends the text, but not the run that is spoken
 -- of: its condition is printed nowhere.
 pub record IsRunText (design : Ordered) (request : Request) (models : Models) (trace text : List ℕ) : Type 0 where
   pub cycles : ℕ

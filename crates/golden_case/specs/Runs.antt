@@ -7,19 +7,19 @@ use Rattle.gg_flat.specs.Run.{state_at}
 use Rattle.gg_flat.specs.State.{State}
 use Rattle.gg_flat.specs.Streams.{Flow}
 use Rattle.gg_order.specs.Design.{Ordered}
-use Rattle.gg_pipe.specs.Follows.{plan_start}
-use Rattle.gg_pipe.specs.Made.{plan_reference}
-use Rattle.gg_sound.specs.Built.{flow_of}
+use Rattle.gg_cut_reference.specs.Follows.{plan_start}
+use Rattle.gg_cut_reference.specs.Made.{plan_reference}
+use Rattle.gg_build_laws.specs.Built.{flow_of}
 use Rattle.gg_build.specs.Build.{circuit_order}
 use Rattle.gg_bridged.specs.Whole.{plan_begin, plan_circuit}
-use Rattle.gg_cut.specs.Bridges.{Models}
+use Rattle.gg_cut_plan.specs.Bridges.{Models}
 use Rattle.gg_run.specs.Printed.{IsFirst, ends_run, plan_stops}
 use Rattle.gg_snap_text.specs.FaultText.{fault_words}
 use Rattle.gg_snap_text.specs.Lines.{snap_text}
 use Rattle.gg_snap_text.specs.Standing.{IsFirstFault, IsSnap}
 use Rattle.gg_snap_text.specs.Table.{rows_of}
 use Rattle.gg_snap_text.specs.declared.fault.SnapFault.TheVariants.{S1}
-use Rattle.gg_told.specs.Said.{Said}
+use Rattle.gg_command.specs.Said.{Said}
 use Rattle.golden_case.specs.Lines.{few_rows, snap_fault}
 use Rattle.golden_case.specs.Meant.{Meant}
 use Rattle.golden_case.specs.Replayed.{IsToReplay}

@@ -4,10 +4,10 @@
 use Rattle.std.specs.Prelude.{◌≡◌, ℕ, ◌<◌, ◌≤◌, ◌-◌, ◌==◌, ◌⊎◌, if◌then◌else◌, List}
 use Rattle.gg_flat.specs.Run.{state_at}
 use Rattle.gg_flat.specs.State.{State}
-use Rattle.gg_pipe.specs.Follows.{plan_start}
+use Rattle.gg_cut_reference.specs.Follows.{plan_start}
 use Rattle.gg_snap_text.specs.Lines.{snap_text}
-use Rattle.gg_told.specs.Order.{File}
-use Rattle.gg_told.specs.Said.{Said}
+use Rattle.gg_command.specs.Order.{File}
+use Rattle.gg_command.specs.Said.{Said}
 use Rattle.golden_case.specs.Lines.{few_rows}
 use Rattle.golden_case.specs.Meant.{AreMeant, Meant, meant_reference, meant_values}
 use Rattle.golden_case.specs.Partition.{Known}

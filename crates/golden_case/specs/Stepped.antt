@@ -4,10 +4,10 @@
 use Rattle.std.specs.Prelude.{◌≡◌, ℕ, List}
 use Rattle.std.specs.Io.KnownBytes.{append_known}
 use Rattle.gg_io.specs.Told.{Told}
-use Rattle.gg_steps.specs.Steps.{steps_of}
-use Rattle.gg_told.specs.Ends.{Puts}
-use Rattle.gg_told.specs.Order.{CanBe, IsOnly}
-use Rattle.gg_told.specs.Said.{Said}
+use Rattle.gg_replay_steps.specs.Steps.{steps_of}
+use Rattle.gg_command.specs.Ends.{Puts}
+use Rattle.gg_command.specs.Order.{CanBe, IsOnly}
+use Rattle.gg_command.specs.Said.{Said}
 use Rattle.golden_case.specs.Case.{IsFed}
 use Rattle.golden_case.specs.Partition.{Known, partition_file_for}
 use Rattle.golden_case.specs.Replay.{IsReplayOf, IsReplayed, TellsSteps, steps_file_for}

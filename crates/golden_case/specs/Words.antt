@@ -6,7 +6,7 @@ use Rattle.gg_words.specs.Meaning.{IsCommand, IsWordFault}
 use Rattle.gg_words.specs.declared.command.Cmd.{Cmd}
 use Rattle.gg_words.specs.declared.command.WordFault.{WordFault}
 use Rattle.gg_words.specs.declared.command.WordFault.TheVariants.{Unexpected, Refused, WrongNumber, NoMemory}
-use Rattle.gg_told.specs.Said.{Said}
+use Rattle.gg_command.specs.Said.{Said}
 use Rattle.golden_case.specs.Lines.{bad_number, refused_words, unexpected_word}
 
 -- the words are some command

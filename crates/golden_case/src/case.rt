@@ -5,16 +5,16 @@ ghost use Rattle.golden_case.specs.Case.{CaseRead, FedRead, case_order, trace_or
 ghost use Rattle.golden_case.specs.Commands.{asking};
 ghost use Rattle.golden_case.specs.Handed.{AreHandedIn};
 ghost use Rattle.golden_case.specs.Runs.{upto};
-ghost use Rattle.gg_told.specs.Endings.{IfRefused, StopsBy};
-ghost use Rattle.gg_told.specs.Ends.{loads_of};
-ghost use Rattle.gg_told.specs.WentOn.{ShelfWentOn};
+ghost use Rattle.gg_command.specs.Endings.{IfRefused, StopsBy};
+ghost use Rattle.gg_command.specs.Ends.{loads_of};
+ghost use Rattle.gg_command.specs.WentOn.{ShelfWentOn};
 
 use crate::partition::{Cut, read_cut};
 use crate::reading::{read_circuit, read_inputs};
+use gg_command::Ending;
 use gg_flat::Models;
 use gg_io::Shelf;
 use gg_order::Design;
-use gg_told::Ending;
 use gg_trace::Trace;
 use std::alloc::Global;
 

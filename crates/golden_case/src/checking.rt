@@ -1,13 +1,13 @@
 //! Printing of a plan: a line for each machine, then a line for each channel.
 ghost use Rattle.std.specs.Prelude.{ℕ, flat_map};
-ghost use Rattle.gg_check.specs.PlanText.{channel_names, line_of_channel, line_of_machine, machine_names, plan_text};
-ghost use Rattle.gg_told.specs.Endings.{PrintsOn};
-ghost use Rattle.gg_told.specs.WentOn.{SinkWentOn};
+ghost use Rattle.gg_cut_text.specs.PlanText.{channel_names, line_of_channel, line_of_machine, machine_names, plan_text};
+ghost use Rattle.gg_command.specs.Endings.{PrintsOn};
+ghost use Rattle.gg_command.specs.WentOn.{SinkWentOn};
 
-use gg_check::{channel_line, machine_line};
-use gg_cut::{Channel, Machine, Plan};
+use gg_command::{Ending, put};
+use gg_cut_plan::{Channel, Machine, Plan};
+use gg_cut_text::{channel_line, machine_line};
 use gg_io::Sink;
-use gg_told::{Ending, put};
 use std::alloc::Global;
 
 // Writes the line of a machine.

@@ -1,6 +1,6 @@
 //! The models of the bridges that are handed in.
 ghost use Rattle.std.specs.Prelude.{◌≡◌, ◌++◌, ◌∷◌, [], All, IfOk, OnOk};
-ghost use Rattle.gg_joined.specs.Model.{IsModel};
+ghost use Rattle.gg_bridge_joined.specs.Model.{IsModel};
 ghost use Rattle.golden_case.specs.Bridges.{CanHandIn, HaveModels};
 ghost use Rattle.golden_case.specs.Handed.{AreHandedIn};
 

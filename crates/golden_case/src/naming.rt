@@ -5,9 +5,9 @@ ghost use Rattle.golden_case.specs.Replay.{port_names};
 ghost use Rattle.golden_case.specs.Replayed.{AreFewNames, plan_naming};
 
 use gg_bits::Name;
-use gg_cut::{Channel, Listed, Machine, Plan};
+use gg_cut_plan::{Channel, Listed, Machine, Plan};
 use gg_flat_tree::Tree;
-use gg_steps::StepNames;
+use gg_replay_steps::StepNames;
 use std::alloc::{AllocError, Global};
 
 // The names of a machine's ports; none if it isn't a listed memory.

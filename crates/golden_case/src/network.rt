@@ -2,24 +2,24 @@
 ghost use Rattle.std.specs.Prelude.{◌≡◌, ◌-◌, ◌<◌, ◌^◌, ◌++◌, IfOk, None, codes, decimal, length, slice_index_or, string_bytes};
 ghost use Rattle.gg_build.specs.Build.{HasBridges};
 ghost use Rattle.gg_replay.specs.Log.{AreFronts};
-ghost use Rattle.gg_steps.specs.Cause.{cause_text};
-ghost use Rattle.gg_told.specs.Endings.{IfRefused, PrintsOn, PrintsOrStops};
+ghost use Rattle.gg_replay_steps.specs.Cause.{cause_text};
+ghost use Rattle.gg_command.specs.Endings.{IfRefused, PrintsOn, PrintsOrStops};
 ghost use Rattle.golden_case.specs.Replay.{stopped_by};
 ghost use Rattle.golden_case.specs.Replayed.{IsNetText, IsToReplay, TellsStop, net_line, net_text};
-ghost use Rattle.gg_told.specs.Ends.{puts_of};
-ghost use Rattle.gg_told.specs.WentOn.{SinkWentOn};
+ghost use Rattle.gg_command.specs.Ends.{puts_of};
+ghost use Rattle.gg_command.specs.WentOn.{SinkWentOn};
 
 use crate::case::Fed;
 use gg_bits::Name;
 use gg_bridge::Bridge;
 use gg_build::{Node, build};
-use gg_cut::Plan;
+use gg_command::{Ending, end_with, make_refusal, put, text_with_number};
+use gg_cut_plan::Plan;
 use gg_flat::Models;
 use gg_io::Sink;
 use gg_net::{Event, Net, StepRefusal, Streams};
 use gg_replay::{Log, ReplayFault, channel_line, replay};
-use gg_steps::{StepNames, cause_text};
-use gg_told::{Ending, end_with, make_refusal, put, text_with_number};
+use gg_replay_steps::{StepNames, cause_text};
 use std::alloc::{AllocError, Global};
 
 // Writes the line of a channel.

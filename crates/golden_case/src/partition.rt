@@ -1,32 +1,32 @@
 //! Reading of the partition's file, and the cut of the circuit that it asks for.
 ghost use Rattle.std.specs.Prelude.{◌≡◌, ◌≢◌, ◌≤◌, ◌++◌, ℕ, List, [], IfOk, IfErr, Some, None, codes, length, string_bytes, true};
-ghost use Rattle.gg_cut.specs.Fault as cut;
-ghost use Rattle.gg_cut.specs.Held.{AreHeldOnce};
-ghost use Rattle.gg_cut.specs.Plan.{IsPlan};
-ghost use Rattle.gg_moved.specs.KeepsToTree.{KeepsToTree};
+ghost use Rattle.gg_cut_plan.specs.Fault as cut;
+ghost use Rattle.gg_cut_plan.specs.Held.{AreHeldOnce};
+ghost use Rattle.gg_cut_plan.specs.Plan.{IsPlan};
+ghost use Rattle.gg_part_moved.specs.KeepsToTree.{KeepsToTree};
 ghost use Rattle.gg_words.specs.Range.{IsCapacity};
-ghost use Rattle.gg_cut.specs.declared.fault.CutFault.{CutFault};
-ghost use Rattle.gg_cut.specs.declared.fault.CutFault.TheVariants as cut_fault;
+ghost use Rattle.gg_cut_plan.specs.declared.fault.CutFault.{CutFault};
+ghost use Rattle.gg_cut_plan.specs.declared.fault.CutFault.TheVariants as cut_fault;
 ghost use Rattle.gg_partfile.specs.Fault as file;
 ghost use Rattle.gg_partfile.specs.Partition.{IsPartition};
 ghost use Rattle.gg_partfile.specs.declared.fault.PartFault.TheVariants as file_fault;
-ghost use Rattle.gg_told.specs.Endings.{IfRefused, IsRefusedBy};
+ghost use Rattle.gg_command.specs.Endings.{IfRefused, IsRefusedBy};
 ghost use Rattle.golden_case.specs.Handed.{AreHandedIn};
 ghost use Rattle.golden_case.specs.Limits.{partition_limit};
 ghost use Rattle.golden_case.specs.Lines.{partition_fault};
-ghost use Rattle.gg_told.specs.Order.{CanBe};
+ghost use Rattle.gg_command.specs.Order.{CanBe};
 ghost use Rattle.golden_case.specs.Partition.{Cuts, partition_file_of};
-ghost use Rattle.gg_told.specs.Ends.{loads_of};
-ghost use Rattle.gg_told.specs.WentOn.{ShelfWentOn};
+ghost use Rattle.gg_command.specs.Ends.{loads_of};
+ghost use Rattle.gg_command.specs.WentOn.{ShelfWentOn};
 
 use crate::limits::PARTITION_LIMIT;
-use gg_cut::{CutFault, Plan};
+use gg_command::{Ending, end_with, load, make_refusal};
+use gg_cut::cut;
+use gg_cut_plan::{CutFault, Plan};
 use gg_flat::Models;
 use gg_io::Shelf;
 use gg_order::Design;
 use gg_partfile::{PartFault, Request};
-use gg_plan::cut;
-use gg_told::{Ending, end_with, load, make_refusal};
 use std::alloc::{AllocError, Global};
 
 /// A request without a fault for a design, and the plan of its cut.

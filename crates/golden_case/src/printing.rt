@@ -14,21 +14,21 @@ ghost use Rattle.gg_run.specs.Taken.{Took};
 ghost use Rattle.golden_case.specs.Case.{IsFed, PrintsFed};
 ghost use Rattle.golden_case.specs.Partition.{to_run};
 ghost use Rattle.golden_case.specs.RunText.{IsRunBy};
-ghost use Rattle.gg_told.specs.Endings.{PrintsOn};
-ghost use Rattle.gg_told.specs.WentOn.{SinkWentOn};
+ghost use Rattle.gg_command.specs.Endings.{PrintsOn};
+ghost use Rattle.gg_command.specs.WentOn.{SinkWentOn};
 
 use crate::case::Fed;
 use crate::ports::shown_ports;
 use crate::whole::whole_of;
 use gg_clocks::Ratio;
-use gg_cut::stop_ratios;
+use gg_command::{Ending, put};
+use gg_cut_plan::stop_ratios;
 use gg_flat::{Models, Ports};
 use gg_flat_run::{runs_along, settled_once};
 use gg_io::Sink;
 use gg_order::Design;
 use gg_refsim::Mono;
 use gg_run::{RowPrinter, Rows};
-use gg_told::{Ending, put};
 use gg_trace::{Trace, header_text};
 use std::alloc::Global;
 

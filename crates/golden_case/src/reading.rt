@@ -3,27 +3,27 @@ ghost use Rattle.std.specs.Prelude.{◌≡◌, ◌≢◌, ℕ, List, IfOk, IfErr
 ghost use Rattle.gg_front.specs.Fault.{front_text};
 ghost use Rattle.gg_front.specs.Meaning.{MeansDesign};
 ghost use Rattle.gg_front.specs.declared.fault.FrontFault.TheVariants as front;
-ghost use Rattle.gg_moved.specs.KeepsToTree.{KeepsToTree};
-ghost use Rattle.gg_cut.specs.Held.{AreHeldOnce};
-ghost use Rattle.gg_pipe.specs.Made.{AllHeld};
+ghost use Rattle.gg_part_moved.specs.KeepsToTree.{KeepsToTree};
+ghost use Rattle.gg_cut_plan.specs.Held.{AreHeldOnce};
+ghost use Rattle.gg_cut_reference.specs.Made.{AllHeld};
 ghost use Rattle.gg_trace.specs.declared.faults.TraceFault.TheVariants.{NoMemory};
 ghost use Rattle.gg_trace.specs.FaultText.{fault_words};
 ghost use Rattle.gg_trace.specs.Trace.{HaveWidths};
 ghost use Rattle.golden_case.specs.Lines.{circuit_fault, trace_fault};
-ghost use Rattle.gg_told.specs.Order.{CanBe};
+ghost use Rattle.gg_command.specs.Order.{CanBe};
 ghost use Rattle.golden_case.specs.Run.{TellsTraceOf, circuit_file, trace_file_of};
 ghost use Rattle.golden_case.specs.RunText.{FeedsOnly, fed_ports};
-ghost use Rattle.gg_told.specs.Endings.{IfRefused, IsRefusedBy};
-ghost use Rattle.gg_told.specs.Ends.{loads_of};
-ghost use Rattle.gg_told.specs.WentOn.{ShelfWentOn};
+ghost use Rattle.gg_command.specs.Endings.{IfRefused, IsRefusedBy};
+ghost use Rattle.gg_command.specs.Ends.{loads_of};
+ghost use Rattle.gg_command.specs.WentOn.{ShelfWentOn};
 
 use crate::limits::{CIRCUIT_LIMIT, TRACE_LIMIT};
 use crate::ports::fed_ports;
+use gg_command::{Ending, end_with, load, make_refusal};
 use gg_front::{FrontFault, front};
 use gg_io::Shelf;
 use gg_order::Design;
 use gg_partfile::Request;
-use gg_told::{Ending, end_with, load, make_refusal};
 use gg_trace::{Trace, TraceFault, read_trace};
 use std::alloc::{AllocError, Global};
 

@@ -2,11 +2,11 @@
 ghost use Rattle.std.specs.Prelude.{◌≡◌, ◌≢◌, ◌++◌, ◌∷◌, IfOk, codes, decimal, string_bytes};
 ghost use Rattle.gg_snap_text.specs.FaultText.{fault_words};
 ghost use Rattle.gg_snap_text.specs.declared.fault.SnapFault.TheVariants.{NoMemory};
-ghost use Rattle.gg_told.specs.Endings.{IfRefused};
+ghost use Rattle.gg_command.specs.Endings.{IfRefused};
 ghost use Rattle.golden_case.specs.Lines.{few_rows, snap_fault};
 
+use gg_command::{Ending, end_with, make_refusal, text_with_number};
 use gg_snap_text::SnapFault;
-use gg_told::{Ending, end_with, make_refusal, text_with_number};
 use std::alloc::{AllocError, Global};
 
 // The text of S2.

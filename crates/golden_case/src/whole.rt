@@ -2,21 +2,21 @@
 ghost use Rattle.std.specs.Prelude.{◌≡◌, List, ℕ, All, IfOk, Some};
 ghost use Rattle.gg_bridge.specs.Ports.{CanStand, joined_at};
 ghost use Rattle.gg_bridged.specs.Whole.{CanStandAll, plan_circuit, with_bridges};
-ghost use Rattle.gg_cut.specs.Bridges.{model_of};
-ghost use Rattle.gg_cut.specs.Listed.{place_of};
+ghost use Rattle.gg_cut_plan.specs.Bridges.{model_of};
+ghost use Rattle.gg_cut_plan.specs.Listed.{place_of};
 ghost use Rattle.gg_flat.specs.Models.{model_names};
-ghost use Rattle.gg_joined.specs.Model.{IsModel};
-ghost use Rattle.gg_pipe.specs.Made.{plan_reference};
+ghost use Rattle.gg_bridge_joined.specs.Model.{IsModel};
+ghost use Rattle.gg_cut_reference.specs.Made.{plan_reference};
 ghost use Rattle.golden_case.specs.Case.{IsCase};
 ghost use Rattle.golden_case.specs.Partition.{Known, to_run};
 
 use crate::case::Case;
 use gg_bits::Name;
 use gg_bridge::join;
+use gg_cut_pipes::pipe;
 use gg_flat::Models;
 use gg_order::Design;
 use gg_partfile::BridgeEntry;
-use gg_piped::pipe;
 use std::alloc::{AllocError, Global};
 
 // The reference circuit of a case, with an order and the design's tree.

@@ -1,13 +1,13 @@
 //! The words of a call that aren't a command.
 ghost use Rattle.std.specs.Prelude.{◌≡◌, ◌≢◌, ◌++◌, IfOk, string_bytes};
-ghost use Rattle.gg_told.specs.Said.{line_of};
-ghost use Rattle.gg_told.specs.Endings.{IfRefused};
+ghost use Rattle.gg_command.specs.Said.{line_of};
+ghost use Rattle.gg_command.specs.Endings.{IfRefused};
 ghost use Rattle.golden_case.specs.Lines.{bad_number, cause_text, refused_words, unexpected_word, usage};
 ghost use Rattle.golden_case.specs.Words.{TellsWords};
 ghost use Rattle.gg_words.specs.declared.command.WordFault.{WordFault};
 
 use clap::error::ErrorKind;
-use gg_told::{Ending, end_with, make_refusal};
+use gg_command::{Ending, end_with, make_refusal};
 use gg_words::WordFault;
 use std::alloc::{AllocError, Global};
 

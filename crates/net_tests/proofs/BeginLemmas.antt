@@ -15,22 +15,22 @@ use Rattle.gg_flat_run.proofs.SinceLemmas.{since-add}
 use Rattle.gg_order.specs.Design.{Ordered}
 use Rattle.gg_order.proofs.FoundLemmas.{found-is}
 use Rattle.gg_partfile.specs.declared.request.Request.{Request}
-use Rattle.gg_cut.specs.declared.plan.Plan.{Plan}
-use Rattle.gg_cut.specs.Seated.{plan_wires}
-use Rattle.gg_cut.specs.Bridges.{Models}
-use Rattle.gg_cut.specs.Held.{AreHeldOnce}
-use Rattle.gg_cut.specs.Listed.{is_among}
-use Rattle.gg_cut.specs.Plan.{IsPlan, wire_at}
-use Rattle.gg_cut.specs.Solves.{AreRows}
+use Rattle.gg_cut_plan.specs.declared.plan.Plan.{Plan}
+use Rattle.gg_cut_plan.specs.Seated.{plan_wires}
+use Rattle.gg_cut_plan.specs.Bridges.{Models}
+use Rattle.gg_cut_plan.specs.Held.{AreHeldOnce}
+use Rattle.gg_cut_plan.specs.Listed.{is_among}
+use Rattle.gg_cut_plan.specs.Plan.{IsPlan, wire_at}
+use Rattle.gg_cut_plan.specs.Solves.{AreRows}
 use Rattle.gg_flat_tree.specs.Tree.{path_at}
 use Rattle.gg_node.specs.Machine.{no_state}
-use Rattle.gg_pipe.specs.Follows.{plan_token}
-use Rattle.gg_pipe.specs.Made.{plan_reference}
-use Rattle.gg_pipe.proofs.NothingLemmas.{plan-plain}
+use Rattle.gg_cut_reference.specs.Follows.{plan_token}
+use Rattle.gg_cut_reference.specs.Made.{plan_reference}
+use Rattle.gg_cut_reference.proofs.NothingLemmas.{plan-plain}
 use Rattle.gg_bridged.specs.Whole.{CanBridge, plan_begin, plan_circuit}
 use Rattle.gg_bridged.proofs.PlanLemmas.{circuit-formed, circuit-ordered}
 use Rattle.gg_bridged.proofs.StateLemmas.{states-with}
-use Rattle.gg_sound.specs.Built.{IsGiven, flow_of}
+use Rattle.gg_build_laws.specs.Built.{IsGiven, flow_of}
 use Rattle.gg_build.specs.declared.begin.Begin.{Begin}
 use Rattle.gg_build.specs.Begin.{AreTokens}
 use Rattle.gg_build.specs.Build.{IsToBegin, circuit_order}

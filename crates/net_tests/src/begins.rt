@@ -1,28 +1,28 @@
 //! gg_build: networks that begin at a later cycle, with the state that the design has there.
 ghost use Rattle.std.specs.Prelude.{◌≡◌, ◌<◌, ◌≤◌, [], None, Some, IfOk};
 ghost use Rattle.gg_build.specs.Build.{IsToBegin, NeedsNone};
-ghost use Rattle.gg_cut.specs.Fault.{IsSmall, first_fault_with};
-ghost use Rattle.gg_cut.specs.Held.{AreHeldOnce};
-ghost use Rattle.gg_cut.specs.Plan.{IsPlan};
+ghost use Rattle.gg_cut_plan.specs.Fault.{IsSmall, first_fault_with};
+ghost use Rattle.gg_cut_plan.specs.Held.{AreHeldOnce};
+ghost use Rattle.gg_cut_plan.specs.Plan.{IsPlan};
 ghost use Rattle.gg_flat.specs.Run.{IsColumns};
 ghost use Rattle.gg_flat.specs.State.{IsState};
-ghost use Rattle.gg_moved.specs.KeepsToTree.{KeepsToTree};
+ghost use Rattle.gg_part_moved.specs.KeepsToTree.{KeepsToTree};
 ghost use Rattle.gg_bridged.specs.Whole.{HasFreeFronts};
 
 use crate::sharing::{DEEP, DEEP_TRACE};
 use gg_bridge::Echo;
 use gg_build::{Begin, Node, build_from};
 use gg_clocks::{Ratio, Timing};
-use gg_cut::Plan;
+use gg_cut::cut;
+use gg_cut_plan::Plan;
 use gg_flat::Models;
 use gg_flat_run::State;
 use gg_measure::run_to_end;
 use gg_net::{Net, Streams};
 use gg_order::Design;
 use gg_partfile::Request;
-use gg_plan::cut;
 use gg_trace::Trace;
-use net_calls::{design_of, inputs_of, request_of};
+use net_testing::{design_of, inputs_of, request_of};
 use std::alloc::{AllocError, Global};
 use std::marker::Brand;
 use std::process::Abort;

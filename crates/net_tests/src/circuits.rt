@@ -1,12 +1,12 @@
 //! Circuits of tables.
-use net_calls::memory;
+use net_testing::memory;
 use std::alloc::{AllocError, Global};
 
 // A circuit.
 pub(crate) enum Circuit {
     // This text.
     Whole(&'static str),
-    // The memory of net_calls with these two lines: of its latency, and of what is read of a word that is written.
+    // The memory of net_testing with these two lines: of its latency, and of what is read of a word that is written.
     Memory(&'static str, &'static str),
 }
 

@@ -1,9 +1,9 @@
-//! gg_plan, gg_build, gg_net and gg_memunit: networks are built, and run to their end.
+//! gg_cut, gg_build, gg_net and gg_memunit: networks are built, and run to their end.
 ghost use Rattle.std.specs.Prelude.{◌≡◌, ◌<◌, [], length};
 ghost use Rattle.gg_build.specs.Build.{IsToRun, NeedsNone};
-ghost use Rattle.gg_cut.specs.Fault.{IsSmall};
-ghost use Rattle.gg_moved.specs.KeepsToTree.{KeepsToTree};
-ghost use Rattle.gg_cut.specs.Held.{AreHeldOnce};
+ghost use Rattle.gg_cut_plan.specs.Fault.{IsSmall};
+ghost use Rattle.gg_part_moved.specs.KeepsToTree.{KeepsToTree};
+ghost use Rattle.gg_cut_plan.specs.Held.{AreHeldOnce};
 ghost use Rattle.gg_bridged.specs.Whole.{HasFreeFronts};
 ghost use Rattle.gg_flat.specs.Run.{IsColumns};
 
@@ -14,14 +14,14 @@ use crate::orders::is_in_order;
 use crate::refusals::are_refused;
 use gg_bridge::Echo;
 use gg_build::Node;
-use gg_cut::Plan;
+use gg_cut::cut;
+use gg_cut_plan::Plan;
 use gg_flat::Models;
 use gg_net::{Event, Net, StepRefusal, Streams};
 use gg_order::Design;
 use gg_partfile::Request;
-use gg_plan::cut;
 use gg_trace::Trace;
-use net_calls::{
+use net_testing::{
     COUNTER, COUNTER_TRACE, FOUR_PORTS, FOUR_PORTS_TRACE, PAIR, PAIR_TRACE, THREE_CYCLES,
     build_alone, design_of, inputs_of, request_of,
 };

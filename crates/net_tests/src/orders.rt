@@ -4,12 +4,12 @@ ghost use Rattle.gg_build.specs.Build.{IsToRun, NeedsNone};
 use crate::notes::{Notes, Noting, noting_hosts};
 use gg_bridge::Echo;
 use gg_build::Node;
-use gg_cut::Plan;
+use gg_cut_plan::Plan;
 use gg_measure::run_to_end;
 use gg_net::{Net, Parts, Streams};
 use gg_node::Host;
 use gg_trace::Trace;
-use net_calls::build_alone;
+use net_testing::build_alone;
 use std::alloc::{AllocError, Global};
 
 // The network with hosts that note their calls.

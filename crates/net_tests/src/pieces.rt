@@ -1,4 +1,4 @@
-//! gg_flat, gg_needs, gg_program and gg_fame1: calls on the circuit of a design.
+//! gg_flat, gg_part_needs, gg_program and gg_fame1: calls on the circuit of a design.
 ghost use Rattle.std.specs.Prelude.{◌≡◌, [], length};
 ghost use Rattle.gg_flat.specs.WellFormed.{IsWellFormed};
 ghost use Rattle.gg_part.specs.InOrder.{IsInOrder};
@@ -8,11 +8,11 @@ use gg_fame1::{NoMemory, Unit};
 use gg_flat::Piece;
 use gg_flat_rules::is_well_formed;
 use gg_flat_run::State;
-use gg_needs::needs_of;
 use gg_node::Host;
 use gg_order::Design;
+use gg_part_needs::needs_of;
 use gg_program::Program;
-use net_calls::{PASS, TOGGLE, design_of};
+use net_testing::{PASS, TOGGLE, design_of};
 use std::alloc::{AllocError, Global};
 
 // Whether a piece is well formed and has the register `r` as its second signal, no input, and its first signal as its output.

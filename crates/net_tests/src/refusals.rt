@@ -5,10 +5,10 @@ use crate::measures::run_alike;
 use crate::networks::{Case, goes_once};
 use gg_bridge::Echo;
 use gg_build::Node;
-use gg_cut::Plan;
+use gg_cut_plan::Plan;
 use gg_net::{Event, Net, StepRefusal, Streams};
 use gg_trace::Trace;
-use net_calls::build_alone;
+use net_testing::build_alone;
 use std::alloc::Global;
 
 // Whether a step is refused behind these steps. It is tested, and then tried twice.

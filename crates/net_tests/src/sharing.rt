@@ -2,7 +2,7 @@
 use crate::circuits::Circuit::Whole;
 use crate::networks::{Case, Row};
 use gg_net::{Event, StepRefusal};
-use net_calls::{SUMS, SUMS_TRACE};
+use net_testing::{SUMS, SUMS_TRACE};
 
 // Four instances of that module. Their outputs are one.
 const FOUR: &str =

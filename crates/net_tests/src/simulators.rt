@@ -10,7 +10,7 @@ use gg_clocks::Ratio;
 use gg_order::Design;
 use gg_refsim::Mono;
 use gg_trace::Trace;
-use net_calls::{
+use net_testing::{
     COUNTER, COUNTER_TRACE, DUAL, HALT, SIX_CYCLES, THREE_CYCLES, design_of, inputs_of,
 };
 use std::alloc::Global;

@@ -1,5 +1,5 @@
-//! Tests of crates that read or write texts and files, and of the walk over graphs: gg_trace, gg_steps, gg_partfile, gg_io and
-//! gg_walk, a module each. They show what no contract says: that with ample memory there is an answer, and that the answers are those
+//! Tests of crates that read or write texts and files, and of the walk over graphs: gg_trace, gg_replay_steps, gg_partfile, gg_io and
+//! gg_graph, a module each. They show what no contract says: that with ample memory there is an answer, and that the answers are those
 //! worked out by hand.
 #![tactic(auto)]
 

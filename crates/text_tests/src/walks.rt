@@ -1,8 +1,8 @@
-//! gg_walk: the order and the rings of small graphs.
+//! gg_graph: the order and the rings of small graphs.
 ghost use Rattle.std.specs.Prelude.{◌≡◌, ℕ, ◌<◌, ◌^◌, length, take, Contains, IfSome, IfNone, ◌⊎◌};
-ghost use Rattle.gg_walk.specs.Lists.{HasTarget, HasTargetBelow, none_below_first};
+ghost use Rattle.gg_graph.specs.Lists.{HasTarget, HasTargetBelow, none_below_first};
 
-use gg_walk::{Graph, Target, WalkFault, walk};
+use gg_graph::{Graph, Target, WalkFault, walk};
 
 // A graph whose nodes have three places each. A number that is not a node stands for a place without a target.
 #[derive(Drop)]

@@ -1,7 +1,7 @@
 //! Two workers run side by side, with queues.
 use crate::runs::{Row, Table, is_expected};
 use gg_ruled::Ruled;
-use net_calls::{Meeting, PAIR, PAIR_TRACE};
+use net_testing::{Meeting, PAIR, PAIR_TRACE};
 use std::alloc::Global;
 use std::sync::Wait;
 use std::thread::Threads;

@@ -1,16 +1,17 @@
 //! Runs of a network by workers.
 ghost use Rattle.std.specs.Prelude.{◌≡◌, []};
 ghost use Rattle.gg_build.specs.Build.{IsToRun, NeedsNone};
-ghost use Rattle.gg_cut.specs.Fault.{IsSmall};
+ghost use Rattle.gg_cut_plan.specs.Fault.{IsSmall};
 ghost use Rattle.gg_flat.specs.Run.{IsColumns};
-ghost use Rattle.gg_moved.specs.KeepsToTree.{KeepsToTree};
-ghost use Rattle.gg_cut.specs.Held.{AreHeldOnce};
+ghost use Rattle.gg_part_moved.specs.KeepsToTree.{KeepsToTree};
+ghost use Rattle.gg_cut_plan.specs.Held.{AreHeldOnce};
 ghost use Rattle.gg_bridged.specs.Whole.{HasFreeFronts};
 
 use crate::optional_node::{OptionalNode, beside_none};
 use gg_bridge::Echo;
 use gg_build::Node;
-use gg_cut::Plan;
+use gg_cut::cut;
+use gg_cut_plan::Plan;
 use gg_flat::Models;
 use gg_io::Gate;
 use gg_link::Link;
@@ -18,10 +19,9 @@ use gg_measure::{left, run_to, run_to_end};
 use gg_net::{Net, Streams};
 use gg_order::Design;
 use gg_partfile::Request;
-use gg_plan::cut;
 use gg_trace::Trace;
 use gg_workers::work;
-use net_calls::{build_alone, design_of, inputs_of, is_at_most, keeps, request_of};
+use net_testing::{build_alone, design_of, inputs_of, is_at_most, keeps, request_of};
 use std::alloc::Global;
 use std::marker::Brand;
 use std::thread::Threads;

@@ -3,7 +3,7 @@
 use crate::runs::{Table, is_expected};
 use gg_io::NoGate;
 use gg_ring::Ring;
-use net_calls::{
+use net_testing::{
     BACK, FORK, FORK_TRACE, FOUR_PORTS, FOUR_PORTS_TRACE, PAIR, PAIR_TRACE, SUMS, SUMS_TRACE,
     THREE_CYCLES, TOGGLE,
 };

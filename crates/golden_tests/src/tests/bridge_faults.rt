@@ -3,7 +3,7 @@ use super::bridges::{CROSS, ENDS, SIGNED};
 use super::calls::Call::Run;
 use super::calls::End::Refuses;
 use super::calls::Row;
-use golden_calls::TWO;
+use golden_testing::TWO;
 
 // A circuit without outputs and with one input.
 const EMPTY: &str = "circuit Empty :\nmodule Empty :\ninput x : UInt<8>\n";

@@ -3,7 +3,7 @@ use super::bridges::{CROSS, ECHO, FIVE_ROWS};
 use super::calls::Call::{Resume, Run, Save};
 use super::calls::End::{Prints, Refuses, Saves};
 use super::calls::Row;
-use golden_calls::TWO;
+use golden_testing::TWO;
 
 // Traces that name an input that a bridge drives, or that lack another.
 pub(crate) static BRIDGED_TRACES: [Row; 4] = [

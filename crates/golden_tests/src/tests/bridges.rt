@@ -4,7 +4,7 @@ use super::calls::Call::{Ask, AskFailing, Replay, Run};
 use super::calls::End::{Prints, Refuses, Stops};
 use super::calls::{NONE, Row};
 use super::steps::REPLAY;
-use golden_calls::{CHECK, TWO};
+use golden_testing::{CHECK, TWO};
 
 // Two adders of which each may feed the other from outside, and an output of both.
 pub(crate) const CROSS: &str =

@@ -2,7 +2,7 @@
 use super::large::{Large, ask_large};
 use super::steps::{LISTED, MEMORY_TRACE, READ, REPLAY_1};
 use gg_io::{FailingPut, hold};
-use golden_calls::{
+use golden_testing::{
     Answer, COUNTER, MEMORY, RUN, TRACE, ask, ask_of, ask_snap, call, counter, counter_files,
     edited, files_of, run,
 };

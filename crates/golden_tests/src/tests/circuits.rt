@@ -2,7 +2,7 @@
 use super::calls::Call::{Run, RunEdited, RunLines};
 use super::calls::End::{Prints, Refuses};
 use super::calls::Row;
-use golden_calls::{COUNTER, LATE, LOOP, MEMORY, PAIR, TEXT, TRACE, WIDE};
+use golden_testing::{COUNTER, LATE, LOOP, MEMORY, PAIR, TEXT, TRACE, WIDE};
 
 // Circuits of one module.
 pub(crate) static RUNS: [Row; 17] = [

@@ -4,7 +4,7 @@ use super::calls::Call::{Replay, Run, RunEdited};
 use super::calls::End::{Prints, Refuses};
 use super::calls::Row;
 use super::steps::REPLAY;
-use golden_calls::DUAL;
+use golden_testing::DUAL;
 
 // Six rows without inputs.
 pub(crate) const SIX_ROWS: &str = "cycle\n0\n1\n2\n3\n4\n5\n";

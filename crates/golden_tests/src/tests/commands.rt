@@ -3,8 +3,8 @@ use super::calls::Call::{Ask, AskCounter};
 use super::calls::End::{Prints, Refuses, Saves, Unasked};
 use super::calls::Row;
 use super::workers::UNITS;
-use golden_calls::{PAIR, TEXT};
-use net_calls::PAIR_TRACE;
+use golden_testing::{PAIR, TEXT};
+use net_testing::PAIR_TRACE;
 
 // Words that run the counter.
 pub(crate) static ASKED: [Row; 12] = [

@@ -2,7 +2,7 @@
 use super::calls::Call::Ask;
 use super::calls::End::{Prints, Refuses};
 use super::calls::Row;
-use golden_calls::{BANKS, BOTH, CHECK, FORK, KEPT, LATE, PAIR, TILES, TWO};
+use golden_testing::{BANKS, BOTH, CHECK, FORK, KEPT, LATE, PAIR, TILES, TWO};
 
 // A memory, and beside it an instance that works its address out.
 const CELL: &str =

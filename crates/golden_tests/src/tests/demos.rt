@@ -2,7 +2,7 @@
 use super::calls::Call::{Ask, AskFailing};
 use super::calls::End::{Prints, Stops};
 use super::calls::{NONE, Row};
-use golden_calls::{Answer, ask};
+use golden_testing::{Answer, ask};
 use std::alloc::{AllocError, Global};
 use std::collections::BTreeMap;
 use std::process::Abort;

@@ -2,7 +2,7 @@
 use super::calls::Call::{AskFailing, RunAlone, RunBytes};
 use super::calls::End::Refuses;
 use super::calls::{NONE, Row};
-use golden_calls::{COUNTER, RUN, TRACE};
+use golden_testing::{COUNTER, RUN, TRACE};
 
 // A file that is missing, also where the circuit before it is refused.
 pub(crate) static MISSING: [Row; 2] = [

@@ -5,7 +5,7 @@ use super::calls::{RESUME, Row};
 use super::large::Large::{Blanks, Chain, Clocks, Nested, Nodes, Outputs, Padded, Rows, Units};
 use super::steps::REPLAY;
 use gg_io::hold;
-use golden_calls::{
+use golden_testing::{
     Answer, CHECK, COUNTER, RUN, TEXT, TRACE, ask, ask_of, counter, counter_files, files_of, run,
 };
 use itoa::Buffer;

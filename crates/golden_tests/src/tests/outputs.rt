@@ -6,7 +6,7 @@ use super::calls::End::{Refuses, Stops};
 use super::calls::{NONE, RESUME, Row, USAGE};
 use super::steps::REPLAY;
 use gg_io::{MemFiles, MemShelf, PutFail, Sink, StreamSink, hold};
-use golden_calls::{CHECK, COUNTER, RUN, TRACE, call_on, files_of, words_of};
+use golden_testing::{CHECK, COUNTER, RUN, TRACE, call_on, files_of, words_of};
 use std::alloc::{AllocError, Global};
 use std::io::{self, Write};
 use std::test::Fail;

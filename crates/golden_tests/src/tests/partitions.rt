@@ -2,7 +2,7 @@
 use super::calls::Call::Run;
 use super::calls::End::{Prints, Refuses};
 use super::calls::Row;
-use golden_calls::{BANKS, FORK, KEPT, LATE, MEMORY, PAIR, TILES, TWO};
+use golden_testing::{BANKS, FORK, KEPT, LATE, MEMORY, PAIR, TILES, TWO};
 
 // Partitions without pipes.
 pub(crate) static ACCEPTED: [Row; 11] = [

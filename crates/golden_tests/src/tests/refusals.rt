@@ -2,7 +2,7 @@
 use super::calls::Call::RunEdited;
 use super::calls::End::Refuses;
 use super::calls::Row;
-use golden_calls::{COUNTER, TRACE};
+use golden_testing::{COUNTER, TRACE};
 
 // The counter with a line changed, and other files.
 pub(crate) static REFUSALS: [Row; 9] = [

@@ -4,7 +4,7 @@ use super::calls::End::{Prints, Refuses, Stops};
 use super::calls::{NONE, RESUME, Row};
 use super::clocks::{PARTS, SIX_ROWS};
 use super::snaps::{AT_3, LATE_TRACE, LISTED};
-use golden_calls::{COUNTER, LATE, TRACE};
+use golden_testing::{COUNTER, LATE, TRACE};
 
 // Texts that are no snapshot of the counter: without lines, with one, not as it would be written, with a line twice, of another circuit, and
 // without the last line end. S1 comes before S2, and the trace's fault before both.

@@ -5,7 +5,7 @@ use super::calls::End::{Prints, Refuses, Saves, Stops};
 use super::calls::Row;
 use super::clocks::{CROSSED, DOMAINS, DOMAINS_TRACE, PARTS, SIX_ROWS, SUMS, WORDS, WORDS_TRACE};
 use super::stops::{COUNTED, HALT};
-use golden_calls::{COUNTER, DUAL, LATE, PAIR, TEXT, TRACE};
+use golden_testing::{COUNTER, DUAL, LATE, PAIR, TEXT, TRACE};
 
 // The counter before its cycle 3.
 pub(crate) const AT_3: &str = "golden snapshot 1\ncycle 3\nreg c 02\n";

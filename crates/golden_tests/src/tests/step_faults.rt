@@ -4,8 +4,8 @@ use super::calls::End::Refuses;
 use super::calls::Row;
 use super::steps::{DIRECT_FORK, LISTED, MEMORY_TRACE, REPLAY, REPLAY_1, SHARED, TWO_TRACE};
 use super::workers::UNITS;
-use golden_calls::{COUNTER, PAIR, TWO};
-use net_calls::PAIR_TRACE;
+use golden_testing::{COUNTER, PAIR, TWO};
+use net_testing::PAIR_TRACE;
 
 const PIPED_INPUT: &str = "{\"units\":[\"a\",\"b\"],\"pipe\":[\"x\"]}";
 

@@ -3,8 +3,8 @@ use super::calls::Call::{AskCounter, Replay, ReplayRead};
 use super::calls::End::{Prints, Refuses};
 use super::calls::Row;
 use super::workers::UNITS;
-use golden_calls::{COUNTER, LATE, MEMORY, PAIR, TRACE, TWO};
-use net_calls::PAIR_TRACE;
+use golden_testing::{COUNTER, LATE, MEMORY, PAIR, TRACE, TWO};
+use net_testing::PAIR_TRACE;
 
 pub(crate) const REPLAY: &str = "golden replay k1.fir p.json k1.trace s.steps";
 

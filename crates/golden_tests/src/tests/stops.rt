@@ -4,7 +4,7 @@ use super::calls::Call::{Ask, AskFailing, Replay, Run};
 use super::calls::End::{Prints, Refuses, Stops};
 use super::calls::{NONE, Row};
 use super::steps::REPLAY;
-use golden_calls::{CHECK, RUN, TRACE};
+use golden_testing::{CHECK, RUN, TRACE};
 
 // The counter with a stop at 1.
 pub(crate) const COUNTED: &str =

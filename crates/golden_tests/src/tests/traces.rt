@@ -2,7 +2,7 @@
 use super::calls::Call::Run;
 use super::calls::End::Refuses;
 use super::calls::Row;
-use golden_calls::COUNTER;
+use golden_testing::COUNTER;
 
 // Traces of the counter with a fault.
 pub(crate) static TRACES: [Row; 15] = [

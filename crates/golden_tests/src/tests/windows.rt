@@ -2,7 +2,7 @@
 //! snapshots there.
 use super::calls::{NONE, RESUME};
 use gg_io::{FailingPut, hold};
-use golden_calls::{Answer, ask, call, files_of};
+use golden_testing::{Answer, ask, call, files_of};
 use itoa::Buffer;
 use std::alloc::{AllocError, Global};
 use std::process::Abort;

@@ -1,4 +1,4 @@
-use Rattle.gg_pipe.specs.Made.{plan_reference}
+use Rattle.gg_cut_reference.specs.Made.{plan_reference}
 use Rattle.gg_bridged.proofs.StateLemmas.{states-with}
 use Rattle.gg_bridged.proofs.laws.starts_are_typed.Goals as goal
 

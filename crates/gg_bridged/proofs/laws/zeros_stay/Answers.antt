@@ -1,8 +1,8 @@
 use Rattle.std.proofs.Common.{ap}
 use Rattle.gg_flat.specs.Run.{Start}
 use Rattle.gg_flat.specs.State.{State}
-use Rattle.gg_cut.specs.Clocks.{ratios_of}
-use Rattle.gg_pipe.specs.Made.{plan_reference}
+use Rattle.gg_cut_plan.specs.Clocks.{ratios_of}
+use Rattle.gg_cut_reference.specs.Made.{plan_reference}
 use Rattle.gg_bridged.proofs.StateLemmas.{zeros-with}
 use Rattle.gg_bridged.proofs.laws.zeros_stay.Goals as goal
 

@@ -1,6 +1,6 @@
 use Rattle.std.proofs.Common.{◌≡◌, length, sym, ap, subst, ◌∙◌}
-use Rattle.gg_cut.specs.declared.plan.Body.{Body}
-use Rattle.gg_cut.specs.declared.plan.Body.TheVariants.{Source}
+use Rattle.gg_cut_plan.specs.declared.plan.Body.{Body}
+use Rattle.gg_cut_plan.specs.declared.plan.Body.TheVariants.{Source}
 use Rattle.gg_flat.specs.Line.{value_at}
 use Rattle.gg_build.specs.Begin.{starts_of}
 use Rattle.gg_build.specs.Bridges.{HasOwn, KeepsOthers}

@@ -2,7 +2,7 @@ use Rattle.std.proofs.Common.{◌∷◌, [], List, sym, ap, subst, ◌∙◌}
 use Rattle.gg_flat.specs.Circuit.{FlatCircuit}
 use Rattle.gg_flat.specs.Clock.{Ratio}
 use Rattle.gg_flat.specs.State.{IsState, State}
-use Rattle.gg_cut.specs.declared.plan.Body.TheVariants.{Cut}
+use Rattle.gg_cut_plan.specs.declared.plan.Body.TheVariants.{Cut}
 use Rattle.gg_fame5.specs.Machine.{started_unit}
 use Rattle.gg_build.specs.Begin.{starts_of}
 use Rattle.gg_build.proofs.HostLemmas.{alone-unit}

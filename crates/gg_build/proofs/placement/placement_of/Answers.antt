@@ -3,8 +3,8 @@ use Rattle.std.specs.Prelude.{All}
 use Rattle.std.proofs.lemmas.List.{length-map}
 use Rattle.gg_flat.specs.Clock.{Ratio}
 use Rattle.gg_flat.specs.Line.{value_at}
-use Rattle.gg_cut.specs.declared.plan.Body.{Body}
-use Rattle.gg_cut.specs.declared.plan.Machine as planned
+use Rattle.gg_cut_plan.specs.declared.plan.Body.{Body}
+use Rattle.gg_cut_plan.specs.declared.plan.Machine as planned
 use Rattle.gg_build.specs.declared.node.Node.{Node}
 use Rattle.gg_build.specs.Begin.{starts_of}
 use Rattle.gg_build.specs.Groups.{group_at}

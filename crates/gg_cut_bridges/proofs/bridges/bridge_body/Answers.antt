@@ -1,9 +1,9 @@
 use Rattle.std.proofs.Common.{◌<◌, List, length, sym, ◌∙◌, ap, subst, arith}
 use Rattle.std.specs.Prelude.{All}
 use Rattle.gg_flat.specs.Circuit.{FlatCircuit}
-use Rattle.gg_cut.specs.declared.wires.Wire.{Wire}
-use Rattle.gg_cut.specs.Bridges.{model_named}
-use Rattle.gg_cut.specs.Plan.{channels_from, channels_to}
+use Rattle.gg_cut_plan.specs.declared.wires.Wire.{Wire}
+use Rattle.gg_cut_plan.specs.Bridges.{model_named}
+use Rattle.gg_cut_plan.specs.Plan.{channels_from, channels_to}
 use Rattle.gg_cut_parts.proofs.MachineLemmas.{from-below, to-below}
 use Rattle.gg_cut_bridges.proofs.WireLemmas.{seated-known}
 use Rattle.gg_cut_bridges.proofs.PortLemmas.{places-at}

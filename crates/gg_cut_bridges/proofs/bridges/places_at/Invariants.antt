@@ -1,6 +1,6 @@
 use Rattle.std.proofs.Common.{◌≡◌, map, take}
 use Rattle.gg_flat.specs.Line.{value_at}
-use Rattle.gg_cut.specs.Plan.{wire_at}
+use Rattle.gg_cut_plan.specs.Plan.{wire_at}
 use Rattle.gg_cut_bridges.proofs.bridges.places_at.Given as goal
 
 abbrev pub invariant-loop-channel : goal.invariant-loop-channel

@@ -1,6 +1,6 @@
 use Rattle.std.proofs.Common.{length, map, ◌∙◌, ap}
 use Rattle.gg_flat.specs.Line.{value_at}
-use Rattle.gg_cut.specs.Plan.{wire_at}
+use Rattle.gg_cut_plan.specs.Plan.{wire_at}
 use Rattle.gg_cut_bridges.proofs.PortLemmas.{all-cleared, places-as}
 use Rattle.gg_cut_bridges.proofs.bridges.port_places.Goals as goal
 

@@ -2,7 +2,7 @@ use Rattle.std.proofs.Common.{◌≡◌, ◌-◌, length, ◌∙◌, ap, arith}
 use Rattle.std.specs.Prelude.{drop}
 use Rattle.gg_flat.specs.Line.{value_at}
 use Rattle.gg_flat_tree.specs.Tree.{path_at}
-use Rattle.gg_cut.specs.Listed.{place_of}
+use Rattle.gg_cut_plan.specs.Listed.{place_of}
 use Rattle.gg_cut_bridges.proofs.PortLemmas.{behind-place, no-place, or_behind, place-more}
 use Rattle.gg_cut_bridges.proofs.bridges.put_places.Goals as goal
 

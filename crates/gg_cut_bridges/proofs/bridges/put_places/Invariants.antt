@@ -1,7 +1,7 @@
 use Rattle.std.proofs.Common.{◌≡◌, ℕ, ◌<◌, ◌-◌, length, drop}
 use Rattle.gg_flat.specs.Line.{value_at}
 use Rattle.gg_flat_tree.specs.Tree.{path_at}
-use Rattle.gg_cut.specs.Listed.{place_of}
+use Rattle.gg_cut_plan.specs.Listed.{place_of}
 use Rattle.gg_cut_bridges.proofs.PortLemmas.{or_behind}
 use Rattle.gg_cut_bridges.proofs.bridges.put_places.Given as goal
 

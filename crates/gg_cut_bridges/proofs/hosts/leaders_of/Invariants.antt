@@ -1,6 +1,6 @@
 use Rattle.std.proofs.Common.{◌≡◌, ℕ, ◌<◌, ◌-◌, length, drop}
 use Rattle.gg_flat.specs.Line.{value_at}
-use Rattle.gg_cut.specs.Hosts.{leader}
+use Rattle.gg_cut_plan.specs.Hosts.{leader}
 use Rattle.gg_cut_bridges.proofs.hosts.leaders_of.Given as goal
 
 abbrev pub invariant-loop-step : goal.invariant-loop-step

@@ -1,5 +1,5 @@
 use Rattle.std.proofs.Common.{◌≡◌, drop}
-use Rattle.gg_cut.specs.Hosts.{least_machine}
+use Rattle.gg_cut_plan.specs.Hosts.{least_machine}
 use Rattle.gg_cut_bridges.proofs.hosts.least_of.Given as goal
 
 abbrev pub invariant-loop-path : goal.invariant-loop-path

@@ -1,6 +1,6 @@
 use Rattle.std.proofs.Common.{◌≡◌, ◌+◌, drop}
 use Rattle.std.specs.Prelude.{option_map}
-use Rattle.gg_cut.specs.Listed.{place_of}
+use Rattle.gg_cut_plan.specs.Listed.{place_of}
 use Rattle.gg_cut_bridges.proofs.hosts.machine_of.Given as goal
 
 abbrev pub invariant-loop-number : goal.invariant-loop-number

@@ -2,7 +2,7 @@ use Rattle.std.proofs.Common.{◌≡◌, ℕ, ◌<◌, length, take}
 use Rattle.std.specs.Prelude.{◌==◌, if◌then◌else◌}
 use Rattle.std.specs.List.{list_any}
 use Rattle.gg_flat.specs.Line.{value_at}
-use Rattle.gg_cut.specs.Hosts.{machine_of}
+use Rattle.gg_cut_plan.specs.Hosts.{machine_of}
 use Rattle.gg_cut_bridges.proofs.hosts.set_all.Given as goal
 
 abbrev pub invariant-loop-path : goal.invariant-loop-path

@@ -2,7 +2,7 @@ use Rattle.std.proofs.Common.{◌≡◌, ℕ, ◌<◌, length, take}
 use Rattle.std.specs.Prelude.{if◌then◌else◌}
 use Rattle.gg_flat.specs.Line.{value_at}
 use Rattle.gg_flat_tree.specs.Tree.{path_at}
-use Rattle.gg_cut.specs.Listed.{is_among}
+use Rattle.gg_cut_plan.specs.Listed.{is_among}
 use Rattle.gg_cut_bridges.proofs.ports.put_ports.Given as goal
 
 abbrev pub invariant-loop-port : goal.invariant-loop-port

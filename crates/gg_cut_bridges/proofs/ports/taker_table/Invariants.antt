@@ -1,7 +1,7 @@
 use Rattle.std.proofs.Common.{◌≡◌, ℕ, ◌<◌, ◌-◌, length, drop}
 use Rattle.gg_flat.specs.Line.{value_at}
 use Rattle.gg_flat_tree.specs.Tree.{path_at}
-use Rattle.gg_cut.specs.Seated.{lister}
+use Rattle.gg_cut_plan.specs.Seated.{lister}
 use Rattle.gg_cut_bridges.specs.Seats.{ports_of}
 use Rattle.gg_cut_bridges.proofs.PortLemmas.{one_behind}
 use Rattle.gg_cut_bridges.proofs.ports.taker_table.Given as goal

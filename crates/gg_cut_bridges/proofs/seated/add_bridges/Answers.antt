@@ -5,7 +5,7 @@ use Rattle.gg_flat.specs.Circuit.{FlatCircuit}
 use Rattle.gg_flat.specs.Line.{value_at}
 use Rattle.gg_flat.specs.Models.{model_names}
 use Rattle.gg_partfile.specs.declared.request.BridgeEntry.{BridgeEntry}
-use Rattle.gg_cut.specs.Seated.{first_bridge, machine_end}
+use Rattle.gg_cut_plan.specs.Seated.{first_bridge, machine_end}
 use Rattle.gg_cut_bridges.specs.Seating.{draft_bridges}
 use Rattle.gg_cut_bridges.proofs.PlacedLemmas.{part-few}
 use Rattle.gg_cut_bridges.proofs.SeatingLemmas.{bridge-more, seated-from, seated-into}

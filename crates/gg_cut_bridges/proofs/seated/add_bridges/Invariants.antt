@@ -1,6 +1,6 @@
 use Rattle.std.proofs.Common.{◌≡◌, ℕ, ◌+◌, length}
 use Rattle.gg_flat.specs.Line.{value_at}
-use Rattle.gg_cut.specs.Seated.{first_bridge}
+use Rattle.gg_cut_plan.specs.Seated.{first_bridge}
 use Rattle.gg_cut_bridges.specs.Seating.{draft_bridges}
 use Rattle.gg_cut_bridges.proofs.SeatingLemmas.{AreSeatedBy}
 use Rattle.gg_cut_bridges.proofs.seated.add_bridges.Given as goal

@@ -1,9 +1,9 @@
 use Rattle.std.proofs.Common.{◌+◌, ◌-◌, List, Vec, Global, length, sym, ◌∙◌, ap, subst, arith}
 use Rattle.gg_flat.specs.Circuit.{FlatCircuit}
 use Rattle.gg_flat.specs.Line.{value_at}
-use Rattle.gg_cut.specs.declared.plan.Machine.{Machine}
-use Rattle.gg_cut.specs.Machines.{first_source}
-use Rattle.gg_cut.specs.Seated.{before, first_kept_tray, undriven}
+use Rattle.gg_cut_plan.specs.declared.plan.Machine.{Machine}
+use Rattle.gg_cut_plan.specs.Machines.{first_source}
+use Rattle.gg_cut_plan.specs.Seated.{before, first_kept_tray, undriven}
 use Rattle.gg_cut_bridges.specs.Seating.{draft_bridges}
 use Rattle.gg_cut_bridges.proofs.PlacedLemmas.{counts-none, counts-on}
 use Rattle.gg_cut_bridges.proofs.SeatingLemmas.{AreSeatedBy, source-less, source-more, source-room, seated-from, seated-into}

@@ -1,5 +1,5 @@
 use Rattle.std.proofs.Common.{◌+◌}
-use Rattle.gg_cut.specs.Seated.{before, undriven}
+use Rattle.gg_cut_plan.specs.Seated.{before, undriven}
 use Rattle.gg_cut_bridges.specs.Seating.{draft_bridges}
 use Rattle.gg_cut_bridges.proofs.SeatingLemmas.{AreSeatedBy}
 use Rattle.gg_cut_bridges.proofs.seated.add_sources.Given as goal

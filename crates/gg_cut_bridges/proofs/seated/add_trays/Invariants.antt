@@ -1,5 +1,5 @@
 use Rattle.std.proofs.Common.{◌+◌}
-use Rattle.gg_cut.specs.Seated.{before, first_kept_tray, unseen}
+use Rattle.gg_cut_plan.specs.Seated.{before, first_kept_tray, unseen}
 use Rattle.gg_cut_bridges.specs.Seating.{draft_bridges}
 use Rattle.gg_cut_bridges.proofs.SeatingLemmas.{AreSeatedBy}
 use Rattle.gg_cut_bridges.proofs.seated.add_trays.Given as goal

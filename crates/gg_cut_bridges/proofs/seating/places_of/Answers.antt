@@ -1,11 +1,11 @@
 use Rattle.std.proofs.Common.{◌<◌, ℕ, List, length, refl, sym, ◌∙◌, ap, subst, arith}
 use Rattle.std.specs.Prelude.{All}
 use Rattle.std.proofs.lemmas.List.{length-map}
-use Rattle.gg_cut.specs.declared.wires.Wire.{Wire}
-use Rattle.gg_cut.specs.Direct.{plan_routes}
-use Rattle.gg_cut.specs.Listed.{listed_of}
-use Rattle.gg_cut.specs.Seated.{machine_end, seated_wire}
-use Rattle.gg_closed.proofs.FaultlessLemmas.{faultless-few}
+use Rattle.gg_cut_plan.specs.declared.wires.Wire.{Wire}
+use Rattle.gg_cut_plan.specs.Direct.{plan_routes}
+use Rattle.gg_cut_plan.specs.Listed.{listed_of}
+use Rattle.gg_cut_plan.specs.Seated.{machine_end, seated_wire}
+use Rattle.gg_cut_laws.proofs.FaultlessLemmas.{faultless-few}
 use Rattle.gg_cut_bridges.specs.Seating.{draft_bridges}
 use Rattle.gg_cut_bridges.proofs.WireLemmas.{seated-ends}
 use Rattle.gg_cut_parts.proofs.DraftLemmas.{units-count}

@@ -1,5 +1,5 @@
 use Rattle.std.proofs.Common.{◌≡◌, ◌≤◌}
-use Rattle.gg_cut.specs.Seated.{before}
+use Rattle.gg_cut_plan.specs.Seated.{before}
 use Rattle.gg_cut_bridges.specs.Seats.{is_open}
 use Rattle.gg_cut_bridges.proofs.seats.open_count.Given as goal
 

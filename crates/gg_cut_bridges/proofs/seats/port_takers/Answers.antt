@@ -3,7 +3,7 @@ use Rattle.std.specs.Prelude.{All}
 use Rattle.gg_flat.specs.Circuit.{FlatCircuit}
 use Rattle.gg_flat_tree.specs.Tree.{InstanceTree}
 use Rattle.gg_flat.specs.WellFormed.{IsWellFormed}
-use Rattle.gg_cut.proofs.BridgeLemmas.{known-ins, known-outs}
+use Rattle.gg_cut_plan.proofs.BridgeLemmas.{known-ins, known-outs}
 use Rattle.gg_cut_bridges.proofs.SeatLemmas.{takers-made}
 use Rattle.gg_cut_bridges.proofs.seats.port_takers.Goals as goal
 

@@ -1,6 +1,6 @@
 use Rattle.std.proofs.Common.{◌≡◌, ◌+◌, ◌++◌, map}
 use Rattle.std.specs.List.{range_with_len}
-use Rattle.gg_cut.specs.Seated.{before}
+use Rattle.gg_cut_plan.specs.Seated.{before}
 use Rattle.gg_cut_bridges.specs.Seats.{is_open, seat_by}
 use Rattle.gg_cut_bridges.proofs.seats.push_seats.Given as goal
 

@@ -1,5 +1,5 @@
 use Rattle.std.proofs.Common.{◌<◌, ◌^◌, length, ◌∙◌, ap, arith}
-use Rattle.gg_cut.specs.Seated.{machine_end}
+use Rattle.gg_cut_plan.specs.Seated.{machine_end}
 use Rattle.gg_cut_bridges.specs.Seating.{draft_bridges}
 use Rattle.gg_cut_bridges.proofs.WireLemmas.{ends-within, wires-planned}
 use Rattle.gg_cut_bridges.proofs.seats.seats_of.Goals as goal

@@ -1,6 +1,6 @@
 use Rattle.std.proofs.Common.{sym, subst}
 use Rattle.gg_flat_tree.specs.Clocked.{AreParentsBefore}
-use Rattle.gg_cut.proofs.KnownLemmas.{parents-before}
+use Rattle.gg_cut_plan.proofs.KnownLemmas.{parents-before}
 use Rattle.gg_cut_clocks.proofs.domains.domains_of.Goals as goal
 
 pub top_clocks-requires : goal.top_clocks-requires

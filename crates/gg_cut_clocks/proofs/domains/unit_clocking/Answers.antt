@@ -5,10 +5,10 @@ use Rattle.gg_flat.specs.Circuit.{FlatCircuit, driver_at}
 use Rattle.gg_flat_tree.specs.Clocked.{AreParentsBefore, clock_at}
 use Rattle.gg_flat.specs.Line.{value_at}
 use Rattle.gg_flat_tree.specs.Tree.{InstanceTree, instance_at}
-use Rattle.gg_moved.specs.Domains.{FollowsInside, inner_clocks}
+use Rattle.gg_part_moved.specs.Domains.{FollowsInside, inner_clocks}
 use Rattle.gg_order.specs.Marks.{is_marked}
-use Rattle.gg_cut.specs.Listed.{AreMarks}
-use Rattle.gg_cut.proofs.KnownLemmas.{parents-before}
+use Rattle.gg_cut_plan.specs.Listed.{AreMarks}
+use Rattle.gg_cut_plan.proofs.KnownLemmas.{parents-before}
 use Rattle.gg_cut_clocks.specs.Innermost.{IsLast, IsTimedBy}
 use Rattle.gg_cut_clocks.proofs.FollowLemmas.{follows-inside, ports-follow}
 use Rattle.gg_cut_clocks.proofs.domains.unit_clocking.Goals as goal

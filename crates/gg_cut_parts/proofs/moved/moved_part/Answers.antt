@@ -1,12 +1,12 @@
 use Rattle.std.proofs.Common.{◌≡◌, ◌<◌, ◌≤◌, ◌^◌, List, ℕ, map, sym, ◌∙◌, ap, ap₂, subst}
 use Rattle.std.specs.Prelude.{All}
-use Rattle.gg_moved.specs.Moved.{shifted}
+use Rattle.gg_part_moved.specs.Moved.{shifted}
 use Rattle.gg_part.specs.declared.part.Part.{Part}
-use Rattle.gg_cut.specs.declared.wires.Wire.{Wire}
-use Rattle.gg_cut.specs.Direct.{routes}
-use Rattle.gg_cut.specs.Plan.{channels_from, clock_home, givens_of, machine_clocks}
+use Rattle.gg_cut_plan.specs.declared.wires.Wire.{Wire}
+use Rattle.gg_cut_plan.specs.Direct.{routes}
+use Rattle.gg_cut_plan.specs.Plan.{channels_from, clock_home, givens_of, machine_clocks}
 use Rattle.gg_cut_clocks.proofs.TimedLemmas.{home-known}
-use Rattle.gg_duplicates.specs.Again.{again_at}
+use Rattle.gg_cut_share.specs.Again.{again_at}
 use Rattle.gg_cut_parts.specs.Draft.{draft_hub}
 use Rattle.gg_cut_parts.proofs.MachineLemmas.{from-below}
 use Rattle.gg_cut_parts.proofs.DraftFollowerLemmas.{ready, follows, all-behind, all-few, held-is, part-in, globals-within}

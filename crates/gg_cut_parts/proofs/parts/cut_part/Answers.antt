@@ -4,10 +4,10 @@ use Rattle.gg_flat.specs.Circuit.{FlatCircuit}
 use Rattle.gg_part.specs.declared.part.Clocking.{Clocking}
 use Rattle.gg_part.specs.Building.{AreHeld}
 use Rattle.gg_part.specs.Clocking.{AreTimed, IsTimed}
-use Rattle.gg_cut.specs.declared.wires.Wire.{Wire}
-use Rattle.gg_cut.specs.Direct.{routes}
-use Rattle.gg_cut.specs.Machines.{first_memory, first_unit}
-use Rattle.gg_cut.specs.Plan.{channels_to, channels_from, clock_home, givens_of, machine_clocks, signals_of}
+use Rattle.gg_cut_plan.specs.declared.wires.Wire.{Wire}
+use Rattle.gg_cut_plan.specs.Direct.{routes}
+use Rattle.gg_cut_plan.specs.Machines.{first_memory, first_unit}
+use Rattle.gg_cut_plan.specs.Plan.{channels_to, channels_from, clock_home, givens_of, machine_clocks, signals_of}
 use Rattle.gg_cut_clocks.proofs.TimedLemmas.{home-known}
 use Rattle.gg_cut_parts.specs.Draft.{draft_hub}
 use Rattle.gg_cut_parts.specs.MovedPart.{IsUnitRouted}

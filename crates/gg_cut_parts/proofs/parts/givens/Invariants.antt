@@ -1,5 +1,5 @@
 use Rattle.std.proofs.Common.{◌≡◌, take}
-use Rattle.gg_cut.specs.Plan.{givens_of}
+use Rattle.gg_cut_plan.specs.Plan.{givens_of}
 use Rattle.gg_cut_parts.proofs.parts.givens.Given as goal
 
 abbrev pub invariant-loop-channel : goal.invariant-loop-channel

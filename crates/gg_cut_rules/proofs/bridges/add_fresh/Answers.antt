@@ -1,6 +1,6 @@
 use Rattle.std.proofs.Common.{List, ℕ, ap, sym, subst}
 use Rattle.std.specs.Prelude.{Err, Contains, not}
-use Rattle.gg_cut.proofs.PathLemmas.{among-missing, among-contains}
+use Rattle.gg_cut_plan.proofs.PathLemmas.{among-missing, among-contains}
 use Rattle.gg_cut_rules.proofs.bridges.add_fresh.Goals as goal
 
 pub returns-in-Ok-clause-fresh : goal.returns-in-Ok-clause-fresh

@@ -1,4 +1,4 @@
-use Rattle.gg_cut.proofs.BridgeLemmas.{IsFew, entry-few, entry-judged, entry-stop}
+use Rattle.gg_cut_plan.proofs.BridgeLemmas.{IsFew, entry-few, entry-judged, entry-stop}
 use Rattle.gg_cut_rules.proofs.bridges.entries_stand.Goals as goal
 
 few : (c : goal.After-entry_stands-arg-1) → IsFew (record { names = c.loop-entry.before.names; sees = c.loop-entry.before.sees; drives = c.loop-entry.before.drives }) c.entry-item.result

@@ -1,4 +1,4 @@
-use Rattle.gg_cut.proofs.BridgeLemmas.{AreJudged}
+use Rattle.gg_cut_plan.proofs.BridgeLemmas.{AreJudged}
 use Rattle.gg_cut_rules.proofs.bridges.entries_stand.Given as goal
 
 abbrev pub invariant-loop-entry : goal.invariant-loop-entry

@@ -1,6 +1,6 @@
 use Rattle.std.proofs.Common.{◌<◌, length, sym, subst}
 use Rattle.std.specs.Prelude.{All}
-use Rattle.gg_cut.proofs.BridgeLemmas.{known-ins, known-outs, model-formed}
+use Rattle.gg_cut_plan.proofs.BridgeLemmas.{known-ins, known-outs, model-formed}
 use Rattle.gg_cut_rules.proofs.bridges.fits_at.Goals as goal
 
 pub ports_fit-requires : goal.ports_fit-requires

@@ -1,7 +1,7 @@
 use Rattle.std.proofs.Common.{◌<◌, List, ℕ, length, take, sym, subst, ap, ◌∙◌}
 use Rattle.std.specs.Prelude.{All}
 use Rattle.gg_flat.specs.declared.piece.Signal.{Signal}
-use Rattle.gg_cut.proofs.BridgeLemmas.{known-ins, known-first}
+use Rattle.gg_cut_plan.proofs.BridgeLemmas.{known-ins, known-first}
 use Rattle.gg_cut_rules.proofs.bridges.judge_bridges.Goals as goal
 
 pub marks_of-requires : goal.marks_of-requires

@@ -1,6 +1,6 @@
 use Rattle.std.proofs.Common.{sym}
 use Rattle.gg_flat.specs.Models.{model_names}
-use Rattle.gg_cut.proofs.PathLemmas.{among-found, among-missing}
+use Rattle.gg_cut_plan.proofs.PathLemmas.{among-found, among-missing}
 use Rattle.gg_cut_rules.proofs.bridges.knows.Goals as goal
 
 pub returns-in-Some : goal.returns-in-Some

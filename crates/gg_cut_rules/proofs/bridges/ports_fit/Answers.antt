@@ -1,6 +1,6 @@
 use Rattle.std.proofs.Common.{sym, ◌∙◌}
-use Rattle.gg_cut.proofs.BridgeLemmas.{unequal-fit, length-shapes}
-use Rattle.gg_cut.specs.Bridges.{shapes_at}
+use Rattle.gg_cut_plan.proofs.BridgeLemmas.{unequal-fit, length-shapes}
+use Rattle.gg_cut_plan.specs.Bridges.{shapes_at}
 use Rattle.gg_cut_rules.proofs.bridges.ports_fit.Goals as goal
 
 pub returns-then-ports-signals : goal.returns-then-ports-signals

@@ -1,5 +1,5 @@
 use Rattle.std.proofs.Common.{◌≡◌, drop}
-use Rattle.gg_cut.specs.Bridges.{fit_ports, shapes_at}
+use Rattle.gg_cut_plan.specs.Bridges.{fit_ports, shapes_at}
 use Rattle.gg_cut_rules.proofs.bridges.ports_fit.Given as goal
 
 abbrev pub invariant-loop-i : goal.invariant-loop-i

@@ -1,5 +1,5 @@
-use Rattle.gg_cut.specs.Channels.{channel_names}
-use Rattle.gg_cut.proofs.BridgeLemmas.{wrong-stop}
+use Rattle.gg_cut_plan.specs.Channels.{channel_names}
+use Rattle.gg_cut_plan.proofs.BridgeLemmas.{wrong-stop}
 use Rattle.gg_cut_rules.proofs.bridges.ports_stand.Goals as goal
 
 pub returns-in-Err-clause-told : goal.returns-in-Err-clause-told

@@ -1,6 +1,6 @@
 use Rattle.std.proofs.Common.{◌≡◌, ◌++◌, drop, take}
-use Rattle.gg_cut.specs.Channels.{channel_names}
-use Rattle.gg_cut.specs.Bridges.{wrong_port}
+use Rattle.gg_cut_plan.specs.Channels.{channel_names}
+use Rattle.gg_cut_plan.specs.Bridges.{wrong_port}
 use Rattle.gg_cut_rules.proofs.bridges.ports_stand.Given as goal
 
 abbrev pub invariant-loop-port : goal.invariant-loop-port

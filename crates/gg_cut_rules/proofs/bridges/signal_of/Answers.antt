@@ -1,4 +1,4 @@
-use Rattle.gg_cut.proofs.PathLemmas.{look-up}
+use Rattle.gg_cut_plan.proofs.PathLemmas.{look-up}
 use Rattle.gg_cut_rules.proofs.bridges.signal_of.Goals as goal
 
 pub returns-clause-place : goal.returns-clause-place

@@ -1,6 +1,6 @@
 use Rattle.std.proofs.Common.{◌<◌, ◌∙◌, sym, subst}
 use Rattle.std.specs.Prelude.{All}
-use Rattle.gg_cut.proofs.ChannelLemmas.{named-channel, unnamed-channel}
+use Rattle.gg_cut_plan.proofs.ChannelLemmas.{named-channel, unnamed-channel}
 use Rattle.gg_cut_rules.proofs.capacities.is_channel.Goals as goal
 
 pub returns-in-Some : goal.returns-in-Some

@@ -1,5 +1,5 @@
 use Rattle.std.proofs.Common.{◌≡◌, map, take}
-use Rattle.gg_cut.specs.Clocks.{ratio_of}
+use Rattle.gg_cut_plan.specs.Clocks.{ratio_of}
 use Rattle.gg_cut_rules.proofs.clocks.clock_ratios.Given as goal
 
 abbrev pub invariant-loop-name : goal.invariant-loop-name

@@ -1,5 +1,5 @@
 use Rattle.std.proofs.Common.{◌≡◌, drop}
-use Rattle.gg_cut.specs.Fault.{unknown_clock}
+use Rattle.gg_cut_plan.specs.Fault.{unknown_clock}
 use Rattle.gg_cut_rules.proofs.clocks.clocks_among.Given as goal
 
 abbrev pub invariant-loop-pair : goal.invariant-loop-pair

@@ -1,5 +1,5 @@
 use Rattle.std.proofs.Common.{◌≡◌, drop}
-use Rattle.gg_cut.specs.Fault.{ratio_fault}
+use Rattle.gg_cut_plan.specs.Fault.{ratio_fault}
 use Rattle.gg_cut_rules.proofs.clocks.ratios_in_range.Given as goal
 
 abbrev pub invariant-loop-pair : goal.invariant-loop-pair

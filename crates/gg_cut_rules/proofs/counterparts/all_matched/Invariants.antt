@@ -1,7 +1,7 @@
 use Rattle.std.proofs.Common.{◌≡◌, drop}
 use Rattle.std.specs.Prelude.{find}
 use Rattle.std.specs.List.{list_any}
-use Rattle.gg_cut.specs.Fault.{lacks_in}
+use Rattle.gg_cut_plan.specs.Fault.{lacks_in}
 use Rattle.gg_cut_rules.proofs.counterparts.all_matched.Given as goal
 
 abbrev pub invariant-loop-path : goal.invariant-loop-path

@@ -1,6 +1,6 @@
 use Rattle.std.proofs.Common.{◌≡◌, drop}
 use Rattle.std.specs.List.{list_any}
-use Rattle.gg_cut.specs.Fault.{lacks_in}
+use Rattle.gg_cut_plan.specs.Fault.{lacks_in}
 use Rattle.gg_cut_rules.proofs.counterparts.lacks.Given as goal
 
 abbrev pub invariant-loop-group : goal.invariant-loop-group

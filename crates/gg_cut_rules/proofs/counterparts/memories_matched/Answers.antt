@@ -1,8 +1,8 @@
 use Rattle.std.proofs.Common.{subst, List, ℕ}
 use Rattle.std.specs.Prelude.{Option, option_map}
-use Rattle.gg_cut.specs.Fault.{Tells}
-use Rattle.gg_cut.specs.declared.fault.CutFault.TheVariants.{Unmatched}
-use Rattle.gg_cut.proofs.CounterpartLemmas.{unmatched-same}
+use Rattle.gg_cut_plan.specs.Fault.{Tells}
+use Rattle.gg_cut_plan.specs.declared.fault.CutFault.TheVariants.{Unmatched}
+use Rattle.gg_cut_plan.proofs.CounterpartLemmas.{unmatched-same}
 use Rattle.gg_cut_rules.proofs.counterparts.memories_matched.Goals as goal
 
 pub returns : goal.returns

@@ -1,6 +1,6 @@
 use Rattle.std.proofs.Common.{◌≡◌, ◌++◌, ◌∙◌, List, ℕ, Some, None, ap, ap₂, sym, subst}
 use Rattle.std.specs.Prelude.{Option, MatchOption}
-use Rattle.gg_cut.proofs.CounterpartLemmas.{behind, not-behind}
+use Rattle.gg_cut_plan.proofs.CounterpartLemmas.{behind, not-behind}
 use Rattle.gg_cut_rules.proofs.counterparts.rest_behind.Goals as goal
 
 pub returns-in-Some : goal.returns-in-Some

@@ -1,5 +1,5 @@
 use Rattle.std.proofs.Common.{◌≡◌, ◌++◌, drop, take}
-use Rattle.gg_cut.specs.Fault.{first_clash, same_path}
+use Rattle.gg_cut_plan.specs.Fault.{first_clash, same_path}
 use Rattle.gg_cut_rules.proofs.entries.add_all.Given as goal
 
 abbrev pub invariant-loop-path : goal.invariant-loop-path

@@ -1,8 +1,8 @@
 use Rattle.std.proofs.Common.{List, ℕ, Some, None, ap, sym, subst}
 use Rattle.std.specs.Prelude.{Err, Contains, option_map, if◌then◌else◌}
-use Rattle.gg_cut.specs.declared.fault.CutFault.TheVariants.{Doubled}
-use Rattle.gg_cut.proofs.PathLemmas.{among-missing, among-contains}
-use Rattle.gg_cut.proofs.FindLemmas.{told-same}
+use Rattle.gg_cut_plan.specs.declared.fault.CutFault.TheVariants.{Doubled}
+use Rattle.gg_cut_plan.proofs.PathLemmas.{among-missing, among-contains}
+use Rattle.gg_cut_plan.proofs.FindLemmas.{told-same}
 use Rattle.gg_cut_rules.proofs.entries.add_one.Goals as goal
 
 pub returns-in-Ok-clause-told : goal.returns-in-Ok-clause-told

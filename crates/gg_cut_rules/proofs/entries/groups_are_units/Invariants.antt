@@ -1,5 +1,5 @@
 use Rattle.std.proofs.Common.{◌≡◌, drop}
-use Rattle.gg_cut.specs.Fault.{unshared}
+use Rattle.gg_cut_plan.specs.Fault.{unshared}
 use Rattle.gg_cut_rules.proofs.entries.groups_are_units.Given as goal
 
 abbrev pub invariant-loop-group : goal.invariant-loop-group

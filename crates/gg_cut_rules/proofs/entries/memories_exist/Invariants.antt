@@ -1,5 +1,5 @@
 use Rattle.std.proofs.Common.{◌≡◌, drop}
-use Rattle.gg_cut.specs.Fault.{unknown_memory}
+use Rattle.gg_cut_plan.specs.Fault.{unknown_memory}
 use Rattle.gg_cut_rules.proofs.entries.memories_exist.Given as goal
 
 abbrev pub invariant-loop-path : goal.invariant-loop-path

@@ -1,5 +1,5 @@
 use Rattle.std.proofs.Common.{◌≡◌, drop}
-use Rattle.gg_cut.specs.Fault.{other_module}
+use Rattle.gg_cut_plan.specs.Fault.{other_module}
 use Rattle.gg_cut_rules.proofs.entries.one_module_each.Given as goal
 
 abbrev pub invariant-loop-group : goal.invariant-loop-group

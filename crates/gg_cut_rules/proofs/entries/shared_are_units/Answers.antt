@@ -1,8 +1,8 @@
 use Rattle.std.proofs.Common.{subst, List, ℕ}
 use Rattle.std.specs.Prelude.{Option, option_map}
-use Rattle.gg_cut.specs.Fault.{Tells}
-use Rattle.gg_cut.specs.declared.fault.CutFault.TheVariants.{UnknownUnit}
-use Rattle.gg_cut.proofs.FindLemmas.{unshared-same}
+use Rattle.gg_cut_plan.specs.Fault.{Tells}
+use Rattle.gg_cut_plan.specs.declared.fault.CutFault.TheVariants.{UnknownUnit}
+use Rattle.gg_cut_plan.proofs.FindLemmas.{unshared-same}
 use Rattle.gg_cut_rules.proofs.entries.shared_are_units.Goals as goal
 
 pub returns : goal.returns

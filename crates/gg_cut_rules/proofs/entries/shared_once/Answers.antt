@@ -1,8 +1,8 @@
 use Rattle.std.proofs.Common.{◌≡◌, ◌++◌, List, ℕ, None, subst}
 use Rattle.std.specs.Prelude.{option_map}
-use Rattle.gg_cut.specs.declared.fault.CutFault.TheVariants.{Doubled}
-use Rattle.gg_cut.specs.Fault.{IsTold, first_clash, same_path}
-use Rattle.gg_cut.proofs.FindLemmas.{SeenGroups-more, clash-stop}
+use Rattle.gg_cut_plan.specs.declared.fault.CutFault.TheVariants.{Doubled}
+use Rattle.gg_cut_plan.specs.Fault.{IsTold, first_clash, same_path}
+use Rattle.gg_cut_plan.proofs.FindLemmas.{SeenGroups-more, clash-stop}
 use Rattle.gg_cut_rules.proofs.entries.shared_once.Goals as goal
 
 pub returns-in-Err : goal.returns-in-Err

@@ -1,5 +1,5 @@
 use Rattle.std.proofs.Common.{◌≡◌, drop}
-use Rattle.gg_cut.specs.Fault.{unknown_unit}
+use Rattle.gg_cut_plan.specs.Fault.{unknown_unit}
 use Rattle.gg_cut_rules.proofs.entries.units_exist.Given as goal
 
 abbrev pub invariant-loop-path : goal.invariant-loop-path

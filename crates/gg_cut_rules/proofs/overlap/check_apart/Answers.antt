@@ -2,10 +2,10 @@ use Rattle.std.proofs.Common.{◌≡◌, ◌+◌, ◌∙◌, ◌<◌, ℕ, true,
 use Rattle.std.specs.Prelude.{option_map, ◌||◌}
 use Rattle.std.specs.List.{list_any}
 use Rattle.gg_order.specs.Marks.{is_marked}
-use Rattle.gg_cut.specs.Listed.{instance_of, lies}
-use Rattle.gg_cut.specs.declared.fault.CutFault.TheVariants.{Doubled}
-use Rattle.gg_cut.proofs.ChainLemmas.{Apart, Apart-stop, Apart-more}
-use Rattle.gg_cut.proofs.FindLemmas.{told-same}
+use Rattle.gg_cut_plan.specs.Listed.{instance_of, lies}
+use Rattle.gg_cut_plan.specs.declared.fault.CutFault.TheVariants.{Doubled}
+use Rattle.gg_cut_plan.proofs.ChainLemmas.{Apart, Apart-stop, Apart-more}
+use Rattle.gg_cut_plan.proofs.FindLemmas.{told-same}
 use Rattle.gg_cut_rules.proofs.overlap.check_apart.Goals as goal
 
 pub returns-then-overlaps : goal.returns-then-overlaps

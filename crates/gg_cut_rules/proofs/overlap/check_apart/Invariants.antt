@@ -1,4 +1,4 @@
-use Rattle.gg_cut.proofs.ChainLemmas.{Apart}
+use Rattle.gg_cut_plan.proofs.ChainLemmas.{Apart}
 use Rattle.gg_cut_rules.proofs.overlap.check_apart.Given as goal
 
 abbrev pub invariant-loop-path : goal.invariant-loop-path

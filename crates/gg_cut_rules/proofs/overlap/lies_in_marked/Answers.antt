@@ -1,5 +1,5 @@
 use Rattle.std.proofs.Common.{◌∙◌, sym, arith}
-use Rattle.gg_cut.proofs.ChainLemmas.{marked-here, unmarked-up, unmarked-top}
+use Rattle.gg_cut_plan.proofs.ChainLemmas.{marked-here, unmarked-up, unmarked-top}
 use Rattle.gg_cut_rules.proofs.overlap.lies_in_marked.Goals as goal
 
 pub returns-then-marks-node : goal.returns-then-marks-node

@@ -1,6 +1,6 @@
 use Rattle.std.proofs.Common.{◌∙◌, sym, true, arith}
 use Rattle.std.proofs.lemmas.List.{length-set}
-use Rattle.gg_cut.proofs.ChainLemmas.{above-more, above-end}
+use Rattle.gg_cut_plan.proofs.ChainLemmas.{above-more, above-end}
 use Rattle.gg_cut_rules.proofs.overlap.mark_above.Goals as goal
 
 pub chain-smaller : goal.chain-smaller

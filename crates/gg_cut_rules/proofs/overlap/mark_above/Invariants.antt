@@ -1,7 +1,7 @@
 use Rattle.std.proofs.Common.{◌≡◌, ◌<◌, ℕ, length}
 use Rattle.std.specs.Prelude.{◌||◌}
 use Rattle.gg_order.specs.Marks.{is_marked}
-use Rattle.gg_cut.specs.Listed.{lies}
+use Rattle.gg_cut_plan.specs.Listed.{lies}
 use Rattle.gg_cut_rules.proofs.overlap.mark_above.Given as goal
 
 abbrev pub invariant-chain : goal.invariant-chain

@@ -1,6 +1,6 @@
 use Rattle.std.proofs.Common.{sym, arith}
 use Rattle.std.specs.Prelude.{bytes_eq}
-use Rattle.gg_cut.proofs.PathLemmas.{first_place-Some}
+use Rattle.gg_cut_plan.proofs.PathLemmas.{first_place-Some}
 use Rattle.gg_cut_rules.proofs.overlap.place.Goals as goal
 
 pub returns-in-Some-clause-within : goal.returns-in-Some-clause-within

@@ -1,5 +1,5 @@
 use Rattle.std.proofs.Common.{sym}
-use Rattle.gg_cut.proofs.PathLemmas.{among-found, among-missing}
+use Rattle.gg_cut_plan.proofs.PathLemmas.{among-found, among-missing}
 use Rattle.gg_cut_rules.proofs.paths.has.Goals as goal
 
 pub returns-in-Some : goal.returns-in-Some

@@ -1,4 +1,4 @@
-use Rattle.gg_cut.proofs.PathLemmas.{look-up}
+use Rattle.gg_cut_plan.proofs.PathLemmas.{look-up}
 use Rattle.gg_cut_rules.proofs.paths.memory.Goals as goal
 
 pub returns : goal.returns

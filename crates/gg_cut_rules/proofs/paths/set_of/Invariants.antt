@@ -1,4 +1,4 @@
-use Rattle.gg_cut.proofs.PathLemmas.{Includes}
+use Rattle.gg_cut_plan.proofs.PathLemmas.{Includes}
 use Rattle.gg_cut_rules.proofs.paths.set_of.Given as goal
 
 abbrev pub invariant-loop-path : goal.invariant-loop-path

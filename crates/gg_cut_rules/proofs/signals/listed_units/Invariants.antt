@@ -1,5 +1,5 @@
 use Rattle.std.proofs.Common.{◌≡◌, take, map}
-use Rattle.gg_cut.specs.Listed.{instance_of}
+use Rattle.gg_cut_plan.specs.Listed.{instance_of}
 use Rattle.gg_cut_rules.proofs.signals.listed_units.Given as goal
 
 abbrev pub invariant-loop-path : goal.invariant-loop-path

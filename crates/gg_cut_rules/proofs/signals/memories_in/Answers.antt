@@ -1,8 +1,8 @@
 use Rattle.std.proofs.Common.{◌++◌, [], ◌∷◌, ◌∙◌, ℕ, length, sym, ap, ap₂, arith}
 use Rattle.std.specs.Prelude.{if◌then◌else◌}
 use Rattle.gg_flat_tree.specs.Tree.{path_at}
-use Rattle.gg_cut.specs.Listed.{is_among}
-use Rattle.gg_cut.proofs.RangeLemmas.{filter-more, filter-few}
+use Rattle.gg_cut_plan.specs.Listed.{is_among}
+use Rattle.gg_cut_plan.proofs.RangeLemmas.{filter-more, filter-few}
 use Rattle.gg_cut_rules.proofs.signals.memories_in.Goals as goal
 
 pub loop-place-preserved : goal.loop-place-preserved

@@ -1,4 +1,4 @@
-use Rattle.gg_cut.proofs.KnownLemmas.{parents-before}
+use Rattle.gg_cut_plan.proofs.KnownLemmas.{parents-before}
 use Rattle.gg_cut_rules.proofs.verdict.check_entries.Goals as goal
 
 pub none_overlap-requires-clause-parents : goal.none_overlap-requires-clause-parents

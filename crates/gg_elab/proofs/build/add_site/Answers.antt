@@ -4,14 +4,14 @@ use Rattle.std.proofs.lemmas.List.{append-nil, take_all}
 use Rattle.std.proofs.lemmas.Simd.{map-map}
 use Rattle.gg_flat_tree.specs.Tree.{joined}
 use Rattle.gg_elab.specs.Building.{IsSoFarAt}
-use Rattle.gg_flattened.specs.Flat.{FlatSignal, flat_signal, signals_at}
-use Rattle.gg_flattened.specs.Views.{own_of, site_of}
-use Rattle.gg_flattened.specs.Known.{types_of}
-use Rattle.gg_flattened.specs.declared.digest.Digest.{Digest}
-use Rattle.gg_flattened.specs.declared.own.OwnSignal.{OwnSignal}
-use Rattle.gg_flattened.proofs.FlatLemmas.{seam, signals-kept, digest-at}
-use Rattle.gg_flattened.proofs.FreshLemmas.{next-new}
-use Rattle.gg_flattened.proofs.NameLemmas.{Differ}
+use Rattle.gg_elab_sites.specs.Flat.{FlatSignal, flat_signal, signals_at}
+use Rattle.gg_elab_sites.specs.Views.{own_of, site_of}
+use Rattle.gg_elab_sites.specs.Known.{types_of}
+use Rattle.gg_elab_sites.specs.declared.digest.Digest.{Digest}
+use Rattle.gg_elab_sites.specs.declared.own.OwnSignal.{OwnSignal}
+use Rattle.gg_elab_sites.proofs.FlatLemmas.{seam, signals-kept, digest-at}
+use Rattle.gg_elab_sites.proofs.FreshLemmas.{next-new}
+use Rattle.gg_elab_sites.proofs.NameLemmas.{Differ}
 use Rattle.gg_elab.proofs.build.add_site.Goals as goal
 
 pub loop-signal-init : goal.loop-signal-init

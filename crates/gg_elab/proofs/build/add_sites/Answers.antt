@@ -1,11 +1,11 @@
 use Rattle.std.proofs.Common.{◌≡◌, ℕ, ◌+◌, List, ◌++◌, map, take, subst, sym, ap, ◌∙◌, arith}
 use Rattle.std.proofs.lemmas.List.{map-append}
-use Rattle.gg_flattened.specs.Known.{types_of}
-use Rattle.gg_flattened.specs.Flat.{FlatSignal, signals_at, flat_signals}
-use Rattle.gg_flattened.specs.Views.{site_of}
-use Rattle.gg_flattened.proofs.FlatLemmas.{one_more}
-use Rattle.gg_flattened.proofs.FreshLemmas.{parts-front}
-use Rattle.gg_flattened.proofs.NameLemmas.{Differ}
+use Rattle.gg_elab_sites.specs.Known.{types_of}
+use Rattle.gg_elab_sites.specs.Flat.{FlatSignal, signals_at, flat_signals}
+use Rattle.gg_elab_sites.specs.Views.{site_of}
+use Rattle.gg_elab_sites.proofs.FlatLemmas.{one_more}
+use Rattle.gg_elab_sites.proofs.FreshLemmas.{parts-front}
+use Rattle.gg_elab_sites.proofs.NameLemmas.{Differ}
 use Rattle.gg_elab.proofs.build.add_sites.Goals as goal
 
 pub add_site-requires : goal.add_site-requires

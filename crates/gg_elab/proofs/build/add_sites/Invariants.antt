@@ -1,7 +1,7 @@
 use Rattle.std.proofs.Common.{map, take}
-use Rattle.gg_flattened.specs.Known.{types_of}
-use Rattle.gg_flattened.specs.Flat.{flat_signals}
-use Rattle.gg_flattened.specs.Views.{site_of, table_bindings}
+use Rattle.gg_elab_sites.specs.Known.{types_of}
+use Rattle.gg_elab_sites.specs.Flat.{flat_signals}
+use Rattle.gg_elab_sites.specs.Views.{site_of, table_bindings}
 use Rattle.gg_elab.specs.Building.{IsSoFar}
 use Rattle.gg_elab.proofs.build.add_sites.Given as goal
 

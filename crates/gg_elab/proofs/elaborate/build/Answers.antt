@@ -3,20 +3,20 @@ use Rattle.std.proofs.lemmas.List.{length-map, get_or_default}
 use Rattle.gg_ast.specs.Tree.{ModuleTree, CircuitTree, module_names, empty_module}
 use Rattle.gg_ast.specs.Places.{place_of}
 use Rattle.gg_ast.proofs.NamePlaces.{place_of-below}
-use Rattle.gg_count.specs.Sites.{Site, module_at, sites_of}
+use Rattle.gg_elab_count.specs.Sites.{Site, module_at, sites_of}
 use Rattle.gg_flat.specs.Circuit.{FlatCircuit}
-use Rattle.gg_flattened.specs.Known.{types_of}
-use Rattle.gg_flattened.specs.Views.{site_of, table_bindings, table_signals}
-use Rattle.gg_flattened.specs.declared.sites.Place.{Place}
+use Rattle.gg_elab_sites.specs.Known.{types_of}
+use Rattle.gg_elab_sites.specs.Views.{site_of, table_bindings, table_signals}
+use Rattle.gg_elab_sites.specs.declared.sites.Place.{Place}
 use Rattle.gg_elab.specs.Building.{IsSoFar, HasMemories}
 use Rattle.gg_types.specs.Clocks.{clock_inputs}
-use Rattle.gg_flattened.specs.Flat.{FlatSignal, flat_signals, flat_memories, stop_paths}
-use Rattle.gg_flattened.specs.IsFlat.{signals_of, memory_paths, number_of, top_ports}
+use Rattle.gg_elab_sites.specs.Flat.{FlatSignal, flat_signals, flat_memories, stop_paths}
+use Rattle.gg_elab_sites.specs.IsFlat.{signals_of, memory_paths, number_of, top_ports}
 use Rattle.gg_elab.proofs.WholeLemmas.{whole, with_top, fitting_whole}
-use Rattle.gg_tree.proofs.TreeJoinLemmas.{sites-of, is-some}
-use Rattle.gg_flattened.specs.Signals.{Types}
-use Rattle.gg_flattened.specs.Meaning.{Signals}
-use Rattle.gg_flattened.proofs.NameLemmas.{Differ}
+use Rattle.gg_elab_tree.proofs.TreeJoinLemmas.{sites-of, is-some}
+use Rattle.gg_elab_sites.specs.Signals.{Types}
+use Rattle.gg_elab_sites.specs.Meaning.{Signals}
+use Rattle.gg_elab_sites.proofs.NameLemmas.{Differ}
 use Rattle.gg_elab.proofs.elaborate.build.Goals as goal
 
 abbrev signal_paths_of : Types → List ModuleTree → List Site → List (List ℕ)

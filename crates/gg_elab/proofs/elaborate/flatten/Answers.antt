@@ -3,14 +3,14 @@ use Rattle.std.proofs.lemmas.List.{length-map}
 use Rattle.gg_ast.specs.Tree.{ModuleTree, CircuitTree, module_names}
 use Rattle.gg_ast.specs.Places.{place_of}
 use Rattle.gg_ast.proofs.NamePlaces.{place_of-below}
-use Rattle.gg_count.specs.Counts.{counts_of}
-use Rattle.gg_count.specs.Sites.{HoldsModule}
-use Rattle.gg_names.specs.Modules.{Holds}
-use Rattle.gg_walk.specs.Graph.{IsOrderOf}
-use Rattle.gg_flattened.proofs.OrderLemmas.{order_of}
-use Rattle.gg_flattened.specs.Known.{types_of}
+use Rattle.gg_elab_count.specs.Counts.{counts_of}
+use Rattle.gg_elab_count.specs.Sites.{HoldsModule}
+use Rattle.gg_shape_names.specs.Modules.{Holds}
+use Rattle.gg_graph.specs.Graph.{IsOrderOf}
+use Rattle.gg_elab_sites.proofs.OrderLemmas.{order_of}
+use Rattle.gg_elab_sites.specs.Known.{types_of}
 use Rattle.gg_elab.specs.Limits.{own_counts}
-use Rattle.gg_flattened.specs.declared.digest.Digest.{Digest}
+use Rattle.gg_elab_sites.specs.declared.digest.Digest.{Digest}
 use Rattle.gg_elab.proofs.LimitLemmas.{counted, excess-found}
 use Rattle.gg_elab.proofs.elaborate.flatten.Goals as goal
 

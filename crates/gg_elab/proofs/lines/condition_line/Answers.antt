@@ -6,7 +6,7 @@ use Rattle.gg_flat.specs.Line.{HasType, IsCondition}
 use Rattle.gg_elab.specs.Growing.{context_of, Added, IsCut}
 use Rattle.gg_bits.specs.declared.types.Kind.TheVariants.{UInt}
 use Rattle.gg_bits.specs.ResultType.{is_condition}
-use Rattle.gg_flattened.specs.IsFlat.{IsConditionOf}
+use Rattle.gg_elab_sites.specs.IsFlat.{IsConditionOf}
 use Rattle.gg_elab.proofs.WholeLineLemmas.{condition_stands, condition_fits}
 use Rattle.gg_elab.proofs.lines.condition_line.Goals as goal
 

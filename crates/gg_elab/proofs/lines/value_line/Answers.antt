@@ -4,8 +4,8 @@ use Rattle.gg_bits.specs.Shape.{Shape, shape}
 use Rattle.gg_flat.specs.declared.line.Node.{Node}
 use Rattle.gg_flat.specs.Line.{HasType, IsSource}
 use Rattle.gg_elab.specs.Growing.{context_of, Added, IsCut}
-use Rattle.gg_flattened.specs.IsFlat.{IsLineOf}
-use Rattle.gg_flattened.specs.Meaning.{takes}
+use Rattle.gg_elab_sites.specs.IsFlat.{IsLineOf}
+use Rattle.gg_elab_sites.specs.Meaning.{takes}
 use Rattle.gg_elab.proofs.WholeLineLemmas.{cut_stands, cut_fits}
 use Rattle.gg_elab.proofs.lines.value_line.Goals as goal
 

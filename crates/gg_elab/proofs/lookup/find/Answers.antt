@@ -2,8 +2,8 @@ use Rattle.std.proofs.Common.{rules, ◌≡◌, ℕ, List, ◌∙◌, ap, sym, t
 use Rattle.std.specs.Prelude.{is_some}
 use Rattle.gg_ast.specs.Places.{place_of}
 use Rattle.gg_flat_tree.specs.Tree.{joined}
-use Rattle.gg_names.specs.Scope.{written}
-use Rattle.gg_flattened.specs.Meaning.{named_if}
+use Rattle.gg_shape_names.specs.Scope.{written}
+use Rattle.gg_elab_sites.specs.Meaning.{named_if}
 use Rattle.gg_elab.proofs.ScopeLemmas.{found-path, is-known}
 use Rattle.gg_elab.proofs.lookup.find.Goals as goal
 

@@ -1,12 +1,12 @@
 use Rattle.std.proofs.Common.{◌<◌, List, ◌++◌, map, take, length, sym, ap, ◌∙◌, subst, arith}
-use Rattle.gg_flattened.specs.Views.{IsPlaceIn, own_bank_of, site_of}
+use Rattle.gg_elab_sites.specs.Views.{IsPlaceIn, own_bank_of, site_of}
 use Rattle.gg_elab.specs.Building.{HasMemories}
-use Rattle.gg_flattened.specs.Flat.{FlatMemory, flat_memory, flat_memories}
-use Rattle.gg_flattened.specs.Known.{types_of}
-use Rattle.gg_flattened.specs.declared.digest.Digest.{Digest}
-use Rattle.gg_flattened.specs.declared.digest.OwnMemory.{OwnMemory}
-use Rattle.gg_flattened.specs.declared.sites.Place.{Place}
-use Rattle.gg_flattened.proofs.FlatLemmas.{memories-more, digest-at}
+use Rattle.gg_elab_sites.specs.Flat.{FlatMemory, flat_memory, flat_memories}
+use Rattle.gg_elab_sites.specs.Known.{types_of}
+use Rattle.gg_elab_sites.specs.declared.digest.Digest.{Digest}
+use Rattle.gg_elab_sites.specs.declared.digest.OwnMemory.{OwnMemory}
+use Rattle.gg_elab_sites.specs.declared.sites.Place.{Place}
+use Rattle.gg_elab_sites.proofs.FlatLemmas.{memories-more, digest-at}
 use Rattle.gg_elab.proofs.WholeLemmas.{memories-own, memories-on}
 use Rattle.gg_elab.proofs.ports.add_all_memories.Goals as goal
 

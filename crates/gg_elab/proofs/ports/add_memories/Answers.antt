@@ -1,9 +1,9 @@
 use Rattle.std.proofs.Common.{List, ◌++◌, map, take, subst, arith}
 use Rattle.std.proofs.lemmas.List.{take_all}
 use Rattle.gg_elab.specs.Building.{HasMemories, memory_of}
-use Rattle.gg_flattened.specs.Flat.{FlatMemory}
-use Rattle.gg_flattened.specs.declared.digest.OwnMemory.{OwnMemory}
-use Rattle.gg_flattened.proofs.FlatLemmas.{seam}
+use Rattle.gg_elab_sites.specs.Flat.{FlatMemory}
+use Rattle.gg_elab_sites.specs.declared.digest.OwnMemory.{OwnMemory}
+use Rattle.gg_elab_sites.proofs.FlatLemmas.{seam}
 use Rattle.gg_elab.proofs.WholeLemmas.{memories-push}
 use Rattle.gg_elab.proofs.ports.add_memories.Goals as goal
 

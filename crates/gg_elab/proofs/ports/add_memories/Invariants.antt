@@ -1,5 +1,5 @@
 use Rattle.std.proofs.Common.{◌++◌, List, map, take}
-use Rattle.gg_flattened.specs.Flat.{FlatMemory}
+use Rattle.gg_elab_sites.specs.Flat.{FlatMemory}
 use Rattle.gg_elab.specs.Building.{HasMemories, memory_of}
 use Rattle.gg_elab.proofs.ports.add_memories.Given as goal
 

@@ -1,5 +1,5 @@
 use Rattle.std.proofs.Common.{◌≡◌, ◌++◌, map, take}
-use Rattle.gg_flattened.specs.IsFlat.{number_of, port_names}
+use Rattle.gg_elab_sites.specs.IsFlat.{number_of, port_names}
 use Rattle.gg_ast.specs.declared.module.Direction.TheVariants as direction
 use Rattle.gg_elab.proofs.ports.add_ports.Given as goal
 

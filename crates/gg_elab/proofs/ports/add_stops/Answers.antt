@@ -1,11 +1,11 @@
 use Rattle.std.proofs.Common.{◌≡◌, ◌<◌, List, ◌++◌, length, map, subst, sym, ap, ◌∙◌, arith}
 use Rattle.gg_flat_tree.specs.Tree.{joined}
-use Rattle.gg_flattened.specs.IsFlat.{number_of}
-use Rattle.gg_flattened.specs.Known.{types_of}
-use Rattle.gg_flattened.specs.Views.{IsPlaceIn}
-use Rattle.gg_flattened.specs.declared.sites.Place.{Place}
-use Rattle.gg_flattened.specs.declared.stops.OwnStop.{OwnStop}
-use Rattle.gg_flattened.proofs.FlatLemmas.{digest-at}
+use Rattle.gg_elab_sites.specs.IsFlat.{number_of}
+use Rattle.gg_elab_sites.specs.Known.{types_of}
+use Rattle.gg_elab_sites.specs.Views.{IsPlaceIn}
+use Rattle.gg_elab_sites.specs.declared.sites.Place.{Place}
+use Rattle.gg_elab_sites.specs.declared.stops.OwnStop.{OwnStop}
+use Rattle.gg_elab_sites.proofs.FlatLemmas.{digest-at}
 use Rattle.gg_elab.proofs.WholeLemmas.{stops-more}
 use Rattle.gg_elab.proofs.ports.add_stops.Goals as goal
 

@@ -1,5 +1,5 @@
 use Rattle.std.proofs.Common.{◌≡◌, map, take}
-use Rattle.gg_flattened.specs.IsFlat.{writer_of}
+use Rattle.gg_elab_sites.specs.IsFlat.{writer_of}
 use Rattle.gg_elab.specs.Building.{memory_of}
 use Rattle.gg_elab.proofs.ports.writers.Given as goal
 

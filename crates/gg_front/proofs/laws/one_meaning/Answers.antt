@@ -1,8 +1,8 @@
 -- A text spells at most one circuit, which has only one flat circuit and one tree.
 use Rattle.std.proofs.Common.{subst}
 use Rattle.gg_ast.specs.Tree.{CircuitTree}
-use Rattle.gg_flattened.specs.IsFlat.{IsFlat}
-use Rattle.gg_tree.specs.IsTreeOf.{IsTreeOf}
+use Rattle.gg_elab_sites.specs.IsFlat.{IsFlat}
+use Rattle.gg_elab_tree.specs.IsTreeOf.{IsTreeOf}
 use Rattle.gg_front.proofs.TreeLemmas.{tree-same}
 use Rattle.gg_front.proofs.laws.one_meaning.Goals as goal
 

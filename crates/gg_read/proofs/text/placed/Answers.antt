@@ -1,4 +1,4 @@
-use Rattle.gg_row.specs.LineRows.{row_of}
+use Rattle.gg_read_row.specs.LineRows.{row_of}
 use Rattle.gg_read.specs.Stages.{line_of}
 use Rattle.gg_read.proofs.TextSteps.{placed_held}
 use Rattle.gg_read.proofs.text.placed.Goals as goal

@@ -1,7 +1,7 @@
 use Rattle.std.proofs.Common.{◌≡◌, List, false, subst}
 use Rattle.std.specs.Prelude.{is_some}
 use Rattle.gg_lex.specs.declared.token.Tok.{Tok}
-use Rattle.gg_row.specs.LineRows.{TellsRow}
+use Rattle.gg_read_row.specs.LineRows.{TellsRow}
 use Rattle.gg_read.specs.Stages.{line_of}
 use Rattle.gg_read.specs.Text.{LineTokens, IsTooDeep}
 use Rattle.gg_read.proofs.TextSteps.{none_there, row_found}

@@ -1,6 +1,6 @@
 use Rattle.std.proofs.Common.{◌++◌, Err, refl}
-use Rattle.gg_demo.specs.SummaryText.{fold_line, last_line, network_line, size_line}
-use Rattle.gg_told.proofs.EndingLemmas.{exit-is}
+use Rattle.gg_demo_text.specs.SummaryText.{fold_line, last_line, network_line, size_line}
+use Rattle.gg_command.proofs.EndingLemmas.{exit-is}
 use Rattle.gg_run.proofs.LineLemmas.{Stands, prints-next, stands-more, stops-so}
 use Rattle.gg_run.proofs.lines.put_summary.Goals as goal
 

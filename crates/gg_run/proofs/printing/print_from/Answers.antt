@@ -1,8 +1,8 @@
 use Rattle.std.proofs.Common.{◌≡◌, ◌-◌, Bool, length, refl, ap, ◌∙◌, arith}
 use Rattle.std.specs.Io.KnownBytes.{append_known}
 use Rattle.gg_bridged.specs.Whole.{plan_circuit}
-use Rattle.gg_told.proofs.EndingLemmas.{exit-is}
-use Rattle.gg_told.proofs.WritingLemmas.{none-front, on-then}
+use Rattle.gg_command.proofs.EndingLemmas.{exit-is}
+use Rattle.gg_command.proofs.WritingLemmas.{none-front, on-then}
 use Rattle.gg_run.specs.Rows.{AreTraysOf}
 use Rattle.gg_run.specs.Printed.{RowForm, plan_stops, rows_since, shown_columns}
 use Rattle.gg_run.proofs.PrintLemmas.{header-stop, sink-went, stop-as}

@@ -1,15 +1,15 @@
 use Rattle.std.proofs.Common.{◌≡◌, ◌-◌, refl, sym, ap, ◌∙◌, subst, arith}
 use Rattle.std.proofs.lemmas.Result.{IfOk-weaker}
-use Rattle.gg_cut.proofs.KnownLemmas.{parents-before}
+use Rattle.gg_cut_plan.proofs.KnownLemmas.{parents-before}
 use Rattle.gg_flat_tree.specs.Clocked.{AreParentsBefore}
 use Rattle.gg_build.specs.Build.{run_from_zeros, run_token}
-use Rattle.gg_cut.specs.Seated.{first_kept_tray, plan_bridges}
+use Rattle.gg_cut_plan.specs.Seated.{first_kept_tray, plan_bridges}
 use Rattle.gg_order.specs.Design.{Ordered}
-use Rattle.gg_pipe.specs.Follows.{plan_start}
+use Rattle.gg_cut_reference.specs.Follows.{plan_start}
 use Rattle.gg_bridged.specs.Whole.{plan_circuit}
-use Rattle.gg_told.specs.Endings.{PrintsOn}
-use Rattle.gg_told.proofs.EndingLemmas.{exit-is}
-use Rattle.gg_told.proofs.WritingLemmas.{none-front}
+use Rattle.gg_command.specs.Endings.{PrintsOn}
+use Rattle.gg_command.proofs.EndingLemmas.{exit-is}
+use Rattle.gg_command.proofs.WritingLemmas.{none-front}
 use Rattle.gg_run.specs.Printed.{RowsAreKept, out_columns, plan_stops}
 use Rattle.gg_run.proofs.OpeningLemmas.{from-zeros}
 use Rattle.gg_run.proofs.OutputLemmas.{opening-is-net, outs-few, trays-told}

@@ -1,5 +1,5 @@
 use Rattle.std.proofs.Common.{◌≡◌, ◌<◌, ◌≤◌, Ok, false, length, refl, sym, ap, ◌∙◌, subst, arith}
-use Rattle.gg_told.proofs.EndingLemmas.{exit-is}
+use Rattle.gg_command.proofs.EndingLemmas.{exit-is}
 use Rattle.gg_run.specs.Taken.{answer_of}
 use Rattle.gg_run.specs.Window.{window_end}
 use Rattle.gg_run.proofs.FrameLemmas.{same-end, same-machines}

@@ -1,5 +1,5 @@
 use Rattle.std.proofs.Common.{◌≡◌, false, length, subst, arith}
-use Rattle.gg_told.proofs.EndingLemmas.{exit-is}
+use Rattle.gg_command.proofs.EndingLemmas.{exit-is}
 use Rattle.gg_run.proofs.RunLemmas.{taken-all, taken-fails, taken-last, taken-next, taken-start}
 use Rattle.gg_run.proofs.TakenLemmas.{went-more, went-on-so}
 use Rattle.gg_run.proofs.run.take_window.Goals as goal

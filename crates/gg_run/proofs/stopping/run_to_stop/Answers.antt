@@ -1,7 +1,7 @@
 use Rattle.std.proofs.Common.{length, refl, ap, arith}
 use Rattle.gg_build.specs.Build.{run_from_zeros}
-use Rattle.gg_pipe.specs.Follows.{plan_start}
-use Rattle.gg_told.proofs.EndingLemmas.{exit-is}
+use Rattle.gg_cut_reference.specs.Follows.{plan_start}
+use Rattle.gg_command.proofs.EndingLemmas.{exit-is}
 use Rattle.gg_run.specs.Rows.{AreTraysOf}
 use Rattle.gg_run.proofs.OpeningLemmas.{from-zeros}
 use Rattle.gg_run.proofs.StopLemmas.{stops-for-memory}

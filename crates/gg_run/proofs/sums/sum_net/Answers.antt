@@ -1,6 +1,6 @@
 use Rattle.std.proofs.Common.{◌≤◌, ◌≡◌, ◌-◌, length, refl, ap, arith}
 use Rattle.gg_build.specs.Build.{run_from_zeros, run_token}
-use Rattle.gg_pipe.specs.Follows.{plan_start}
+use Rattle.gg_cut_reference.specs.Follows.{plan_start}
 use Rattle.gg_bridged.specs.Whole.{plan_circuit}
 use Rattle.gg_run.specs.Rows.{AreTraysOf}
 use Rattle.gg_run.proofs.FoldLemmas.{took-folds}

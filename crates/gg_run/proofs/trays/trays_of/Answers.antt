@@ -2,7 +2,7 @@ use Rattle.std.proofs.Common.{List, ap, ◌∙◌, arith}
 use Rattle.std.proofs.lemmas.List.{length-drop, take_all}
 use Rattle.std.specs.Prelude.{drop}
 use Rattle.std.specs.List.{prefix_len}
-use Rattle.gg_cut.specs.declared.plan.Machine.{Machine}
+use Rattle.gg_cut_plan.specs.declared.plan.Machine.{Machine}
 use Rattle.gg_run.specs.Trays.{is_inner, is_tray}
 use Rattle.gg_run.proofs.CountLemmas.{inner-count, tray-count}
 use Rattle.gg_run.proofs.trays.trays_of.Goals as goal

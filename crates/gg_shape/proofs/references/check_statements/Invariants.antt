@@ -1,6 +1,6 @@
 use Rattle.std.proofs.Common.{◌≡◌, length, take}
-use Rattle.gg_names.specs.Namespace.{names_after}
-use Rattle.gg_names.proofs.AlongLemmas.{left}
+use Rattle.gg_shape_names.specs.Namespace.{names_after}
+use Rattle.gg_shape_names.proofs.AlongLemmas.{left}
 use Rattle.gg_shape.specs.Faults.{along}
 use Rattle.gg_shape.specs.Shape.{unknown_by}
 use Rattle.gg_shape.specs.Told.{module_of}

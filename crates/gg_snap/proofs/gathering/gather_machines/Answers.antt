@@ -1,7 +1,7 @@
 use Rattle.std.proofs.Common.{◌≡◌, ◌<◌, get_or, length, sym, ap, ◌∙◌, subst, arith}
 use Rattle.gg_flat.specs.State.{State}
-use Rattle.gg_cut.specs.declared.plan.Machine as planned
-use Rattle.gg_cut.specs.declared.plan.Plan.{Plan}
+use Rattle.gg_cut_plan.specs.declared.plan.Machine as planned
+use Rattle.gg_cut_plan.specs.declared.plan.Plan.{Plan}
 use Rattle.gg_node.specs.Machine.{machine_at}
 use Rattle.gg_snap_text.specs.Parts.{HasPart}
 use Rattle.gg_snap.specs.Gathered.{AreDone, AreIn, HoldsBody, held_by, kept_by}

@@ -1,5 +1,5 @@
-use Rattle.gg_pipe.specs.Made.{plan_reference}
-use Rattle.gg_pipe.proofs.PlanLemmas.{plan-made}
+use Rattle.gg_cut_reference.specs.Made.{plan_reference}
+use Rattle.gg_cut_reference.proofs.PlanLemmas.{plan-made}
 use Rattle.gg_snap.proofs.SaveLemmas.{can-save}
 use Rattle.gg_snap.proofs.laws.plans_can_save.Goals as goal
 

@@ -2,7 +2,7 @@ use Rattle.std.proofs.Common.{◌≡◌, ◌<◌, List, length, Some, sym, ap, �
 use Rattle.std.specs.Prelude.{All}
 use Rattle.gg_flat.specs.Circuit.{FlatCircuit}
 use Rattle.gg_flat.specs.State.{State}
-use Rattle.gg_cut.specs.declared.plan.Channel.{Channel}
+use Rattle.gg_cut_plan.specs.declared.plan.Channel.{Channel}
 use Rattle.gg_build.specs.declared.begin.Begin.{Begin}
 use Rattle.gg_snap.proofs.BeginLemmas.{begins, none-owed, registers-there, signals-there, to-begin, tokens-by}
 use Rattle.gg_snap.proofs.snaps.restore.Goals as goal

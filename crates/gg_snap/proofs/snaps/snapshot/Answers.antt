@@ -3,7 +3,7 @@ use Rattle.std.specs.Prelude.{All}
 use Rattle.std.proofs.lemmas.List.{length-map}
 use Rattle.gg_flat.specs.Circuit.{FlatCircuit}
 use Rattle.gg_flat.specs.State.{IsState}
-use Rattle.gg_cut.specs.declared.plan.Channel.{Channel}
+use Rattle.gg_cut_plan.specs.declared.plan.Channel.{Channel}
 use Rattle.gg_net.specs.Network.{kind_of}
 use Rattle.gg_snap.specs.Gathered.{AreIn, IsAll}
 use Rattle.gg_snap.specs.Whole.{last_state}

@@ -1,7 +1,7 @@
 use Rattle.std.proofs.Common.{◌≡◌, sym, ap, subst, ◌∙◌, rules}
 use Rattle.gg_ast.specs.Tree.{ModuleTree}
-use Rattle.gg_names.specs.Modules.{module_at}
-use Rattle.gg_names.specs.Namespace.{names_in}
+use Rattle.gg_shape_names.specs.Modules.{module_at}
+use Rattle.gg_shape_names.specs.Namespace.{names_in}
 use Rattle.gg_shape.specs.Faults.{Refuses}
 use Rattle.gg_types.specs.Clocks.{leads_to_input}
 use Rattle.gg_types_rules.specs.Known.{names_seen}

@@ -1,5 +1,5 @@
 use Rattle.std.proofs.Common.{◌≡◌, map, flat_map, OnOk, ap, subst, ◌∙◌}
-use Rattle.gg_names.specs.Along.{along}
+use Rattle.gg_shape_names.specs.Along.{along}
 use Rattle.gg_shape.specs.Faults.{Answers}
 use Rattle.gg_shape.proofs.FlatLemmas.{decided_next}
 use Rattle.gg_types_rules.specs.Known.{roles_seen, traced_seen, owned_seen}

@@ -1,6 +1,6 @@
 use Rattle.std.proofs.Common.{length, map}
 use Rattle.gg_net.specs.Network.{wire_at}
-use Rattle.gg_seats.specs.SeatLists.{AreLeft}
+use Rattle.gg_workers_pass.specs.SeatLists.{AreLeft}
 use Rattle.gg_workers.specs.HostSeats.{IsEmptyFor, IsFilledFor, HasPlaces, EachMachine}
 use Rattle.gg_workers.proofs.fill.fill_all.Given as goal
 

@@ -2,8 +2,8 @@ use Rattle.std.proofs.Common.{List, map, [], sym, subst, ◌∙◌}
 use Rattle.gg_net.specs.declared.shape.Station.{Station}
 use Rattle.gg_net.specs.Network.{Network}
 use Rattle.gg_net.specs.Stations.{machines_by}
-use Rattle.gg_seats.specs.Seats.{Linked}
-use Rattle.gg_seats.proofs.NetLemmas.{same-net}
+use Rattle.gg_workers_pass.specs.Seats.{Linked}
+use Rattle.gg_workers_pass.proofs.NetLemmas.{same-net}
 use Rattle.gg_workers.proofs.links.open_links.Goals as goal
 
 pub returns-in-Err-clause-refused : goal.returns-in-Err-clause-refused

@@ -1,8 +1,8 @@
 use Rattle.std.proofs.Common.{ap, ◌∙◌, refl, subst}
-use Rattle.gg_cut.specs.Bridges.{Models}
-use Rattle.gg_told.specs.Ends.{loads_of, puts_of}
-use Rattle.gg_told.specs.Endings.{said_by}
-use Rattle.gg_told.proofs.EndingLemmas.{exit-is}
+use Rattle.gg_cut_plan.specs.Bridges.{Models}
+use Rattle.gg_command.specs.Ends.{loads_of, puts_of}
+use Rattle.gg_command.specs.Endings.{said_by}
+use Rattle.gg_command.proofs.EndingLemmas.{exit-is}
 use Rattle.golden_case.specs.Bridges.{models_in}
 use Rattle.golden_case.specs.Network.{RanNetwork}
 use Rattle.golden_case.specs.Outcome.{CallEnded}

@@ -1,6 +1,6 @@
 use Rattle.std.proofs.Common.{subst}
-use Rattle.gg_cut.specs.Bridges.{Models}
-use Rattle.gg_told.specs.Ends.{loads_of, puts_of}
+use Rattle.gg_cut_plan.specs.Bridges.{Models}
+use Rattle.gg_command.specs.Ends.{loads_of, puts_of}
 use Rattle.gg_words.specs.Meaning.{texts}
 use Rattle.golden_case.specs.Promised.{Promised}
 use Rattle.golden_case.proofs.HandedLemmas.{none-can, none-models}

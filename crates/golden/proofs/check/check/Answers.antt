@@ -1,7 +1,7 @@
 use Rattle.std.proofs.Common.{refl}
-use Rattle.gg_told.specs.Ends.{loads_of}
-use Rattle.gg_told.specs.Order.{Write}
-use Rattle.gg_told.proofs.EndingLemmas.{IfRefused-map, exit-is, loads-on, only-ends, stopped-ends}
+use Rattle.gg_command.specs.Ends.{loads_of}
+use Rattle.gg_command.specs.Order.{Write}
+use Rattle.gg_command.proofs.EndingLemmas.{IfRefused-map, exit-is, loads-on, only-ends, stopped-ends}
 use Rattle.golden_case.specs.Check.{IsCutTextOf}
 use Rattle.golden_case.specs.Commands.{asking}
 use Rattle.golden_case.specs.Partition.{to_run}

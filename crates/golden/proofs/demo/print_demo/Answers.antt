@@ -1,10 +1,10 @@
 use Rattle.std.proofs.Common.{[], refl, arith}
 use Rattle.golden_case.specs.Partition.{to_run}
-use Rattle.gg_demo.specs.CircuitText.{demo_circuit}
-use Rattle.gg_demo.specs.PartitionText.{demo_partition}
-use Rattle.gg_demo.specs.TraceText.{demo_trace}
-use Rattle.gg_told.specs.Endings.{PrintsText, Wants}
-use Rattle.gg_told.proofs.EndingLemmas.{exit-is}
+use Rattle.gg_demo_text.specs.CircuitText.{demo_circuit}
+use Rattle.gg_demo_text.specs.PartitionText.{demo_partition}
+use Rattle.gg_demo_text.specs.TraceText.{demo_trace}
+use Rattle.gg_command.specs.Endings.{PrintsText, Wants}
+use Rattle.gg_command.proofs.EndingLemmas.{exit-is}
 use Rattle.golden_case.specs.Demo.{demo_capacity}
 use Rattle.golden.proofs.DemoLemmas.{demo-none, demo-two, sums-only}
 use Rattle.golden_case.proofs.FedLemmas.{to-replay}

@@ -1,7 +1,7 @@
 use Rattle.std.proofs.Common.{List, ℕ, inl, refl, subst}
-use Rattle.gg_told.specs.Ends.{puts_of}
-use Rattle.gg_told.specs.Endings.{PrintsOrStops}
-use Rattle.gg_told.proofs.EndingLemmas.{IfRefused-map, exit-is, judged-ends, judged-map, stopped-ends}
+use Rattle.gg_command.specs.Ends.{puts_of}
+use Rattle.gg_command.specs.Endings.{PrintsOrStops}
+use Rattle.gg_command.proofs.EndingLemmas.{IfRefused-map, exit-is, judged-ends, judged-map, stopped-ends}
 use Rattle.golden_case.specs.Partition.{to_run}
 use Rattle.golden_case.specs.Stepped.{IsToldText, TellsToldStep}
 use Rattle.golden.proofs.SteppedLemmas.{by-ending, ended-other, load-other, steps-behind, untold-behind}

@@ -1,5 +1,5 @@
 use Rattle.std.proofs.Common.{◌≡◌, ℕ, ◌-◌, refl, sym, ap, ◌∙◌, subst, arith}
-use Rattle.gg_cut.proofs.KnownLemmas.{parents-before}
+use Rattle.gg_cut_plan.proofs.KnownLemmas.{parents-before}
 use Rattle.gg_flat_tree.specs.Clocked.{AreParentsBefore}
 use Rattle.gg_build.specs.Build.{run_token}
 use Rattle.gg_measure.specs.Nets.{AllStandAt}
@@ -10,9 +10,9 @@ use Rattle.gg_run.specs.Printed.{plan_stops, text_since}
 use Rattle.gg_run.proofs.OutputLemmas.{opening-is-net, outs-few, trays-told}
 use Rattle.gg_run.proofs.PrintedLemmas.{stops-are}
 use Rattle.gg_run.proofs.RunLemmas.{opening-stands}
-use Rattle.gg_told.specs.Endings.{PrintsOn}
-use Rattle.gg_told.proofs.EndingLemmas.{exit-is}
-use Rattle.gg_told.proofs.WritingLemmas.{none-front}
+use Rattle.gg_command.specs.Endings.{PrintsOn}
+use Rattle.gg_command.proofs.EndingLemmas.{exit-is}
+use Rattle.gg_command.proofs.WritingLemmas.{none-front}
 use Rattle.golden.proofs.resume.print_since.Goals as goal
 
 pub stop_ratios-requires : goal.stop_ratios-requires

@@ -1,7 +1,7 @@
 use Rattle.std.proofs.Common.{refl}
-use Rattle.gg_told.specs.Ends.{loads_of}
-use Rattle.gg_told.specs.Order.{Load, Write}
-use Rattle.gg_told.proofs.EndingLemmas.{IfRefused-map, exit-is, loads-on, stopped-ends}
+use Rattle.gg_command.specs.Ends.{loads_of}
+use Rattle.gg_command.specs.Order.{Load, Write}
+use Rattle.gg_command.proofs.EndingLemmas.{IfRefused-map, exit-is, loads-on, stopped-ends}
 use Rattle.golden_case.specs.Commands.{asking}
 use Rattle.golden_case.specs.Partition.{to_save}
 use Rattle.golden_case.specs.Resumed.{IsResumedText, snap_file_for}

@@ -2,8 +2,8 @@ use Rattle.std.proofs.Common.{◌≤◌, refl, sym, arith}
 use Rattle.gg_snap_text.specs.Known.{AreKnown, CanSave}
 use Rattle.gg_snap_text.specs.Standing.{IsSnap}
 use Rattle.gg_snap_text.specs.Table.{rows_of}
-use Rattle.gg_told.specs.Endings.{PrintsText, Stops, Wants}
-use Rattle.gg_told.proofs.EndingLemmas.{IfRefused-map, exit-is}
+use Rattle.gg_command.specs.Endings.{PrintsText, Stops, Wants}
+use Rattle.gg_command.proofs.EndingLemmas.{IfRefused-map, exit-is}
 use Rattle.golden_case.specs.Partition.{to_save}
 use Rattle.golden_case.proofs.CaseLemmas.{case-can-save, of-made}
 use Rattle.golden_case.proofs.PartitionLemmas.{designs-agree}

@@ -1,5 +1,5 @@
 use Rattle.std.proofs.Common.{inl, refl}
-use Rattle.gg_told.proofs.EndingLemmas.{IfRefused-map, exit-is, judged-ends, stopped-ends}
+use Rattle.gg_command.proofs.EndingLemmas.{IfRefused-map, exit-is, judged-ends, stopped-ends}
 use Rattle.golden_case.specs.Partition.{to_save}
 use Rattle.golden_case.specs.Resumed.{IsResumedText, snap_file_for}
 use Rattle.golden.proofs.resume.resume_fed.Goals as goal

@@ -1,5 +1,5 @@
 use Rattle.std.proofs.Common.{ℕ, ◌<◌, ap, ◌∙◌, subst, arith}
-use Rattle.gg_told.proofs.EndingLemmas.{IfRefused-map}
+use Rattle.gg_command.proofs.EndingLemmas.{IfRefused-map}
 use Rattle.golden_case.specs.Lines.{few_rows}
 use Rattle.golden.proofs.resume.within.Goals as goal
 

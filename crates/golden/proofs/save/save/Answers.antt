@@ -1,6 +1,6 @@
 use Rattle.std.proofs.Common.{refl}
-use Rattle.gg_told.specs.Ends.{loads_of}
-use Rattle.gg_told.proofs.EndingLemmas.{IfRefused-map, exit-is, stopped-ends}
+use Rattle.gg_command.specs.Ends.{loads_of}
+use Rattle.gg_command.proofs.EndingLemmas.{IfRefused-map, exit-is, stopped-ends}
 use Rattle.golden_case.specs.Commands.{asking}
 use Rattle.golden.proofs.UptoLemmas.{saved-ends, saved-stops}
 use Rattle.golden.proofs.save.save.Goals as goal

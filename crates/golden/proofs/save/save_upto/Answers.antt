@@ -1,6 +1,6 @@
 use Rattle.std.proofs.Common.{List, ℕ, refl, ◌∙◌, subst}
-use Rattle.gg_told.specs.Endings.{PrintsOn, PrintsText, Stops}
-use Rattle.gg_told.proofs.EndingLemmas.{IfRefused-map, exit-is}
+use Rattle.gg_command.specs.Endings.{PrintsOn, PrintsText, Stops}
+use Rattle.gg_command.proofs.EndingLemmas.{IfRefused-map, exit-is}
 use Rattle.golden_case.proofs.PartitionLemmas.{designs-agree}
 use Rattle.golden.proofs.UptoLemmas.{upto-case, upto-gives}
 use Rattle.golden.proofs.save.save_upto.Goals as goal

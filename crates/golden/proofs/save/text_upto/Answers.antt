@@ -1,5 +1,5 @@
 use Rattle.std.proofs.Common.{subst}
-use Rattle.gg_told.proofs.EndingLemmas.{IfRefused-map, exit-is}
+use Rattle.gg_command.proofs.EndingLemmas.{IfRefused-map, exit-is}
 use Rattle.golden_case.specs.Runs.{FindsStop, Halted, Short}
 use Rattle.golden.proofs.UptoLemmas.{wants-so}
 use Rattle.golden.proofs.save.text_upto.Goals as goal

@@ -1,7 +1,7 @@
 use Rattle.std.proofs.Common.{inl}
-use Rattle.gg_told.specs.Order.{Load, Write}
+use Rattle.gg_command.specs.Order.{Load, Write}
 use Rattle.golden_case.specs.Partition.{partition_file_for}
-use Rattle.gg_told.proofs.EndingLemmas.{can-before, later-stops, loads-on, exit-is, IfRefused-map}
+use Rattle.gg_command.proofs.EndingLemmas.{can-before, later-stops, loads-on, exit-is, IfRefused-map}
 use Rattle.golden_case.proofs.PartitionLemmas.{partition-can, partition-refused}
 use Rattle.golden_case.proofs.case.read_case.Goals as goal
 

@@ -1,9 +1,9 @@
 use Rattle.std.proofs.Common.{inl, arith}
 use Rattle.golden_case.specs.Commands.{asking}
-use Rattle.gg_told.specs.Ends.{loads_of}
-use Rattle.gg_told.specs.Order.{Load, Write}
+use Rattle.gg_command.specs.Ends.{loads_of}
+use Rattle.gg_command.specs.Order.{Load, Write}
 use Rattle.golden_case.specs.Run.{trace_file_for}
-use Rattle.gg_told.proofs.EndingLemmas.{can-before, loads-on, exit-is, IfRefused-map}
+use Rattle.gg_command.proofs.EndingLemmas.{can-before, loads-on, exit-is, IfRefused-map}
 use Rattle.golden_case.proofs.CaseLemmas.{case-can, case-later, case-stops}
 use Rattle.golden_case.proofs.ReadingLemmas.{trace-can, trace-refused}
 use Rattle.golden_case.proofs.WholePortLemmas.{fed-columns}

@@ -1,5 +1,5 @@
 use Rattle.std.proofs.Common.{sym, arith}
-use Rattle.gg_told.proofs.EndingLemmas.{exit-is}
+use Rattle.gg_command.proofs.EndingLemmas.{exit-is}
 use Rattle.golden_case.proofs.LineLemmas.{lines-stop}
 use Rattle.golden_case.proofs.checking.print_machines.Goals as goal
 

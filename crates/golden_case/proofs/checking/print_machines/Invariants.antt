@@ -1,5 +1,5 @@
 use Rattle.golden_case.proofs.LineLemmas.{LinesTo}
-use Rattle.gg_check.specs.PlanText.{line_of_machine}
+use Rattle.gg_cut_text.specs.PlanText.{line_of_machine}
 use Rattle.golden_case.proofs.checking.print_machines.Given as goal
 
 abbrev pub invariant-loop-machine : goal.invariant-loop-machine

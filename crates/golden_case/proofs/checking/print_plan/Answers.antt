@@ -1,6 +1,6 @@
-use Rattle.gg_told.proofs.EndingLemmas.{exit-is}
+use Rattle.gg_command.proofs.EndingLemmas.{exit-is}
 use Rattle.golden_case.proofs.LineLemmas.{plan-first}
-use Rattle.gg_told.proofs.WritingLemmas.{prints-then}
+use Rattle.gg_command.proofs.WritingLemmas.{prints-then}
 use Rattle.golden_case.proofs.checking.print_plan.Goals as goal
 
 pub returns-in_err-print_machines-clause-prints : goal.returns-in_err-print_machines-clause-prints

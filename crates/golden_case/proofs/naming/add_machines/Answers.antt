@@ -1,5 +1,5 @@
 use Rattle.std.proofs.Common.{sym, ap, ◌∙◌}
-use Rattle.gg_cut.specs.declared.plan.Machine.{Machine}
+use Rattle.gg_cut_plan.specs.declared.plan.Machine.{Machine}
 use Rattle.golden_case.specs.Replay.{port_names}
 use Rattle.golden_case.proofs.NamingLemmas.{named-more}
 use Rattle.golden_case.proofs.naming.add_machines.Goals as goal

@@ -1,5 +1,5 @@
 use Rattle.std.proofs.Common.{ap, ◌∙◌}
-use Rattle.gg_steps.specs.Cause.{cause_text}
+use Rattle.gg_replay_steps.specs.Cause.{cause_text}
 use Rattle.golden_case.proofs.NetLemmas.{made-said, step-line}
 use Rattle.golden_case.proofs.network.end_at_step.Goals as goal
 

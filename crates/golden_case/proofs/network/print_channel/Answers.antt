@@ -1,9 +1,9 @@
 use Rattle.std.proofs.Common.{List, ℕ, refl, ap, ◌∙◌, subst}
-use Rattle.gg_cut.specs.declared.plan.Channel.{Channel}
-use Rattle.gg_told.specs.Endings.{PrintsOn}
-use Rattle.gg_told.proofs.EndingLemmas.{exit-is}
+use Rattle.gg_cut_plan.specs.declared.plan.Channel.{Channel}
+use Rattle.gg_command.specs.Endings.{PrintsOn}
+use Rattle.gg_command.proofs.EndingLemmas.{exit-is}
 use Rattle.golden_case.proofs.NetLemmas.{line-of}
-use Rattle.gg_told.proofs.WritingLemmas.{none-front}
+use Rattle.gg_command.proofs.WritingLemmas.{none-front}
 use Rattle.golden_case.proofs.network.print_channel.Goals as goal
 
 pub returns-in_err-line-clause-prints : goal.returns-in_err-line-clause-prints

@@ -1,7 +1,7 @@
 use Rattle.std.proofs.Common.{◌<◌, length, arith, ap, ◌∙◌}
 use Rattle.std.specs.Io.KnownBytes.{append_known}
 use Rattle.golden_case.specs.Replayed.{net_line}
-use Rattle.gg_told.proofs.EndingLemmas.{exit-is}
+use Rattle.gg_command.proofs.EndingLemmas.{exit-is}
 use Rattle.golden_case.proofs.LineLemmas.{lines-next, lines-stop}
 use Rattle.golden_case.proofs.NetLemmas.{at-range, in-range, whole-range}
 use Rattle.golden_case.proofs.network.print_net.Goals as goal

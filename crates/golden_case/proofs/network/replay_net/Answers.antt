@@ -2,7 +2,7 @@ use Rattle.std.proofs.Common.{refl, ap, ◌∙◌, subst}
 use Rattle.gg_replay.specs.Log.{opening_log}
 use Rattle.gg_replay.specs.Stopping.{IsStop}
 use Rattle.gg_replay.specs.declared.fault.ReplayFault.{ReplayFault}
-use Rattle.gg_told.specs.Endings.{PrintsText}
+use Rattle.gg_command.specs.Endings.{PrintsText}
 use Rattle.golden_case.proofs.NetLemmas.{opening-right, wires-stay, net-goes, net-stopped, told-so}
 use Rattle.golden_case.proofs.network.replay_net.Goals as goal
 

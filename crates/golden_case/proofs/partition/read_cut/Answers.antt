@@ -1,11 +1,11 @@
 use Rattle.std.proofs.Common.{ℕ, List, inr, subst, sym}
 use Rattle.std.proofs.lemmas.Result.{IfErr-weaker, IfOk-weaker}
-use Rattle.gg_cut.specs.Plan.{IsPlan}
+use Rattle.gg_cut_plan.specs.Plan.{IsPlan}
 use Rattle.gg_partfile.specs.Partition.{IsPartition}
 use Rattle.gg_partfile.specs.declared.request.Request.{Request}
 use Rattle.golden_case.specs.Partition.{Known}
 use Rattle.golden_case.specs.declared.partition.Cut.{Cut}
-use Rattle.gg_told.proofs.EndingLemmas.{exit-is, IfRefused-map}
+use Rattle.gg_command.proofs.EndingLemmas.{exit-is, IfRefused-map}
 use Rattle.golden_case.proofs.PartitionLemmas.{allowed-refused, cuts-allowed, file-refused, request-refused}
 use Rattle.golden_case.proofs.partition.read_cut.Goals as goal
 

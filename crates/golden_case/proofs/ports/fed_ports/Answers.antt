@@ -1,6 +1,6 @@
 use Rattle.std.proofs.Common.{◌<◌, length, sym, ◌∙◌, subst}
 use Rattle.std.specs.Prelude.{All}
-use Rattle.gg_cut.proofs.BridgeLemmas.{known-ins}
+use Rattle.gg_cut_plan.proofs.BridgeLemmas.{known-ins}
 use Rattle.golden_case.proofs.OpenLemmas.{all-open, fed-made}
 use Rattle.golden_case.proofs.ports.fed_ports.Goals as goal
 

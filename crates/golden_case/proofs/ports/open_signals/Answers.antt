@@ -1,6 +1,6 @@
 use Rattle.std.proofs.Common.{arith}
 use Rattle.std.specs.Prelude.{not}
-use Rattle.gg_cut.specs.Listed.{is_among}
+use Rattle.gg_cut_plan.specs.Listed.{is_among}
 use Rattle.gg_flat_tree.specs.Tree.{path_at}
 use Rattle.golden_case.proofs.OpenLemmas.{filter-more}
 use Rattle.golden_case.proofs.ports.open_signals.Goals as goal

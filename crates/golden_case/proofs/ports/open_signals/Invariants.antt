@@ -1,6 +1,6 @@
 use Rattle.std.proofs.Common.{◌≡◌, take}
 use Rattle.std.specs.Prelude.{filter, not}
-use Rattle.gg_cut.specs.Listed.{is_among}
+use Rattle.gg_cut_plan.specs.Listed.{is_among}
 use Rattle.gg_flat_tree.specs.Tree.{path_at}
 use Rattle.golden_case.proofs.ports.open_signals.Given as goal
 

@@ -4,9 +4,9 @@ use Rattle.gg_run.specs.Printed.{PrintsRow, RowForm, rows_to, shown_columns}
 use Rattle.gg_run.specs.Rows.{outputs_in}
 use Rattle.gg_run.specs.Taken.{Took}
 use Rattle.gg_run.proofs.PrintLemmas.{header-stop, stop-as, text-whole, took-text}
-use Rattle.gg_told.specs.Endings.{PrintsOn}
-use Rattle.gg_told.proofs.EndingLemmas.{exit-is}
-use Rattle.gg_told.proofs.WritingLemmas.{none-front}
+use Rattle.gg_command.specs.Endings.{PrintsOn}
+use Rattle.gg_command.proofs.EndingLemmas.{exit-is}
+use Rattle.gg_command.proofs.WritingLemmas.{none-front}
 use Rattle.golden_case.proofs.printing.print_all.Goals as goal
 
 pub returns-in_err-outs-clause-prints : goal.returns-in_err-outs-clause-prints

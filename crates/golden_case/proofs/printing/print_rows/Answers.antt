@@ -1,7 +1,7 @@
 use Rattle.std.proofs.Common.{◌≡◌, ◌<◌, ℕ, List, sym, subst, arith}
 use Rattle.gg_flat.specs.Circuit.{FlatCircuit}
 use Rattle.gg_flat.specs.Settled.{IsInputs}
-use Rattle.gg_told.proofs.EndingLemmas.{exit-is}
+use Rattle.gg_command.proofs.EndingLemmas.{exit-is}
 use Rattle.golden_case.proofs.PrintingLemmas.{simulated-all, simulated-fails, simulated-last, simulated-next}
 use Rattle.golden_case.proofs.printing.print_rows.Goals as goal
 

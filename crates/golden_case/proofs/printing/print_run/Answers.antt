@@ -1,12 +1,12 @@
 use Rattle.std.proofs.Common.{List, ℕ, refl, sym, ◌∙◌, subst}
 use Rattle.gg_flat.specs.Clock.{Ratio}
 use Rattle.gg_flat_tree.specs.Clocked.{AreParentsBefore}
-use Rattle.gg_cut.proofs.KnownLemmas.{parents-before}
+use Rattle.gg_cut_plan.proofs.KnownLemmas.{parents-before}
 use Rattle.gg_bridged.specs.Whole.{plan_circuit}
 use Rattle.gg_run.specs.Printed.{text_of}
-use Rattle.gg_told.specs.Endings.{PrintsOn}
-use Rattle.gg_told.proofs.EndingLemmas.{exit-is}
-use Rattle.gg_told.proofs.WritingLemmas.{none-front}
+use Rattle.gg_command.specs.Endings.{PrintsOn}
+use Rattle.gg_command.proofs.EndingLemmas.{exit-is}
+use Rattle.gg_command.proofs.WritingLemmas.{none-front}
 use Rattle.golden_case.specs.Partition.{to_run}
 use Rattle.golden_case.specs.RunText.{IsRunBy}
 use Rattle.golden_case.proofs.FedLemmas.{fed-ports, fed-prints, fed-stops, own-run}

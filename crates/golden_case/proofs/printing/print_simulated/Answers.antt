@@ -4,8 +4,8 @@ use Rattle.gg_flat.specs.Run.{IsRunFrom, clocked_start}
 use Rattle.gg_flat.proofs.StateLemmas.{IsState-opening}
 use Rattle.gg_run.specs.Printed.{text_of}
 use Rattle.gg_refsim.specs.Cycle.{Simulation}
-use Rattle.gg_told.specs.Endings.{PrintsOn}
-use Rattle.gg_told.proofs.WritingLemmas.{none-front}
+use Rattle.gg_command.specs.Endings.{PrintsOn}
+use Rattle.gg_command.proofs.WritingLemmas.{none-front}
 use Rattle.golden_case.proofs.printing.print_simulated.Goals as goal
 
 pub returns-in-Err-clause-prints : goal.returns-in-Err-clause-prints

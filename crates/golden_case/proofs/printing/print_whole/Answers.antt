@@ -1,13 +1,13 @@
 use Rattle.std.proofs.Common.{◌≡◌, List, ℕ, ◌≤◌, length, refl, sym, ◌∙◌, subst}
-use Rattle.gg_cut.specs.Clocks.{ratios_of}
+use Rattle.gg_cut_plan.specs.Clocks.{ratios_of}
 use Rattle.gg_flat.specs.Circuit.{FlatCircuit}
 use Rattle.gg_flat.specs.Clock.{Ratio}
 use Rattle.gg_flat.specs.Run.{IsColumns, IsRunFrom, clocked_start}
 use Rattle.gg_bridged.specs.Whole.{plan_circuit}
 use Rattle.gg_run.specs.Printed.{text_of}
-use Rattle.gg_told.specs.Endings.{PrintsOn}
-use Rattle.gg_told.proofs.EndingLemmas.{exit-is}
-use Rattle.gg_told.proofs.WritingLemmas.{none-front}
+use Rattle.gg_command.specs.Endings.{PrintsOn}
+use Rattle.gg_command.proofs.EndingLemmas.{exit-is}
+use Rattle.gg_command.proofs.WritingLemmas.{none-front}
 use Rattle.golden_case.specs.Partition.{to_run}
 use Rattle.golden_case.proofs.FedLemmas.{own-run}
 use Rattle.golden_case.proofs.printing.print_whole.Goals as goal

@@ -1,4 +1,4 @@
-use Rattle.gg_told.proofs.EndingLemmas.{IfRefused-map}
+use Rattle.gg_command.proofs.EndingLemmas.{IfRefused-map}
 use Rattle.std.proofs.Common.{◌≡◌, List, refl, ap, ◌∙◌, subst, sym}
 use Rattle.gg_flat.specs.Circuit.{FlatCircuit}
 use Rattle.gg_flat.specs.WellFormed.{IsWellFormed}

@@ -1,6 +1,6 @@
 use Rattle.std.proofs.Common.{List, ℕ, inr, subst}
 use Rattle.std.proofs.lemmas.Result.{IfErr-weaker, IfOk-weaker}
-use Rattle.gg_told.proofs.EndingLemmas.{IfRefused-map}
+use Rattle.gg_command.proofs.EndingLemmas.{IfRefused-map}
 use Rattle.golden_case.specs.Run.{TellsTraceOf}
 use Rattle.golden_case.specs.RunText.{FeedsOnly}
 use Rattle.golden_case.proofs.reading.read_inputs.Goals as goal

@@ -1,5 +1,5 @@
 use Rattle.gg_flat.specs.Models.{model_names}
-use Rattle.gg_cut.proofs.PathLemmas.{look-up}
+use Rattle.gg_cut_plan.proofs.PathLemmas.{look-up}
 use Rattle.golden_case.proofs.whole.place_of.Goals as goal
 
 pub returns : goal.returns

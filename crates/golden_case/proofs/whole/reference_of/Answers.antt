@@ -1,9 +1,9 @@
 use Rattle.std.proofs.Common.{ℕ, ◌+◌, ◌^◌, ◌<◌, List, length, arith}
 use Rattle.std.proofs.lemmas.List.{length-map}
-use Rattle.gg_closed.proofs.FaultlessLemmas.{faultless-few}
-use Rattle.gg_cut.specs.Direct.{plan_routes}
-use Rattle.gg_cut.specs.Seated.{plan_bridges, seated_wire}
-use Rattle.gg_piped.specs.CanPipe.{CanPipe}
+use Rattle.gg_cut_laws.proofs.FaultlessLemmas.{faultless-few}
+use Rattle.gg_cut_plan.specs.Direct.{plan_routes}
+use Rattle.gg_cut_plan.specs.Seated.{plan_bridges, seated_wire}
+use Rattle.gg_cut_pipes.specs.CanPipe.{CanPipe}
 use Rattle.golden_case.specs.Case.{IsCase}
 use Rattle.golden_case.specs.Partition.{Known}
 use Rattle.golden_case.specs.declared.case.Case.{Case}

@@ -2,8 +2,8 @@ use Rattle.std.proofs.Common.{refl, subst}
 use Rattle.gg_bridged.specs.Whole.{plan_circuit}
 use Rattle.gg_run.specs.Printed.{out_columns}
 use Rattle.std.proofs.lemmas.Result.{IfOk-weaker}
-use Rattle.gg_told.proofs.EndingLemmas.{exit-is}
-use Rattle.gg_told.proofs.WritingLemmas.{none-front}
+use Rattle.gg_command.proofs.EndingLemmas.{exit-is}
+use Rattle.gg_command.proofs.WritingLemmas.{none-front}
 use Rattle.golden_case.specs.Case.{AreFedToTrays}
 use Rattle.golden_case.specs.Partition.{to_run}
 use Rattle.golden_case.proofs.FedLemmas.{fed-ports, fed-prints, fed-rows, own-run, to-replay}

@@ -1,5 +1,5 @@
 use Rattle.std.proofs.Common.{inl, inr, arith}
-use Rattle.gg_walk.proofs.ListLemmas.{below-more, below-all}
+use Rattle.gg_graph.proofs.ListLemmas.{below-more, below-all}
 use Rattle.text_tests.proofs.walks.first_below.Goals as goal
 
 pub returns-then-targets-i-clause-first : goal.returns-then-targets-i-clause-first

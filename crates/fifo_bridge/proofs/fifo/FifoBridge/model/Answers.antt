@@ -1,5 +1,5 @@
 use Rattle.std.proofs.Common.{subst}
-use Rattle.gg_joined.specs.Model.{IsModel}
+use Rattle.gg_bridge_joined.specs.Model.{IsModel}
 use Rattle.fifo_bridge.specs.Fifo.{Kept, fifo_piece}
 use Rattle.fifo_bridge.proofs.FifoLemmas.{fifo-model}
 use Rattle.fifo_bridge.proofs.fifo.FifoBridge.model.Goals as goal

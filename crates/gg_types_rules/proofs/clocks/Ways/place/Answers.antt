@@ -1,6 +1,6 @@
 use Rattle.std.proofs.Common.{ℕ, List, map, sym, ap, ◌∙◌}
 use Rattle.gg_ast.specs.Places.{place_of}
-use Rattle.gg_names.specs.Modules.{module_at}
+use Rattle.gg_shape_names.specs.Modules.{module_at}
 use Rattle.gg_types.specs.declared.way.Way.{Way}
 use Rattle.gg_types_rules.proofs.WayLemmas.{ways-names, place-there}
 use Rattle.gg_types_rules.proofs.clocks.Ways.place.Goals as goal

@@ -1,5 +1,0 @@
-use Rattle.gg_cut.proofs.ChannelLemmas.{MarkedTo}
-use Rattle.gg_cut.proofs.marks.mark_all.Given as goal
-
-abbrev pub invariant-loop-signal : goal.invariant-loop-signal
-invariant-loop-signal l = MarkedTo l.signals l.signal-index l.initial.marks l.marks

@@ -1,0 +1,131 @@
+//! The plan of a cut, and what its channels need.
+ghost use Rattle.std.specs.Prelude.{◌≡◌, ◌<◌, ◌≤◌, length, All, IfOk, slice_index_or};
+ghost use Rattle.gg_limits.specs.Limits.{capacity_limit};
+ghost use Rattle.gg_cut_plan.specs.declared.plan.Channel.{Channel};
+ghost use Rattle.gg_part_moved.specs.KeepsToTree.{KeepsToTree};
+ghost use Rattle.gg_cut_plan.specs.Clocks.{ratios_of};
+ghost use Rattle.gg_cut_plan.specs.Held.{AreHeldOnce};
+ghost use Rattle.gg_flat.specs.WellFormed.{IsWellFormed};
+ghost use Rattle.gg_cut_plan.specs.Fault.{IsSmall, Tells, first_fault_with};
+ghost use Rattle.gg_cut_plan.specs.Plan.{IsPlan};
+ghost use Rattle.gg_cut_parts.specs.Draft.{IsDraft};
+ghost use Rattle.gg_cut.specs.Drafted.{AreDraftChannels};
+ghost use Rattle.gg_cut_bridges.specs.Seating.{AreDraftSeats, ArePlannedMachines};
+ghost use Rattle.gg_cut.specs.Made.{IsCapacity};
+
+use crate::channels::channels_of;
+use crate::judged::draft_of;
+use crate::machines::machines_of;
+use crate::needs::needs_table;
+use gg_bits::Items;
+use gg_clocks::Ratio;
+use gg_cut_bridges::{Seats, seat_machines, seats_of};
+use gg_cut_parts::Draft;
+use gg_cut_plan::{Channel, CutFault, Machine, Plan, Wire};
+use gg_cut_rules::clock_ratios;
+use gg_flat::Models;
+use gg_order::Design;
+use gg_part::part_formed;
+use gg_partfile::Request;
+use std::alloc::{AllocError, Global};
+
+/// The plan of a design, whose circuit keeps to its tree and has each register held once, and a request. `default_capacity` is the capacity of the channels that the
+/// request doesn't name. Each channel's capacity is from 1 to 4,096. `models` has the models of bridges that are known.
+///
+/// # Errors
+///
+/// Returns the request's first fault (gg_cut_plan's `first_fault_with`), exactly if it has one, or `NoMemory` if an allocation
+/// fails, or if the plan would have 2^32 machines.
+pub fn cut(
+    alloc: Global,
+    design: &Design,
+    request: &Request,
+    default_capacity: u32,
+    models: &Models,
+) -> Result<Plan, CutFault>
+    requires small { IsSmall request.now }
+    requires keeps { KeepsToTree design.now.circuit design.now.tree }
+    requires held { AreHeldOnce design.now.circuit }
+    requires some { 0 < default_capacity }
+    requires bounded { default_capacity ≤ capacity_limit }
+    requires models { All (λ model. IsWellFormed model.1) models.now }
+    ensures told { Tells (first_fault_with design.now models.now request.now) result }
+    ensures plan { IfOk result (λ plan. IsPlan design.now request.now models.now default_capacity plan) }
+    ensures capacities { IfOk result (λ plan. All (λ channel. IsCapacity channel.capacity) plan.channels) }
+{
+    let draft = draft_of(alloc, design, request, default_capacity, models)?;
+    let plan = plan_by(alloc, draft)?;
+    Ok(plan)
+}
+
+// The plan of a draft.
+fn plan_by(alloc: Global, draft: Draft) -> Result<Plan, AllocError>
+    requires { IsDraft draft }
+    ensures plan { IfOk result (λ plan. IsPlan draft.entry.design.now draft.entry.request.now draft.entry.models.now draft.entry.default_capacity plan) }
+    ensures capacities { IfOk result (λ plan. All (λ channel. IsCapacity channel.capacity) plan.channels) }
+{
+    let ratios = ratios_for(alloc, &draft)?;
+    let seats = seats_of(alloc, &draft)?;
+    let machines = machines_for(alloc, &draft, &seats)?;
+    let channels = channels_for(alloc, &draft, &seats, &machines)?;
+    Ok(Plan {
+        machines: Items::from(machines),
+        channels: Items::from(channels),
+        listed: draft.into_listed(),
+        ratios: Items::from(ratios),
+    })
+}
+
+// The ratios of the circuit's clocks.
+fn ratios_for(alloc: Global, draft: &Draft) -> Result<Vec<Ratio>, AllocError>
+    requires { IsDraft draft.now }
+    ensures { IfOk result (λ ratios. ratios.items ≡ ratios_of draft.now.design.now.tree draft.now.request.now) }
+{
+    clock_ratios(alloc, draft.design.tree(), draft.request.clocks.as_slice())
+}
+
+// The machines of the plan: the hub, the units and the listed memories are those of the draft.
+fn machines_for(alloc: Global, draft: &Draft, seats: &Seats) -> Result<Vec<Machine>, AllocError>
+    requires draft { IsDraft draft.now }
+    requires seats { AreDraftSeats draft.now seats.now }
+    ensures { IfOk result (λ machines. ArePlannedMachines draft.now machines.items) }
+{
+    let listed = &draft.listed;
+    // for the invariant alone
+    let _ = draft.design.piece();
+    let mut machines = machines_of(alloc, draft)?;
+    let source = 1 + listed.units.as_slice().len() + listed.memories.as_slice().len();
+    machines.truncate(source);
+    seat_machines(alloc, draft, seats, &mut machines)?;
+    Ok(machines)
+}
+
+// The channels between these machines.
+fn channels_for(
+    alloc: Global,
+    draft: &Draft,
+    seats: &Seats,
+    machines: &[Machine],
+) -> Result<Vec<Channel>, AllocError>
+    requires draft { IsDraft draft.now }
+    requires seats { AreDraftSeats draft.now seats.now }
+    requires machines { ArePlannedMachines draft.now machines.now }
+    ensures { IfOk result (λ channels. AreDraftChannels draft.now machines.now channels.items) }
+{
+    // for the invariant alone
+    let _ = draft.design.piece();
+    part_formed();
+    let wires: &[Wire] = &seats.wires;
+    let mut table = needs_table(alloc, wires, machines)?;
+    let channels = channels_of(alloc, draft, wires, &mut table)?;
+    Ok(channels)
+}
+
+/// The channels that a channel of a plan needs in a cycle, ascending. Its producer has to take a token of each of
+/// them before it gives one.
+pub fn deps(plan: &Plan, channel: u32) -> &[u32]
+    requires { channel < length plan.now.channels }
+    ensures { (any : Channel) → result.now ≡ (slice_index_or plan.now.channels channel any).needs }
+{
+    plan.channels.as_slice()[channel as usize].needs.as_slice()
+}

@@ -1,0 +1,182 @@
+-- A bridge at the ports of a circuit: the machines' numbers, names and channels, and the faults of bridges, worked by hand.
+use Rattle.std.proofs.Common.{◌≡◌, ℕ, List, [], ◌∷◌, Option, Some, None, refl, arith}
+use Rattle.std.specs.Prelude.{codes, map, option_map}
+use Rattle.gg_bits.specs.declared.types.Ty.{Ty}
+use Rattle.gg_flat.specs.declared.piece.Driver.TheVariants.{Input, Held}
+use Rattle.gg_flat.specs.Circuit.{FlatCircuit}
+use Rattle.gg_flat_tree.specs.Tree.{InstanceTree}
+use Rattle.gg_flat.proofs.WorkedCircuits.{eight, nine}
+use Rattle.gg_flat.proofs.WorkedMemories.{signal, copy}
+use Rattle.gg_order.specs.Design.{Ordered}
+use Rattle.gg_partfile.specs.declared.request.BridgeEntry.{BridgeEntry}
+use Rattle.gg_partfile.specs.declared.request.Request.{Request}
+use Rattle.gg_partfile.specs.Request.{no_request}
+use Rattle.gg_cut_plan.specs.Listed.{listed_of}
+use Rattle.gg_cut_plan.specs.Channels.{wire, wires_of}
+use Rattle.gg_cut_plan.specs.Bridges.{Models, bridge_faults}
+use Rattle.gg_cut_plan.specs.Fault.{first_of, fault_text, first_fault_with}
+use Rattle.gg_cut_plan.specs.Plan.{machine_names, cut_names}
+use Rattle.gg_cut_plan.specs.Seated.{Bridges, plan_bridges, plan_wires, seat_of, machine_end, first_kept_tray, first_bridge, open_ins, open_outs, IsKept}
+use Rattle.gg_cut_plan.proofs.WorkedPair.{input, output}
+
+-- ---- machines
+
+-- The inputs `x` and `y`, the output `p`, which is `x`, the output `q`, which is `y`, and a stop `s`.
+abbrev circuit : FlatCircuit
+circuit =
+    record {
+      paths = codes "x" ∷ codes "y" ∷ codes "p" ∷ codes "q" ∷ codes "s" ∷ [];
+      signals = signal eight (Input 0) ∷ signal eight (Input 1) ∷ copy eight 0 ∷ copy eight 1 ∷ copy eight 1 ∷ [];
+      registers = [];
+      memories = [];
+      ins = 0 ∷ 1 ∷ [];
+      outs = 2 ∷ 3 ∷ 4 ∷ [];
+      clocks = 0;
+    }
+
+abbrev tree : InstanceTree
+tree =
+    record {
+      paths = [] ∷ [];
+      instances = record { parent = None; «module» = 0; first = 0; end = 5; ports = input 0 ∷ input 1 ∷ output 2 ∷ output 3 ∷ []; memories = []; clocks = [] } ∷ [];
+      memory_paths = [];
+      memories = [];
+      clocks = [];
+      register_clocks = [];
+      stops = record { instance = 0; signal = 4; clock = None } ∷ [];
+    }
+
+abbrev design : Ordered
+design = record { circuit = circuit; tree = tree; order = 0 ∷ 1 ∷ 2 ∷ 3 ∷ 4 ∷ [] }
+
+abbrev entry : List ℕ → List (List ℕ) → List (List ℕ) → BridgeEntry
+entry name sees drives = record { name = name; sees = sees; drives = drives }
+
+-- a bridge sees `q` and drives `x`
+abbrev asks : Request
+asks = record no_request { bridges = entry (codes "e") (codes "q" ∷ []) (codes "x" ∷ []) ∷ [] }
+
+abbrev bridges : Bridges
+bridges = plan_bridges circuit tree asks
+
+-- without bridges: the hub is machine 0, the sources of `x` and `y` are 1 and 2, the trays of `p`, `q` and `s` 3 to 5
+plain : wires_of circuit tree (listed_of tree asks) ≡ wire 0 1 0 ∷ wire 1 2 0 ∷ wire 2 0 3 ∷ wire 3 0 4 ∷ wire 4 0 5 ∷ []
+plain = refl
+
+plain-names : cut_names design asks (listed_of tree asks) ≡ codes "hub:" ∷ codes "in:x" ∷ codes "in:y" ∷ codes "out:p" ∷ codes "out:q" ∷ codes "halt:s" ∷ []
+plain-names = refl
+
+-- the bridge, which is behind all, takes the place of machines 1 and 4
+seats : map (seat_of bridges) (0 ∷ 1 ∷ 2 ∷ 3 ∷ 4 ∷ 5 ∷ []) ≡ 0 ∷ 4 ∷ 1 ∷ 2 ∷ 4 ∷ 3 ∷ []
+seats = refl
+
+numbers : first_kept_tray bridges ∷ first_bridge bridges ∷ machine_end bridges ∷ [] ≡ 2 ∷ 4 ∷ 5 ∷ []
+numbers = refl
+
+names : machine_names design asks (listed_of tree asks) ≡ codes "hub:" ∷ codes "in:y" ∷ codes "out:p" ∷ codes "halt:s" ∷ codes "bridge:e" ∷ []
+names = refl
+
+wires : plan_wires circuit tree asks ≡ wire 0 4 0 ∷ wire 1 1 0 ∷ wire 2 0 2 ∷ wire 3 0 4 ∷ wire 4 0 3 ∷ []
+wires = refl
+
+open-ins : open_ins circuit asks ≡ 1 ∷ []
+open-ins = refl
+
+open-outs : open_outs circuit 2 asks ≡ 2 ∷ []
+open-outs = refl
+
+-- the source of `y` doesn't keep its number, and that of `x` is no machine of the plan
+moved : ¬ (seat_of bridges 2 ≡ 2)
+moved is = absurd (omega (arith, is))
+
+gone : ¬ IsKept bridges 1
+gone kept = absurd (omega (arith, kept))
+
+-- a stop is no output, so a bridge that lists it doesn't see it
+abbrev sees_stop : Request
+sees_stop = record no_request { bridges = entry (codes "e") (codes "s" ∷ []) [] ∷ [] }
+
+stop-stays : map (seat_of (plan_bridges circuit tree sees_stop)) (3 ∷ 4 ∷ 5 ∷ []) ≡ 3 ∷ 4 ∷ 5 ∷ []
+stop-stays = refl
+
+-- a port that two entries list is the first one's, though such a request has a fault
+abbrev sees_twice : Request
+sees_twice = record no_request { bridges = entry (codes "e") (codes "q" ∷ []) [] ∷ entry (codes "f") (codes "q" ∷ codes "p" ∷ []) [] ∷ [] }
+
+first-sees : map (seat_of (plan_bridges circuit tree sees_twice)) (3 ∷ 4 ∷ 5 ∷ []) ≡ 5 ∷ 4 ∷ 3 ∷ []
+first-sees = refl
+
+-- ---- faults
+
+-- what says what it saw in the cycle before
+abbrev echo : Ty → FlatCircuit
+echo ty =
+    record {
+      paths = codes "in" ∷ codes "out" ∷ [];
+      signals = signal ty (Input 0) ∷ signal ty (Held 0) ∷ [];
+      registers = [];
+      memories = [];
+      ins = 0 ∷ [];
+      outs = 1 ∷ [];
+      clocks = 0;
+    }
+
+abbrev models : Models
+models = (codes "echo8", echo eight) ∷ (codes "echo9", echo nine) ∷ []
+
+abbrev told : List BridgeEntry → Option (List ℕ)
+told entries = option_map fault_text (first_of (bridge_faults circuit 1 models entries))
+
+abbrev of_q : List ℕ → BridgeEntry
+of_q name = entry name (codes "q" ∷ []) (codes "x" ∷ [])
+
+no-fault : told (of_q (codes "echo8") ∷ []) ≡ None
+no-fault = refl
+
+unknown : told (of_q (codes "echo1") ∷ []) ≡ Some (codes "P14 echo1")
+unknown = refl
+
+wrong-drives : told (entry (codes "echo8") (codes "q" ∷ []) (codes "p" ∷ []) ∷ []) ≡ Some (codes "P15 p")
+wrong-drives = refl
+
+unfit : told (of_q (codes "echo9") ∷ []) ≡ Some (codes "P16 echo9")
+unfit = refl
+
+-- as many ports as the model has signals
+too-many : told (entry (codes "echo8") (codes "p" ∷ codes "q" ∷ []) (codes "x" ∷ []) ∷ []) ≡ Some (codes "P16 echo8")
+too-many = refl
+
+-- a stop is no output
+no-stop : told (entry (codes "echo8") (codes "s" ∷ []) (codes "x" ∷ []) ∷ []) ≡ Some (codes "P15 s")
+no-stop = refl
+
+-- the name comes before the ports, what it sees before what it drives, and the ports before their types
+name-first : told (entry (codes "echo1") (codes "x" ∷ []) (codes "p" ∷ []) ∷ []) ≡ Some (codes "P14 echo1")
+name-first = refl
+
+sees-first : told (entry (codes "echo9") (codes "x" ∷ []) (codes "p" ∷ []) ∷ []) ≡ Some (codes "P15 x")
+sees-first = refl
+
+ports-first : told (entry (codes "echo9") (codes "q" ∷ []) (codes "p" ∷ []) ∷ []) ≡ Some (codes "P15 p")
+ports-first = refl
+
+-- what an entry before lists can't be listed again: a name, a port that it sees, and one that it drives
+name-twice : told (of_q (codes "echo8") ∷ entry (codes "echo8") (codes "p" ∷ []) (codes "y" ∷ []) ∷ []) ≡ Some (codes "P14 echo8")
+name-twice = refl
+
+seen-twice : told (of_q (codes "echo8") ∷ entry (codes "echo9") (codes "q" ∷ []) (codes "y" ∷ []) ∷ []) ≡ Some (codes "P15 q")
+seen-twice = refl
+
+driven-twice : told (of_q (codes "echo8") ∷ entry (codes "echo9") (codes "p" ∷ []) (codes "x" ∷ []) ∷ []) ≡ Some (codes "P15 x")
+driven-twice = refl
+
+-- each fault of an entry comes before those of the next
+entry-first : told (of_q (codes "echo9") ∷ of_q (codes "echo1") ∷ []) ≡ Some (codes "P16 echo9")
+entry-first = refl
+
+-- all other faults come before those of bridges
+others-first : option_map fault_text (first_fault_with design models (record no_request { pipe = codes "zz" ∷ []; bridges = of_q (codes "echo1") ∷ [] })) ≡ Some (codes "P10 zz")
+others-first = refl
+
+bridges-last : option_map fault_text (first_fault_with design models (record no_request { pipe = codes "x" ∷ []; bridges = of_q (codes "echo1") ∷ [] })) ≡ Some (codes "P14 echo1")
+bridges-last = refl

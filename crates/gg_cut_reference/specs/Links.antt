@@ -1,0 +1,50 @@
+-- The two ends of a channel in the reference circuit: the signal by which its producer gives the value, and the signal by which
+-- its consumer gets it. They differ where the channel is direct or piped.
+-- Source: MEMOCODE 2009 (channels between the nodes of a dataflow network; tokens that are there at the start).
+use Rattle.std.specs.Prelude.{◌≡◌, ℕ, ◌<◌, ◌+◌, List, Bool, ◌==◌, ◌&&◌, if◌then◌else◌, Option, Some, None, length, filter, find, Contains}
+use Rattle.std.specs.List.{list_any, range_with_len}
+use Rattle.gg_flat.specs.Circuit.{driver_at}
+use Rattle.gg_flat.specs.declared.piece.Driver.TheVariants.{Held}
+use Rattle.gg_cut_plan.specs.declared.wires.Wire.{Wire}
+use Rattle.gg_cut_plan.specs.Listed.{first_place}
+use Rattle.gg_cut_plan.specs.Direct.{Hub, routes}
+use Rattle.gg_cut_reference.specs.Reference.{Views}
+
+-- whether a channel carries signal s
+abbrev pub is_carried : Hub → ℕ → Bool
+is_carried hub s = list_any (λ r. r.signal == s) (routes hub)
+
+-- the signals of the piped channels, by their numbers
+abbrev pub pipes_of : Hub → List ℕ
+pipes_of hub = filter (λ s. hub.piped s && is_carried hub s) (range_with_len 0 (length hub.circuit.signals))
+
+-- the number of the pipe at place k, which stands behind `count` signals; s itself if there is no pipe
+abbrev pub pipe_or : ℕ → ℕ → Option ℕ → ℕ
+pipe_or count s None = s
+pipe_or count s (Some k) = count + k
+
+-- the signal by which the consumer of the channel of signal s gets its value: the pipe's, or s itself
+abbrev pub taken_as : Hub → ℕ → ℕ
+taken_as hub s = pipe_or (length hub.circuit.signals) s (first_place (λ p. p == s) (pipes_of hub))
+
+-- the number by which machine m sees a signal
+abbrev pub seen_by : Hub → ℕ → ℕ → ℕ
+seen_by hub m t = if list_any (λ r. (r.consumer == m) && (r.signal == t)) (routes hub) then taken_as hub t else t
+
+-- the producer of a channel, if there is one
+abbrev pub maker_or : ℕ → Option Wire → ℕ
+maker_or other None = other
+maker_or other (Some w) = w.producer
+
+-- the machine in which a signal's driver stands
+abbrev pub maker_of : Hub → ℕ → ℕ
+maker_of hub s = maker_or (hub.owner s) (find (λ w. w.signal == s) hub.base)
+
+-- who names what, where `holder` has the machine that holds a register and `keeper` the machine of a memory
+abbrev pub views_of : Hub → (ℕ → ℕ) → (ℕ → ℕ) → Views
+views_of hub holder keeper = record { maker = maker_of hub; holder = holder; keeper = keeper; seen = seen_by hub; kept = taken_as hub }
+
+-- each register is held by signals of one machine, and each memory of the part is the machine's
+pub record AreHolders (hub : Hub) (holder keeper : ℕ → ℕ) (m : ℕ) (memories : List ℕ) : Type 0 where
+  pub registers : (s r : ℕ) → s < length hub.circuit.signals → driver_at hub.circuit s ≡ Held r → holder r ≡ maker_of hub s
+  pub kept : (k : ℕ) → Contains memories k → keeper k ≡ m

@@ -1,0 +1,170 @@
+-- Marks on the signals that are no origins, and the channels of a plan by them.
+use Rattle.std.proofs.Common.{◌≡◌, ◌≢◌, ℕ, ◌+◌, ◌<◌, List, [], ◌∷◌, ◌++◌, length, take, set, get_or, slice_get, Bool, true, false, refl, eq-eqb, sym, ◌∙◌, ap, subst, Some, inl, inr, ◌⊎◌}
+use Rattle.std.specs.Prelude.{◌&&◌, ◌==◌, ◌||◌, bytes_eq, Contains, AllPairs}
+use Rattle.std.proofs.Math.Bool.{or-false, and-false, or_assoc, and-or_distrib_left}
+use Rattle.std.proofs.lemmas.Bool.{and_parts, cases_Bool, cases_eq, eqb-true, ne_eqb}
+use Rattle.std.proofs.lemmas.List.{get_or_default, take_more, append-nil}
+use Rattle.std.proofs.lemmas.List.Concat.{flat_map-append}
+use Rattle.std.proofs.lemmas.List.Folds.{list_any-append}
+use Rattle.std.proofs.lemmas.List.Elements.{All-contains}
+use Rattle.std.proofs.lemmas.Slice.Eq.{bytes_eq-Decides}
+use Rattle.gg_flat.specs.Circuit.{FlatCircuit, driver_at}
+use Rattle.gg_flat_tree.specs.Tree.{path_at}
+use Rattle.gg_flat.proofs.ListLemmas.{once-apart}
+use Rattle.gg_part_moved.specs.KeepsToTree.{KeepsToTree}
+use Rattle.gg_order.specs.Design.{Ordered, IsDesign}
+use Rattle.gg_order.specs.Marks.{is_marked}
+use Rattle.gg_partfile.specs.Size.{all_driven}
+use Rattle.gg_partfile.specs.declared.request.BridgeEntry.{BridgeEntry}
+use Rattle.gg_partfile.specs.declared.request.Request.{Request}
+use Rattle.gg_cut_plan.specs.declared.listed.Listed.{Listed}
+use Rattle.gg_cut_plan.specs.declared.wires.Wire.{Wire}
+use Rattle.gg_cut_plan.specs.Listed.{is_among, listed_of}
+use Rattle.gg_cut_plan.specs.Direct.{Hub, hub_of, is_input, is_taken, is_gone, is_piped, is_driven, routes, plan_hub, plan_routes}
+use Rattle.gg_cut_plan.proofs.ChainLemmas.{marked-more}
+use Rattle.gg_cut_plan.proofs.OriginLemmas.{any-finds}
+use Rattle.gg_cut_plan.proofs.PathLemmas.{HoldsPath, holds-path}
+use Rattle.gg_cut_laws.specs.Apart.{AreApart}
+use Rattle.gg_cut_routes.proofs.AgreeLemmas.{gone-same, routes-agree}
+use Rattle.gg_cut_routes.proofs.PlanLemmas.{plan-base}
+
+-- ---- marks by names
+
+-- the signals whose paths are among the names before place i are marked, and no others
+pub record MarkedBy (paths names : List (List ℕ)) (count i : ℕ) (marks : List Bool) : Type 0 where
+  pub long : length marks ≡ count
+  pub each : (s : ℕ) → s < count → is_marked marks s ≡ is_among (take i names) (path_at paths s)
+
+-- a signal has this path exactly if it is the one that a look-up finds
+named-at : (paths : List (List ℕ)) (name : List ℕ) (k s : ℕ) → AllPairs (λ a b. a ≢ b) paths → slice_get paths k ≡ Some name → s < length paths → (k == s) ≡ bytes_eq (path_at paths s) name
+named-at paths name k s once found lt = by (cases_eq k s)
+  where
+    holds : HoldsPath paths k name
+    holds = holds-path paths k name found
+
+    by : (k ≡ s) ⊎ (k ≡ s → ⊥) → (k == s) ≡ bytes_eq (path_at paths s) name
+    by (inl same) = eq-eqb k s same ∙ sym ((bytes_eq-Decides (path_at paths s) name).1 (ap (path_at paths) (sym same) ∙ holds.is))
+    by (inr other) = ne_eqb k s other ∙ sym (never (cases_Bool (bytes_eq (path_at paths s) name)))
+      where
+        never : (bytes_eq (path_at paths s) name ≡ true) ⊎ (bytes_eq (path_at paths s) name ≡ false) → bytes_eq (path_at paths s) name ≡ false
+        never (inr e) = e
+        never (inl e) = absurd (other (once-apart paths [] once k s holds.within lt (holds.is ∙ sym ((bytes_eq-Decides (path_at paths s) name).0 e))))
+
+pub mark-found : (paths : List (List ℕ)) (name : List ℕ) (marks : List Bool) (k s : ℕ) → AllPairs (λ a b. a ≢ b) paths → slice_get paths k ≡ Some name → length marks ≡ length paths → s < length paths → is_marked (set marks k true) s ≡ (is_marked marks s || bytes_eq (path_at paths s) name)
+mark-found paths name marks k s once found long lt =
+    let holds = holds-path paths k name found in
+    marked-more marks k s (subst (λ n. k < n) (sym long) holds.within) ∙ ap (λ b. is_marked marks s || b) (named-at paths name k s once found lt)
+
+-- a path that a look-up doesn't find is that of no signal
+pub mark-missing : (paths : List (List ℕ)) (name : List ℕ) (marks : List Bool) (s : ℕ) → ¬ Contains paths name → s < length paths → is_marked marks s ≡ (is_marked marks s || bytes_eq (path_at paths s) name)
+mark-missing paths name marks s missing lt = sym (ap (λ b. is_marked marks s || b) (never (cases_Bool (bytes_eq (path_at paths s) name))) ∙ or-false (is_marked marks s))
+  where
+    never : (bytes_eq (path_at paths s) name ≡ true) ⊎ (bytes_eq (path_at paths s) name ≡ false) → bytes_eq (path_at paths s) name ≡ false
+    never (inr e) = e
+    never (inl e) = absurd (missing (s, lt, get_or_default paths s name [] lt ∙ (bytes_eq-Decides (path_at paths s) name).0 e))
+
+-- ---- marks on inputs
+
+-- signal s is an input whose path is among these
+abbrev pub is_input_of : FlatCircuit → List (List ℕ) → ℕ → Bool
+is_input_of circuit names s = is_input (driver_at circuit s) && is_among names (path_at circuit.paths s)
+
+-- to what was marked before, the inputs are added whose paths are among these
+pub record AddsInputs (circuit : FlatCircuit) (names : List (List ℕ)) (old marks : List Bool) : Type 0 where
+  pub long : length marks ≡ length old
+  pub each : (s : ℕ) → s < length circuit.signals → is_marked marks s ≡ (is_marked old s || is_input_of circuit names s)
+
+module _ (circuit : FlatCircuit) where
+  -- the signal with a path is an input exactly if the one that a look-up finds is
+  input-as : (name : List ℕ) (k s : ℕ) → AllPairs (λ a b. a ≢ b) circuit.paths → slice_get circuit.paths k ≡ Some name → s < length circuit.paths
+      → (is_input (driver_at circuit s) && bytes_eq (path_at circuit.paths s) name) ≡ (is_input (driver_at circuit k) && bytes_eq (path_at circuit.paths s) name)
+  input-as name k s once found lt = by (cases_eq k s)
+    where
+      same : Bool
+      same = bytes_eq (path_at circuit.paths s) name
+
+      by : (k ≡ s) ⊎ (k ≡ s → ⊥) → (is_input (driver_at circuit s) && same) ≡ (is_input (driver_at circuit k) && same)
+      by (inl e) = ap (λ t. is_input (driver_at circuit t) && same) (sym e)
+      by (inr other) =
+          let never : same ≡ false = sym (named-at circuit.paths name k s once found lt) ∙ ne_eqb k s other in
+          ap (λ b. is_input (driver_at circuit s) && b) never ∙ and-false (is_input (driver_at circuit s)) ∙ sym (ap (λ b. is_input (driver_at circuit k) && b) never ∙ and-false (is_input (driver_at circuit k)))
+
+  pub input-found : (name : List ℕ) (marks : List Bool) (k s : ℕ) → AllPairs (λ a b. a ≢ b) circuit.paths → slice_get circuit.paths k ≡ Some name → length marks ≡ length circuit.paths → s < length circuit.paths → is_input (driver_at circuit k) ≡ true
+      → is_marked (set marks k true) s ≡ (is_marked marks s || (is_input (driver_at circuit s) && bytes_eq (path_at circuit.paths s) name))
+  input-found name marks k s once found long lt input =
+      mark-found circuit.paths name marks k s once found long lt
+      ∙ sym (ap (λ b. is_marked marks s || b) (input-as name k s once found lt ∙ ap (λ b. b && bytes_eq (path_at circuit.paths s) name) input))
+
+  pub input-other : (name : List ℕ) (marks : List Bool) (k s : ℕ) → AllPairs (λ a b. a ≢ b) circuit.paths → slice_get circuit.paths k ≡ Some name → s < length circuit.paths → is_input (driver_at circuit k) ≡ false
+      → is_marked marks s ≡ (is_marked marks s || (is_input (driver_at circuit s) && bytes_eq (path_at circuit.paths s) name))
+  input-other name marks k s once found lt other =
+      sym (ap (λ b. is_marked marks s || b) (input-as name k s once found lt ∙ ap (λ b. b && bytes_eq (path_at circuit.paths s) name) other) ∙ or-false (is_marked marks s))
+
+  pub input-missing : (name : List ℕ) (marks : List Bool) (s : ℕ) → ¬ Contains circuit.paths name → s < length circuit.paths
+      → is_marked marks s ≡ (is_marked marks s || (is_input (driver_at circuit s) && bytes_eq (path_at circuit.paths s) name))
+  input-missing name marks s missing lt = by (is_input (driver_at circuit s))
+    where
+      by : (b : Bool) → is_marked marks s ≡ (is_marked marks s || (b && bytes_eq (path_at circuit.paths s) name))
+      by true = mark-missing circuit.paths name marks s missing lt
+      by false = sym (or-false (is_marked marks s))
+
+  pub AddsInputs-none : (marks : List Bool) → AddsInputs circuit [] marks marks
+  AddsInputs-none marks = record { long = refl; each = λ s lt. sym (ap (λ b. is_marked marks s || b) (and-false (is_input (driver_at circuit s))) ∙ or-false (is_marked marks s)) }
+
+  -- more paths
+  pub AddsInputs-more : (names more : List (List ℕ)) (old marks next : List Bool) → AddsInputs circuit names old marks → AddsInputs circuit more marks next → AddsInputs circuit (names ++ more) old next
+  AddsInputs-more names more old marks next before after =
+      record {
+        long = after.long ∙ before.long;
+        each = λ s lt.
+            let path = path_at circuit.paths s in
+            let input = is_input (driver_at circuit s) in
+            after.each s lt ∙ ap (λ b. b || (is_input (driver_at circuit s) && is_among more (path_at circuit.paths s))) (before.each s lt)
+            ∙ or_assoc (is_marked old s) (input && is_among names path) (input && is_among more path)
+            ∙ ap (λ b. is_marked old s || b) (sym (and-or_distrib_left input (is_among names path) (is_among more path)) ∙ ap (λ b. is_input (driver_at circuit s) && b) (sym (list_any-append (bytes_eq path) names more)));
+      }
+
+  -- one more path
+  pub AddsInputs-next : (names : List (List ℕ)) (i : ℕ) (old marks next : List Bool) → i < length names → AddsInputs circuit (take i names) old marks → length next ≡ length marks
+      → ((s : ℕ) → s < length circuit.signals → is_marked next s ≡ (is_marked marks s || (is_input (driver_at circuit s) && bytes_eq (path_at circuit.paths s) (get_or names i []))))
+      → AddsInputs circuit (take (i + 1) names) old next
+  AddsInputs-next names i old marks next lt before long each =
+      subst (λ l. AddsInputs circuit l old next) (sym (take_more names i [] lt))
+      (AddsInputs-more (take i names) (get_or names i [] ∷ []) old marks next before
+      (record { long = long; each = λ s low. each s low ∙ ap (λ b. is_marked marks s || (is_input (driver_at circuit s) && b)) (sym (or-false (bytes_eq (path_at circuit.paths s) (get_or names i [])))) }))
+
+  -- the paths of one more entry
+  pub AddsInputs-entry : (entries : List BridgeEntry) (i : ℕ) (any : BridgeEntry) (old marks next : List Bool) → i < length entries → AddsInputs circuit (all_driven (take i entries)) old marks → AddsInputs circuit (get_or entries i any).drives marks next → AddsInputs circuit (all_driven (take (i + 1) entries)) old next
+  AddsInputs-entry entries i any old marks next lt before after =
+      subst (λ l. AddsInputs circuit l old next)
+      (sym (ap all_driven (take_more entries i any lt) ∙ flat_map-append (λ (entry : BridgeEntry). entry.drives) (take i entries) (get_or entries i any ∷ []) ∙ ap (λ l. all_driven (take i entries) ++ l) (append-nil (get_or entries i any).drives)))
+      (AddsInputs-more (all_driven (take i entries)) (get_or entries i any).drives old marks next before after)
+
+-- ---- the channels of a plan
+
+-- marks of a circuit are those of a design's
+pub marked-as : (circuit piece : FlatCircuit) (request : Request) (marks items : List Bool) → piece ≡ circuit → marks ≡ items → ((s : ℕ) → s < length piece.signals → is_marked items s ≡ (is_piped piece request s || is_driven piece request s))
+    → (s : ℕ) → s < length circuit.signals → is_marked marks s ≡ (is_piped circuit request s || is_driven circuit request s)
+marked-as circuit piece request marks items is same marked s lt =
+    ap (λ (l : List Bool). is_marked l s) same ∙ marked s (subst (λ (c : FlatCircuit). s < length c.signals) (sym is) lt)
+    ∙ ap (λ (c : FlatCircuit). is_piped c request s || is_driven c request s) is
+
+module _ (design : Ordered) (request : Request) (listed : Listed) (marks : List Bool) (is : IsDesign design) (keeps : KeepsToTree design.circuit design.tree) (apart : AreApart design.tree listed) (same : listed ≡ listed_of design.tree request) (marked : (s : ℕ) → s < length design.circuit.signals → is_marked marks s ≡ (is_piped design.circuit request s || is_driven design.circuit request s)) where
+  abbrev hub : Hub
+  hub = hub_of design.circuit design.tree listed (is_marked marks) (λ s. false) request.direct
+
+  agree : (s : ℕ) → is_taken hub s ≡ true → (is_marked marks s || false) ≡ (is_piped design.circuit request s || is_driven design.circuit request s)
+  agree s e =
+      let at = any-finds (λ (w : Wire). (w.consumer == 0) && (w.signal == s)) hub.base e in
+      let known = All-contains (λ (w : Wire). w.signal < length design.circuit.signals) hub.base at.item (plan-base design listed (is_marked marks) (λ s. false) request.direct is keeps apart).known at.among in
+      or-false (is_marked marks s) ∙ marked s (subst (λ t. t < length design.circuit.signals) (eqb-true at.item.signal s (and_parts (at.item.consumer == 0) (at.item.signal == s) at.passes).1) known)
+
+  pub planned-wires : routes (hub_of design.circuit design.tree listed (is_marked marks) (λ s. false) request.direct) ≡ plan_routes design.circuit design.tree request
+  planned-wires =
+      routes-agree design.circuit design.tree listed request.direct (is_marked marks) (λ s. false) (is_piped design.circuit request) (is_driven design.circuit request) agree
+      ∙ ap (λ (l : Listed). routes (hub_of design.circuit design.tree l (is_piped design.circuit request) (is_driven design.circuit request) request.direct)) same
+
+  pub planned-gone : (s : ℕ) → is_gone (hub_of design.circuit design.tree listed (is_marked marks) (λ s. false) request.direct) s ≡ is_gone (plan_hub design.circuit design.tree request) s
+  planned-gone s =
+      gone-same design.circuit design.tree listed request.direct (is_marked marks) (λ s. false) (is_piped design.circuit request) (is_driven design.circuit request) agree s
+      ∙ ap (λ (l : Listed). is_gone (hub_of design.circuit design.tree l (is_piped design.circuit request) (is_driven design.circuit request) request.direct) s) same

@@ -1,0 +1,120 @@
+//! The channels of a cut with direct channels.
+ghost use Rattle.std.specs.Prelude.{◌≡◌, ℕ, ◌<◌, false, length, IfOk};
+ghost use Rattle.gg_part_moved.specs.KeepsToTree.{KeepsToTree};
+ghost use Rattle.gg_order.specs.Marks.{is_marked};
+ghost use Rattle.gg_cut_plan.specs.Channels.{wires_of};
+ghost use Rattle.gg_cut_laws.specs.Apart.{AreApart};
+ghost use Rattle.gg_cut_split.specs.IsShare.{AreShares};
+ghost use Rattle.gg_cut_plan.specs.Direct.{hub_of, routes, is_gone};
+ghost use Rattle.gg_cut_routes.specs.Routes.{AreRoutes};
+ghost use Rattle.gg_cut_routes.specs.Routable.{CanRoute, IsRouting};
+
+use crate::gone::gone_of;
+use crate::laws::channels_routed;
+use crate::names::{names_of, push_stops};
+use crate::origins::origins_of;
+use crate::routed::routed_of;
+use crate::sides::{made_of, sides_of};
+use crate::straight::straight_of;
+use gg_bits::Items;
+use gg_cut_laws::channels_once;
+use gg_cut_plan::{Listed, Wire, marks_of};
+use gg_cut_split::Split;
+use gg_flat::Piece;
+use gg_flat_tree::Tree;
+use gg_order::Design;
+use std::alloc::{AllocError, Global};
+
+/// The channels of a cut, and what leaves the plan.
+pub struct Channels {
+    /// The channels that are left, in their order. A direct channel has its origin's producer, and is given by the origin.
+    pub wires: Items<Wire>,
+    /// For each signal of the circuit whether it leaves: an in-channel of the hub that is only copied, or a copy of one.
+    pub gone: Items<bool>,
+}
+
+impl Drop for Channels {
+    fn drop(self) {
+        let Self { wires, gone } = self;
+        drop(wires);
+        drop(gone);
+    }
+}
+
+/// The channels of a cut and what leaves. `split` has the channels before and what each machine has; `barred` marks the signals that
+/// are no origins, whatever gives them. If `direct` is false, all channels stay as they are.
+///
+/// # Errors
+///
+/// Returns `AllocError` if an allocation fails.
+pub fn routes(
+    alloc: Global,
+    design: &Design,
+    listed: &Listed,
+    split: &Split,
+    barred: &[bool],
+    direct: bool,
+) -> Result<Channels, AllocError>
+    requires keeps { KeepsToTree design.now.circuit design.now.tree }
+    requires apart { AreApart design.now.tree listed.now }
+    requires wires { split.now.wires ≡ wires_of design.now.circuit design.now.tree listed.now }
+    requires shares { AreShares design.now listed.now split.now.shares }
+    requires barred { length barred.now ≡ length design.now.circuit.signals }
+    ensures wires { IfOk result (λ found. found.wires ≡ routes (hub_of design.now.circuit design.now.tree listed.now (is_marked barred.now) (λ s. false) direct)) }
+    ensures gone { IfOk result (λ found. (s : ℕ) → s < length design.now.circuit.signals
+        → is_marked found.gone s ≡ is_gone (hub_of design.now.circuit design.now.tree listed.now (is_marked barred.now)
+        (λ s. false) direct) s) }
+    ensures sound { AreRoutes design.now listed.now (hub_of design.now.circuit design.now.tree listed.now (is_marked barred.now) (λ s. false) direct) }
+{
+    channels_routed();
+    channels_once();
+    let hub = &split.shares.as_slice()[0];
+    let channels = routes_of(
+        alloc,
+        design.piece(),
+        design.tree(),
+        design.order(),
+        listed,
+        split.wires.as_slice(),
+        hub.globals.as_slice(),
+        hub.memories.as_slice(),
+        barred,
+        direct,
+    )?;
+    Ok(channels)
+}
+
+// The channels of a cut and what leaves, from the channels before and what the hub has.
+fn routes_of(
+    alloc: Global,
+    piece: &Piece,
+    tree: &Tree,
+    order: &[u32],
+    listed: &Listed,
+    wires: &[Wire],
+    globals: &[u32],
+    memories: &[u32],
+    barred: &[bool],
+    direct: bool,
+) -> Result<Channels, AllocError>
+    requires can { CanRoute piece.now tree.now order.now listed.now wires.now globals.now memories.now }
+    requires barred { length barred.now ≡ length piece.now.signals }
+    ensures { IfOk result (λ found. IsRouting (hub_of piece.now tree.now listed.now (is_marked barred.now) (λ s. false) direct) found.wires found.gone) }
+{
+    let count = piece.signal_count();
+    let sides = sides_of(alloc, count, wires, globals)?;
+    let made = made_of(alloc, &sides, globals)?;
+    let origins = origins_of(alloc, piece, order, &sides, barred)?;
+    let mut names = names_of(alloc, piece, &made, memories)?;
+    push_stops(&mut names, tree)?;
+    let named = marks_of(alloc, count, &names)?;
+    let straight = straight_of(
+        alloc, piece, listed, wires, &sides, &origins, &named, direct,
+    )?;
+    let gone = gone_of(alloc, piece, &sides, &made, memories, &origins, &straight)?;
+    let routed = routed_of(alloc, wires, &sides, &straight, &gone)?;
+    Ok(Channels {
+        wires: Items::from(routed),
+        gone: Items::from(gone),
+    })
+}

@@ -1,0 +1,33 @@
+//! What each machine of a cut has: its channels, signals and memories.
+//!
+//! A machine makes the signals that belong to it by the tree of instances and that no channel carries, and the
+//! signals of the channels that it gives. It takes the signals of the channels that it takes (`Makes` and `Takes` in
+//! gg_cut_plan's `specs/Plan`), all before channels are routed. If what is listed is apart, the crate promises:
+//!
+//! - `split` gives the channels in their order. For each machine it gives the channels that the machine takes and
+//!   gives; exactly the signals that it makes or takes, along the order of evaluation; and exactly the memories that
+//!   belong to it (`IsShareOf` in `specs/Share`);
+//! - what the hub, a unit or a memory has makes a part of the circuit (`IsChoice` in gg_part): for each signal that
+//!   it makes, it makes or takes all that the signal's driver, register or memory names.
+//!
+//! `sides_of` gives the channels that each machine takes and gives, by any list of channels. `owned_of` gives the channels before the
+//! routing, and tells which machine signals and memories belong to.
+//!
+//! One pass over the order gives all machines their signals. It uses a table of the channel of each signal and a
+//! table of the owner of each signal.
+#![tactic(auto)]
+
+mod beginning;
+mod channels;
+mod owned;
+mod parting;
+mod pile;
+mod share;
+mod spread;
+mod tables;
+
+pub use owned::{Owned, owned_of};
+pub use parting::split;
+pub use pile::Pile;
+pub use share::{Share, Split};
+pub use spread::{Sides, sides_of};

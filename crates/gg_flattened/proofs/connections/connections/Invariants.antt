@@ -1,6 +1,0 @@
-use Rattle.std.proofs.Common.{◌≡◌, length, take}
-use Rattle.gg_flattened.specs.Views.{TellsConnections}
-use Rattle.gg_flattened.proofs.connections.connections.Given as goal
-
-abbrev pub invariant-loop-statement : goal.invariant-loop-statement
-invariant-loop-statement l = (length l.sinks.sources.items ≡ length l.sinks.names) × TellsConnections (take l.statement-index l.statements) l.sinks.names l.sinks.sources.items

@@ -1,7 +1,0 @@
-use Rattle.std.proofs.Common.{◌≡◌, map, take}
-use Rattle.gg_flattened.specs.Views.{held_of}
-use Rattle.gg_count.specs.Sites.{held_by}
-use Rattle.gg_flattened.proofs.digest.instances.Given as goal
-
-abbrev pub invariant-loop-statement : goal.invariant-loop-statement
-invariant-loop-statement l = map held_of l.instances.items ≡ held_by l.circuit.modules (take l.statement-index l.statements)

@@ -1,7 +1,0 @@
-use Rattle.std.proofs.Common.{◌≡◌, map, take}
-use Rattle.gg_flattened.specs.Views.{own_bank_of}
-use Rattle.gg_flattened.specs.Signals.{own_banks}
-use Rattle.gg_flattened.proofs.digest.memories.Given as goal
-
-abbrev pub invariant-loop-statement : goal.invariant-loop-statement
-invariant-loop-statement l = map own_bank_of l.memories.items ≡ own_banks (take l.statement-index l.statements)

@@ -1,6 +1,0 @@
-use Rattle.std.proofs.Common.{◌≡◌, drop}
-use Rattle.gg_flattened.specs.Memories.{first_said, latency_said}
-use Rattle.gg_flattened.proofs.memories.said_latency.Given as goal
-
-abbrev pub invariant-loop-field : goal.invariant-loop-field
-invariant-loop-field l = first_said latency_said l.fields ≡ first_said latency_said (drop l.field-index l.fields)

@@ -1,9 +1,0 @@
-use Rattle.std.proofs.Common.{◌≡◌, ◌++◌, map, drop}
-use Rattle.gg_flattened.specs.Views.{own_of, bank_seen}
-use Rattle.gg_flattened.specs.Signals.{readers_signals}
-use Rattle.gg_flattened.proofs.own.add_readers.Given as goal
-
-abbrev pub invariant-loop-port : goal.invariant-loop-port
-invariant-loop-port l =
-    map own_of l.signals.items ++ readers_signals l.memory (bank_seen l.bank) l.place (map (λ n. n.now) (drop l.port-index l.ports))
-    ≡ map own_of l.fn.signals.items ++ readers_signals l.memory (bank_seen l.bank) 0 (map (λ n. n.now) l.ports)

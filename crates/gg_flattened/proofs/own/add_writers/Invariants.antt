@@ -1,8 +1,0 @@
-use Rattle.std.proofs.Common.{◌≡◌, ◌++◌, map, take}
-use Rattle.std.specs.Prelude.{flat_map}
-use Rattle.gg_flattened.specs.Views.{own_of, bank_seen}
-use Rattle.gg_flattened.specs.Signals.{writer_signals}
-use Rattle.gg_flattened.proofs.own.add_writers.Given as goal
-
-abbrev pub invariant-loop-port : goal.invariant-loop-port
-invariant-loop-port l = map own_of l.signals.items ≡ map own_of l.fn.signals.items ++ flat_map (writer_signals l.memory (bank_seen l.bank)) (map (λ n. n.now) (take l.port-index l.ports))

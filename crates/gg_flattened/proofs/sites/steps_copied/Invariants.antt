@@ -1,6 +1,0 @@
-use Rattle.std.proofs.Common.{◌≡◌, map, take}
-use Rattle.gg_flattened.specs.Views.{step_of}
-use Rattle.gg_flattened.proofs.sites.steps_copied.Given as goal
-
-abbrev pub invariant-loop-step : goal.invariant-loop-step
-invariant-loop-step l = map step_of l.copies.items ≡ map step_of (take l.step-index l.steps)

@@ -1,5 +1,0 @@
-use Rattle.gg_piped.specs.Tables.{AreHolding}
-use Rattle.gg_piped.proofs.fill.mark_holders.Given as goal
-
-abbrev pub invariant-loop-place : goal.invariant-loop-place
-invariant-loop-place l = AreHolding l.one l.makers l.place l.initial.holders l.holders

@@ -1,6 +1,0 @@
-use Rattle.std.proofs.Common.{map}
-use Rattle.gg_piped.specs.Tables.{IsFilled}
-use Rattle.gg_piped.proofs.fill.mark_makers.Given as goal
-
-abbrev pub invariant-loop-place : goal.invariant-loop-place
-invariant-loop-place l = IsFilled (map (λ w. w.signal) l.wires) (map (λ w. w.producer) l.wires) l.place l.initial.makers l.makers

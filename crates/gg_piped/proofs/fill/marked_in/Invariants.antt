@@ -1,8 +1,0 @@
-use Rattle.std.proofs.Common.{◌≡◌}
-use Rattle.std.specs.Prelude.{filter}
-use Rattle.std.specs.List.{range_with_len}
-use Rattle.gg_order.specs.Marks.{is_marked}
-use Rattle.gg_piped.proofs.fill.marked_in.Given as goal
-
-abbrev pub invariant-loop-number : goal.invariant-loop-number
-invariant-loop-number l = l.numbers.items ≡ filter (is_marked l.marks) (range_with_len 0 l.number)

@@ -1,6 +1,0 @@
-use Rattle.std.proofs.Common.{◌≡◌, take}
-use Rattle.gg_piped.specs.Tables.{piped_places}
-use Rattle.gg_piped.proofs.fill.places_in.Given as goal
-
-abbrev pub invariant-loop-channel : goal.invariant-loop-channel
-invariant-loop-channel l = l.places.items ≡ piped_places (take l.channel-index l.channels)

@@ -1,8 +1,0 @@
-use Rattle.std.proofs.Common.{◌≡◌, take}
-use Rattle.gg_flat.specs.Circuit.{no_circuit}
-use Rattle.gg_pipe.specs.Made.{by_number, seen_signal}
-use Rattle.gg_piped.specs.Tables.{views_by}
-use Rattle.gg_piped.proofs.made.add_signals.Given as goal
-
-abbrev pub invariant-loop-place : goal.invariant-loop-place
-invariant-loop-place l = l.piece ≡ record no_circuit { paths = take l.place l.one.paths; signals = by_number (seen_signal (views_by l.tables)) 0 (take l.place l.one.signals) }

@@ -1,6 +1,0 @@
-use Rattle.std.proofs.Common.{◌≡◌, take, map}
-use Rattle.gg_routes.specs.Tables.{is_left}
-use Rattle.gg_routes.proofs.gone.gone_by.Given as goal
-
-abbrev pub invariant-loop-place : goal.invariant-loop-place
-invariant-loop-place l = l.gone.items ≡ map (is_left l.left l.needed) (take l.place l.origins)

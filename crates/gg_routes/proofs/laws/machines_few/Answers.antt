@@ -1,5 +1,0 @@
-use Rattle.gg_routes.proofs.FewLemmas.{few-machines}
-use Rattle.gg_routes.proofs.laws.machines_few.Goals as goal
-
-pub returns : goal.returns
-returns c = few-machines

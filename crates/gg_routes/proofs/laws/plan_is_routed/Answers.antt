@@ -1,5 +1,0 @@
-use Rattle.gg_routes.proofs.RoutedLemmas.{plan-routed}
-use Rattle.gg_routes.proofs.laws.plan_is_routed.Goals as goal
-
-pub returns : goal.returns
-returns c = plan-routed

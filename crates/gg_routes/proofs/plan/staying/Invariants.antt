@@ -1,7 +1,0 @@
-use Rattle.std.proofs.Common.{◌≡◌, take}
-use Rattle.std.specs.Prelude.{filter}
-use Rattle.gg_routes.specs.Share.{stays_by}
-use Rattle.gg_routes.proofs.plan.staying.Given as goal
-
-abbrev pub invariant-loop-signal : goal.invariant-loop-signal
-invariant-loop-signal l = l.staying.items ≡ filter (stays_by l.wires l.gone) (take l.signal-index l.globals)

@@ -1,4 +1,0 @@
-use Rattle.gg_routes.proofs.sides.sides_of.Goals as goal
-
-pub returns-clause-sides : goal.returns-clause-sides
-returns-clause-sides c = c.put_wires.ensures.sides c.args.globals.now c.put_globals.ensures.sides

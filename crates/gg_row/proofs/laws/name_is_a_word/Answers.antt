@@ -1,5 +1,0 @@
-use Rattle.gg_row.proofs.WordNames.{name-word}
-use Rattle.gg_row.proofs.laws.name_is_a_word.Goals as goal
-
-pub returns : goal.returns
-returns c = name-word

@@ -1,5 +1,0 @@
-use Rattle.gg_sound.proofs.PlanLemmas.{plan-listed}
-use Rattle.gg_sound.proofs.laws.plan_is_listed.Goals as goal
-
-pub returns : goal.returns
-returns c = λ design request models default plan columns n start rows token starts machines given built m lt. plan-listed design request models default plan columns n start rows token starts machines given built m lt

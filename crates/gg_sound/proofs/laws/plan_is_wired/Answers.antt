@@ -1,5 +1,0 @@
-use Rattle.gg_sound.proofs.PlanLemmas.{plan-wired}
-use Rattle.gg_sound.proofs.laws.plan_is_wired.Goals as goal
-
-pub returns : goal.returns
-returns c = λ design request models default plan columns n start rows token starts machines given built. plan-wired design request models default plan columns n start rows token starts machines given built

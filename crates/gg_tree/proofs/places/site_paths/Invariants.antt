@@ -1,6 +1,0 @@
-use Rattle.std.proofs.Common.{◌≡◌, take}
-use Rattle.gg_tree.specs.TreeParts.{place_paths}
-use Rattle.gg_tree.proofs.places.site_paths.Given as goal
-
-abbrev pub invariant-loop-place : goal.invariant-loop-place
-invariant-loop-place l = l.paths ≡ place_paths (take l.place-index l.places)

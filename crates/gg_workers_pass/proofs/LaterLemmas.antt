@@ -1,0 +1,45 @@
+-- A network after some passes over its machines: its counts, and the events that it could do.
+use Rattle.std.proofs.Common.{◌*◌, ℕ, ◌<◌, List, length, refl}
+use Rattle.gg_flat.specs.Streams.{Flow}
+use Rattle.gg_node.specs.Machine.{Machine, machine_at}
+use Rattle.gg_net.specs.Network.{Network, puts, takes, serves, wire_at, producer_of, consumer_of, frame_of}
+use Rattle.gg_net.specs.Kept.{Kept}
+use Rattle.gg_net.specs.Step.{CanLatch, CanFire, CanServe, CanFinish}
+use Rattle.gg_net.proofs.MayLemmas.{consumer-there, producer-there}
+use Rattle.gg_workers_pass.specs.Tries.{StandsBelow}
+use Rattle.gg_workers_pass.specs.Pass.{RisesTo, MachineWentOn, EventsDone}
+
+module _ (flow : Flow) (old : Network) (kept : Kept flow old) (upto : ℕ) (machines : List Machine) (queues : List (List ℕ)) where
+  -- the network with these machines and queues
+  abbrev pub later : Network
+  later = record old { machines = machines; queues = queues }
+
+  -- ---- no count has fallen, and none has risen past the cycle
+
+  module _ (went : (m : ℕ) → m < length old.machines → MachineWentOn (frame_of old) m upto (machine_at old.machines m) (machine_at machines m)) where
+    pub cycles-rise : (m : ℕ) → m < length old.machines → RisesTo upto (machine_at old.machines m).cycle (machine_at machines m).cycle
+    cycles-rise m lt = (went m lt).cycle
+
+    pub serves-rise : (m : ℕ) → m < length old.machines → RisesTo (length (machine_at old.machines m).ports * upto) (serves old m) (serves later m)
+    serves-rise m lt = (went m lt).serves
+
+    pub puts-rise : (c : ℕ) → c < length old.wires → RisesTo upto (puts old c) (puts later c)
+    puts-rise c known = (went (wire_at old.wires c).producer (producer-there flow old kept c known)).puts c known refl
+
+    pub takes-rise : (c : ℕ) → c < length old.wires → RisesTo upto (takes old c) (takes later c)
+    takes-rise c known = (went (wire_at old.wires c).consumer (consumer-there flow old kept c known)).takes c known refl
+
+  -- ---- what could be done was done
+
+  module _ (done : (m : ℕ) → m < length old.machines → EventsDone old m upto (machine_at machines m)) where
+    pub latch-rises : (c : ℕ) → CanLatch old c → StandsBelow upto (consumer_of old c) → takes old c < takes later c
+    latch-rises c can below = (done (wire_at old.wires c).consumer (consumer-there flow old kept c can.can.0)).latch c can refl below
+
+    pub fire-rises : (c : ℕ) → CanFire old c → StandsBelow upto (producer_of old c) → puts old c < puts later c
+    fire-rises c can below = (done (wire_at old.wires c).producer (producer-there flow old kept c can.can.0)).fire c can refl below
+
+    pub serve-rises : (m p : ℕ) → CanServe old m p → StandsBelow upto (machine_at old.machines m) → serves old m < serves later m
+    serve-rises m p can below = (done m can.there.0).serve p can below
+
+    pub finish-rises : (m : ℕ) → CanFinish old m → StandsBelow upto (machine_at old.machines m) → (machine_at old.machines m).cycle < (machine_at machines m).cycle
+    finish-rises m can below = (done m can.there).finish can below

@@ -1,0 +1,6 @@
+use Rattle.std.proofs.Common.{◌≡◌, map, Some}
+use Rattle.std.specs.Vec.{vec_capacity}
+use Rattle.gg_workers_pass.proofs.seat_lists.unwrap_all.Given as goal
+
+abbrev pub invariant-loop-seat : goal.invariant-loop-seat
+invariant-loop-seat g l = (map (λ seat. Some seat) l.into.items ≡ l.yielded) × (vec_capacity l.into ≡ vec_capacity l.initial.into)

@@ -1,0 +1,58 @@
+//! The network of a plan, and what a test looks at in it.
+ghost use Rattle.std.specs.Prelude.{◌≡◌, ℕ, ◌<◌, ◌≤◌, true, length};
+ghost use Rattle.gg_build.specs.Build.{IsToRun, NeedsNone};
+ghost use Rattle.gg_measure.specs.Nets.{cycle_at};
+
+use gg_bridge::Echo;
+use gg_build::{Node, build};
+use gg_cut_plan::Plan;
+use gg_net::{Net, Streams};
+use gg_trace::Trace;
+use std::alloc::{AllocError, Global};
+
+/// The network of a plan without bridges, before its first cycle.
+///
+/// # Errors
+///
+/// Returns `AllocError` if an allocation fails.
+pub fn build_alone<'a, Z: Streams>(
+    alloc: Global,
+    plan: &'a Plan,
+    inputs: &Trace,
+) -> Result<Net<Node<'a, Echo>, Z>, AllocError>
+    requires run { IsToRun plan.now inputs.now.columns inputs.now.rows Z.flow }
+    requires alone { NeedsNone plan.now }
+{
+    let bridges = Vec::new(alloc);
+    let net = build::<Echo, Z>(alloc, plan, inputs, bridges)?;
+    Ok(net)
+}
+
+/// Whether no machine is above a cycle.
+pub fn is_at_most<Z: Streams>(net: &Net<Node<'_, Echo>, Z>, cycle: u64) -> bool
+    ensures { result ≡ true → (m : ℕ) → m < length net.now.machines → cycle_at net.now m ≤ cycle }
+{
+    net.within_limits();
+    for machine in 0..net.machines() {
+        if net.cycle(machine as u32) > cycle {
+            return false;
+        }
+    }
+    true
+}
+
+/// Whether the last machine is a tray that keeps these values, one for each cycle from 0 on.
+pub fn keeps<Z: Streams>(net: &Net<Node<'_, Echo>, Z>, values: &[u128]) -> bool {
+    net.within_limits();
+    let machines = net.machines();
+    if machines == 0 {
+        return false;
+    }
+    let tray = net.host((machines - 1) as u32);
+    for (cycle, value) in values.iter().enumerate() {
+        if tray.value(cycle as u64) != Some(*value) {
+            return false;
+        }
+    }
+    tray.value(values.len() as u64).is_none()
+}
