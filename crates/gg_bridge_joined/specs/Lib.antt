@@ -2,3 +2,5 @@ pub mod Model
 pub mod Joined
 pub mod Turned
 pub mod All
+pub mod JoinedRuns
+pub mod JoinedParts

@@ -11,11 +11,10 @@ ghost use Rattle.gg_cut.specs.Made.{IsCapacity};
 
 use gg_cut_laws::listed_apart;
 use gg_cut_parts::Draft;
-use gg_cut_plan::{CutFault, Listed, Wire};
+use gg_cut_plan::{CutFault, Listed, Models, Wire};
 use gg_cut_routes::plan_routes;
 use gg_cut_rules::{judge_bridges, judge_channels, judge_clocks, judge_entries, judge_pipes};
 use gg_cut_split::split;
-use gg_flat::Models;
 use gg_order::Design;
 use gg_partfile::Request;
 use std::alloc::{AllocError, Global};

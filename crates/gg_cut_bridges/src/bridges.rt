@@ -1,7 +1,7 @@
 //! The machines of bridges.
 ghost use Rattle.std.specs.Prelude.{◌≡◌, ℕ, ◌<◌, ◌^◌, Some, [], slice_index_or, length, map, All, Contains, IfOk, OnOk};
 ghost use Rattle.gg_flat.specs.Line.{value_at};
-ghost use Rattle.gg_flat.specs.Models.{model_names};
+ghost use Rattle.gg_cut_plan.specs.Models.{model_names};
 ghost use Rattle.gg_flat_tree.specs.Tree.{path_at};
 ghost use Rattle.gg_cut_plan.specs.Bridges.{model_named};
 ghost use Rattle.gg_cut_plan.specs.Plan.{port_place, wire_at};
@@ -13,8 +13,8 @@ use crate::ports::put_ports;
 use crate::seating::{Seating, given, taken};
 use gg_bits::{Ids, Name};
 use gg_cut_parts::set_named;
-use gg_cut_plan::{BridgeBody, Wire};
-use gg_flat::{Models, Piece};
+use gg_cut_plan::{BridgeBody, Models, Wire};
+use gg_flat::Piece;
 use gg_partfile::BridgeEntry;
 use std::alloc::{AllocError, Global};
 

@@ -1,7 +1,7 @@
 //! The machines of a plan with bridges, from those of the cut without them.
 ghost use Rattle.std.specs.Prelude.{◌≡◌, ℕ, ◌<◌, ◌^◌, ◌∷◌, [], ◌++◌, length, Contains, OnOk};
 ghost use Rattle.gg_flat.specs.Line.{value_at};
-ghost use Rattle.gg_flat.specs.Models.{model_names};
+ghost use Rattle.gg_cut_plan.specs.Models.{model_names};
 ghost use Rattle.gg_cut_plan.specs.Machines.{first_source};
 ghost use Rattle.gg_cut_plan.specs.Seated.{first_bridge, first_kept_tray, machine_end};
 ghost use Rattle.gg_cut_bridges.specs.Seating.{draft_bridges, ArePlannedMachines, AreDraftSeats, AreSeatedTo, IsSeating};

@@ -1,2 +1,5 @@
 pub mod Apart
 pub mod Longest
+pub mod OwnersByPath
+pub mod CutChannels
+pub mod Closed

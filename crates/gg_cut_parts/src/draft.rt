@@ -3,10 +3,9 @@ ghost use Rattle.std.specs.Prelude.{◌≡◌};
 ghost use Rattle.gg_cut_plan.specs.Machines.{numbering_of};
 ghost use Rattle.gg_cut_parts.specs.Draft.{IsDraft};
 
-use gg_cut_plan::{Listed, Numbering, Wire};
+use gg_cut_plan::{Listed, Models, Numbering, Wire};
 use gg_cut_routes::Channels;
 use gg_cut_split::Split;
-use gg_flat::Models;
 use gg_order::Design;
 use gg_partfile::Request;
 

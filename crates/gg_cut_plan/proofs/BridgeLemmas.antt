@@ -5,7 +5,7 @@ use Rattle.std.proofs.lemmas.List.{length-append, append-nil, get_or_default, ge
 use Rattle.std.proofs.lemmas.Option.{same_Some}
 use Rattle.gg_bits.specs.Shape.{Shape}
 use Rattle.gg_flat.specs.Circuit.{FlatCircuit}
-use Rattle.gg_flat.specs.Models.{model_circuits}
+use Rattle.gg_cut_plan.specs.Models.{model_circuits}
 use Rattle.gg_flat.specs.WellFormed.{IsWellFormed}
 use Rattle.gg_partfile.specs.declared.request.BridgeEntry.{BridgeEntry}
 use Rattle.gg_cut_plan.specs.declared.fault.CutFault.{CutFault}

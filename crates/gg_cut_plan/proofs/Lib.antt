@@ -16,5 +16,6 @@ pub mod WireLemmas
 pub mod OriginLemmas
 pub mod DirectLemmas
 pub mod SameLemmas
+pub mod ModelLemmas
 pub mod BridgeLemmas
 pub mod WholeFaultLemmas

@@ -7,7 +7,7 @@ use Rattle.gg_bits.specs.declared.types.Kind.{Kind}
 use Rattle.gg_bits.specs.declared.types.Kind.TheVariants.{UInt, SInt}
 use Rattle.gg_flat.specs.Line.{shape_at}
 use Rattle.gg_flat.specs.Circuit.{FlatCircuit, signal_shapes, no_circuit}
-use Rattle.gg_flat.specs.Models.{model_names, model_circuits}
+use Rattle.gg_cut_plan.specs.Models.{model_names, model_circuits}
 use Rattle.gg_partfile.specs.declared.request.BridgeEntry.{BridgeEntry}
 use Rattle.gg_cut_plan.specs.declared.fault.CutFault.{CutFault}
 use Rattle.gg_cut_plan.specs.declared.fault.CutFault.TheVariants.{UnknownBridge, WrongPort, UnfitBridge}

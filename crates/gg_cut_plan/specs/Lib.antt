@@ -8,6 +8,7 @@ pub mod Hosts
 pub mod Alike
 pub mod Owners
 pub mod Direct
+pub mod Models
 pub mod Bridges
 pub mod Seated
 pub mod Plan

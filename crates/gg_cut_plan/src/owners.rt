@@ -1,6 +1,7 @@
 //! The machine that each instance belongs to.
 ghost use Rattle.std.specs.Prelude.{◌≡◌, ℕ, ◌<◌, ◌==◌, length, replicate, All, IfOk};
 ghost use Rattle.gg_flat.specs.Line.{value_at};
+ghost use Rattle.gg_flat_tree.specs.Tree.{instance_at};
 ghost use Rattle.gg_cut_plan.specs.Listed.{ParentsBefore, unit_or_hub, first_place, owner_of_instance};
 ghost use Rattle.gg_cut_plan.specs.Owners.{earlier, above};
 

@@ -3,7 +3,7 @@ ghost use Rattle.std.specs.Prelude.{◌≡◌, ℕ, ◌∷◌, [], ◌++◌, ◌
 ghost use Rattle.gg_bits.specs.Shape.{shape};
 ghost use Rattle.gg_flat.specs.Circuit.{signal_shapes};
 ghost use Rattle.gg_flat.specs.Line.{shape_at};
-ghost use Rattle.gg_flat.specs.Models.{model_names, model_circuits};
+ghost use Rattle.gg_cut_plan.specs.Models.{model_names, model_circuits};
 ghost use Rattle.gg_flat.specs.WellFormed.{IsWellFormed};
 ghost use Rattle.gg_cut_plan.specs.Listed.{AreMarks, is_among, place_of};
 ghost use Rattle.gg_cut_plan.specs.Channels.{channel_names};
@@ -14,8 +14,8 @@ ghost use Rattle.gg_cut_plan.specs.declared.fault.CutFault.TheVariants.{UnknownB
 use crate::capacities::is_channel;
 use crate::paths::copied;
 use gg_bits::{Name, Ty};
-use gg_cut_plan::{CutFault, marks_of};
-use gg_flat::{AddError, Models, Paths, Piece};
+use gg_cut_plan::{CutFault, Models, marks_of};
+use gg_flat::{AddError, Paths, Piece};
 use gg_flat_tree::Tree;
 use gg_partfile::{BridgeEntry, Request};
 use std::alloc::Global;

@@ -3,7 +3,7 @@
 use Rattle.std.specs.Prelude.{◌≡◌, ◌≢◌, ℕ, ◌<◌, List, ◌++◌, codes, true, Some, All, length, map, flat_map, slice_index_or, AllPairs, Contains}
 use Rattle.gg_flat.specs.Circuit.{FlatCircuit, signal_shapes}
 use Rattle.gg_flat.specs.Line.{shape_at}
-use Rattle.gg_flat.specs.Models.{model_names}
+use Rattle.gg_cut_plan.specs.Models.{model_names}
 use Rattle.gg_flat_tree.specs.Tree.{path_at}
 use Rattle.gg_partfile.specs.declared.request.BridgeEntry.{BridgeEntry}
 use Rattle.gg_bridge_joined.specs.Model.{IsModel}

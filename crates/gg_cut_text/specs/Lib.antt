@@ -1,3 +1,4 @@
 pub mod Alike
 pub mod CheckText
 pub mod PlanText
+pub mod NeedsTold

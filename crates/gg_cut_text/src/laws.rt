@@ -1,25 +1,19 @@
 //! Laws: facts about the definitions. Each is the contract of a function with an empty body.
-ghost use Rattle.std.specs.Prelude.{◌≡◌, ℕ, ◌<◌, List, length, slice_index_or};
+ghost use Rattle.std.specs.Prelude.{◌≡◌, ℕ, List};
 ghost use Rattle.gg_order.specs.Design.{Ordered};
 ghost use Rattle.gg_partfile.specs.declared.request.Request.{Request};
-ghost use Rattle.gg_cut_plan.specs.Seated.{plan_wires};
 ghost use Rattle.gg_cut_plan.specs.Fault.{first_fault, first_fault_with};
 ghost use Rattle.gg_cut_plan.specs.Bridges.{Models};
-ghost use Rattle.gg_cut_plan.specs.Listed.{listed_of};
 ghost use Rattle.gg_cut_plan.specs.Plan.{IsPlan};
-ghost use Rattle.gg_cut_plan.specs.declared.plan.Channel.{Channel};
 ghost use Rattle.gg_cut_plan.specs.declared.plan.Plan.{Plan};
 ghost use Rattle.gg_cut_text.specs.Alike.{AreAlike};
-ghost use Rattle.gg_cut_text.specs.CheckText.{AreChannelNeeds, IsTextOfCut};
+ghost use Rattle.gg_cut_text.specs.CheckText.{IsTextOfCut};
 ghost use Rattle.gg_cut_text.specs.PlanText.{plan_text};
+ghost use Rattle.gg_cut_text.specs.NeedsTold.{NeedsAreTold};
 
 /// What a channel of a plan needs is exactly what it needs in the circuit.
 pub fn needs_are_told()
-    ensures { (design : Ordered) (request : Request) (models : Models) (default : ℕ) (plan : Plan)
-        → IsPlan design request models default plan → (c : ℕ) (any : Channel)
-        → c < length (plan_wires design.circuit design.tree request)
-        → AreChannelNeeds design.circuit (listed_of design.tree request) (plan_wires design.circuit design.tree request) c
-        (slice_index_or plan.channels c any).needs }
+    ensures { NeedsAreTold }
 {}
 
 /// The text of a plan is the text of its cut.

@@ -101,10 +101,6 @@ fn add_given(
 
 // For each Clock input of a module, in port order, the Clock input that it follows of the module at the place `around`,
 // which has an instance of it under this name.
-//
-// # Errors
-//
-// Returns `AllocError` if an allocation fails.
 pub(crate) fn clocks_given(
     alloc: Global,
     typed: &Typed,
@@ -146,10 +142,6 @@ pub fn clock_count(ports: &[Port]) -> Result<u32, AllocError>
 }
 
 // The clocks of the circuit that the Clock inputs of the top are.
-//
-// # Errors
-//
-// Returns `AllocError` if an allocation fails.
 pub(crate) fn top_clocks(alloc: Global, body: &Module) -> Result<Vec<Option<u32>>, AllocError>
     ensures { IfOk result (λ clocks. clocks.items ≡ clocks_of_top body.now) }
 {

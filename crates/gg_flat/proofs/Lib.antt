@@ -1,6 +1,5 @@
 pub mod ListLemmas
 pub mod PathLemmas
-pub mod ModelLemmas
 pub mod PortLemmas
 pub mod NameLemmas
 pub mod OrderLemmas

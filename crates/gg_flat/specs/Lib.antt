@@ -11,9 +11,7 @@ pub mod Depends
 pub mod Run
 pub mod Order
 pub mod Served
-pub mod Room
 pub mod Along
 pub mod Ports
-pub mod Models
 pub mod ErrorText
 pub mod Streams

@@ -8,7 +8,8 @@ ghost use Rattle.gg_flat.specs.Served.{ByReader, ByWriter, after_access, written
 ghost use Rattle.gg_flat.specs.WellFormed.{IsMemory};
 
 use crate::clock::ticks;
-use gg_flat::{Latency, Memory, Reader, UnderWrite, Writer, zeros};
+use crate::room::zeros;
+use gg_flat::{Latency, Memory, Reader, UnderWrite, Writer};
 use std::alloc::{AllocError, Global};
 use std::marker::Model;
 

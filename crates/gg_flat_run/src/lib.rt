@@ -10,12 +10,14 @@
 //!   (`values_agree`). A signal's value in a settled cycle depends only on the in-signals that it reaches
 //!   (`depends_on_reached`).
 //!
-//! `State::settle` and `State::advance` do not allocate.
+//! `State::settle` and `State::advance` do not allocate. Their scratch space comes from `scratch_of`, and `signal_zeros` gives
+//! places for the values of the signals.
 #![tactic(auto)]
 
 mod bank;
 mod clock;
 mod laws;
+mod room;
 mod run;
 mod state;
 mod values;
@@ -26,5 +28,6 @@ pub use laws::{
     all_served, depends_on_reached, no_loop, one_served, run_once, runs_along, runs_on, runs_split,
     settled_once, settles_along, states_typed, values_agree,
 };
+pub use room::{room_of, scratch_of, signal_zeros, zeros};
 pub use state::State;
 pub use values::driver_value;

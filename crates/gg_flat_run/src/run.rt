@@ -7,7 +7,7 @@ ghost use Rattle.gg_flat.specs.WellFormed.{IsWellFormed};
 ghost use Rattle.gg_flat.specs.State.{IsState};
 ghost use Rattle.gg_flat.specs.Settled.{Settled, IsInputs, driver_value};
 ghost use Rattle.gg_flat.specs.Order.{IsOrder};
-ghost use Rattle.gg_flat.specs.Room.{HasRoom};
+ghost use Rattle.gg_flat_run.specs.Room.{HasRoom};
 
 use crate::state::State;
 use crate::values::driver_value;
@@ -17,7 +17,7 @@ impl State {
     /// The value that a signal's driver gives it, in this state and with these inputs, if the signals have these values.
     ///
     /// The piece is well formed. State, inputs and values have its counts and types, inputs in port order, values by
-    /// the signals' numbers. The scratch space has room for its lines (`Piece::scratch`).
+    /// the signals' numbers. The scratch space has room for its lines (`scratch_of`).
     pub fn signal_value(
         &self,
         piece: &Piece,
@@ -43,7 +43,7 @@ impl State {
     /// its driver's value.
     ///
     /// The piece is well formed, and the order has each signal once, after all signals that it reads. State, inputs and
-    /// the old values have the piece's counts and types. The scratch space has room for its lines (`Piece::scratch`).
+    /// the old values have the piece's counts and types. The scratch space has room for its lines (`scratch_of`).
     pub fn settle(
         &self,
         piece: &Piece,

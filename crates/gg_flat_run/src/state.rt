@@ -5,14 +5,15 @@ ghost use Rattle.std.specs.Borrow.{sem};
 ghost use Rattle.gg_flat_run.specs.Lent.{LendsBank};
 ghost use Rattle.gg_flat.specs.Memory.{bank_at, opening_bank, next_banks, AreBanks};
 ghost use Rattle.gg_flat.specs.WellFormed.{IsWellFormed, IsRegister, IsMemory};
-ghost use Rattle.gg_flat.specs.Room.{HasRoom, register_length};
+ghost use Rattle.gg_flat_run.specs.Room.{HasRoom, register_length};
 ghost use Rattle.gg_flat.specs.Circuit.{signal_shapes};
 ghost use Rattle.gg_flat.specs.Line.{AreTyped, HasValue};
 ghost use Rattle.gg_bits.specs.Shape.{shape};
 
 use crate::bank::Bank;
+use crate::room::zeros;
 use crate::values::next_value;
-use gg_flat::{Memory, Piece, Register, zeros};
+use gg_flat::{Memory, Piece, Register};
 use std::alloc::{AllocError, Global};
 use std::marker::Model;
 
@@ -87,7 +88,7 @@ impl State {
     /// clock, values by signal.
     ///
     /// The piece is well formed. State and values have its counts and types. The scratch space has room for its lines
-    /// (`Piece::scratch`). Only the words of a memory that its writers name are written.
+    /// (`scratch_of`). Only the words of a memory that its writers name are written.
     pub fn advance(&mut self, piece: &Piece, edges: &[bool], signals: &[u128], scratch: &mut [u128])
         requires formed { IsWellFormed piece.now }
         requires state { IsState piece.now self.old }

@@ -3,7 +3,7 @@ ghost use Rattle.std.specs.Prelude.{◌≡◌, ◌≤◌, length};
 ghost use Rattle.gg_bits.specs.Shape.{shape, Fits};
 ghost use Rattle.gg_flat.specs.Line.{HasValue};
 ghost use Rattle.gg_flat.specs.Settled.{HasSource, driver_value};
-ghost use Rattle.gg_flat.specs.Room.{line_length, register_length};
+ghost use Rattle.gg_flat_run.specs.Room.{line_length, register_length};
 ghost use Rattle.gg_flat.specs.WellFormed.{IsRegister};
 ghost use Rattle.gg_flat.specs.State.{next_register};
 

@@ -1,14 +1,9 @@
 //! Laws: facts about the definitions. Each is the contract of a function with an empty body.
-ghost use Rattle.std.specs.Prelude.{◌≢◌, ◌<◌, ◌++◌, ℕ, List, codes, length};
+ghost use Rattle.std.specs.Prelude.{ℕ, List, codes};
 ghost use Rattle.gg_ast.specs.Names.{AreNamesOfCircuit};
 ghost use Rattle.gg_ast.specs.Tree.{CircuitTree};
-ghost use Rattle.gg_elab_sites.specs.IsFlat.{IsFlat};
-ghost use Rattle.gg_flat.specs.Circuit.{FlatCircuit};
-ghost use Rattle.gg_flat_tree.specs.Scoped.{IsScoped};
-ghost use Rattle.gg_flat_tree.specs.Tree.{InstanceTree, IsTree, path_at};
 ghost use Rattle.gg_read.specs.Text.{Spells};
-ghost use Rattle.gg_elab_tree.specs.IsTreeOf.{IsTreeOf};
-ghost use Rattle.gg_front_paths.specs.Paths.{HavePaths};
+ghost use Rattle.gg_front_paths.specs.PathLaws.{TextsHavePaths, NoPathBegins};
 
 /// Each name in the circuit that a text spells is a name.
 pub fn spelt_names()
@@ -18,19 +13,16 @@ pub fn spelt_names()
 /// Let a text spell a circuit that has this flat circuit and this tree. Signals and memories have paths, instances
 /// too, and the ports of a memory have different names.
 pub fn paths_are_words()
-    ensures { (text : List ℕ) (circuit : CircuitTree) (flat : FlatCircuit) (tree : InstanceTree) → Spells text circuit
-        → IsFlat circuit flat → IsTreeOf circuit tree → IsTree flat tree → IsScoped flat tree → HavePaths flat tree }
+    ensures { TextsHavePaths }
 {}
 
 /// No path of a signal in the flat circuit of a text begins with `pipe:`. Names have no colon, and the paths of stops have
 /// theirs behind `stop`. So names that begin so are free for what is added to a circuit.
 pub fn no_pipe_names()
-    ensures { (text : List ℕ) (circuit : CircuitTree) (flat : FlatCircuit) → Spells text circuit → IsFlat circuit flat → (s : ℕ)
-        (path : List ℕ) → s < length flat.signals → path_at flat.paths s ≢ codes "pipe:" ++ path }
+    ensures { NoPathBegins (codes "pipe:") }
 {}
 
 /// No path begins with `bridge:` either.
 pub fn no_bridge_names()
-    ensures { (text : List ℕ) (circuit : CircuitTree) (flat : FlatCircuit) → Spells text circuit → IsFlat circuit flat → (s : ℕ)
-        (path : List ℕ) → s < length flat.signals → path_at flat.paths s ≢ codes "bridge:" ++ path }
+    ensures { NoPathBegins (codes "bridge:") }
 {}

@@ -1,4 +1,5 @@
 pub mod Nets
 pub mod At
+pub mod Ways
 pub mod Turns
 pub mod Sets

@@ -1,62 +1,51 @@
 //! Laws: facts about the definitions. Each is the contract of a function with an empty body.
-ghost use Rattle.std.specs.Prelude.{◌≡◌, ◌↔◌, ◌+◌, ◌-◌, ◌*◌, ◌<◌, suc, List, Option, Some, length, map, IsPermutation};
+ghost use Rattle.std.specs.Prelude.{◌≡◌, ◌↔◌, ◌+◌, ◌-◌, ◌*◌, ◌<◌, suc, List, Option, length, IsPermutation};
 ghost use Rattle.gg_flat.specs.Streams.{Flow};
 ghost use Rattle.gg_net.specs.declared.event.Event.{Event};
-ghost use Rattle.gg_net_marking.specs.Marking.{Layout, opening_marking};
-ghost use Rattle.gg_net_progress.specs.Counts.{Counts, counts_of, HasBegun, IsAllowed, AreAtMost, AreSame, CanRun, IsMarkingOf};
+ghost use Rattle.gg_net_progress.specs.Counts.{Counts, HasBegun, IsAllowed, AreAtMost, CanRun, IsMarkingOf};
 ghost use Rattle.gg_net_progress.specs.Measure.{left, sum_below};
 ghost use Rattle.gg_net.specs.Network.{Network, Frame, frame_of};
 ghost use Rattle.gg_net.specs.Kept.{Kept, IsSound};
 ghost use Rattle.gg_net.specs.Step.{Ready, Step};
 ghost use Rattle.gg_net_marking.specs.Steps.{Steps};
-ghost use Rattle.gg_net_marking.specs.Fits.{HasLayout, marking_of};
+ghost use Rattle.gg_net_marking.specs.Fits.{marking_of};
 ghost use Rattle.gg_measure.specs.At.{IsAt};
+ghost use Rattle.gg_measure.specs.Ways.{CanComeUp, LeadsTo, LeadsToCounts, LeadsToWith, OfEachKept, OfEachOpening, StepsBy, counts_in};
 ghost use Rattle.gg_measure.specs.Nets.{AllStandAt, AreDrained, HaveKept, dues_at, net_left};
 
 /// The layout of a network that is kept can run. The counts are allowed and have begun. The measure of the network is
 /// that of its marking. Before the first cycle it is a product: the number of cycles times the sum of twice the channels,
 /// the machines and the served ports.
 pub fn nets_are_allowed()
-    ensures runs { (flow : Flow) (net : Network) (layout : Layout) → Kept flow net → HasLayout (frame_of net) layout → CanRun layout × IsMarkingOf layout (marking_of net) }
-    ensures allowed { (flow : Flow) (net : Network) (layout : Layout) → Kept flow net → HasLayout (frame_of net) layout → IsAllowed layout (counts_of layout (marking_of net)) }
-    ensures begun { (flow : Flow) (net : Network) (layout : Layout) → Kept flow net → HasLayout (frame_of net) layout → HasBegun layout flow.begin (counts_of layout (marking_of net)) }
-    ensures measure { (flow : Flow) (net : Network) (layout : Layout) → Kept flow net → HasLayout (frame_of net) layout → net_left net ≡ left layout (counts_of layout (marking_of net)) }
-    ensures opening { (flow : Flow) (net : Network) (layout : Layout) → Kept flow net → HasLayout (frame_of net) layout
-        → marking_of net ≡ opening_marking layout flow.begin
-        → net_left net ≡ (net.end - flow.begin) * (2 * length net.wires + length net.machines
-        + sum_below (dues_at net) (length net.machines)) }
+    ensures runs { OfEachKept (λ flow net layout. CanRun layout × IsMarkingOf layout (marking_of net)) }
+    ensures allowed { OfEachKept (λ flow net layout. IsAllowed layout (counts_in layout net)) }
+    ensures begun { OfEachKept (λ flow net layout. HasBegun layout flow.begin (counts_in layout net)) }
+    ensures measure { OfEachKept (λ flow net layout. net_left net ≡ left layout (counts_in layout net)) }
+    ensures opening { OfEachOpening (λ flow net layout. net_left net ≡ (net.end - flow.begin)
+        * (2 * length net.wires + length net.machines + sum_below (dues_at net) (length net.machines))) }
 {}
 
 /// From a network steps lead to each other with the same frame and the same flow whose counts are nowhere lower.
 pub fn steps_up()
-    ensures { (flow : Flow) (old goal : Network) (layout : Layout) → Kept flow old → Kept flow goal
-        → frame_of goal ≡ frame_of old → HasLayout (frame_of old) layout
-        → AreAtMost layout (counts_of layout (marking_of old)) (counts_of layout (marking_of goal)) → (events : List Event)
-        × Steps old (map (λ e. Some e) events) goal }
+    ensures { OfEachKept (λ flow old layout. (goal : Network) → Kept flow goal → frame_of goal ≡ frame_of old
+        → AreAtMost layout (counts_in layout old) (counts_in layout goal) → LeadsTo old goal) }
 {}
 
 /// From a network steps lead to one with any allowed counts that are nowhere lower. From a network before its first
 /// cycle they lead to one with these counts exactly if the counts are allowed and have begun.
 pub fn made_by_counts()
-    ensures up { (flow : Flow) (old : Network) (layout : Layout) (counts : Counts) → Kept flow old
-        → HasLayout (frame_of old) layout → IsAllowed layout counts → AreAtMost layout (counts_of layout (marking_of old)) counts
-        → (events : List Event) × (new : Network) × Steps old (map (λ e. Some e) events) new
-        × AreSame layout counts (counts_of layout (marking_of new)) }
-    ensures exactly { (flow : Flow) (old : Network) (layout : Layout) (counts : Counts) → Kept flow old
-        → HasLayout (frame_of old) layout → marking_of old ≡ opening_marking layout flow.begin
-        → (IsAllowed layout counts × HasBegun layout flow.begin counts)
-        ↔ ((events : List Event) × (new : Network) × Steps old (map (λ e. Some e) events) new
-        × AreSame layout counts (counts_of layout (marking_of new))) }
+    ensures up { OfEachKept (λ flow old layout. (counts : Counts) → IsAllowed layout counts
+        → AreAtMost layout (counts_in layout old) counts → LeadsToCounts layout old counts) }
+    ensures exactly { OfEachOpening (λ flow old layout. (counts : Counts)
+        → CanComeUp flow layout counts ↔ LeadsToCounts layout old counts) }
 {}
 
 /// From a network before its first cycle steps lead to a network with these counts exactly if the counts are allowed
 /// and have begun, and it is the network with these counts. There is only one.
 pub fn reached_exactly()
-    ensures exactly { (flow : Flow) (old new : Network) (layout : Layout) (counts : Counts) → Kept flow old
-        → HasLayout (frame_of old) layout → marking_of old ≡ opening_marking layout flow.begin
-        → (IsAllowed layout counts × HasBegun layout flow.begin counts × IsAt flow (frame_of old) counts new)
-        ↔ ((events : List Event) × Steps old (map (λ e. Some e) events) new
-        × AreSame layout counts (counts_of layout (marking_of new))) }
+    ensures exactly { OfEachOpening (λ flow old layout. (new : Network) (counts : Counts)
+        → (CanComeUp flow layout counts × IsAt flow (frame_of old) counts new)
+        ↔ LeadsToWith layout old counts new) }
     ensures one { (flow : Flow) (frame : Frame) (counts : Counts) (one other : Network) → IsSound flow frame → IsAt flow frame counts one → IsAt flow frame counts other → one ≡ other }
 {}
 
@@ -86,7 +75,6 @@ pub fn none_left()
 
 /// From a network the same steps in two orders, if each order can be done, lead to one network.
 pub fn one_end()
-    ensures { (flow : Flow) (old one other : Network) (events others : List Event) → Kept flow old
-        → Steps old (map (λ e. Some e) events) one → Steps old (map (λ e. Some e) others) other → IsPermutation events others
-        → one ≡ other }
+    ensures { (flow : Flow) (old one other : Network) (events others : List Event) → Kept flow old → StepsBy old events one
+        → StepsBy old others other → IsPermutation events others → one ≡ other }
 {}

@@ -12,7 +12,8 @@ use Rattle.gg_flat.specs.declared.memory.Memory.{Memory}
 use Rattle.gg_flat.specs.Clock.{Ratio}
 use Rattle.gg_flat.specs.Line.{value_at}
 use Rattle.gg_flat.specs.Circuit.{FlatCircuit, reader_at}
-use Rattle.gg_flat.specs.State.{State, opening}
+use Rattle.gg_flat.specs.State.{State, next_state, opening}
+use Rattle.gg_flat.specs.Settled.{Settled}
 use Rattle.gg_flat.specs.Memory.{Bank, LooksAmong, WritesAmong, read_count, bank_at}
 use Rattle.gg_flat.specs.Served.{Access, ByReader, ByWriter, due_of}
 use Rattle.gg_flat.specs.WellFormed.{IsWellFormed}
@@ -132,3 +133,10 @@ pub record IsOfPiece (piece : FlatCircuit) (state : State) (inputs : List ℕ) (
   pub ins : length latches ≡ length piece.ins
   pub outs : length flags ≡ length piece.outs
   pub tokens : inputs ≡ latched_values latches
+
+-- Once all ports of a memory were served, with the tokens in the latches, its state is the piece's next state of a tick with
+-- these edges, whose inputs are these tokens.
+abbrev pub IsServedThrough : List Bool → FlatCircuit → State → Type 0
+IsServedThrough edges piece state =
+    (latches : List (Option ℕ)) (signals : List ℕ) → Settled piece state (latched_values latches) signals
+    → accessed_by edges latches state (ports_of piece.memories) ≡ next_state edges piece state signals

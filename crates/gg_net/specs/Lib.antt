@@ -5,3 +5,4 @@ pub mod Queue
 pub mod Stations
 pub mod Net
 pub mod Parted
+pub mod TrayLaws

@@ -1,13 +1,13 @@
 //! Laws: facts about the definitions. Each is the contract of a function with an empty body.
-ghost use Rattle.std.specs.Prelude.{◌≡◌, ℕ, ◌+◌, ◌<◌, ◌≤◌, Some, length};
-ghost use Rattle.gg_flat.specs.Line.{value_at};
+ghost use Rattle.std.specs.Prelude.{◌≡◌, ℕ, ◌<◌, length};
 ghost use Rattle.gg_flat.specs.Streams.{Flow};
-ghost use Rattle.gg_node.specs.Machine.{KeepsLast, machine_at, kept_value};
+ghost use Rattle.gg_node.specs.Machine.{machine_at};
 ghost use Rattle.gg_net.specs.declared.event.Event.{Event};
 ghost use Rattle.gg_net.specs.declared.event.StepRefusal.{StepRefusal};
-ghost use Rattle.gg_net.specs.Network.{Network, SameCounts, consumer_of, frame_of};
-ghost use Rattle.gg_net.specs.Kept.{list_at, Kept};
+ghost use Rattle.gg_net.specs.Network.{Network, SameCounts, frame_of};
+ghost use Rattle.gg_net.specs.Kept.{Kept};
 ghost use Rattle.gg_net.specs.Step.{Ready, Refused, Step};
+ghost use Rattle.gg_net.specs.TrayLaws.{TraysTell, TraysTellOnly};
 
 /// An event of a network that is kept, if it may be done, can be done in exactly one way. It isn't refused.
 pub fn goes_once()
@@ -34,10 +34,6 @@ pub fn refused_once()
 /// A tray of a network that is kept has the values of its channel in its last `rows` cycles, since the beginning, and
 /// no others.
 pub fn trays_tell()
-    ensures tells { (flow : Flow) (net : Network) (c rows t : ℕ) → Kept flow net → c < length net.wires
-        → (consumer_of net c).behaviour ≡ KeepsLast rows → flow.begin ≤ t → t < (consumer_of net c).cycle
-        → (consumer_of net c).cycle ≤ t + rows → kept_value (consumer_of net c) t ≡ Some (value_at (list_at flow.lists c) t) }
-    ensures only { (flow : Flow) (net : Network) (c rows t value : ℕ) → Kept flow net → c < length net.wires
-        → (consumer_of net c).behaviour ≡ KeepsLast rows → kept_value (consumer_of net c) t ≡ Some value → (flow.begin ≤ t)
-        × (t < (consumer_of net c).cycle) × ((consumer_of net c).cycle ≤ t + rows) × (value ≡ value_at (list_at flow.lists c) t) }
+    ensures tells { TraysTell }
+    ensures only { TraysTellOnly }
 {}

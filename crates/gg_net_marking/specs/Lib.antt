@@ -3,3 +3,4 @@ pub mod Goes
 pub mod Fits
 pub mod Steps
 pub mod LayoutOf
+pub mod MarkingLaws

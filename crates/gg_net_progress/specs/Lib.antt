@@ -1,3 +1,4 @@
 pub mod Counts
 pub mod Measure
 pub mod Leads
+pub mod ProgressLaws

@@ -5,3 +5,4 @@ pub mod Choice
 pub mod Numbers
 pub mod Building
 pub mod Clocking
+pub mod RunsOfParts

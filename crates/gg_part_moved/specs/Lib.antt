@@ -3,3 +3,4 @@ pub mod Domains
 pub mod KeepsToTree
 pub mod Moved
 pub mod StandsAgain
+pub mod PartsMove

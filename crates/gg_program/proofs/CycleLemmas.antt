@@ -10,7 +10,7 @@ use Rattle.gg_flat.specs.declared.piece.Driver.TheVariants.{Input}
 use Rattle.gg_flat.specs.Line.{shape_at, value_at, AreTyped}
 use Rattle.gg_flat.specs.Circuit.{FlatCircuit, signal_shapes}
 use Rattle.gg_flat.specs.Reads.{Reaches}
-use Rattle.gg_flat.specs.Room.{HasRoom}
+use Rattle.gg_flat_run.specs.Room.{HasRoom}
 use Rattle.gg_flat.specs.WellFormed.{IsWellFormed, MayDrive}
 use Rattle.gg_flat.specs.State.{State}
 use Rattle.gg_flat.specs.Settled.{Settled, in_shapes}

@@ -31,3 +31,9 @@ pub record MaySettle (circuit : FlatCircuit) (state : State) (inputs : List ℕ)
 pub record IsConeValue (circuit : FlatCircuit) (state : State) (inputs : List ℕ) (out value : ℕ) : Type 0 where
   pub every : (others row : List ℕ) → Settled circuit state others row → HasNeeds circuit inputs out row → value_at row out ≡ value
   pub some : MaySettle circuit state inputs out
+
+-- Inputs that agree on those that a signal needs give it the same value in this state.
+abbrev pub IsGivenByNeeds : FlatCircuit → State → ℕ → Type 0
+IsGivenByNeeds circuit state out =
+    (inputs others : List ℕ) (value : ℕ) → NeedsAlike circuit out inputs others
+    → IsConeValue circuit state inputs out value → IsConeValue circuit state others out value

@@ -2,13 +2,11 @@
 ghost use Rattle.std.specs.Prelude.{◌≡◌, ℕ, List};
 ghost use Rattle.gg_flat.specs.Circuit.{FlatCircuit};
 ghost use Rattle.gg_flat.specs.State.{State};
-ghost use Rattle.gg_program.specs.ConeValue.{NeedsAlike, IsConeValue};
+ghost use Rattle.gg_program.specs.ConeValue.{IsConeValue, IsGivenByNeeds};
 
 /// A state and inputs give a signal one value. Inputs that agree on those that it needs give it the same value.
 pub fn one_cone_value()
     ensures once { (circuit : FlatCircuit) (state : State) (inputs : List ℕ) (out value other : ℕ)
         → IsConeValue circuit state inputs out value → IsConeValue circuit state inputs out other → value ≡ other }
-    ensures needs { (circuit : FlatCircuit) (state : State) (inputs others : List ℕ) (out value : ℕ)
-        → NeedsAlike circuit out inputs others → IsConeValue circuit state inputs out value
-        → IsConeValue circuit state others out value }
+    ensures needs { (circuit : FlatCircuit) (state : State) (out : ℕ) → IsGivenByNeeds circuit state out }
 {}

@@ -16,7 +16,7 @@ use crate::slots::Slots;
 use crate::steps::Steps;
 use gg_bits::Ids;
 use gg_flat::Piece;
-use gg_flat_run::State;
+use gg_flat_run::{State, room_of};
 use gg_part_needs::needs_of;
 use std::alloc::{AllocError, Global};
 use std::error::Error;
@@ -118,7 +118,7 @@ impl<'a> Program<'a> {
         ensures none { IfOk result (λ slots. NoneDone slots) }
         ensures cycle { IfOk result (λ slots. (state : State) → InCycle self.now.circuit state slots) }
     {
-        let slots = Slots::new(alloc, self.piece.signals().len(), self.piece.room())?;
+        let slots = Slots::new(alloc, self.piece.signals().len(), room_of(&self.piece))?;
         Ok(slots)
     }
 

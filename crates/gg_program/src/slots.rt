@@ -15,7 +15,7 @@ use crate::evaluate::{work_out, work_rest};
 use crate::search::{Search, are_marked};
 use crate::steps::Steps;
 use gg_flat::Piece;
-use gg_flat_run::State;
+use gg_flat_run::{State, zeros};
 use std::alloc::{AllocError, Global};
 use std::marker::Model;
 use std::sync::ledger::Ledger;
@@ -57,13 +57,6 @@ impl Model for Slots {
     ghost view = { λ slots. record { values = slots.values.items; done = slots.search.marks; room = length slots.room.items } };
 
     ghost invariant = { λ slots. (slots.search.found ≡ []) × (slots.whole ≡ true → IsFull slots.search.marks) };
-}
-
-// This many zeros.
-fn zeros(alloc: Global, count: usize) -> Result<Vec<u128>, AllocError>
-    ensures { IfOk result (λ values. values.items ≡ replicate count 0) }
-{
-    vec![in alloc; 0; count]
 }
 
 impl Slots {

@@ -11,7 +11,9 @@ mod digits;
 mod expression;
 mod field;
 mod laws;
+mod registers;
 mod row;
+mod stops;
 mod words;
 
 pub use cursor::RowFault;

@@ -1,18 +1,15 @@
 //! The row of a line: one function for each form.
-ghost use Rattle.std.specs.Prelude.{◌≡◌, ℕ, List, [], ◌∷◌, ◌++◌, length, map, IfOk, MatchResult};
-ghost use Rattle.gg_ast.specs.Row.{RegisterResetRow, StopRow};
-ghost use Rattle.gg_ast.specs.Term.{Term};
-ghost use Rattle.gg_lex.specs.declared.token.Symbol.TheVariants.{Comma, CloseParen};
-ghost use Rattle.gg_read_row.specs.Reading.{◌>>=◌ as ◌and_then◌, Reads, Finds, symbol_at, one_parameter_at, expression_at, last_expression_at, version_at, header_at, declared_at, last_declared_at, node_at, reset_at, reset_row_at, inline_reset_at, with_at, clocked_at, register_at, instance_at, field_row_at, label_at, stop_at, argument_at, arguments_at, TakesArgument, report_at, body_at, invalid_at, driven_at, connection_at, public_at, connect_at, invalidate_at, last_pair_at, regreset_at, row_at};
+ghost use Rattle.std.specs.Prelude.{IfOk};
+ghost use Rattle.gg_read_row.specs.Reading.{Reads, Finds, expression_at, last_expression_at, version_at, header_at, declared_at, last_declared_at, node_at, instance_at, field_row_at, body_at, invalid_at, driven_at, connection_at, public_at, connect_at, invalidate_at, row_at};
 ghost use Rattle.gg_read_row.specs.LineRows.{AreNamesOfLine, FindsRow, TellsRow};
 
 use crate::cursor::{Cursor, RowFault};
-use crate::expression::{expr, ground_type, one_parameter, reference};
+use crate::expression::{expr, ground_type, reference};
 use crate::field::field;
+use crate::registers::{register, regreset, reset_row};
+use crate::stops::{report, stop};
 use crate::words::{FieldWord, Keyword};
-use gg_ast::{
-    Argument, Arguments, Direction, Expr, GroundType, MemoryField, Reference, Report, StmtKind,
-};
+use gg_ast::{Direction, Expr, GroundType, MemoryField, Reference, Report, StmtKind};
 use gg_bits::Name;
 use gg_lex::{Symbol, Tok};
 use std::alloc::Global;
@@ -125,7 +122,7 @@ fn public(cursor: &mut Cursor) -> Result<LineRow, RowFault>
 }
 
 // `NAME : TYPE`.
-fn declared(cursor: &mut Cursor) -> Result<(Name, GroundType), RowFault>
+pub(crate) fn declared(cursor: &mut Cursor) -> Result<(Name, GroundType), RowFault>
     ensures { Reads (λ d. d) result cursor.new (declared_at cursor.old) }
 {
     let name = cursor.name()?;
@@ -160,7 +157,7 @@ fn wire(cursor: &mut Cursor) -> Result<LineRow, RowFault>
 }
 
 // An expression, with operations nested to any depth.
-fn expression(alloc: Global, cursor: &mut Cursor) -> Result<Expr, RowFault>
+pub(crate) fn expression(alloc: Global, cursor: &mut Cursor) -> Result<Expr, RowFault>
     ensures { Reads (λ e. e) result cursor.new (expression_at cursor.old) }
 {
     let depth = cursor.len();
@@ -168,7 +165,7 @@ fn expression(alloc: Global, cursor: &mut Cursor) -> Result<Expr, RowFault>
 }
 
 // An expression up to the end.
-fn last_expression(alloc: Global, cursor: &mut Cursor) -> Result<Expr, RowFault>
+pub(crate) fn last_expression(alloc: Global, cursor: &mut Cursor) -> Result<Expr, RowFault>
     ensures { Finds (λ e. e) result (last_expression_at cursor.old) }
 {
     let value = expression(alloc, cursor)?;
@@ -187,167 +184,6 @@ fn node(alloc: Global, cursor: &mut Cursor) -> Result<LineRow, RowFault>
     cursor.symbol(Symbol::Equals)?;
     let value = last_expression(alloc, cursor)?;
     Ok(LineRow::Statement(StmtKind::Node { name, value }))
-}
-
-// A register, after its keyword.
-fn register(alloc: Global, cursor: &mut Cursor) -> Result<LineRow, RowFault>
-    ensures { FindsRow result (register_at cursor.old) }
-{
-    let (name, ty) = declared(cursor)?;
-    cursor.symbol(Symbol::Comma)?;
-    let clock = expression(alloc, cursor)?;
-    clocked(alloc, cursor, name, ty, clock)
-}
-
-// What may follow a register's clock: nothing, or a reset.
-fn clocked(
-    alloc: Global,
-    cursor: &mut Cursor,
-    name: Name,
-    ty: GroundType,
-    clock: Expr,
-) -> Result<LineRow, RowFault>
-    ensures { FindsRow result (clocked_at name ty clock cursor.old) }
-{
-    if cursor.is_empty() {
-        return Ok(LineRow::Statement(StmtKind::Register {
-            name,
-            ty,
-            clock,
-            reset: None,
-        }));
-    }
-    reset_part(alloc, cursor, name, ty, clock)
-}
-
-// `with :`, and a reset on this line or the next.
-fn reset_part(
-    alloc: Global,
-    cursor: &mut Cursor,
-    name: Name,
-    ty: GroundType,
-    clock: Expr,
-) -> Result<LineRow, RowFault>
-    ensures { FindsRow result (with_at name ty clock cursor.old) }
-{
-    if !(cursor.skip_word("with") && cursor.skip(Symbol::Colon)) {
-        drop(clock);
-        return Err(RowFault::NoForm);
-    }
-    if cursor.is_empty() {
-        return Ok(LineRow::RegisterOpen(name, ty, clock));
-    }
-    match inline_reset(alloc, cursor) {
-        Ok(found) => {
-            let (condition, init) = found;
-            Ok(LineRow::RegisterReset(name, ty, clock, condition, init))
-        }
-        Err(fault) => {
-            drop(clock);
-            Err(fault)
-        }
-    }
-}
-
-// A reset in brackets, at the end of the register's line.
-fn inline_reset(alloc: Global, cursor: &mut Cursor) -> Result<(Expr, Expr), RowFault>
-    ensures { (name : List ℕ) (ty : GroundType) (clock : Term) → Finds (λ r. RegisterResetRow name ty clock r.0 r.1) result (inline_reset_at name ty clock cursor.old) }
-{
-    cursor.symbol(Symbol::OpenParen)?;
-    cursor.word("reset")?;
-    let found = reset(alloc, cursor)?;
-    if cursor.skip(Symbol::CloseParen) && cursor.is_empty() {
-        return Ok(found);
-    }
-    drop(found);
-    Err(RowFault::NoForm)
-}
-
-// `=> ( CONDITION , INIT )`.
-fn reset(alloc: Global, cursor: &mut Cursor) -> Result<(Expr, Expr), RowFault>
-    ensures { Reads (λ r. r) result cursor.new (reset_at cursor.old) }
-{
-    cursor.symbol(Symbol::Arrow)?;
-    cursor.symbol(Symbol::OpenParen)?;
-    let condition = expression(alloc, cursor)?;
-    reset_init(alloc, cursor, condition)
-}
-
-// `, INIT )`, after the condition of a reset.
-fn reset_init(alloc: Global, cursor: &mut Cursor, condition: Expr) -> Result<(Expr, Expr), RowFault>
-    ensures { Reads {B = Term × Term} (λ r. r) result cursor.new
-        (symbol_at Comma cursor.old and_then λ t. expression_at t and_then λ i. symbol_at CloseParen i.1 and_then λ u. Some
-        ((condition, i.0), u)) }
-{
-    if !cursor.skip(Symbol::Comma) {
-        drop(condition);
-        return Err(RowFault::NoForm);
-    }
-    match expression(alloc, cursor) {
-        Ok(init) => {
-            if cursor.skip(Symbol::CloseParen) {
-                return Ok((condition, init));
-            }
-            drop(condition);
-            drop(init);
-            Err(RowFault::NoForm)
-        }
-        Err(fault) => {
-            drop(condition);
-            Err(fault)
-        }
-    }
-}
-
-// A reset on a line of its own, after its keyword.
-fn reset_row(alloc: Global, cursor: &mut Cursor) -> Result<LineRow, RowFault>
-    ensures { FindsRow result (reset_row_at cursor.old) }
-{
-    let found = reset(alloc, cursor)?;
-    if cursor.is_empty() {
-        let (condition, init) = found;
-        return Ok(LineRow::Reset(condition, init));
-    }
-    drop(found);
-    Err(RowFault::NoForm)
-}
-
-// A register with a reset, after `regreset`.
-fn regreset(alloc: Global, cursor: &mut Cursor) -> Result<LineRow, RowFault>
-    ensures { FindsRow result (regreset_at cursor.old) }
-{
-    let (name, ty) = declared(cursor)?;
-    cursor.symbol(Symbol::Comma)?;
-    let clock = expression(alloc, cursor)?;
-    match last_pair(alloc, cursor) {
-        Ok(found) => {
-            let (condition, init) = found;
-            Ok(LineRow::RegisterReset(name, ty, clock, condition, init))
-        }
-        Err(fault) => {
-            drop(clock);
-            Err(fault)
-        }
-    }
-}
-
-// `, CONDITION , INIT` up to the end.
-fn last_pair(alloc: Global, cursor: &mut Cursor) -> Result<(Expr, Expr), RowFault>
-    ensures { Finds (λ p. p) result (last_pair_at cursor.old) }
-{
-    cursor.symbol(Symbol::Comma)?;
-    let condition = expression(alloc, cursor)?;
-    if !cursor.skip(Symbol::Comma) {
-        drop(condition);
-        return Err(RowFault::NoForm);
-    }
-    match last_expression(alloc, cursor) {
-        Ok(init) => Ok((condition, init)),
-        Err(fault) => {
-            drop(condition);
-            Err(fault)
-        }
-    }
 }
 
 // An instance, after its keyword.
@@ -375,136 +211,6 @@ fn skip(cursor: &mut Cursor) -> Result<LineRow, RowFault>
 {
     cursor.end()?;
     Ok(LineRow::Statement(StmtKind::Skip))
-}
-
-// Nothing, or `: NAME`.
-fn label(cursor: &mut Cursor) -> Result<Option<Name>, RowFault>
-    ensures { Finds (λ l. l) result (label_at cursor.old) }
-{
-    if cursor.is_empty() {
-        return Ok(None);
-    }
-    cursor.symbol(Symbol::Colon)?;
-    let name = cursor.name()?;
-    cursor.end()?;
-    Ok(Some(name))
-}
-
-// A stop, after its keyword.
-fn stop(alloc: Global, cursor: &mut Cursor) -> Result<LineRow, RowFault>
-    ensures { FindsRow result (stop_at cursor.old) }
-{
-    cursor.symbol(Symbol::OpenParen)?;
-    let clock = expression(alloc, cursor)?;
-    if !cursor.skip(Symbol::Comma) {
-        drop(clock);
-        return Err(RowFault::NoForm);
-    }
-    match expression(alloc, cursor) {
-        Ok(condition) => stopped(cursor, clock, condition),
-        Err(fault) => {
-            drop(clock);
-            Err(fault)
-        }
-    }
-}
-
-// A stop, after its condition.
-fn stopped(cursor: &mut Cursor, clock: Expr, condition: Expr) -> Result<LineRow, RowFault>
-    ensures { FindsRow result (one_parameter_at cursor.old and_then λ n. label_at n.1 and_then λ l. Some (StopRow clock condition n.0 l)) }
-{
-    match stop_code(cursor) {
-        Ok(found) => {
-            let (code, label) = found;
-            Ok(LineRow::Statement(StmtKind::Stop {
-                clock,
-                condition,
-                code,
-                label,
-            }))
-        }
-        Err(fault) => {
-            drop(clock);
-            drop(condition);
-            Err(fault)
-        }
-    }
-}
-
-// `, CODE )` and the label of a stop.
-fn stop_code(cursor: &mut Cursor) -> Result<(u32, Option<Name>), RowFault>
-    ensures { (clock condition : Term) → Finds (λ s. StopRow clock condition s.0 s.1) result (one_parameter_at cursor.old and_then λ n. label_at n.1 and_then λ l. Some (StopRow clock condition n.0 l)) }
-{
-    let code = one_parameter(cursor)?;
-    let label = label(cursor)?;
-    Ok((code, label))
-}
-
-// An argument: a text or an expression.
-fn argument(alloc: Global, cursor: &mut Cursor) -> Result<Argument, RowFault>
-    ensures { Reads (λ a. a) result cursor.new (argument_at cursor.old) }
-{
-    if cursor.is_text() {
-        return Ok(Argument::Text(cursor.text()?));
-    }
-    let value = expression(alloc, cursor)?;
-    Ok(Argument::Value(value))
-}
-
-// One or more arguments with commas between them, and the closing bracket.
-fn arguments(alloc: Global, cursor: &mut Cursor) -> Result<Arguments, RowFault>
-    ensures { Reads (λ v. v) result cursor.new (arguments_at (length cursor.old) [] cursor.old) }
-{
-    let mut arguments = Arguments::new(alloc);
-    for _turn in 0..cursor.len() {
-        match next_argument(alloc, cursor, &mut arguments) {
-            Ok(true) => {}
-            Ok(false) => return Ok(arguments),
-            Err(fault) => return Err(fault),
-        }
-    }
-    Err(RowFault::NoForm)
-}
-
-// One argument, and what follows it: a comma if there are more, or the closing bracket.
-fn next_argument(
-    alloc: Global,
-    cursor: &mut Cursor,
-    arguments: &mut Arguments,
-) -> Result<bool, RowFault>
-    ensures { TakesArgument result arguments.old cursor.old arguments.new cursor.new }
-{
-    let next = argument(alloc, cursor)?;
-    add_argument(arguments, next)?;
-    if cursor.skip(Symbol::Comma) {
-        return Ok(true);
-    }
-    cursor.symbol(Symbol::CloseParen)?;
-    Ok(false)
-}
-
-// Adds an argument as the last.
-fn add_argument(arguments: &mut Arguments, next: Argument) -> Result<(), RowFault>
-    ensures { MatchResult result (λ _. arguments.new ≡ arguments.old ++ next ∷ []) (λ fault. fault ≡ RowFault.NoMemory) }
-{
-    match arguments.push(next) {
-        Ok(()) => Ok(()),
-        Err(error) => Err(RowFault::from(error)),
-    }
-}
-
-// A statement without effect, after its keyword.
-fn report(alloc: Global, cursor: &mut Cursor, word: Report) -> Result<LineRow, RowFault>
-    ensures { FindsRow result (report_at word cursor.old) }
-{
-    cursor.symbol(Symbol::OpenParen)?;
-    let arguments = arguments(alloc, cursor)?;
-    let label = label(cursor)?;
-    Ok(LineRow::Statement(StmtKind::Report {
-        word,
-        arguments,
-        label,
-    }))
 }
 
 // A connection: a sink and its source.

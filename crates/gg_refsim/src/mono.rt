@@ -11,7 +11,7 @@ ghost use Rattle.gg_refsim.specs.Cycle.{Cycle, begun};
 
 use gg_clocks::{Ratio, Timing};
 use gg_flat::Piece;
-use gg_flat_run::State;
+use gg_flat_run::{State, scratch_of, signal_zeros};
 use gg_order::Design;
 use std::alloc::{AllocError, Global};
 use std::error::Error;
@@ -97,8 +97,8 @@ impl<'a> Mono<'a> {
     {
         let piece = design.piece();
         let state = State::new(alloc, piece)?;
-        let signals = piece.zeros(alloc)?;
-        let scratch = piece.scratch(alloc)?;
+        let signals = signal_zeros(alloc, piece)?;
+        let scratch = scratch_of(alloc, piece)?;
         let timing = Timing::new(alloc, ratios, 0)?;
         Ok(Mono {
             design,

@@ -2,11 +2,17 @@
 -- Source: MEMOCODE 2009 (the k-th token of each queue is the signal's value in cycle k).
 use Rattle.std.specs.Prelude.{◌≡◌, ℕ, ◌<◌, List, [], Option, take, length, map, slice_index_or}
 use Rattle.gg_flat.specs.Streams.{Flow}
+use Rattle.gg_node.specs.Machine.{Machine, machine_at}
 use Rattle.gg_net.specs.declared.event.Event.{Event}
 use Rattle.gg_net.specs.declared.shape.Wire.{Wire}
 use Rattle.gg_net.specs.Network.{Network, entered, opening_queue}
 use Rattle.gg_net.specs.Kept.{Kept, list_at}
+use Rattle.gg_net.specs.Net.{IsOpening, opening_net}
 use Rattle.gg_net_marking.specs.Steps.{IsStep}
+
+-- these machines are before their first step, as the flow has them
+abbrev pub AreOpening : Flow → List Machine → Type 0
+AreOpening flow machines = (m : ℕ) → m < length machines → IsOpening flow m (machine_at machines m)
 
 -- the log of these channels before the first cycle: the tokens with which they open
 abbrev pub opening_log : List Wire → List (List ℕ)
@@ -27,3 +33,9 @@ pub record IsBehind (flow : Flow) (step : Option Event) (net : Network) (log : L
   pub kept : Kept flow before
   pub done : IsStep before step net
   pub fronts : AreFronts flow before log
+
+-- the log with which these channels open is right for the network of these machines before its first step
+abbrev pub OpensWithFronts : Flow → List Machine → List Wire → (end : ℕ) → Type 0
+OpensWithFronts flow machines wires end =
+    Kept flow (opening_net machines wires end) → AreOpening flow machines
+    → AreFronts flow (opening_net machines wires end) (opening_log wires)

@@ -1,15 +1,12 @@
 //! Laws: a fact about the definitions. It is the contract of a function with an empty body.
-ghost use Rattle.std.specs.Prelude.{◌≡◌, ◌<◌, ℕ, List, length};
+ghost use Rattle.std.specs.Prelude.{◌≡◌, ℕ, List};
 ghost use Rattle.gg_flat.specs.Streams.{Flow};
-ghost use Rattle.gg_node.specs.Machine.{Machine, machine_at};
+ghost use Rattle.gg_node.specs.Machine.{Machine};
 ghost use Rattle.gg_net.specs.declared.shape.Wire.{Wire};
-ghost use Rattle.gg_net.specs.Kept.{Kept};
-ghost use Rattle.gg_net.specs.Net.{IsOpening, opening_net};
-ghost use Rattle.gg_replay.specs.Log.{AreFronts, opening_log};
+ghost use Rattle.gg_replay.specs.Log.{OpensWithFronts};
 
 /// Before the first cycle a log of the tokens with which the channels open is right, if all begins with cycle 0.
 pub fn opens_with_first_tokens()
     ensures { (flow : Flow) (machines : List Machine) (wires : List Wire) (end : ℕ) → flow.begin ≡ 0
-        → Kept flow (opening_net machines wires end) → ((m : ℕ) → m < length machines → IsOpening flow m (machine_at machines m))
-        → AreFronts flow (opening_net machines wires end) (opening_log wires) }
+        → OpensWithFronts flow machines wires end }
 {}

@@ -5,3 +5,5 @@ pub mod Rows
 pub mod Taken
 pub mod Printed
 pub mod Sums
+pub mod NetOfPlan
+pub mod RunPrinted

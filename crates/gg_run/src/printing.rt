@@ -1,15 +1,14 @@
 //! `print_net`, `print_from`: the run of the reference circuit of a plan is printed from the plan's network.
-ghost use Rattle.std.specs.Prelude.{◌≡◌, ◌+◌, ◌-◌, ◌≤◌, ℕ, List, IfOk, length};
-ghost use Rattle.gg_build.specs.Build.{HasBridges, IsOpeningFrom, IsToRun, IsToRunFrom, run_token};
+ghost use Rattle.std.specs.Prelude.{◌≡◌, ◌+◌, ◌-◌, ◌≤◌, IfOk, length};
+ghost use Rattle.gg_build.specs.Build.{HasBridges, IsToRun};
 ghost use Rattle.gg_cut_plan.specs.declared.plan.Plan.{Plan};
-ghost use Rattle.gg_flat.specs.Run.{Start};
 ghost use Rattle.gg_measure.specs.Nets.{AllStandAt};
 ghost use Rattle.gg_cut_plan.specs.Seated.{first_kept_tray, plan_bridges};
 ghost use Rattle.gg_bridged.specs.Whole.{plan_circuit};
-ghost use Rattle.gg_run.specs.Printed.{AreKept, RowsAreKept, out_columns, plan_stops, rows_since, rows_to, text_of, text_since};
-ghost use Rattle.gg_run.specs.Rows.{AreTraysOf};
+ghost use Rattle.gg_run.specs.Printed.{AreKept, out_columns, plan_stops, rows_to, text_of};
 ghost use Rattle.gg_command.specs.Endings.{PrintsOn};
 ghost use Rattle.gg_command.specs.WentOn.{SinkWentOn};
+ghost use Rattle.gg_run.specs.RunPrinted.{PrintsTheRest, RestIsKept};
 
 use crate::printer::RowPrinter;
 use crate::run::run_rows;
@@ -55,10 +54,8 @@ pub fn print_from<R: Threads + Sync, B: Bridge + Send + Drop, Z: Streams, K: Sin
     requires within { begin ≤ net.end }
     requires trays { trays.first + trays.count ≤ length net.machines }
     requires ports { length ports.now ≤ trays.count }
-    ensures prints { (plan : Plan) (start : Start) (columns : List (List ℕ)) (n : ℕ) (run : IsToRunFrom plan start columns n Z.flow) → IsOpeningFrom plan start (run_token run) columns n net.entry → start.cycle ≡ begin → AreTraysOf run trays.first trays.count
-        → stops.now ≡ plan_stops run.design run.request → PrintsOn K.Sink out.old out.new (text_since (plan_stops run.design run.request) (plan_circuit run.design run.request run.models) ports.now run.rows begin (n - begin)) result }
-    ensures kept { IfOk result (λ done. (plan : Plan) (start : Start) (columns : List (List ℕ)) (n : ℕ) (run : IsToRunFrom plan start columns n Z.flow) → IsOpeningFrom plan start (run_token run) columns n net.entry → start.cycle ≡ begin → AreTraysOf run trays.first trays.count
-        → stops.now ≡ plan_stops run.design run.request → RowsAreKept net.entry (first_kept_tray (plan_bridges run.design.circuit run.design.tree run.request)) begin (rows_since (plan_stops run.design run.request) (plan_circuit run.design run.request run.models) ports.now run.rows begin (n - begin)) (out_columns (plan_circuit run.design run.request run.models) run.rows)) }
+    ensures prints { PrintsTheRest Z.flow net.entry begin trays.first trays.count stops.now ports.now K.Sink out.old out.new result }
+    ensures kept { IfOk result (λ done. RestIsKept Z.flow net.entry begin trays.first trays.count stops.now ports.now) }
     ensures out { SinkWentOn K.Sink out.old out.new }
 {
     let mut values = vec![in alloc; 0u128; trays.count]?;

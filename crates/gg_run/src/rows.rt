@@ -1,15 +1,10 @@
 //! The values that trays keep.
-ghost use Rattle.std.specs.Prelude.{◌≡◌, ℕ, ◌+◌, ◌<◌, ◌≤◌, List, length};
+ghost use Rattle.std.specs.Prelude.{◌≡◌, ℕ, ◌+◌, ◌<◌, ◌≤◌, length};
 ghost use Rattle.gg_flat.specs.Line.{value_at};
-ghost use Rattle.gg_flat.specs.Run.{Start};
-ghost use Rattle.gg_cut_plan.specs.declared.plan.Plan.{Plan};
-ghost use Rattle.gg_bridged.specs.Whole.{plan_circuit};
 ghost use Rattle.gg_node.specs.Machine.{machine_at};
 ghost use Rattle.gg_net.specs.Kept.{list_at};
-ghost use Rattle.gg_measure.specs.Nets.{AllStandAt};
-ghost use Rattle.gg_build.specs.Build.{IsToRunFrom, run_token};
-ghost use Rattle.gg_build_laws.specs.Built.{tray_rows};
-ghost use Rattle.gg_run.specs.Rows.{AreTraysOf, IsNetOfPlan, StillHas, outputs_in, told_value};
+ghost use Rattle.gg_run.specs.Rows.{StillHas, told_value};
+ghost use Rattle.gg_run.specs.RunPrinted.{AreOutputsOf};
 
 use gg_bridge::Bridge;
 use gg_build::Node;
@@ -42,9 +37,7 @@ pub fn output_values<B: Bridge + Send + Drop, Z: Streams>(
     outs: &mut [u128],
 )
     requires { first + length outs.old ≤ length net.now.machines }
-    ensures { (plan : Plan) (start : Start) (columns : List (List ℕ)) (n upto : ℕ) (run : IsToRunFrom plan start columns n Z.flow) → IsNetOfPlan plan start (run_token run) columns n net.now
-        → start.cycle ≤ cycle → AreTraysOf run first (length outs.old) → AllStandAt upto net.now → cycle < upto → upto ≤ cycle + tray_rows
-        → outs.new ≡ outputs_in (plan_circuit run.design run.request run.models) run.rows cycle }
+    ensures { AreOutputsOf Z.flow net.now first (length outs.old) cycle outs.new }
 {
     net.kept();
     net.within_limits();

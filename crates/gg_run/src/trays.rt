@@ -1,12 +1,8 @@
 //! `Trays`: which machines of a plan are trays.
-ghost use Rattle.std.specs.Prelude.{◌≡◌, ◌≤◌, ◌-◌, ℕ, length};
+ghost use Rattle.std.specs.Prelude.{◌≡◌, ◌≤◌, length};
 ghost use Rattle.std.specs.List.{prefix_len};
-ghost use Rattle.gg_cut_plan.specs.Bridges.{Models};
-ghost use Rattle.gg_cut_plan.specs.Plan.{IsPlan};
-ghost use Rattle.gg_cut_plan.specs.Seated.{first_bridge, first_kept_tray, plan_bridges};
-ghost use Rattle.gg_order.specs.Design.{Ordered};
-ghost use Rattle.gg_partfile.specs.declared.request.Request.{Request};
 ghost use Rattle.gg_run.specs.Trays.{is_inner, is_tray};
+ghost use Rattle.gg_run.specs.RunPrinted.{IsFirstTray, IsTrayCount};
 
 use gg_cut_plan::{Body, Machine, Plan};
 
@@ -68,13 +64,8 @@ fn trays_len(machines: &[Machine]) -> usize
 
 /// The trays of a plan.
 pub fn trays_of(plan: &Plan) -> Trays
-    ensures first { (design : Ordered) (request : Request) (models : Models) (default : ℕ)
-        → IsPlan design request models default plan.now
-        → result.first ≡ first_kept_tray (plan_bridges design.circuit design.tree request) }
-    ensures count { (design : Ordered) (request : Request) (models : Models) (default : ℕ)
-        → IsPlan design request models default plan.now
-        → result.count ≡ first_bridge (plan_bridges design.circuit design.tree request) - first_kept_tray
-        (plan_bridges design.circuit design.tree request) }
+    ensures first { IsFirstTray plan.now result.first }
+    ensures count { IsTrayCount plan.now result.count }
 {
     let machines = plan.machines.as_slice();
     let first = inner_len(machines);

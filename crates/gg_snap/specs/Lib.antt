@@ -1,2 +1,3 @@
 pub mod Gathered
 pub mod Whole
+pub mod StatesHeld

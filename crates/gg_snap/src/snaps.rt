@@ -1,10 +1,9 @@
 //! `snapshot`, `restore`: from a network to a snapshot, and back.
-ghost use Rattle.std.specs.Prelude.{◌≡◌, ◌≤◌, ℕ, List, IfOk};
+ghost use Rattle.std.specs.Prelude.{◌≡◌, ℕ, List, IfOk};
 ghost use Rattle.gg_flat.specs.Run.{Start};
-ghost use Rattle.gg_limits.specs.Limits.{cycle_limit};
 ghost use Rattle.gg_cut_reference.specs.Made.{AllHeld, IsFresh, plan_reference};
-ghost use Rattle.gg_build.specs.Build.{IsOpeningFrom, run_token};
 ghost use Rattle.gg_snap.specs.Whole.{CanBegin, HasEnded, last_state};
+ghost use Rattle.gg_snap.specs.StatesHeld.{BeginsIn};
 
 use crate::gathering::gather;
 use crate::pipes::tokens_of;
@@ -64,9 +63,7 @@ pub fn restore<'p, B: Bridge + Send + Drop, Z: Streams>(
     snap: Snap<'_>,
 ) -> Result<Net<Node<'p, B>, Z>, AllocError>
     requires { (start : Start) × CanBegin plan.now design.now snap.cycle snap.state start trace.now.columns trace.now.rows Z.flow }
-    ensures { IfOk result (λ net. (start : Start)
-        (can : CanBegin plan.now design.now snap.entry.cycle snap.entry.state start trace.now.columns trace.now.rows Z.flow)
-        → IsOpeningFrom plan.now start (run_token can.run) trace.now.columns trace.now.rows net) }
+    ensures { IfOk result (λ net. BeginsIn plan.now design.now snap.entry.cycle snap.entry.state trace.now.columns trace.now.rows Z.flow net) }
 {
     let piece = design.piece();
     let signals = piece.signal_count();

@@ -9,3 +9,4 @@ pub mod Heading
 pub mod FaultText
 pub mod Snap
 pub mod Whole
+pub mod OneSnap

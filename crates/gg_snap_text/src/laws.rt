@@ -1,27 +1,21 @@
 //! Laws: facts about snapshots. Each is the contract of a function with an empty body.
-ghost use Rattle.std.specs.Prelude.{◌≡◌, ◌<◌, ℕ, List, All, length};
-ghost use Rattle.gg_flat.specs.declared.piece.Driver.TheVariants.{Held};
-ghost use Rattle.gg_flat.specs.Circuit.{FlatCircuit, driver_at};
+ghost use Rattle.std.specs.Prelude.{◌≡◌, ℕ, List};
+ghost use Rattle.gg_flat.specs.Circuit.{FlatCircuit};
 ghost use Rattle.gg_flat.specs.State.{State};
-ghost use Rattle.gg_flat_tree.specs.Tree.{InstanceTree, IsTree};
-ghost use Rattle.gg_flat.specs.WellFormed.{IsWellFormed};
-ghost use Rattle.gg_snap_text.specs.Known.{AreKnown, CanSave, IsPlain};
+ghost use Rattle.gg_flat_tree.specs.Tree.{InstanceTree};
+ghost use Rattle.gg_snap_text.specs.Known.{CanSave};
 ghost use Rattle.gg_snap_text.specs.Standing.{IsFirstFault, IsSnap};
-ghost use Rattle.gg_snap_text.specs.Table.{rows_of};
-ghost use Rattle.gg_snap_text.specs.Whole.{IsWhole};
+ghost use Rattle.gg_snap_text.specs.OneSnap.{SnapshotIsOne, TreesCanSave};
 
 /// The states of a circuit with its tree can be saved, if no two signals hold one register, and no path has a blank or a line feed.
 pub fn trees_can_save()
-    ensures { (circuit : FlatCircuit) (tree : InstanceTree) → IsTree circuit tree →
-        ((s t r : ℕ) → s < length circuit.signals → t < length circuit.signals → driver_at circuit s ≡ Held r → driver_at circuit t ≡ Held r → s ≡ t) →
-        All IsPlain circuit.paths → All IsPlain tree.memory_paths → CanSave circuit tree }
+    ensures { TreesCanSave }
 {}
 
 /// A text is the snapshot of at most one cycle, and of at most one state where each register has a signal that holds it and each memory a
 /// place in the tree. Where the circuit can be saved, the text of a snapshot has no fault. Each text has at most one first fault.
 pub fn one_snapshot()
-    ensures once { (circuit : FlatCircuit) (tree : InstanceTree) (text : List ℕ) (c d : ℕ) (s t : State) →
-        IsWellFormed circuit → IsWhole circuit tree → AreKnown circuit (rows_of circuit tree) → IsSnap circuit tree text c s → IsSnap circuit tree text d t → (c ≡ d) × (s ≡ t) }
+    ensures once { SnapshotIsOne }
     ensures cycle { (circuit : FlatCircuit) (tree : InstanceTree) (text : List ℕ) (c d : ℕ) (s t : State) → IsSnap circuit tree text c s → IsSnap circuit tree text d t → c ≡ d }
     ensures apart { (circuit : FlatCircuit) (tree : InstanceTree) (text : List ℕ) (cycle line : ℕ) (s : State) →
         CanSave circuit tree → IsSnap circuit tree text cycle s → IsFirstFault circuit tree text line → ⊥ }

@@ -66,7 +66,7 @@ impl<'a> Typed<'a> {
         order: Vec<u32>,
     ) -> Typed<'a>
         requires { IsTyped names order.items own.items clocks.items }
-        ensures { result ≡ record { circuit = names; order = order.items } }
+        ensures { result ≡ record { circuit = names.entry; order = order.items } }
     {
         Typed {
             names,

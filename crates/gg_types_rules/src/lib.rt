@@ -11,6 +11,7 @@ mod expression;
 mod fields;
 mod inputs;
 mod known;
+mod lookup;
 mod module;
 mod places;
 mod results;

@@ -6,3 +6,4 @@ pub mod Apart
 pub mod Opened
 pub mod HostSeats
 pub mod Making
+pub mod LaterLaws

@@ -29,13 +29,14 @@ use Rattle.gg_words.specs.declared.command.Cmd.{Cmd}
 use Rattle.gg_words.specs.declared.command.Cmd.TheVariants.{Run, Replay, Check, Demo, Save, Resume}
 use Rattle.golden_case.specs.Commands.{Asked, asked_by, asking, known_of, order_behind, order_by, order_of, read_order, trace_of}
 use Rattle.golden_case.specs.Limits.{circuit_limit, partition_limit, snap_limit, steps_limit, trace_limit}
+use Rattle.golden_case.specs.GoesOn.{ResumedIsTheRest, SavedIsAccepted}
 use Rattle.golden_case.specs.Lines.{TellsUnread, partition_fault, trace_fault}
 use Rattle.golden_case.specs.Network.{RanNetwork}
 use Rattle.golden_case.specs.Outcome.{Answered}
 use Rattle.golden_case.specs.Partition.{HasFault, IsPartitionFor, TellsPartitionFor, partition_file_for, to_run, to_save}
 use Rattle.golden_case.specs.Promised.{JudgedAt, Promised}
 use Rattle.golden_case.specs.Replay.{IsReplayOf, IsSetting, Setting, TellsSteps, replayed, steps_file_for, stopped_said}
-use Rattle.golden_case.specs.Resumed.{CanBeResumed, HaveSamePipes, HaveSameRatios, IsRestOf, IsResumedText}
+use Rattle.golden_case.specs.Resumed.{CanBeResumed, HaveSamePipes, HaveSameRatios, IsRestOf}
 use Rattle.golden_case.specs.Saved.{IsSavedText, saved_file_for}
 use Rattle.golden_case.specs.Stepped.{ToldByNetwork}
 use Rattle.golden_case.specs.Run.{IsPlainText, IsTextOf, TellsCircuit, TellsTraceFor, circuit_file, trace_file_for}
@@ -51,16 +52,6 @@ OneReading = (bytes : List ℕ) (fault : ReadFault) (said other : Said) → HasR
 -- at most one thing is reported for each file that follows the circuit
 abbrev pub UniqueOrders : Models → Type 0
 UniqueOrders models = (command : Cmd) (asked : Asked) (circuit : List ℕ) → IsUnique (Load (partition_file_for (known_of models command) circuit asked.partition) (order_behind models command circuit))
-
--- the text that `save` writes is accepted as a snapshot, under each partition that asks for the same pipes
-abbrev pub Accepted : Models → Type 0
-Accepted models = (circuit partition cut trace snap : List ℕ) (one other : Request) (at : ℕ) → IsSavedText (to_save models) circuit cut at trace snap → IsPartitionFor (to_save models) circuit partition → IsPartition partition one → IsPartition cut other → HaveSamePipes one other
-    → CanBeResumed (to_save models) circuit partition trace snap
-
--- and what `resume` writes is the rest of what `run` writes
-abbrev pub GoesOn : Models → Type 0
-GoesOn models = (circuit partition cut trace snap text whole : List ℕ) (one other : Request) (at : ℕ) → IsSavedText (to_save models) circuit cut at trace snap → IsPartitionFor (to_save models) circuit partition → IsPartition partition one → IsPartition cut other → HaveSamePipes one other → HaveSameRatios one other
-    → IsResumedText (to_save models) circuit partition trace snap text → IsTextOf (to_run models) circuit cut trace whole → IsRestOf at whole text
 
 -- the order of a command that asks this of its files
 reads-files : (models : Models) (command : Cmd) (asked : Asked) → asked_by command ≡ Some asked → order_of models command ≡ read_order (known_of models command) asked (order_behind models command)
@@ -115,7 +106,7 @@ module _ {models : Models} {words : List (List ℕ)} {loads : Loads} {out err : 
         (wrote.0, wrote.1, run-plain (to_run models) one c p t wrote.0 request is none always alone wrote.2.is)
 
     -- a run that goes on from a saved snapshot wrote the rest
-    resumed : OneMeaning → Accepted models → GoesOn models → (loads.lost → ⊥) → (out.failed → ⊥) → (circuit partition trace snap : List ℕ) (capacity workers : ℕ) (c p q t s whole : List ℕ) (one other : Request) (at : ℕ)
+    resumed : OneMeaning → SavedIsAccepted models → ResumedIsTheRest models → (loads.lost → ⊥) → (out.failed → ⊥) → (circuit partition trace snap : List ℕ) (capacity workers : ℕ) (c p q t s whole : List ℕ) (one other : Request) (at : ℕ)
         → IsCommand words (Resume circuit partition trace snap capacity workers)
         → loads.files circuit ≡ Holds c → length c ≤ circuit_limit
         → loads.files partition ≡ Holds p → length p ≤ partition_limit → IsPartitionFor (to_save models) c p → IsPartition p one
@@ -261,7 +252,7 @@ module _ {models : Models} {words : List (List ℕ)} {loads : Loads} {out err : 
           (setting.design.circuit, is.means.means, (setting.request, is.cuts.asks, (setting.cycles, setting.columns, is.feeds)))
           (first-only loads.files (steps_file_for (to_run models) c p t capacity steps) _ s said ((((exact command).1 c).1 p).1 t).0 hs ls refuses (λ other h. (((unique command asked c).1 p).1 t).0 s other said h refuses)))
 
-    pub promised : OneMeaning → OneRequest → UniqueOrders models → OneReading → Accepted models → GoesOn models
+    pub promised : OneMeaning → OneRequest → UniqueOrders models → OneReading → SavedIsAccepted models → ResumedIsTheRest models
         → ((circuit partition trace : List ℕ) (capacity workers : ℕ) → IsCommand words (Run circuit partition trace capacity workers false) → status ≡ 0 → RanNetwork (to_run models) loads out circuit partition trace capacity)
         → ((circuit partition trace steps : List ℕ) (capacity : ℕ) → IsCommand words (Replay circuit partition trace steps capacity) → (said : Said) × Tells err status said × ToldByNetwork (to_run models) loads.files out circuit partition trace steps capacity said)
         → Promised models words loads out err status

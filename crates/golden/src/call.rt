@@ -25,7 +25,7 @@ use crate::save::save;
 use gg_bits::Name;
 use gg_bridge::Bridge;
 use gg_command::{Ending, report};
-use gg_flat::Models;
+use gg_cut_plan::Models;
 use gg_io::{Gate, Shelf, Sink};
 use gg_partfile::one_answer;
 use gg_words::{Cmd, numbers_are_in_range, one_meaning, words};

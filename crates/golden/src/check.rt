@@ -12,8 +12,8 @@ ghost use Rattle.gg_command.specs.Ends.{loads_of, puts_of};
 ghost use Rattle.gg_command.specs.WentOn.{ShelfWentOn, SinkWentOn};
 
 use gg_command::Ending;
+use gg_cut_plan::Models;
 use gg_cut_text::{one_text, plan_is_told};
-use gg_flat::Models;
 use gg_front::one_meaning;
 use gg_io::{Shelf, Sink};
 use golden_case::{Case, print_plan, read_case};

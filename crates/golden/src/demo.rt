@@ -25,8 +25,8 @@ ghost use Rattle.golden_case.specs.RunText.{FeedsOnly, fed_ports};
 
 use gg_bridge::Echo;
 use gg_command::Ending;
+use gg_cut_plan::Models;
 use gg_demo_text::{circuit_text, partition_text, trace_text};
-use gg_flat::Models;
 use gg_flat_run::run_once;
 use gg_front::{front, one_meaning};
 use gg_io::{Gate, Sink};

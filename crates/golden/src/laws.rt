@@ -1,14 +1,6 @@
 //! Laws: facts about what is reported for files, and about what a run writes that goes on. Each is the contract of a function.
-ghost use Rattle.std.specs.Prelude.{◌≡◌, ◌≤◌, ℕ, List, [], None};
+ghost use Rattle.std.specs.Prelude.{◌≡◌, ℕ, List};
 ghost use Rattle.gg_cut_plan.specs.Bridges.{Models};
-ghost use Rattle.gg_cut_plan.specs.Fault.{first_fault};
-ghost use Rattle.gg_cut_plan.specs.Held.{AreHeldOnce};
-ghost use Rattle.gg_cut_plan.specs.Solves.{AreRows};
-ghost use Rattle.gg_part_moved.specs.KeepsToTree.{KeepsToTree};
-ghost use Rattle.gg_order.specs.Design.{IsDesign, Ordered};
-ghost use Rattle.gg_partfile.specs.Partition.{IsPartition};
-ghost use Rattle.gg_partfile.specs.declared.request.Request.{Request};
-ghost use Rattle.gg_cut_reference.specs.Made.{AllHeld, plan_reference};
 ghost use Rattle.gg_read.specs.Text.{HasReadFault};
 ghost use Rattle.gg_read.specs.declared.text.ReadFault.{ReadFault};
 ghost use Rattle.gg_command.specs.Said.{Said};
@@ -16,12 +8,9 @@ ghost use Rattle.golden_case.specs.Lines.{TellsUnread};
 ghost use Rattle.gg_words.specs.declared.command.Cmd.{Cmd};
 ghost use Rattle.golden_case.specs.Commands.{Asked, known_of, order_behind, order_of};
 ghost use Rattle.gg_command.specs.Order.{IsExact, IsUnique, Load};
-ghost use Rattle.golden_case.specs.Meant.{meaning};
-ghost use Rattle.golden_case.specs.Partition.{IsPartitionFor, partition_file_for, to_run, to_save};
-ghost use Rattle.golden_case.specs.Resumed.{CanBeResumed, HaveSamePipes, HaveSameRatios, IsRestOf, IsResumedText, rest_text, start_at};
-ghost use Rattle.golden_case.specs.Run.{IsTextOf, TellsCircuit};
-ghost use Rattle.golden_case.specs.RunText.{IsRunBy, run_text};
-ghost use Rattle.golden_case.specs.Saved.{IsSavedText, save_limit, state_before};
+ghost use Rattle.golden_case.specs.Partition.{partition_file_for};
+ghost use Rattle.golden_case.specs.Run.{TellsCircuit};
+ghost use Rattle.golden_case.specs.GoesOn.{ResumedIsTheRest, RunsGoOn, SavedIsAccepted};
 
 use gg_front::{faults_apart, one_meaning};
 use gg_partfile::one_answer;
@@ -54,15 +43,9 @@ pub fn refusals_are_exact()
 /// cycle prints the rest of what the other prints. So the text that `save` writes is accepted as a snapshot, and what `resume` writes is the
 /// rest of what `run` writes.
 pub fn resumed_runs_go_on()
-    ensures runs { (design : Ordered) (one other : Request) (models : Models) (columns : List (List ℕ)) (n at : ℕ) (rows rest : List (List ℕ)) → IsDesign design → KeepsToTree design.circuit design.tree → AreHeldOnce design.circuit → AllHeld design.circuit
-        → first_fault design one ≡ None → first_fault design other ≡ None → one.bridges ≡ [] → other.bridges ≡ [] → HaveSamePipes one other → HaveSameRatios one other
-        → IsRunBy design other models columns n rows → at ≤ save_limit (meaning design other n columns) rows
-        → AreRows (plan_reference design one) (start_at (meaning design one n columns) at (state_before (meaning design other n columns) rows at)) columns n rest
-        → IsRestOf at (run_text design other rows n) (rest_text (meaning design one n columns) at rest) }
-    ensures accepted { (models : Models) (circuit partition cut trace snap : List ℕ) (one other : Request) (at : ℕ) → IsSavedText (to_save models) circuit cut at trace snap → IsPartitionFor (to_save models) circuit partition → IsPartition partition one → IsPartition cut other → HaveSamePipes one other
-        → CanBeResumed (to_save models) circuit partition trace snap }
-    ensures texts { (models : Models) (circuit partition cut trace snap text whole : List ℕ) (one other : Request) (at : ℕ) → IsSavedText (to_save models) circuit cut at trace snap → IsPartitionFor (to_save models) circuit partition → IsPartition partition one → IsPartition cut other → HaveSamePipes one other → HaveSameRatios one other
-        → IsResumedText (to_save models) circuit partition trace snap text → IsTextOf (to_run models) circuit cut trace whole → IsRestOf at whole text }
+    ensures runs { RunsGoOn }
+    ensures accepted { (models : Models) → SavedIsAccepted models }
+    ensures texts { (models : Models) → ResumedIsTheRest models }
 {
     one_meaning();
 }

@@ -17,7 +17,7 @@ ghost use Rattle.golden_case.specs.Stepped.{IsToldText, TellsToldStep, ToldBehin
 use gg_bits::Name;
 use gg_bridge::Bridge;
 use gg_command::{Ending, load};
-use gg_flat::Models;
+use gg_cut_plan::Models;
 use gg_flat_run::run_once;
 use gg_front::one_meaning;
 use gg_io::{Shelf, Sink};

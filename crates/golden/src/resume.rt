@@ -24,8 +24,8 @@ ghost use Rattle.golden_case.specs.Runs.{TellsSnapOf, meant_by, resumed_rows};
 
 use gg_bridge::Echo;
 use gg_command::{Ending, load};
-use gg_cut_plan::stop_ratios;
-use gg_flat::{Models, Ports};
+use gg_cut_plan::{Models, stop_ratios};
+use gg_flat::Ports;
 use gg_front::one_meaning;
 use gg_io::{Gate, Shelf, Sink};
 use gg_net::Streams;

@@ -18,7 +18,7 @@ use crate::laws::refusals_are_exact;
 use gg_bits::Name;
 use gg_bridge::Bridge;
 use gg_command::Ending;
-use gg_flat::Models;
+use gg_cut_plan::Models;
 use gg_flat_run::run_once;
 use gg_front::one_meaning;
 use gg_io::{Gate, Shelf, Sink};

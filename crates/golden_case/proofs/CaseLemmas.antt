@@ -6,7 +6,7 @@ use Rattle.std.proofs.lemmas.Bool.{and_parts}
 use Rattle.std.proofs.lemmas.List.Elements.{All-contains, All-map}
 use Rattle.gg_io.specs.Told.{Told}
 use Rattle.gg_flat.specs.Circuit.{FlatCircuit}
-use Rattle.gg_flat.specs.Models.{model_names}
+use Rattle.gg_cut_plan.specs.Models.{model_names}
 use Rattle.gg_flat.specs.Order.{IsOrder}
 use Rattle.gg_flat_tree.specs.Tree.{InstanceTree}
 use Rattle.gg_flat.proofs.OrderLemmas.{IsLoop-none}

@@ -10,7 +10,7 @@ use Rattle.std.proofs.lemmas.List.Elements.{All-append, All-cons, All-contains, 
 use Rattle.std.proofs.lemmas.List.FromFn.{get_or-map-range_with_len, length-map-range_with_len}
 use Rattle.std.proofs.lemmas.List.Kept.{AllPairs-cons, AllPairs-filter}
 use Rattle.gg_flat.specs.Line.{value_at}
-use Rattle.gg_flat.specs.Models.{model_names}
+use Rattle.gg_cut_plan.specs.Models.{model_names}
 use Rattle.gg_flat_tree.specs.Scoped.{memory_fields}
 use Rattle.gg_flat_tree.specs.Tree.{memory_at, path_at}
 use Rattle.gg_flat_tree.specs.declared.tree.MemoryInstance.{MemoryInstance}

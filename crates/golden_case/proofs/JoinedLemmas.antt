@@ -7,7 +7,7 @@ use Rattle.gg_bridge.specs.Ports.{CanStand, joined_at}
 use Rattle.gg_bridged.specs.Whole.{CanStandAll, with_bridges}
 use Rattle.gg_cut_plan.specs.Bridges.{Models, model_of, model_or}
 use Rattle.gg_cut_plan.specs.Listed.{place_of}
-use Rattle.gg_flat.specs.Models.{model_circuits, model_names}
+use Rattle.gg_cut_plan.specs.Models.{model_circuits, model_names}
 use Rattle.gg_bridge_joined.specs.Model.{IsModel}
 use Rattle.std.specs.Prelude.{All, option_and_then}
 use Rattle.std.proofs.lemmas.Option.{same_Some}

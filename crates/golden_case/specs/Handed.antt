@@ -4,7 +4,7 @@
 use Rattle.std.specs.Prelude.{◌≡◌, ◌≢◌, ℕ, ◌<◌, ◌≤◌, Bool, true, ◌||◌, ◌==◌, List, All, AllPairs, length, map, sum}
 use Rattle.std.specs.List.{list_all}
 use Rattle.std.specs.Char.{is_ascii_alphanumeric}
-use Rattle.gg_flat.specs.Models.{model_names}
+use Rattle.gg_cut_plan.specs.Models.{model_names}
 use Rattle.gg_bridge_joined.specs.Model.{IsModel}
 use Rattle.gg_cut_plan.specs.Bridges.{Models}
 

@@ -4,6 +4,7 @@ pub mod Case
 pub mod Check
 pub mod Commands
 pub mod Demo
+pub mod GoesOn
 pub mod Handed
 pub mod Limits
 pub mod Lines

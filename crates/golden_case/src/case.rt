@@ -12,7 +12,7 @@ ghost use Rattle.gg_command.specs.WentOn.{ShelfWentOn};
 use crate::partition::{Cut, read_cut};
 use crate::reading::{read_circuit, read_inputs};
 use gg_command::Ending;
-use gg_flat::Models;
+use gg_cut_plan::Models;
 use gg_io::Shelf;
 use gg_order::Design;
 use gg_trace::Trace;

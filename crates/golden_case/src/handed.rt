@@ -6,7 +6,7 @@ ghost use Rattle.golden_case.specs.Handed.{AreHandedIn};
 
 use gg_bits::Name;
 use gg_bridge::Bridge;
-use gg_flat::Models;
+use gg_cut_plan::Models;
 use std::alloc::{AllocError, Global};
 
 // Adds a copy of a bridge's model.

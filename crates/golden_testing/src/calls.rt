@@ -18,6 +18,21 @@ pub const RUN: &str = "golden run k1.fir p.json k1.trace";
 /// The words of `check`.
 pub const CHECK: &str = "golden check k1.fir p.json";
 
+/// The words of `resume`.
+pub const RESUME: &str = "golden resume k1.fir p.json k1.trace k1.snap";
+
+/// The words of `replay`.
+pub const REPLAY: &str = "golden replay k1.fir p.json k1.trace s.steps";
+
+/// The words of `replay` with channels of one token.
+pub const REPLAY_1: &str = "golden replay k1.fir p.json k1.trace s.steps --capacity 1";
+
+/// The words of `run` with channels of one token, without workers.
+pub const ALONE: &str = "golden run k1.fir p.json k1.trace --capacity 1 --workers 0";
+
+/// The words of `run` with channels of one token, by two workers.
+pub const WITH_TWO: &str = "golden run k1.fir p.json k1.trace --capacity 1 --workers 2";
+
 /// These files under the names that a call gives.
 ///
 /// # Errors
@@ -430,7 +445,7 @@ fn same_with<R: Threads + Sync>(
 /// # Errors
 ///
 /// Returns `AllocError` if an allocation fails.
-pub fn ask_snap<R: Threads + Sync>(
+pub(crate) fn ask_snap<R: Threads + Sync>(
     rt: &R,
     alloc: Global,
     words: &str,

@@ -1,4 +1,4 @@
-//! Circuits as texts, and circuits with a line changed.
+//! Circuits, partitions and traces as texts, and circuits with a line changed.
 use std::alloc::{AllocError, Global};
 
 /// The counter: its sixth line is empty.
@@ -53,11 +53,31 @@ pub const KEPT: &str =
 pub const DUAL: &str =
     "circuit Dual :\nmodule Dual :\ninput c1 : Clock\ninput c2 : Clock\noutput p : UInt<4>\noutput q : UInt<4>\nreg r : UInt<4>, c1\nreg s : UInt<4>, c2\np <= r\nq <= s\nr <= tail(add(r, UInt<1>(\"h1\")), 1)\ns <= tail(add(s, r), 1)\n";
 
+/// The counter with a stop at 1.
+pub const COUNTED: &str =
+    "circuit Counter :\n  module Counter :\n    input clock : Clock\n    input reset : UInt<1>\n    output out : UInt<8>\n\n    reg c : UInt<8>, clock with :\n      reset => (UInt<1>(\"h0\"), c) @[Counter.scala 5:20]\n    node n = add(c, UInt<1>(\"h1\"))\n    out <= c\n    c <= mux(reset, UInt<8>(\"h0\"), bits(n, 7, 0))\n    stop(clock, eq(c, UInt<8>(1)), 1) : done\n";
+
+/// A stop where the input is 3.
+pub const HALT: &str =
+    "circuit Halt :\nmodule Halt :\ninput clock : Clock\ninput x : UInt<2>\noutput y : UInt<2>\ny <= x\nstop(clock, eq(x, UInt<2>(3)), 1) : done\n";
+
 /// A trace of the counter.
 pub const TRACE: &str = "cycle reset\n0 1\n1 0\n2 0\n3 0\n";
 
 /// The text of its run.
 pub const TEXT: &str = "cycle out\n0 00\n1 00\n2 01\n3 02\n";
+
+/// The partition of [`PAIR`] into its two instances.
+pub const PAIR_UNITS: &str = "{\"units\":[\"a\",\"b\"]}";
+
+/// The text of the run of [`PAIR`] on net_testing's `PAIR_TRACE`.
+pub const PAIR_ROWS: &str = "cycle q\n0 11\n1 83\n";
+
+/// A partition in which the memory `m` is a machine.
+pub const LISTED: &str = "{\"memories\":[\"m\"]}";
+
+/// A trace of [`MEMORY`].
+pub const MEMORY_TRACE: &str = "cycle a v\n0 1 0f\n1 1 21\n2 3 55\n3 1 00\n";
 
 /// The first lines of a circuit, so many, where this line, counted from 1 (0: none), is changed.
 ///

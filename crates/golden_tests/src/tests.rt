@@ -1,25 +1,9 @@
 //! The tests: tables of calls, by what they are about, and their check; and tests of what no table says.
-mod bridge_faults;
-mod bridge_files;
-mod bridges;
-mod calls;
 mod circuits;
-mod clocks;
 mod commands;
-mod cuts;
 mod demos;
-mod failures;
 mod files;
 mod large;
-mod outputs;
-mod partitions;
 mod refusals;
-mod snap_faults;
-mod snaps;
-mod step_faults;
-mod steps;
-mod stops;
 mod tables;
 mod traces;
-mod windows;
-mod workers;

@@ -14,6 +14,7 @@ pub use meeting::Meeting;
 pub use networks::{build_alone, is_at_most, keeps};
 pub use reading::{design_of, inputs_of, request_of};
 pub use texts::{
-    BACK, COUNTER, COUNTER_TRACE, DUAL, FORK, FORK_TRACE, FOUR_PORTS, FOUR_PORTS_TRACE, HALT, PAIR,
-    PAIR_TRACE, PASS, SIX_CYCLES, SUMS, SUMS_TRACE, THREE_CYCLES, TOGGLE, memory,
+    BACK, COUNTER, COUNTER_TRACE, Circuit, DEEP, DEEP_TRACE, DUAL, FORK, FORK_TRACE, FOUR_PORTS,
+    FOUR_PORTS_TRACE, HALT, PAIR, PAIR_TRACE, PASS, SIX_CYCLES, SUMS, SUMS_TRACE, THREE_CYCLES,
+    TOGGLE, text_of,
 };

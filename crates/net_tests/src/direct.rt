@@ -1,7 +1,7 @@
 //! gg_cut and gg_build: channels that the hub doesn't pass on.
-use crate::circuits::Circuit::Whole;
 use crate::networks::{Case, Row};
 use gg_net::{Event, StepRefusal};
+use net_testing::Circuit::Whole;
 use net_testing::{BACK, FORK, FORK_TRACE, PAIR, PAIR_TRACE, SUMS, SUMS_TRACE};
 
 // Two units that feed each other in one cycle do it without the hub, which has no channel. Of the input of two units the hub takes one

@@ -1,5 +1,6 @@
-//! Tests of the crates from the flat circuit to its network: what no contract says, namely that each public call succeeds with ample memory,
-//! and what circuits do that were worked out by hand. Circuits, partitions and traces are texts. golden_tests has the tests of the program.
+//! Tests of networks, from their cut to their end: what no contract says, namely that each public call succeeds with ample memory, and what circuits
+//! do that were worked out by hand. Circuits, partitions and traces are texts. circuit_tests has the tests of what stands below a network,
+//! golden_tests those of the program.
 //!
 //! A row of a table is a circuit and what is expected of it. One loop goes over all tables of a kind, since each further test function
 //! makes the proof longer.
@@ -9,19 +10,9 @@
 #![tactic(auto)]
 
 #[cfg(test)]
-mod begins;
-#[cfg(test)]
-mod circuits;
-#[cfg(test)]
-mod clocks;
-#[cfg(test)]
 mod direct;
 #[cfg(test)]
-mod logs;
-#[cfg(test)]
 mod measures;
-#[cfg(test)]
-mod models;
 #[cfg(test)]
 mod networks;
 #[cfg(test)]
@@ -29,16 +20,10 @@ mod notes;
 #[cfg(test)]
 mod orders;
 #[cfg(test)]
-mod pieces;
-#[cfg(test)]
 mod pipes;
 #[cfg(test)]
 mod refusals;
 #[cfg(test)]
 mod sharing;
 #[cfg(test)]
-mod simulators;
-#[cfg(test)]
 mod tables;
-#[cfg(test)]
-mod trays;

@@ -7,23 +7,21 @@ ghost use Rattle.gg_cut_plan.specs.Held.{AreHeldOnce};
 ghost use Rattle.gg_bridged.specs.Whole.{HasFreeFronts};
 ghost use Rattle.gg_flat.specs.Run.{IsColumns};
 
-use crate::circuits::Circuit::{Memory, Whole};
-use crate::circuits::{Circuit, text_of};
 use crate::measures::end_alike;
 use crate::orders::is_in_order;
 use crate::refusals::are_refused;
 use gg_bridge::Echo;
 use gg_build::Node;
 use gg_cut::cut;
-use gg_cut_plan::Plan;
-use gg_flat::Models;
+use gg_cut_plan::{Models, Plan};
 use gg_net::{Event, Net, StepRefusal, Streams};
 use gg_order::Design;
 use gg_partfile::Request;
 use gg_trace::Trace;
+use net_testing::Circuit::{Memory, Whole};
 use net_testing::{
-    COUNTER, COUNTER_TRACE, FOUR_PORTS, FOUR_PORTS_TRACE, PAIR, PAIR_TRACE, THREE_CYCLES,
-    build_alone, design_of, inputs_of, request_of,
+    COUNTER, COUNTER_TRACE, Circuit, FOUR_PORTS, FOUR_PORTS_TRACE, PAIR, PAIR_TRACE, THREE_CYCLES,
+    build_alone, design_of, inputs_of, request_of, text_of,
 };
 use std::alloc::Global;
 use std::marker::Brand;

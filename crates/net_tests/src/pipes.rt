@@ -1,7 +1,7 @@
 //! gg_cut and gg_build: channels that open with a token.
-use crate::circuits::Circuit::{Memory, Whole};
 use crate::networks::{Case, Row};
 use gg_net::{Event, StepRefusal};
+use net_testing::Circuit::{Memory, Whole};
 use net_testing::{BACK, PAIR, PAIR_TRACE, SUMS, SUMS_TRACE, THREE_CYCLES};
 
 // Of two units that feed each other in one cycle, the first takes what the second gave a cycle before; then the output has the

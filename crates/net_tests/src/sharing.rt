@@ -1,20 +1,12 @@
 //! gg_build: units that share a host.
-use crate::circuits::Circuit::Whole;
 use crate::networks::{Case, Row};
 use gg_net::{Event, StepRefusal};
-use net_testing::{SUMS, SUMS_TRACE};
+use net_testing::Circuit::Whole;
+use net_testing::{DEEP, DEEP_TRACE, SUMS, SUMS_TRACE};
 
 // Four instances of that module. Their outputs are one.
 const FOUR: &str =
     "circuit Four :\nmodule Sum :\ninput clock : Clock\ninput a : UInt<8>\noutput s : UInt<8>\nmem m :\ndata-type => UInt<8>\ndepth => 2\nread-latency => 0\nwrite-latency => 1\nreader => r\nwriter => w\nread-under-write => undefined\nm.r.addr <= UInt<1>(0)\nm.r.en <= UInt<1>(1)\nm.r.clk <= clock\nm.w.addr <= UInt<1>(0)\nm.w.en <= UInt<1>(1)\nm.w.clk <= clock\nm.w.mask <= UInt<1>(1)\nm.w.data <= bits(add(m.r.data, a), 7, 0)\ns <= m.r.data\nmodule Four :\ninput clock : Clock\ninput x : UInt<8>\noutput q : UInt<32>\ninst u of Sum\ninst v of Sum\ninst w of Sum\ninst z of Sum\nu.clock <= clock\nv.clock <= clock\nw.clock <= clock\nz.clock <= clock\nu.a <= x\nv.a <= not(x)\nw.a <= xor(x, UInt<8>(240))\nz.a <= bits(shl(x, 1), 7, 0)\nq <= cat(cat(u.s, v.s), cat(w.s, z.s))\n";
-
-// Two units of two clocks each, of which the second has the clocks the other way round. A unit has a register of its second clock, and, two
-// instances further down, a memory of its first: the word at the least bit of its input sums up the inputs.
-pub(crate) const DEEP: &str =
-    "circuit Deep :\nmodule Leaf :\ninput c : Clock\ninput a : UInt<8>\noutput s : UInt<8>\nmem m :\ndata-type => UInt<8>\ndepth => 2\nread-latency => 0\nwrite-latency => 1\nreader => r\nwriter => w\nread-under-write => undefined\nm.r.addr <= bits(a, 0, 0)\nm.r.en <= UInt<1>(1)\nm.r.clk <= c\nm.w.addr <= bits(a, 0, 0)\nm.w.en <= UInt<1>(1)\nm.w.clk <= c\nm.w.mask <= UInt<1>(1)\nm.w.data <= bits(add(m.r.data, a), 7, 0)\ns <= m.r.data\nmodule Mid :\ninput c : Clock\ninput a : UInt<8>\noutput s : UInt<8>\noutput t : UInt<8>\ninst leaf of Leaf\nleaf.c <= c\nleaf.a <= a\ns <= leaf.s\nt <= xor(leaf.s, a)\nmodule Outer :\ninput c : Clock\ninput d : Clock\ninput a : UInt<8>\noutput s : UInt<8>\nreg r : UInt<8>, d\ninst mid of Mid\nmid.c <= c\nmid.a <= a\ns <= bits(add(mid.s, r), 7, 0)\nr <= mid.t\nmodule Deep :\ninput c1 : Clock\ninput c2 : Clock\ninput x : UInt<8>\noutput q : UInt<16>\ninst u of Outer\ninst v of Outer\nu.c <= c1\nu.d <= c2\nv.c <= c2\nv.d <= c1\nu.a <= x\nv.a <= not(x)\nq <= cat(u.s, v.s)\n";
-
-// A trace of five cycles for them.
-pub(crate) const DEEP_TRACE: &str = "cycle x\n0 01\n1 10\n2 83\n3 05\n4 62\n";
 
 // The two units share a host, in lists among empty ones too:
 // in a cycle they take turns. They share none: no list, an empty one, lists of one unit; the first is through its cycle ahead of the second.

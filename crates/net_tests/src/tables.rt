@@ -1,16 +1,8 @@
-//! The tests: all tables, and the calls of which no table tells.
-use crate::begins::check_begins;
-use crate::clocks::goes_in_two_of_three;
+//! The test of all tables.
 use crate::direct::DIRECT;
-use crate::logs::{check_lines, has_first_token};
-use crate::models::{copies_a_tree, keeps_a_model};
 use crate::networks::{NETWORKS, check_networks};
-use crate::pieces::{passes, toggles};
 use crate::pipes::PIPED;
 use crate::sharing::SHARES;
-use crate::simulators::check_simulators;
-use crate::trays::keeps_the_last_two;
-use std::process::Abort;
 
 #[test]
 fn networks_run(rt: HostRuntime) {
@@ -19,24 +11,4 @@ fn networks_run(rt: HostRuntime) {
     check_networks(&rt, alloc, "DIRECT", &DIRECT);
     check_networks(&rt, alloc, "SHARES", &SHARES);
     check_networks(&rt, alloc, "PIPED", &PIPED);
-    check_begins(&rt, alloc);
-}
-
-// This holds. If not, the test fails, and shows what it is about.
-fn check(rt: &impl Abort, holds: bool, about: &str) {
-    assert!(rt; holds, "{about}");
-}
-
-#[test]
-fn circuits_are_simulated_and_calls_succeed(rt: HostRuntime) {
-    let alloc = rt.alloc();
-    check_simulators(&rt, alloc);
-    check_lines(&rt, alloc);
-    check(&rt, has_first_token(alloc) == Ok(true), "a log");
-    check(&rt, goes_in_two_of_three(), "a clock of ratio 2/3");
-    check(&rt, keeps_the_last_two(alloc) == Ok(true), "a tray");
-    check(&rt, keeps_a_model(alloc), "models");
-    check(&rt, copies_a_tree(alloc), "a tree");
-    check(&rt, toggles(alloc), "a register that toggles");
-    check(&rt, passes(alloc), "an output that waits for its input");
 }

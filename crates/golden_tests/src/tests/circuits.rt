@@ -1,8 +1,7 @@
 //! Circuits that are run, and circuits that are refused.
-use super::calls::Call::{Run, RunEdited, RunLines};
-use super::calls::End::{Prints, Refuses};
-use super::calls::Row;
-use golden_testing::{COUNTER, LATE, LOOP, MEMORY, PAIR, TEXT, TRACE, WIDE};
+use golden_testing::Call::{Run, RunEdited, RunLines};
+use golden_testing::End::{Prints, Refuses};
+use golden_testing::{COUNTER, LATE, LOOP, MEMORY, PAIR, Row, TEXT, TRACE, WIDE};
 
 // Circuits of one module.
 pub(crate) static RUNS: [Row; 17] = [

@@ -1,9 +1,7 @@
 //! The words of a call.
-use super::calls::Call::{Ask, AskCounter};
-use super::calls::End::{Prints, Refuses, Saves, Unasked};
-use super::calls::Row;
-use super::workers::UNITS;
-use golden_testing::{PAIR, TEXT};
+use golden_testing::Call::{Ask, AskCounter};
+use golden_testing::End::{Prints, Refuses, Saves, Unasked};
+use golden_testing::{PAIR, PAIR_UNITS, Row, TEXT};
 use net_testing::PAIR_TRACE;
 
 // Words that run the counter.
@@ -160,7 +158,7 @@ pub(crate) static NO_NUMBERS: [Row; 8] = [
         Ask(
             "golden run k1.fir p.json k1.trace --capacity 0",
             PAIR,
-            UNITS,
+            PAIR_UNITS,
             PAIR_TRACE,
         ),
         Refuses(
@@ -173,7 +171,7 @@ pub(crate) static NO_NUMBERS: [Row; 8] = [
         Ask(
             "golden run k1.fir p.json k1.trace --capacity 4097",
             PAIR,
-            UNITS,
+            PAIR_UNITS,
             PAIR_TRACE,
         ),
         Refuses(
@@ -186,7 +184,7 @@ pub(crate) static NO_NUMBERS: [Row; 8] = [
         Ask(
             "golden run k1.fir p.json k1.trace --workers 65",
             PAIR,
-            UNITS,
+            PAIR_UNITS,
             PAIR_TRACE,
         ),
         Refuses(

@@ -1,8 +1,7 @@
 //! The command `demo`. Expected texts were worked out outside, by a few lines of another language.
-use super::calls::Call::{Ask, AskFailing};
-use super::calls::End::{Prints, Stops};
-use super::calls::{NONE, Row};
-use golden_testing::{Answer, ask};
+use golden_testing::Call::{Ask, AskFailing};
+use golden_testing::End::{Prints, Stops};
+use golden_testing::{Answer, NONE, Row, ask};
 use std::alloc::{AllocError, Global};
 use std::collections::BTreeMap;
 use std::process::Abort;

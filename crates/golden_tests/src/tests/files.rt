@@ -1,8 +1,7 @@
 //! Files that are missing, that fail, or that are no text.
-use super::calls::Call::{AskFailing, RunAlone, RunBytes};
-use super::calls::End::Refuses;
-use super::calls::{NONE, Row};
-use golden_testing::{COUNTER, RUN, TRACE};
+use golden_testing::Call::{AskFailing, RunAlone, RunBytes};
+use golden_testing::End::Refuses;
+use golden_testing::{COUNTER, NONE, RUN, Row, TRACE};
 
 // A file that is missing, also where the circuit before it is refused.
 pub(crate) static MISSING: [Row; 2] = [

@@ -1,15 +1,14 @@
 //! Calls on texts that are made: at the limits, and past them.
-use super::calls::Call::OnLarge;
-use super::calls::End::{Prints, Refuses};
-use super::calls::{RESUME, Row};
 use super::large::Large::{Blanks, Chain, Clocks, Nested, Nodes, Outputs, Padded, Rows, Units};
-use super::steps::REPLAY;
 use gg_io::hold;
+use golden_testing::End::{Prints, Refuses};
 use golden_testing::{
-    Answer, CHECK, COUNTER, RUN, TEXT, TRACE, ask, ask_of, counter, counter_files, files_of, run,
+    Answer, CHECK, COUNTER, End, REPLAY, RESUME, RUN, TEXT, TRACE, ask, ask_of, check_end, counter,
+    counter_files, files_of, run,
 };
 use itoa::Buffer;
 use std::alloc::{AllocError, Global};
+use std::test::Fail;
 use std::thread::Threads;
 
 // A call on large files.
@@ -34,112 +33,126 @@ pub(crate) enum Large {
     Blanks(&'static str, &'static str, usize),
 }
 
+// A call on large files and how it ends.
+type LargeRow = (Large, End);
+
 // Operations one inside the other, units, channels, clocks, and a chain of copies.
-pub(crate) static LIMITS: [Row; 11] = [
-    (OnLarge(Nested(256)), Prints(3, TEXT)),
+pub(crate) static LIMITS: [LargeRow; 11] = [
+    (Nested(256), Prints(3, TEXT)),
     (
-        OnLarge(Nested(257)),
+        Nested(257),
         Refuses(1, 1, "golden: circuit: too deep line 10\n"),
     ),
-    (OnLarge(Units(RUN, 256)), Prints(3, "cycle\n0\n")),
+    (Units(RUN, 256), Prints(3, "cycle\n0\n")),
     (
-        OnLarge(Units(RUN, 257)),
+        Units(RUN, 257),
         Refuses(6, 2, "golden: partition: P9 units 257\n"),
     ),
     (
-        OnLarge(Units(CHECK, 257)),
+        Units(CHECK, 257),
         Refuses(6, 2, "golden: partition: P9 units 257\n"),
     ),
     (
-        OnLarge(Outputs(16_384)),
+        Outputs(16_384),
         Refuses(7, 3, "golden: trace: T1 field 0\n"),
     ),
     (
-        OnLarge(Outputs(16_385)),
+        Outputs(16_385),
         Refuses(6, 2, "golden: partition: P9 channels 16385\n"),
     ),
+    (Clocks(999), Prints(3, "cycle y\n0 0\n1 0\n2 1\n3 1\n")),
     (
-        OnLarge(Clocks(999)),
-        Prints(3, "cycle y\n0 0\n1 0\n2 1\n3 1\n"),
-    ),
-    (
-        OnLarge(Clocks(1_001)),
+        Clocks(1_001),
         Refuses(6, 2, "golden: partition: P12 c1000\n"),
     ),
     (
-        OnLarge(Nodes(CHECK)),
+        Nodes(CHECK),
         Prints(
             2,
             "machine hub: host 0\nmachine u host 1\nmachine in:x host 2\nmachine out:y host 3\nchannel u.a in:x u UInt<4> capacity 2 needs -\nchannel y u out:y UInt<4> capacity 2 needs u.a\n",
         ),
     ),
-    (OnLarge(Nodes(RUN)), Prints(3, "cycle y\n0 a\n")),
+    (Nodes(RUN), Prints(3, "cycle y\n0 a\n")),
 ];
 
 // What the last module of a chain declares.
 const WIRE: &str = "wire w : UInt<1>\nw <= UInt<1>(\"h0\")\n";
 
 // Chains of modules at the limits of depth, signals and instances, and past them.
-pub(crate) static CHAINS: [Row; 7] = [
+pub(crate) static CHAINS: [LargeRow; 7] = [
     (
-        OnLarge(Chain(CHECK, 17, 2, WIRE)),
+        Chain(CHECK, 17, 2, WIRE),
         Prints(2, "machine hub: host 0\n"),
     ),
-    (OnLarge(Chain(RUN, 17, 2, WIRE)), Prints(3, "cycle\n0\n")),
+    (Chain(RUN, 17, 2, WIRE), Prints(3, "cycle\n0\n")),
     (
-        OnLarge(Chain(RUN, 18, 2, WIRE)),
+        Chain(RUN, 18, 2, WIRE),
         Refuses(1, 1, "golden: circuit: F15 signals 262144\n"),
     ),
-    (OnLarge(Chain(RUN, 32, 1, WIRE)), Prints(3, "cycle\n0\n")),
+    (Chain(RUN, 32, 1, WIRE), Prints(3, "cycle\n0\n")),
     (
-        OnLarge(Chain(RUN, 33, 2, WIRE)),
+        Chain(RUN, 33, 2, WIRE),
         Refuses(1, 1, "golden: circuit: F15 depth 33\n"),
     ),
     (
-        OnLarge(Chain(RUN, 32, 4, WIRE)),
+        Chain(RUN, 32, 4, WIRE),
         Refuses(1, 1, "golden: circuit: F15 signals 18446744073709551615\n"),
     ),
     (
-        OnLarge(Chain(CHECK, 32, 2, "")),
+        Chain(CHECK, 32, 2, ""),
         Refuses(1, 1, "golden: circuit: F15 instances 8589934590\n"),
     ),
 ];
 
 // Files of blanks, each one byte past its limit; a snapshot of its limit, which is one line without an end; a circuit of its limit; and a trace with a row too many.
-pub(crate) static LARGE_FILES: [Row; 8] = [
+pub(crate) static LARGE_FILES: [LargeRow; 8] = [
     (
-        OnLarge(Blanks(RUN, "k1.fir", 4_194_305)),
+        Blanks(RUN, "k1.fir", 4_194_305),
         Refuses(8, 1, "golden: k1.fir is over 4194304 bytes\n"),
     ),
     (
-        OnLarge(Blanks(RUN, "p.json", 1_048_577)),
+        Blanks(RUN, "p.json", 1_048_577),
         Refuses(8, 2, "golden: p.json is over 1048576 bytes\n"),
     ),
     (
-        OnLarge(Blanks(RUN, "k1.trace", 67_108_865)),
+        Blanks(RUN, "k1.trace", 67_108_865),
         Refuses(8, 3, "golden: k1.trace is over 67108864 bytes\n"),
     ),
     (
-        OnLarge(Blanks(REPLAY, "s.steps", 67_108_865)),
+        Blanks(REPLAY, "s.steps", 67_108_865),
         Refuses(8, 4, "golden: s.steps is over 67108864 bytes\n"),
     ),
     (
-        OnLarge(Blanks(RESUME, "k1.snap", 67_108_865)),
+        Blanks(RESUME, "k1.snap", 67_108_865),
         Refuses(8, 4, "golden: k1.snap is over 67108864 bytes\n"),
     ),
     (
-        OnLarge(Blanks(RESUME, "k1.snap", 67_108_864)),
+        Blanks(RESUME, "k1.snap", 67_108_864),
         Refuses(10, 4, "golden: snapshot: S1 line 1\n"),
     ),
-    (OnLarge(Padded(4_194_304)), Prints(3, TEXT)),
+    (Padded(4_194_304), Prints(3, TEXT)),
     (
-        OnLarge(Rows(1_000_001)),
+        Rows(1_000_001),
         Refuses(7, 3, "golden: trace: T6 row 1000000\n"),
     ),
 ];
 
+// Checks how each call on large files ends.
+pub(crate) fn check_large<R: Threads + Sync>(
+    rt: &R,
+    alloc: Global,
+    table: &str,
+    rows: &[LargeRow],
+) -> Result<(), Fail> {
+    for (row, (large, end)) in rows.iter().enumerate() {
+        let answer = ask_large(rt, alloc, large)?;
+        check_end(table, row, &answer, end)?;
+    }
+    Ok(())
+}
+
 // What a call on large files answers.
-pub(crate) fn ask_large<R: Threads + Sync>(
+fn ask_large<R: Threads + Sync>(
     rt: &R,
     alloc: Global,
     large: &Large,

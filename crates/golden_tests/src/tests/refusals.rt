@@ -1,8 +1,7 @@
 //! Of several faults the first is told.
-use super::calls::Call::RunEdited;
-use super::calls::End::Refuses;
-use super::calls::Row;
-use golden_testing::{COUNTER, TRACE};
+use golden_testing::Call::RunEdited;
+use golden_testing::End::Refuses;
+use golden_testing::{COUNTER, Row, TRACE};
 
 // The counter with a line changed, and other files.
 pub(crate) static REFUSALS: [Row; 9] = [

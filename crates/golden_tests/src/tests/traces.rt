@@ -1,8 +1,7 @@
 //! Traces with a fault.
-use super::calls::Call::Run;
-use super::calls::End::Refuses;
-use super::calls::Row;
-use golden_testing::COUNTER;
+use golden_testing::Call::Run;
+use golden_testing::End::Refuses;
+use golden_testing::{COUNTER, Row};
 
 // Traces of the counter with a fault.
 pub(crate) static TRACES: [Row; 15] = [

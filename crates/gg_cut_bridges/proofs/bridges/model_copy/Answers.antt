@@ -2,7 +2,7 @@ use Rattle.std.proofs.Common.{◌≡◌, ◌∙◌, Some, sym, ap}
 use Rattle.std.specs.Prelude.{option_and_then, slice_get}
 use Rattle.std.proofs.lemmas.Result.{IfOk-weaker}
 use Rattle.gg_flat.specs.Circuit.{FlatCircuit}
-use Rattle.gg_flat.specs.Models.{model_names, model_circuits}
+use Rattle.gg_cut_plan.specs.Models.{model_names, model_circuits}
 use Rattle.gg_cut_plan.specs.Bridges.{model_named}
 use Rattle.gg_cut_plan.proofs.PathLemmas.{look-up}
 use Rattle.gg_cut_bridges.proofs.bridges.model_copy.Goals as goal

@@ -1,5 +1,5 @@
 use Rattle.std.proofs.Common.{sym}
-use Rattle.gg_flat.specs.Models.{model_names}
+use Rattle.gg_cut_plan.specs.Models.{model_names}
 use Rattle.gg_cut_plan.proofs.PathLemmas.{among-found, among-missing}
 use Rattle.gg_cut_rules.proofs.bridges.knows.Goals as goal
 

@@ -1,4 +1,4 @@
-use Rattle.gg_flat.specs.Models.{model_names}
+use Rattle.gg_cut_plan.specs.Models.{model_names}
 use Rattle.gg_cut_plan.proofs.PathLemmas.{look-up}
 use Rattle.gg_cut_rules.proofs.bridges.place_of.Goals as goal
 

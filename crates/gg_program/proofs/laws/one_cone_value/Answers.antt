@@ -5,4 +5,4 @@ pub returns-clause-once : goal.returns-clause-once
 returns-clause-once c = cone-once
 
 pub returns-clause-needs : goal.returns-clause-needs
-returns-clause-needs c = cone-needs
+returns-clause-needs c = λ circuit state out inputs others value alike is. cone-needs circuit state inputs others out value alike is

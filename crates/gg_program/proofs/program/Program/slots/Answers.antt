@@ -1,5 +1,5 @@
 use Rattle.std.proofs.Common.{◌≡◌, List, length, subst, sym, ap}
-use Rattle.gg_flat.specs.Room.{HasRoom}
+use Rattle.gg_flat_run.specs.Room.{HasRoom}
 use Rattle.gg_flat.specs.declared.piece.Signal.{Signal}
 use Rattle.gg_program.specs.Programmed.{Programmed}
 use Rattle.gg_program.specs.Right.{InCycle}
@@ -13,6 +13,6 @@ returns-clause-cycle c =
     let slots = c.in_ok-slots.slots in
     let n = length c.signals.result.now in
     let count : n ≡ length circuit.signals = ap (λ (l : List Signal). length l) c.signals.ensures in
-    let room : HasRoom circuit slots.room = subst (HasRoom circuit) (sym c.in_ok-slots.ensures.room) c.room.ensures.enough in
+    let room : HasRoom circuit slots.room = subst (HasRoom circuit) (sym c.in_ok-slots.ensures.room) c.room_of.ensures.enough in
     subst (λ (p : Programmed). InCycle p.circuit state slots) c.self.view_is
     (InCycle-none circuit state slots (AreSlots-zeros circuit slots n count c.in_ok-slots.ensures.values c.in_ok-slots.ensures.done room) (NoneDone-replicate slots n c.in_ok-slots.ensures.done))

@@ -1,7 +1,0 @@
-use Rattle.std.proofs.Common.{◌≡◌, ◌-◌, [], length}
-use Rattle.gg_read_row.specs.Reading.{arguments_at}
-use Rattle.gg_read_row.proofs.row.arguments.Given as goal
-
-abbrev pub invariant-loop-turn : goal.invariant-loop-turn
-invariant-loop-turn l =
-    arguments_at (length l.fn.cursor) [] l.fn.cursor ≡ arguments_at (l._turn-end - l._turn) l.arguments l.cursor

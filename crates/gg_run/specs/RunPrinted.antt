@@ -1,0 +1,76 @@
+-- What is printed from a plan's network: the text of a run of the plan's circuit. And what is read from its trays for that.
+-- Source: ICCAD 2019 (Golden Gate) for target cycles as rows; MEMOCODE 2009 (the k-th token of each queue is the value of its signal in
+-- cycle k, in whatever order the nodes go on).
+use Rattle.std.specs.Prelude.{◌≡◌, ℕ, ◌+◌, ◌-◌, ◌<◌, ◌≤◌, List, Result}
+use Rattle.gg_bridged.specs.Whole.{plan_circuit}
+use Rattle.gg_build.specs.Build.{IsOpeningFrom, IsToRunFrom, run_token}
+use Rattle.gg_build_laws.specs.Built.{tray_rows}
+use Rattle.gg_command.specs.Endings.{PrintsOn}
+use Rattle.gg_command.specs.declared.endings.Ending.{Ending}
+use Rattle.gg_cut_plan.specs.Bridges.{Models}
+use Rattle.gg_cut_plan.specs.Plan.{IsPlan}
+use Rattle.gg_cut_plan.specs.Seated.{first_bridge, first_kept_tray, plan_bridges}
+use Rattle.gg_cut_plan.specs.declared.plan.Plan.{Plan}
+use Rattle.gg_flat.specs.Clock.{Ratio}
+use Rattle.gg_flat.specs.Run.{Start}
+use Rattle.gg_flat.specs.Streams.{Flow}
+use Rattle.gg_flat.specs.declared.ports.Port.{Port}
+use Rattle.gg_io.specs.declared.output.Sink
+use Rattle.gg_measure.specs.Nets.{AllStandAt}
+use Rattle.gg_net.specs.Network.{Network}
+use Rattle.gg_order.specs.Design.{Ordered}
+use Rattle.gg_partfile.specs.declared.request.Request.{Request}
+use Rattle.gg_run.specs.Printed.{RowsAreKept, out_columns, plan_stops, rows_since, text_since}
+use Rattle.gg_run.specs.Rows.{AreTraysOf, IsNetOfPlan, outputs_in}
+
+-- ---- the trays
+
+-- this is the number of a plan's first tray, whatever request and design it is a plan of
+abbrev pub IsFirstTray : Plan → ℕ → Type 0
+IsFirstTray plan first =
+    (design : Ordered) (request : Request) (models : Models) (default : ℕ) → IsPlan design request models default plan
+    → first ≡ first_kept_tray (plan_bridges design.circuit design.tree request)
+
+-- so many trays has the plan: they stand before the bridges
+abbrev pub IsTrayCount : Plan → ℕ → Type 0
+IsTrayCount plan count =
+    (design : Ordered) (request : Request) (models : Models) (default : ℕ) → IsPlan design request models default plan
+    → count ≡ first_bridge (plan_bridges design.circuit design.tree request) - first_kept_tray (plan_bridges design.circuit design.tree request)
+
+-- In a network of a plan these are the values of the out-signals of the plan's circuit in a cycle of its run.
+abbrev pub AreOutputsOf : Flow → Network → (first count cycle : ℕ) → (values : List ℕ) → Type 0
+AreOutputsOf flow net first count cycle values =
+    (plan : Plan) (start : Start) (columns : List (List ℕ)) (n upto : ℕ) (run : IsToRunFrom plan start columns n flow)
+    -- The network is one of a plan that is to be run on this flow from this start.
+    → IsNetOfPlan plan start (run_token run) columns n net → start.cycle ≤ cycle
+    -- It has so many trays, from number `first` on.
+    → AreTraysOf run first count
+    -- All machines stand at the end of a window, and the cycle is in it.
+    → AllStandAt upto net → cycle < upto → upto ≤ cycle + tray_rows
+    → values ≡ outputs_in (plan_circuit run.design run.request run.models) run.rows cycle
+
+-- ---- a network before its first step, from cycle `begin` on
+
+-- The text of the run is printed on an output: a header, and the rows from cycle `begin` on.
+abbrev pub PrintsTheRest : {K T : Type 0} → Flow → (opening : Network) (begin first count : ℕ) → List Ratio → List Port → Sink.Ghosts K → (before after : K) → Result T Ending → Type 0
+PrintsTheRest flow opening begin first count stops ports sink before after result =
+    (plan : Plan) (start : Start) (columns : List (List ℕ)) (n : ℕ) (run : IsToRunFrom plan start columns n flow)
+    -- The network is that of a plan which is to be run on this flow, and begins in this cycle.
+    → IsOpeningFrom plan start (run_token run) columns n opening → start.cycle ≡ begin
+    -- It has so many trays, from number `first` on, and the stops follow clocks of these ratios.
+    → AreTraysOf run first count → stops ≡ plan_stops run.design run.request
+    -- The text has the run of the plan's circuit to cycle n, or to the first cycle in which a stop acts.
+    → PrintsOn sink before after (text_since (plan_stops run.design run.request) (plan_circuit run.design run.request run.models) ports run.rows begin (n - begin)) result
+
+-- Host steps bring the values of these rows to the trays, and bring no others there.
+abbrev pub RestIsKept : Flow → (opening : Network) (begin first count : ℕ) → List Ratio → List Port → Type 0
+RestIsKept flow opening begin first count stops ports =
+    (plan : Plan) (start : Start) (columns : List (List ℕ)) (n : ℕ) (run : IsToRunFrom plan start columns n flow)
+    -- The network is that of a plan which is to be run on this flow, and begins in this cycle.
+    → IsOpeningFrom plan start (run_token run) columns n opening → start.cycle ≡ begin
+    -- It has so many trays, from number `first` on, and the stops follow clocks of these ratios.
+    → AreTraysOf run first count → stops ≡ plan_stops run.design run.request
+    -- The rows are as many as the text has, with a column for each out-signal of the plan's circuit.
+    → RowsAreKept opening (first_kept_tray (plan_bridges run.design.circuit run.design.tree run.request)) begin
+    (rows_since (plan_stops run.design run.request) (plan_circuit run.design run.request run.models) ports run.rows begin (n - begin))
+    (out_columns (plan_circuit run.design run.request run.models) run.rows)
