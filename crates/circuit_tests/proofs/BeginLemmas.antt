@@ -1,7 +1,7 @@
 -- The network of a plan without pipes can be built from any start. The run from there is computed along an order.
 use Rattle.std.proofs.Common.{◌≡◌, ℕ, zero, suc, ◌<◌, ◌≤◌, ◌+◌, ◌++◌, List, [], Some, drop, length, replicate, refl, sym, ◌∙◌, ap, subst, true≢false, arith}
 use Rattle.std.specs.Prelude.{unwrap_or}
-use Rattle.gg_limits.specs.Limits.{capacity_limit, cycle_limit}
+use Rattle.gg_bits.specs.Limits.{capacity_limit, cycle_limit}
 use Rattle.gg_flat.specs.Along.{rows_from}
 use Rattle.gg_flat.specs.Circuit.{FlatCircuit}
 use Rattle.gg_flat.specs.Line.{value_at}

@@ -6,7 +6,7 @@ ghost use Rattle.gg_cut_plan.specs.Held.{AreHeldOnce};
 ghost use Rattle.gg_cut_plan.specs.Plan.{IsPlan};
 ghost use Rattle.gg_flat.specs.Run.{IsColumns};
 ghost use Rattle.gg_flat.specs.State.{IsState};
-ghost use Rattle.gg_part_moved.specs.KeepsToTree.{KeepsToTree};
+ghost use Rattle.gg_part.specs.KeepsToTree.{KeepsToTree};
 ghost use Rattle.gg_bridged.specs.Whole.{HasFreeFronts};
 
 use gg_bridge::Echo;

@@ -1,3 +1,4 @@
 mod PatternLaws
 pub mod ResultLaws
 mod WorkedRows
+mod WorkedLimits

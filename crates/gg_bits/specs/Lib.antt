@@ -4,3 +4,4 @@ pub mod ResultType
 pub mod Meaning
 pub mod Spelling
 pub mod BadText
+pub mod Limits

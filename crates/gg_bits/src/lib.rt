@@ -1,4 +1,4 @@
-//! Values, types and operations of lowered FIRRTL, and the small types that every crate shares.
+//! Values, types and operations of lowered FIRRTL, and the small types and limits that every crate shares.
 //!
 //! A value is a bit pattern of at most 128 bits. It stands for a whole number, signed where its type is `SInt`
 //! (FIRRTL Specification, "Ground Types"). The crate promises, for each primitive operation of the specification:
@@ -6,7 +6,8 @@
 //! - the pattern that it computes is the pattern of the operation's meaning over the whole numbers;
 //! - the type that it returns is the specification's, and otherwise the first thing that is wrong.
 //!
-//! No call of an operation allocates. How each operation is written is here too, in both directions.
+//! No call of an operation allocates. How each operation is written is here too, in both directions. So are two limits of a
+//! run that several crates ask for: each constant is the number that the definitions in `specs/Limits` call by the same name.
 #![tactic(auto)]
 
 mod arithmetic;
@@ -15,6 +16,7 @@ mod bitwise;
 mod choice;
 mod compare;
 mod judge;
+mod limits;
 mod lists;
 mod name;
 mod ops;
@@ -27,6 +29,7 @@ mod unary;
 
 pub use binary::{apply2, apply2_to, result2, shifted_width};
 pub use choice::{mux, result_mux};
+pub use limits::{CAPACITY_LIMIT, CYCLE_LIMIT};
 pub use lists::{Ids, Items, Names};
 pub use name::Name;
 pub use ops::{Op1, Op2, OpN};

@@ -3,7 +3,7 @@
 -- own code, beside the units of a target).
 use Rattle.std.specs.Prelude.{◌≡◌, ◌<◌, ℕ, List, [], Option, Some, None, Bool, false, All, length, replicate}
 use Rattle.gg_bits.specs.Shape.{Fits}
-use Rattle.gg_limits.specs.Limits.{cycle_limit}
+use Rattle.gg_bits.specs.Limits.{cycle_limit}
 use Rattle.gg_flat.specs.Circuit.{FlatCircuit}
 use Rattle.gg_flat.specs.Line.{shape_at}
 use Rattle.gg_flat.specs.State.{State}

@@ -10,7 +10,7 @@ use Rattle.gg_flat.specs.Run.{Start, column}
 use Rattle.gg_flat.specs.State.{State, opening}
 use Rattle.gg_flat_tree.specs.Tree.{path_at}
 use Rattle.gg_part.specs.PartRun.{part_rows}
-use Rattle.gg_part_moved.specs.KeepsToTree.{KeepsToTree}
+use Rattle.gg_part.specs.KeepsToTree.{KeepsToTree}
 use Rattle.gg_order.specs.Design.{Ordered, IsDesign}
 use Rattle.gg_partfile.specs.declared.request.BridgeEntry.{BridgeEntry}
 use Rattle.gg_partfile.specs.declared.request.Request.{Request}

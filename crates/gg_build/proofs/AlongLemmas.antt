@@ -1,6 +1,6 @@
 -- The network of a plan can be built for the run of the plan's circuit, which is computed along an order.
 use Rattle.std.proofs.Common.{ℕ, ◌<◌, ◌≤◌, List, refl, arith}
-use Rattle.gg_limits.specs.Limits.{capacity_limit, cycle_limit}
+use Rattle.gg_bits.specs.Limits.{capacity_limit, cycle_limit}
 use Rattle.gg_flat.specs.Circuit.{FlatCircuit}
 use Rattle.gg_flat.specs.Order.{IsOrder}
 use Rattle.gg_flat.specs.Run.{IsColumns, IsRunFrom, Start}

@@ -6,7 +6,7 @@ use Rattle.gg_flat.specs.Line.{value_at}
 use Rattle.gg_flat.specs.Run.{Start}
 use Rattle.gg_flat.specs.State.{State, opening}
 use Rattle.gg_flat.specs.Streams.{Flow}
-use Rattle.gg_limits.specs.Limits.{cycle_limit}
+use Rattle.gg_bits.specs.Limits.{cycle_limit}
 use Rattle.gg_order.specs.Design.{Ordered}
 use Rattle.gg_partfile.specs.declared.request.Request.{Request}
 use Rattle.gg_part.specs.PartRun.{part_ratios, part_start}

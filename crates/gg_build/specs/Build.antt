@@ -4,7 +4,7 @@
 use Rattle.std.specs.Prelude.{◌≡◌, ◌≢◌, ℕ, ◌<◌, ◌≤◌, List, Some, AllPairs, Contains, length, map}
 use Rattle.gg_flat.specs.Circuit.{FlatCircuit}
 use Rattle.gg_flat.specs.State.{State, opening}
-use Rattle.gg_limits.specs.Limits.{capacity_limit}
+use Rattle.gg_bits.specs.Limits.{capacity_limit}
 use Rattle.gg_flat.specs.Along.{rows_from}
 use Rattle.gg_flat.specs.Run.{Start}
 use Rattle.gg_flat.specs.Streams.{Flow}

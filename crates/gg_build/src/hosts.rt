@@ -1,6 +1,6 @@
 //! The hosts of a plan's machines.
 ghost use Rattle.std.specs.Prelude.{◌≡◌, ℕ, ◌<◌, ◌≤◌, [], None, false, IfOk, OnOk, length, replicate, slice_index_or, map};
-ghost use Rattle.gg_limits.specs.Limits.{cycle_limit};
+ghost use Rattle.gg_bits.specs.Limits.{cycle_limit};
 ghost use Rattle.gg_flat.specs.Line.{value_at};
 ghost use Rattle.gg_cut_plan.specs.declared.plan.Body.TheVariants.{Cut, Memory};
 ghost use Rattle.gg_node.specs.Machine.{source_machine, tray_machine};

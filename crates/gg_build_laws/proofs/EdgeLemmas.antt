@@ -1,6 +1,6 @@
 -- What sources and trays do.
 use Rattle.std.proofs.Common.{◌≡◌, ℕ, ◌<◌, ◌≤◌, List, [], Bool, None, length, get_or, refl, sym, ◌∙◌, subst, arith}
-use Rattle.gg_limits.specs.Limits.{cycle_limit}
+use Rattle.gg_bits.specs.Limits.{cycle_limit}
 use Rattle.gg_flat.specs.Line.{value_at}
 use Rattle.gg_flat.specs.Run.{column}
 use Rattle.gg_node.specs.Machine.{Machine, no_state, source_machine, tray_machine}

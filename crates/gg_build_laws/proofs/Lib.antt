@@ -42,3 +42,14 @@ pub mod RowLemmas
 pub mod BridgeDoLemmas
 pub mod SolveLemmas
 mod WorkedBridge
+pub mod AscendingLemmas
+pub mod BeforeLemmas
+pub mod WireLemmas
+pub mod TurnLemmas
+pub mod ReachLemmas
+pub mod ChannelLemmas
+pub mod MemoryLemmas
+pub mod OutNeedLemmas
+pub mod OneLemmas
+pub mod LayoutLemmas
+mod WorkedLayout

@@ -12,7 +12,7 @@ use Rattle.gg_flat.specs.Circuit.{FlatCircuit, readers_at}
 use Rattle.gg_flat_tree.specs.Tree.{InstanceTree, memory_at}
 use Rattle.gg_flat_tree.specs.Scoped.{writers_at}
 use Rattle.gg_flat.proofs.ListLemmas.{Contains-map}
-use Rattle.gg_part_moved.specs.KeepsToTree.{KeepsToTree}
+use Rattle.gg_part.specs.KeepsToTree.{KeepsToTree}
 use Rattle.gg_order.specs.Design.{Ordered, IsDesign}
 use Rattle.gg_partfile.specs.declared.request.Request.{Request}
 use Rattle.gg_part.specs.Part.{IsMemoryFrom, MemoryBelow, renamed_memory, renamed_reader, renamed_writer}

@@ -4,7 +4,7 @@
 -- 2019 (units and memories of a target as models of their own, with sources for its inputs and sinks for its outputs).
 use Rattle.std.specs.List.{range_with_len}
 use Rattle.std.specs.Prelude.{◌≡◌, ℕ, suc, ◌+◌, ◌^◌, ◌<◌, ◌≤◌, ◌==◌, ◌++◌, List, [], ◌∷◌, Bool, false, if◌then◌else◌, Option, None, Some, length, map, replicate, slice_index_or, unwrap_or}
-use Rattle.gg_limits.specs.Limits.{cycle_limit}
+use Rattle.gg_bits.specs.Limits.{cycle_limit}
 use Rattle.gg_flat.specs.Circuit.{FlatCircuit}
 use Rattle.gg_flat_tree.specs.Clocked.{clocks_from}
 use Rattle.gg_flat.specs.Line.{value_at}

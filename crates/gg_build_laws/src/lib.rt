@@ -25,7 +25,13 @@
 //! - the machines can be built: a unit's signals are in an order of evaluation (`unit_is_ordered`), a source has a
 //!   column and gives it on at least one channel (`source_has_column`), a listed memory's part can be cut once more to
 //!   give a memory alone (`memory_is_chosen`), and a bridge's machine has a model and ports that a host can run
-//!   (`bridge_is_attached`).
+//!   (`bridge_is_attached`);
+//! - the network has the layout of its cut (`specs/CutLayout`), and its ins and outs are in the order of their channels
+//!   (`plan_has_layout`); designs that are alike have the same layout (`one_layout`).
+//!
+//! The layout is what the steps of the network depend on, beside counts (gg_net_laws). It is said in terms of the circuit: by
+//! a design, a request, a default capacity and a number of cycles. It has for each channel its ends, its capacity and what it
+//! needs in the circuit, and for each machine the ports that are served.
 //!
 //! Why there is no ring: an out needs an in if the out's signal reaches the in's signal by a path of reads in the
 //! machine's piece. The piece is a part of the circuit, so the path is also one of the circuit. So the in's signal
@@ -45,6 +51,7 @@
 mod alone;
 mod bodies;
 mod laws;
+mod layout;
 mod solved;
 
 pub use alone::memory_is_chosen;
@@ -53,4 +60,5 @@ pub use laws::{
     all_begin_with_zeros, columns_solve, machines_are_opening, plan_has_no_ring, plan_is_listed,
     plan_is_wired, ports_are_named,
 };
+pub use layout::{one_layout, plan_has_layout};
 pub use solved::{plan_is_solved, plan_is_sound, plan_is_within};

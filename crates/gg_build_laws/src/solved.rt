@@ -1,6 +1,6 @@
 //! Laws: the run of the circuit that the network computes solves the network.
 ghost use Rattle.std.specs.Prelude.{ℕ, ◌≤◌, List};
-ghost use Rattle.gg_limits.specs.Limits.{capacity_limit};
+ghost use Rattle.gg_bits.specs.Limits.{capacity_limit};
 ghost use Rattle.gg_flat.specs.Run.{Start};
 ghost use Rattle.gg_order.specs.Design.{Ordered};
 ghost use Rattle.gg_partfile.specs.declared.request.Request.{Request};

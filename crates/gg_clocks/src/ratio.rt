@@ -1,6 +1,6 @@
 //! `Ratio`: how often a clock has an edge.
 ghost use Rattle.std.specs.Prelude.{◌≡◌, ◌≤◌, IfSome, IfNone};
-ghost use Rattle.gg_limits.specs.Limits.{cycle_limit};
+ghost use Rattle.gg_bits.specs.Limits.{cycle_limit};
 ghost use Rattle.gg_flat.specs.Clock.{edge};
 ghost use Rattle.gg_clocks.specs.Edges.{IsRatio, edge_count};
 

@@ -1,6 +1,6 @@
 //! `Timing`: which tick it is, and which clocks have an edge in it.
 ghost use Rattle.std.specs.Prelude.{◌≡◌, ◌+◌, ◌<◌, ◌≤◌, length, IfOk};
-ghost use Rattle.gg_limits.specs.Limits.{cycle_limit};
+ghost use Rattle.gg_bits.specs.Limits.{cycle_limit};
 ghost use Rattle.gg_flat.specs.Clock.{edges_at};
 
 use crate::ratio::Ratio;

@@ -2,7 +2,7 @@
 use Rattle.std.proofs.Common.{◌≡◌, ℕ, zero, suc, ◌^◌, ◌<◌, ◌≤◌, List, [], ◌∷◌, ◌++◌, Bool, true, false, refl, sym, ◌∙◌, ap, inl, inr, Some, None, arith}
 use Rattle.std.specs.Prelude.{cond, ◌||◌, ◌==◌, nat_lt, All, Option}
 use Rattle.std.proofs.lemmas.Bool.{ltb-false, or_parts}
-use Rattle.gg_limits.specs.Limits.{capacity_limit}
+use Rattle.gg_bits.specs.Limits.{capacity_limit}
 use Rattle.gg_order.specs.Design.{Ordered}
 use Rattle.gg_partfile.specs.declared.request.Request.{Request}
 use Rattle.gg_cut_plan.specs.declared.fault.CutFault.{CutFault}

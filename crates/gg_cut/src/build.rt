@@ -1,8 +1,8 @@
 //! The plan of a cut, and what its channels need.
 ghost use Rattle.std.specs.Prelude.{◌≡◌, ◌<◌, ◌≤◌, length, All, IfOk, slice_index_or};
-ghost use Rattle.gg_limits.specs.Limits.{capacity_limit};
+ghost use Rattle.gg_bits.specs.Limits.{capacity_limit};
 ghost use Rattle.gg_cut_plan.specs.declared.plan.Channel.{Channel};
-ghost use Rattle.gg_part_moved.specs.KeepsToTree.{KeepsToTree};
+ghost use Rattle.gg_part.specs.KeepsToTree.{KeepsToTree};
 ghost use Rattle.gg_cut_plan.specs.Clocks.{ratios_of};
 ghost use Rattle.gg_cut_plan.specs.Held.{AreHeldOnce};
 ghost use Rattle.gg_flat.specs.WellFormed.{IsWellFormed};

@@ -1,6 +1,6 @@
 //! `draft_of`: the draft of a request without a fault.
 ghost use Rattle.std.specs.Prelude.{◌≡◌, ◌<◌, ◌^◌, length, map, None, All, IfOk};
-ghost use Rattle.gg_part_moved.specs.KeepsToTree.{KeepsToTree};
+ghost use Rattle.gg_part.specs.KeepsToTree.{KeepsToTree};
 ghost use Rattle.gg_flat.specs.WellFormed.{IsWellFormed};
 ghost use Rattle.gg_cut_plan.specs.Direct.{plan_routes};
 ghost use Rattle.gg_cut_plan.specs.Fault.{IsSmall, Tells, first_of, entry_faults, first_fault, first_fault_with};

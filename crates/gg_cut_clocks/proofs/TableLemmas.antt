@@ -11,9 +11,9 @@ use Rattle.gg_flat_tree.specs.declared.tree.Instance.{Instance}
 use Rattle.gg_flat.specs.declared.piece.Register.{Register}
 use Rattle.gg_flat_tree.specs.Clocked.{AreParentsBefore, IsClocked, clock_at, clocks_from, port_clocks, top_clocks}
 use Rattle.gg_flat_tree.specs.Tree.{InstanceTree, IsInnermost, instance_at, memory_at}
-use Rattle.gg_part_moved.specs.Copies.{above}
-use Rattle.gg_part_moved.specs.Domains.{inner_clocks}
-use Rattle.gg_part_moved.proofs.DomainLemmas.{clock_at-twice, inner-known, inner-leads, top-length}
+use Rattle.gg_part.specs.Copies.{above}
+use Rattle.gg_part.specs.Domains.{inner_clocks}
+use Rattle.gg_part.proofs.DomainLemmas.{clock_at-twice, inner-known, inner-leads, top-length}
 use Rattle.gg_part.specs.Clocking.{LeadsTo}
 use Rattle.gg_cut_clocks.specs.Innermost.{IsLast, IsTimedBy}
 

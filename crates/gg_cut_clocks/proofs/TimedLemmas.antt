@@ -18,9 +18,9 @@ use Rattle.gg_flat_tree.specs.Tree.{InstanceTree, Holds, IsTree, instance_at, me
 use Rattle.gg_flat.specs.WellFormed.{IsClock, IsClockedMemory, IsWellFormed}
 use Rattle.gg_flat.proofs.ListLemmas.{some-item}
 use Rattle.gg_flat_tree.proofs.TopClockLemmas.{top_clocks-step}
-use Rattle.gg_part_moved.specs.Copies.{above}
-use Rattle.gg_part_moved.specs.KeepsToTree.{KeepsToTree}
-use Rattle.gg_part_moved.specs.Moved.{moved_driver}
+use Rattle.gg_part.specs.Copies.{above}
+use Rattle.gg_part.specs.KeepsToTree.{KeepsToTree}
+use Rattle.gg_part.specs.Moved.{moved_driver}
 use Rattle.gg_order.specs.Design.{Ordered}
 use Rattle.gg_order.specs.Marks.{is_marked}
 use Rattle.gg_part.specs.declared.part.Clocking.{Clocking}

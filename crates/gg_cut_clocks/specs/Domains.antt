@@ -5,7 +5,7 @@ use Rattle.std.specs.Prelude.{◌≡◌, ℕ, ◌<◌, ◌^◌, List, [], Bool, 
 use Rattle.gg_flat.specs.declared.piece.Driver.TheVariants.{Held}
 use Rattle.gg_flat.specs.Circuit.{FlatCircuit, driver_at}
 use Rattle.gg_flat_tree.specs.Clocked.{top_clocks}
-use Rattle.gg_part_moved.specs.Domains.{FollowsInside, ports_inside}
+use Rattle.gg_part.specs.Domains.{FollowsInside, ports_inside}
 use Rattle.gg_order.specs.Design.{Ordered}
 use Rattle.gg_order.specs.Marks.{is_marked}
 use Rattle.gg_part.specs.declared.part.Clocking.{Clocking}

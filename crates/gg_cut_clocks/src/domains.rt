@@ -1,6 +1,6 @@
 //! `Domains`: what the machines of a cut follow.
 ghost use Rattle.std.specs.Prelude.{◌≡◌, ℕ, ◌≤◌, ◌<◌, ◌^◌, [], length, slice_index_or, All, IfOk, OnOk};
-ghost use Rattle.gg_part_moved.specs.KeepsToTree.{KeepsToTree};
+ghost use Rattle.gg_part.specs.KeepsToTree.{KeepsToTree};
 ghost use Rattle.gg_cut_plan.specs.Held.{AreHeldOnce};
 ghost use Rattle.gg_cut_plan.specs.Machines.{first_unit, first_memory};
 ghost use Rattle.gg_cut_plan.specs.Plan.{clock_home};

@@ -7,7 +7,7 @@ ghost use Rattle.gg_flat_tree.specs.Clocked.{AreParentsBefore, clock_at, clocks_
 ghost use Rattle.gg_flat.specs.Line.{value_at};
 ghost use Rattle.gg_flat_tree.specs.Tree.{instance_at};
 ghost use Rattle.gg_cut_clocks.specs.Innermost.{IsLast, IsTimedBy};
-ghost use Rattle.gg_part_moved.specs.Domains.{inner_clocks};
+ghost use Rattle.gg_part.specs.Domains.{inner_clocks};
 
 use gg_flat::{Driver, Piece};
 use gg_flat_tree::{ClockNumbers, Instance, MemoryInstance, Tree, clock_at, clocks_at};

@@ -4,7 +4,7 @@ use Rattle.std.specs.Prelude.{All, AllPairs, Contains}
 use Rattle.std.proofs.lemmas.Bool.{cases_eq, cases_lt}
 use Rattle.gg_flat.specs.Circuit.{FlatCircuit}
 use Rattle.gg_flat_tree.specs.Tree.{path_at}
-use Rattle.gg_part_moved.specs.KeepsToTree.{KeepsToTree}
+use Rattle.gg_part.specs.KeepsToTree.{KeepsToTree}
 use Rattle.gg_order.specs.Design.{IsDesign, Ordered}
 use Rattle.gg_part.specs.declared.part.Clocking.{Clocking}
 use Rattle.gg_part.specs.declared.part.Part.{Part}

@@ -27,7 +27,7 @@ use Rattle.gg_cut_laws.specs.Apart.{AreFew}
 use Rattle.gg_cut_laws.proofs.ListLemmas.{AllPairs-map}
 use Rattle.std.specs.Prelude.{bytes_eq}
 use Rattle.std.proofs.lemmas.List.Elements.{All-map}
-use Rattle.gg_limits.specs.Limits.{capacity_limit}
+use Rattle.gg_bits.specs.Limits.{capacity_limit}
 
 -- ---- nothing is found
 

@@ -2,7 +2,7 @@
 -- Source: MEMOCODE 2009 (the channels between the nodes of a network); ICCAD 2019 (instances that are marked are apart,
 -- each a model of its own).
 use Rattle.std.specs.Prelude.{◌≢◌, All, AllPairs}
-use Rattle.gg_part_moved.specs.KeepsToTree.{KeepsToTree}
+use Rattle.gg_part.specs.KeepsToTree.{KeepsToTree}
 use Rattle.gg_order.specs.Design.{Ordered, IsDesign}
 use Rattle.gg_cut_plan.specs.declared.listed.Listed.{Listed}
 use Rattle.gg_cut_plan.specs.Machines.{machine_count}

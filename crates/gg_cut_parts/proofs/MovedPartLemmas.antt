@@ -18,9 +18,9 @@ use Rattle.gg_flat.specs.Line.{shape_at, value_at}
 use Rattle.gg_flat.specs.Reads.{NamesSignal}
 use Rattle.gg_flat.specs.WellFormed.{IsClock, IsClockedMemory}
 use Rattle.gg_flat.proofs.ListLemmas.{once-apart, Contains-map}
-use Rattle.gg_part_moved.specs.KeepsToTree.{KeepsToTree}
-use Rattle.gg_part_moved.specs.Moved.{moved_driver, unclocked_reader, unclocked_register, unclocked_memory, unclocked_writer}
-use Rattle.gg_part_moved.proofs.MovedLemmas.{from-moved}
+use Rattle.gg_part.specs.KeepsToTree.{KeepsToTree}
+use Rattle.gg_part.specs.Moved.{moved_driver, unclocked_reader, unclocked_register, unclocked_memory, unclocked_writer}
+use Rattle.gg_part.proofs.MovedLemmas.{from-moved}
 use Rattle.gg_order.specs.Design.{Ordered}
 use Rattle.gg_part.specs.declared.part.Clocking.{Clocking}
 use Rattle.gg_part.specs.declared.part.Part.{Part}

@@ -9,8 +9,8 @@ use Rattle.gg_flat.specs.declared.piece.Register.{Register}
 use Rattle.gg_flat.specs.Circuit.{driver_at}
 use Rattle.gg_flat.specs.Line.{value_at}
 use Rattle.gg_flat.proofs.ListLemmas.{some-item, once-apart, Contains-map}
-use Rattle.gg_part_moved.specs.Moved.{moved_driver, moved_register, moved_memory, unclocked_register, unclocked_memory}
-use Rattle.gg_part_moved.proofs.MovedLemmas.{register-moved, memory-moved}
+use Rattle.gg_part.specs.Moved.{moved_driver, moved_register, moved_memory, unclocked_register, unclocked_memory}
+use Rattle.gg_part.proofs.MovedLemmas.{register-moved, memory-moved}
 use Rattle.gg_order.specs.Design.{Ordered}
 use Rattle.gg_part.specs.declared.part.Clocking.{Clocking}
 use Rattle.gg_part.specs.declared.part.Part.{Part}

@@ -3,7 +3,7 @@ ghost use Rattle.std.specs.Prelude.{◌≡◌, ◌≢◌, ℕ, ◌<◌, ◌≤�
 ghost use Rattle.gg_flat.specs.declared.piece.Driver.TheVariants.{Held};
 ghost use Rattle.gg_flat.specs.Circuit.{driver_at};
 ghost use Rattle.gg_flat.specs.Line.{value_at};
-ghost use Rattle.gg_part_moved.specs.Moved.{shifted};
+ghost use Rattle.gg_part.specs.Moved.{shifted};
 ghost use Rattle.gg_part.specs.Building.{AreHeld};
 ghost use Rattle.gg_part.specs.Clocking.{IsTimed};
 ghost use Rattle.gg_part.specs.Part.{IsPart};

@@ -10,7 +10,7 @@ use Rattle.gg_flat.specs.Order.{IsOrder}
 use Rattle.gg_flat.specs.WellFormed.{IsWellFormed}
 use Rattle.gg_flat.specs.Run.{IsColumns, Start, inputs_at, column}
 use Rattle.gg_flat.specs.State.{IsState}
-use Rattle.gg_part_moved.specs.KeepsToTree.{KeepsToTree}
+use Rattle.gg_part.specs.KeepsToTree.{KeepsToTree}
 use Rattle.gg_part.specs.Part.{IsPart}
 use Rattle.gg_part.specs.PartRun.{part_rows, part_columns, part_start}
 use Rattle.gg_part.specs.declared.part.Part.{Part}

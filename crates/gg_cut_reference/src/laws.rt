@@ -8,7 +8,7 @@ ghost use Rattle.gg_flat.specs.Order.{IsOrder};
 ghost use Rattle.gg_flat.specs.Line.{value_at};
 ghost use Rattle.gg_flat.specs.Run.{IsColumns, Start, column};
 ghost use Rattle.gg_flat.specs.State.{IsState};
-ghost use Rattle.gg_part_moved.specs.KeepsToTree.{KeepsToTree};
+ghost use Rattle.gg_part.specs.KeepsToTree.{KeepsToTree};
 ghost use Rattle.gg_part.specs.declared.part.Part.{Part};
 ghost use Rattle.gg_order.specs.Design.{Ordered, IsDesign};
 ghost use Rattle.gg_partfile.specs.declared.request.Request.{Request};

@@ -13,7 +13,7 @@ use Rattle.gg_cut_plan.specs.declared.listed.Listed.{Listed}
 use Rattle.gg_cut_plan.specs.Machines.{first_source, machine_count}
 use Rattle.gg_cut_plan.specs.Channels.{wires_of}
 use Rattle.gg_cut_plan.specs.Plan.{channels_to, channels_from, signals_of, givens_of, Makes, Takes, HasMemory}
-use Rattle.gg_part_moved.specs.KeepsToTree.{KeepsToTree}
+use Rattle.gg_part.specs.KeepsToTree.{KeepsToTree}
 use Rattle.gg_cut_plan.proofs.WireLemmas.{all-plain}
 use Rattle.gg_cut_laws.specs.Apart.{AreApart, AreEnds}
 use Rattle.gg_cut_laws.proofs.ChoiceLemmas.{wire-known}

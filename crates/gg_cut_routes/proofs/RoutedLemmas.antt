@@ -1,6 +1,6 @@
 -- The channels of the plan of a request without a fault are routed channels.
 use Rattle.std.proofs.Common.{◌≡◌, None}
-use Rattle.gg_part_moved.specs.KeepsToTree.{KeepsToTree}
+use Rattle.gg_part.specs.KeepsToTree.{KeepsToTree}
 use Rattle.gg_order.specs.Design.{Ordered, IsDesign}
 use Rattle.gg_partfile.specs.declared.request.Request.{Request}
 use Rattle.gg_cut_plan.specs.Listed.{listed_of}

@@ -2,7 +2,7 @@
 ghost use Rattle.std.specs.Prelude.{◌≡◌, ◌≢◌, ◌↔◌, ◌<◌, ◌≤◌, ℕ, List, Bool, false, None, Contains, length, filter};
 ghost use Rattle.gg_flat.specs.Circuit.{FlatCircuit};
 ghost use Rattle.gg_flat_tree.specs.Tree.{InstanceTree};
-ghost use Rattle.gg_part_moved.specs.KeepsToTree.{KeepsToTree};
+ghost use Rattle.gg_part.specs.KeepsToTree.{KeepsToTree};
 ghost use Rattle.gg_order.specs.Design.{Ordered, IsDesign};
 ghost use Rattle.gg_cut_plan.specs.declared.listed.Listed.{Listed};
 ghost use Rattle.gg_partfile.specs.declared.request.Request.{Request};

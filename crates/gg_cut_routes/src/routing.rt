@@ -1,6 +1,6 @@
 //! The channels of a cut with direct channels.
 ghost use Rattle.std.specs.Prelude.{◌≡◌, ℕ, ◌<◌, false, length, IfOk};
-ghost use Rattle.gg_part_moved.specs.KeepsToTree.{KeepsToTree};
+ghost use Rattle.gg_part.specs.KeepsToTree.{KeepsToTree};
 ghost use Rattle.gg_order.specs.Marks.{is_marked};
 ghost use Rattle.gg_cut_plan.specs.Channels.{wires_of};
 ghost use Rattle.gg_cut_laws.specs.Apart.{AreApart};

@@ -6,10 +6,9 @@ ghost use Rattle.gg_cut_plan.specs.Fault.{Tells, unknown_channel, range_fault};
 ghost use Rattle.std.specs.Prelude.{option_map};
 ghost use Rattle.gg_cut_plan.specs.declared.fault.CutFault.TheVariants.{UnknownChannel};
 
-use gg_bits::Name;
+use gg_bits::{CAPACITY_LIMIT, Name};
 use gg_cut_plan::CutFault;
 use gg_flat::Piece;
-use gg_limits::CAPACITY_LIMIT;
 
 // Checks that each name is that of a channel. The channels have these signals.
 //

@@ -1,7 +1,7 @@
 //! The judgement of a request.
 ghost use Rattle.std.specs.Prelude.{◌≡◌, ◌+◌, ◌<◌, ◌^◌, length, option_map, nat_lt, if◌then◌else◌, Some, None, All, IfOk, IfErr};
 ghost use Rattle.gg_flat_tree.specs.Tree.{IsTree};
-ghost use Rattle.gg_part_moved.specs.KeepsToTree.{KeepsToTree};
+ghost use Rattle.gg_part.specs.KeepsToTree.{KeepsToTree};
 ghost use Rattle.gg_cut_plan.specs.Listed.{listed_of};
 ghost use Rattle.gg_cut_plan.specs.Fault.{IsSmall, Tells, first_of, entry_faults, channel_faults, pipe_faults, clock_faults, too_many_channels, most_units};
 ghost use Rattle.gg_cut_plan.specs.declared.fault.CutFault.TheVariants.{TooManyUnits, TooManyChannels, NoMemory};

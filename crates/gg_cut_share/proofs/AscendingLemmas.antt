@@ -3,7 +3,7 @@ use Rattle.std.proofs.Common.{◌≡◌, ℕ, suc, ◌<◌, ◌≤◌, List, [],
 use Rattle.std.specs.Prelude.{All, AllPairs, Contains}
 use Rattle.std.proofs.lemmas.List.Elements.{Contains-get_or}
 use Rattle.gg_flat.proofs.ListLemmas.{Contains-cases, Contains-map, here, further}
-use Rattle.gg_part_moved.specs.Moved.{shifted}
+use Rattle.gg_part.specs.Moved.{shifted}
 use Rattle.gg_cut_laws.proofs.ListLemmas.{map-cases, AllPairs-map}
 
 abbrev pub Ascends : List ℕ → Type 0

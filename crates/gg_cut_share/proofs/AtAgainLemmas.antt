@@ -10,8 +10,8 @@ use Rattle.gg_flat.specs.Circuit.{FlatCircuit}
 use Rattle.gg_flat_tree.specs.Tree.{InstanceTree, IsInnermost, Holds, instance_at, memory_at, stop_at}
 use Rattle.gg_flat_tree.specs.Scoped.{memory_fields}
 use Rattle.gg_flat.proofs.ListLemmas.{Contains-map}
-use Rattle.gg_part_moved.specs.Copies.{Start}
-use Rattle.gg_part_moved.specs.Moved.{shifted, moved_port, moved_stop}
+use Rattle.gg_part.specs.Copies.{Start}
+use Rattle.gg_part.specs.Moved.{shifted, moved_port, moved_stop}
 use Rattle.gg_order.specs.Design.{Ordered}
 use Rattle.gg_cut_plan.specs.declared.listed.Listed.{Listed}
 use Rattle.gg_cut_share.proofs.FieldLemmas.{fields-again}

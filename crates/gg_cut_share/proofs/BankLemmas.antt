@@ -4,8 +4,8 @@ use Rattle.std.specs.Prelude.{◌↔◌, All, AllPairs, Contains, slice_index_or
 use Rattle.std.proofs.lemmas.List.Elements.{Contains-get_or}
 use Rattle.gg_flat.specs.declared.memory.Memory.{Memory}
 use Rattle.gg_flat_tree.specs.Tree.{InstanceTree}
-use Rattle.gg_part_moved.specs.Copies.{Start}
-use Rattle.gg_part_moved.specs.Moved.{moved_memory, shifted, unclocked_memory}
+use Rattle.gg_part.specs.Copies.{Start}
+use Rattle.gg_part.specs.Moved.{moved_memory, shifted, unclocked_memory}
 use Rattle.gg_order.specs.Design.{Ordered}
 use Rattle.gg_cut_plan.specs.declared.listed.Listed.{Listed}
 use Rattle.gg_cut_plan.specs.Machines.{first_memory, unit_number}

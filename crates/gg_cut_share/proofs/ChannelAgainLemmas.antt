@@ -5,8 +5,8 @@ use Rattle.std.proofs.lemmas.List.Elements.{All-contains}
 use Rattle.gg_flat.specs.Line.{value_at}
 use Rattle.gg_flat_tree.specs.Tree.{Holds, instance_at}
 use Rattle.gg_flat.proofs.ListLemmas.{Contains-map}
-use Rattle.gg_part_moved.specs.Copies.{Start}
-use Rattle.gg_part_moved.specs.Moved.{shifted}
+use Rattle.gg_part.specs.Copies.{Start}
+use Rattle.gg_part.specs.Moved.{shifted}
 use Rattle.gg_order.specs.Design.{Ordered}
 use Rattle.gg_cut_plan.specs.declared.wires.Wire.{Wire}
 use Rattle.gg_cut_plan.specs.declared.listed.Listed.{Listed}

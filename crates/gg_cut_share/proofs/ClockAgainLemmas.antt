@@ -11,10 +11,10 @@ use Rattle.gg_flat.specs.Line.{value_at}
 use Rattle.gg_flat_tree.specs.Scoped.{IsFieldOf, memory_fields, reader_fields, writer_fields, writers_at}
 use Rattle.gg_flat_tree.specs.Tree.{InstanceTree, IsInnermost, IsTree, Holds, instance_at, memory_at}
 use Rattle.gg_flat.proofs.ListLemmas.{Contains-map}
-use Rattle.gg_part_moved.specs.Copies.{LiesIn, Start}
-use Rattle.gg_part_moved.specs.Domains.{FollowsInside, inner_clocks, ports_inside}
-use Rattle.gg_part_moved.specs.Moved.{shifted}
-use Rattle.gg_part_moved.proofs.DomainLemmas.{again, top-length}
+use Rattle.gg_part.specs.Copies.{LiesIn, Start}
+use Rattle.gg_part.specs.Domains.{FollowsInside, inner_clocks, ports_inside}
+use Rattle.gg_part.specs.Moved.{shifted}
+use Rattle.gg_part.proofs.DomainLemmas.{again, top-length}
 use Rattle.gg_order.specs.Design.{Ordered}
 use Rattle.gg_cut_plan.specs.declared.listed.Listed.{Listed}
 use Rattle.gg_cut_plan.specs.Machines.{unit_number}

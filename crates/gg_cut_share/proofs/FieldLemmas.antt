@@ -9,8 +9,8 @@ use Rattle.gg_flat.specs.Circuit.{FlatCircuit, readers_at}
 use Rattle.gg_flat_tree.specs.Tree.{InstanceTree, memory_at}
 use Rattle.gg_flat_tree.specs.Scoped.{reader_fields, writer_fields, writers_at, memory_fields}
 use Rattle.gg_flat.proofs.ListLemmas.{some-item}
-use Rattle.gg_part_moved.specs.Copies.{Start}
-use Rattle.gg_part_moved.specs.Moved.{shifted, moved_memory, moved_reader, moved_writer, unclocked_memory, unclocked_reader, unclocked_writer}
+use Rattle.gg_part.specs.Copies.{Start}
+use Rattle.gg_part.specs.Moved.{shifted, moved_memory, moved_reader, moved_writer, unclocked_memory, unclocked_reader, unclocked_writer}
 use Rattle.gg_order.specs.Design.{Ordered}
 use Rattle.gg_cut_plan.specs.declared.listed.Listed.{Listed}
 use Rattle.gg_cut_share.proofs.FlatLemmas.{flat-alike}

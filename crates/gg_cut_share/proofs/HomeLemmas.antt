@@ -8,7 +8,7 @@ use Rattle.std.proofs.lemmas.Option.{same_Some}
 use Rattle.gg_flat.specs.Circuit.{FlatCircuit}
 use Rattle.gg_flat.specs.Line.{value_at}
 use Rattle.gg_flat_tree.specs.Tree.{InstanceTree, IsTree, instance_at}
-use Rattle.gg_part_moved.specs.Copies.{LiesIn, above}
+use Rattle.gg_part.specs.Copies.{LiesIn, above}
 use Rattle.gg_cut_plan.specs.declared.listed.Listed.{Listed}
 use Rattle.gg_cut_plan.specs.Listed.{lies, ParentsBefore}
 use Rattle.gg_cut_plan.proofs.ChainLemmas.{lies-self}

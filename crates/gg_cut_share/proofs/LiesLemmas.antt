@@ -6,7 +6,7 @@ use Rattle.std.specs.Prelude.{option_and_then}
 use Rattle.gg_flat.specs.Line.{value_at}
 use Rattle.gg_flat.specs.Circuit.{FlatCircuit}
 use Rattle.gg_flat_tree.specs.Tree.{InstanceTree, IsTree}
-use Rattle.gg_part_moved.specs.Copies.{LiesIn, above}
+use Rattle.gg_part.specs.Copies.{LiesIn, above}
 use Rattle.gg_cut_plan.specs.declared.listed.Listed.{Listed}
 use Rattle.gg_cut_plan.specs.Listed.{lies, owner_of_instance, unit_or_hub}
 use Rattle.gg_cut_plan.specs.Machines.{unit_number}

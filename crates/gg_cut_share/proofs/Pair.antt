@@ -3,9 +3,9 @@ use Rattle.std.proofs.Common.{◌≡◌, ◌⊎◌, ℕ, ◌<◌, ◌≤◌, len
 use Rattle.std.specs.Prelude.{Contains}
 use Rattle.gg_flat.specs.Line.{value_at}
 use Rattle.gg_flat_tree.specs.Tree.{InstanceTree, Holds, instance_at, memory_at}
-use Rattle.gg_part_moved.specs.Copies.{Start, IsCopy, LiesIn}
-use Rattle.gg_part_moved.specs.KeepsToTree.{KeepsToTree}
-use Rattle.gg_part_moved.specs.Moved.{shifted}
+use Rattle.gg_part.specs.Copies.{Start, IsCopy, LiesIn}
+use Rattle.gg_part.specs.KeepsToTree.{KeepsToTree}
+use Rattle.gg_part.specs.Moved.{shifted}
 use Rattle.gg_order.specs.Design.{Ordered, IsDesign}
 use Rattle.gg_cut_laws.specs.Apart.{AreApart}
 use Rattle.gg_cut_plan.specs.Listed.{owner_of_instance}

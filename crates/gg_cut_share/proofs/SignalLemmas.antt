@@ -8,8 +8,8 @@ use Rattle.gg_flat.specs.Line.{value_at}
 use Rattle.gg_flat_tree.specs.Scoped.{IsInputOf}
 use Rattle.gg_flat_tree.specs.Tree.{InstanceTree, Holds, instance_at}
 use Rattle.gg_flat.specs.WellFormed.{MayDrive}
-use Rattle.gg_part_moved.specs.Copies.{Start}
-use Rattle.gg_part_moved.specs.Moved.{moved_driver, moved_register, shifted, unclocked_register}
+use Rattle.gg_part.specs.Copies.{Start}
+use Rattle.gg_part.specs.Moved.{moved_driver, moved_register, shifted, unclocked_register}
 use Rattle.gg_order.specs.Design.{Ordered}
 use Rattle.gg_cut_plan.specs.declared.listed.Listed.{Listed}
 use Rattle.gg_cut_plan.specs.declared.wires.Wire.{Wire}

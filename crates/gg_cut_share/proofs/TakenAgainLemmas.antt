@@ -8,8 +8,8 @@ use Rattle.gg_flat_tree.specs.declared.tree.InstancePort.{InstancePort}
 use Rattle.gg_flat.specs.Line.{value_at}
 use Rattle.gg_flat_tree.specs.Tree.{instance_at, memory_at}
 use Rattle.gg_flat.proofs.ListLemmas.{Contains-filter, filter-cases}
-use Rattle.gg_part_moved.specs.Copies.{Start}
-use Rattle.gg_part_moved.specs.Moved.{shifted, moved_port}
+use Rattle.gg_part.specs.Copies.{Start}
+use Rattle.gg_part.specs.Moved.{shifted, moved_port}
 use Rattle.gg_order.specs.Design.{Ordered}
 use Rattle.gg_cut_plan.specs.declared.listed.Listed.{Listed}
 use Rattle.gg_cut_plan.specs.Listed.{owner_of_instance}

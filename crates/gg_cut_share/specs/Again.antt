@@ -9,8 +9,8 @@ use Rattle.gg_flat.specs.declared.piece.Register.{Register}
 use Rattle.gg_flat.specs.Circuit.{signal_shapes, driver_at}
 use Rattle.gg_flat.specs.Line.{shape_at, value_at}
 use Rattle.gg_flat_tree.specs.Tree.{InstanceTree, instance_at}
-use Rattle.gg_part_moved.specs.Domains.{FollowsInside, ports_inside}
-use Rattle.gg_part_moved.specs.Moved.{moved_driver, moved_register, moved_memory, shifted, unclocked_register, unclocked_memory}
+use Rattle.gg_part.specs.Domains.{FollowsInside, ports_inside}
+use Rattle.gg_part.specs.Moved.{moved_driver, moved_register, moved_memory, shifted, unclocked_register, unclocked_memory}
 use Rattle.gg_order.specs.Design.{Ordered}
 use Rattle.gg_cut_plan.specs.declared.listed.Listed.{Listed}
 use Rattle.gg_cut_plan.specs.declared.wires.Wire.{Wire}

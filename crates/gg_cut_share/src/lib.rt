@@ -7,7 +7,7 @@
 //!   same signals and drivers, registers and memories, taken by channels in the same order, and given by channels of the
 //!   same signals. Inside of the units its registers and ports follow the same Clock inputs.
 //!
-//! Why it holds: instances of one module are copies of each other (`HasCopies` of gg_part_moved), and a memory inside one of the
+//! Why it holds: instances of one module are copies of each other (`HasCopies` of gg_part), and a memory inside one of the
 //! units is listed exactly if its counterpart inside the other is.
 #![tactic(auto)]
 

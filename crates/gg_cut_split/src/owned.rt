@@ -1,7 +1,7 @@
 //! The machines of signals and of memories, and the channels between machines.
 ghost use Rattle.std.specs.Prelude.{◌≡◌, ℕ, ◌<◌, length, IfOk};
 ghost use Rattle.gg_flat.specs.Line.{value_at};
-ghost use Rattle.gg_part_moved.specs.KeepsToTree.{KeepsToTree};
+ghost use Rattle.gg_part.specs.KeepsToTree.{KeepsToTree};
 ghost use Rattle.gg_cut_plan.specs.Listed.{owner_of, memory_owner};
 ghost use Rattle.gg_cut_plan.specs.Channels.{wires_of};
 ghost use Rattle.gg_cut_plan.specs.Plan.{IsInner};

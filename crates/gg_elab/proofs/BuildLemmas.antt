@@ -3,7 +3,7 @@ use Rattle.std.proofs.Common.{◌≡◌, ℕ, ◌+◌, ◌<◌, ◌≤◌, List,
 use Rattle.std.specs.Prelude.{count_by, All, MatchOption, ⊤}
 use Rattle.std.proofs.lemmas.List.Elements.{All-push}
 use Rattle.gg_flat.specs.WellFormed.{IsRegister}
-use Rattle.gg_elab_laws.specs.Fitting.{FitsDriver, IsFitting}
+use Rattle.gg_elab_tree.specs.Fitting.{FitsDriver, IsFitting}
 use Rattle.std.proofs.lemmas.List.{map-append, length-append, length-map, get_or_append_left, get_or_push, take-append-le, take_all, append-nil}
 use Rattle.std.proofs.lemmas.List.Sums.{sum_by_push}
 use Rattle.gg_bits.specs.Shape.{Shape, shape, uint}

@@ -14,7 +14,7 @@ use Rattle.gg_elab_count.specs.Sites.{Site, module_at, sites_of}
 use Rattle.gg_flat.specs.declared.memory.Memory.{Memory}
 use Rattle.gg_flat.specs.Circuit.{FlatCircuit}
 use Rattle.gg_flat.specs.Line.{shape_at}
-use Rattle.gg_elab_laws.specs.Fitting.{AreFitting}
+use Rattle.gg_elab_tree.specs.Fitting.{AreFitting}
 use Rattle.gg_types.specs.Clocks.{clock_inputs}
 use Rattle.gg_types.specs.Types.{type_faults}
 use Rattle.gg_elab_sites.specs.Flat.{FlatMemory, FlatSignal, flat_memories, flat_memory, flat_signals, memories_at, stop_paths}

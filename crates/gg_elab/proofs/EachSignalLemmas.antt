@@ -14,7 +14,7 @@ use Rattle.gg_flat.specs.declared.piece.Reset as kept
 use Rattle.gg_flat.specs.Circuit.{FlatCircuit, no_circuit}
 use Rattle.gg_flat.specs.Line.{HasType, IsSource, shape_at}
 use Rattle.gg_flat.specs.WellFormed.{IsReset}
-use Rattle.gg_elab_laws.specs.Fitting.{FitsDriver, IsFitting}
+use Rattle.gg_elab_tree.specs.Fitting.{FitsDriver, IsFitting}
 use Rattle.gg_elab_sites.specs.Connection.{Connection}
 use Rattle.gg_elab_sites.specs.Flat.{Answers, Drive, FlatSignal, Gets, Holds, Outside, Scope}
 use Rattle.gg_elab_sites.specs.IsFlat.{HasNext, HasReset, answer, number_of}

@@ -18,7 +18,7 @@ use Rattle.gg_flat.specs.declared.piece.Signal.{Signal}
 use Rattle.gg_flat.specs.Circuit.{FlatCircuit, signal_shapes, driver_at}
 use Rattle.gg_flat.specs.Line.{shape_at, HasType}
 use Rattle.gg_flat.specs.WellFormed.{IsRegister}
-use Rattle.gg_elab_laws.specs.Fitting.{FitsDriver, AreFitting}
+use Rattle.gg_elab_tree.specs.Fitting.{FitsDriver, AreFitting}
 use Rattle.gg_elab.specs.Building.{IsSoFar, HasMemories}
 use Rattle.gg_flat_tree.specs.Tree.{joined}
 use Rattle.gg_types.specs.Clocks.{clock_inputs}

@@ -9,7 +9,7 @@ use Rattle.gg_flat.specs.declared.memory.Memory.{Memory}
 use Rattle.gg_flat.specs.Circuit.{FlatCircuit, signal_shapes, driver_at}
 use Rattle.gg_flat.specs.Line.{shape_at, HasType}
 use Rattle.gg_flat.specs.WellFormed.{IsRegister}
-use Rattle.gg_elab_laws.specs.Fitting.{FitsDriver}
+use Rattle.gg_elab_tree.specs.Fitting.{FitsDriver}
 use Rattle.gg_elab_sites.specs.declared.digest.OwnMemory.{OwnMemory}
 use Rattle.gg_elab_sites.specs.Flat.{Drive, Outside, Gets, Holds, Answers, FlatSignal, FlatMemory, flat_memory}
 use Rattle.gg_elab_sites.specs.IsFlat.{IsComputed, IsRegisterOf, IsDriven, answer, number_of, is_outside, is_register, count_before, IsMemoryOf}

@@ -3,7 +3,7 @@ ghost use Rattle.std.specs.Prelude.{◌≡◌, ◌≢◌, ◌<◌, ◌-◌, ◌^
 ghost use Rattle.gg_bits.specs.Shape.{Shape, shape};
 ghost use Rattle.gg_flat.specs.Line.{HasType, IsSource};
 ghost use Rattle.gg_flat.specs.WellFormed.{IsRegister, IsReset};
-ghost use Rattle.gg_elab_laws.specs.Fitting.{FitsDriver, IsFitting};
+ghost use Rattle.gg_elab_tree.specs.Fitting.{FitsDriver, IsFitting};
 ghost use Rattle.gg_elab_sites.specs.Flat.{drive_of, input_drive, FlatSignal, flat_signal, signals_at, flat_signals, Gets};
 ghost use Rattle.gg_elab_count.specs.Sites.{module_at};
 ghost use Rattle.gg_flat.specs.Circuit.{no_circuit};

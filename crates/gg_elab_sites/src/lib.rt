@@ -1,7 +1,7 @@
 //! Which flat circuit a circuit has, and what each module declares, read once for building it.
 //!
 //! The crate stands between the checks of a circuit (gg_types, gg_elab_count) and the crates that make its flat circuit:
-//! gg_elab_tree and gg_elab_laws state laws of it, and gg_elab builds it. The definition `IsFlat` is here.
+//! gg_elab_tree states laws of it, and gg_elab builds it. The definition `IsFlat` is here.
 //!
 //! The signals of a circuit are those of its top and of every instance below it, by their paths (`flat_signals`). The
 //! same holds for its memories (`flat_memories`). A name that is written at a site stands for the signal whose path

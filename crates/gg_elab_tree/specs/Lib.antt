@@ -1,2 +1,4 @@
 pub mod IsTreeOf
 pub mod TreeParts
+pub mod Fitting
+pub mod Held

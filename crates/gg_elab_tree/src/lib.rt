@@ -1,4 +1,4 @@
-//! The tree of a circuit's instances.
+//! The tree of a circuit's instances, and what the checks of a circuit imply for its flat circuit.
 //!
 //! The tree of a circuit (`IsTreeOf`) has the top and the instances below it, in turn. Each has its parent, its
 //! module, its ports in port order and its memories. It also has its signals with those of the instances below it,
@@ -10,21 +10,35 @@
 //! this follows of its own instance. The crate promises:
 //!
 //! - `tree_of` is the circuit's tree;
-//! - each circuit has a tree (`each_has_tree`);
-//! - `fits` states that this tree is one of the circuit's flat circuit (`IsTree`); that the flat circuit keeps to its
-//!   scopes (`IsScoped`): what a driver names is visible where the driver is written; and that the circuit's clocks are
-//!   those that the tree leads to (`IsClocked`).
+//! - each circuit has a tree (`each_has_tree`).
+//!
+//! The other functions are laws, which compute nothing. They say of a circuit that passed the checks:
+//!
+//! - `top_of`: there is a top;
+//! - `distinct`: no two sites have the same path, no two signals, and no two memories;
+//! - `fits`: the tree is one of the circuit's flat circuit (`IsTree`); the flat circuit keeps to its scopes (`IsScoped`):
+//!   what a driver names is visible where the driver is written; and the circuit's clocks are those that the tree leads to
+//!   (`IsClocked`);
+//! - `formed`: a flat circuit of the circuit is well formed (`IsWellFormed`), if its lines may be connected to what
+//!   they drive (`AreFitting`). Its in-signals, the data of readers and the signals that they drive belong together;
+//!   every name is a name of the circuit; types agree. Each register is held by exactly one signal (`AreHeldOnce`).
 #![tactic(auto)]
 
 mod clocks;
 mod fitting;
+mod forms;
 mod instances;
 mod laws;
 mod memories;
+mod paths;
 mod places;
 mod stops;
+mod top;
 mod tree;
 
 pub use fitting::fits;
+pub use forms::formed;
 pub use laws::each_has_tree;
+pub use paths::distinct;
+pub use top::top_of;
 pub use tree::tree_of;

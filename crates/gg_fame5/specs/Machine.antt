@@ -2,7 +2,7 @@
 -- Source: MEMOCODE 2009 (a node with a latch for each input and a flag for each output); ICCAD 2019 (units of a target
 -- that advance when their tokens allow it).
 use Rattle.std.specs.Prelude.{ℕ, List, [], Option, None, Bool, false, length, replicate}
-use Rattle.gg_limits.specs.Limits.{cycle_limit}
+use Rattle.gg_bits.specs.Limits.{cycle_limit}
 use Rattle.gg_flat.specs.Clock.{Ratio}
 use Rattle.gg_flat.specs.State.{State, opening}
 use Rattle.gg_node.specs.Machine.{RunsPiece, Machine}

@@ -1,7 +1,7 @@
 //! `Lane`: what one thread has of its own.
 ghost use Rattle.std.specs.Prelude.{◌≡◌, ◌+◌, ◌<◌, ◌≤◌, length, None, is_some, IfOk};
 ghost use Rattle.gg_bits.specs.Shape.{Fits};
-ghost use Rattle.gg_limits.specs.Limits.{cycle_limit};
+ghost use Rattle.gg_bits.specs.Limits.{cycle_limit};
 ghost use Rattle.gg_flat.specs.Circuit.{FlatCircuit};
 ghost use Rattle.gg_flat.specs.Line.{shape_at};
 ghost use Rattle.gg_flat.specs.Settled.{in_shapes};

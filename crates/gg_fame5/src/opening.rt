@@ -1,7 +1,7 @@
 //! Lanes and states with which threads begin.
 ghost use Rattle.std.specs.Prelude.{◌≡◌, ◌<◌, ◌≤◌, ◌++◌, [], ◌∷◌, Some, All, length, replicate, slice_index_or, IfOk};
 ghost use Rattle.std.specs.Vec.{vec_capacity};
-ghost use Rattle.gg_limits.specs.Limits.{cycle_limit};
+ghost use Rattle.gg_bits.specs.Limits.{cycle_limit};
 ghost use Rattle.gg_flat.specs.State.{IsState, opening};
 ghost use Rattle.gg_fame5.specs.Lane.{IsLane, started_lane};
 ghost use Rattle.gg_fame5.specs.Shared.{started_lanes};

@@ -20,10 +20,10 @@ use Rattle.gg_elab_sites.proofs.NameLemmas.{Differ}
 use Rattle.gg_elab_tree.proofs.DeclaredLemmas.{append-none}
 use Rattle.gg_elab_tree.proofs.EachTreeLemmas.{tree-there}
 use Rattle.gg_elab_tree.proofs.ElementLemmas.{some-of}
-use Rattle.gg_elab_laws.proofs.CircuitFormedLemmas.{circuit-formed}
-use Rattle.gg_elab_laws.proofs.ModuleNameLemmas.{memory-paths-differ}
-use Rattle.gg_elab_laws.proofs.SignalPathLemmas.{signal-paths-differ}
-use Rattle.gg_elab_laws.proofs.TopLemmas.{has-top}
+use Rattle.gg_elab_tree.proofs.CircuitFormedLemmas.{circuit-formed}
+use Rattle.gg_elab_tree.proofs.ModuleNameLemmas.{memory-paths-differ}
+use Rattle.gg_elab_tree.proofs.SignalPathLemmas.{signal-paths-differ}
+use Rattle.gg_elab_tree.proofs.TopLemmas.{has-top}
 use Rattle.gg_elab.proofs.EachCircuitLemmas.{flat-there}
 use Rattle.gg_elab.proofs.FewStopLemmas.{few-within}
 use Rattle.gg_front.specs.Accepted.{IsAcceptedText}

@@ -15,21 +15,21 @@ use Rattle.gg_net.specs.Kept.{Kept}
 use Rattle.gg_net.specs.Step.{Ready, Step}
 use Rattle.gg_net.proofs.StepLemmas.{kept-step}
 use Rattle.gg_net.proofs.ProgressLemmas.{goes-on}
-use Rattle.gg_net_marking.specs.Marking.{Layout, Marking, turns_at, puts, takes, refusal, after}
-use Rattle.gg_net_marking.specs.Fits.{HasLayout, marking_of}
-use Rattle.gg_net_marking.proofs.CountLemmas.{cycle-at, puts-are, takes-are}
-use Rattle.gg_net_marking.proofs.GoesLemmas.{ready-free, step-marks, step-frame}
-use Rattle.gg_net_progress.specs.Counts.{counts_of, dues, fires, latches, finishes, accesses, IsAllowed, Raises, Free}
-use Rattle.gg_net_progress.specs.Measure.{left}
+use Rattle.gg_net_laws.specs.Marking.{Layout, Marking, turns_at, puts, takes, refusal, after}
+use Rattle.gg_net_laws.specs.Fits.{HasLayout, marking_of}
+use Rattle.gg_net_laws.proofs.CountLemmas.{cycle-at, puts-are, takes-are}
+use Rattle.gg_net_laws.proofs.GoesLemmas.{ready-free, step-marks, step-frame}
+use Rattle.gg_net_laws.specs.Counts.{counts_of, dues, fires, latches, finishes, accesses, IsAllowed, Raises, Free}
+use Rattle.gg_net_laws.specs.Measure.{left}
 use Rattle.gg_measure.specs.Nets.{IsAtWork, AllStandAt, IsIdle, StepBelow, StepsBelow, Goes, StaysWithin, machine_of, cycle_at, dues_at, net_left}
-use Rattle.gg_net_progress.proofs.SumLemmas.{one-cases}
-use Rattle.gg_net_progress.proofs.FreeLemmas.{is-free}
-use Rattle.gg_net_progress.proofs.LeadLemmas.{Went, went}
-use Rattle.gg_net_marking.specs.LayoutOf.{layout_of}
-use Rattle.gg_net_marking.proofs.LayoutLemmas.{has-layout}
-use Rattle.gg_net_marking.proofs.GoesLemmas.{free-ready}
+use Rattle.gg_net_laws.proofs.SumLemmas.{one-cases}
+use Rattle.gg_net_laws.proofs.FreeLemmas.{is-free}
+use Rattle.gg_net_laws.proofs.LeadLemmas.{Went, went}
+use Rattle.gg_net_laws.specs.LayoutOf.{layout_of}
+use Rattle.gg_net_laws.proofs.LayoutLemmas.{has-layout}
+use Rattle.gg_net_laws.proofs.GoesLemmas.{free-ready}
 use Rattle.gg_measure.proofs.NetLemmas.{can-run, shape-of, allowed-of, left-is, dues-are, serves-are}
-use Rattle.gg_net_progress.proofs.GoalLemmas.{goes-below, machine_by}
+use Rattle.gg_net_laws.proofs.GoalLemmas.{goes-below, machine_by}
 
 -- ---- the layout
 

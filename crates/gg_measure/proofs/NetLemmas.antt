@@ -18,19 +18,19 @@ use Rattle.gg_net.specs.Network.{Network, Kind, Frame, wire_at, kind_at, kind_of
 use Rattle.gg_net.specs.Kept.{Kept, MachineAt, BetweenAt, NeedsChannel, list_at}
 use Rattle.gg_net.specs.Net.{IsWithinLimits}
 use Rattle.gg_net.specs.Step.{latch_of, missing_of}
-use Rattle.gg_net_marking.specs.Marking.{Layout, Marking, Turn, link_at, turns_at, is_set, first_unmarked}
-use Rattle.gg_net_marking.specs.Fits.{HasLayout, IsTurnOf, AreTurnsOf, places_of, marking_of}
-use Rattle.gg_net_marking.proofs.CountLemmas.{cycle-at, served-at, taken-at, given-at, puts-are, entered-are, takes-are}
-use Rattle.gg_net_marking.proofs.ChangeLemmas.{taken-count, given-count}
-use Rattle.gg_net_marking.proofs.NeedLemmas.{unmarked-none}
-use Rattle.gg_net_marking.proofs.FirstLemmas.{none-unfired}
-use Rattle.gg_net_marking.proofs.PutsLemmas.{puts-within}
-use Rattle.gg_net_progress.specs.Counts.{Counts, counts_of, dues, WasTaken, IsAllowed, HasBegun, CanRun, IsMarkingOf}
-use Rattle.gg_net_progress.specs.Measure.{sum_below, left}
+use Rattle.gg_net_laws.specs.Marking.{Layout, Marking, Turn, link_at, turns_at, is_set, first_unmarked}
+use Rattle.gg_net_laws.specs.Fits.{HasLayout, IsTurnOf, AreTurnsOf, places_of, marking_of}
+use Rattle.gg_net_laws.proofs.CountLemmas.{cycle-at, served-at, taken-at, given-at, puts-are, entered-are, takes-are}
+use Rattle.gg_net_laws.proofs.ChangeLemmas.{taken-count, given-count}
+use Rattle.gg_net_laws.proofs.NeedLemmas.{unmarked-none}
+use Rattle.gg_net_laws.proofs.FirstLemmas.{none-unfired}
+use Rattle.gg_net_laws.proofs.PutsLemmas.{puts-within}
+use Rattle.gg_net_laws.specs.Counts.{Counts, counts_of, dues, WasTaken, IsAllowed, HasBegun, CanRun, IsMarkingOf}
+use Rattle.gg_net_laws.specs.Measure.{sum_below, left}
 use Rattle.gg_measure.specs.Nets.{dues_at, net_left, wire_left, machine_left}
-use Rattle.gg_net_progress.proofs.SumLemmas.{sum-same, sum-le, sum-add, sum-equal, sum-times, sum-front, sum-listed}
-use Rattle.gg_net_progress.proofs.EarlyLemmas.{entered-is}
-use Rattle.gg_net_progress.proofs.FreeLemmas.{all-taken, has-given, set-one, clear-one}
+use Rattle.gg_net_laws.proofs.SumLemmas.{sum-same, sum-le, sum-add, sum-equal, sum-times, sum-front, sum-listed}
+use Rattle.gg_net_laws.proofs.EarlyLemmas.{entered-is}
+use Rattle.gg_net_laws.proofs.FreeLemmas.{all-taken, has-given, set-one, clear-one}
 
 any_turn : Turn
 any_turn = record { number = 0; fields = [] }

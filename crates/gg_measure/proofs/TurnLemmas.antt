@@ -11,7 +11,7 @@ use Rattle.gg_net.specs.declared.shape.Wire.{Wire}
 use Rattle.gg_net.specs.Network.{Network, Frame, Kind, wire_at, kind_of, kind_at, frame_of, IsAtIn, IsAtOut}
 use Rattle.gg_net.specs.Kept.{Kept}
 use Rattle.gg_net.specs.Step.{Ready, Step}
-use Rattle.gg_net_marking.proofs.GoesLemmas.{step-frame}
+use Rattle.gg_net_laws.proofs.GoesLemmas.{step-frame}
 use Rattle.gg_measure.specs.Nets.{IsAtWork, NoLatch, NoFire, NoServe, IsIdle, AllStandAt, StepsBelow, StaysWithin, HasRun, Goes, cycle_at, machine_of}
 use Rattle.gg_measure.specs.Turns.{HasTried, HasServedOne, HadTurn, HasGoneRound, NoneFound}
 use Rattle.gg_measure.proofs.GoLemmas.{goes-none, goes-one, goes-then, goes-still, goes-falls, steps-kept, steps-within, all-stand, none-ready, machine-there, work-latch, work-fire, work-serve}

@@ -9,17 +9,17 @@ use Rattle.gg_net.specs.Step.{Step}
 use Rattle.gg_net.proofs.StepLemmas.{kept-step}
 use Rattle.gg_net.proofs.GoesLemmas.{goes}
 use Rattle.gg_net.proofs.CountLemmas.{counted-once}
-use Rattle.gg_net_marking.specs.Marking.{Layout, Marking, puts, takes}
-use Rattle.gg_net_marking.specs.Fits.{HasLayout, marking_of}
-use Rattle.gg_net_marking.specs.Steps.{Steps}
-use Rattle.gg_net_marking.proofs.CountLemmas.{cycle-at, served-at, puts-are, takes-are}
-use Rattle.gg_net_marking.proofs.GoesLemmas.{step-marks, step-frame}
-use Rattle.gg_net_marking.proofs.StepsLemmas.{steps-kept, steps-frame}
-use Rattle.gg_net_progress.specs.Counts.{counts_of, AreAtMost}
-use Rattle.gg_net_progress.specs.Leads.{Leads}
-use Rattle.gg_net_progress.proofs.LeadLemmas.{leads-up}
+use Rattle.gg_net_laws.specs.Marking.{Layout, Marking, puts, takes}
+use Rattle.gg_net_laws.specs.Fits.{HasLayout, marking_of}
+use Rattle.gg_net_laws.specs.Steps.{Steps}
+use Rattle.gg_net_laws.proofs.CountLemmas.{cycle-at, served-at, puts-are, takes-are}
+use Rattle.gg_net_laws.proofs.GoesLemmas.{step-marks, step-frame}
+use Rattle.gg_net_laws.proofs.StepsLemmas.{steps-kept, steps-frame}
+use Rattle.gg_net_laws.specs.Counts.{counts_of, AreAtMost}
+use Rattle.gg_net_laws.specs.Leads.{Leads}
+use Rattle.gg_net_laws.proofs.LeadLemmas.{leads-up}
 use Rattle.gg_measure.proofs.NetLemmas.{can-run, shape-of, allowed-of}
-use Rattle.gg_net_marking.proofs.GoesLemmas.{free-ready}
+use Rattle.gg_net_laws.proofs.GoesLemmas.{free-ready}
 
 -- ---- from markings to networks
 

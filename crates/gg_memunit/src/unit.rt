@@ -1,6 +1,6 @@
 //! `MemUnit`: a memory whose ports are served one by one.
 ghost use Rattle.std.specs.Prelude.{◌≡◌, ℕ, ◌<◌, ◌≤◌, List, [], ◌∷◌, None, false, length, replicate, is_some, slice_set, IfOk};
-ghost use Rattle.gg_limits.specs.Limits.{cycle_limit};
+ghost use Rattle.gg_bits.specs.Limits.{cycle_limit};
 ghost use Rattle.gg_flat.specs.State.{IsState};
 ghost use Rattle.gg_node.specs.Machine.{RunsPiece, Machine, machine_at, latch_at, flag_at, missing, due};
 ghost use Rattle.gg_node.specs.Token.{IsToken, IsNextState};
@@ -51,7 +51,7 @@ impl Drop for MemUnit {
 }
 
 impl Model for MemUnit {
-    ghost use Rattle.gg_limits.specs.Limits.{cycle_limit};
+    ghost use Rattle.gg_bits.specs.Limits.{cycle_limit};
     ghost use Rattle.gg_node.specs.Machine.{Machine};
     ghost use Rattle.gg_memunit.specs.MemoryUnit.{memory_machine, IsOfPiece};
 

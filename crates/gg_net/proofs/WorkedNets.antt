@@ -3,7 +3,7 @@
 use Rattle.std.proofs.Common.{◌≡◌, ℕ, zero, suc, ◌<◌, List, [], ◌∷◌, Option, Some, None, Bool, true, false, refl, arith, lit<}
 use Rattle.std.specs.Prelude.{◌+◌, ◌≤◌, slice_index_or, All, Contains, length}
 use Rattle.std.proofs.lemmas.Option.{none-some}
-use Rattle.gg_limits.specs.Limits.{capacity_limit}
+use Rattle.gg_bits.specs.Limits.{capacity_limit}
 use Rattle.gg_flat.specs.declared.line.Op.TheVariants.{Ref}
 use Rattle.gg_flat.specs.declared.piece.Driver.TheVariants.{Input, Held, Computed}
 use Rattle.gg_flat.specs.Line.{value_at}

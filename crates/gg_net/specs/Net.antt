@@ -2,7 +2,7 @@
 -- Source: MEMOCODE 2009 (a network before its first cycle: all latches and flags empty, and all queues but those that
 -- open with a token); ICCAD 2019 for hosts.
 use Rattle.std.specs.Prelude.{◌≡◌, ℕ, ◌^◌, ◌<◌, ◌≤◌, List, [], None, false, length, map, sum, replicate, slice_index_or}
-use Rattle.gg_limits.specs.Limits.{capacity_limit, cycle_limit}
+use Rattle.gg_bits.specs.Limits.{capacity_limit, cycle_limit}
 use Rattle.gg_flat.specs.Line.{value_at}
 use Rattle.gg_flat.specs.State.{State}
 use Rattle.gg_flat.specs.Streams.{Flow, state_in}

@@ -1,7 +1,7 @@
 //! `Tray`: a machine that keeps the last values that it gets.
 ghost use Rattle.std.specs.Prelude.{◌≡◌, ℕ, ◌<◌, ◌≤◌, List, [], ◌∷◌, None, IfOk, length, is_some, slice_set};
 ghost use Rattle.std.specs.VecDeque.{deque_capacity};
-ghost use Rattle.gg_limits.specs.Limits.{cycle_limit};
+ghost use Rattle.gg_bits.specs.Limits.{cycle_limit};
 ghost use Rattle.gg_node.specs.Machine.{IsTray, Machine, machine_at, latch_at, flag_at, missing, due, tray_machine, kept_value};
 ghost use Rattle.gg_node.specs.Token.{IsToken, IsNextState};
 ghost use Rattle.gg_node.specs.Step.{MayLatch, MayFire, MayServe, MayFinish, with_latch, with_flag, with_served, kept_with, finished};
@@ -35,7 +35,7 @@ impl Drop for Tray {
 }
 
 impl Model for Tray {
-    ghost use Rattle.gg_limits.specs.Limits.{cycle_limit};
+    ghost use Rattle.gg_bits.specs.Limits.{cycle_limit};
     ghost use Rattle.gg_node.specs.Machine.{Machine, tray_machine};
     ghost use Rattle.gg_node.specs.Tray.{IsWindow};
 

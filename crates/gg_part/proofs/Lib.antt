@@ -9,3 +9,7 @@ pub mod BuildLemmas
 pub mod PartLemmas
 pub mod WorkedParts
 pub mod ClockLemmas
+pub mod MovedLemmas
+mod WorkedCopies
+mod WorkedMoved
+pub mod DomainLemmas

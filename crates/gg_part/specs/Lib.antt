@@ -6,3 +6,9 @@ pub mod Numbers
 pub mod Building
 pub mod Clocking
 pub mod RunsOfParts
+pub mod Copies
+pub mod Domains
+pub mod KeepsToTree
+pub mod Moved
+pub mod StandsAgain
+pub mod PartsMove

@@ -1,6 +1,6 @@
 //! `Mono`: the simulator of a whole circuit.
 ghost use Rattle.std.specs.Prelude.{◌≡◌, ℕ, ◌+◌, ◌<◌, ◌≤◌, List, [], length, map, IfOk};
-ghost use Rattle.gg_limits.specs.Limits.{cycle_limit};
+ghost use Rattle.gg_bits.specs.Limits.{cycle_limit};
 ghost use Rattle.gg_flat.specs.Clock.{edges_at};
 ghost use Rattle.gg_flat.specs.Line.{value_at};
 ghost use Rattle.gg_flat.specs.State.{State as StateValue, IsState};

@@ -10,10 +10,10 @@ use Rattle.gg_net.specs.declared.event.Event.TheVariants.{Fire}
 use Rattle.gg_net.specs.Network.{Network, Frame, wire_at, queue_at, puts, entered_by, entered}
 use Rattle.gg_net.specs.Kept.{Kept, list_at}
 use Rattle.gg_net.specs.Step.{Step}
-use Rattle.gg_net_marking.specs.Steps.{IsStep, Steps}
-use Rattle.gg_net_marking.proofs.GoesLemmas.{step-frame}
-use Rattle.gg_net_marking.proofs.PutsLemmas.{front-grows, step-others}
-use Rattle.gg_net_marking.proofs.StepsLemmas.{steps-more}
+use Rattle.gg_net_laws.specs.Steps.{IsStep, Steps}
+use Rattle.gg_net_laws.proofs.GoesLemmas.{step-frame}
+use Rattle.gg_net_laws.proofs.PutsLemmas.{front-grows, step-others}
+use Rattle.gg_net_laws.proofs.StepsLemmas.{steps-more}
 use Rattle.gg_replay.specs.Log.{tokens_at, AreFronts, IsBehind}
 
 -- equal `Fire` events give the token of the same channel

@@ -14,7 +14,7 @@ use Rattle.gg_net.specs.Kept.{BetweenAt, IsSound, Kept, list_at}
 use Rattle.gg_net.specs.Net.{IsOpening, opening_net}
 use Rattle.gg_net.specs.Network.{Network, entered, entered_by, frame_of, got_by, kind_of, opening_queue, queue_at, takes, wire_at}
 use Rattle.gg_net.proofs.OpenLemmas.{machine-open, queue-opens}
-use Rattle.gg_net_marking.proofs.OpeningLemmas.{none-put}
+use Rattle.gg_net_laws.proofs.OpeningLemmas.{none-put}
 use Rattle.gg_build_laws.specs.Built.{body_start, flow_of, wires_of_plan}
 use Rattle.gg_bridged.proofs.PortLemmas.{plan-ins}
 use Rattle.gg_bridged.proofs.RunLemmas.{whole-runs}

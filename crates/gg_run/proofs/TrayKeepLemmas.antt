@@ -14,15 +14,15 @@ use Rattle.gg_net.specs.Kept.{Kept}
 use Rattle.gg_net.specs.Net.{IsOpening, opening_net}
 use Rattle.gg_net.specs.Network.{Network, frame_of}
 use Rattle.gg_node.specs.Machine.{Machine, kept_value, machine_at}
-use Rattle.gg_net_marking.specs.Fits.{HasLayout, marking_of}
-use Rattle.gg_net_marking.specs.LayoutOf.{layout_of}
-use Rattle.gg_net_marking.specs.Marking.{Layout, Marking}
-use Rattle.gg_net_marking.specs.Steps.{Steps}
-use Rattle.gg_net_marking.proofs.LayoutLemmas.{has-layout}
-use Rattle.gg_net_marking.proofs.OpeningLemmas.{opens-so}
-use Rattle.gg_net_marking.proofs.StepsLemmas.{steps-frame, steps-kept}
-use Rattle.gg_net_progress.specs.Counts.{AreAtMost, counts_of}
-use Rattle.gg_net_progress.proofs.EndLemmas.{opening-lowest}
+use Rattle.gg_net_laws.specs.Fits.{HasLayout, marking_of}
+use Rattle.gg_net_laws.specs.LayoutOf.{layout_of}
+use Rattle.gg_net_laws.specs.Marking.{Layout, Marking}
+use Rattle.gg_net_laws.specs.Steps.{Steps}
+use Rattle.gg_net_laws.proofs.LayoutLemmas.{has-layout}
+use Rattle.gg_net_laws.proofs.OpeningLemmas.{opens-so}
+use Rattle.gg_net_laws.proofs.StepsLemmas.{steps-frame, steps-kept}
+use Rattle.gg_net_laws.specs.Counts.{AreAtMost, counts_of}
+use Rattle.gg_net_laws.proofs.EndLemmas.{opening-lowest}
 use Rattle.gg_measure.specs.Nets.{AllStandAt}
 use Rattle.gg_measure.proofs.NetLemmas.{allowed-of, begun-of, can-run}
 use Rattle.gg_measure.proofs.WayLemmas.{steps-up}

@@ -12,8 +12,8 @@ use Rattle.gg_net.specs.Network.{Kind, Network, entered, frame_of, queue_at, tak
 use Rattle.gg_net.specs.Step.{Step}
 use Rattle.gg_net.proofs.OpenLemmas.{machine-open}
 use Rattle.gg_net.proofs.WorkedNets.{fed, fed_flow, fed_wires, fed-solved, fed-wired, no-needs}
-use Rattle.gg_net_marking.specs.Steps.{Steps}
-use Rattle.gg_net_marking.proofs.StepsLemmas.{steps-frame, steps-kept}
+use Rattle.gg_net_laws.specs.Steps.{Steps}
+use Rattle.gg_net_laws.proofs.StepsLemmas.{steps-frame, steps-kept}
 use Rattle.gg_run.specs.Rows.{TraysKeep}
 use Rattle.gg_run.specs.Window.{window_end}
 use Rattle.gg_run.proofs.FrameLemmas.{kind-same, same-end, same-machines, same-wires}

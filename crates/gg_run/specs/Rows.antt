@@ -9,7 +9,7 @@ use Rattle.gg_flat.specs.Streams.{Flow}
 use Rattle.gg_build.specs.Build.{IsToRunFrom}
 use Rattle.gg_cut_plan.specs.declared.plan.Plan.{Plan}
 use Rattle.gg_cut_plan.specs.Seated.{first_kept_tray, plan_bridges}
-use Rattle.gg_net_marking.specs.Steps.{Steps}
+use Rattle.gg_net_laws.specs.Steps.{Steps}
 use Rattle.gg_measure.specs.Nets.{AllStandAt}
 use Rattle.gg_node.specs.Machine.{Behaviour, RunsPiece, GivesColumn, KeepsLast, Machine, machine_at, kept_value}
 use Rattle.gg_net.specs.declared.event.Event.{Event}

@@ -1,7 +1,7 @@
 //! `run_rows`: a network is run window by window, and its rows are handed over.
 ghost use Rattle.std.specs.Prelude.{◌≡◌, ◌+◌, ◌-◌, ◌<◌, ◌≤◌, ℕ, List, IfOk, length};
 ghost use Rattle.gg_build.specs.Build.{IsOpeningFrom, IsToRunFrom, run_token};
-ghost use Rattle.gg_limits.specs.Limits.{cycle_limit};
+ghost use Rattle.gg_bits.specs.Limits.{cycle_limit};
 ghost use Rattle.gg_flat.specs.Run.{Start};
 ghost use Rattle.gg_cut_plan.specs.Seated.{first_kept_tray, plan_bridges};
 ghost use Rattle.gg_cut_plan.specs.declared.plan.Plan.{Plan};

@@ -1,6 +1,6 @@
 //! `Rows`: what is done with the rows of a run.
 ghost use Rattle.std.specs.Prelude.{ℕ, ◌≤◌, List, Bool, Result, length};
-ghost use Rattle.gg_limits.specs.Limits.{cycle_limit};
+ghost use Rattle.gg_bits.specs.Limits.{cycle_limit};
 ghost use Rattle.gg_command.specs.declared.endings.Ending.{Ending};
 
 use gg_command::Ending;

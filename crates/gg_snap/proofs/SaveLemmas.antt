@@ -8,7 +8,7 @@ use Rattle.gg_flat.specs.declared.piece.Driver.TheVariants.{Input, Held, MemoryW
 use Rattle.gg_flat.specs.Circuit.{FlatCircuit, driver_at}
 use Rattle.gg_flat_tree.specs.Tree.{InstanceTree, IsTree, memory_at, path_at}
 use Rattle.gg_flat.specs.WellFormed.{IsWellFormed, MayDrive}
-use Rattle.gg_front_paths.specs.Paths.{HavePaths, IsPath, IsSignalPath, is_path_byte, is_signal_byte}
+use Rattle.gg_front_laws.specs.Paths.{HavePaths, IsPath, IsSignalPath, is_path_byte, is_signal_byte}
 use Rattle.gg_cut_plan.specs.Held.{AreHeldOnce}
 use Rattle.gg_cut_reference.specs.Reference.{IsReference, Views, driver_by}
 use Rattle.gg_snap_text.specs.Known.{CanSave, IsPlain}

@@ -17,7 +17,7 @@ use Rattle.gg_flat.specs.declared.piece.Driver.TheVariants.{Held, ReadRegister}
 use Rattle.gg_flat.specs.WellFormed.{IsWellFormed, reader_driver}
 use Rattle.gg_flat.proofs.ListLemmas.{some-item}
 use Rattle.gg_flat.proofs.TypedLemmas.{has-reader}
-use Rattle.gg_limits.specs.Limits.{cycle_limit}
+use Rattle.gg_bits.specs.Limits.{cycle_limit}
 use Rattle.gg_flat.specs.Circuit.{FlatCircuit, driver_at, latency_at, reader_at, readers_at, signal_shapes}
 use Rattle.gg_flat.specs.Line.{shape_at, value_at}
 use Rattle.gg_flat.specs.Memory.{Bank, bank_at, read_count}

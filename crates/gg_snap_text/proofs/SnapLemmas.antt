@@ -3,7 +3,7 @@ use Rattle.std.proofs.Common.{◌≡◌, ℕ, suc, ◌+◌, ◌<◌, ◌≤◌, 
 use Rattle.std.specs.Prelude.{◌==◌}
 use Rattle.std.specs.List.{concat}
 use Rattle.std.proofs.lemmas.List.{take_all, length-take-le}
-use Rattle.gg_limits.specs.Limits.{cycle_limit}
+use Rattle.gg_bits.specs.Limits.{cycle_limit}
 use Rattle.gg_flat.specs.Circuit.{FlatCircuit}
 use Rattle.gg_flat.specs.State.{IsState, State, opening}
 use Rattle.gg_flat_tree.specs.Tree.{InstanceTree}

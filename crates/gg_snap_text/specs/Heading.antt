@@ -1,7 +1,7 @@
 -- What can be wrong with the first two lines of a snapshot.
 -- Source: this program's own.
 use Rattle.std.specs.Prelude.{◌≡◌, ◌≢◌, ℕ, ◌≤◌, List, [], ◌∷◌, length}
-use Rattle.gg_limits.specs.Limits.{cycle_limit}
+use Rattle.gg_bits.specs.Limits.{cycle_limit}
 use Rattle.gg_snap_text.specs.Lines.{cycle_line, first_line}
 use Rattle.gg_snap_text.specs.Standing.{pieces}
 

@@ -1,7 +1,7 @@
 -- Which lines can stand in a snapshot of a circuit.
 -- Source: this program's own.
 use Rattle.std.specs.Prelude.{◌≡◌, ℕ, suc, ◌<◌, ◌≤◌, List, [], ◌∷◌, ◌==◌, if◌then◌else◌, length, take, ⊤}
-use Rattle.gg_limits.specs.Limits.{cycle_limit}
+use Rattle.gg_bits.specs.Limits.{cycle_limit}
 use Rattle.gg_flat.specs.Circuit.{FlatCircuit}
 use Rattle.gg_flat.specs.State.{State, IsState}
 use Rattle.gg_flat_tree.specs.Tree.{InstanceTree}

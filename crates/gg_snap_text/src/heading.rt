@@ -1,6 +1,6 @@
 //! The first two lines of a snapshot.
 ghost use Rattle.std.specs.Prelude.{◌≡◌, ◌≢◌, ◌≤◌, ◌∷◌, ℕ, Some, IfOk, IfErr, IfSome, MatchOption, length};
-ghost use Rattle.gg_limits.specs.Limits.{cycle_limit};
+ghost use Rattle.gg_bits.specs.Limits.{cycle_limit};
 ghost use Rattle.gg_snap_text.specs.Heading.{IsHeadingFault};
 ghost use Rattle.gg_snap_text.specs.Lines.{cycle_line, first_line};
 ghost use Rattle.gg_snap_text.specs.Standing.{IfFault, pieces};
@@ -9,7 +9,7 @@ use crate::cutting::{cut_piece, same_bytes, strip, without_last};
 use crate::fault::SnapFault;
 use crate::parsing::number_of;
 use crate::writing::push_cycle;
-use gg_limits::CYCLE_LIMIT;
+use gg_bits::CYCLE_LIMIT;
 use std::alloc::{AllocError, Global};
 
 // The number in the line of a cycle. Other texts may give a number, too.

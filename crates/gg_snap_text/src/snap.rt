@@ -1,6 +1,6 @@
 //! Snapshots: the state of a circuit before a cycle, as a text and back.
 ghost use Rattle.std.specs.Prelude.{◌≡◌, ◌≤◌, IfOk, IfErr};
-ghost use Rattle.gg_limits.specs.Limits.{cycle_limit};
+ghost use Rattle.gg_bits.specs.Limits.{cycle_limit};
 ghost use Rattle.gg_flat.specs.State.{IsState};
 ghost use Rattle.gg_snap_text.specs.Known.{AreKnown, CanSave};
 ghost use Rattle.gg_snap_text.specs.Standing.{IfFault, IsFirstFault, IsSnap};
@@ -40,7 +40,7 @@ impl Drop for Snap<'_> {
 impl<'a> Model for Snap<'a> {
     ghost use Rattle.std.specs.Prelude.{◌≤◌};
     ghost use Rattle.gg_flat.specs.State.{IsState};
-    ghost use Rattle.gg_limits.specs.Limits.{cycle_limit};
+    ghost use Rattle.gg_bits.specs.Limits.{cycle_limit};
     ghost use Rattle.gg_snap_text.specs.Snap.{Snapshot};
 
     ghost Value = { Snapshot };

@@ -11,8 +11,8 @@ use crate::cells::{CellFault, value_of};
 use crate::faults::TraceFault;
 use crate::field_cuts::{Fields, count_fields};
 use crate::texts::same_bytes;
+use gg_bits::CYCLE_LIMIT;
 use gg_flat::Port;
-use gg_limits::CYCLE_LIMIT;
 use itoa::Buffer;
 
 // The value of a field, which is field `at` of row `row`.

@@ -1,6 +1,6 @@
 //! Stops: whether one acts, and how many rows of a run are written.
 ghost use Rattle.std.specs.Prelude.{◌≡◌, ℕ, suc, ◌<◌, ◌≤◌, Bool, true, false, Some};
-ghost use Rattle.gg_limits.specs.Limits.{cycle_limit};
+ghost use Rattle.gg_bits.specs.Limits.{cycle_limit};
 ghost use Rattle.gg_flat.specs.Clock.{edges_at, ticks};
 ghost use Rattle.gg_trace.specs.Last.{acts, row_count};
 

@@ -2,7 +2,7 @@
 
 ghost use Rattle.std.specs.Prelude.{◌≡◌, ℕ, ◌+◌, ◌*◌, ◌<◌, ◌≤◌, [], IfOk, map, take, length, slice_index, slice_index_or};
 ghost use Rattle.std.specs.List.{range_with_len};
-ghost use Rattle.gg_limits.specs.Limits.{cycle_limit};
+ghost use Rattle.gg_bits.specs.Limits.{cycle_limit};
 ghost use Rattle.gg_trace.specs.Table.{row_of, table_of};
 
 use std::alloc::{AllocError, Global};
@@ -30,7 +30,7 @@ impl Drop for Trace {
 
 impl Model for Trace {
     ghost use Rattle.std.specs.Prelude.{◌≡◌, ◌*◌, ◌≤◌, length};
-    ghost use Rattle.gg_limits.specs.Limits.{cycle_limit};
+    ghost use Rattle.gg_bits.specs.Limits.{cycle_limit};
     ghost use Rattle.gg_trace.specs.Table.{Table, table_of};
 
     ghost Value = { Table };

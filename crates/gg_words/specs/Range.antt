@@ -1,7 +1,7 @@
 -- The ranges of a command's numbers.
 -- Source: this program's own command line: K is 1 to 4,096, W is 0 to 64, SEED is 0 to 4,294,967,295, SIZE is 1 to 64, AT is 0 to 1,000,000.
 use Rattle.std.specs.Prelude.{ℕ, ◌≤◌}
-use Rattle.gg_limits.specs.Limits.{capacity_limit, cycle_limit}
+use Rattle.gg_bits.specs.Limits.{capacity_limit, cycle_limit}
 use Rattle.gg_words.specs.declared.command.Cmd.{Cmd}
 use Rattle.gg_words.specs.declared.command.Cmd.TheVariants.{Run, Replay, Check, Demo, Save, Resume}
 

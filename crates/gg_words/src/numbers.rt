@@ -3,7 +3,7 @@ ghost use Rattle.std.specs.Prelude.{◌≡◌, ◌≤◌, ◌<◌, ◌^◌};
 ghost use Rattle.std.specs.Str.{all_ascii_digits};
 ghost use Rattle.gg_words.specs.Number.{number_in};
 
-use gg_limits::CYCLE_LIMIT;
+use gg_bits::CYCLE_LIMIT;
 
 // The most workers.
 pub(crate) const MOST_WORKERS: u32 = 64;

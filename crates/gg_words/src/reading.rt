@@ -18,8 +18,7 @@ use crate::line::golden_line;
 use crate::numbers::{GREATEST_SEED, LATEST_CYCLE, MOST_STAGES, MOST_WORKERS, number_in};
 use clap::ArgMatches;
 use clap::error::ErrorKind;
-use gg_bits::Name;
-use gg_limits::CAPACITY_LIMIT;
+use gg_bits::{CAPACITY_LIMIT, Name};
 use std::alloc::{AllocError, Global};
 
 // The text that was given to an argument.

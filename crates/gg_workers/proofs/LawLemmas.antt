@@ -10,16 +10,16 @@ use Rattle.gg_net.specs.declared.event.Event.TheVariants.{Latch, Fire, Serve, Fi
 use Rattle.gg_net.specs.Network.{Network, Frame, frame_of}
 use Rattle.gg_net.specs.Kept.{Kept}
 use Rattle.gg_net.specs.Step.{Ready}
-use Rattle.gg_net_marking.specs.Marking.{Layout}
-use Rattle.gg_net_marking.specs.LayoutOf.{layout_of}
-use Rattle.gg_net_marking.specs.Fits.{HasLayout, marking_of}
-use Rattle.gg_net_marking.specs.Steps.{Steps}
-use Rattle.gg_net_marking.proofs.CountLemmas.{cycle-at, puts-are, takes-are}
-use Rattle.gg_net_progress.specs.Counts.{Counts, counts_of, IsAllowed, AreAtMost, fires, latches, finishes, accesses, IsBehind}
-use Rattle.gg_net_progress.specs.Measure.{sum_below, left_in, left_at, left}
-use Rattle.gg_net_progress.proofs.SumLemmas.{one-elsewhere, sum-same, sum-add, sum-one, sum-none}
-use Rattle.gg_net_progress.proofs.KeepLemmas.{stays-below}
-use Rattle.gg_net_progress.proofs.MeasureLemmas.{left-below}
+use Rattle.gg_net_laws.specs.Marking.{Layout}
+use Rattle.gg_net_laws.specs.LayoutOf.{layout_of}
+use Rattle.gg_net_laws.specs.Fits.{HasLayout, marking_of}
+use Rattle.gg_net_laws.specs.Steps.{Steps}
+use Rattle.gg_net_laws.proofs.CountLemmas.{cycle-at, puts-are, takes-are}
+use Rattle.gg_net_laws.specs.Counts.{Counts, counts_of, IsAllowed, AreAtMost, fires, latches, finishes, accesses, IsBehind}
+use Rattle.gg_net_laws.specs.Measure.{sum_below, left_in, left_at, left}
+use Rattle.gg_net_laws.proofs.SumLemmas.{one-elsewhere, sum-same, sum-add, sum-one, sum-none}
+use Rattle.gg_net_laws.proofs.KeepLemmas.{stays-below}
+use Rattle.gg_net_laws.proofs.MeasureLemmas.{left-below}
 use Rattle.gg_measure.specs.Nets.{cycle_at, machine_of, net_left}
 use Rattle.gg_measure.proofs.NetLemmas.{wire-there, machine-there, kind-count, allowed-of, serves-are, left-is}
 use Rattle.gg_measure.proofs.GoLemmas.{laid-out}

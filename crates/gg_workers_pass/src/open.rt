@@ -1,7 +1,7 @@
 //! Links are opened from the queues of a network.
 ghost use Rattle.std.specs.Prelude.{◌≡◌, ℕ, ◌^◌, ◌<◌, ◌≤◌, [], length, slice_set, IfOk, OnOk, MatchResult};
 ghost use Rattle.std.specs.Vec.{vec_capacity};
-ghost use Rattle.gg_limits.specs.Limits.{cycle_limit};
+ghost use Rattle.gg_bits.specs.Limits.{cycle_limit};
 ghost use Rattle.gg_flat.specs.Line.{value_at};
 ghost use Rattle.gg_link.specs.Seats.{Starts, stream_of, stream_limit};
 ghost use Rattle.gg_net.specs.Network.{takes};

@@ -10,17 +10,17 @@ use Rattle.gg_demo_text.specs.SummaryText.{demo_summary, fold_line, folded, last
 use Rattle.gg_demo_text.specs.TraceText.{demo_cycles, demo_trace}
 use Rattle.gg_cut_plan.specs.Direct.{plan_hub}
 use Rattle.gg_flat.specs.Circuit.{FlatCircuit}
-use Rattle.gg_net_marking.specs.Fits.{HasLayout, marking_of}
-use Rattle.gg_net_marking.specs.Marking.{Layout, Marking, opening_marking}
+use Rattle.gg_net_laws.specs.Fits.{HasLayout, marking_of}
+use Rattle.gg_net_laws.specs.Marking.{Layout, Marking, opening_marking}
 use Rattle.gg_measure.specs.Nets.{net_left}
 use Rattle.gg_measure.proofs.NetLemmas.{can-run, left-is}
 use Rattle.gg_net.specs.Kept.{Kept}
 use Rattle.gg_net.specs.Net.{opening_net}
 use Rattle.gg_net.specs.Network.{Network, frame_of, kind_of}
 use Rattle.gg_order.specs.Design.{Ordered}
-use Rattle.gg_net_progress.specs.Counts.{counts_of}
-use Rattle.gg_net_progress.specs.Measure.{all_dues, left}
-use Rattle.gg_net_progress.proofs.EndLemmas.{opening-left}
+use Rattle.gg_net_laws.specs.Counts.{counts_of}
+use Rattle.gg_net_laws.specs.Measure.{all_dues, left}
+use Rattle.gg_net_laws.proofs.EndLemmas.{opening-left}
 use Rattle.gg_cut_reference.specs.Follows.{plan_start}
 use Rattle.gg_cut_reference.specs.Links.{taken_as}
 use Rattle.gg_bridged.specs.Whole.{plan_circuit}

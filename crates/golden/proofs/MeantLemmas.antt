@@ -3,7 +3,7 @@ use Rattle.std.proofs.Common.{◌≡◌, ℕ, zero, suc, ◌<◌, ◌≤◌, ◌
 use Rattle.std.specs.List.{range_with_len}
 use Rattle.std.proofs.lemmas.List.{get_or_default, same_lists}
 use Rattle.std.proofs.lemmas.Grind.{same_number_lists}
-use Rattle.gg_limits.specs.Limits.{cycle_limit}
+use Rattle.gg_bits.specs.Limits.{cycle_limit}
 use Rattle.gg_flat.specs.Order.{IsOrder}
 use Rattle.gg_flat.specs.State.{State}
 use Rattle.gg_flat.specs.WellFormed.{IsWellFormed}
@@ -13,9 +13,9 @@ use Rattle.gg_partfile.proofs.OnceLemmas.{request-once}
 use Rattle.gg_partfile.specs.declared.request.Request.{Request}
 use Rattle.gg_cut_text.specs.Alike.{AreAlike}
 use Rattle.gg_cut_text.proofs.SameCutLemmas.{alike-is}
-use Rattle.gg_front_paths.specs.Paths.{HavePaths}
-use Rattle.gg_front_paths.proofs.FreshLemmas.{none-piped}
-use Rattle.gg_front_paths.proofs.PortLemmas.{have-paths}
+use Rattle.gg_front_laws.specs.Paths.{HavePaths}
+use Rattle.gg_front_laws.proofs.FreshLemmas.{none-piped}
+use Rattle.gg_front_laws.proofs.PortLemmas.{have-paths}
 use Rattle.gg_cut_plan.specs.Bridges.{Models}
 use Rattle.gg_cut_plan.specs.Direct.{plan_hub}
 use Rattle.gg_cut_plan.specs.Fault.{first_fault}

@@ -4,7 +4,7 @@ use Rattle.gg_flat.specs.Circuit.{FlatCircuit}
 use Rattle.gg_flat.specs.Run.{IsColumns}
 use Rattle.gg_flat.specs.Streams.{Flow}
 use Rattle.gg_flat_tree.specs.Tree.{InstanceTree}
-use Rattle.gg_part_moved.specs.KeepsToTree.{KeepsToTree}
+use Rattle.gg_part.specs.KeepsToTree.{KeepsToTree}
 use Rattle.gg_order.specs.Design.{Ordered}
 use Rattle.gg_partfile.specs.declared.request.Request.{Request}
 use Rattle.gg_partfile.proofs.OnceLemmas.{request-once}

@@ -11,7 +11,7 @@ use Rattle.gg_cut_plan.specs.Bridges.{Models}
 use Rattle.gg_front.specs.Accepted.{IsAcceptedText}
 use Rattle.gg_front.specs.Meaning.{Means, MeansDesign}
 use Rattle.gg_front.specs.declared.fault.FrontFault.TheVariants as front
-use Rattle.gg_net_marking.specs.Goes as goes
+use Rattle.gg_net_laws.specs.Goes as goes
 use Rattle.gg_order.specs.Design.{Ordered}
 use Rattle.gg_partfile.specs.Partition.{IsPartition}
 use Rattle.gg_partfile.specs.declared.request.Request.{Request}

@@ -17,7 +17,7 @@ use Rattle.gg_cut_plan.specs.Bridges.{Models}
 use Rattle.gg_cut_plan.specs.Clocks.{ratios_of}
 use Rattle.gg_cut_plan.specs.Fault.{first_fault}
 use Rattle.gg_cut_plan.specs.Solves.{AreRows}
-use Rattle.gg_part_moved.specs.KeepsToTree.{KeepsToTree}
+use Rattle.gg_part.specs.KeepsToTree.{KeepsToTree}
 use Rattle.gg_order.specs.Design.{IsDesign, Ordered}
 use Rattle.gg_partfile.specs.declared.request.BridgeEntry.{BridgeEntry}
 use Rattle.gg_partfile.specs.declared.request.Request.{Request}

@@ -7,10 +7,10 @@ use Rattle.gg_cut_plan.specs.Solves.{AreRows}
 use Rattle.gg_flat.specs.Circuit.{FlatCircuit}
 use Rattle.gg_flat.specs.State.{State}
 use Rattle.gg_flat_tree.specs.Tree.{InstanceTree}
-use Rattle.gg_part_moved.specs.KeepsToTree.{KeepsToTree}
+use Rattle.gg_part.specs.KeepsToTree.{KeepsToTree}
 use Rattle.gg_order.specs.Design.{IsDesign, Ordered}
 use Rattle.gg_partfile.specs.declared.request.Request.{Request}
-use Rattle.gg_front_paths.specs.Paths.{HavePaths}
+use Rattle.gg_front_laws.specs.Paths.{HavePaths}
 use Rattle.gg_cut_reference.specs.Made.{plan_reference}
 use Rattle.gg_run.specs.Printed.{plan_stops}
 use Rattle.gg_snap_text.specs.FaultText.{fault_words}

@@ -14,7 +14,7 @@ use Rattle.gg_flat_run.proofs.AlongLemmas.{IsState-at}
 use Rattle.gg_flat_run.proofs.RunLemmas.{IsRunFrom-rest, state_at-append}
 use Rattle.gg_flat_run.proofs.SinceLemmas.{since-add}
 use Rattle.gg_flat_run.proofs.UniqueLemmas.{IsRunFrom-once}
-use Rattle.gg_part_moved.specs.KeepsToTree.{KeepsToTree}
+use Rattle.gg_part.specs.KeepsToTree.{KeepsToTree}
 use Rattle.gg_order.specs.Design.{IsDesign, Ordered}
 use Rattle.gg_partfile.specs.Partition.{IsPartition}
 use Rattle.gg_partfile.specs.declared.request.Request.{Request}

@@ -2,7 +2,7 @@
 ghost use Rattle.std.specs.Prelude.{◌≡◌, ◌≤◌, ℕ, List, None, IfErr, IfOk};
 ghost use Rattle.gg_build.specs.Build.{run_from_zeros, run_token};
 ghost use Rattle.gg_cut_plan.specs.Bridges.{Models};
-ghost use Rattle.gg_limits.specs.Limits.{cycle_limit};
+ghost use Rattle.gg_bits.specs.Limits.{cycle_limit};
 ghost use Rattle.gg_cut_reference.specs.Follows.{plan_start};
 ghost use Rattle.gg_run.specs.Rows.{StandsAt};
 ghost use Rattle.gg_command.specs.Endings.{EndedOn, IfRefused, PrintsOrStops};

@@ -14,12 +14,12 @@ use Rattle.gg_cut_plan.specs.Bridges.{Models}
 use Rattle.gg_cut_plan.specs.Fault.{first_fault}
 use Rattle.gg_cut_plan.specs.Held.{AreHeldOnce}
 use Rattle.gg_cut_seats.specs.Fitting.{AreModels}
-use Rattle.gg_part_moved.specs.KeepsToTree.{KeepsToTree}
+use Rattle.gg_part.specs.KeepsToTree.{KeepsToTree}
 use Rattle.gg_order.specs.Design.{IsDesign, Ordered}
 use Rattle.gg_partfile.specs.declared.request.Request.{Request}
-use Rattle.gg_front_paths.specs.Paths.{HavePaths}
-use Rattle.gg_front_paths.proofs.FreshLemmas.{none-bridged, none-piped}
-use Rattle.gg_front_paths.proofs.PortLemmas.{have-paths}
+use Rattle.gg_front_laws.specs.Paths.{HavePaths}
+use Rattle.gg_front_laws.proofs.FreshLemmas.{none-bridged, none-piped}
+use Rattle.gg_front_laws.proofs.PortLemmas.{have-paths}
 use Rattle.gg_snap_text.specs.Known.{CanSave}
 use Rattle.gg_cut_reference.specs.Made.{IsFresh, plan_reference}
 use Rattle.gg_bridged.specs.Whole.{CanBridge, plan_circuit}

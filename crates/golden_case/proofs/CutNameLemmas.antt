@@ -15,7 +15,7 @@ use Rattle.gg_flat_tree.specs.Scoped.{memory_fields}
 use Rattle.gg_flat_tree.specs.Tree.{memory_at, path_at}
 use Rattle.gg_flat_tree.specs.declared.tree.MemoryInstance.{MemoryInstance}
 use Rattle.gg_flat.proofs.ListLemmas.{once-apart}
-use Rattle.gg_part_moved.specs.KeepsToTree.{KeepsToTree}
+use Rattle.gg_part.specs.KeepsToTree.{KeepsToTree}
 use Rattle.gg_order.specs.Design.{IsDesign, Ordered}
 use Rattle.gg_partfile.specs.Size.{all_driven, all_seen}
 use Rattle.gg_partfile.specs.declared.request.BridgeEntry.{BridgeEntry}
@@ -47,7 +47,7 @@ use Rattle.gg_bridged.proofs.PlanLemmas.{fit}
 use Rattle.gg_cut_routes.specs.Routes.{AreRoutes}
 use Rattle.gg_cut_routes.proofs.RoutedLemmas.{plan-routed}
 use Rattle.gg_cut_text.specs.CheckText.{channel_name}
-use Rattle.gg_front_paths.specs.Paths.{HavePaths, IsPath, is_path_byte}
+use Rattle.gg_front_laws.specs.Paths.{HavePaths, IsPath, is_path_byte}
 use Rattle.gg_replay_steps.specs.Spelling.{AreUsable, IsUsable}
 use Rattle.golden_case.specs.Handed.{IsBridgeName}
 use Rattle.golden_case.specs.Replay.{naming_of, port_names}

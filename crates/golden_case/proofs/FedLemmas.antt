@@ -11,10 +11,10 @@ use Rattle.gg_partfile.specs.declared.request.Request.{Request}
 use Rattle.gg_cut_plan.specs.Clocks.{stop_ratios}
 use Rattle.gg_cut_plan.specs.Bridges.{Models}
 use Rattle.gg_cut_plan.specs.declared.plan.Plan.{Plan}
-use Rattle.gg_net_marking.specs.Fits.{marking_of}
-use Rattle.gg_net_marking.specs.Marking.{Layout, Marking}
-use Rattle.gg_net_progress.specs.Measure.{all_dues}
-use Rattle.gg_front_paths.specs.Paths.{HavePaths}
+use Rattle.gg_net_laws.specs.Fits.{marking_of}
+use Rattle.gg_net_laws.specs.Marking.{Layout, Marking}
+use Rattle.gg_net_laws.specs.Measure.{all_dues}
+use Rattle.gg_front_laws.specs.Paths.{HavePaths}
 use Rattle.gg_bridged.specs.Whole.{CanBridge, plan_circuit}
 use Rattle.gg_cut_reference.specs.Follows.{plan_start}
 use Rattle.gg_build_laws.specs.Built.{IsGiven}

@@ -23,15 +23,15 @@ use Rattle.gg_net.specs.declared.event.Event.{Event}
 use Rattle.gg_net.specs.declared.event.Event.TheVariants.{Latch, Fire, Serve, Finish}
 use Rattle.gg_net.specs.declared.event.StepRefusal.{StepRefusal}
 use Rattle.gg_net.specs.declared.event.StepRefusal.TheVariants.{Stranger}
-use Rattle.gg_net_marking.specs.Goes.{after_step, replayed_from, step_refusal}
-use Rattle.gg_net_marking.specs.Marking.{Layout, Marking, has_port, is_channel, is_machine, opening_marking, or_next, refusal, unless}
-use Rattle.gg_net_marking.specs.Marking as marks
-use Rattle.gg_net_progress.specs.Counts.{CanRun, IsAllowed, IsMarkingOf, counts_of}
-use Rattle.gg_net_progress.specs.Measure.{all_dues, left}
-use Rattle.gg_net_progress.proofs.EndLemmas.{level-shape, opening-allowed, opening-left}
-use Rattle.gg_net_progress.proofs.ReplayLemmas.{goes-past, left-longer, longer-left}
-use Rattle.gg_build_layout.specs.CutLayout.{IsLayoutOf, machine_ports, memory_of}
-use Rattle.gg_front_paths.specs.Paths.{HavePaths}
+use Rattle.gg_net_laws.specs.Goes.{after_step, replayed_from, step_refusal}
+use Rattle.gg_net_laws.specs.Marking.{Layout, Marking, has_port, is_channel, is_machine, opening_marking, or_next, refusal, unless}
+use Rattle.gg_net_laws.specs.Marking as marks
+use Rattle.gg_net_laws.specs.Counts.{CanRun, IsAllowed, IsMarkingOf, counts_of}
+use Rattle.gg_net_laws.specs.Measure.{all_dues, left}
+use Rattle.gg_net_laws.proofs.EndLemmas.{level-shape, opening-allowed, opening-left}
+use Rattle.gg_net_laws.proofs.ReplayLemmas.{goes-past, left-longer, longer-left}
+use Rattle.gg_build_laws.specs.CutLayout.{IsLayoutOf, machine_ports, memory_of}
+use Rattle.gg_front_laws.specs.Paths.{HavePaths}
 use Rattle.gg_replay_steps.specs.Naming.{Naming, ports_at}
 use Rattle.gg_replay_steps.specs.Spelling.{HasNames, IsLengthened}
 use Rattle.gg_replay_steps.specs.Steps.{step_of, steps_of}

@@ -15,9 +15,9 @@ use Rattle.gg_net.specs.declared.shape.Wire.{Wire}
 use Rattle.gg_net.specs.Kept.{Kept, list_at}
 use Rattle.gg_net.specs.Net.{IsOpening, opening_net}
 use Rattle.gg_net.specs.Network.{Frame, Network, puts, entered, takes}
-use Rattle.gg_net_marking.specs.Goes.{Stopped}
-use Rattle.gg_net_marking.specs.Steps.{Steps, StopsAt}
-use Rattle.gg_net_marking.proofs.StepsLemmas.{steps-frame}
+use Rattle.gg_net_laws.specs.Goes.{Stopped}
+use Rattle.gg_net_laws.specs.Steps.{Steps, StopsAt}
+use Rattle.gg_net_laws.proofs.StepsLemmas.{steps-frame}
 use Rattle.gg_cut_reference.specs.Follows.{plan_start}
 use Rattle.gg_replay.specs.Log.{AreFronts, opening_log, tokens_at}
 use Rattle.gg_replay.specs.ReplayText.{channel_line}

@@ -32,15 +32,15 @@ use Rattle.gg_net.specs.Kept.{Kept, list_at}
 use Rattle.gg_net.specs.Net.{opening_net}
 use Rattle.gg_net.specs.Network.{Frame, Network, frame_of}
 use Rattle.gg_net.specs.Network as network
-use Rattle.gg_net_marking.specs.Fits.{HasLayout, marking_of}
-use Rattle.gg_net_marking.specs.Goes.{Stopped, replayed_from}
-use Rattle.gg_net_marking.specs.Marking.{Layout, opening_marking, entered, puts, takes}
-use Rattle.gg_net_marking.specs.Steps.{Steps, StopsAt}
-use Rattle.gg_net_marking.proofs.CountLemmas.{puts-are, entered-are, takes-are}
-use Rattle.gg_net_marking.proofs.OpeningLemmas.{opens-so}
-use Rattle.gg_net_marking.proofs.StepsLemmas.{all-done, steps-frame, stops-at}
+use Rattle.gg_net_laws.specs.Fits.{HasLayout, marking_of}
+use Rattle.gg_net_laws.specs.Goes.{Stopped, replayed_from}
+use Rattle.gg_net_laws.specs.Marking.{Layout, opening_marking, entered, puts, takes}
+use Rattle.gg_net_laws.specs.Steps.{Steps, StopsAt}
+use Rattle.gg_net_laws.proofs.CountLemmas.{puts-are, entered-are, takes-are}
+use Rattle.gg_net_laws.proofs.OpeningLemmas.{opens-so}
+use Rattle.gg_net_laws.proofs.StepsLemmas.{all-done, steps-frame, stops-at}
 use Rattle.gg_measure.proofs.NetLemmas.{can-run}
-use Rattle.gg_net_progress.specs.Counts.{CanRun}
+use Rattle.gg_net_laws.specs.Counts.{CanRun}
 use Rattle.gg_cut_reference.specs.Follows.{plan_start, plan_token}
 use Rattle.gg_cut_reference.proofs.StartLemmas.{start-token}
 use Rattle.gg_build_laws.specs.Built.{AreBuilt, IsGiven, flow_of, no_token, opening_of, wires_of_plan}
@@ -48,8 +48,8 @@ use Rattle.gg_build_laws.proofs.LinkLemmas.{length-from}
 use Rattle.gg_build_laws.proofs.OpeningLemmas.{built-opening}
 use Rattle.gg_build_laws.proofs.SolvedLemmas.{stream-at}
 use Rattle.gg_build_laws.proofs.ZeroLemmas.{built-with-zeros}
-use Rattle.gg_build_layout.specs.CutLayout.{IsLayoutOf}
-use Rattle.gg_build_layout.proofs.LayoutLemmas.{plan-layout, plan-in-order}
+use Rattle.gg_build_laws.specs.CutLayout.{IsLayoutOf}
+use Rattle.gg_build_laws.proofs.LayoutLemmas.{plan-layout, plan-in-order}
 use Rattle.gg_replay.specs.ReplayText.{channel_line}
 use Rattle.golden_case.specs.Replay.{Setting, channel_told, naming_of, port_names, replay_text}
 use Rattle.golden_case.specs.RunText.{IsRunBy}

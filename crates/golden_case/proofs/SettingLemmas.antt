@@ -7,10 +7,10 @@ use Rattle.gg_partfile.proofs.OnceLemmas.{request-once}
 use Rattle.gg_partfile.specs.declared.request.Request.{Request}
 use Rattle.gg_cut_text.specs.Alike.{AreAlike}
 use Rattle.gg_cut_text.proofs.SameCutLemmas.{alike-is}
-use Rattle.gg_net_marking.specs.Marking.{Layout, Marking, opening_marking}
-use Rattle.gg_net_marking.specs.Goes.{Stopped, replayed_from}
-use Rattle.gg_build_layout.specs.CutLayout.{IsLayoutOf}
-use Rattle.gg_build_layout.proofs.OneLemmas.{one-layout}
+use Rattle.gg_net_laws.specs.Marking.{Layout, Marking, opening_marking}
+use Rattle.gg_net_laws.specs.Goes.{Stopped, replayed_from}
+use Rattle.gg_build_laws.specs.CutLayout.{IsLayoutOf}
+use Rattle.gg_build_laws.proofs.OneLemmas.{one-layout}
 use Rattle.gg_bridged.specs.Whole.{plan_circuit}
 use Rattle.gg_replay_steps.specs.Naming.{Naming}
 use Rattle.gg_replay_steps.specs.Steps.{steps_of}

@@ -7,8 +7,8 @@ use Rattle.std.proofs.lemmas.Bool.{and_from, and_parts, eqb-true}
 use Rattle.std.proofs.lemmas.List.Folds.{list_all-append}
 use Rattle.std.proofs.lemmas.List.Sums.{AllPass-from_list_all}
 use Rattle.gg_ast.specs.Names.{IsName}
-use Rattle.gg_front_paths.specs.Paths.{HasPathBytes, IsPath, IsSignalPath, is_path_byte, is_signal_byte}
-use Rattle.gg_front_paths.proofs.BytesLemmas.{name-path}
+use Rattle.gg_front_laws.specs.Paths.{HasPathBytes, IsPath, IsSignalPath, is_path_byte, is_signal_byte}
+use Rattle.gg_front_laws.proofs.BytesLemmas.{name-path}
 use Rattle.gg_trace.specs.Fields.{is_blank}
 use Rattle.gg_trace.specs.Lined.{HasNoFeed}
 use Rattle.gg_trace.specs.Parted.{HasNoBlank}

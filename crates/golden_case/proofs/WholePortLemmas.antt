@@ -21,7 +21,7 @@ use Rattle.gg_flat.specs.declared.piece.Signal.{Signal}
 use Rattle.gg_flat.specs.declared.ports.Port.{Port}
 use Rattle.gg_bridge_joined.proofs.AtLemmas.{long, shape-old}
 use Rattle.gg_bridge.specs.Ports.{driven_at, front_of, joined_at, seen_at}
-use Rattle.gg_part_moved.specs.KeepsToTree.{KeepsToTree}
+use Rattle.gg_part.specs.KeepsToTree.{KeepsToTree}
 use Rattle.gg_order.specs.Design.{Ordered}
 use Rattle.gg_partfile.specs.Size.{all_driven, all_seen}
 use Rattle.gg_partfile.specs.declared.request.BridgeEntry.{BridgeEntry}

@@ -1,7 +1,7 @@
 -- What the code has once the first files of a command are read.
 -- Source: this program's own.
 use Rattle.std.specs.Prelude.{ℕ, ◌≤◌, IfOk, List, Result}
-use Rattle.gg_limits.specs.Limits.{cycle_limit}
+use Rattle.gg_bits.specs.Limits.{cycle_limit}
 use Rattle.gg_bridged.specs.Whole.{plan_circuit}
 use Rattle.gg_cut_plan.specs.Bridges.{Models}
 use Rattle.gg_cut_plan.specs.Plan.{IsPlan}
@@ -9,7 +9,7 @@ use Rattle.gg_cut_plan.specs.Seated.{first_kept_tray, plan_bridges}
 use Rattle.gg_flat.specs.Run.{IsColumns}
 use Rattle.gg_front.specs.Meaning.{MeansDesign}
 use Rattle.gg_io.specs.Told.{Told}
-use Rattle.gg_part_moved.specs.KeepsToTree.{KeepsToTree}
+use Rattle.gg_part.specs.KeepsToTree.{KeepsToTree}
 use Rattle.gg_order.specs.Design.{IsDesign}
 use Rattle.gg_io.specs.declared.output.Sink
 use Rattle.gg_cut_plan.specs.Held.{AreHeldOnce}

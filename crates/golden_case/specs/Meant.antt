@@ -4,7 +4,7 @@ use Rattle.std.specs.Prelude.{ℕ, List}
 use Rattle.gg_cut_plan.specs.Held.{AreHeldOnce}
 use Rattle.gg_flat.specs.Circuit.{FlatCircuit}
 use Rattle.gg_front.specs.Meaning.{MeansDesign}
-use Rattle.gg_part_moved.specs.KeepsToTree.{KeepsToTree}
+use Rattle.gg_part.specs.KeepsToTree.{KeepsToTree}
 use Rattle.gg_order.specs.Design.{IsDesign, Ordered}
 use Rattle.gg_partfile.specs.declared.request.Request.{Request}
 use Rattle.gg_cut_reference.specs.Made.{AllHeld, plan_reference}

@@ -8,7 +8,7 @@ use Rattle.gg_read.specs.declared.text.ReadFault.{ReadFault}
 use Rattle.gg_flat.specs.Circuit.{FlatCircuit}
 use Rattle.gg_cut_plan.specs.Bridges.{Models}
 use Rattle.gg_front.specs.Meaning.{Means, MeansDesign}
-use Rattle.gg_net_marking.specs.Goes.{Stopped}
+use Rattle.gg_net_laws.specs.Goes.{Stopped}
 use Rattle.gg_order.specs.Design.{Ordered}
 use Rattle.gg_partfile.specs.Partition.{IsPartition}
 use Rattle.gg_partfile.specs.declared.request.Request.{Request}

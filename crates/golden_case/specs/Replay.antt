@@ -20,10 +20,10 @@ use Rattle.gg_cut_plan.specs.declared.listed.Listed.{Listed}
 use Rattle.gg_cut_plan.specs.declared.wires.Wire.{Wire}
 use Rattle.gg_cut_text.specs.CheckText.{channel_name}
 use Rattle.gg_net.specs.declared.event.Event.{Event}
-use Rattle.gg_net_marking.specs.Marking.{Layout, Marking, opening_marking, entered, puts, takes}
-use Rattle.gg_net_marking.specs.Goes.{Stopped, replayed_from}
-use Rattle.gg_net_progress.specs.Measure.{all_dues}
-use Rattle.gg_build_layout.specs.CutLayout.{IsLayoutOf}
+use Rattle.gg_net_laws.specs.Marking.{Layout, Marking, opening_marking, entered, puts, takes}
+use Rattle.gg_net_laws.specs.Goes.{Stopped, replayed_from}
+use Rattle.gg_net_laws.specs.Measure.{all_dues}
+use Rattle.gg_build_laws.specs.CutLayout.{IsLayoutOf}
 use Rattle.gg_trace.specs.Fields.{text_lines}
 use Rattle.gg_replay_steps.specs.Naming.{Naming}
 use Rattle.gg_replay_steps.specs.Spelling.{IsLengthened}

@@ -12,8 +12,8 @@ use Rattle.gg_net.specs.declared.event.Event.{Event}
 use Rattle.gg_net.specs.Kept.{Kept, list_at}
 use Rattle.gg_net.specs.Net.{opening_net}
 use Rattle.gg_net.specs.Network.{Network, puts, entered, takes}
-use Rattle.gg_net_marking.specs.Goes.{Stopped}
-use Rattle.gg_net_marking.specs.Steps.{Steps, StopsAt}
+use Rattle.gg_net_laws.specs.Goes.{Stopped}
+use Rattle.gg_net_laws.specs.Steps.{Steps, StopsAt}
 use Rattle.gg_build_laws.specs.Built.{AreBuilt, no_token, opening_of, wires_of_plan}
 use Rattle.gg_build.specs.Build.{IsToRun, flow_along}
 use Rattle.gg_replay_steps.specs.Naming.{Naming}

@@ -3,7 +3,7 @@ ghost use Rattle.std.specs.Prelude.{◌≡◌, ◌≢◌, ◌≤◌, ◌++◌, �
 ghost use Rattle.gg_cut_plan.specs.Fault as cut;
 ghost use Rattle.gg_cut_plan.specs.Held.{AreHeldOnce};
 ghost use Rattle.gg_cut_plan.specs.Plan.{IsPlan};
-ghost use Rattle.gg_part_moved.specs.KeepsToTree.{KeepsToTree};
+ghost use Rattle.gg_part.specs.KeepsToTree.{KeepsToTree};
 ghost use Rattle.gg_words.specs.Range.{IsCapacity};
 ghost use Rattle.gg_cut_plan.specs.declared.fault.CutFault.{CutFault};
 ghost use Rattle.gg_cut_plan.specs.declared.fault.CutFault.TheVariants as cut_fault;

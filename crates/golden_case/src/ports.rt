@@ -3,7 +3,7 @@ ghost use Rattle.std.specs.Prelude.{◌≡◌, ◌<◌, ◌||◌, ◌++◌, ◌�
 ghost use Rattle.gg_cut_plan.specs.Listed.{is_among};
 ghost use Rattle.gg_flat_tree.specs.Tree.{path_at};
 ghost use Rattle.gg_flat.specs.WellFormed.{IsWellFormed};
-ghost use Rattle.gg_part_moved.specs.KeepsToTree.{KeepsToTree};
+ghost use Rattle.gg_part.specs.KeepsToTree.{KeepsToTree};
 ghost use Rattle.gg_partfile.specs.Size.{all_driven, all_seen};
 ghost use Rattle.golden_case.specs.RunText.{fed_ports, outputs_of, shown_ports};
 ghost use Rattle.gg_flat_tree.specs.Scoped.{output_signals};

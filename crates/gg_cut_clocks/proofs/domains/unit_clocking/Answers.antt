@@ -5,7 +5,7 @@ use Rattle.gg_flat.specs.Circuit.{FlatCircuit, driver_at}
 use Rattle.gg_flat_tree.specs.Clocked.{AreParentsBefore, clock_at}
 use Rattle.gg_flat.specs.Line.{value_at}
 use Rattle.gg_flat_tree.specs.Tree.{InstanceTree, instance_at}
-use Rattle.gg_part_moved.specs.Domains.{FollowsInside, inner_clocks}
+use Rattle.gg_part.specs.Domains.{FollowsInside, inner_clocks}
 use Rattle.gg_order.specs.Marks.{is_marked}
 use Rattle.gg_cut_plan.specs.Listed.{AreMarks}
 use Rattle.gg_cut_plan.proofs.KnownLemmas.{parents-before}

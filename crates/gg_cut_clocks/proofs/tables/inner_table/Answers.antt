@@ -2,7 +2,7 @@ use Rattle.std.proofs.Common.{◌≡◌, ℕ, ◌<◌, List, [], ◌∷◌, ◌+
 use Rattle.std.proofs.lemmas.List.{length_push}
 use Rattle.gg_flat_tree.specs.declared.tree.Instance.{Instance}
 use Rattle.gg_flat_tree.proofs.TopClockLemmas.{parent-before}
-use Rattle.gg_part_moved.proofs.DomainLemmas.{inner-next}
+use Rattle.gg_part.proofs.DomainLemmas.{inner-next}
 use Rattle.gg_cut_clocks.proofs.TableLemmas.{read-instance}
 use Rattle.gg_cut_clocks.proofs.tables.inner_table.Goals as goal
 

@@ -1,5 +1,5 @@
 use Rattle.std.proofs.Common.{◌≡◌, map, take}
-use Rattle.gg_part_moved.specs.Moved.{shifted}
+use Rattle.gg_part.specs.Moved.{shifted}
 use Rattle.gg_cut_parts.proofs.moved.moved_numbers.Given as goal
 
 abbrev pub invariant-loop-number : goal.invariant-loop-number

@@ -1,6 +1,6 @@
 use Rattle.std.proofs.Common.{◌≡◌, ◌<◌, ◌≤◌, ◌^◌, List, ℕ, map, sym, ◌∙◌, ap, ap₂, subst}
 use Rattle.std.specs.Prelude.{All}
-use Rattle.gg_part_moved.specs.Moved.{shifted}
+use Rattle.gg_part.specs.Moved.{shifted}
 use Rattle.gg_part.specs.declared.part.Part.{Part}
 use Rattle.gg_cut_plan.specs.declared.wires.Wire.{Wire}
 use Rattle.gg_cut_plan.specs.Direct.{routes}

@@ -3,8 +3,8 @@ use Rattle.gg_flat.specs.Circuit.{FlatCircuit}
 use Rattle.gg_flat_tree.specs.Tree.{InstanceTree}
 use Rattle.gg_flat.specs.WellFormed.{IsWellFormed}
 use Rattle.gg_elab_sites.specs.IsFlat.{IsFlat}
-use Rattle.gg_elab_laws.specs.Held.{AreHeldOnce}
-use Rattle.gg_part_moved.specs.KeepsToTree.{KeepsToTree}
+use Rattle.gg_elab_tree.specs.Held.{AreHeldOnce}
+use Rattle.gg_part.specs.KeepsToTree.{KeepsToTree}
 use Rattle.gg_elab_tree.specs.IsTreeOf.{IsTreeOf}
 use Rattle.gg_front.proofs.LoopLemmas.{refused-loop}
 use Rattle.gg_front.proofs.MeaningLemmas.{accepted-ok, made-ok}

@@ -1,6 +1,6 @@
 use Rattle.std.proofs.Common.{◌≡◌, ◌+◌, ◌<◌, ◌∷◌, length, sym, ◌∙◌, arith}
 use Rattle.std.proofs.lemmas.Result.{MatchResult-weaker}
-use Rattle.gg_limits.specs.Limits.{cycle_limit}
+use Rattle.gg_bits.specs.Limits.{cycle_limit}
 use Rattle.gg_trace.specs.Fields.{fields}
 use Rattle.gg_trace.proofs.RowLaws.{row_reads, row_fault}
 use Rattle.gg_trace.proofs.row_values.read_row.Goals as goal

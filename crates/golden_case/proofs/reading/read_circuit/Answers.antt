@@ -1,5 +1,5 @@
 use Rattle.std.proofs.Common.{inr, subst, List, ℕ}
-use Rattle.gg_front_paths.proofs.HeldLemmas.{held-once}
+use Rattle.gg_front_laws.proofs.HeldLemmas.{held-once}
 use Rattle.golden_case.specs.Run.{TellsCircuit}
 use Rattle.gg_command.proofs.EndingLemmas.{IfRefused-map}
 use Rattle.golden_case.proofs.reading.read_circuit.Goals as goal

@@ -1,5 +1,5 @@
-use Rattle.gg_front_paths.proofs.FreshLemmas.{none-bridged, none-piped}
-use Rattle.gg_front_paths.proofs.HeldLemmas.{held-once}
+use Rattle.gg_front_laws.proofs.FreshLemmas.{none-bridged, none-piped}
+use Rattle.gg_front_laws.proofs.HeldLemmas.{held-once}
 use Rattle.net_testing.proofs.reading.design_of.Goals as goal
 
 pub returns-in-Ok-clause-held : goal.returns-in-Ok-clause-held

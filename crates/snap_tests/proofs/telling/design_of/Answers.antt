@@ -1,8 +1,8 @@
 use Rattle.std.proofs.Common.{refl}
 use Rattle.std.proofs.lemmas.List.Elements.{All-weaker}
-use Rattle.gg_front_paths.specs.Paths.{IsPath, IsSignalPath, is_path_byte, is_signal_byte}
-use Rattle.gg_front_paths.proofs.HeldLemmas.{held-once}
-use Rattle.gg_front_paths.proofs.PortLemmas.{have-paths}
+use Rattle.gg_front_laws.specs.Paths.{IsPath, IsSignalPath, is_path_byte, is_signal_byte}
+use Rattle.gg_front_laws.proofs.HeldLemmas.{held-once}
+use Rattle.gg_front_laws.proofs.PortLemmas.{have-paths}
 use Rattle.gg_snap_text.specs.Known.{IsPlain}
 use Rattle.gg_snap_text.proofs.SaveLemmas.{can-save, plain-path}
 use Rattle.snap_tests.proofs.telling.design_of.Goals as goal

@@ -1,6 +1,6 @@
 use Rattle.std.proofs.Common.{rules, ◌≡◌, None, false, length, replicate, ap, sym, subst, ◌∙◌}
 use Rattle.std.proofs.lemmas.List.{length-replicate}
-use Rattle.gg_limits.specs.Limits.{cycle_limit}
+use Rattle.gg_bits.specs.Limits.{cycle_limit}
 use Rattle.gg_flat.specs.declared.memory.Memory.{Memory}
 use Rattle.gg_flat.specs.Memory.{read_count, bank_at}
 use Rattle.gg_flat.specs.State.{State}

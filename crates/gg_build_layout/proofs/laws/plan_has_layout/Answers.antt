@@ -1,9 +1,0 @@
-use Rattle.gg_build_layout.proofs.LayoutLemmas.{plan-layout, plan-in-order}
-use Rattle.gg_build_layout.proofs.laws.plan_has_layout.Goals as goal
-
-pub returns : goal.returns
-returns c =
-    record {
-      layout = λ design request models default plan columns n start rows token starts machines given built. plan-layout design request models default plan columns n start rows token starts machines given built;
-      order = λ design request models default plan columns n start rows token starts machines given built. plan-in-order design request models default plan columns n start rows token starts machines given built;
-    }

@@ -1,0 +1,19 @@
+pub mod CopyBelowLemmas
+pub mod CopyClockLemmas
+pub mod CopyClosedLemmas
+pub mod CopyDriverLemmas
+pub mod CopyFieldLemmas
+pub mod CopyInsideLemmas
+pub mod CopyInstanceLemmas
+pub mod CopyLemmas
+pub mod CopyLineLemmas
+pub mod CopyPlaceLemmas
+pub mod CopyRankLemmas
+pub mod LikeSites
+pub mod SpeltLemmas
+pub mod BytesLemmas
+pub mod PathLemmas
+pub mod FreshLemmas
+pub mod HeldLemmas
+pub mod PortLemmas
+mod WorkedPaths

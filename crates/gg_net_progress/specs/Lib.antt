@@ -1,4 +1,0 @@
-pub mod Counts
-pub mod Measure
-pub mod Leads
-pub mod ProgressLaws

@@ -1,4 +1,0 @@
-pub mod MovedLemmas
-mod WorkedCopies
-mod WorkedMoved
-pub mod DomainLemmas
