@@ -1,3 +1,4 @@
 pub mod Built
+pub mod Each
 pub mod Alone
 pub mod CutLayout

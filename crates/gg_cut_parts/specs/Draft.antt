@@ -4,13 +4,14 @@
 use Rattle.std.specs.Prelude.{◌≡◌, ℕ, ◌<◌, ◌≤◌, ◌^◌, None, length}
 use Rattle.gg_part.specs.KeepsToTree.{KeepsToTree}
 use Rattle.gg_order.specs.Marks.{is_marked}
+use Rattle.gg_part.specs.Clocking.{IsTimed}
 use Rattle.gg_part.specs.declared.part.Part.{Part}
 use Rattle.gg_cut_plan.specs.Bridges.{bridge_faults}
 use Rattle.gg_cut_plan.specs.Direct.{Hub, plan_hub, plan_routes, is_gone}
 use Rattle.gg_cut_plan.specs.Fault.{IsSmall, first_fault, first_of}
 use Rattle.gg_cut_plan.specs.Held.{AreHeldOnce}
 use Rattle.gg_cut_plan.specs.Listed.{listed_of}
-use Rattle.gg_cut_plan.specs.Machines.{machine_count}
+use Rattle.gg_cut_plan.specs.Machines.{first_unit, first_memory, machine_count}
 use Rattle.gg_cut_plan.specs.Plan.{IsCutPart}
 use Rattle.gg_cut_laws.specs.Apart.{AreApart}
 use Rattle.gg_cut_clocks.specs.Domains.{AreDomains}
@@ -54,3 +55,9 @@ pub record IsMachineDraft (machine : MachineDraft) : Type 0 where
 -- the part of machine m of a draft
 abbrev pub IsDraftPart : Draft → ℕ → Part → Type 0
 IsDraftPart draft m part = IsCutPart draft.design.now draft.listed (draft_hub draft) m part
+
+-- If the machine is a unit, the registers and the memories of its part follow the Clock inputs that they follow inside of the unit.
+abbrev pub IsUnitTimed : MachineDraft → Part → Type 0
+IsUnitTimed machine part =
+    first_unit ≤ machine.number → machine.number < first_memory machine.draft.now.listed
+    → IsTimed part.piece part.held part.memories machine.domains.now.units.registers machine.domains.now.units.ports

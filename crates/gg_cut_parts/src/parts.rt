@@ -1,9 +1,8 @@
 //! The parts of the circuit that the machines run.
-ghost use Rattle.std.specs.Prelude.{◌≡◌, ◌<◌, ◌≤◌, length, All, AllPairs, IfOk};
-ghost use Rattle.gg_part.specs.Clocking.{IsTimed};
-ghost use Rattle.gg_cut_plan.specs.Machines.{first_unit, first_memory, first_source};
+ghost use Rattle.std.specs.Prelude.{◌≡◌, ◌<◌, length, All, AllPairs, IfOk};
+ghost use Rattle.gg_cut_plan.specs.Machines.{first_source};
 ghost use Rattle.gg_cut_plan.specs.Plan.{signals_of, givens_of};
-ghost use Rattle.gg_cut_parts.specs.Draft.{IsMachineDraft, IsDraftPart};
+ghost use Rattle.gg_cut_parts.specs.Draft.{IsMachineDraft, IsDraftPart, IsUnitTimed};
 
 use crate::machine_draft::MachineDraft;
 use gg_bits::Ids;
@@ -21,10 +20,7 @@ pub fn cut_part(alloc: Global, machine: &MachineDraft) -> Result<Part, AllocErro
     requires inside { machine.now.number < first_source machine.now.draft.now.listed }
     ensures part { IfOk result (λ part. IsDraftPart machine.now.draft.now machine.now.number part) }
     ensures ascend { IfOk result (λ part. AllPairs (λ a b. a < b) part.memories) }
-    ensures timed { IfOk result (λ part. first_unit ≤ machine.now.number
-        → machine.now.number < first_memory machine.now.draft.now.listed
-        → IsTimed part.piece part.held part.memories machine.now.domains.now.units.registers
-        machine.now.domains.now.units.ports) }
+    ensures timed { IfOk result (λ part. IsUnitTimed machine.now part) }
 {
     let draft = machine.draft;
     let share = machine.share;

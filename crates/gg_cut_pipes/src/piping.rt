@@ -1,10 +1,8 @@
 //! `pipe`: the reference circuit of a plan.
 ghost use Rattle.std.specs.Prelude.{◌≡◌, ◌<◌, ◌≤◌, ◌+◌, ◌^◌, ◌++◌, length, IfOk};
 ghost use Rattle.std.specs.List.{range_with_len};
-ghost use Rattle.gg_cut_plan.specs.Direct.{plan_hub};
-ghost use Rattle.gg_cut_reference.specs.Links.{pipes_of};
 ghost use Rattle.gg_cut_reference.specs.Made.{plan_reference};
-ghost use Rattle.gg_cut_pipes.specs.CanPipe.{CanPipe};
+ghost use Rattle.gg_cut_pipes.specs.CanPipe.{CanPipe, piped_order};
 ghost use Rattle.gg_cut_pipes.specs.Tables.{piped_signals};
 
 use crate::fill::{numbers_from, pipes_in, tables_of};
@@ -26,9 +24,7 @@ pub fn pipe(alloc: Global, design: &Design, plan: &Plan) -> Result<Design, Alloc
     requires { CanPipe design.now plan.now }
     ensures circuit { IfOk result (λ made. (can : CanPipe design.now plan.now) → made.circuit ≡ plan_reference design.now can.request) }
     ensures tree { IfOk result (λ made. made.tree ≡ design.now.tree) }
-    ensures order { IfOk result (λ made. (can : CanPipe design.now plan.now)
-        → made.order ≡ range_with_len (length design.now.circuit.signals)
-        (length (pipes_of (plan_hub design.now.circuit design.now.tree can.request))) ++ design.now.order) }
+    ensures order { IfOk result (λ made. (can : CanPipe design.now plan.now) → made.order ≡ piped_order design.now can.request) }
 {
     // their contracts say that the design is one
     let count = design.piece().signals().len();

@@ -35,7 +35,11 @@ pub record CanRoute (circuit : FlatCircuit) (tree : InstanceTree) (order : List 
   -- they make a part, which gets what the hub's in-channels carry, and gives what its out-channels carry
   pub choice : IsChoice circuit globals (signals_of (wires_of circuit tree listed) (channels_to (wires_of circuit tree listed) 0)) (givens_of (wires_of circuit tree listed) (channels_from (wires_of circuit tree listed) 0)) memories
 
+-- the marks are on the signals that leave the plan, and on no other signals of the circuit
+abbrev pub MarksGone : Hub → List Bool → Type 0
+MarksGone hub gone = (s : ℕ) → s < length hub.circuit.signals → is_marked gone s ≡ is_gone hub s
+
 -- the channels that are left, and marks on the signals that leave
 pub record IsRouting (hub : Hub) (left : List Wire) (gone : List Bool) : Type 0 where
   pub channels : left ≡ routes hub
-  pub leaves : (s : ℕ) → s < length hub.circuit.signals → is_marked gone s ≡ is_gone hub s
+  pub leaves : MarksGone hub gone

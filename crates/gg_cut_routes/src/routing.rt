@@ -1,13 +1,13 @@
 //! The channels of a cut with direct channels.
-ghost use Rattle.std.specs.Prelude.{◌≡◌, ℕ, ◌<◌, false, length, IfOk};
+ghost use Rattle.std.specs.Prelude.{◌≡◌, false, length, IfOk};
 ghost use Rattle.gg_part.specs.KeepsToTree.{KeepsToTree};
 ghost use Rattle.gg_order.specs.Marks.{is_marked};
 ghost use Rattle.gg_cut_plan.specs.Channels.{wires_of};
 ghost use Rattle.gg_cut_laws.specs.Apart.{AreApart};
 ghost use Rattle.gg_cut_split.specs.IsShare.{AreShares};
-ghost use Rattle.gg_cut_plan.specs.Direct.{hub_of, routes, is_gone};
+ghost use Rattle.gg_cut_plan.specs.Direct.{hub_of, routes};
 ghost use Rattle.gg_cut_routes.specs.Routes.{AreRoutes};
-ghost use Rattle.gg_cut_routes.specs.Routable.{CanRoute, IsRouting};
+ghost use Rattle.gg_cut_routes.specs.Routable.{CanRoute, IsRouting, MarksGone};
 
 use crate::gone::gone_of;
 use crate::laws::channels_routed;
@@ -61,9 +61,7 @@ pub fn routes(
     requires shares { AreShares design.now listed.now split.now.shares }
     requires barred { length barred.now ≡ length design.now.circuit.signals }
     ensures wires { IfOk result (λ found. found.wires ≡ routes (hub_of design.now.circuit design.now.tree listed.now (is_marked barred.now) (λ s. false) direct)) }
-    ensures gone { IfOk result (λ found. (s : ℕ) → s < length design.now.circuit.signals
-        → is_marked found.gone s ≡ is_gone (hub_of design.now.circuit design.now.tree listed.now (is_marked barred.now)
-        (λ s. false) direct) s) }
+    ensures gone { IfOk result (λ found. MarksGone (hub_of design.now.circuit design.now.tree listed.now (is_marked barred.now) (λ s. false) direct) found.gone) }
     ensures sound { AreRoutes design.now listed.now (hub_of design.now.circuit design.now.tree listed.now (is_marked barred.now) (λ s. false) direct) }
 {
     channels_routed();

@@ -58,7 +58,7 @@ use Rattle.gg_elab_count.specs.Sites.{sites_of}
 use Rattle.gg_elab_sites.specs.Signals.{Types}
 use Rattle.gg_elab_sites.specs.Connection.{Connection, ConnectedTo, Zeroed}
 use Rattle.gg_elab_sites.specs.Flat.{Scope, Drive, Gets, Answers, FlatSignal, FlatMemory, flat_signals, flat_memories}
-use Rattle.gg_elab_sites.specs.IsFlat.{IsFlatWith, IsComputed, bindings_of, signals_of}
+use Rattle.gg_elab_sites.specs.IsFlat.{IsFlatWith, IsComputed, bindings_of}
 use Rattle.gg_elab_sites.specs.Meaning.{in_scope}
 
 -- ---- the circuit

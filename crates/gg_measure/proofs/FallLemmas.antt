@@ -7,7 +7,7 @@ use Rattle.gg_net.specs.Kept.{Kept}
 use Rattle.gg_net.specs.Step.{Ready, Step}
 use Rattle.gg_net.proofs.StepLemmas.{kept-step}
 use Rattle.gg_net.proofs.GoesLemmas.{goes}
-use Rattle.gg_net_laws.specs.Marking.{Layout, Marking, refusal, opening_marking}
+use Rattle.gg_net_laws.specs.Marking.{Layout, Marking, opening_marking}
 use Rattle.gg_net_laws.specs.LayoutOf.{layout_of}
 use Rattle.gg_net_laws.specs.Fits.{HasLayout, marking_of}
 use Rattle.gg_net_laws.specs.Steps.{Steps}

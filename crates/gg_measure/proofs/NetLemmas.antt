@@ -14,7 +14,7 @@ use Rattle.gg_node.specs.Step.{fields_of, HasFields}
 use Rattle.gg_net.proofs.PortLemmas.{any_port}
 use Rattle.gg_net.proofs.MayLemmas.{producer-there, consumer-there}
 use Rattle.gg_net.specs.Network as network
-use Rattle.gg_net.specs.Network.{Network, Kind, Frame, wire_at, kind_at, kind_of, no_kind, frame_of, consumer_of, got_by}
+use Rattle.gg_net.specs.Network.{Network, Kind, Frame, wire_at, kind_at, kind_of, no_kind, frame_of, got_by}
 use Rattle.gg_net.specs.Kept.{Kept, MachineAt, BetweenAt, NeedsChannel, list_at}
 use Rattle.gg_net.specs.Net.{IsWithinLimits}
 use Rattle.gg_net.specs.Step.{latch_of, missing_of}

@@ -8,6 +8,7 @@ mod SortLemmas
 mod SnapLemmas
 pub mod WriteLemmas
 mod ParseLemmas
+mod RowLemmas
 mod TableLemmas
 pub mod FeedLemmas
 mod PlainLemmas

@@ -17,7 +17,8 @@ use Rattle.gg_snap_text.specs.Known.{CanSave, IsPlain}
 use Rattle.gg_snap_text.specs.Table.{by_path, channel_of, memory_row, memory_rows, pipe_named, pipe_rows, read_rows, register_named, register_rows, rows_of, signal_row, signal_rows}
 use Rattle.gg_snap_text.proofs.FeedLemmas.{IsPlainRow, no-nil}
 use Rattle.gg_snap_text.proofs.SortLemmas.{Each}
-use Rattle.gg_snap_text.proofs.TableLemmas.{all-each, by_path-each, contains-behind, each-append}
+use Rattle.gg_snap_text.proofs.RowLemmas.{all-each, by_path-each, each-append}
+use Rattle.gg_snap_text.proofs.TableLemmas.{contains-behind}
 
 -- each of these paths, and what stands for a path that isn't there
 plain-at : (paths : List (List ℕ)) → All IsPlain paths → (s : ℕ) → IsPlain (path_at paths s)

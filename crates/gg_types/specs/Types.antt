@@ -1,7 +1,7 @@
 -- The type of each expression and the faults of types, in the order of the text.
 -- Sources: FIRRTL Specification, "Ground Types" (F10), "Primitive Operations" (F9 to F11), "Expressions" (F12), "Connects",
 -- "Registers", "Memories" (F9, F13), "Clock Type" (F14).
-use Rattle.std.specs.Prelude.{ℕ, Bool, true, false, not, ◌&&◌, List, [], ◌∷◌, ◌++◌, Option, Some, None, Result, Ok, Err, map, nat_lt, nat_le, is_some, option_map, if◌then◌else◌}
+use Rattle.std.specs.Prelude.{ℕ, Bool, false, not, ◌&&◌, List, [], ◌∷◌, ◌++◌, Option, Some, None, Result, Ok, Err, map, nat_lt, nat_le, is_some, option_map, if◌then◌else◌}
 use Rattle.std.specs.List.{flat_map}
 use Rattle.gg_bits.specs.declared.types.Bad.{Bad}
 use Rattle.gg_bits.specs.declared.types.Bad.TheVariants as bads

@@ -21,38 +21,31 @@ use Rattle.gg_partfile.specs.Size.{all_driven, all_seen}
 use Rattle.gg_partfile.specs.declared.request.BridgeEntry.{BridgeEntry}
 use Rattle.gg_partfile.specs.declared.request.Request.{Request}
 use Rattle.gg_cut_plan.specs.Bridges.{Models}
-use Rattle.gg_cut_plan.specs.Channels.{channel_signals, flattened, port_signals, wire}
-use Rattle.gg_cut_plan.specs.Direct.{plan_hub, plan_routes}
+use Rattle.gg_cut_plan.specs.Channels.{channel_signals, flattened, port_signals}
 use Rattle.gg_cut_plan.specs.Machines.{first_memory, first_source, is_memory}
 use Rattle.gg_cut_plan.specs.Fault.{first_fault}
-use Rattle.gg_cut_plan.specs.Listed.{is_among, lies, listed_of}
-use Rattle.gg_cut_plan.specs.Plan.{machine_names, wire_at}
-use Rattle.gg_cut_plan.specs.Seated.{machine_end, open_ins, open_outs, output_count, plan_bridges, plan_wires, seated_wire}
+use Rattle.gg_cut_plan.specs.Listed.{is_among, listed_of}
+use Rattle.gg_cut_plan.specs.Plan.{machine_names}
+use Rattle.gg_cut_plan.specs.Seated.{machine_end, open_ins, open_outs, output_count, plan_bridges}
 use Rattle.gg_cut_plan.specs.declared.listed.Listed.{Listed}
-use Rattle.gg_cut_plan.specs.declared.wires.Wire.{Wire}
-use Rattle.gg_cut_plan.proofs.ChainLemmas.{lies-self}
 use Rattle.gg_cut_seats.specs.Fitting.{AreFitting}
-use Rattle.gg_cut_seats.proofs.LowLemmas.{wire-signal}
 use Rattle.gg_cut_seats.proofs.NameLemmas.{names-count}
-use Rattle.gg_cut_plan.proofs.KnownLemmas.{parents-before, signals-known}
+use Rattle.gg_cut_plan.proofs.KnownLemmas.{signals-known}
 use Rattle.gg_cut_laws.specs.Apart.{AreApart}
 use Rattle.gg_cut_laws.specs.Longest.{listed_paths}
-use Rattle.gg_cut_laws.proofs.FaultlessLemmas.{faultless-apart, faultless-known}
+use Rattle.gg_cut_laws.proofs.FaultlessLemmas.{faultless-apart}
 use Rattle.gg_cut_laws.proofs.ListLemmas.{AllPairs-append, AllPairs-map, map-cases}
-use Rattle.gg_cut_laws.proofs.ListedLemmas.{listed-are, memory-paths}
-use Rattle.gg_cut_laws.proofs.LongestLemmas.{Among, First, Behind, ArePaths, among}
+use Rattle.gg_cut_laws.proofs.ListedLemmas.{memory-paths}
 use Rattle.gg_cut_laws.proofs.OnceLemmas.{signals-once}
 use Rattle.gg_bridged.specs.Whole.{CanBridge}
 use Rattle.gg_bridged.proofs.PlanLemmas.{fit}
-use Rattle.gg_cut_routes.specs.Routes.{AreRoutes}
-use Rattle.gg_cut_routes.proofs.RoutedLemmas.{plan-routed}
-use Rattle.gg_cut_text.specs.CheckText.{channel_name}
 use Rattle.gg_front_laws.specs.Paths.{HavePaths, IsPath, is_path_byte}
 use Rattle.gg_replay_steps.specs.Spelling.{AreUsable, IsUsable}
 use Rattle.golden_case.specs.Handed.{IsBridgeName}
 use Rattle.golden_case.specs.Replay.{naming_of, port_names}
 use Rattle.golden_case.proofs.AloneLemmas.{faultless-first}
-use Rattle.golden_case.proofs.UsableLemmas.{IsPlain, behind-plain, bridge-plain, name-plain, path-plain, signal-plain, usable}
+use Rattle.golden_case.proofs.CutPathLemmas.{channels-usable, paths-differ, paths-are}
+use Rattle.golden_case.proofs.UsableLemmas.{IsPlain, behind-plain, bridge-plain, name-plain, path-plain, usable}
 
 -- all that a function makes of numbers in order, if each number has the item of a list at its place
 numbered-list : (f : ℕ → List ℕ) (names : List (List ℕ)) (n : ℕ) → length names ≡ n → ((k : ℕ) → k < n → f k ≡ get_or names k []) → map f (range_with_len 0 n) ≡ names
@@ -97,129 +90,20 @@ module _ (design : Ordered) (request : Request) (models : Models) (can : CanBrid
   abbrev listed : Listed
   listed = listed_of design.tree request
 
-  abbrev wires : List Wire
-  wires = plan_wires design.circuit design.tree request
-
   apart : AreApart design.tree listed
   apart = faultless-apart design request none keeps.fitting
-
-  routed : AreRoutes design listed (plan_hub design.circuit design.tree request)
-  routed = plan-routed design request is keeps none
 
   no-pairs : AllPairs {X = List ℕ} (λ a b. a ≢ b) []
   no-pairs i j d less lt same = omega (arith, lt)
 
-  -- ---- channels
-
-  abbrev channels : List (List ℕ)
-  channels = map (channel_name design.circuit wires) (range_with_len 0 (length wires))
-
-  -- the channels between the machines of the cut without bridges
-  abbrev base : List Wire
-  base = plan_routes design.circuit design.tree request
-
-  wires-count : length wires ≡ length base
-  wires-count = length-map base (seated_wire (plan_bridges design.circuit design.tree request))
-
-  same-signal : (c : ℕ) → (wire_at wires c).signal ≡ (wire_at base c).signal
-  same-signal c = wire-signal (plan_bridges design.circuit design.tree request) base c
-
-  signal-there : (c : ℕ) → c < length wires → (wire_at wires c).signal < length design.circuit.paths
-  signal-there c lt =
-      let known = routed.known c (wire 0 0 0) (omega (arith, lt, wires-count)) in
-      omega (arith, known, is.formed.named, same-signal c)
-
-  channel-is : (c : ℕ) (d : List ℕ) → c < length wires → get_or channels c d ≡ path_at design.circuit.paths (wire_at wires c).signal
-  channel-is c d lt = get_or-map-range_with_len (channel_name design.circuit wires) 0 (length wires) c c d lt (let same : 0 + c ≡ c = omega arith in same)
-
-  channel-inside : (c : ℕ) → c < length channels → c < length wires
-  channel-inside c lt = omega (arith, lt, length-map-range_with_len (channel_name design.circuit wires) 0 (length wires))
-
-  channels-differ : AllPairs (λ a b. a ≢ b) channels
-  channels-differ i j d less lt same =
-      let below : j < length wires = channel-inside j lt in
-      let before : i < length wires = omega (arith, less, below) in
-      routed.once i j (wire 0 0 0) less (omega (arith, below, wires-count))
-      (sym (same-signal i) ∙ once-apart design.circuit.paths [] is.formed.distinct (wire_at wires i).signal (wire_at wires j).signal (signal-there i before) (signal-there j below)
-      (sym (channel-is i d before) ∙ same ∙ channel-is j d below) ∙ same-signal j)
-
-  channels-plain : All IsPlain channels
-  channels-plain c d lt =
-      let below = channel-inside c lt in
-      subst IsPlain (sym (channel-is c d below)) (signal-plain _ (have.signals (wire_at wires c).signal [] (signal-there c below)))
-
-  channels-usable : AreUsable channels
-  channels-usable = usable channels channels-differ channels-plain
-
-  -- ---- listed paths
-
   abbrev paths : List (List ℕ)
   paths = listed_paths design.tree request
 
-  are : ArePaths design.tree listed paths
-  are = listed-are design.tree request keeps.fitting.memory_named (faultless-known design request none)
+  paths-apart : AllPairs (λ a b. a ≢ b) paths
+  paths-apart = paths-differ design request none is keeps have
 
-  unit-there : (i : ℕ) → i < length listed.units → value_at listed.units i < length design.tree.paths
-  unit-there i lt = let known = apart.known i 0 lt in omega (arith, known, keeps.fitting.named)
-
-  memory-there : (i : ℕ) → i < length listed.memories → value_at listed.memories i < length design.tree.memory_paths
-  memory-there i lt = let known = apart.memories i 0 lt in omega (arith, known, keeps.fitting.memory_named)
-
-  place : (i : ℕ) → i < length paths → Among (length listed.units) (length listed.memories) i
-  place i lt = among (length listed.units) (length listed.memories) i (omega (arith, lt, are.count))
-
-  memory-is : (i j : ℕ) → j < length listed.memories → i ≡ length listed.units + j → path_at paths i ≡ path_at design.tree.memory_paths (value_at listed.memories j)
-  memory-is i j lt e = ap (path_at paths) e ∙ are.memory j lt
-
-  -- two units with one path would lie in one another
-  units-apart : (i j : ℕ) → i < j → j < length listed.units → path_at paths i ≡ path_at paths j → ⊥
-  units-apart i j less lt same =
-      let before : i < length listed.units = omega (arith, less, lt) in
-      let one : value_at listed.units i ≡ value_at listed.units j =
-      once-apart design.tree.paths [] keeps.fitting.distinct (value_at listed.units i) (value_at listed.units j) (unit-there i before) (unit-there j lt)
-      (sym (are.unit i before) ∙ same ∙ are.unit j lt) in
-      let in_itself : lies design.tree (value_at listed.units i) (value_at listed.units j) ≡ true =
-      subst (λ u. lies design.tree (value_at listed.units i) u ≡ true) one
-      (lies-self design.tree (parents-before design.circuit design.tree keeps.fitting) (value_at listed.units i) (apart.known i 0 before)) in
-      let clash : true ≡ false = sym in_itself ∙ (apart.apart i j 0 less lt).0 in
-      absurd (cc)
-
-  paths-apart : (i j : ℕ) → i < j → j < length paths → path_at paths i ≡ path_at paths j → ⊥
-  paths-apart i j less lt same = go (place i (omega (arith, less, lt))) (place j lt)
-    where
-      go : Among (length listed.units) (length listed.memories) i → Among (length listed.units) (length listed.memories) j → ⊥
-      go (First a) (First b) = units-apart i j less b same
-      go (First a) (Behind q b e) =
-          keeps.scoped.apart (value_at listed.units i) (value_at listed.memories q) (apart.known i 0 a) (apart.memories q 0 b)
-          (sym (are.unit i a) ∙ same ∙ memory-is j q b e)
-      go (Behind p a e) (First b) = omega (arith, less, e, b)
-      go (Behind p a e) (Behind q b f) =
-          let order : p < q = omega (arith, less, e, f) in
-          let up = apart.ascending p q 0 order b in
-          let one : value_at listed.memories p ≡ value_at listed.memories q =
-          once-apart design.tree.memory_paths [] keeps.fitting.memory_distinct (value_at listed.memories p) (value_at listed.memories q) (memory-there p a) (memory-there q b)
-          (sym (memory-is i p a e) ∙ same ∙ memory-is j q b f) in
-          omega (arith, up, one)
-
-  paths-differ : AllPairs (λ a b. a ≢ b) paths
-  paths-differ i j d less lt same =
-      paths-apart i j less lt (get_or_default paths i [] d (omega (arith, less, lt)) ∙ same ∙ get_or_default paths j d [] lt)
-
-  -- the path of an instance below the top isn't empty
-  instance-path : (k : ℕ) → 0 < k → k < length design.tree.paths → IsPath (path_at design.tree.paths k)
-  instance-path k below lt =
-      record { some = some-bytes (path_at design.tree.paths k) (λ e. keeps.fitting.distinct 0 k [] below lt (keeps.fitting.top.path ∙ sym e)); bytes = have.instances k [] lt }
-    where
-      some-bytes : (path : List ℕ) → path ≢ [] → 0 < length path
-      some-bytes [] h = absurd (h refl)
-      some-bytes (b ∷ path) h = omega arith
-
-  paths-are : All IsPath paths
-  paths-are i d lt = subst IsPath (get_or_default paths i [] d lt) (go (place i lt))
-    where
-      go : Among (length listed.units) (length listed.memories) i → IsPath (path_at paths i)
-      go (First a) = subst IsPath (sym (are.unit i a)) (instance-path (value_at listed.units i) (apart.lower i 0 a) (unit-there i a))
-      go (Behind q b e) = subst IsPath (sym (memory-is i q b e)) (have.memories (value_at listed.memories q) [] (memory-there q b))
+  are-paths : All IsPath paths
+  are-paths = paths-are design request none is keeps have
 
   -- ---- machines
 
@@ -385,7 +269,7 @@ module _ (design : Ordered) (request : Request) (models : Models) (can : CanBrid
   -- a path has no colon
   no-path : (word w : List ℕ) → list_all is_path_byte word ≡ false → BeginsWith word w → Contains paths w → ⊥
   no-path word w colon b c =
-      let path = All-contains IsPath paths w paths-are c in
+      let path = All-contains IsPath paths w are-paths c in
       let bytes : list_all is_path_byte (word ++ b.rest) ≡ true = ap (list_all is_path_byte) (sym b.is-all) ∙ path.bytes in
       clash (list_all is_path_byte word) (list_all is_path_byte b.rest) colon (sym (list_all-append is_path_byte word b.rest) ∙ bytes)
     where
@@ -399,7 +283,7 @@ module _ (design : Ordered) (request : Request) (models : Models) (can : CanBrid
 
   front-differ : AllPairs (λ a b. a ≢ b) (paths ++ sources)
   front-differ =
-      AllPairs-append (λ a b. a ≢ b) paths sources paths-differ sources-differ
+      AllPairs-append (λ a b. a ≢ b) paths sources paths-apart sources-differ
       (λ x y a b same. no-path (codes "in:") x refl (subst (BeginsWith (codes "in:")) (sym same) (of-source y b)) a)
 
   behind-differ : AllPairs (λ a b. a ≢ b) ((paths ++ sources) ++ trays)
@@ -493,7 +377,7 @@ module _ (design : Ordered) (request : Request) (models : Models) (can : CanBrid
   names-plain =
       All-cons IsPlain (codes "hub:") (front ++ bridges) (record { some = omega arith; bytes = refl })
       (All-append IsPlain front bridges
-      (All-append IsPlain (paths ++ sources) trays (All-append IsPlain paths sources (λ k d lt. path-plain (get_or paths k d) (paths-are k d lt)) sources-plain) trays-plain)
+      (All-append IsPlain (paths ++ sources) trays (All-append IsPlain paths sources (λ k d lt. path-plain (get_or paths k d) (are-paths k d lt)) sources-plain) trays-plain)
       bridges-plain)
 
   -- how many machines there are
@@ -542,4 +426,4 @@ module _ (design : Ordered) (request : Request) (models : Models) (can : CanBrid
           none-usable
 
   pub names-usable : IsUsable (naming_of design request)
-  names-usable = record { channels = channels-usable; machines = machines-usable; ports = ports-usable }
+  names-usable = record { channels = channels-usable design request none is keeps have; machines = machines-usable; ports = ports-usable }

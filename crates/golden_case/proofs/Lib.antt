@@ -3,6 +3,7 @@ pub mod BeginLemmas
 pub mod BridgeRows
 pub mod CaseLemmas
 pub mod CutNameLemmas
+pub mod CutPathLemmas
 pub mod FedLemmas
 pub mod FewLemmas
 pub mod GoOnLemmas

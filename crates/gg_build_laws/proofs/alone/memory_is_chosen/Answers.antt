@@ -8,4 +8,4 @@ pub returns-clause-chosen : goal.returns-clause-chosen
 returns-clause-chosen c = λ design request models default plan columns n start rows given m part lt memory. memory-chosen design request models default plan columns n start rows given m part lt memory
 
 pub returns-clause-alone : goal.returns-clause-alone
-returns-clause-alone c = λ design request models default plan columns n start rows given m part alone lt memory is. memory-alone design request models default plan columns n start rows given m part lt memory alone is
+returns-clause-alone c = λ design request models default plan columns n start rows given m part lt memory alone is. memory-alone design request models default plan columns n start rows given m part lt memory alone is

@@ -4,6 +4,6 @@ use Rattle.gg_build_laws.proofs.layout.plan_has_layout.Goals as goal
 pub returns : goal.returns
 returns c =
     record {
-      layout = λ design request models default plan columns n start rows token starts machines given built. plan-layout design request models default plan columns n start rows token starts machines given built;
-      order = λ design request models default plan columns n start rows token starts machines given built. plan-in-order design request models default plan columns n start rows token starts machines given built;
+      layout = λ design request models default plan columns n start rows given token starts machines built. plan-layout design request models default plan columns n start rows token starts machines given built;
+      order = λ design request models default plan columns n start rows given token starts machines built. plan-in-order design request models default plan columns n start rows token starts machines given built;
     }

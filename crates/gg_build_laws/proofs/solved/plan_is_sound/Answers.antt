@@ -5,7 +5,7 @@ use Rattle.gg_build_laws.proofs.SolvedLemmas.{plan-solved}
 use Rattle.gg_build_laws.proofs.solved.plan_is_sound.Goals as goal
 
 pub returns : goal.returns
-returns c = λ design request models default plan columns n start rows machines given built.
+returns c = λ design request models default plan columns n start rows given machines built.
     record {
       wired = plan-wired design request models default plan columns n start rows (plan_token design request start.state) (body_start start) machines given built;
       no_ring = plan-no-ring design request models default plan columns n start rows (plan_token design request start.state) (body_start start) machines given built;

@@ -1,4 +1,4 @@
-use Rattle.std.proofs.Common.{length, map, take}
+use Rattle.std.proofs.Common.{map, take}
 use Rattle.gg_elab_sites.specs.Views.{held_of, site_of, IsPlaceIn}
 use Rattle.std.specs.Prelude.{All}
 use Rattle.gg_elab_sites.proofs.SiteLemmas.{Grown}

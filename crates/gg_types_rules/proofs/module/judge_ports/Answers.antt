@@ -1,4 +1,4 @@
-use Rattle.std.proofs.Common.{◌≡◌, ◌+◌, [], ◌∷◌, ◌++◌, length, map, take, Some, refl, sym, ap, ◌∙◌, rules}
+use Rattle.std.proofs.Common.{◌+◌, [], ◌∷◌, ◌++◌, length, map, take, Some, refl, sym, ap, ◌∙◌, rules}
 use Rattle.gg_shape.proofs.FlatLemmas.{rest-more, rest-refused}
 use Rattle.gg_types.specs.declared.sort.Own.TheVariants.{Single}
 use Rattle.gg_types_rules.specs.Known.{names_seen}

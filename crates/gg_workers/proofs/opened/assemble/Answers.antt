@@ -16,7 +16,7 @@ returns g c =
       linked = record { put_seats = c.args.reserve.put_seats.items; take_seats = c.args.reserve.take_seats.items; linked = c.requires.linked; all = c.requires.all };
       count = count ∙ sym (ap length c.make.ensures.threads ∙ length-map machines (λ own. length own) ∙ length-map hosts g.H.Host.machines);
       numbered = c.make.ensures.numbered;
-      linked_hosts = λ upto. linked_hosts-lent (λ threads stations links. AreLinkedHosts g.H.Host.machines threads (ReadyAt g.L.Link.takes_from g.L.Link.puts_into g.L.Link.taking g.L.Link.putting g.Z.Streams.flow g.E.Era.start stations links upto) c.make.new.room.linked_hosts.items) refl c.deref.ensures.value c.deref-2.ensures.value (c.make.ensures.linked_hosts upto);
+      linked_hosts = λ upto. linked_hosts-lent (λ threads stations links. AreLinkedHosts g.H.Host.machines threads (ReadyAt g.L.Link.takes_from g.L.Link.puts_into g.L.Link.taking g.L.Link.putting g.Z.Streams.flow g.E.Era.start stations links upto) c.make.new.setup.linked_hosts.items) refl c.deref.ensures.value c.deref-2.ensures.value (c.make.ensures.linked_hosts upto);
       few = (omega (arith, c.make.ensures.workers, c.requires.few.0), omega (arith, c.make.ensures.workers, c.requires.few.1));
       ready = c.make.ensures.assigning;
       long = c.make.ensures.lists;
