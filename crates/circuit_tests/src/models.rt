@@ -1,9 +1,9 @@
 //! gg_flat: copies of a piece and of a tree, and models by name.
 ghost use Rattle.std.specs.Prelude.{◌<◌, ◌-◌, ◌^◌, length};
 
-use gg_bits::{Ids, Items, Kind, Name, Ty};
+use gg_bits::{AddError, Ids, Items, Kind, Name, Ty};
 use gg_cut_plan::Models;
-use gg_flat::{AddError, Driver, Piece, Register, Signal};
+use gg_flat::{Driver, Piece, Register, Signal};
 use gg_flat_tree::{ClockNumbers, Instance, Tree};
 use std::alloc::Global;
 

@@ -15,7 +15,7 @@ use Rattle.gg_flat.specs.Order.{IsOrder}
 use Rattle.gg_flat.specs.Settled.{Settled}
 use Rattle.gg_flat.specs.State.{State, taken_value}
 use Rattle.gg_flat.specs.WellFormed.{IsWellFormed, MayDrive, IsRegister, IsClock}
-use Rattle.gg_flat.proofs.PathLemmas.{missing-path}
+use Rattle.gg_bits.proofs.PathLemmas.{missing-path}
 use Rattle.gg_bridge_joined.specs.Joined.{copy_line}
 use Rattle.gg_bridge_joined.specs.Model.{IsModel, IsSaid, IsAnswer}
 use Rattle.gg_bridge_joined.proofs.FormedLemmas.{copy-source}

@@ -1,4 +1,5 @@
 mod PatternLaws
 pub mod ResultLaws
+pub mod PathLemmas
 mod WorkedRows
 mod WorkedLimits

@@ -4,4 +4,5 @@ pub mod ResultType
 pub mod Meaning
 pub mod Spelling
 pub mod BadText
+pub mod AddErrorText
 pub mod Limits

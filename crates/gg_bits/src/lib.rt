@@ -8,6 +8,7 @@
 //!
 //! No call of an operation allocates. How each operation is written is here too, in both directions. So are two limits of a
 //! run that several crates ask for: each constant is the number that the definitions in `specs/Limits` call by the same name.
+//! `Paths` keeps names apart: it numbers paths in their order, no two of them equal.
 #![tactic(auto)]
 
 mod arithmetic;
@@ -21,6 +22,7 @@ mod lists;
 mod name;
 mod ops;
 mod parametric;
+mod paths;
 mod patterns;
 mod shifts;
 mod spelling;
@@ -34,6 +36,7 @@ pub use lists::{Ids, Items, Names};
 pub use name::Name;
 pub use ops::{Op1, Op2, OpN};
 pub use parametric::{apply_const, apply_const_to, result_const};
+pub use paths::{AddError, Paths};
 pub use patterns::extend;
 pub use types::{Bad, Kind, Ty, Val};
 pub use unary::{apply1, apply1_to, result1};

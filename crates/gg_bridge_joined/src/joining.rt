@@ -1,7 +1,7 @@
 //! The circuit with a model in it.
 ghost use Rattle.std.specs.Prelude.{◌≡◌, ◌≢◌, ◌<◌, ◌≤◌, ◌+◌, ◌-◌, ◌^◌, [], ◌∷◌, ◌++◌, length, map, slice_index_or, IfOk, OnOk, AllPairs, Contains, true};
 ghost use Rattle.std.specs.List.{range_with_len};
-ghost use Rattle.gg_flat.specs.declared.paths.AddError.TheVariants.{Doubled};
+ghost use Rattle.gg_bits.specs.declared.paths.AddError.TheVariants.{Doubled};
 ghost use Rattle.gg_flat.specs.declared.piece.Signal.{Signal};
 ghost use Rattle.gg_flat.specs.Circuit.{no_circuit};
 ghost use Rattle.gg_flat.specs.Line.{value_at};
@@ -13,8 +13,8 @@ ghost use Rattle.gg_bridge_joined.specs.Joined.{CanJoin, joined, by_number, copy
 
 use crate::numbers::{left_of, number_at, numbers_at, numbers_from, place_at, places_of};
 use crate::renaming::{renamed_line, renamed_memory, renamed_register};
-use gg_bits::{Name, Ty};
-use gg_flat::{AddError, Driver, Line, Node, Op, Piece, Signal};
+use gg_bits::{AddError, Name, Ty};
+use gg_flat::{Driver, Line, Node, Op, Piece, Signal};
 use std::alloc::{AllocError, Global};
 
 // ---- drivers

@@ -10,7 +10,7 @@ use Rattle.gg_flat.specs.Circuit.{FlatCircuit}
 use Rattle.gg_flat_tree.specs.Scoped.{output_signals, stop_signals}
 use Rattle.gg_flat_tree.specs.Tree.{instance_at, path_at, stop_at}
 use Rattle.gg_flat.proofs.ListLemmas.{Contains-map, filter-cases}
-use Rattle.gg_flat.proofs.PathLemmas.{found-path}
+use Rattle.gg_bits.proofs.PathLemmas.{found-path}
 use Rattle.gg_order.specs.Design.{Ordered}
 use Rattle.gg_partfile.specs.declared.request.Request.{Request}
 use Rattle.gg_partfile.specs.Size.{all_driven, all_seen}

@@ -1,6 +1,6 @@
 //! `moved_piece`: a piece with the paths of other signals.
 ghost use Rattle.std.specs.Prelude.{◌≡◌, ◌≢◌, ◌<◌, ◌-◌, ◌^◌, [], ◌∷◌, ◌++◌, length, map, slice_index_or, IfOk, OnOk, All, AllPairs, Contains};
-ghost use Rattle.gg_flat.specs.declared.paths.AddError.TheVariants.{Doubled};
+ghost use Rattle.gg_bits.specs.declared.paths.AddError.TheVariants.{Doubled};
 ghost use Rattle.gg_flat.specs.declared.piece.Signal.{Signal};
 ghost use Rattle.gg_flat.specs.Circuit.{no_circuit};
 ghost use Rattle.gg_flat.specs.Line.{value_at};
@@ -10,7 +10,8 @@ ghost use Rattle.gg_cut_parts.specs.MovedPart.{IsMovedPiece};
 
 use crate::paths::signal_name;
 use crate::places::found_at;
-use gg_flat::{AddError, Memory, Piece, Register};
+use gg_bits::AddError;
+use gg_flat::{Memory, Piece, Register};
 use std::alloc::{AllocError, Global};
 
 // A piece for the signals with these numbers of a circuit: a copy of another piece, with their paths. It gives the signals of the circuit

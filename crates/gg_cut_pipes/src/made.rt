@@ -1,6 +1,6 @@
 //! `made`: the piece of the reference circuit.
 ghost use Rattle.std.specs.Prelude.{◌≡◌, ◌≢◌, ◌<◌, ◌+◌, ◌-◌, ◌^◌, [], ◌∷◌, ◌++◌, codes, length, map, slice_index_or, IfOk, OnOk, All, AllPairs, Contains};
-ghost use Rattle.gg_flat.specs.declared.paths.AddError.TheVariants.{Doubled};
+ghost use Rattle.gg_bits.specs.declared.paths.AddError.TheVariants.{Doubled};
 ghost use Rattle.gg_flat.specs.declared.piece.Signal.{Signal};
 ghost use Rattle.gg_flat.specs.Circuit.{no_circuit};
 ghost use Rattle.gg_flat.specs.Line.{value_at};
@@ -11,8 +11,8 @@ ghost use Rattle.gg_cut_pipes.specs.Tables.{seen_in, kept_in, views_by};
 
 use crate::renaming::{seen_driver, seen_memory, seen_register};
 use crate::tables::{Tables, number_at};
-use gg_bits::Name;
-use gg_flat::{AddError, Driver, Line, Node, Op, Piece, Register, Signal};
+use gg_bits::{AddError, Name};
+use gg_flat::{Driver, Line, Node, Op, Piece, Register, Signal};
 use std::alloc::{AllocError, Global};
 
 // The piece of the reference circuit, by the tables. `pipes` has the signals of the piped channels.

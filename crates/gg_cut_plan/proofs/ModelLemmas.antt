@@ -5,7 +5,7 @@ use Rattle.std.specs.List.{position}
 use Rattle.std.specs.Map.{lookup}
 use Rattle.std.specs.Str.{bytes_eq}
 use Rattle.std.proofs.lemmas.Map.Made.{is_some-lookup}
-use Rattle.gg_flat.proofs.PathLemmas.{slice_get-position, missing-path, found-path}
+use Rattle.gg_bits.proofs.PathLemmas.{slice_get-position, missing-path, found-path}
 
 -- the place that a look-up gives has the name
 pub slice_get-found : (names : List (List ℕ)) (name : List ℕ) (place : Option ℕ) → place ≡ position (bytes_eq name) names → IfSome place (λ k. slice_get names k ≡ Some name)

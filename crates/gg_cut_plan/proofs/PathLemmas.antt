@@ -5,7 +5,7 @@ use Rattle.std.specs.List.{list_any}
 use Rattle.std.proofs.lemmas.List.Folds.{list_any_at}
 use Rattle.std.proofs.lemmas.Slice.Eq.{bytes_eq-Decides}
 use Rattle.std.proofs.lemmas.Option.{same_Some}
-use Rattle.gg_flat.proofs.PathLemmas.{found-path}
+use Rattle.gg_bits.proofs.PathLemmas.{found-path}
 use Rattle.gg_flat.proofs.ListLemmas.{once-apart}
 use Rattle.gg_cut_plan.specs.Listed.{first_place, place_of, is_among}
 

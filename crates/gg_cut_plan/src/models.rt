@@ -1,10 +1,10 @@
 //! `Models`: flat circuits by their names.
 ghost use Rattle.std.specs.Prelude.{◌≡◌, ◌≢◌, ◌↔◌, [], ◌∷◌, ◌++◌, length, OnOk, OnErr, IfSome, IfNone, Some, Err, slice_get, option_copied, AllPairs, Contains};
-ghost use Rattle.gg_flat.specs.declared.paths.AddError.TheVariants.{Doubled};
+ghost use Rattle.gg_bits.specs.declared.paths.AddError.TheVariants.{Doubled};
 ghost use Rattle.gg_cut_plan.specs.Models.{model_names, model_circuits};
 
-use gg_bits::Name;
-use gg_flat::{AddError, Piece};
+use gg_bits::{AddError, Name};
+use gg_flat::Piece;
 use indexmap::IndexMap;
 use std::alloc::Global;
 use std::marker::Model;

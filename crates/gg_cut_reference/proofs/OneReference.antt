@@ -18,7 +18,7 @@ use Rattle.gg_flat.specs.Run.{clocked_start}
 use Rattle.gg_flat_tree.specs.Tree.{InstanceTree, memory_at, path_at}
 use Rattle.gg_flat_tree.specs.Scoped.{IsFieldOf, IsVisible, IsWritten, memory_fields}
 use Rattle.gg_flat.proofs.ListLemmas.{map-same}
-use Rattle.gg_flat.proofs.PathLemmas.{found-path}
+use Rattle.gg_bits.proofs.PathLemmas.{found-path}
 use Rattle.gg_part.specs.KeepsToTree.{KeepsToTree}
 use Rattle.gg_order.specs.Design.{Ordered, IsDesign}
 use Rattle.gg_partfile.specs.declared.request.Request.{Request}

@@ -13,9 +13,9 @@ ghost use Rattle.gg_cut_plan.specs.declared.fault.CutFault.TheVariants.{UnknownB
 
 use crate::capacities::is_channel;
 use crate::paths::copied;
-use gg_bits::{Name, Ty};
+use gg_bits::{AddError, Name, Paths, Ty};
 use gg_cut_plan::{CutFault, Models, marks_of};
-use gg_flat::{AddError, Paths, Piece};
+use gg_flat::Piece;
 use gg_flat_tree::Tree;
 use gg_partfile::{BridgeEntry, Request};
 use std::alloc::Global;

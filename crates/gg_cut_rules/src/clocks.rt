@@ -6,10 +6,9 @@ ghost use Rattle.gg_cut_plan.specs.Named.{AreNamed};
 ghost use Rattle.gg_cut_plan.specs.declared.fault.CutFault.TheVariants.{UnknownClock};
 
 use crate::paths::{has, set_of};
-use gg_bits::Name;
+use gg_bits::{AddError, Name, Paths};
 use gg_clocks::Ratio;
 use gg_cut_plan::CutFault;
-use gg_flat::{AddError, Paths};
 use gg_flat_tree::Tree;
 use std::alloc::{AllocError, Global};
 

@@ -7,9 +7,8 @@ ghost use Rattle.gg_cut_plan.specs.Fault.{Tells, dotted, rest_behind, lacks_coun
 ghost use Rattle.gg_cut_plan.specs.declared.fault.CutFault.TheVariants.{Unmatched, NoMemory};
 
 use crate::paths::{has, set_of};
-use gg_bits::{Name, Names};
+use gg_bits::{Name, Names, Paths};
 use gg_cut_plan::CutFault;
-use gg_flat::Paths;
 use std::alloc::{AllocError, Global};
 
 // Checks the counterparts of listed memories. For each listed memory in a shared unit, its counterpart in each unit

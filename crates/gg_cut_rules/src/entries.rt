@@ -5,9 +5,8 @@ ghost use Rattle.gg_cut_plan.specs.Fault.{IsTold, Tells, unknown_unit, unshared,
 ghost use Rattle.gg_cut_plan.specs.declared.fault.CutFault.TheVariants.{UnknownUnit, Doubled, OtherModule, UnknownMemory};
 
 use crate::paths::{copied, has, instance, is_instance, is_memory, set_of};
-use gg_bits::{Name, Names};
+use gg_bits::{AddError, Name, Names, Paths};
 use gg_cut_plan::CutFault;
-use gg_flat::{AddError, Paths};
 use gg_flat_tree::Tree;
 use std::alloc::Global;
 

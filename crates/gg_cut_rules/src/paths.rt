@@ -3,9 +3,8 @@ ghost use Rattle.std.specs.Prelude.{◌≡◌, ℕ, List, ◌+◌, ◌-◌, ◌<
 ghost use Rattle.gg_cut_plan.specs.Listed.{is_among, place_of, is_instance_path, is_memory_path};
 ghost use Rattle.gg_cut_plan.specs.declared.fault.CutFault.TheVariants.{NoMemory};
 
-use gg_bits::Name;
+use gg_bits::{AddError, Name, Paths};
 use gg_cut_plan::CutFault;
-use gg_flat::{AddError, Paths};
 use gg_flat_tree::Tree;
 use std::alloc::Global;
 

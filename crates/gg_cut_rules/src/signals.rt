@@ -7,9 +7,8 @@ ghost use Rattle.gg_cut_plan.specs.declared.fault.CutFault.TheVariants.{NoMemory
 
 use crate::overlap::place;
 use crate::paths::{has, set_of};
-use gg_bits::Name;
+use gg_bits::{Name, Paths};
 use gg_cut_plan::CutFault;
-use gg_flat::Paths;
 use gg_flat_tree::Tree;
 use std::alloc::{AllocError, Global};
 

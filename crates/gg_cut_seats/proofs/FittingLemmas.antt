@@ -5,7 +5,7 @@ use Rattle.std.proofs.lemmas.List.{append-nil}
 use Rattle.gg_flat.specs.Circuit.{FlatCircuit}
 use Rattle.gg_cut_plan.specs.Models.{model_names}
 use Rattle.gg_flat_tree.specs.Tree.{path_at}
-use Rattle.gg_flat.proofs.PathLemmas.{found-path}
+use Rattle.gg_bits.proofs.PathLemmas.{found-path}
 use Rattle.gg_partfile.specs.declared.request.BridgeEntry.{BridgeEntry}
 use Rattle.gg_cut_plan.specs.declared.fault.CutFault.TheVariants.{UnknownBridge, WrongPort, UnfitBridge}
 use Rattle.gg_cut_plan.specs.Listed.{is_among}

@@ -10,7 +10,7 @@ use Rattle.gg_flat.specs.Line.{value_at}
 use Rattle.gg_flat_tree.specs.Scoped.{IsScoped}
 use Rattle.gg_flat_tree.specs.Tree.{InstanceTree, IsTree, path_at, joined, memory_at}
 use Rattle.gg_flat.proofs.ListLemmas.{once-apart, in-range, Contains-filter, filter-cases}
-use Rattle.gg_flat.proofs.PathLemmas.{found-path}
+use Rattle.gg_bits.proofs.PathLemmas.{found-path}
 use Rattle.gg_part.specs.Copies.{Start, IsCopy, LiesIn}
 use Rattle.gg_part.specs.Moved.{shifted}
 use Rattle.gg_partfile.specs.declared.request.Request.{Request}

@@ -21,11 +21,11 @@ use crate::lines::{condition_line, source_line, value_line};
 use crate::scope::Scope;
 use crate::site::Site;
 use gg_ast::{Expr, Reset};
-use gg_bits::{Name, Ty};
+use gg_bits::{AddError, Name, Ty};
 use gg_elab_sites::{
     Digest, Origin, OwnSignal, Place, Source, Table, clock_of, dotted, field_name, joined, number,
 };
-use gg_flat::{AddError, Driver, Latency, Line, Piece, Register, Signal};
+use gg_flat::{Driver, Latency, Line, Piece, Register, Signal};
 use gg_flat_tree::clock_at;
 use gg_types::Typed;
 use std::alloc::{AllocError, Global};

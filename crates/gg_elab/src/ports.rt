@@ -13,11 +13,11 @@ ghost use Rattle.gg_elab_sites.specs.Known.{types_of};
 
 use crate::site::Site;
 use gg_ast::{Direction, Port};
-use gg_bits::Name;
+use gg_bits::{Name, Paths};
 use gg_elab_sites::{
     Digest, OwnMemory, OwnStop, Place, Table, field_name, ground_type, joined, number, port_clock,
 };
-use gg_flat::{Memory, Paths, Piece, Reader, Readers, Writer, Writers};
+use gg_flat::{Memory, Piece, Reader, Readers, Writer, Writers};
 use gg_flat_tree::clock_at;
 use gg_types::Typed;
 use std::alloc::{AllocError, Global};

@@ -9,8 +9,7 @@ ghost use Rattle.gg_elab_sites.specs.Connection.{connection_in, connection_by};
 ghost use Rattle.gg_elab_sites.specs.Views.{connection, seen, source_at, TellsConnections};
 
 use gg_ast::{Expr, Reference, Stmt, StmtKind};
-use gg_bits::Name;
-use gg_flat::Paths;
+use gg_bits::{Name, Paths};
 use gg_shape_names::written;
 use std::alloc::{AllocError, Global};
 

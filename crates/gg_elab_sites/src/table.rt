@@ -11,8 +11,7 @@ use crate::digest::{Digest, OwnMemory};
 use crate::names::joined;
 use crate::own::OwnSignal;
 use crate::sites::Place;
-use gg_bits::{Name, Ty};
-use gg_flat::{AddError, Paths};
+use gg_bits::{AddError, Name, Paths, Ty};
 use gg_types::Typed;
 use std::alloc::{AllocError, Global};
 

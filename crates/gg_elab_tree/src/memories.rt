@@ -11,9 +11,8 @@ ghost use Rattle.gg_elab_tree.specs.IsTreeOf.{Pairwise, HeldMemory, held_memorie
 ghost use Rattle.gg_elab_tree.specs.TreeParts.{IsMemoryPart, IsHeldFor, held_at_place, with_memories};
 
 use crate::places::{copied, place_at};
-use gg_bits::{Name, Names};
+use gg_bits::{AddError, Name, Names, Paths};
 use gg_elab_sites::{Digest, OwnMemory, Place, Table, joined, port_clock};
-use gg_flat::{AddError, Paths};
 use gg_flat_tree::{ClockNumbers, MemoryInstance, Tree};
 use gg_types::Typed;
 use std::alloc::{AllocError, Global};

@@ -3,9 +3,8 @@ ghost use Rattle.std.specs.Prelude.{◌≡◌, ◌≢◌, IfOk, AllPairs, Contai
 ghost use Rattle.gg_elab_tree.specs.IsTreeOf.{IsAt};
 ghost use Rattle.gg_elab_tree.specs.TreeParts.{place_paths};
 
-use gg_bits::Name;
+use gg_bits::{Name, Paths};
 use gg_elab_sites::{Place, add_path};
-use gg_flat::Paths;
 use std::alloc::{AllocError, Global};
 
 // The place of a path, which is one of these.

@@ -8,8 +8,8 @@ ghost use Rattle.gg_elab_tree.specs.IsTreeOf.{Pairwise, HeldStop, held_stops, si
 ghost use Rattle.gg_elab_tree.specs.TreeParts.{IsStopPart, IsAskedFor, stop_at_place, with_stops};
 
 use crate::places::place_at;
+use gg_bits::Paths;
 use gg_elab_sites::{Digest, OwnStop, Place, Table, clock_of, joined};
-use gg_flat::Paths;
 use gg_flat_tree::{StopInstance, Tree};
 use gg_types::Typed;
 use std::alloc::{AllocError, Global};

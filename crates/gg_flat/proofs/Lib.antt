@@ -1,5 +1,4 @@
 pub mod ListLemmas
-pub mod PathLemmas
 pub mod PortLemmas
 pub mod NameLemmas
 pub mod OrderLemmas

@@ -13,5 +13,4 @@ pub mod Order
 pub mod Served
 pub mod Along
 pub mod Ports
-pub mod ErrorText
 pub mod Streams

@@ -7,8 +7,7 @@
 //! formed, gg_flat_run works out cycles and runs and has their laws, and gg_flat_tree has the trees of instances.
 //!
 //! A `Piece` is a flat circuit, built signal by signal; `Piece::copy` gives an equal one. `Line::value` gives what a line
-//! comes to without allocating, in scratch space (gg_flat_run's `scratch_of`). `Piece::in_ports` and
-//! `Piece::out_ports` give its ports.
+//! comes to without allocating, in scratch space (gg_flat_run's `scratch_of`). `in_ports` and `out_ports` give its ports.
 #![tactic(auto)]
 
 mod by_form;
@@ -17,16 +16,13 @@ mod form;
 mod forming;
 mod line;
 mod memory;
-mod paths;
 mod piece;
-mod port_lists;
 mod ports;
 mod streams;
 
 pub use evaluate::{op_of, type_of};
 pub use line::{Line, Node, Op};
 pub use memory::{Latency, Memory, Reader, Readers, UnderWrite, Writer, Writers, address_width};
-pub use paths::{AddError, Paths};
 pub use piece::{Driver, Piece, Register, Reset, Signal};
 pub use ports::{Port, Ports};
 pub use streams::Streams;

@@ -1,12 +1,11 @@
 //! `Piece`: a flat circuit, built signal by signal.
 ghost use Rattle.std.specs.Prelude.{◌≡◌, ◌≢◌, ◌<◌, ◌-◌, ◌^◌, [], ◌∷◌, ◌++◌, length, Err, OnOk, OnErr, IfOk, IfSome, IfNone, Some, slice_get, AllPairs, Contains, option_copied};
-ghost use Rattle.gg_flat.specs.declared.paths.AddError.TheVariants.{Doubled};
+ghost use Rattle.gg_bits.specs.declared.paths.AddError.TheVariants.{Doubled};
 ghost use Rattle.gg_flat.specs.Circuit.{no_circuit};
 
 use crate::line::Line;
 use crate::memory::Memory;
-use crate::paths::{AddError, Paths};
-use gg_bits::{Name, Ty};
+use gg_bits::{AddError, Name, Paths, Ty};
 use std::alloc::{AllocError, Global};
 use std::marker::Model;
 

@@ -1,10 +1,9 @@
 //! `Tree`: the instances of a flat circuit.
 ghost use Rattle.std.specs.Prelude.{◌≡◌, ◌≢◌, ◌<◌, ◌-◌, ◌^◌, [], ◌∷◌, ◌++◌, length, Err, OnOk, OnErr, IfOk, IfSome, IfNone, Some, slice_get, AllPairs, Contains, option_copied};
-ghost use Rattle.gg_flat.specs.declared.paths.AddError.TheVariants.{Doubled};
+ghost use Rattle.gg_bits.specs.declared.paths.AddError.TheVariants.{Doubled};
 ghost use Rattle.gg_flat_tree.specs.Tree.{no_tree};
 
-use gg_bits::{Ids, Items, Name, Names};
-use gg_flat::{AddError, Paths};
+use gg_bits::{AddError, Ids, Items, Name, Names, Paths};
 use std::alloc::{AllocError, Global};
 use std::marker::Model;
 

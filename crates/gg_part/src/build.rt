@@ -1,6 +1,6 @@
 //! `part_of`: builds a part from a choice of a circuit's signals and memories.
 ghost use Rattle.std.specs.Prelude.{◌≡◌, ◌≢◌, ℕ, ◌<◌, ◌-◌, ◌^◌, List, [], length, map, slice_index_or, IfOk, OnOk, All, Contains};
-ghost use Rattle.gg_flat.specs.declared.paths.AddError.TheVariants.{Doubled};
+ghost use Rattle.gg_bits.specs.declared.paths.AddError.TheVariants.{Doubled};
 ghost use Rattle.gg_flat.specs.declared.piece.Driver.TheVariants.{Input, Held};
 ghost use Rattle.gg_flat.specs.Circuit.{no_circuit, driver_at};
 ghost use Rattle.gg_flat.specs.Line.{value_at};
@@ -16,8 +16,8 @@ use crate::frame::{Frame, driver_of, frame_of};
 use crate::numbers::Numbers;
 use crate::part::{Clocking, Part};
 use crate::rename::{clock_in, local_line, local_memory, local_register};
-use gg_bits::Name;
-use gg_flat::{AddError, Driver, Piece, Signal};
+use gg_bits::{AddError, Name};
+use gg_flat::{Driver, Piece, Signal};
 use std::alloc::{AllocError, Global};
 
 // ---- signals

@@ -8,8 +8,8 @@ ghost use Rattle.gg_partfile.specs.Size.{all_driven, all_seen};
 ghost use Rattle.golden_case.specs.RunText.{fed_ports, outputs_of, shown_ports};
 ghost use Rattle.gg_flat_tree.specs.Scoped.{output_signals};
 
-use gg_bits::Name;
-use gg_flat::{AddError, Paths, Piece, Ports};
+use gg_bits::{AddError, Name, Paths};
+use gg_flat::{Piece, Ports};
 use gg_flat_tree::{InstancePort, Tree};
 use gg_order::Design;
 use gg_partfile::{BridgeEntry, Request};

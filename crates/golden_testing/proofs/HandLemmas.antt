@@ -5,7 +5,7 @@ use Rattle.std.specs.List.{list_any}
 use Rattle.std.proofs.lemmas.List.Kept.{AllPairs-cons}
 use Rattle.gg_flat.specs.Circuit.{FlatCircuit}
 use Rattle.gg_flat.specs.State.{State, opening}
-use Rattle.gg_flat.proofs.PathLemmas.{missing-path}
+use Rattle.gg_bits.proofs.PathLemmas.{missing-path}
 use Rattle.golden_case.specs.Handed.{IsBridgeName, most_signals}
 use Rattle.golden_case.specs.Bridges.{CanHandIn}
 

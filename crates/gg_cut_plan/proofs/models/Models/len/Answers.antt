@@ -1,4 +1,4 @@
-use Rattle.gg_flat.proofs.PathLemmas.{distinct-paths}
+use Rattle.gg_bits.proofs.PathLemmas.{distinct-paths}
 use Rattle.gg_cut_plan.proofs.models.Models.len.Goals as goal
 
 pub returns-clause-distinct : goal.returns-clause-distinct

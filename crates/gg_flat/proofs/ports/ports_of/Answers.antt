@@ -1,5 +1,5 @@
 use Rattle.gg_flat.proofs.PortLemmas.{ports_at-push}
-use Rattle.gg_flat.proofs.port_lists.ports_of.Goals as goal
+use Rattle.gg_flat.proofs.ports.ports_of.Goals as goal
 
 pub loop-signal-preserved : goal.loop-signal-preserved
 loop-signal-preserved c =

@@ -1,8 +1,8 @@
 //! `Paths`: the paths of signals, instances or memories, no two of them equal.
 ghost use Rattle.std.specs.Prelude.{◌≡◌, ◌≢◌, ◌<◌, ◌≤◌, ◌↔◌, ◌^◌, ◌-◌, [], ◌∷◌, ◌++◌, length, OnOk, OnErr, IfSome, IfNone, Some, None, Ok, Err, slice_get, option_copied, AllPairs, Contains};
-ghost use Rattle.gg_flat.specs.declared.paths.AddError.TheVariants.{Doubled, NoMemory};
+ghost use Rattle.gg_bits.specs.declared.paths.AddError.TheVariants.{Doubled, NoMemory};
 
-use gg_bits::Name;
+use crate::name::Name;
 use indexmap::IndexSet;
 use std::alloc::{AllocError, Global};
 use std::error::Error;
@@ -21,7 +21,7 @@ pub enum AddError {
 
 impl fmt::Display for AddError {
     ghost use Rattle.std.specs.Prelude.{Some};
-    ghost use Rattle.gg_flat.specs.ErrorText.{error_text};
+    ghost use Rattle.gg_bits.specs.AddErrorText.{error_text};
 
     ghost output = { λ error. Some (error_text error) };
 

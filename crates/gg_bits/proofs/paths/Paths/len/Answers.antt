@@ -1,5 +1,5 @@
-use Rattle.gg_flat.proofs.PathLemmas.{distinct-paths}
-use Rattle.gg_flat.proofs.paths.Paths.len.Goals as goal
+use Rattle.gg_bits.proofs.PathLemmas.{distinct-paths}
+use Rattle.gg_bits.proofs.paths.Paths.len.Goals as goal
 
 pub returns-clause-distinct : goal.returns-clause-distinct
 returns-clause-distinct c = rw (← c.self.view_is) (distinct-paths _ c.len.ensures.unique)

@@ -1,7 +1,7 @@
 use Rattle.std.proofs.Common.{refl, sym, ◌∙◌}
-use Rattle.gg_flat.proofs.PathLemmas.{found-path, missing-path}
-use Rattle.gg_flat.proofs.paths.Paths.add.Goals as goal
-use Rattle.gg_flat.proofs.paths.Paths.add.Goals.{in-Ok, in-Err}
+use Rattle.gg_bits.proofs.PathLemmas.{found-path, missing-path}
+use Rattle.gg_bits.proofs.paths.Paths.add.Goals as goal
+use Rattle.gg_bits.proofs.paths.Paths.add.Goals.{in-Ok, in-Err}
 
 pub returns-then-contains-clause-doubled : goal.returns-then-contains-clause-doubled
 returns-then-contains-clause-doubled c =
