@@ -1,5 +1,5 @@
 //! Hosts that have run become the parts of a network again.
-ghost use Rattle.std.specs.Prelude.{◌≡◌, ◌≤◌, [], length, map};
+ghost use Rattle.std.specs.Prelude.{◌≡◌, ◌≤◌, [], length, map, IfOk};
 ghost use Rattle.std.specs.Vec.{vec_capacity};
 ghost use Rattle.gg_net.specs.Network.{frame_of};
 ghost use Rattle.gg_net.specs.Kept.{Kept};
@@ -18,7 +18,7 @@ use gg_link::Link;
 use gg_net::{Parts, Queue, Shape, Station};
 use gg_node::Host;
 use gg_workers_pass::{Era, close_all, unwrap_all};
-use std::alloc::Global;
+use std::alloc::{AllocError, Global};
 
 // The hosts in their order, without seats, and the seats by channel. `takes` and `puts` are as long as the channels.
 fn take_apart<H: Host, L: Link, Z: Streams, E: Era>(
@@ -69,6 +69,22 @@ pub(crate) struct ReturnLists<H, S, T> {
     pub(crate) takes: Vec<S>,
     // The seats that put, by channel.
     pub(crate) puts: Vec<T>,
+}
+
+// Lists with room for so many hosts and channels.
+pub(crate) fn new_return_lists<H: Drop, S: Drop, T: Drop>(
+    alloc: Global,
+    hosts: usize,
+    channels: usize,
+) -> Result<ReturnLists<H, S, T>, AllocError>
+    ensures { IfOk result (λ return_lists. AreReturnLists hosts channels return_lists) }
+{
+    Ok(ReturnLists {
+        hosts: Vec::with_capacity(alloc, hosts)?,
+        rows: Vec::with_capacity(alloc, hosts)?,
+        takes: Vec::with_capacity(alloc, channels)?,
+        puts: Vec::with_capacity(alloc, channels)?,
+    })
 }
 
 // Closes the links of hosts that have run: the parts of the network after the run.

@@ -19,12 +19,9 @@
 
 mod apart;
 mod assign;
-mod assigned;
 mod back;
-mod fill;
 mod host_seats;
 mod laws;
-mod link_hosts;
 mod links;
 mod opened;
 mod run;

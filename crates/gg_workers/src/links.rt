@@ -5,9 +5,7 @@ ghost use Rattle.gg_flat.specs.Line.{value_at};
 ghost use Rattle.gg_net.specs.Network.{takes};
 ghost use Rattle.gg_net.specs.Net.{AreParts, joined};
 ghost use Rattle.gg_workers_pass.specs.Seats.{Linked, AreNew};
-ghost use Rattle.gg_workers.specs.Apart.{AreReturnLists};
 
-use crate::back::ReturnLists;
 use gg_flat::Streams;
 use gg_link::Link;
 use gg_net::{Net, Queue, Shape};
@@ -28,22 +26,6 @@ pub(crate) fn take_counts<H: Host, Z: Streams>(
         counts.push(net.takes(channel as u32))?;
     }
     Ok(counts)
-}
-
-// Lists with room for so many hosts and channels.
-pub(crate) fn new_return_lists<H: Drop, S: Drop, T: Drop>(
-    alloc: Global,
-    hosts: usize,
-    channels: usize,
-) -> Result<ReturnLists<H, S, T>, AllocError>
-    ensures { IfOk result (λ return_lists. AreReturnLists hosts channels return_lists) }
-{
-    Ok(ReturnLists {
-        hosts: Vec::with_capacity(alloc, hosts)?,
-        rows: Vec::with_capacity(alloc, hosts)?,
-        takes: Vec::with_capacity(alloc, channels)?,
-        puts: Vec::with_capacity(alloc, channels)?,
-    })
 }
 
 // Opens the links of all channels. If one can't be made, those that were are closed, and all is as before.

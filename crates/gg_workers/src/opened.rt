@@ -11,8 +11,8 @@ ghost use Rattle.gg_workers.specs.Apart.{WasJoined, AreReturnLists};
 ghost use Rattle.gg_workers.specs.Making.{IsReserved};
 ghost use Rattle.gg_workers.specs.Opened.{IsOpened};
 
-use crate::back::ReturnLists;
-use crate::links::{new_return_lists, open_links};
+use crate::back::{ReturnLists, new_return_lists};
+use crate::links::open_links;
 use crate::setup::{Setup, make, reserve};
 use crate::worker::{LinkedHost, Worker};
 use gg_flat::Streams;

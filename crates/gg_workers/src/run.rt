@@ -6,10 +6,10 @@ ghost use Rattle.gg_net.specs.Net.{AreParts, joined};
 ghost use Rattle.gg_workers.specs.Opened.{IsOpened};
 ghost use Rattle.gg_workers.specs.Work.{IsLater};
 
-use crate::assigned::run_assigned;
 use crate::back::close_hosts;
 use crate::links::take_counts;
 use crate::opened::{Opened, open_net};
+use crate::threads::run_assigned;
 use gg_flat::Streams;
 use gg_io::Gate;
 use gg_link::Link;

@@ -1,5 +1,6 @@
 //! What workers need: first all memory is taken, then the hosts get the seats of their machines.
-ghost use Rattle.std.specs.Prelude.{◌≡◌, ℕ, ◌^◌, ◌<◌, ◌≤◌, length, map, IfOk};
+ghost use Rattle.std.specs.Prelude.{◌≡◌, ℕ, ◌^◌, ◌<◌, ◌≤◌, [], length, map, IfOk};
+ghost use Rattle.std.specs.Vec.{vec_capacity};
 ghost use Rattle.gg_net.specs.Network.{frame_of};
 ghost use Rattle.gg_net.specs.Kept.{Kept};
 ghost use Rattle.gg_net.specs.Net.{AreListed};
@@ -7,18 +8,17 @@ ghost use Rattle.gg_net.specs.Stations.{machines_by, AreStationed};
 ghost use Rattle.gg_workers_pass.specs.Seats.{Linked, AreNew};
 ghost use Rattle.gg_workers.specs.LinkedHosts.{ReadyAt, AreLinkedHosts, AreNumbered};
 ghost use Rattle.gg_workers.specs.Assigned.{Assigning};
-ghost use Rattle.gg_workers.specs.Making.{AreIdle, IsReserved};
+ghost use Rattle.gg_workers.specs.Making.{AreIdle, HaveTheirSeats, IsReserved};
 
-use crate::fill::fill_all;
-use crate::host_seats::{HostSeats, reserve_seats};
-use crate::link_hosts::link_hosts;
+use crate::host_seats::{HostSeats, fill_all, reserve_seats};
 use crate::worker::{LinkedHost, Worker};
 use gg_flat::Streams;
 use gg_link::Link;
 use gg_net::{Queue, Station};
 use gg_node::Host;
-use gg_workers_pass::Era;
+use gg_workers_pass::{Era, MachineSeats};
 use std::alloc::{AllocError, Global};
+use std::mem;
 
 // Memory for the hosts and workers of a network, and then the hosts and workers.
 #[derive(Drop)]
@@ -94,6 +94,39 @@ pub(crate) fn reserve<H: Host, S: Drop, T: Drop>(
         linked_hosts,
         workers,
     })
+}
+
+// Takes the seats out of a row.
+fn take_by_thread<S: Drop, T: Drop>(
+    alloc: Global,
+    row: &mut HostSeats<S, T>,
+) -> Vec<MachineSeats<S, T>>
+    ensures { result.items ≡ row.old.by_thread.items }
+{
+    mem::replace(&mut row.by_thread, Vec::new(alloc))
+}
+
+// Gives each host its number and the seats of its machines.
+fn link_hosts<H: Drop, S: Drop, T: Drop>(
+    alloc: Global,
+    hosts: Vec<H>,
+    rows: &mut Vec<HostSeats<S, T>>,
+    linked_hosts: &mut Vec<LinkedHost<H, S, T>>,
+)
+    requires long { length rows.old.items ≡ length hosts.items }
+    requires none { linked_hosts.old.items ≡ [] }
+    requires room { length hosts.items ≤ vec_capacity linked_hosts.old }
+    ensures { HaveTheirSeats hosts.items rows.old.items linked_hosts.new.items }
+{
+    for host in hosts {
+        let number = linked_hosts.len();
+        let by_thread = take_by_thread(alloc, &mut rows[number]);
+        linked_hosts.push_reserved(LinkedHost {
+            number,
+            host,
+            by_thread,
+        });
+    }
 }
 
 // Gives all hosts the seats of their machines. Allocates nothing.

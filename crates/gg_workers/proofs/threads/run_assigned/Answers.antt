@@ -3,7 +3,7 @@ use Rattle.gg_workers.specs.declared.worker.Worker.{Worker}
 use Rattle.gg_workers.specs.LinkedHosts.{ReadyAt, DoneAt}
 use Rattle.gg_workers.specs.Assigned.{Assigning}
 use Rattle.gg_workers.proofs.TogetherLemmas.{assigned-linked_hosts, assigned-falls, collect-ready, collected-linked_hosts, collected-numbered, take-whole, ready-lent, collected-lent}
-use Rattle.gg_workers.proofs.assigned.run_assigned.Goals as goal
+use Rattle.gg_workers.proofs.threads.run_assigned.Goals as goal
 
 pub run_all-requires-clause-linked_hosts : goal.run_all-requires-clause-linked_hosts
 run_all-requires-clause-linked_hosts g c κs within = assigned-linked_hosts g.H.Host.machines c.args.threads.now (ReadyAt g.L.Link.takes_from g.L.Link.puts_into g.L.Link.taking g.L.Link.putting g.Z.Streams.flow g.E.Era.start c.args.stations.now c.args.links.now c.args.upto) c.args.linked_hosts.now.items (length c.args.workers.now.items) c.deref_mut.result.now (subst (λ (l : List (Worker g.row.H.Denot g.row.L-TakeSeat.Denot g.row.L-PutSeat.Denot)). Assigning c.args.linked_hosts.now.items (length c.args.workers.now.items) 0 (length c.args.linked_hosts.now.items) [] l) (sym c.deref_mut.ensures.value) c.assign_hosts.ensures.assigned) c.requires.linked_hosts

@@ -2,7 +2,7 @@ use Rattle.std.proofs.Common.{length, map}
 use Rattle.gg_net.specs.Network.{wire_at}
 use Rattle.gg_workers_pass.specs.SeatLists.{AreLeft}
 use Rattle.gg_workers.specs.HostSeats.{IsEmptyFor, IsFilledFor, HasPlaces, EachMachine}
-use Rattle.gg_workers.proofs.fill.fill_all.Given as goal
+use Rattle.gg_workers.proofs.host_seats.fill_all.Given as goal
 
 abbrev pub invariant-loop-machine : goal.invariant-loop-machine
 invariant-loop-machine g l = record {

@@ -1,6 +1,6 @@
 use Rattle.std.proofs.Common.{refl, ap, ◌∙◌}
 use Rattle.gg_workers_pass.specs.declared.machine_seats.MachineSeats.{MachineSeats}
-use Rattle.gg_workers.proofs.fill.fill_row.Goals as goal
+use Rattle.gg_workers.proofs.host_seats.fill_row.Goals as goal
 
 pub returns : goal.returns
 returns g c =

@@ -4,7 +4,7 @@ use Rattle.gg_workers.specs.HostSeats.{IsEmptyFor, IsFilledFor}
 use Rattle.gg_workers.proofs.ListLemmas.{read_at}
 use Rattle.gg_workers.proofs.HostSeatsLemmas.{host-within, places-kept, each-kept, each-more}
 use Rattle.gg_workers.proofs.FillLemmas.{rows-there, full-here, takes-left, puts-left}
-use Rattle.gg_workers.proofs.fill.fill_all.Goals as goal
+use Rattle.gg_workers.proofs.host_seats.fill_all.Goals as goal
 
 pub fill_row-requires-clause-there : goal.fill_row-requires-clause-there
 fill_row-requires-clause-there g c =
