@@ -1,15 +1,14 @@
 -- Two instances of one module in a flat circuit: the signals of the one are those of the other, with other numbers.
-use Rattle.std.proofs.Common.{◌≡◌, ℕ, ◌+◌, ◌-◌, ◌<◌, ◌≤◌, List, [], ◌∷◌, length, map, get_or, Bool, Option, Some, None, refl, sym, ap, ap₂, ◌∙◌, subst, subst₂, arith, inl, inr, ◌⊎◌, lit≤}
+use Rattle.std.proofs.Common.{◌≡◌, ℕ, ◌+◌, ◌-◌, ◌<◌, ◌≤◌, List, [], ◌∷◌, length, map, get_or, Bool, Option, Some, None, sym, ap, ap₂, ◌∙◌, subst, subst₂, arith, inl, inr, ◌⊎◌, lit≤}
 use Rattle.std.specs.Prelude.{Contains, slice_get, slice_index_or, codes}
 use Rattle.std.proofs.lemmas.List.{get_or_default, get_or-map, ext_get_or, length-map}
 use Rattle.std.proofs.lemmas.List.Elements.{Contains-get_or}
-use Rattle.std.proofs.lemmas.Option.{same_Some, get_or_from_slice_get, slice_get-get_or}
+use Rattle.std.proofs.lemmas.Option.{get_or_from_slice_get, slice_get-get_or}
 use Rattle.gg_bits.specs.declared.types.Kind.TheVariants.{UInt}
 use Rattle.gg_bits.specs.Shape.{Shape}
 use Rattle.gg_ast.specs.Names.{AreNamesOfCircuit}
 use Rattle.gg_ast.specs.declared.module.Direction.{Direction}
 use Rattle.gg_ast.specs.declared.module.Direction.TheVariants as direction
-use Rattle.gg_ast.specs.declared.module.Port.{Port}
 use Rattle.gg_ast.specs.Places.{place_of}
 use Rattle.gg_ast.specs.Tree.{CircuitTree, module_names}
 use Rattle.gg_flat.specs.declared.memory.Latency.{Latency}
@@ -27,16 +26,15 @@ use Rattle.gg_elab_count.specs.Sites.{Site, module_at, sites_of}
 use Rattle.gg_elab_sites.specs.Flat.{stop_paths, Answers, FlatSignal, flat_signal, FlatMemory, flat_signals, flat_memories, memories_at}
 use Rattle.gg_elab_sites.specs.IsFlat.{IsFlat, IsMemoryOf, memory_paths, top_ports, count_before, is_register}
 use Rattle.gg_elab_sites.specs.Known.{types_of}
-use Rattle.gg_elab_sites.specs.Signals.{Cause, FromOutside, Answered, Own, cause_of_port, field_name}
+use Rattle.gg_elab_sites.specs.Signals.{Cause, Answered, Own, cause_of_port, field_name}
 use Rattle.gg_elab_sites.proofs.AmongLemmas.{Element, element-at, MadeOf, from-map, from-flat_map}
 use Rattle.gg_elab_tree.proofs.BankFieldLemmas.{AnswerAmong, answer-among}
-use Rattle.gg_elab_sites.proofs.NameLemmas.{place_of-at}
 use Rattle.gg_elab_tree.specs.IsTreeOf.{IsTreeOf, IsPortFor, Pairwise, clocks_held, signal_paths, signal_ports, memories_of}
 use Rattle.gg_elab_tree.proofs.HeldMemoryLemmas.{memory-count, memory-number, memory-place}
 use Rattle.gg_elab_tree.proofs.CauseLemmas.{IsNamed}
-use Rattle.gg_elab_tree.proofs.DriverLemmas.{own-cases, port-is-input, port-own-cause, goes-in}
+use Rattle.gg_elab_tree.proofs.DriverLemmas.{own-cases, port-own-cause}
 use Rattle.gg_elab_tree.proofs.InstanceLemmas.{signals_in, stands, ranges, instance-for}
-use Rattle.gg_elab_tree.proofs.OwnLemmas.{own_in, own-place, placed-known, Pairwise-at}
+use Rattle.gg_elab_tree.proofs.OwnLemmas.{own_in, placed-known, Pairwise-at}
 use Rattle.gg_elab_tree.proofs.PairwiseLemmas.{Pairwise-length}
 use Rattle.gg_elab_tree.proofs.PlaceLemmas.{Placed, within}
 use Rattle.gg_elab_tree.proofs.RangeLemmas.{Ranges, count_to, placed-count}
@@ -54,6 +52,7 @@ use Rattle.gg_front_laws.proofs.CopyFieldLemmas.{AnswerParts, answer-parts, ther
 use Rattle.gg_front_laws.proofs.CopyPlaceLemmas.{AreRanked, placed-stretch}
 use Rattle.gg_front_laws.proofs.CopyClockLemmas.{clocks-alike}
 use Rattle.gg_front_laws.proofs.CopyClosedLemmas.{driver-in, register-in}
+use Rattle.gg_front_laws.proofs.CopyInputLemmas.{input-there, input-here}
 use Rattle.gg_front_laws.proofs.CopyInsideLemmas.{memory-inside}
 
 -- a register for where there is none
@@ -116,72 +115,13 @@ module _ (circuit : CircuitTree) (flat : FlatCircuit) (tree : InstanceTree) (top
     end-j : from_site (j + length (below v)) ≡ from_site j + length q
     end-j = placed-count (length circuit.modules) circuit.modules (sites_of circuit) (signals_in circuit) j v at_j
 
-    -- an input of the one is an input of the other
-    input-there : (s : ℕ) → IsInputOf tree j (from_site j + s) → IsInputOf tree i (from_site i + s)
-    input-there s input = port-is-input circuit flat tree top known_top is_flat is_tree distinct plain names known are_names i u at_i n port (from_site i + s) counted lt way
-      where
-        n : ℕ
-        n = input.listed.0
+    there-in : (s : ℕ) → IsInputOf tree j (from_site j + s) → IsInputOf tree i (from_site i + s)
+    there-in s input = input-there circuit flat tree top known_top is_flat is_tree distinct plain names known are_names i j u v at_i at_j same s input
 
-        at : ((get_or (instance_at tree j).ports n input.port).signal ≡ from_site j + n) × (n < length (own_in circuit v))
-        at = port-at circuit flat tree top known_top is_flat is_tree distinct plain j v at_j n input.port input.listed.1
-
-        counted : from_site i + s ≡ from_site i + n
-        counted = let e : from_site j + s ≡ from_site j + n = sym input.is ∙ sym (ap (λ (x : InstancePort). x.signal) input.listed.2) ∙ at.0 in omega (arith, e)
-
-        h : Pairwise (IsPortFor circuit v) (signal_ports (module_at circuit.modules v.number)) (instance_at tree j).ports
-        h = (instance-for circuit tree top known_top is_tree distinct.of_sites j v at_j).ports
-
-        lt_v : n < length (signal_ports (module_at circuit.modules v.number))
-        lt_v = omega (arith, input.listed.1, Pairwise-length (IsPortFor circuit v) (signal_ports (module_at circuit.modules v.number)) (instance_at tree j).ports h)
-
-        lt : n < length (signal_ports (module_at circuit.modules u.number))
-        lt = subst (λ (k : ℕ). n < length (signal_ports (module_at circuit.modules k))) (sym same) lt_v
-
-        port : Port
-        port = some-item (signal_ports (module_at circuit.modules u.number)) n lt
-
-        way : (get_or (signal_ports (module_at circuit.modules u.number)) n port).direction ≡ direction.Input
-        way =
-            let each = Pairwise-at (IsPortFor circuit v) (signal_ports (module_at circuit.modules v.number)) (instance_at tree j).ports n port input.port h lt_v in
-            ap (λ (k : ℕ). (get_or (signal_ports (module_at circuit.modules k)) n port).direction) same
-            ∙ goes-in circuit flat tree top known_top is_flat is_tree distinct plain names known are_names (get_or (signal_ports (module_at circuit.modules v.number)) n port).direction
-            (sym each.goes ∙ ap (λ (y : InstancePort). y.is_input) input.listed.2 ∙ input.input)
-
-    outside-in : (way : Direction) → cause_of_port way ≡ FromOutside → way ≡ direction.Input
-    outside-in direction.Input e = refl
-    outside-in direction.Output e = absurd (cc)
-
-    -- a signal at an input port is an input of the instance
-    input-here : (s : ℕ) → s < length p → AtInput (types_of circuit) circuit.modules u (get_or p s none).path → IsInputOf tree i (from_site i + s)
-    input-here s lt at = go (own-cases circuit flat tree top known_top is_flat is_tree distinct plain names known are_names u n at.among.1)
-      where
-        n : ℕ
-        n = at.among.0
-
-        cause : (get_or (own_in circuit u) n no_own).cause ≡ FromOutside
-        cause = ap (λ (o : Own). o.cause) (get_or_default (own_in circuit u) n no_own at.port at.among.1 ∙ at.among.2) ∙ at.cause
-
-        there : slice_get (signal_paths circuit) (from_site i + s) ≡ Some (joined u.path at.port.name)
-        there = path-there (types_of circuit) circuit.modules u v all (memories_of circuit) (top_ports circuit.modules (place_of circuit.name (module_names circuit))) (stop_paths circuit.modules (sites_of circuit)) flat is_flat distinct.of_signals (from_site i) (from_site j) p q one other like (from_site i) p one s lt ∙ ap Some at.is
-
-        counted : from_site i + s ≡ from_site i + n
-        counted =
-            same_Some (from_site i + s) (from_site i + n)
-            (sym (place_of-at (signal_paths circuit) (joined u.path at.port.name) (from_site i + s) there distinct.of_signals)
-            ∙ ap (λ (o : Own). place_of (joined u.path o.name) (signal_paths circuit)) (sym at.among.2)
-            ∙ own-place circuit i u at_i distinct.of_signals n at.port at.among.1)
-
-        port-in : (lt : n < length (signal_ports (module_at circuit.modules u.number))) → IsInputOf tree i (from_site i + s)
-        port-in lt =
-            let port = some-item (signal_ports (module_at circuit.modules u.number)) n lt in
-            port-is-input circuit flat tree top known_top is_flat is_tree distinct plain names known are_names i u at_i n port (from_site i + s) counted lt
-            (outside-in (get_or (signal_ports (module_at circuit.modules u.number)) n port).direction
-            (sym (port-own-cause circuit flat tree top known_top is_flat is_tree distinct plain names known are_names u n no_own port lt) ∙ cause))
-
-        go : (n < length (signal_ports (module_at circuit.modules u.number))) ⊎ IsNamed (λ name. (o : ℕ) × (o < length (own_in circuit u)) × ((get_or (own_in circuit u) o no_own).name ≡ name)) (get_or (own_in circuit u) n no_own).cause → IsInputOf tree i (from_site i + s)
-        go (inl lt) = port-in lt
-        go (inr named) = absurd (subst (λ (c : Cause). IsNamed (λ name. (o : ℕ) × (o < length (own_in circuit u)) × ((get_or (own_in circuit u) o no_own).name ≡ name)) c) cause named)
+    here-in : (s : ℕ) → s < length p → AtInput (types_of circuit) circuit.modules u (get_or p s none).path → IsInputOf tree i (from_site i + s)
+    here-in s lt at =
+        input-here circuit flat tree top known_top is_flat is_tree distinct plain names known are_names i u at_i s (get_or p s none).path
+        (path-there (types_of circuit) circuit.modules u v all (memories_of circuit) (top_ports circuit.modules (place_of circuit.name (module_names circuit))) (stop_paths circuit.modules (sites_of circuit)) flat is_flat distinct.of_signals (from_site i) (from_site j) p q one other like (from_site i) p one s lt) at
 
     -- ---- memories
 
@@ -269,7 +209,7 @@ module _ (circuit : CircuitTree) (flat : FlatCircuit) (tree : InstanceTree) (top
         → driver_at flat (from_site j + s) ≡ moved_driver (shifted (from_site i) (from_site j)) (shifted (registers_before (from_site i)) (registers_before (from_site j))) (shifted (from_memory i) (from_memory j)) (driver_at flat (from_site i + s))
     driver-copied s lt inner =
         elim (driver-moved (types_of circuit) circuit.modules u v all (memories_of circuit) (top_ports circuit.modules (place_of circuit.name (module_names circuit))) (stop_paths circuit.modules (sites_of circuit)) flat is_flat distinct.of_signals (from_site i) (from_site j) p q one other like (from_memory i) (from_memory j) (length mp) distinct.of_memories banks-same fields s lt here there) [
-          | inl at ↦ absurd (inner (input-here s lt at))
+          | inl at ↦ absurd (inner (here-in s lt at))
           | inr e ↦ e
         ]
       where
@@ -280,7 +220,7 @@ module _ (circuit : CircuitTree) (flat : FlatCircuit) (tree : InstanceTree) (top
 
         there : (t : ℕ) → NamesSignal (driver_at flat (from_site j + s)) t → (from_site j ≤ t) × (t < from_site j + length p)
         there t names =
-            let r = driver-in circuit flat tree top known_top is_flat is_tree distinct fits scoped j v at_j (from_site j + s) t (omega arith, omega (arith, lt, end-j, size-same)) (λ input. inner (input-there s input)) names in
+            let r = driver-in circuit flat tree top known_top is_flat is_tree distinct fits scoped j v at_j (from_site j + s) t (omega arith, omega (arith, lt, end-j, size-same)) (λ input. inner (there-in s input)) names in
             (r.0, omega (arith, r.1, end-j, size-same))
 
     -- ---- the instance at place j is a copy of that at place i
@@ -349,7 +289,7 @@ module _ (circuit : CircuitTree) (flat : FlatCircuit) (tree : InstanceTree) (top
         → (unclocked_register (slice_index_or flat.registers (register_there r) any) ≡ unclocked_register (moved_register to_there (slice_index_or flat.registers r any))) × (get_or (clocks_held all) (register_there r) None ≡ get_or (clocks_held all) r None)
     register-again s r any h inner held =
         elim (held-copied (types_of circuit) circuit.modules u v all (memories_of circuit) (top_ports circuit.modules (place_of circuit.name (module_names circuit))) (stop_paths circuit.modules (sites_of circuit)) flat is_flat distinct.of_signals (from_site i) (from_site j) p q one other like (from_memory i) (from_memory j) (length mp) distinct.of_memories banks-same fields k.place r k.inside held-here any here there) [
-          | inl at ↦ absurd (inner (subst (λ (n : ℕ). IsInputOf tree i n) k.here (input-here k.place k.inside at)))
+          | inl at ↦ absurd (inner (subst (λ (n : ℕ). IsInputOf tree i n) k.here (here-in k.place k.inside at)))
           | inr e ↦ (e.again, e.there ∙ sym e.here)
         ]
       where
@@ -377,7 +317,7 @@ module _ (circuit : CircuitTree) (flat : FlatCircuit) (tree : InstanceTree) (top
 
         there : moved_number < length flat.registers → (t : ℕ) → RegisterNames (slice_index_or flat.registers moved_number any) t → (from_site j ≤ t) × (t < from_site j + length p)
         there within t names =
-            let j_in = register-in circuit flat tree top known_top is_flat is_tree distinct fits scoped j v at_j (from_site j + k.place) moved_number t (slice_index_or flat.registers moved_number any) (omega arith, omega (arith, k.inside, end-j, size-same)) (λ input. inner-here (input-there k.place input)) held-there (slice_get-get_or flat.registers moved_number any within) names in
+            let j_in = register-in circuit flat tree top known_top is_flat is_tree distinct fits scoped j v at_j (from_site j + k.place) moved_number t (slice_index_or flat.registers moved_number any) (omega arith, omega (arith, k.inside, end-j, size-same)) (λ input. inner-here (there-in k.place input)) held-there (slice_get-get_or flat.registers moved_number any within) names in
             (j_in.0, omega (arith, j_in.1, end-j, size-same))
 
     register-clock : (s r : ℕ) → Holds (instance_at tree i) s → ¬ IsInputOf tree i s → driver_at flat s ≡ Held r → slice_index_or tree.register_clocks (register_there r) None ≡ slice_index_or tree.register_clocks r None

@@ -3,6 +3,7 @@ pub mod CopyClockLemmas
 pub mod CopyClosedLemmas
 pub mod CopyDriverLemmas
 pub mod CopyFieldLemmas
+pub mod CopyInputLemmas
 pub mod CopyInsideLemmas
 pub mod CopyInstanceLemmas
 pub mod CopyLemmas
