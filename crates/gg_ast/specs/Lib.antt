@@ -6,3 +6,4 @@ pub mod Tree
 pub mod Rows
 pub mod Places
 pub mod Names
+pub mod Words

@@ -10,7 +10,8 @@
 //! - a circuit that is built row by row has just these rows, in their order and on their lines (`rows_of`);
 //! - two circuits with the same rows are the same (`one_tree`);
 //! - a name has no dot and no dash (`Circuit::names_are_words`);
-//! - `Circuit::module` returns the first module of a name.
+//! - `Circuit::module` returns the first module of a name;
+//! - `find_operation` and `find_keyword` return what a word of the grammar names, and nothing for any other word.
 //!
 //! Contracts see expressions as terms, and lists as lists: the values that they compare have no addresses.
 #![tactic(auto)]
@@ -21,6 +22,7 @@ mod laws;
 mod module;
 mod names;
 mod statement;
+mod words;
 
 pub use circuit::Circuit;
 pub use expression::{Expr, ExprKind, Literal, Radix, Reference};
@@ -30,3 +32,4 @@ pub use names::is_name;
 pub use statement::{
     Argument, Arguments, Field, Fields, MemoryField, ReadUnderWrite, Report, Reset, Stmt, StmtKind,
 };
+pub use words::{FieldWord, Keyword, Operation, find_keyword, find_operation};

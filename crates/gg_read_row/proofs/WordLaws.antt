@@ -9,13 +9,13 @@ use Rattle.gg_bits.specs.declared.ops.Op2.TheVariants as two
 use Rattle.gg_bits.specs.declared.ops.OpN.TheVariants as fix
 use Rattle.gg_ast.specs.declared.module.Direction.TheVariants as direction
 use Rattle.gg_ast.specs.declared.statement.Report.TheVariants as report
-use Rattle.gg_read_row.specs.declared.words.FieldWord.TheVariants as field
-use Rattle.gg_read_row.specs.declared.words.Operation.{Operation}
-use Rattle.gg_read_row.specs.declared.words.Operation.TheVariants.{Unary, Binary, Fixed, Mux}
-use Rattle.gg_read_row.specs.declared.words.Keyword.{Keyword}
-use Rattle.gg_read_row.specs.declared.words.Keyword.TheVariants as keyword
+use Rattle.gg_ast.specs.declared.words.FieldWord.TheVariants as field
+use Rattle.gg_ast.specs.declared.words.Operation.{Operation}
+use Rattle.gg_ast.specs.declared.words.Operation.TheVariants.{Unary, Binary, Fixed, Mux}
+use Rattle.gg_ast.specs.declared.words.Keyword.{Keyword}
+use Rattle.gg_ast.specs.declared.words.Keyword.TheVariants as keyword
 use Rattle.gg_bits.specs.Spelling.{text1, text2, text_const, written_as, all1, all2, all_const, named1, named2, named_const}
-use Rattle.gg_read_row.specs.Words.{direction_text, report_text, field_text, find_word, operation_of, head_words, tail_words, field_words, second_words, keyword_of}
+use Rattle.gg_ast.specs.Words.{direction_text, report_text, field_text, find_word, operation_of, head_words, tail_words, field_words, second_words, keyword_of}
 use Rattle.gg_read_row.proofs.Leaves.{equal_bytes}
 
 -- in each entry of the table, the word is the spelling of the value

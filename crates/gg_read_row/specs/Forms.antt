@@ -24,7 +24,7 @@ use Rattle.gg_ast.specs.declared.statement.Argument.TheVariants as given
 use Rattle.gg_ast.specs.declared.statement.MemoryField.{MemoryField}
 use Rattle.gg_ast.specs.declared.statement.MemoryField.TheVariants as field
 use Rattle.gg_bits.specs.Spelling.{text1, text2, text_const}
-use Rattle.gg_read_row.specs.Words.{kind_text, direction_text, report_text, read_under_write_text}
+use Rattle.gg_ast.specs.Words.{kind_text, direction_text, report_text, read_under_write_text}
 
 -- the digits of a radix, of either case
 abbrev pub is_digit_of : Radix → ℕ → Bool

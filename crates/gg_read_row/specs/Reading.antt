@@ -29,18 +29,18 @@ use Rattle.gg_ast.specs.declared.statement.ReadUnderWrite.{ReadUnderWrite}
 use Rattle.gg_ast.specs.declared.statement.ReadUnderWrite.TheVariants as under_write
 use Rattle.gg_read_row.specs.declared.cursor.RowFault.{RowFault}
 use Rattle.gg_read_row.specs.declared.cursor.RowFault.TheVariants.{NoForm, NoMemory}
-use Rattle.gg_read_row.specs.declared.words.Operation.{Operation}
-use Rattle.gg_read_row.specs.declared.words.Operation.TheVariants.{Unary, Binary as Binary2, Fixed, Mux}
-use Rattle.gg_read_row.specs.declared.words.FieldWord.{FieldWord}
-use Rattle.gg_read_row.specs.declared.words.FieldWord.TheVariants as field_word
-use Rattle.gg_read_row.specs.declared.words.Keyword.{Keyword}
-use Rattle.gg_read_row.specs.declared.words.Keyword.TheVariants as keyword
+use Rattle.gg_ast.specs.declared.words.Operation.{Operation}
+use Rattle.gg_ast.specs.declared.words.Operation.TheVariants.{Unary, Binary as Binary2, Fixed, Mux}
+use Rattle.gg_ast.specs.declared.words.FieldWord.{FieldWord}
+use Rattle.gg_ast.specs.declared.words.FieldWord.TheVariants as field_word
+use Rattle.gg_ast.specs.declared.words.Keyword.{Keyword}
+use Rattle.gg_ast.specs.declared.words.Keyword.TheVariants as keyword
 use Rattle.gg_ast.specs.declared.statement.Report.{Report}
 use Rattle.gg_ast.specs.Row.{Row, VersionRow, CircuitRow, ModuleRow, PortRow, WireRow, NodeRow, RegisterRow, RegisterResetRow, RegisterOpenRow, ResetRow, InstanceRow, MemoryRow, FieldRow, ConnectRow, InvalidRow, SkipRow, StopRow, ReportRow}
 use Rattle.gg_read_row.specs.declared.digits.Digits.{Digits}
 use Rattle.gg_ast.specs.Names.{is_name}
 use Rattle.gg_read_row.specs.Forms.{is_natural, are_digits}
-use Rattle.gg_read_row.specs.Words.{operation_of, keyword_of}
+use Rattle.gg_ast.specs.Words.{operation_of, keyword_of}
 use Rattle.gg_ast.specs.declared.module.GroundType.{GroundType}
 use Rattle.gg_ast.specs.declared.module.GroundType.TheVariants as plain_type
 

@@ -3,8 +3,7 @@ ghost use Rattle.std.specs.Prelude.{◌≡◌, [], ◌∷◌, ◌++◌, MatchBoo
 ghost use Rattle.gg_read_row.specs.Reading.{Reads, Passes, Finds, TakesName, more_names_at, names_at, symbol_at, word_at, name_at, natural_at, digits_at, operation_at, is_second, end_at, text_at, keyword_at, is_invalid, is_connection};
 
 use crate::digits::{Digits, natural_value, number_digits, text_digits};
-use crate::words::{Keyword, Operation, find_keyword, find_operation};
-use gg_ast::is_name;
+use gg_ast::{Keyword, Operation, find_keyword, find_operation, is_name};
 use gg_bits::{Name, Names};
 use gg_lex::{Symbol, Tok};
 use std::alloc::{AllocError, Global};

@@ -3,8 +3,7 @@ ghost use Rattle.gg_read_row.specs.Reading.{Reads, Finds, last_type_at, last_nat
 
 use crate::cursor::{Cursor, RowFault};
 use crate::expression::ground_type;
-use crate::words::FieldWord;
-use gg_ast::{GroundType, MemoryField, ReadUnderWrite};
+use gg_ast::{FieldWord, GroundType, MemoryField, ReadUnderWrite};
 use std::alloc::Global;
 
 // What a field says, after its word and `=>`.

@@ -14,7 +14,6 @@ mod laws;
 mod registers;
 mod row;
 mod stops;
-mod words;
 
 pub use cursor::RowFault;
 pub use laws::{name_is_a_word, one_row};

@@ -8,8 +8,9 @@ use crate::expression::{expr, ground_type, reference};
 use crate::field::field;
 use crate::registers::{register, regreset, reset_row};
 use crate::stops::{report, stop};
-use crate::words::{FieldWord, Keyword};
-use gg_ast::{Direction, Expr, GroundType, MemoryField, Reference, Report, StmtKind};
+use gg_ast::{
+    Direction, Expr, FieldWord, GroundType, Keyword, MemoryField, Reference, Report, StmtKind,
+};
 use gg_bits::Name;
 use gg_lex::{Symbol, Tok};
 use std::alloc::Global;

@@ -12,12 +12,12 @@ use Rattle.gg_ast.specs.declared.statement.ReadUnderWrite.{ReadUnderWrite}
 use Rattle.gg_ast.specs.declared.statement.ReadUnderWrite.TheVariants as under_write
 use Rattle.gg_ast.specs.declared.statement.Report.{Report}
 use Rattle.gg_ast.specs.declared.statement.Report.TheVariants as report
-use Rattle.gg_read_row.specs.declared.words.Operation.{Operation}
-use Rattle.gg_read_row.specs.declared.words.Operation.TheVariants.{Unary, Binary, Fixed, Mux}
-use Rattle.gg_read_row.specs.declared.words.FieldWord.{FieldWord}
-use Rattle.gg_read_row.specs.declared.words.FieldWord.TheVariants as field
-use Rattle.gg_read_row.specs.declared.words.Keyword.{Keyword}
-use Rattle.gg_read_row.specs.declared.words.Keyword.TheVariants as keyword
+use Rattle.gg_ast.specs.declared.words.Operation.{Operation}
+use Rattle.gg_ast.specs.declared.words.Operation.TheVariants.{Unary, Binary, Fixed, Mux}
+use Rattle.gg_ast.specs.declared.words.FieldWord.{FieldWord}
+use Rattle.gg_ast.specs.declared.words.FieldWord.TheVariants as field
+use Rattle.gg_ast.specs.declared.words.Keyword.{Keyword}
+use Rattle.gg_ast.specs.declared.words.Keyword.TheVariants as keyword
 
 -- how a kind is written in a type or a literal
 abbrev pub kind_text : Kind → List ℕ

@@ -1,64 +1,86 @@
 //! The words of the grammar: operations, and the first words of lines.
 ghost use Rattle.std.specs.Prelude.{◌≡◌};
-ghost use Rattle.gg_read_row.specs.Words.{find_word, operation_of, head_words, tail_words, field_words, second_words, keyword_of};
+ghost use Rattle.gg_ast.specs.Words.{find_word, operation_of, head_words, tail_words, field_words, second_words, keyword_of};
 
-use gg_ast::{Direction, Report};
+use crate::module::Direction;
+use crate::statement::Report;
 use gg_bits::{Op1, Op2, OpN};
 
-// An operation of an expression, by how many operands and parameters it takes.
+/// An operation of an expression, by how many operands and parameters it takes.
 #[derive(Clone, Copy)]
-pub(crate) enum Operation {
-    // On one value.
+pub enum Operation {
+    /// On one value.
     Unary(Op1),
-    // On two values.
+    /// On two values.
     Binary(Op2),
-    // On one value, with parameters.
+    /// On one value, with parameters.
     Fixed(OpN),
-    // `mux`, on three values.
+    /// `mux`, on three values.
     Mux,
 }
 
-// The first word of a memory's field.
+/// The first word of a memory's field.
 #[derive(Clone, Copy)]
-pub(crate) enum FieldWord {
+pub enum FieldWord {
+    /// `data-type`.
     DataType,
+    /// `depth`.
     Depth,
+    /// `read-latency`.
     ReadLatency,
+    /// `write-latency`.
     WriteLatency,
+    /// `reader`.
     Reader,
+    /// `writer`.
     Writer,
+    /// `read-under-write`.
     ReadUnderWrite,
 }
 
-// The form of a line, by its first word.
+/// The form of a line, by its first word.
 #[derive(Clone, Copy)]
-pub(crate) enum Keyword {
+pub enum Keyword {
+    /// `FIRRTL`, before the version.
     Version,
+    /// `circuit`.
     Circuit,
+    /// `module`.
     Module,
+    /// `input` or `output`.
     Port(Direction),
+    /// `wire`.
     Wire,
+    /// `node`.
     Node,
+    /// `reg`.
     Register,
+    /// `reset`, the reset of the register above.
     Reset,
+    /// `inst`.
     Instance,
+    /// `mem`.
     Memory,
+    /// The first word of a memory's field.
     Field(FieldWord),
+    /// `skip`.
     Skip,
+    /// `stop`.
     Stop,
+    /// `printf`, `assert`, `assume` or `cover`.
     Report(Report),
-    // `public`, before `module`.
+    /// `public`, before `module`.
     Public,
-    // `connect`, a connection.
+    /// `connect`, a connection.
     Connect,
-    // `invalidate`, of a sink.
+    /// `invalidate`, of a sink.
     Invalidate,
-    // `regreset`, a register with a reset.
+    /// `regreset`, a register with a reset.
     Regreset,
 }
 
-// The operation that a word names.
-pub(crate) fn find_operation(word: &str) -> Option<Operation>
+/// The operation that a word names.
+pub fn find_operation(word: &str) -> Option<Operation>
     ensures { result ≡ operation_of word.now }
 {
     if let Some(op) = Op1::from_text(word) {
@@ -141,8 +163,8 @@ fn second_keyword(word: &str) -> Option<Keyword>
     }
 }
 
-// The form of a line whose first word isn't the name of a sink, by this word.
-pub(crate) fn find_keyword(word: &str) -> Option<Keyword>
+/// The form of a line whose first word isn't the name of a sink, by this word.
+pub fn find_keyword(word: &str) -> Option<Keyword>
     ensures { result ≡ keyword_of word.now }
 {
     head_keyword(word)
