@@ -1,34 +1,20 @@
 //! F8: memories' fields that are missing, come twice or are out of range.
 ghost use Rattle.std.specs.Prelude.{◌≡◌, ℕ, List, flat_map, option_to_list};
 ghost use Rattle.gg_shape.specs.Faults.{Answers};
-ghost use Rattle.gg_shape.specs.Memories.{given_by, given, is_right as stands_right, wrong_field, wrong_fields, wrong_times, wrong_by, wrong_in_module, memory_faults};
+ghost use Rattle.gg_shape.specs.Memories.{given_by, given, is_right as stands_right, wrong_field, wrong_fields, wrong_times, wrong_by, memory_faults};
 ghost use Rattle.gg_shape.specs.Counted.{count_of, with_value};
 
 use crate::fault::{CheckFault, Fault, MemoryKey};
-use gg_ast::{Circuit, Field, MemoryField, Module, Stmt, StmtKind};
+use gg_ast::{Circuit, Field, MemoryField, Stmt, StmtKind};
 
 // Refuses the first wrong field of the circuit's memories.
 pub(crate) fn check_memories(circuit: &Circuit) -> Result<(), CheckFault>
     ensures { Answers (memory_faults circuit.now) result }
 {
-    check_modules(circuit.modules())
-}
-
-// Refuses the first wrong field of these modules' memories.
-fn check_modules(modules: &[Module]) -> Result<(), CheckFault>
-    ensures { Answers (flat_map wrong_in_module modules.now) result }
-{
-    for module in modules {
-        check_module(module)?;
+    for module in circuit.modules() {
+        check_statements(module.statements())?;
     }
     Ok(())
-}
-
-// Refuses the first wrong field of a module's memories.
-fn check_module(this: &Module) -> Result<(), CheckFault>
-    ensures { Answers (wrong_in_module this.now) result }
-{
-    check_statements(this.statements())
 }
 
 // Refuses the first wrong field of the memories among these statements.
