@@ -3,7 +3,7 @@ ghost use Rattle.std.specs.Prelude.{◌≡◌, ◌<◌, List, ℕ, length, take,
 ghost use Rattle.gg_ast.specs.declared.expression.Reference.TheVariants.{PortOf as APort, FieldOf as AField};
 ghost use Rattle.gg_ast.specs.Tree.{ModuleTree};
 ghost use Rattle.gg_shape_names.specs.Modules.{module_at};
-ghost use Rattle.gg_shape_names.specs.Namespace.{names_in, names_after, scope_of, scope_after, meaning_of, role_of_instance_port};
+ghost use Rattle.gg_shape_names.specs.Namespace.{IsMeaningBefore, names_in, scope_of, meaning_of, role_of_instance_port};
 ghost use Rattle.gg_shape_names.specs.Tables.{AreTold, IsPlaced, names_told, role_of_port_named, through};
 
 use crate::memory::field_role;
@@ -40,10 +40,7 @@ pub(crate) fn role_before_in(
 ) -> Option<Role>
     requires tables { AreTold modules.now (length modules.now) tables.now }
     requires within { number < length modules.now }
-    ensures { (n : ℕ) → count ≡ length (names_after (module_at modules.now number).ports
-        (take n (module_at modules.now number).statements))
-        → result ≡ meaning_of (scope_after modules.now (module_at modules.now number).ports
-        (take n (module_at modules.now number).statements)) reference.now }
+    ensures { IsMeaningBefore modules.now (module_at modules.now number) count reference.now result }
 {
     match tables[number as usize].place(first_name(reference)) {
         Some(place) => {

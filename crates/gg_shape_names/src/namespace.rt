@@ -7,7 +7,7 @@ ghost use Rattle.gg_ast.specs.Places.{place_of};
 ghost use Rattle.gg_ast.specs.Tree.{names_of};
 ghost use Rattle.gg_ast.specs.declared.statement.Stmt.{Stmt as Statement};
 ghost use Rattle.gg_shape_names.specs.Modules.{module_at};
-ghost use Rattle.gg_shape_names.specs.Namespace.{names_in, names_after, scope_of, scope_after, meaning_of};
+ghost use Rattle.gg_shape_names.specs.Namespace.{IsMeaningBefore, names_in, scope_of, meaning_of};
 ghost use Rattle.gg_shape_names.specs.Repetitions.{Tells, repetitions, repeated_in};
 ghost use Rattle.gg_shape_names.specs.Tables.{AreTold};
 
@@ -121,10 +121,7 @@ impl<'a> Namespace<'a> {
     /// What a reference names if only the first `count` names of the module are declared. None if it then names nothing.
     pub fn role_before(&self, number: u32, count: usize, reference: &Reference) -> Option<Role>
         requires { number < length self.now.modules }
-        ensures { (n : ℕ) → count ≡ length (names_after (module_at self.now.modules number).ports
-            (take n (module_at self.now.modules number).statements))
-            → result ≡ meaning_of (scope_after self.now.modules (module_at self.now.modules number).ports
-            (take n (module_at self.now.modules number).statements)) reference.now }
+        ensures { IsMeaningBefore self.now.modules (module_at self.now.modules number) count reference.now result }
     {
         role_before_in(
             self.circuit.modules(),
