@@ -48,6 +48,15 @@ abbrev pub IsUnique : Order → Type 0
 IsUnique (Load file next) = IsUniqueFile file × ((bytes : List ℕ) → IsUnique (next bytes))
 IsUnique (Write IsText) = Unit {0}
 
+-- What is reported for the load of a file of this name, of which this is known, if it may have this many bytes. `lost` means that a
+-- load failed, and `cut` that a load was cut at its limit.
+abbrev pub LoadReports : (told : Told) (lost cut : Type 0) (name : List ℕ) (limit : ℕ) → Said → Type 0
+LoadReports told lost cut name limit said =
+    -- The load failed.
+    (lost × (said ≡ cannot_load name))
+    -- Or it was cut, and the file can be longer.
+    ⊎ (cut × CanBeOver told limit × (said ≡ is_over name limit))
+
 -- `files` has what is known of the file of each name. `lost` means that a load failed, and `cut` that a load was cut at
 -- its limit.
 module _ (files : List ℕ → Told) where
@@ -58,9 +67,7 @@ module _ (files : List ℕ → Told) where
 
   -- this is reported for the load of the file: it failed, or the file is too long
   abbrev pub LoadSays : (lost cut : Type 0) → File → Said → Type 0
-  LoadSays lost cut file said =
-      (lost × (said ≡ cannot_load file.name))
-      ⊎ (cut × CanBeOver (files file.name) file.limit × (said ≡ is_over file.name file.limit))
+  LoadSays lost cut file = LoadReports (files file.name) lost cut file.name file.limit
 
   -- this is reported for the file: for its load, or for its bytes
   abbrev pub IsRefused : (lost cut : Type 0) → File → Said → Type 0

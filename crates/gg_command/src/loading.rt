@@ -1,9 +1,9 @@
 //! Loading of a file.
-ghost use Rattle.std.specs.Prelude.{◌≡◌, ◌-◌, ◌^◌, ◌<◌, ◌≤◌, ◌⊎◌, IfOk, IfErr, length};
+ghost use Rattle.std.specs.Prelude.{◌-◌, ◌^◌, ◌<◌, ◌≤◌, IfOk, IfErr, length};
 ghost use Rattle.gg_io.specs.Count.{Rose};
-ghost use Rattle.gg_io.specs.Told.{CanHold, CanBeOver};
-ghost use Rattle.gg_command.specs.Said.{cannot_load, is_over};
+ghost use Rattle.gg_io.specs.Told.{CanHold};
 ghost use Rattle.gg_command.specs.Endings.{IfRefused};
+ghost use Rattle.gg_command.specs.Order.{LoadReports};
 ghost use Rattle.gg_command.specs.WentOn.{ShelfWentOn};
 
 use crate::endings::{Ending, end_cannot_load, end_over};
@@ -25,9 +25,8 @@ pub fn load<S: Shelf>(
     requires { limit < 2 ^ 64 - 1 }
     ensures within { IfOk result (λ bytes. length bytes.items ≤ limit) }
     ensures held { IfOk result (λ bytes. CanHold (S.files shelf.old name.now) bytes.items) }
-    ensures refused { IfErr result (IfRefused (λ said.
-        (Rose (S.faults shelf.old) (S.faults shelf.new) × (said ≡ cannot_load name.now))
-        ⊎ (Rose (S.cuts shelf.old) (S.cuts shelf.new) × CanBeOver (S.files shelf.old name.now) limit × (said ≡ is_over name.now limit)))) }
+    ensures refused { IfErr result (IfRefused (LoadReports (S.files shelf.old name.now)
+        (Rose (S.faults shelf.old) (S.faults shelf.new)) (Rose (S.cuts shelf.old) (S.cuts shelf.new)) name.now limit)) }
     ensures shelf { ShelfWentOn S.Shelf shelf.old shelf.new }
 {
     match shelf.load(alloc, name, limit) {
