@@ -21,7 +21,7 @@ use Rattle.gg_elab_sites.specs.Flat.{FlatMemory, FlatSignal, flat_memories, flat
 use Rattle.gg_elab_sites.specs.IsFlat.{IsFlat, bindings_of, memory_paths, number_of, port_names, reader_of, signals_of, top_ports, writer_of}
 use Rattle.gg_elab_sites.specs.Known.{types_of}
 use Rattle.gg_elab_sites.specs.Meaning.{Bindings}
-use Rattle.gg_elab_sites.specs.Memories.{Bank, bank_of}
+use Rattle.gg_types.specs.Memories.{Bank, bank_of}
 use Rattle.gg_elab_sites.specs.Signals.{OwnBank, bank_of_kind, own_bank, own_banks}
 use Rattle.gg_elab.specs.Building.{HasMemories}
 use Rattle.gg_elab.proofs.EachSignalLemmas.{Built, all-built, none-built}

@@ -26,7 +26,7 @@ use Rattle.gg_types.specs.Types.{is_width, sort_named, type_faults}
 use Rattle.gg_types.proofs.WidthLemmas.{IsWide, address-wide, is_width-tells, sort-wide}
 use Rattle.gg_elab_sites.specs.Known.{types_of, value_shape}
 use Rattle.gg_elab_sites.specs.Flat.{FlatSignal, flat_signal, flat_signals, signals_at}
-use Rattle.gg_elab_sites.specs.Memories.{Bank, bank_of, bank_with, first_said, type_said, type_shape}
+use Rattle.gg_types.specs.Memories.{Bank, bank_of, bank_with, first_said, type_said, type_shape}
 use Rattle.gg_elab_sites.specs.Signals.{Cause, Connected, Expressed, Kept, Own, OwnStop, cause_of_port, own, own_of_kind, own_of_port, own_signals, memory_signals, own_stops, reader_signals, readers_signals, statement_signals, stop_signal, writer_signals}
 
 abbrev pub IsSized : Shape → Type 0

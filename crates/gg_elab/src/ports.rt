@@ -15,11 +15,11 @@ use crate::site::Site;
 use gg_ast::{Direction, Port};
 use gg_bits::{Name, Paths};
 use gg_elab_sites::{
-    Digest, OwnMemory, OwnStop, Place, Table, field_name, ground_type, joined, number, port_clock,
+    Digest, OwnMemory, OwnStop, Place, Table, field_name, joined, number, port_clock,
 };
 use gg_flat::{Memory, Piece, Reader, Readers, Writer, Writers};
 use gg_flat_tree::clock_at;
-use gg_types::Typed;
+use gg_types::{Typed, ground_type};
 use std::alloc::{AllocError, Global};
 
 // The field of a port of the memory of this path, as a signal.

@@ -10,7 +10,7 @@ use Rattle.gg_ast.proofs.NamePlaces.{place_after, place_of-append, place_of-belo
 use Rattle.gg_elab_sites.specs.declared.connections.Source.{Source}
 use Rattle.gg_elab_sites.proofs.NameLemmas.{slice_get-at}
 use Rattle.gg_elab_sites.specs.Connection.{Connection, connection_by, connection_in}
-use Rattle.gg_elab_sites.specs.Memories.{or_later}
+use Rattle.gg_types.specs.Fields.{or_later}
 use Rattle.gg_elab_sites.specs.Views.{connection, source_at, TellsConnections}
 
 -- the elements of a list are the same with one more after them

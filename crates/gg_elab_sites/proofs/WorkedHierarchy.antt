@@ -26,7 +26,7 @@ use Rattle.gg_elab_sites.specs.Flat.{Scope, FlatSignal, FlatMemory, flat_signals
 use Rattle.gg_elab_sites.specs.IsFlat.{IsComputed, IsHeld, IsRegisterOf, IsDriven, IsMemoryOf, IsFlat, signals_of, memory_paths}
 use Rattle.gg_elab_sites.specs.Known.{types_of}
 use Rattle.gg_elab_sites.specs.Meaning.{Signals, Bindings, in_scope, named, named_if, takes}
-use Rattle.gg_elab_sites.specs.Memories.{Bank}
+use Rattle.gg_types.specs.Memories.{Bank}
 use Rattle.gg_elab_sites.proofs.WorkedParts.{ty_of, node, value, signal, follows, AllBelow, each_below, line_of_name, gets_name, named_other, zero_names}
 use Rattle.gg_elab_sites.proofs.WorkedText.{m, k, circuit}
 

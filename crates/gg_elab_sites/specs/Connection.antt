@@ -7,7 +7,7 @@ use Rattle.gg_ast.specs.declared.statement.StmtKind.TheVariants as says
 use Rattle.gg_ast.specs.declared.statement.Stmt.{Stmt}
 use Rattle.gg_ast.specs.Term.{Term}
 use Rattle.gg_shape_names.specs.Scope.{written}
-use Rattle.gg_elab_sites.specs.Memories.{or_later}
+use Rattle.gg_types.specs.Fields.{or_later}
 
 -- an expression (`<=`), or 0 (`is invalid`)
 pub data Connection : Type 0 where

@@ -26,7 +26,7 @@ use Rattle.gg_flat.specs.Line.{shape_at, line_value, connected_value as line_con
 use Rattle.gg_flat.specs.Reads.{Names}
 use Rattle.gg_types.specs.Clocks.{clock_inputs}
 use Rattle.gg_elab_count.specs.Sites.{module_at, sites_of}
-use Rattle.gg_elab_sites.specs.Memories.{type_shape}
+use Rattle.gg_types.specs.Memories.{type_shape}
 use Rattle.gg_elab_sites.specs.Signals.{Types, field_name}
 use Rattle.gg_elab_sites.specs.Connection.{Connection}
 use Rattle.gg_elab_sites.specs.Flat.{Drive, Outside, Gets, Holds, Answers, FlatSignal, FlatMemory, flat_signals, flat_memories, stop_paths}

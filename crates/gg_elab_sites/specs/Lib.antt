@@ -1,4 +1,3 @@
-pub mod Memories
 pub mod Signals
 pub mod Connection
 pub mod Clocks

@@ -16,7 +16,7 @@ use Rattle.gg_ast.specs.Term.{Term}
 use Rattle.gg_ast.specs.Tree.{ModuleTree}
 use Rattle.gg_flat.specs.declared.memory.Latency.{Latency}
 use Rattle.gg_flat.specs.Memory.{address_width}
-use Rattle.gg_elab_sites.specs.Memories.{Bank, bank_of, type_shape}
+use Rattle.gg_types.specs.Memories.{Bank, bank_of, type_shape}
 
 -- What gives a signal its value, as its module says: whatever holds the module, for an input port; a connection; the
 -- expression of a node or of a stop's condition; a register's state, with its clock and its reset; or what the reader at

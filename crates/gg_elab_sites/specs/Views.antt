@@ -10,7 +10,6 @@ use Rattle.gg_elab_sites.specs.declared.connections.Source.TheVariants.{Of, Zero
 use Rattle.gg_elab_sites.specs.declared.digest.Digest.{Digest}
 use Rattle.gg_elab_sites.specs.declared.digest.Instance.{Instance}
 use Rattle.gg_elab_sites.specs.declared.digest.OwnMemory.{OwnMemory}
-use Rattle.gg_elab_sites.specs.declared.memories.Bank as kept
 use Rattle.gg_elab_sites.specs.declared.own.Origin.{Origin}
 use Rattle.gg_elab_sites.specs.declared.own.Origin.TheVariants as origin
 use Rattle.gg_elab_sites.specs.declared.own.OwnSignal.{OwnSignal}
@@ -21,7 +20,7 @@ use Rattle.gg_elab_sites.specs.declared.sites.Step as kept_step
 use Rattle.gg_elab_sites.specs.declared.stops.OwnStop as kept_stop
 use Rattle.gg_elab_sites.specs.declared.table.Table.{Table}
 use Rattle.gg_elab_sites.specs.Clocks.{own_clocks, site_clocks}
-use Rattle.gg_elab_sites.specs.Memories.{Bank}
+use Rattle.gg_types.specs.Memories.{bank_seen}
 use Rattle.gg_elab_sites.specs.Signals.{Cause, FromOutside, Connected, Expressed, Kept, Answered, Own, Types, own_signals, OwnBank, own_banks, OwnStop, own_stops}
 use Rattle.gg_elab_sites.specs.Connection.{Connection, ConnectedTo, Zeroed, connection_in}
 use Rattle.gg_elab_sites.specs.Meaning.{Signals, Bindings}
@@ -42,17 +41,6 @@ abbrev pub own_of : OwnSignal → Own
 own_of signal = record { name = signal.name; shape = shape signal.ty; cause = cause_of signal.origin }
 
 -- ---- memories
-
--- what the fields of a memory say, as it is kept
-abbrev pub bank_seen : kept.Bank → Bank
-bank_seen b =
-    record {
-      word = shape b.word;
-      depth = b.depth;
-      latency = b.latency;
-      readers = map (λ n. n.now) b.readers.items;
-      writers = map (λ n. n.now) b.writers.items;
-    }
 
 -- a memory of a module, as it is kept
 abbrev pub own_bank_of : OwnMemory → OwnBank

@@ -4,7 +4,7 @@ ghost use Rattle.std.specs.Str.{bytes_eq};
 ghost use Rattle.gg_ast.specs.Places.{place_of};
 ghost use Rattle.gg_ast.specs.declared.statement.Stmt.{Stmt};
 ghost use Rattle.gg_shape_names.specs.Scope.{written as written_text};
-ghost use Rattle.gg_elab_sites.specs.Memories.{or_later};
+ghost use Rattle.gg_types.specs.Fields.{or_later};
 ghost use Rattle.gg_elab_sites.specs.Connection.{connection_in, connection_by};
 ghost use Rattle.gg_elab_sites.specs.Views.{connection, seen, source_at, TellsConnections};
 

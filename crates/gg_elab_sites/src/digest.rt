@@ -3,15 +3,15 @@ ghost use Rattle.std.specs.Prelude.{◌≡◌, ◌<◌, ◌^◌, map, length, op
 ghost use Rattle.gg_elab_count.specs.Sites.{held_by, held_by_kind, module_at};
 ghost use Rattle.gg_elab_sites.specs.Known.{types_of};
 ghost use Rattle.gg_elab_sites.specs.Signals.{own_bank, own_banks, bank_of_kind};
-ghost use Rattle.gg_elab_sites.specs.Views.{held_of, own_bank_of, bank_seen, IsDigest, AreDigests};
+ghost use Rattle.gg_elab_sites.specs.Views.{held_of, own_bank_of, IsDigest, AreDigests};
+ghost use Rattle.gg_types.specs.Memories.{bank_seen};
 
 use crate::connections::{Sinks, connections};
-use crate::memories::{Bank, bank_of};
 use crate::own::{OwnSignal, own_signals};
 use crate::stops::{OwnStop, stops};
 use gg_ast::{Circuit, Module, Stmt, StmtKind};
 use gg_bits::Name;
-use gg_types::Typed;
+use gg_types::{Bank, Typed, bank_of};
 use std::alloc::{AllocError, Global};
 
 /// An instance that a module holds.

@@ -17,7 +17,7 @@ use Rattle.gg_ast.specs.Tree.{ModuleTree, empty_module}
 use Rattle.gg_shape_names.specs.Scope.{written}
 use Rattle.gg_elab_tree.proofs.OwnLemmas.{front}
 use Rattle.gg_elab_sites.specs.Connection.{Connection, ConnectedTo, Zeroed, connection_by, connection_in}
-use Rattle.gg_elab_sites.specs.Memories.{Bank, bank_of, type_shape, or_later}
+use Rattle.gg_types.specs.Memories.{Bank, bank_of, type_shape, or_later}
 use Rattle.gg_elab_sites.specs.Signals.{Types, Cause, FromOutside, Connected, Expressed, Kept, Answered, Own, own, own_of_port, own_of_kind, cause_of_port, field_name, memory_signals, readers_signals, writer_signals}
 
 -- ---- names

@@ -24,7 +24,7 @@ use Rattle.gg_elab_count.specs.Sites.{Held, Site, top_site, module_at, held_at, 
 use Rattle.gg_elab_sites.specs.Flat.{FlatMemory, flat_memory, memories_at}
 use Rattle.gg_elab_sites.specs.IsFlat.{memory_paths}
 use Rattle.gg_elab_sites.specs.Known.{types_of}
-use Rattle.gg_elab_sites.specs.Memories.{Bank, bank_of, type_shape}
+use Rattle.gg_types.specs.Memories.{Bank, bank_of, type_shape}
 use Rattle.gg_elab_sites.specs.Signals.{Types, Cause, Connected, Expressed, Kept, Own, own, own_of_port, cause_of_port, own_of_kind, own_signals, own_stops, statement_signals, stop_signal, OwnBank, own_bank, own_banks, bank_of_kind, memory_signals}
 use Rattle.gg_elab_sites.proofs.FreshLemmas.{Differ-front}
 use Rattle.gg_elab_sites.proofs.NameLemmas.{Differ}

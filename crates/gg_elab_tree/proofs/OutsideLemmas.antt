@@ -17,7 +17,7 @@ use Rattle.gg_ast.specs.Tree.{ModuleTree}
 use Rattle.gg_elab_count.specs.Sites.{Held, Site, Outer, top_site, site_below, sites, all_sites, module_at, held_at}
 use Rattle.gg_elab_sites.specs.Flat.{FlatSignal, flat_signal, drive_of, signals_at, flat_signals}
 use Rattle.gg_elab_sites.specs.IsFlat.{number_of, is_outside, port_name, port_names, same_direction}
-use Rattle.gg_elab_sites.specs.Memories.{Bank, bank_of, type_shape}
+use Rattle.gg_types.specs.Memories.{Bank, bank_of, type_shape}
 use Rattle.gg_elab_sites.specs.Signals.{Types, Cause, FromOutside, Connected, Expressed, Kept, Answered, Own, own, own_of_port, cause_of_port, own_of_kind, own_signals, own_stops, statement_signals, stop_signal, memory_signals, readers_signals, writer_signals}
 use Rattle.gg_elab_sites.proofs.AmongLemmas.{MadeOf, in-filter_map, from-filter_map}
 use Rattle.gg_elab_sites.proofs.NameLemmas.{Differ, place_of-at}

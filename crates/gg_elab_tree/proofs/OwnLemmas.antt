@@ -15,7 +15,7 @@ use Rattle.gg_elab_count.specs.Sites.{Site, module_at, sites_of}
 use Rattle.gg_elab_sites.specs.Flat.{FlatSignal, flat_signal, flat_signals}
 use Rattle.gg_elab_tree.specs.IsTreeOf.{Pairwise, signal_paths, signal_ports, IsPortFor}
 use Rattle.gg_elab_sites.specs.Known.{types_of}
-use Rattle.gg_elab_sites.specs.Memories.{type_shape}
+use Rattle.gg_types.specs.Memories.{type_shape}
 use Rattle.gg_elab_sites.specs.Signals.{Own, own_of_port, own_signals, statement_signals}
 use Rattle.gg_elab_sites.proofs.NameLemmas.{Differ, place_of-at}
 use Rattle.gg_elab_tree.proofs.PlaceLemmas.{within-some, Placed}

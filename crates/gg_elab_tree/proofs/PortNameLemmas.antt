@@ -11,7 +11,7 @@ use Rattle.gg_ast.specs.declared.statement.MemoryField.TheVariants as field
 use Rattle.gg_flat.specs.declared.memory.UnderWrite.TheVariants.{Undefined}
 use Rattle.gg_shape_names.specs.Along.{along, along_from}
 use Rattle.gg_shape_names.specs.Repetitions.{repeated_in, ports_in_field, repeated_port_of, repeated_in_field}
-use Rattle.gg_elab_sites.specs.Memories.{Bank, bank_of, readers_said, writers_said, type_shape, first_said, type_said, depth_said, latency_said, under_said, latency_of}
+use Rattle.gg_types.specs.Memories.{Bank, bank_of, readers_said, writers_said, type_shape, first_said, type_said, depth_said, latency_said, under_said, latency_of}
 use Rattle.gg_elab_sites.specs.Signals.{Own, memory_signals, readers_signals, writer_signals}
 use Rattle.gg_elab_sites.proofs.FreshLemmas.{Differ-front}
 use Rattle.gg_elab_sites.proofs.NameLemmas.{Differ}

@@ -21,7 +21,7 @@ use Rattle.gg_elab_sites.specs.Flat.{flat_memory}
 use Rattle.gg_elab_sites.specs.IsFlat.{IsFlat, number_of, reader_of, writer_of, port_names, top_ports}
 use Rattle.gg_elab_tree.specs.IsTreeOf.{IsTreeOf, IsPortFor, signal_paths, signal_ports, is_input, Pairwise}
 use Rattle.gg_elab_sites.specs.Known.{types_of}
-use Rattle.gg_elab_sites.specs.Memories.{type_shape}
+use Rattle.gg_types.specs.Memories.{type_shape}
 use Rattle.gg_elab_sites.specs.Signals.{Own, own_of_port, own_stops, stop_signal, OwnBank, memory_signals}
 use Rattle.gg_elab_tree.proofs.PairwiseLemmas.{Pairwise-length}
 use Rattle.gg_elab_tree.proofs.PlaceLemmas.{Placed}

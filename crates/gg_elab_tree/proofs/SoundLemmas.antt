@@ -14,7 +14,7 @@ use Rattle.gg_elab_count.specs.Sites.{Site, module_at}
 use Rattle.gg_flat.proofs.ListLemmas.{filter-cases}
 use Rattle.gg_elab_tree.specs.IsTreeOf.{signal_ports}
 use Rattle.gg_elab_sites.specs.Known.{types_of}
-use Rattle.gg_elab_sites.specs.Memories.{type_shape}
+use Rattle.gg_types.specs.Memories.{type_shape}
 use Rattle.gg_elab_sites.specs.Signals.{Own, OwnBank, own_of_port, statement_signals}
 use Rattle.gg_elab_sites.proofs.NameLemmas.{Differ}
 use Rattle.gg_elab_tree.proofs.ElementLemmas.{element}

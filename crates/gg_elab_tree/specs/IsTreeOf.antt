@@ -18,7 +18,7 @@ use Rattle.gg_elab_sites.specs.Clocks.{clock_of, own_clocks}
 use Rattle.gg_elab_sites.specs.Flat.{Drive, Outside, Gets, Holds, Answers, FlatSignal, FlatMemory, signals_at, flat_signals, memories_at, flat_memories}
 use Rattle.gg_elab_sites.specs.IsFlat.{memory_paths, top_ports}
 use Rattle.gg_elab_sites.specs.Known.{types_of}
-use Rattle.gg_elab_sites.specs.Memories.{type_shape}
+use Rattle.gg_types.specs.Memories.{type_shape}
 use Rattle.gg_elab_sites.specs.Signals.{OwnStop, own_stops}
 
 -- ---- places by paths

@@ -18,7 +18,7 @@ use Rattle.gg_elab_sites.specs.Flat.{signals_at, flat_memory}
 use Rattle.gg_elab_sites.specs.Signals.{Cause, FromOutside, Connected, Expressed, Kept, Answered}
 use Rattle.gg_elab_tree.specs.IsTreeOf.{IsAt, Pairwise, is_input, IsMemoryFor, HeldMemory, held_memory, IsStopFor, HeldStop, held_stop}
 use Rattle.gg_elab_sites.specs.Known.{types_of}
-use Rattle.gg_elab_sites.specs.Memories.{type_shape}
+use Rattle.gg_types.specs.Memories.{type_shape}
 use Rattle.gg_elab_sites.specs.Views.{site_of, own_bank_of, own_stop_of}
 
 -- whether a port is a signal: a Clock isn't one, nor is what has a width that is 0 or above 128

@@ -13,9 +13,9 @@ ghost use Rattle.gg_elab_tree.specs.TreeParts.{is_signal, signals_among, IsPortA
 use crate::places::{copied, place_at};
 use gg_ast::{Direction, Port};
 use gg_bits::{AddError, Ids, Items, Name, Paths};
-use gg_elab_sites::{Around, Digest, OwnMemory, Place, Table, ground_type, joined};
+use gg_elab_sites::{Around, Digest, OwnMemory, Place, Table, joined};
 use gg_flat_tree::{ClockNumbers, Instance, InstancePort, Tree};
-use gg_types::Typed;
+use gg_types::{Typed, ground_type};
 use std::alloc::{AllocError, Global};
 
 // A number plus a count. Returns `AllocError` if the sum is 4,294,967,296 or more.

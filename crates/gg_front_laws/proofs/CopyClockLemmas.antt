@@ -7,7 +7,7 @@ use Rattle.gg_flat_tree.specs.Tree.{InstanceTree, memory_at}
 use Rattle.gg_elab_count.specs.Sites.{Held, Site, held_at, module_at, site_below, sites}
 use Rattle.gg_elab_sites.specs.Clocks.{clocks_given, own_clocks}
 use Rattle.gg_elab_sites.specs.Flat.{FlatMemory}
-use Rattle.gg_elab_sites.specs.Memories.{Bank}
+use Rattle.gg_types.specs.Memories.{Bank}
 use Rattle.gg_elab_tree.specs.IsTreeOf.{IsTreeOf, Pairwise, memories_of}
 use Rattle.gg_elab_tree.proofs.HeldMemoryLemmas.{memory-place}
 use Rattle.gg_elab_tree.proofs.OwnLemmas.{Pairwise-at}

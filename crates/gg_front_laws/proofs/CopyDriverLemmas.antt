@@ -33,7 +33,7 @@ use Rattle.gg_elab_sites.specs.Flat.{Scope, Drive, Outside, Gets, Holds, Answers
 use Rattle.gg_elab_sites.specs.IsFlat.{IsFlatOf, bindings_of, IsDrivenBy, HasReset, HasNext, IsRegisterOf, IsMemoryOf, reader_of, writer_of, answer, number_of, is_outside, is_register, count_before, signals_of, memory_paths}
 use Rattle.gg_elab_sites.specs.Lines.{taken_line, connected_line}
 use Rattle.gg_elab_sites.specs.Meaning.{Bindings, in_scope}
-use Rattle.gg_elab_sites.specs.Memories.{Bank}
+use Rattle.gg_types.specs.Memories.{Bank}
 use Rattle.gg_elab_sites.specs.Signals.{Types, Own, own_signals, FromOutside, field_name}
 use Rattle.gg_elab_sites.proofs.AmongLemmas.{element-at}
 use Rattle.gg_elab_sites.proofs.NameLemmas.{Differ, place_of-at}

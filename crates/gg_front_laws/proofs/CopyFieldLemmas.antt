@@ -8,7 +8,7 @@ use Rattle.gg_flat_tree.specs.Tree.{joined}
 use Rattle.gg_flat.proofs.ListLemmas.{Contains-map}
 use Rattle.gg_elab_count.specs.Sites.{Site, Outer, module_at}
 use Rattle.gg_elab_sites.specs.Flat.{Drive, Answers, Outside, Gets, Holds, FlatSignal, flat_signal, drive_of, signals_at, flat_signals, FlatMemory, flat_memory, memories_at, flat_memories}
-use Rattle.gg_elab_sites.specs.Memories.{Bank}
+use Rattle.gg_types.specs.Memories.{Bank}
 use Rattle.gg_elab_sites.specs.Signals.{Types, Cause, FromOutside, Connected, Expressed, Kept, Answered, Own, OwnBank, own_signals, own_banks, reader_signals, writer_signals, field_name}
 use Rattle.gg_elab_sites.proofs.AmongLemmas.{in-flat_map, from-flat_map, from-map}
 use Rattle.gg_elab_tree.proofs.BankFieldLemmas.{bank-signal, reader-among, writer-among}

@@ -18,7 +18,7 @@ use Rattle.gg_elab_count.specs.Sites.{Held, Site, module_at, held_at, site_below
 use Rattle.gg_elab_sites.specs.Flat.{FlatSignal, flat_signal, signals_at, flat_signals, FlatMemory, flat_memory, memories_at}
 use Rattle.gg_elab_sites.specs.IsFlat.{IsFlat}
 use Rattle.gg_elab_sites.specs.Known.{types_of}
-use Rattle.gg_elab_sites.specs.Memories.{Bank, bank_of, type_shape}
+use Rattle.gg_types.specs.Memories.{Bank, bank_of, type_shape}
 use Rattle.gg_elab_sites.specs.Signals.{Types, Cause, Connected, Expressed, Kept, Own, own, own_of_port, own_of_kind, own_signals, own_stops, stop_of_kind, stop_signal, OwnBank, own_bank, own_banks, bank_of_kind, cause_of_port, field_name, memory_signals, reader_signals, readers_signals, stop_name, writer_signals}
 use Rattle.gg_elab_sites.proofs.StopLemmas.{numbered-among}
 use Rattle.gg_elab_sites.proofs.AmongLemmas.{MadeOf, from-map, from-flat_map, from-filter_map, in-filter_map}

@@ -2,6 +2,7 @@ pub mod Literal
 pub mod Sorts
 pub mod Named
 pub mod Fields
+pub mod Memories
 pub mod Owned
 pub mod Clocks
 pub mod Places

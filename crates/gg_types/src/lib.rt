@@ -9,8 +9,9 @@
 //! which each comes after all that it has instances of. A port of an instance has the type that is written in its module,
 //! which may come later in the text. `Typed::clock` gives the Clock input that a reference follows.
 //!
-//! `literal` returns the type and the pattern of a literal. `is_width` is the test of a type's width. `said_type` and
-//! `said_depth` are what the fields of a memory say.
+//! `literal` returns the type and the pattern of a literal. `is_width` is the test of a type's width. `ground_type` is the
+//! type of a signal. `said_type` and `said_depth` are what the fields of a memory say, and `bank_of` is the memory that
+//! they make.
 #![tactic(auto)]
 
 mod checked;
@@ -26,7 +27,7 @@ pub use checked::Typed;
 pub use inputs::is_clock_input;
 pub use literals::literal;
 pub use lookup::sort_of_name;
-pub use memory::{said_depth, said_type};
+pub use memory::{Bank, bank_of, ground_type, said_depth, said_type};
 pub use sort::{Own, Sort, Typing, sort_of};
 pub use way::Way;
 pub use widths::is_width;

@@ -1,5 +1,6 @@
 use Rattle.std.proofs.Common.{◌≡◌, ◌++◌, map, drop}
-use Rattle.gg_elab_sites.specs.Views.{own_of, bank_seen}
+use Rattle.gg_elab_sites.specs.Views.{own_of}
+use Rattle.gg_types.specs.Memories.{bank_seen}
 use Rattle.gg_elab_sites.specs.Signals.{readers_signals}
 use Rattle.gg_elab_sites.proofs.own.add_readers.Given as goal
 
