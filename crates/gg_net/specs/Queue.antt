@@ -1,8 +1,9 @@
 -- The queue of a channel: its tokens, and the number of tokens for which there is room.
 -- Source: MEMOCODE 2009 (queues of a bounded length between the nodes of a network).
-use Rattle.std.specs.Prelude.{ℕ, List}
+use Rattle.std.specs.Prelude.{◌≡◌, ℕ, ◌-◌, ◌<◌, List, [], Option, MatchOption, length}
 use Rattle.std.specs.VecDeque.{deque_capacity}
 use Rattle.std.specs.declared.collections.VecDeque.{VecDeque}
+use Rattle.gg_flat.specs.Line.{value_at}
 
 -- The tokens of a queue, the front first, and the number of tokens for which there is room.
 pub record Held : Type 0 where
@@ -12,3 +13,11 @@ pub record Held : Type 0 where
 -- the tokens and the room of a deque of the standard library
 abbrev pub held_of : {Z : Type 0} → VecDeque ℕ Z → Held
 held_of tokens = record { tokens = tokens.items; room = deque_capacity tokens }
+
+-- This is the token at the back of a queue, if it has any.
+abbrev pub IsNewest : (queue : List ℕ) → Option ℕ → Type 0
+IsNewest queue newest = MatchOption newest
+    -- The queue is empty.
+    (queue ≡ [])
+    -- Or it has a token, and this is its last one.
+    (λ token. (0 < length queue) × (token ≡ value_at queue (length queue - 1)))

@@ -1,10 +1,10 @@
 //! `Net`: a network of machines.
-ghost use Rattle.std.specs.Prelude.{◌≡◌, ℕ, ◌-◌, ◌<◌, ◌≤◌, [], length, map, Contains, IfOk, MatchOption};
+ghost use Rattle.std.specs.Prelude.{◌≡◌, ℕ, ◌<◌, ◌≤◌, length, map, Contains, IfOk};
 ghost use Rattle.gg_bits.specs.Limits.{cycle_limit};
-ghost use Rattle.gg_flat.specs.Line.{value_at};
 ghost use Rattle.gg_node.specs.Machine.{machine_at};
 ghost use Rattle.gg_net.specs.Network.{wire_at, queue_at, puts, takes, serves, frame_of};
 ghost use Rattle.gg_net.specs.Kept.{Kept};
+ghost use Rattle.gg_net.specs.Queue.{IsNewest};
 ghost use Rattle.gg_net.specs.Stations.{machines_by};
 ghost use Rattle.gg_net.specs.Net.{AreListed, AreOpen, AreParts, IsWithinLimits, Opens, joined, opening_net};
 
@@ -256,9 +256,7 @@ impl<H: Host, Z: Streams> Net<H, Z> {
     /// The last token that has entered a channel, if it is still in the queue; None if the queue is empty.
     pub fn newest(&self, channel: u32) -> Option<u128>
         requires { channel < length self.now.wires }
-        ensures { MatchOption result (queue_at self.now.queues channel ≡ [])
-            (λ token. (0 < length (queue_at self.now.queues channel))
-            × (token ≡ value_at (queue_at self.now.queues channel) (length (queue_at self.now.queues channel) - 1))) }
+        ensures { IsNewest (queue_at self.now.queues channel) result }
     {
         self.queues[channel as usize].newest()
     }

@@ -1,8 +1,8 @@
 //! `Queue`: the tokens of a channel, in reserved memory.
-ghost use Rattle.std.specs.Prelude.{◌≡◌, ◌-◌, ◌<◌, ◌≤◌, ◌++◌, ◌∷◌, [], length, drop, IfOk, Some, None, MatchOption};
+ghost use Rattle.std.specs.Prelude.{◌≡◌, ◌<◌, ◌≤◌, ◌++◌, ◌∷◌, [], length, drop, IfOk, Some, None};
 ghost use Rattle.gg_flat.specs.Line.{value_at};
 ghost use Rattle.gg_net.specs.Network.{opening_queue};
-ghost use Rattle.gg_net.specs.Queue.{held_of};
+ghost use Rattle.gg_net.specs.Queue.{IsNewest, held_of};
 
 use std::alloc::{AllocError, Global};
 use std::collections::VecDeque;
@@ -69,7 +69,7 @@ impl Queue {
 
     /// The token at the back, if there is one.
     pub fn newest(&self) -> Option<u128>
-        ensures { MatchOption result (self.now.tokens ≡ []) (λ token. (0 < length self.now.tokens) × (token ≡ value_at self.now.tokens (length self.now.tokens - 1))) }
+        ensures { IsNewest self.now.tokens result }
     {
         self.tokens.back().copied()
     }
