@@ -6,10 +6,12 @@ use Rattle.gg_flat.specs.Line.{value_at}
 use Rattle.gg_flat.specs.Streams.{Flow}
 use Rattle.gg_link.specs.Seats.{SeatState}
 use Rattle.gg_node.specs.Machine.{Machine, machine_at, latch_at, flag_at, missing}
+use Rattle.gg_net.specs.declared.shape.Station.{Station}
 use Rattle.gg_net.specs.Network.{Network, wire_at, queue_at, given_by, kind_of, Frame, frame_of, takes, puts, serves}
 use Rattle.gg_net.specs.Kept.{MachineAt}
 use Rattle.gg_net.specs.Parted.{takes_by, enters_by}
 use Rattle.gg_net.specs.Step.{CanLatch, CanFire, CanServe, CanFinish}
+use Rattle.gg_workers_pass.specs.declared.machine_seats.MachineSeats.{MachineSeats}
 use Rattle.gg_workers_pass.specs.Tries.{StandsBelow, ServeIsDue, FinishIsDue}
 use Rattle.gg_workers_pass.specs.Rows.{SeatsByPlace}
 
@@ -68,3 +70,23 @@ pub record EventsDone (net : Network) (m upto : ℕ) (y : Machine) : Type 0 wher
   pub fire : (c : ℕ) → CanFire net c → (wire_at net.wires c).producer ≡ m → StandsBelow upto (machine_at net.machines m) → puts net c < puts_by (frame_of net) y c
   pub serve : (p : ℕ) → CanServe net m p → StandsBelow upto (machine_at net.machines m) → serves net m < serves_by y
   pub finish : CanFinish net m → StandsBelow upto (machine_at net.machines m) → (machine_at net.machines m).cycle < y.cycle
+
+-- ---- the machine at a station, at the station's thread of these machines of a host
+
+module _ {X S T : Type 0} (takes_from : X → S → Type 0) (puts_into : X → T → Type 0) (taking : S → SeatState) (putting : T → SeatState) (flow : Flow) (net : Network) (links : List X) where
+  -- It can be machine m, and has these seats of the channels at the station.
+  abbrev pub HasSeatsAt : ℕ → Station → List Machine → MachineSeats S T → Type 0
+  HasSeatsAt m station machines machine_seats = HasSeats takes_from puts_into taking putting flow net links m station.ins station.outs (machine_at machines station.thread) machine_seats.takes.items machine_seats.puts.items
+
+module _ {S T : Type 0} (taking : S → SeatState) (putting : T → SeatState) where
+  -- What these seats knew that the first could do was done. It is now the second.
+  abbrev pub KnownDoneAt : Frame → ℕ → Station → List Machine → MachineSeats S T → List Machine → Type 0
+  KnownDoneAt frame upto station old machine_seats new = KnownDone taking putting frame upto station.ins station.outs (machine_at old station.thread) machine_seats.takes.items machine_seats.puts.items (machine_at new station.thread)
+
+  -- A first pass does all that the network could do.
+  abbrev pub DoneAtFirst : Network → ℕ → Station → List Machine → MachineSeats S T → List Machine → Type 0
+  DoneAtFirst net upto station old machine_seats new =
+      -- The machine was as in the network, and these seats were new.
+      HasNewSeats taking putting net machine_seats.machine station.ins station.outs (machine_at old station.thread) machine_seats.takes.items machine_seats.puts.items
+      -- Each of its events that could be done in the network was done.
+      → EventsDone net machine_seats.machine upto (machine_at new station.thread)

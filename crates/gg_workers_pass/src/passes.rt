@@ -5,7 +5,7 @@ ghost use Rattle.gg_net.specs.Network.{frame_of, kind_at};
 ghost use Rattle.gg_net.specs.Kept.{Kept};
 ghost use Rattle.gg_net.specs.Net.{IsListed};
 ghost use Rattle.gg_workers_pass.specs.Rows.{StepsDone};
-ghost use Rattle.gg_workers_pass.specs.Pass.{HasSeats, MachineWentOn, KnownDone, HasNewSeats, EventsDone};
+ghost use Rattle.gg_workers_pass.specs.Pass.{MachineWentOn, HasSeatsAt, KnownDoneAt, DoneAtFirst};
 
 use crate::era::Era;
 use crate::machine_seats::MachineSeats;
@@ -30,21 +30,13 @@ pub fn pass<H: Host, L: Link, Z: Streams, E: Era>(
     requires here { (length links.now ≡ length E.start.wires) × (machine_seats.old.machine < length E.start.machines) × (upto ≤ E.start.end) }
     requires thread { station.now.thread < length (H.machines host.old) }
     requires listed { IsListed E.start.wires machine_seats.old.machine (kind_at (frame_of E.start).kinds machine_seats.old.machine) station.now }
-    requires machine_seats { HasSeats L.takes_from L.puts_into L.taking L.putting Z.flow E.start links.now
-        machine_seats.old.machine station.now.ins station.now.outs
-        (machine_at (H.machines host.old) station.now.thread) machine_seats.old.takes.items machine_seats.old.puts.items }
+    requires machine_seats { HasSeatsAt L.takes_from L.puts_into L.taking L.putting Z.flow E.start links.now machine_seats.old.machine station.now (H.machines host.old) machine_seats.old }
     ensures machine { machine_seats.new.machine ≡ machine_seats.old.machine }
-    ensures machine_seats { HasSeats L.takes_from L.puts_into L.taking L.putting Z.flow E.start links.now
-        machine_seats.old.machine station.now.ins station.now.outs
-        (machine_at (H.machines host.new) station.now.thread) machine_seats.new.takes.items machine_seats.new.puts.items }
+    ensures machine_seats { HasSeatsAt L.takes_from L.puts_into L.taking L.putting Z.flow E.start links.now machine_seats.old.machine station.now (H.machines host.new) machine_seats.new }
     ensures alone { H.machines host.new ≡ slice_set (H.machines host.old) station.now.thread (machine_at (H.machines host.new) station.now.thread) }
     ensures went_on { MachineWentOn (frame_of E.start) machine_seats.old.machine upto (machine_at (H.machines host.old) station.now.thread) (machine_at (H.machines host.new) station.now.thread) }
-    ensures done { KnownDone L.taking L.putting (frame_of E.start) upto station.now.ins station.now.outs
-        (machine_at (H.machines host.old) station.now.thread) machine_seats.old.takes.items machine_seats.old.puts.items
-        (machine_at (H.machines host.new) station.now.thread) }
-    ensures first { HasNewSeats L.taking L.putting E.start machine_seats.old.machine station.now.ins station.now.outs
-        (machine_at (H.machines host.old) station.now.thread) machine_seats.old.takes.items machine_seats.old.puts.items
-        → EventsDone E.start machine_seats.old.machine upto (machine_at (H.machines host.new) station.now.thread) }
+    ensures done { KnownDoneAt L.taking L.putting (frame_of E.start) upto station.now (H.machines host.old) machine_seats.old (H.machines host.new) }
+    ensures first { DoneAtFirst L.taking L.putting E.start upto station.now (H.machines host.old) machine_seats.old (H.machines host.new) }
     ensures stepped { StepsDone (H.machines host.old) station.now.thread (H.machines host.new) result }
 {
     let thread = station.thread;
