@@ -126,6 +126,15 @@ pub record IsOpeningFrom (plan : Plan) (start : Start) (token : ℕ → ℕ) (co
   pub built : AreBuilt plan (body_start start) columns machines
   pub is : net ≡ opening_net machines (wires_of_plan token plan) n
 
+-- A network is that of the plan before its first step from where `begin` tells to begin, with n cycles to do in all.
+abbrev pub IsOpeningAt : Plan → Begin → (columns : List (List ℕ)) → (n : ℕ) → Network → Type 0
+IsOpeningAt plan begin columns n net =
+    (design : Ordered) (request : Request) (start : Start)
+    -- `begin` tells this start, with the tokens for this design and this request.
+    → Begins design request plan start begin
+    -- The machines begin with their parts of the start, and each pipe has the token that the start's state gives its register.
+    → IsOpeningFrom plan start (plan_token design request start.state) columns n net
+
 -- What both ways to begin have in common: each machine begins with its part of a start, and each pipe with its token.
 pub record IsToStart (plan : Plan) (begin : Begin) (columns : List (List ℕ)) (n : ℕ) (flow : Flow) : Type 0 where
   pub design : Ordered

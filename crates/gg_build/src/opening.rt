@@ -1,10 +1,6 @@
 //! `build`, `build_from`: the network of a plan.
 ghost use Rattle.std.specs.Prelude.{◌≡◌, IfOk};
-ghost use Rattle.gg_flat.specs.Run.{Start};
-ghost use Rattle.gg_order.specs.Design.{Ordered};
-ghost use Rattle.gg_partfile.specs.declared.request.Request.{Request};
-ghost use Rattle.gg_cut_reference.specs.Follows.{plan_token};
-ghost use Rattle.gg_build.specs.Build.{Begins, HasBridges, IsOpeningFrom, IsOpeningOf, IsStarted, IsToBegin, IsToRun, IsToStart};
+ghost use Rattle.gg_build.specs.Build.{HasBridges, IsOpeningAt, IsOpeningOf, IsStarted, IsToBegin, IsToRun, IsToStart};
 
 use crate::begin::Begin;
 use crate::node::Node;
@@ -90,9 +86,7 @@ pub fn build_from<'a, B: Bridge + Send + Drop, Z: Streams>(
 ) -> Result<Net<Node<'a, B>, Z>, AllocError>
     requires run { IsToBegin plan.now begin.now trace.now.columns trace.now.rows Z.flow }
     requires bridges { HasBridges B.piece B.state plan.now bridges.items }
-    ensures { IfOk result (λ net. (design : Ordered) (request : Request) (start : Start)
-        → Begins design request plan.now start begin.now
-        → IsOpeningFrom plan.now start (plan_token design request start.state) trace.now.columns trace.now.rows net) }
+    ensures { IfOk result (λ net. IsOpeningAt plan.now begin.now trace.now.columns trace.now.rows net) }
 {
     let net = started::<B, Z>(alloc, plan, trace, begin, bridges)?;
     Ok(net)
