@@ -14,6 +14,7 @@ use Rattle.gg_build_laws.specs.Built.{tray_rows}
 use Rattle.gg_command.specs.declared.endings.Ending.{Ending}
 use Rattle.gg_command.specs.declared.endings.Ending.TheVariants.{NoMemory}
 use Rattle.gg_run.specs.Rows.{AreTraysOf, StandsAt, TraysKeep, run_row}
+use Rattle.gg_run.specs.RunTaken.{TakesTheRow, TakesTheRun, TakesTheWindow}
 use Rattle.gg_run.specs.Taken.{IsRanOut, Ran, TakesSome, Took, TookTo, WentBy}
 use Rattle.gg_run.specs.Taken.Took.{Wants}
 use Rattle.gg_run.specs.Window.{window_end}
@@ -62,26 +63,7 @@ pub record WindowsRan {T : Type 0} (takes : T → ℕ → List ℕ → T → Res
   pub kept : (plan : Plan) (start : Start) (columns : List (List ℕ)) (n : ℕ) (run : IsToRunFrom plan start columns n flow) → IsOpeningFrom plan start (run_token run) columns n opening → start.cycle ≡ begin
       → KeptTo flow opening plan start columns n begin begun run
 
--- what all windows owe
-abbrev pub WindowsOf : {T : Type 0} (takes : T → ℕ → List ℕ → T → Result Bool Ending → Type 0) (flow : Flow) (opening : Network) (first count begin : ℕ) (before now : T) (result : Result Bool Ending) → Type 0
-WindowsOf takes flow opening first count begin before now result =
-    (plan : Plan) (start : Start) (columns : List (List ℕ)) (n : ℕ) (run : IsToRunFrom plan start columns n flow) → IsOpeningFrom plan start (run_token run) columns n opening → start.cycle ≡ begin → AreTraysOf run first count
-    → Ran takes (run_row run) opening (first_kept_tray (plan_bridges run.design.circuit run.design.tree run.request)) begin (n - begin) before now result
-
--- what a window owes
-abbrev pub WindowOf : {T : Type 0} (takes : T → ℕ → List ℕ → T → Result Bool Ending → Type 0) (flow : Flow) (net : Network) (first count begun upto : ℕ) (middle now : T) (result : Result Bool Ending) → Type 0
-WindowOf {T = T} takes flow net first count begun upto middle now result =
-    (plan : Plan) (start : Start) (columns : List (List ℕ)) (n : ℕ) (run : IsToRunFrom plan start columns n flow) (before : T) → StandsAt plan start (run_token run) columns n upto net
-    → AreTraysOf run first count → start.cycle ≤ begun → begun ≤ upto → upto ≤ begun + tray_rows
-    → TookTo takes (run_row run) start.cycle before (begun - start.cycle) middle → (taken : ℕ) × Took takes (run_row run) start.cycle (upto - start.cycle) taken before now result
-
 -- ---- the rows of a window
-
--- what is handed over of a cycle
-abbrev pub CycleOf : {T : Type 0} (takes : T → ℕ → List ℕ → T → Result Bool Ending → Type 0) (flow : Flow) (net : Network) (first count cycle : ℕ) (now later : T) (answer : Result Bool Ending) → Type 0
-CycleOf takes flow net first count cycle now later answer =
-    (plan : Plan) (start : Start) (columns : List (List ℕ)) (n upto : ℕ) (run : IsToRunFrom plan start columns n flow) → StandsAt plan start (run_token run) columns n upto net
-    → start.cycle ≤ cycle → AreTraysOf run first count → cycle < upto → upto ≤ cycle + tray_rows → takes now cycle (run_row run cycle) later answer
 
 -- The rows from `begun` on and before a cycle were taken.
 pub record RowsTaken {T : Type 0} (takes : T → ℕ → List ℕ → T → Result Bool Ending → Type 0) (flow : Flow) (net : Network) (begun upto first count : ℕ) (middle now : T) (cycle : ℕ) : Type 0 where
@@ -97,7 +79,7 @@ taken-start = record { low = omega arith; went = went-none; took = λ plan start
 module _ {T : Type 0} {takes : T → ℕ → List ℕ → T → Result Bool Ending → Type 0} {flow : Flow} {net : Network} {begun upto first count : ℕ} {middle now : T} {cycle : ℕ}
     (taken : RowsTaken takes flow net begun upto first count middle now cycle) where
   -- all rows of the window
-  pub taken-all : upto ≤ cycle → cycle ≤ upto → WindowOf takes flow net first count begun upto middle now (Ok true)
+  pub taken-all : upto ≤ cycle → cycle ≤ upto → TakesTheWindow takes flow net first count begun upto middle now (Ok true)
   taken-all ge le plan start columns n run before stands counted from low near begins =
       let begin = start.cycle in
       let all : cycle - begin ≡ upto - begin = omega (arith, ge, le) in
@@ -105,14 +87,14 @@ module _ {T : Type 0} {takes : T → ℕ → List ℕ → T → Result Bool Endi
 
   module _ (lt : cycle < upto) (count' : ℕ) (same : count' ≡ count) (later : T) where
     -- the row of the cycle, by the number of rows before it
-    row-so : (answer : Result Bool Ending) → CycleOf takes flow net first count' cycle now later answer
+    row-so : (answer : Result Bool Ending) → TakesTheRow takes flow net first count' cycle now later answer
         → (plan : Plan) (start : Start) (columns : List (List ℕ)) (n : ℕ) (run : IsToRunFrom plan start columns n flow) → StandsAt plan start (run_token run) columns n upto net → AreTraysOf run first count → start.cycle ≤ begun → upto ≤ begun + tray_rows
         → takes now (start.cycle + (cycle - start.cycle)) (run_row run (start.cycle + (cycle - start.cycle))) later answer
     row-so answer row plan start columns n run stands counted from near =
         row-there takes (run_row run) start.cycle now cycle (cycle - start.cycle) now later answer (omega (arith, from, taken.low))
         (row plan start columns n upto run stands (omega (arith, from, taken.low)) (record { begin = counted.begin; many = same ∙ counted.many }) lt (omega (arith, near, taken.low)))
 
-    pub taken-next : (goes_on : Bool) → goes_on ≡ true → TakesSome takes now later (Ok goes_on) → CycleOf takes flow net first count' cycle now later (Ok goes_on) → RowsTaken takes flow net begun upto first count middle later (cycle + 1)
+    pub taken-next : (goes_on : Bool) → goes_on ≡ true → TakesSome takes now later (Ok goes_on) → TakesTheRow takes flow net first count' cycle now later (Ok goes_on) → RowsTaken takes flow net begun upto first count middle later (cycle + 1)
     taken-next goes_on on some row =
         record {
           low = omega (arith, taken.low);
@@ -124,13 +106,13 @@ module _ {T : Type 0} {takes : T → ℕ → List ℕ → T → Result Bool Endi
               (took-next takes (run_row run) begin before (cycle - begin) now later goes_on on (taken.took plan start columns n run before stands counted from low near begins) (row-so (Ok goes_on) row plan start columns n run stands counted from near));
         }
 
-    pub taken-last : (goes_on : Bool) → goes_on ≡ false → CycleOf takes flow net first count' cycle now later (Ok goes_on) → WindowOf takes flow net first count begun upto middle later (Ok false)
+    pub taken-last : (goes_on : Bool) → goes_on ≡ false → TakesTheRow takes flow net first count' cycle now later (Ok goes_on) → TakesTheWindow takes flow net first count begun upto middle later (Ok false)
     taken-last goes_on off row plan start columns n run before stands counted from low near begins =
         let begin = start.cycle in
         let below : cycle - begin < upto - begin = omega (arith, lt, from, taken.low) in
         (suc (cycle - begin), took-last takes (run_row run) begin before (cycle - begin) (upto - begin) now later goes_on off below (taken.took plan start columns n run before stands counted from low near begins) (row-so (Ok goes_on) row plan start columns n run stands counted from near))
 
-    pub taken-fails : (ending : Ending) (r : Result Bool Ending) → r ≡ Err ending → CycleOf takes flow net first count' cycle now later (Err ending) → WindowOf takes flow net first count begun upto middle later r
+    pub taken-fails : (ending : Ending) (r : Result Bool Ending) → r ≡ Err ending → TakesTheRow takes flow net first count' cycle now later (Err ending) → TakesTheWindow takes flow net first count begun upto middle later r
     taken-fails ending r ends row plan start columns n run before stands counted from low near begins =
         let begin = start.cycle in
         let below : cycle - begin < upto - begin = omega (arith, lt, from, taken.low) in
@@ -153,7 +135,7 @@ ran-start {takes = takes} {begin = begin} {before = before} all within =
 module _ {T : Type 0} {takes : T → ℕ → List ℕ → T → Result Bool Ending → Type 0} {flow : Flow} {opening : Network} {first count begin : ℕ} {before now : T} {begun : ℕ} {net : Network}
     (ran : WindowsRan takes flow opening first count begin before now begun net) where
   -- all windows are done
-  pub ran-all : opening.end ≤ begun → WindowsOf takes flow opening first count begin before now (Ok true)
+  pub ran-all : opening.end ≤ begun → TakesTheRun takes flow opening begin first count before now (Ok true)
   ran-all past plan start columns n run opens from counted =
       let end : opening.end ≡ n = ap (λ (x : Network). x.end) opens.is in
       let all : begun ≡ n = omega (arith, past, ran.within, end) in
@@ -167,7 +149,7 @@ module _ {T : Type 0} {takes : T → ℕ → List ℕ → T → Result Bool Endi
   ran-out past = let end : begun ≡ opening.end = omega (arith, past, ran.within) in record { frame = ran.frame; stands = λ e. subst (λ cycle. AllStandAt cycle net) end ran.all }
 
   -- the next can't be run for want of memory
-  pub ran-wants : {r : Result Bool Ending} → r ≡ Err NoMemory → WindowsOf takes flow opening first count begin before now r
+  pub ran-wants : {r : Result Bool Ending} → r ≡ Err NoMemory → TakesTheRun takes flow opening begin first count before now r
   ran-wants e plan start columns n run opens from counted =
       record {
         count = begun - begin;
@@ -196,14 +178,14 @@ module _ {T : Type 0} {takes : T → ℕ → List ℕ → T → Result Bool Endi
         (λ (now : begun ≤ t). trays-keep plan start columns n flow run opening opens next stays (same ∙ ran.frame) upto t all (omega (arith, from, there)) lt (omega (arith, near, now)))
         (cases_lt t begun)
 
-    window-so : (later : T) (r : Result Bool Ending) → WindowOf takes flow next first count' begun upto now later r → (plan : Plan) (start : Start) (columns : List (List ℕ)) (n : ℕ) (run : IsToRunFrom plan start columns n flow) → IsOpeningFrom plan start (run_token run) columns n opening
+    window-so : (later : T) (r : Result Bool Ending) → TakesTheWindow takes flow next first count' begun upto now later r → (plan : Plan) (start : Start) (columns : List (List ℕ)) (n : ℕ) (run : IsToRunFrom plan start columns n flow) → IsOpeningFrom plan start (run_token run) columns n opening
         → start.cycle ≡ begin → AreTraysOf run first count → (taken : ℕ) × Took takes (run_row run) begin (upto - begin) taken before later r
     window-so later r window plan start columns n run opens from counted =
         let took = subst (λ b. TookTo takes (run_row run) b before (begun - b) now) (sym from) (ran.took plan start columns n run opens from counted) in
         subst (λ b. (taken : ℕ) × Took takes (run_row run) b (upto - b) taken before later r) from
         (window plan start columns n run before (next-stands plan start columns n run opens) (record { begin = counted.begin; many = counts ∙ counted.many }) (omega (arith, from, ran.low)) low near took)
 
-    pub ran-next : (later : T) (goes_on : Bool) → goes_on ≡ true → WentBy takes now later (Ok goes_on) → WindowOf takes flow next first count' begun upto now later (Ok goes_on) → WindowsRan takes flow opening first count begin before later upto next
+    pub ran-next : (later : T) (goes_on : Bool) → goes_on ≡ true → WentBy takes now later (Ok goes_on) → TakesTheWindow takes flow next first count' begun upto now later (Ok goes_on) → WindowsRan takes flow opening first count begin before later upto next
     ran-next later goes_on on went window =
         record {
           frame = same ∙ ran.frame;
@@ -217,7 +199,7 @@ module _ {T : Type 0} {takes : T → ℕ → List ℕ → T → Result Bool Endi
         }
 
     -- the rows end in this window: the last was taken, or one couldn't be taken
-    pub ran-ends : (later : T) (r r' : Result Bool Ending) → r ≡ r' → (r ≡ Ok true → ⊥) → WindowOf takes flow next first count' begun upto now later r → WindowsOf takes flow opening first count begin before later r'
+    pub ran-ends : (later : T) (r r' : Result Bool Ending) → r ≡ r' → (r ≡ Ok true → ⊥) → TakesTheWindow takes flow next first count' begun upto now later r → TakesTheRun takes flow opening begin first count before later r'
     ran-ends later r r' is ended window plan start columns n run opens from counted =
         let so = window-so later r window plan start columns n run opens from counted in
         let end : upto - begin ≤ n - begin = omega (arith, most, ap (λ (x : Network). x.end) opens.is) in

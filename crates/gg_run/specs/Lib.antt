@@ -7,3 +7,4 @@ pub mod Printed
 pub mod Sums
 pub mod NetOfPlan
 pub mod RunPrinted
+pub mod RunTaken

@@ -1,14 +1,10 @@
 //! `print_net`, `print_from`: the run of the reference circuit of a plan is printed from the plan's network.
-ghost use Rattle.std.specs.Prelude.{◌≡◌, ◌+◌, ◌-◌, ◌≤◌, IfOk, length};
+ghost use Rattle.std.specs.Prelude.{◌≡◌, ◌+◌, ◌≤◌, IfOk, length};
 ghost use Rattle.gg_build.specs.Build.{HasBridges, IsToRun};
-ghost use Rattle.gg_cut_plan.specs.declared.plan.Plan.{Plan};
 ghost use Rattle.gg_measure.specs.Nets.{AllStandAt};
-ghost use Rattle.gg_cut_plan.specs.Seated.{first_kept_tray, plan_bridges};
 ghost use Rattle.gg_bridged.specs.Whole.{plan_circuit};
-ghost use Rattle.gg_run.specs.Printed.{AreKept, out_columns, plan_stops, rows_to, text_of};
-ghost use Rattle.gg_command.specs.Endings.{PrintsOn};
 ghost use Rattle.gg_command.specs.WentOn.{SinkWentOn};
-ghost use Rattle.gg_run.specs.RunPrinted.{PrintsTheRest, RestIsKept};
+ghost use Rattle.gg_run.specs.RunPrinted.{PrintsTheRest, PrintsTheRun, RestIsKept, RunIsKept};
 
 use crate::printer::RowPrinter;
 use crate::run::run_rows;
@@ -102,10 +98,8 @@ pub fn print_net<R: Threads + Sync, B: Bridge + Send + Drop, Z: Streams, K: Sink
     requires few { workers ≤ 64 }
     requires bridges { HasBridges B.piece B.state plan.now bridges.items }
     requires run { (run : IsToRun plan.now inputs.now.columns inputs.now.rows Z.flow) × ((run.design ≡ design.now) × (length ports.now ≤ length (plan_circuit run.design run.request run.models).outs)) }
-    ensures prints { (run : IsToRun plan.now inputs.now.columns inputs.now.rows Z.flow) → run.design ≡ design.now
-        → PrintsOn K.Sink out.old out.new (text_of (plan_stops run.design run.request) (plan_circuit run.design run.request run.models) ports.now run.rows inputs.now.rows) result }
-    ensures kept { IfOk result (λ done. (run : IsToRun plan.now inputs.now.columns inputs.now.rows Z.flow) → run.design ≡ design.now
-        → AreKept plan.now inputs.now.columns inputs.now.rows (first_kept_tray (plan_bridges run.design.circuit run.design.tree run.request)) (rows_to (plan_stops run.design run.request) (plan_circuit run.design run.request run.models) ports.now run.rows inputs.now.rows) (out_columns (plan_circuit run.design run.request run.models) run.rows)) }
+    ensures prints { PrintsTheRun Z.flow design.now plan.now inputs.now.columns inputs.now.rows ports.now K.Sink out.old out.new result }
+    ensures kept { IfOk result (λ done. RunIsKept Z.flow design.now plan.now inputs.now.columns inputs.now.rows ports.now) }
     ensures out { SinkWentOn K.Sink out.old out.new }
 {
     let trays = trays_of(plan);

@@ -1,14 +1,9 @@
 //! `run_rows`: a network is run window by window, and its rows are handed over.
-ghost use Rattle.std.specs.Prelude.{◌≡◌, ◌+◌, ◌-◌, ◌<◌, ◌≤◌, ℕ, List, IfOk, length};
-ghost use Rattle.gg_build.specs.Build.{IsOpeningFrom, IsToRunFrom, run_token};
+ghost use Rattle.std.specs.Prelude.{◌+◌, ◌≤◌, IfOk, length};
 ghost use Rattle.gg_bits.specs.Limits.{cycle_limit};
-ghost use Rattle.gg_flat.specs.Run.{Start};
-ghost use Rattle.gg_cut_plan.specs.Seated.{first_kept_tray, plan_bridges};
-ghost use Rattle.gg_cut_plan.specs.declared.plan.Plan.{Plan};
 ghost use Rattle.gg_measure.specs.Nets.{AllStandAt};
-ghost use Rattle.gg_build_laws.specs.Built.{tray_rows};
-ghost use Rattle.gg_run.specs.Rows.{AreTraysOf, StandsAt, run_row};
-ghost use Rattle.gg_run.specs.Taken.{IsRanOut, Ran, TakesSome, Took, TookTo, WentBy, answer_of};
+ghost use Rattle.gg_run.specs.RunTaken.{TakesTheRow, TakesTheRun, TakesTheWindow};
+ghost use Rattle.gg_run.specs.Taken.{IsRanOut, TakesSome, WentBy, answer_of};
 
 use crate::rows::output_values;
 use crate::taking::Rows;
@@ -34,9 +29,7 @@ fn take_cycle<B: Bridge + Send + Drop, Z: Streams, T, W: Rows<T>>(
     requires within { cycle ≤ cycle_limit }
     requires outs { first + length outs.old ≤ length net.now.machines }
     requires can { W.can_take rows.now (length outs.old) }
-    ensures row { (plan : Plan) (start : Start) (columns : List (List ℕ)) (n upto : ℕ) (run : IsToRunFrom plan start columns n Z.flow) → StandsAt plan start (run_token run) columns n upto net.now
-        → start.cycle ≤ cycle → AreTraysOf run first (length outs.old) → cycle < upto → upto ≤ cycle + tray_rows
-        → W.takes rows.now taken.old cycle (run_row run cycle) taken.new result }
+    ensures row { TakesTheRow (W.takes rows.now) Z.flow net.now first (length outs.old) cycle taken.old taken.new result }
     ensures some { TakesSome (W.takes rows.now) taken.old taken.new result }
 {
     output_values(net, first, cycle, outs);
@@ -56,10 +49,7 @@ fn take_window<B: Bridge + Send + Drop, Z: Streams, T, W: Rows<T>>(
     requires within { upto ≤ cycle_limit }
     requires outs { first + length outs.old ≤ length net.now.machines }
     requires can { W.can_take rows.now (length outs.old) }
-    ensures rows { (plan : Plan) (start : Start) (columns : List (List ℕ)) (n : ℕ) (run : IsToRunFrom plan start columns n Z.flow) (before : T) → StandsAt plan start (run_token run) columns n upto net.now
-        → AreTraysOf run first (length outs.old) → start.cycle ≤ begun → begun ≤ upto → upto ≤ begun + tray_rows
-        → TookTo (W.takes rows.now) (run_row run) start.cycle before (begun - start.cycle) taken.old
-        → (count : ℕ) × Took (W.takes rows.now) (run_row run) start.cycle (upto - start.cycle) count before taken.new result }
+    ensures rows { TakesTheWindow (W.takes rows.now) Z.flow net.now first (length outs.old) begun upto taken.old taken.new result }
     ensures went { WentBy (W.takes rows.now) taken.old taken.new result }
 {
     for cycle in begun..upto {
@@ -105,8 +95,7 @@ pub fn run_rows<
     requires within { begin ≤ net.end }
     requires outs { first + length outs.old ≤ length net.machines }
     requires can { W.can_take rows.now (length outs.old) }
-    ensures ran { (plan : Plan) (start : Start) (columns : List (List ℕ)) (n : ℕ) (run : IsToRunFrom plan start columns n Z.flow) → IsOpeningFrom plan start (run_token run) columns n net.entry → start.cycle ≡ begin → AreTraysOf run first (length outs.old)
-        → Ran (W.takes rows.now) (run_row run) net.entry (first_kept_tray (plan_bridges run.design.circuit run.design.tree run.request)) begin (n - begin) taken.old taken.new (answer_of result) }
+    ensures ran { TakesTheRun (W.takes rows.now) Z.flow net.entry begin first (length outs.old) taken.old taken.new (answer_of result) }
     ensures out { IfOk result (λ r. IsRanOut net.entry r.0 r.1) }
     ensures went { WentBy (W.takes rows.now) taken.old taken.new (answer_of result) }
 {

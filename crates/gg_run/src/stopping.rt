@@ -1,13 +1,9 @@
 //! `run_to_stop`: a network is run, and looked at for a stop.
-ghost use Rattle.std.specs.Prelude.{◌≡◌, ◌+◌, ◌≤◌, ℕ, List, IfOk, IfErr, None, length};
-ghost use Rattle.gg_build.specs.Build.{IsOpeningOf, IsToRun, run_from_zeros};
-ghost use Rattle.gg_cut_plan.specs.declared.plan.Plan.{Plan};
-ghost use Rattle.gg_flat.specs.declared.ports.Port.{Port};
+ghost use Rattle.std.specs.Prelude.{◌≡◌, ◌+◌, ◌≤◌, IfOk, IfErr, None, length};
 ghost use Rattle.gg_measure.specs.Nets.{AllStandAt};
 ghost use Rattle.gg_net.specs.Network.{frame_of};
-ghost use Rattle.gg_bridged.specs.Whole.{plan_circuit};
-ghost use Rattle.gg_run.specs.Printed.{IsFirst, SeesStop, ends_run, plan_stops};
-ghost use Rattle.gg_run.specs.Rows.{AreTraysOf};
+ghost use Rattle.gg_run.specs.Printed.{SeesStop};
+ghost use Rattle.gg_run.specs.RunPrinted.{IsFirstStop};
 
 use crate::run::run_rows;
 use crate::taking::Rows;
@@ -67,8 +63,7 @@ pub fn run_to_stop<'n, R: Threads + Sync, B: Bridge + Send + Drop, Z: Streams, G
     requires opening { AllStandAt 0 net }
     requires trays { trays.first + trays.count ≤ length net.machines }
     requires shown { shown ≤ trays.count }
-    ensures first { IfOk result (λ r. (plan : Plan) (columns : List (List ℕ)) (n : ℕ) (ports : List Port) (run : IsToRun plan columns n Z.flow) → IsOpeningOf plan columns n net.entry → AreTraysOf (run_from_zeros run) trays.first trays.count
-        → shown ≡ length ports → stops.now ≡ plan_stops run.design run.request → IsFirst (ends_run (plan_stops run.design run.request) (plan_circuit run.design run.request run.models) ports run.rows cycles) n r.1) }
+    ensures first { IfOk result (λ r. IsFirstStop Z.flow net.entry trays.first trays.count stops.now shown cycles r.1) }
     ensures frame { IfOk result (λ r. frame_of r.0 ≡ frame_of net.entry) }
     ensures stands { IfOk result (λ r. r.1 ≡ None → AllStandAt net.entry.end r.0) }
     ensures refused { IfErr result (λ ending. ending ≡ Ending.NoMemory) }
