@@ -35,7 +35,7 @@ TakesTheWindow {T = T} takes flow net first count begun upto old new answer =
     -- The rows before the window were taken from `before` on.
     → TookTo takes (run_row run) start.cycle before (begun - start.cycle) old
     -- So are those to the end of the window, or to a row that is the last one.
-    → (count : ℕ) × Took takes (run_row run) start.cycle (upto - start.cycle) count before new answer
+    → (taken : ℕ) × Took takes (run_row run) start.cycle (upto - start.cycle) taken before new answer
 
 -- The rows of a run were taken from a network before its first step, from that of cycle `begin` on.
 abbrev pub TakesTheRun : {T : Type 0} (takes : T → ℕ → List ℕ → T → Result Bool Ending → Type 0) → Flow → (opening : Network) (begin first count : ℕ) → (before after : T) → Result Bool Ending → Type 0
