@@ -11,8 +11,8 @@ use Rattle.gg_flat.specs.Line.{value_at, shape_at}
 use Rattle.gg_flat.specs.Circuit.{FlatCircuit, signal_shapes, driver_at}
 use Rattle.gg_flat_tree.specs.Tree.{path_at}
 use Rattle.gg_flat.proofs.ListLemmas.{some-item}
-use Rattle.gg_part.specs.Part.{renamed_register, renamed_memory}
-use Rattle.gg_bridge_joined.specs.Joined.{by_number, place_among, without, globals_behind, held_behind, memories_behind, linked_driver, linked, driver_behind, signal_behind, joined}
+use Rattle.gg_flat.specs.Renaming.{renamed_register, renamed_memory}
+use Rattle.gg_bridge_joined.specs.Joined.{numbers_behind, by_number, place_among, without, globals_behind, held_behind, memories_behind, linked_driver, linked, driver_behind, signal_behind, joined}
 use Rattle.gg_bridge_joined.proofs.NumberLemmas.{length-by, at-first}
 
 module _ (one : FlatCircuit) (front : List ℕ) (model : FlatCircuit) (sees drives : List ℕ) where
@@ -39,13 +39,13 @@ module _ (one : FlatCircuit) (front : List ℕ) (model : FlatCircuit) (sees driv
 
   pub many : length (joined one front model sees drives).registers ≡ length one.registers + length model.registers
   many =
-      length-append one.registers (map (λ register. renamed_register (globals_behind one model) [] register) model.registers)
-      ∙ ap (λ k. length one.registers + k) (length-map model.registers (λ register. renamed_register (globals_behind one model) [] register))
+      length-append one.registers (map (λ register. renamed_register (numbers_behind one model) register) model.registers)
+      ∙ ap (λ k. length one.registers + k) (length-map model.registers (λ register. renamed_register (numbers_behind one model) register))
 
   pub banks : length (joined one front model sees drives).memories ≡ length one.memories + length model.memories
   banks =
-      length-append one.memories (map (λ memory. renamed_memory (globals_behind one model) [] memory) model.memories)
-      ∙ ap (λ k. length one.memories + k) (length-map model.memories (λ memory. renamed_memory (globals_behind one model) [] memory))
+      length-append one.memories (map (λ memory. renamed_memory (numbers_behind one model) memory) model.memories)
+      ∙ ap (λ k. length one.memories + k) (length-map model.memories (λ memory. renamed_memory (numbers_behind one model) memory))
 
   -- ---- signals
 
@@ -95,20 +95,20 @@ module _ (one : FlatCircuit) (front : List ℕ) (model : FlatCircuit) (sees driv
   -- ---- registers, memories and paths
 
   pub register-old : (r : ℕ) (any : Register) → r < length one.registers → get_or (joined one front model sees drives).registers r any ≡ get_or one.registers r any
-  register-old r any lt = get_or_append_left one.registers (map (λ register. renamed_register (globals_behind one model) [] register) model.registers) any r lt
+  register-old r any lt = get_or_append_left one.registers (map (λ register. renamed_register (numbers_behind one model) register) model.registers) any r lt
 
-  pub register-new : (r : ℕ) (any other : Register) → r < length model.registers → get_or (joined one front model sees drives).registers (length one.registers + r) other ≡ renamed_register (globals_behind one model) [] (get_or model.registers r any)
+  pub register-new : (r : ℕ) (any other : Register) → r < length model.registers → get_or (joined one front model sees drives).registers (length one.registers + r) other ≡ renamed_register (numbers_behind one model) (get_or model.registers r any)
   register-new r any other lt =
-      get_or-append-add one.registers (map (λ register. renamed_register (globals_behind one model) [] register) model.registers) r other
-      ∙ get_or-map (λ register. renamed_register (globals_behind one model) [] register) model.registers r any other lt
+      get_or-append-add one.registers (map (λ register. renamed_register (numbers_behind one model) register) model.registers) r other
+      ∙ get_or-map (λ register. renamed_register (numbers_behind one model) register) model.registers r any other lt
 
   pub memory-old : (m : ℕ) (any : Memory) → m < length one.memories → get_or (joined one front model sees drives).memories m any ≡ get_or one.memories m any
-  memory-old m any lt = get_or_append_left one.memories (map (λ memory. renamed_memory (globals_behind one model) [] memory) model.memories) any m lt
+  memory-old m any lt = get_or_append_left one.memories (map (λ memory. renamed_memory (numbers_behind one model) memory) model.memories) any m lt
 
-  pub memory-new : (m : ℕ) (any other : Memory) → m < length model.memories → get_or (joined one front model sees drives).memories (length one.memories + m) other ≡ renamed_memory (globals_behind one model) [] (get_or model.memories m any)
+  pub memory-new : (m : ℕ) (any other : Memory) → m < length model.memories → get_or (joined one front model sees drives).memories (length one.memories + m) other ≡ renamed_memory (numbers_behind one model) (get_or model.memories m any)
   memory-new m any other lt =
-      get_or-append-add one.memories (map (λ memory. renamed_memory (globals_behind one model) [] memory) model.memories) m other
-      ∙ get_or-map (λ memory. renamed_memory (globals_behind one model) [] memory) model.memories m any other lt
+      get_or-append-add one.memories (map (λ memory. renamed_memory (numbers_behind one model) memory) model.memories) m other
+      ∙ get_or-map (λ memory. renamed_memory (numbers_behind one model) memory) model.memories m any other lt
 
   pub path-old : (s : ℕ) → s < length one.paths → path_at (joined one front model sees drives).paths s ≡ path_at one.paths s
   path-old s lt = get_or_append_left one.paths (map (λ path. front ++ path) model.paths) [] s lt

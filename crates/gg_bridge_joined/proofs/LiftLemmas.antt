@@ -1,34 +1,26 @@
 -- What is well formed in a part is so in the whole, under the whole's numbers.
-use Rattle.std.proofs.Common.{◌≡◌, ◌≢◌, ℕ, zero, suc, ◌<◌, ◌≤◌, List, [], ◌∷◌, length, map, get_or, Option, Some, None, refl, sym, ◌∙◌, ap, ap₂, subst, arith}
-use Rattle.std.specs.Prelude.{MatchOption, All, ⊤}
+use Rattle.std.proofs.Common.{◌≡◌, ◌≢◌, ℕ, ◌<◌, List, [], length, map, get_or, Option, None, refl, sym, ◌∙◌, ap, ap₂, subst, arith}
 use Rattle.std.proofs.lemmas.List.{get_or-map, length-map}
 use Rattle.std.proofs.lemmas.List.Elements.{All-map}
 use Rattle.gg_bits.specs.Shape.{Shape, shape, uint}
 use Rattle.gg_flat.specs.declared.line.Node.{Node}
-use Rattle.gg_flat.specs.declared.line.Op.{Op}
-use Rattle.gg_flat.specs.declared.line.Op.TheVariants.{Ref, Literal, One, Two, Fix, Mux}
 use Rattle.gg_flat.specs.declared.memory.Latency.{Latency}
 use Rattle.gg_flat.specs.declared.memory.Latency.TheVariants.{Zero, One as Late}
 use Rattle.gg_flat.specs.declared.memory.Reader.{Reader}
 use Rattle.gg_flat.specs.declared.memory.Writer.{Writer}
 use Rattle.gg_flat.specs.declared.memory.Memory.{Memory}
 use Rattle.gg_flat.specs.declared.piece.Register.{Register}
-use Rattle.gg_flat.specs.declared.piece.Reset.{Reset}
 use Rattle.gg_flat.specs.declared.piece.Driver.{Driver}
 use Rattle.gg_flat.specs.declared.piece.Driver.TheVariants.{Input, Held, MemoryWord, ReadRegister, Computed}
-use Rattle.gg_flat.specs.Line.{value_at, shape_at, shapes_of, op_at, HasShape, HasType, IsLine, IsSource, IsCondition}
+use Rattle.gg_flat.specs.Line.{value_at, shape_at, HasType, IsSource}
 use Rattle.gg_flat.specs.Circuit.{FlatCircuit, signal_shapes, driver_at, readers_at, latency_at, reader_at}
-use Rattle.gg_flat.specs.WellFormed.{IsWellFormed, IsDataOf, MayDrive, IsReset, IsRegister, IsReader, IsWriter, IsMemory, IsClock, IsClockedMemory, AreDriven, reader_driver}
+use Rattle.gg_flat.specs.WellFormed.{IsWellFormed, IsDataOf, MayDrive, IsRegister, IsMemory, IsClock, IsClockedMemory, AreDriven, reader_driver}
 use Rattle.gg_flat.proofs.ListLemmas.{some-item}
-use Rattle.gg_part.specs.Part.{IsPart, IsFrom, renamed_op, renamed_line, renamed_next, renamed_reset, renamed_register, renamed_reader, renamed_writer, renamed_memory}
-use Rattle.gg_part.proofs.RenameLemmas.{shapes_of-renamed, length-renamed, line_shape-renamed}
+use Rattle.gg_part.specs.Part.{IsPart, IsFrom, in_whole, renamed_line, renamed_register, renamed_reader, renamed_writer, renamed_memory}
+use Rattle.gg_flat.proofs.RenamedLineLaws.{source-there}
+use Rattle.gg_flat.proofs.RenamedLaws.{register-there, memory-there}
 use Rattle.gg_part.proofs.RunLemmas.{shape-part, length-shapes}
 use Rattle.gg_bridge_joined.proofs.ClockLemmas.{AreAmong}
-
-op-at : (globals : List ℕ) (line : List Node) (k : ℕ) → k < length line → op_at (renamed_line globals line) k ≡ renamed_op globals (op_at line k)
-op-at globals [] k lt = absurd (omega (arith, lt))
-op-at globals (node ∷ nodes) zero lt = refl
-op-at globals (node ∷ nodes) (suc k) lt = op-at globals nodes k (omega (arith, lt))
 
 module _ (whole part : FlatCircuit) (globals held memories : List ℕ) (clocks : List (Option ℕ)) (is : IsPart whole part globals held memories clocks) where
   pub lift-type : (s : ℕ) (sh : Shape) → HasType (signal_shapes part) s sh → HasType (signal_shapes whole) (value_at globals s) sh
@@ -36,49 +28,13 @@ module _ (whole part : FlatCircuit) (globals held memories : List ℕ) (clocks :
       let low : s < length globals = omega (arith, typed.0, length-shapes whole part globals held memories clocks is) in
       (omega (arith, is.within s low, length-map whole.signals (λ signal. shape signal.ty)), sym (shape-part whole part globals held memories clocks is s low) ∙ typed.1)
 
-  -- ---- lines
-
-  lift-op : (shapes : List Shape) (k : ℕ) (sh : Shape) (op : Op) → HasShape (HasType (signal_shapes part)) shapes k sh op → HasShape (HasType (signal_shapes whole)) shapes k sh (renamed_op globals op)
-  lift-op shapes k sh (Ref s) typed = lift-type s sh typed
-  lift-op shapes k sh (Literal value) typed = typed
-  lift-op shapes k sh (One op i) typed = typed
-  lift-op shapes k sh (Two op i j) typed = typed
-  lift-op shapes k sh (Fix op i n m) typed = typed
-  lift-op shapes k sh (Mux c i j) typed = typed
-
-  lift-line : (line : List Node) → IsLine (HasType (signal_shapes part)) line → IsLine (HasType (signal_shapes whole)) (renamed_line globals line)
-  lift-line line typed =
-      record {
-        some = (let low = typed.some in omega (arith, low, length-renamed globals line));
-        typed = λ k lt.
-            let inside : k < length line = omega (arith, lt, length-renamed globals line) in
-            subst (λ shapes. HasShape (HasType (signal_shapes whole)) shapes k (shape_at shapes k) (op_at (renamed_line globals line) k)) (sym (shapes_of-renamed globals line))
-            (subst (HasShape (HasType (signal_shapes whole)) (shapes_of line) k (shape_at (shapes_of line) k)) (sym (op-at globals line k inside)) (lift-op (shapes_of line) k (shape_at (shapes_of line) k) (op_at line k) (typed.typed k inside)));
-      }
-
   pub lift-source : (sink : Shape) (line : List Node) → IsSource (HasType (signal_shapes part)) sink line → IsSource (HasType (signal_shapes whole)) sink (renamed_line globals line)
-  lift-source sink line source =
-      record {
-        line = lift-line line source.line;
-        kind = ap (λ (sh : Shape). sh.kind) (line_shape-renamed globals line) ∙ source.kind;
-        width = subst (λ (sh : Shape). sh.width ≤ sink.width) (sym (line_shape-renamed globals line)) source.width;
-      }
-
-  lift-condition : (line : List Node) → IsCondition (HasType (signal_shapes part)) line → IsCondition (HasType (signal_shapes whole)) (renamed_line globals line)
-  lift-condition line condition = record { line = lift-line line condition.line; bit = line_shape-renamed globals line ∙ condition.bit }
+  lift-source sink line source = source-there (value_at globals) (HasType (signal_shapes part)) (HasType (signal_shapes whole)) sink line (λ s named. lift-type s) source
 
   -- ---- registers
 
-  lift-next : (sink : Shape) (next : Option (List Node)) → MatchOption next ⊤ (IsSource (HasType (signal_shapes part)) sink) → MatchOption (renamed_next globals next) ⊤ (IsSource (HasType (signal_shapes whole)) sink)
-  lift-next sink None typed = tt
-  lift-next sink (Some line) typed = lift-source sink line typed
-
-  lift-reset : (sink : Shape) (reset : Option Reset) → MatchOption reset ⊤ (IsReset (HasType (signal_shapes part)) sink) → MatchOption (renamed_reset globals reset) ⊤ (IsReset (HasType (signal_shapes whole)) sink)
-  lift-reset sink None typed = tt
-  lift-reset sink (Some reset) typed = record { condition = lift-condition reset.condition typed.condition; init = lift-source sink reset.init typed.init }
-
   register-lifted : (register : Register) → IsRegister (HasType (signal_shapes part)) register → IsRegister (HasType (signal_shapes whole)) (renamed_register globals clocks register)
-  register-lifted register typed = record { reset = lift-reset (shape register.ty) register.reset typed.reset; next = lift-next (shape register.ty) register.next typed.next }
+  register-lifted register typed = register-there (in_whole globals clocks) (HasType (signal_shapes part)) (HasType (signal_shapes whole)) register (λ s named. lift-type s) typed
 
   pub lift-register : IsWellFormed part → (r : ℕ) (any : Register) → r < length held → IsRegister (HasType (signal_shapes whole)) (get_or whole.registers (value_at held r) any)
   lift-register formed r any lt =
@@ -95,20 +51,6 @@ module _ (whole part : FlatCircuit) (globals held memories : List ℕ) (clocks :
 
   -- ---- memories
 
-  lift-readers : (word : Shape) (depth : ℕ) (readers : List Reader) → All (IsReader (HasType (signal_shapes part)) word depth) readers → All (IsReader (HasType (signal_shapes whole)) word depth) (map (λ reader. renamed_reader globals clocks reader) readers)
-  lift-readers word depth readers are =
-      All-map (IsReader (HasType (signal_shapes whole)) word depth) (λ reader. renamed_reader globals clocks reader) readers (λ k d lt.
-      let typed = are k d lt in
-      let reader = get_or readers k d in
-      record { address = lift-type reader.addr _ typed.address; enable = lift-type reader.en _ typed.enable; output = lift-type reader.word _ typed.output })
-
-  lift-writers : (word : Shape) (depth : ℕ) (writers : List Writer) → All (IsWriter (HasType (signal_shapes part)) word depth) writers → All (IsWriter (HasType (signal_shapes whole)) word depth) (map (λ writer. renamed_writer globals clocks writer) writers)
-  lift-writers word depth writers are =
-      All-map (IsWriter (HasType (signal_shapes whole)) word depth) (λ writer. renamed_writer globals clocks writer) writers (λ k d lt.
-      let typed = are k d lt in
-      let writer = get_or writers k d in
-      record { address = lift-type writer.addr _ typed.address; enable = lift-type writer.en _ typed.enable; input = lift-type writer.word _ typed.input; masked = lift-type writer.mask _ typed.masked })
-
   pub lift-memory : IsWellFormed part → (m : ℕ) (any : Memory) → m < length memories → IsMemory (HasType (signal_shapes whole)) (get_or whole.memories (value_at memories m) any)
   lift-memory formed m any lt =
       let inside : m < length part.memories = omega (arith, lt, is.memory_count) in
@@ -116,7 +58,8 @@ module _ (whole part : FlatCircuit) (globals held memories : List ℕ) (clocks :
       let memory = get_or part.memories m some in
       let typed = formed.memories m some inside in
       subst (IsMemory (HasType (signal_shapes whole))) (sym ((is.memory_from m lt).is some any))
-      (record { some = typed.some; readers = lift-readers (shape memory.word) memory.depth memory.readers typed.readers; writers = lift-writers (shape memory.word) memory.depth memory.writers typed.writers })
+      (memory-there (in_whole globals clocks) (HasType (signal_shapes part)) (HasType (signal_shapes whole)) memory
+      (record { readers = λ k d low. (lift-type _, lift-type _, lift-type _); writers = λ k d low. (lift-type _, lift-type _, lift-type _, lift-type _) }) typed)
 
   pub lift-memory-clocks : AreAmong whole.clocks clocks → (m : ℕ) (any : Memory) → m < length memories → IsClockedMemory whole.clocks (get_or whole.memories (value_at memories m) any)
   lift-memory-clocks among m any lt =

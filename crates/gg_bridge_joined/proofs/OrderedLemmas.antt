@@ -1,14 +1,11 @@
 -- The circuit with a model has an order of evaluation: first what reaches no input of the model, then the circuit, then the rest.
-use Rattle.std.proofs.Common.{◌≡◌, ◌≢◌, ℕ, zero, suc, ◌+◌, ◌-◌, ◌<◌, ◌≤◌, List, [], ◌∷◌, ◌++◌, length, map, take, get_or, Bool, true, false, true≢false, not, Option, Some, None, refl, sym, ◌∙◌, ap, subst, inl, inr, ◌⊎◌, arith}
+use Rattle.std.proofs.Common.{◌≡◌, ◌≢◌, ℕ, zero, suc, ◌+◌, ◌-◌, ◌<◌, ◌≤◌, List, [], ◌++◌, length, map, take, get_or, Bool, true, false, true≢false, not, Option, Some, None, refl, sym, ◌∙◌, ap, subst, inl, inr, ◌⊎◌, arith}
 use Rattle.std.specs.Prelude.{filter, Contains, AllPairs}
 use Rattle.std.proofs.lemmas.Bool.{cases_lt, cases_Bool}
 use Rattle.std.proofs.lemmas.List.{get_or-map, get_or_default, get_or_append_left, get_or-append-add, length-append, length-map}
 use Rattle.std.proofs.lemmas.List.Elements.{Contains-append_left, Contains-append_right, Contains-append_cases, Contains-get_or}
 use Rattle.std.proofs.lemmas.List.Kept.{AllPairs-filter}
 use Rattle.gg_bits.specs.declared.types.Ty.{Ty}
-use Rattle.gg_flat.specs.declared.line.Node.{Node}
-use Rattle.gg_flat.specs.declared.line.Op.{Op}
-use Rattle.gg_flat.specs.declared.line.Op.TheVariants.{Ref, Literal, One, Two, Fix, Mux}
 use Rattle.gg_flat.specs.declared.piece.Driver.{Driver}
 use Rattle.gg_flat.specs.declared.piece.Driver.TheVariants.{Input, Held, MemoryWord, ReadRegister, Computed}
 use Rattle.gg_flat.specs.Line.{value_at}
@@ -19,7 +16,7 @@ use Rattle.gg_flat.specs.WellFormed.{IsWellFormed, MayDrive}
 use Rattle.gg_flat.proofs.ListLemmas.{some-item, Contains-map, Contains-filter, filter-cases}
 use Rattle.gg_flat.proofs.OrderLemmas.{stands-before, read-before, place-of}
 use Rattle.gg_order.proofs.ReadLemmas.{names_within}
-use Rattle.gg_part.specs.Part.{renamed_op, renamed_line}
+use Rattle.gg_flat.proofs.RenamedLineLaws.{named-back}
 use Rattle.gg_bridge_joined.specs.Model.{IsModel}
 use Rattle.gg_bridge_joined.specs.Joined.{place_among, without, globals_behind, held_behind, memories_behind, copy_line, left_at, linked_driver, driver_behind, joined, CanJoin}
 use Rattle.gg_bridge_joined.proofs.NumberLemmas.{Tells, place-tells, behind}
@@ -65,19 +62,6 @@ follows-append circuit xs ys a b i t lt reads = by (cases_lt i (length xs))
 
 -- ---- what the drivers of the circuit with the model name
 
-op-named : (globals : List ℕ) (op : Op) (t : ℕ) → renamed_op globals op ≡ Ref t → (b : ℕ) × (op ≡ Ref b) × (value_at globals b ≡ t)
-op-named globals (Ref s) t e = (s, refl, cc)
-op-named globals (Literal value) t e = absurd (cc)
-op-named globals (One op i) t e = absurd (cc)
-op-named globals (Two op i j) t e = absurd (cc)
-op-named globals (Fix op i n m) t e = absurd (cc)
-op-named globals (Mux c i j) t e = absurd (cc)
-
-line-named : (globals : List ℕ) (line : List Node) (t : ℕ) → Names (renamed_line globals line) t → (b : ℕ) × Names line b × (value_at globals b ≡ t)
-line-named globals [] t named = absurd (omega (arith, named.1))
-line-named globals (node ∷ nodes) t (zero, lt, e) = let n = op-named globals node.op t e in (n.0, (0, omega arith, n.1), n.2)
-line-named globals (node ∷ nodes) t (suc k, lt, e) = let n = line-named globals nodes t (k, omega (arith, lt), e) in (n.0, (suc n.1.0, omega (arith, n.1.1), n.1.2), n.2)
-
 copy-named : (ty : Ty) (s t : ℕ) → Names (copy_line ty s) t → s ≡ t
 copy-named ty s t (zero, lt, e) = cc
 copy-named ty s t (suc k, lt, e) = absurd (omega (arith, lt))
@@ -93,7 +77,7 @@ named-behind globals held memories sees ty (Held register) t named = absurd name
 named-behind globals held memories sees ty (MemoryWord memory reader addr en) t (inl e) = OfOwn addr (inl refl) e
 named-behind globals held memories sees ty (MemoryWord memory reader addr en) t (inr e) = OfOwn en (inr refl) e
 named-behind globals held memories sees ty (ReadRegister memory reader) t named = absurd named
-named-behind globals held memories sees ty (Computed line) t named = let n = line-named globals line t named in OfOwn n.0 n.1 n.2
+named-behind globals held memories sees ty (Computed line) t named = let n = named-back (value_at globals) line t named in OfOwn n.0 n.1 n.2
 
 left-named : (left : Option ℕ) (driver : Driver) (t : ℕ) → NamesSignal (left_at left driver) t → NamesSignal driver t
 left-named left (Input place) t named = named

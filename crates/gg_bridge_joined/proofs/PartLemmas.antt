@@ -21,9 +21,10 @@ use Rattle.gg_flat.specs.WellFormed.{IsWellFormed, IsClock, IsClockedMemory, May
 use Rattle.gg_flat.proofs.ListLemmas.{some-item}
 use Rattle.gg_flat.proofs.TypedLemmas.{has-reader}
 use Rattle.gg_order.proofs.ReadLemmas.{names_within}
-use Rattle.gg_part.specs.Part.{IsPart, IsFrom, IsRegisterFrom, IsMemoryFrom, RegisterBelow, MemoryBelow}
-use Rattle.gg_bridge_joined.specs.Joined.{place_among, without, globals_behind, held_behind, memories_behind, linked_driver, driver_behind, joined, placed, CanJoin}
-use Rattle.gg_bridge_joined.proofs.ClockLemmas.{clocks-count, clock-known, clock-same}
+use Rattle.gg_part.specs.Part.{in_whole, IsPart, IsFrom, IsRegisterFrom, IsMemoryFrom, RegisterBelow, MemoryBelow}
+use Rattle.gg_bridge_joined.specs.Joined.{numbers_behind, place_among, without, globals_behind, held_behind, memories_behind, linked_driver, driver_behind, joined, placed, CanJoin}
+use Rattle.gg_flat.proofs.RenamedLaws.{register-agree, memory-agree}
+use Rattle.gg_bridge_joined.proofs.ClockLemmas.{every_tick, clocks-count, clock-known, clock-same}
 use Rattle.gg_bridge_joined.proofs.NumberLemmas.{Tells, place-tells, behind, behind-first, behind-once}
 use Rattle.gg_bridge_joined.proofs.SameLemmas.{line-same, register-same, memory-same}
 use Rattle.gg_bridge_joined.proofs.KnownLemmas.{register-below, memory-below}
@@ -192,7 +193,7 @@ module _ (one : FlatCircuit) (front : List ℕ) (model : FlatCircuit) (sees driv
       let to : value_at (held_behind one model) r ≡ length one.registers + r = behind (length one.registers) (length model.registers) r lt in
       record {
         within = omega (arith, to, lt, many one front model sees drives);
-        is = λ any other. ap (λ k. get_or whole.registers k other) to ∙ register-new one front model sees drives r any other lt;
+        is = λ any other. ap (λ k. get_or whole.registers k other) to ∙ register-new one front model sees drives r any other lt ∙ register-agree (numbers_behind one model) (in_whole (globals_behind one model) []) (get_or model.registers r any) (λ s named. refl) (sym (every_tick (get_or model.registers r any).clock));
         below = λ any. subst (λ n. RegisterBelow n (get_or model.registers r any)) (sym long-globals) (register-below model formed r any lt);
         clocked = λ any. subst (λ n. IsClock n (get_or model.registers r any).clock) none (formed.register_clocks r any lt);
       }
@@ -202,7 +203,9 @@ module _ (one : FlatCircuit) (front : List ℕ) (model : FlatCircuit) (sees driv
       let to : value_at (memories_behind one model) m ≡ length one.memories + m = behind (length one.memories) (length model.memories) m lt in
       record {
         within = omega (arith, to, lt, banks one front model sees drives);
-        is = λ any other. ap (λ k. get_or whole.memories k other) to ∙ memory-new one front model sees drives m any other lt;
+        is = λ any other. ap (λ k. get_or whole.memories k other) to ∙ memory-new one front model sees drives m any other lt
+            ∙ memory-agree (numbers_behind one model) (in_whole (globals_behind one model) []) (get_or model.memories m any) (record { readers = λ k d low. (refl, refl, refl); writers = λ k d low. (refl, refl, refl, refl) })
+            (record { readers = λ k d low. sym (every_tick (get_or (get_or model.memories m any).readers k d).clock); writers = λ k d low. sym (every_tick (get_or (get_or model.memories m any).writers k d).clock) });
         below = λ any. subst (λ n. MemoryBelow n (get_or model.memories m any)) (sym long-globals) (memory-below model formed m any lt);
         clocked = λ any. subst (λ n. IsClockedMemory n (get_or model.memories m any)) none (formed.memory_clocks m any lt);
         given = λ r place inside. not-input model m r place formed lt inside;

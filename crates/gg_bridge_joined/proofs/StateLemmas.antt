@@ -13,10 +13,10 @@ use Rattle.gg_flat.specs.Memory.{Bank, AreWords, IsBank, bank_at, opening_bank, 
 use Rattle.gg_flat.specs.State.{State, IsState, opening}
 use Rattle.gg_flat.proofs.StateLemmas.{IsState-opening}
 use Rattle.gg_flat.proofs.ListLemmas.{some-item}
-use Rattle.gg_part.specs.Part.{renamed_register, renamed_memory}
+use Rattle.gg_flat.specs.Renaming.{renamed_register, renamed_memory}
 use Rattle.gg_part.specs.PartRun.{part_state}
-use Rattle.gg_part.proofs.RenameLemmas.{opening-renamed}
-use Rattle.gg_bridge_joined.specs.Joined.{globals_behind, held_behind, memories_behind, joined}
+use Rattle.gg_flat.proofs.RenamedLaws.{opening-renamed}
+use Rattle.gg_bridge_joined.specs.Joined.{numbers_behind, held_behind, memories_behind, joined}
 use Rattle.gg_bridge_joined.specs.All.{Attached, joined_all, joined_state, joined_states, with_bridge}
 use Rattle.gg_bridge_joined.proofs.AtLemmas.{many, banks, register-old, register-new, memory-old, memory-new}
 
@@ -46,15 +46,15 @@ zeros-both (x ∷ xs) ys f = ap (λ (l : List ℕ). 0 ∷ l) (zeros-both xs ys f
 module _ (one : FlatCircuit) (front : List ℕ) (model : FlatCircuit) (sees drives : List ℕ) where
   -- ---- zeros
 
-  opening-behind : (memories : List Memory) → map (λ memory. opening_bank memory) (map (λ memory. renamed_memory (globals_behind one model) [] memory) memories) ≡ map (λ memory. opening_bank memory) memories
+  opening-behind : (memories : List Memory) → map (λ memory. opening_bank memory) (map (λ memory. renamed_memory (numbers_behind one model) memory) memories) ≡ map (λ memory. opening_bank memory) memories
   opening-behind [] = refl
-  opening-behind (memory ∷ memories) = ap₂ (λ (b : Bank) (l : List Bank). b ∷ l) (opening-renamed (globals_behind one model) [] memory) (opening-behind memories)
+  opening-behind (memory ∷ memories) = ap₂ (λ (b : Bank) (l : List Bank). b ∷ l) (opening-renamed (numbers_behind one model) memory) (opening-behind memories)
 
   pub opening-joined : joined_state (opening one) (opening model) ≡ opening (joined one front model sees drives)
   opening-joined =
       let make : List ℕ → List Bank → State = λ registers held. record { registers = registers; banks = held } in
-      ap₂ make (sym (zeros-both one.registers model.registers (λ register. renamed_register (globals_behind one model) [] register)))
-      (sym (map-append (λ memory. opening_bank memory) one.memories (map (λ memory. renamed_memory (globals_behind one model) [] memory) model.memories)
+      ap₂ make (sym (zeros-both one.registers model.registers (λ register. renamed_register (numbers_behind one model) register)))
+      (sym (map-append (λ memory. opening_bank memory) one.memories (map (λ memory. renamed_memory (numbers_behind one model) memory) model.memories)
       ∙ ap (λ (l : List Bank). map (λ memory. opening_bank memory) one.memories ++ l) (opening-behind model.memories)))
 
   module _ (state begin : State) (first : IsState one state) (second : IsState model begin) where
@@ -115,11 +115,11 @@ module _ (one : FlatCircuit) (front : List ℕ) (model : FlatCircuit) (sees driv
         subst (Fits (shape_at (register_shapes all) r)) (sym at)
         (subst (λ (sh : Shape). Fits sh (value_at begin.registers k)) (sym (ap (shape_at (register_shapes all)) (sym back) ∙ shape-model k low)) (second.typed.fits k (omega (arith, low, length-map model.registers type_of))))
 
-    bank-renamed : (memory : Memory) (bank : Bank) → IsBank memory bank → IsBank (renamed_memory (globals_behind one model) [] memory) bank
+    bank-renamed : (memory : Memory) (bank : Bank) → IsBank memory bank → IsBank (renamed_memory (numbers_behind one model) memory) bank
     bank-renamed memory bank is =
-        let own = renamed_memory (globals_behind one model) [] memory in
+        let own = renamed_memory (numbers_behind one model) memory in
         let same : read_count own.latency own.readers ≡ read_count memory.latency memory.readers =
-        sym (length-replicate (read_count own.latency own.readers) 0) ∙ ap (λ (b : Bank). length b.reads) (opening-renamed (globals_behind one model) [] memory) ∙ length-replicate (read_count memory.latency memory.readers) 0 in
+        sym (length-replicate (read_count own.latency own.readers) 0) ∙ ap (λ (b : Bank). length b.reads) (opening-renamed (numbers_behind one model) memory) ∙ length-replicate (read_count memory.latency memory.readers) 0 in
         record { words = is.words; reads = subst (λ n. AreWords (shape memory.word) n bank.reads) (sym same) is.reads }
 
     bank-is : (m : ℕ) (any : Memory) → m < length all.memories → (m < length one.memories) ⊎ (length one.memories ≤ m) → IsBank (get_or all.memories m any) (bank_at both.banks m)

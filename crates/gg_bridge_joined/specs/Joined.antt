@@ -14,7 +14,7 @@ use Rattle.gg_flat.specs.Line.{value_at, shape_at}
 use Rattle.gg_flat.specs.Circuit.{FlatCircuit, signal_shapes}
 use Rattle.gg_flat.specs.Order.{IsOrder}
 use Rattle.gg_flat_tree.specs.Tree.{path_at}
-use Rattle.gg_part.specs.Part.{renamed_line, renamed_register, renamed_memory}
+use Rattle.gg_flat.specs.Renaming.{Renaming, renamed_driver, renamed_register, renamed_memory}
 
 -- ---- lists of numbers
 
@@ -59,6 +59,14 @@ held_behind one model = range_with_len (length one.registers) (length model.regi
 abbrev pub memories_behind : (one model : FlatCircuit) → List ℕ
 memories_behind one model = range_with_len (length one.memories) (length model.memories)
 
+-- the numbers of what stands behind, by lists; a model has no clock but that of every tick
+abbrev pub behind_by : (globals held memories : List ℕ) → Renaming
+behind_by globals held memories = record { signals = value_at globals; registers = value_at held; memories = value_at memories; clocks = λ clock. None }
+
+-- the numbers that all of a model gets behind a circuit
+abbrev pub numbers_behind : (one model : FlatCircuit) → Renaming
+numbers_behind one model = behind_by (globals_behind one model) (held_behind one model) (memories_behind one model)
+
 -- ---- drivers
 
 -- a bare reference to signal t
@@ -91,13 +99,10 @@ linked_driver outs left s ty driver place = linked_at outs (place_among left s) 
 abbrev pub linked : (outs drives left : List ℕ) → ℕ → Signal → Signal
 linked outs drives left s signal = linked_signal outs (place_among drives s) (place_among left s) signal
 
--- the driver of a signal of the model, behind the circuit
+-- the driver of a signal of the model, behind the circuit: an in-signal is a copy of what the bridge sees there
 abbrev pub driver_behind : (globals held memories sees : List ℕ) → Ty → Driver → Driver
 driver_behind globals held memories sees ty (Input place) = Computed (copy_line ty (value_at sees place))
-driver_behind globals held memories sees ty (Held register) = Held (value_at held register)
-driver_behind globals held memories sees ty (MemoryWord memory reader addr en) = MemoryWord (value_at memories memory) reader (value_at globals addr) (value_at globals en)
-driver_behind globals held memories sees ty (ReadRegister memory reader) = ReadRegister (value_at memories memory) reader
-driver_behind globals held memories sees ty (Computed line) = Computed (renamed_line globals line)
+driver_behind globals held memories sees ty driver = renamed_driver (behind_by globals held memories) driver
 
 -- a signal of the model, behind the circuit
 abbrev pub signal_behind : (globals held memories sees : List ℕ) → Signal → Signal
@@ -112,8 +117,8 @@ with_model one front model globals held memories sees drives said ins outs =
     record {
       paths = one.paths ++ map (λ path. front ++ path) model.paths;
       signals = by_number (linked said drives ins) 0 one.signals ++ map (signal_behind globals held memories sees) model.signals;
-      registers = one.registers ++ map (λ register. renamed_register globals [] register) model.registers;
-      memories = one.memories ++ map (λ memory. renamed_memory globals [] memory) model.memories;
+      registers = one.registers ++ map (λ register. renamed_register (behind_by globals held memories) register) model.registers;
+      memories = one.memories ++ map (λ memory. renamed_memory (behind_by globals held memories) memory) model.memories;
       ins = ins;
       outs = outs;
       clocks = one.clocks;

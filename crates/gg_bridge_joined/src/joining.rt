@@ -1,20 +1,21 @@
 //! The circuit with a model in it.
-ghost use Rattle.std.specs.Prelude.{◌≡◌, ◌≢◌, ◌<◌, ◌≤◌, ◌+◌, ◌-◌, ◌^◌, [], ◌∷◌, ◌++◌, length, map, slice_index_or, IfOk, OnOk, AllPairs, Contains, true};
+ghost use Rattle.std.specs.Prelude.{◌≡◌, ◌≢◌, ◌<◌, ◌≤◌, ◌+◌, ◌-◌, ◌^◌, [], ◌∷◌, ◌++◌, length, map, slice_index_or, IfOk, OnOk, AllPairs, Contains, true, None};
 ghost use Rattle.std.specs.List.{range_with_len};
 ghost use Rattle.gg_bits.specs.declared.paths.AddError.TheVariants.{Doubled};
 ghost use Rattle.gg_flat.specs.declared.piece.Signal.{Signal};
 ghost use Rattle.gg_flat.specs.Circuit.{no_circuit};
 ghost use Rattle.gg_flat.specs.Line.{value_at};
 ghost use Rattle.gg_flat_tree.specs.Tree.{path_at};
-ghost use Rattle.gg_part.specs.Part.{renamed_register, renamed_memory};
+ghost use Rattle.gg_flat.specs.Renaming.{renamed_register, renamed_memory};
 ghost use Rattle.gg_flat.specs.WellFormed.{IsWellFormed};
 ghost use Rattle.gg_bridge_joined.specs.Model.{IsModel};
-ghost use Rattle.gg_bridge_joined.specs.Joined.{CanJoin, joined, by_number, copy_line, left_at, linked, linked_signal, place_at, with_model, driver_behind, signal_behind, globals_behind, held_behind, memories_behind, without};
+ghost use Rattle.gg_bridge_joined.specs.Joined.{CanJoin, behind_by, joined, by_number, copy_line, left_at, linked, linked_signal, place_at, with_model, driver_behind, signal_behind, globals_behind, held_behind, memories_behind, without};
 
 use crate::numbers::{left_of, number_at, numbers_at, numbers_from, place_at, places_of};
-use crate::renaming::{renamed_line, renamed_memory, renamed_register};
 use gg_bits::{AddError, Name, Ty};
-use gg_flat::{Driver, Line, Node, Op, Piece, Signal};
+use gg_flat::{
+    Driver, Line, Lists, Node, Op, Piece, Signal, renamed_driver, renamed_memory, renamed_register,
+};
 use std::alloc::{AllocError, Global};
 
 // ---- drivers
@@ -76,6 +77,23 @@ struct Behind {
     memories: Vec<u32>,
 }
 
+impl Behind {
+    // The numbers, and the clock of every tick.
+    fn lists(&self) -> Lists
+        ensures signals { result.signals.now ≡ self.now.globals.items }
+        ensures registers { result.registers.now ≡ self.now.held.items }
+        ensures memories { result.memories.now ≡ self.now.memories.items }
+        ensures clock { result.clock ≡ None }
+    {
+        Lists {
+            signals: self.globals.as_slice(),
+            registers: self.held.as_slice(),
+            memories: self.memories.as_slice(),
+            clock: None,
+        }
+    }
+}
+
 // The driver of a signal of the model, behind the circuit.
 fn driver_behind(
     alloc: Global,
@@ -92,18 +110,10 @@ fn driver_behind(
             ty,
             number_at(sees, *place),
         )?)),
-        Driver::Held(register) => Ok(Driver::Held(number_at(&behind.held, *register))),
-        Driver::MemoryWord(memory, reader, addr, en) => {
-            let memory = number_at(&behind.memories, *memory);
-            let addr = number_at(&behind.globals, *addr);
-            let en = number_at(&behind.globals, *en);
-            Ok(Driver::MemoryWord(memory, *reader, addr, en))
+        other => {
+            let own = renamed_driver(alloc, &behind.lists(), other)?;
+            Ok(own)
         }
-        Driver::ReadRegister(memory, reader) => Ok(Driver::ReadRegister(
-            number_at(&behind.memories, *memory),
-            *reader,
-        )),
-        Driver::Computed(line) => Ok(Driver::Computed(renamed_line(alloc, &behind.globals, line)?)),
     }
 }
 
@@ -233,13 +243,17 @@ fn copy_registers(one: &Piece, piece: &mut Piece) -> Result<(), AllocError>
 fn move_registers(
     alloc: Global,
     model: &Piece,
-    globals: &[u32],
+    behind: &Behind,
     piece: &mut Piece,
 ) -> Result<(), AllocError>
-    ensures { OnOk result (piece.new ≡ record piece.old { registers = piece.old.registers ++ map (λ register. renamed_register globals.now [] register) model.now.registers }) }
+    ensures { OnOk result (piece.new ≡ record piece.old {
+      registers = piece.old.registers
+          ++ map (λ register. renamed_register (behind_by behind.now.globals.items behind.now.held.items behind.now.memories.items) register) model.now.registers;
+    }) }
 {
+    let by = behind.lists();
     for register in model.registers() {
-        piece.add_register(renamed_register(alloc, globals, register)?)?;
+        piece.add_register(renamed_register(alloc, &by, register)?)?;
     }
     Ok(())
 }
@@ -258,13 +272,17 @@ fn copy_memories(one: &Piece, piece: &mut Piece) -> Result<(), AllocError>
 fn move_memories(
     alloc: Global,
     model: &Piece,
-    globals: &[u32],
+    behind: &Behind,
     piece: &mut Piece,
 ) -> Result<(), AllocError>
-    ensures { OnOk result (piece.new ≡ record piece.old { memories = piece.old.memories ++ map (λ memory. renamed_memory globals.now [] memory) model.now.memories }) }
+    ensures { OnOk result (piece.new ≡ record piece.old {
+      memories = piece.old.memories
+          ++ map (λ memory. renamed_memory (behind_by behind.now.globals.items behind.now.held.items behind.now.memories.items) memory) model.now.memories;
+    }) }
 {
+    let by = behind.lists();
     for memory in model.memories() {
-        piece.add_memory(renamed_memory(alloc, globals, memory)?)?;
+        piece.add_memory(renamed_memory(alloc, &by, memory)?)?;
     }
     Ok(())
 }
@@ -350,9 +368,9 @@ fn made(
     add_front(alloc, one, links.said, links.drives, links.ins, &mut piece)?;
     add_behind(alloc, front, model, behind, links.sees, &mut piece)?;
     copy_registers(one, &mut piece)?;
-    move_registers(alloc, model, &behind.globals, &mut piece)?;
+    move_registers(alloc, model, behind, &mut piece)?;
     copy_memories(one, &mut piece)?;
-    move_memories(alloc, model, &behind.globals, &mut piece)?;
+    move_memories(alloc, model, behind, &mut piece)?;
     add_ins(links.ins, &mut piece)?;
     add_outs(links.outs, &mut piece)?;
     piece.set_clocks(one.clocks());

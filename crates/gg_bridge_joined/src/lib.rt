@@ -21,7 +21,6 @@ mod designs;
 mod joining;
 mod laws;
 mod numbers;
-mod renaming;
 
 pub use designs::join;
 pub use laws::{

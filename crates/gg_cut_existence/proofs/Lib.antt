@@ -1,6 +1,5 @@
 mod FilledLemmas
 mod DecideLemmas
-mod LineLemmas
 mod PartLemmas
 mod ShareLemmas
 mod ClockLemmas

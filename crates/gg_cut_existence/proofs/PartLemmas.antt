@@ -1,5 +1,5 @@
 -- Every choice of a circuit's signals and memories has a part.
-use Rattle.std.proofs.Common.{◌≡◌, ℕ, suc, ◌+◌, ◌<◌, List, [], ◌∷◌, ◌++◌, false, if◌then◌else◌, length, map, get_or, refl, sym, ◌∙◌, ap, subst, inl, inr, ◌⊎◌, arith}
+use Rattle.std.proofs.Common.{◌≡◌, ℕ, suc, ◌<◌, List, [], ◌∷◌, ◌++◌, false, if◌then◌else◌, length, map, get_or, refl, sym, ◌∙◌, ap, subst, inl, inr, ◌⊎◌, arith}
 use Rattle.std.specs.Prelude.{All, Contains, Option, None}
 use Rattle.std.proofs.lemmas.Bool.{cond-false, cond-true, false_from_ne_true}
 use Rattle.std.proofs.lemmas.List.{get_or-map, get_or_default, length-map, same_lists, take_all}
@@ -22,11 +22,15 @@ use Rattle.gg_part.specs.Building.{AreHeld, AreMemories, AreRegisters, AreSignal
 use Rattle.gg_part.specs.Choice.{IsChoice, NamesMemory}
 use Rattle.gg_part.specs.Clocking.{AreTimed, IsTimed, LeadsTo, PortsFollow, clocks_of_ports}
 use Rattle.gg_part.specs.Part.{IsFrom, IsPart, MemoryBelow, renamed_memory, renamed_register}
-use Rattle.gg_part.proofs.ClockLemmas.{port-count, port-reader, port-writer}
+use Rattle.gg_flat.specs.Renaming.{Renaming, renamed_driver}
+use Rattle.gg_flat.specs.Renaming as renaming
+use Rattle.gg_part.specs.Local.{own_by, own_memory}
+use Rattle.gg_part.proofs.BackLemmas as back
+use Rattle.gg_part.proofs.BackLemmas.{LeadsBack, register-back, register-below}
+use Rattle.gg_part.proofs.LocalLemmas.{memory-renamed, memory-below, memory-clocked, memory-follows}
 use Rattle.gg_part.proofs.FrameLemmas.{held-within, reader-fields, register-closed, writer-fields}
 use Rattle.gg_part.proofs.PartLemmas.{IsChoice-frame, IsPart-made}
 use Rattle.gg_cut_existence.proofs.FilledLemmas.{IsFilled, Something, filled, has, has-cases, contains-has, has-contains, place_in, placed}
-use Rattle.gg_cut_existence.proofs.LineLemmas.{local_line, local_memory, local_register, line-below, line-renamed, memory-below, memory-clocked, memory-follows, memory-renamed, register-below, register-renamed}
 
 -- ---- the registers that signals hold
 
@@ -100,13 +104,13 @@ module _ (whole : FlatCircuit) (ins : List ℕ) where
 
 -- ---- drivers
 
--- the driver of a signal that doesn't come from outside, in the part's numbers
-abbrev pub local_driver : (globals held memories : List ℕ) → Driver → Driver
-local_driver globals held memories (Input place) = Input place
-local_driver globals held memories (Held register) = Held (place_in held register)
-local_driver globals held memories (MemoryWord memory reader addr en) = MemoryWord (place_in memories memory) reader (place_in globals addr) (place_in globals en)
-local_driver globals held memories (ReadRegister memory reader) = ReadRegister (place_in memories memory) reader
-local_driver globals held memories (Computed line) = Computed (local_line globals line)
+-- the place of a number leads back from it
+pub leads-back : (globals : List ℕ) → LeadsBack globals (place_in globals)
+leads-back globals = record { found = λ s among. (placed globals s among).found; within = λ s among. (placed globals s among).within }
+
+-- the numbers of the part
+abbrev pub by_places : (globals held memories : List ℕ) → Renaming
+by_places globals held memories = record { signals = place_in globals; registers = place_in held; memories = place_in memories; clocks = λ clock. None }
 
 -- a part of a circuit, beside its signals and memories
 pub record HasPart (whole : FlatCircuit) (globals ins outs memories : List ℕ) (clocks registers : List (Option ℕ)) (ports : List (List (Option ℕ))) : Type 0 where
@@ -141,28 +145,13 @@ module _ (whole : FlatCircuit) (globals ins outs memories : List ℕ) (clocks re
   abbrev are_held : AreHeld whole globals ins own_held
   are_held = held-are whole ins globals
 
-  driver-from : (s : ℕ) (driver : Driver) → Contains globals s → ¬ Contains ins s → driver_at whole s ≡ driver → IsFrom ins globals own_held memories s driver (local_driver globals own_held memories driver)
-  driver-from s (Input place) among outside is = absurd (outside (choice.given s place is among))
-  driver-from s (Held register) among outside is =
-      let at = placed own_held register (are_held.every s register among (record { inside = outside; holds = is })) in
-      (at.within, ap Held (sym at.found))
-  driver-from s (MemoryWord m r addr en) among outside is =
-      let bank = placed memories m (choice.banks s m among outside (subst (λ (d : Driver). NamesMemory d m) (sym is) refl)) in
-      let a = placed globals addr (choice.closed s addr among outside (subst (λ (d : Driver). NamesSignal d addr) (sym is) (inl refl))) in
-      let e = placed globals en (choice.closed s en among outside (subst (λ (d : Driver). NamesSignal d en) (sym is) (inr refl))) in (
-        bank.within,
-        a.within,
-        e.within,
-        ap (λ k. MemoryWord k r addr en) (sym bank.found)
-            ∙ ap (λ k. MemoryWord (value_at memories (place_in memories m)) r k en) (sym a.found)
-            ∙ ap (λ k. MemoryWord (value_at memories (place_in memories m)) r (value_at globals (place_in globals addr)) k) (sym e.found),
-      )
-  driver-from s (ReadRegister m r) among outside is =
-      let bank = placed memories m (choice.banks s m among outside (subst (λ (d : Driver). NamesMemory d m) (sym is) refl)) in
-      (bank.within, ap (λ k. ReadRegister k r) (sym bank.found))
-  driver-from s (Computed line) among outside is =
-      let named : (t : ℕ) → NamesSignal (Computed line) t → Contains globals t = λ t n. choice.closed s t among outside (subst (λ (d : Driver). NamesSignal d t) (sym is) n) in
-      (line-below globals line named, ap Computed (sym (line-renamed globals line named)))
+  driver-from : (s : ℕ) (driver : Driver) → Contains globals s → ¬ Contains ins s → driver_at whole s ≡ driver → IsFrom ins globals own_held memories s driver (renamed_driver (by_places globals own_held memories) driver)
+  driver-from s driver among outside is =
+      back.driver-from globals own_held memories (place_in globals) (place_in own_held) (place_in memories) (leads-back globals) (leads-back own_held) (leads-back memories) ins s None driver
+      (λ place e. outside (choice.given s place (is ∙ e) among))
+      (λ t n. choice.closed s t among outside (subst (λ (d : Driver). NamesSignal d t) (sym is) n))
+      (λ r e. are_held.every s r among (record { inside = outside; holds = is ∙ e }))
+      (λ m n. choice.banks s m among outside (subst (λ (d : Driver). NamesMemory d m) (sym is) n))
 
   -- what stands for the signal at a place
   abbrev StandsFor : ℕ → Signal → Type 0
@@ -174,7 +163,7 @@ module _ (whole : FlatCircuit) (globals ins outs memories : List ℕ) (clocks re
       record { it = record { ty = item.ty; driver = Input (place_in ins (value_at globals k)) }; is = (typed, record { from = (at.within, at.found); given = λ c. (place_in ins (value_at globals k), refl) }) }
   signal-for k item among typed (inr outside) =
       record {
-        it = record { ty = item.ty; driver = local_driver globals own_held memories (driver_at whole (value_at globals k)) };
+        it = record { ty = item.ty; driver = renamed_driver (by_places globals own_held memories) (driver_at whole (value_at globals k)) };
         is = (typed, record { from = driver-from (value_at globals k) (driver_at whole (value_at globals k)) among outside refl; given = λ c. absurd (outside c) });
       }
 
@@ -202,10 +191,10 @@ module _ (whole : FlatCircuit) (globals ins outs memories : List ℕ) (clocks re
       let leads = timed.register r any (are_held.sound r among) in
       let closed : (t : ℕ) → RegisterNames item t → Contains globals t = λ t n. register-closed whole globals ins own_held memories chosen are_held r t item among (slice_get-get_or whole.registers r any known) n in
       record {
-        it = local_register globals (get_or registers r None) item;
+        it = renaming.renamed_register (own_by (place_in globals) (get_or registers r None)) item;
         is = (
-          λ other. get_or_default whole.registers r other any known ∙ sym (register-renamed globals clocks (get_or registers r None) item closed leads.leads),
-          register-below globals (get_or registers r None) item closed,
+          λ other. get_or_default whole.registers r other any known ∙ sym (register-back globals (place_in globals) (leads-back globals) clocks (get_or registers r None) item closed leads.leads),
+          register-below globals (place_in globals) (leads-back globals) (get_or registers r None) item closed,
           leads.known,
           refl,
         );
@@ -231,15 +220,13 @@ module _ (whole : FlatCircuit) (globals ins outs memories : List ℕ) (clocks re
       let reads = reader-fields whole globals m item known read fields in
       let writes = writer-fields whole globals m item known read fields in
       let leads : (p : ℕ) → p < length (clocks_of_ports item) → LeadsTo clocks (get_or (clocks_of_ports item) p None) (get_or own p None) = λ p inside. timed.port m p any among inside in
-      let first : (p : ℕ) → p < length item.readers → p < length (clocks_of_ports item) = λ p inside. (let count = port-count item in omega (arith, inside, count)) in
-      let behind : (p : ℕ) → p < length item.writers → length item.readers + p < length (clocks_of_ports item) = λ p inside. (let count = port-count item in omega (arith, inside, count)) in
       record {
-        it = local_memory globals own item;
+        it = own_memory (place_in globals) own item;
         is = (
-          λ other. get_or_default whole.memories m other any known ∙ sym (memory-renamed globals clocks own item reads writes (λ p a inside. (leads p (first p inside)).leads ∙ port-reader item p a inside) (λ p a inside. (leads (length item.readers + p) (behind p inside)).leads ∙ port-writer item p a inside)),
-          memory-below globals clocks own item reads writes,
-          memory-clocked globals clocks own item reads writes (λ p inside. (leads p (first p inside)).known) (λ p inside. (leads (length item.readers + p) (behind p inside)).known),
-          memory-follows globals clocks own item reads writes,
+          λ other. get_or_default whole.memories m other any known ∙ sym (memory-renamed globals (place_in globals) (leads-back globals) clocks own item reads writes leads),
+          memory-below globals (place_in globals) (leads-back globals) clocks own item reads writes leads,
+          memory-clocked globals (place_in globals) (leads-back globals) clocks own item reads writes leads,
+          memory-follows globals (place_in globals) (leads-back globals) clocks own item reads writes leads,
         );
       }
 

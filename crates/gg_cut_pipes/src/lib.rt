@@ -16,7 +16,6 @@ mod fill;
 mod laws;
 mod made;
 mod piping;
-mod renaming;
 mod tables;
 
 pub use laws::numbers_suffice;

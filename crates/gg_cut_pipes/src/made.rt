@@ -9,10 +9,12 @@ ghost use Rattle.gg_cut_reference.specs.Reference.{register_by, memory_by};
 ghost use Rattle.gg_cut_reference.specs.Made.{by_number, seen_signal, pipe_signal, pipe_register, pipe_signals, pipe_registers, reference_of};
 ghost use Rattle.gg_cut_pipes.specs.Tables.{seen_in, kept_in, views_by};
 
-use crate::renaming::{seen_driver, seen_memory, seen_register};
 use crate::tables::{Tables, number_at};
 use gg_bits::{AddError, Name};
-use gg_flat::{Driver, Line, Node, Op, Piece, Register, Signal};
+use gg_flat::{
+    Driver, Line, Node, Op, Piece, Register, Signal, renamed_driver, renamed_memory,
+    renamed_register,
+};
 use std::alloc::{AllocError, Global};
 
 // The piece of the reference circuit, by the tables. `pipes` has the signals of the piped channels.
@@ -127,7 +129,7 @@ fn signal_of(
     ensures { IfOk result (λ own. own ≡ seen_signal (views_by tables.now) number signal.now) }
 {
     let machine = number_at(tables.makers.as_slice(), number);
-    let driver = seen_driver(alloc, tables, machine, &signal.driver)?;
+    let driver = renamed_driver(alloc, &tables.by(machine), &signal.driver)?;
     Ok(Signal {
         ty: signal.ty,
         driver,
@@ -225,7 +227,7 @@ fn add_registers(
 {
     for place in 0..one.registers().len() {
         let machine = number_at(tables.holders.as_slice(), place as u32);
-        let register = seen_register(alloc, tables, machine, &one.registers()[place])?;
+        let register = renamed_register(alloc, &tables.by(machine), &one.registers()[place])?;
         piece.add_register(register)?;
     }
     Ok(())
@@ -282,7 +284,7 @@ fn add_memories(
 {
     for place in 0..one.memories().len() {
         let machine = number_at(tables.keepers.as_slice(), place as u32);
-        let memory = seen_memory(alloc, tables, machine, &one.memories()[place])?;
+        let memory = renamed_memory(alloc, &tables.by(machine), &one.memories()[place])?;
         piece.add_memory(memory)?;
     }
     Ok(())

@@ -4,6 +4,7 @@ ghost use Rattle.gg_flat.specs.Line.{value_at};
 ghost use Rattle.gg_cut_pipes.specs.Tables.{kept_in, seen_in};
 
 use gg_bits::Ids;
+use gg_flat::Renames;
 
 // Who names what: for each signal the machine in which its driver stands, for each register the machine that holds it, and for
 // each memory the machine that has it. For each signal whose channel is piped, the machine that takes the channel, and the
@@ -47,6 +48,17 @@ impl Tables {
         if pipe == 0 { signal } else { pipe }
     }
 
+    // The numbers by which a machine sees signals.
+    pub(crate) fn by(&self, machine: u32) -> Seen
+        ensures tables { result.tables.now ≡ self.now }
+        ensures machine { result.machine ≡ machine }
+    {
+        Seen {
+            tables: self,
+            machine,
+        }
+    }
+
     // The number by which a machine sees a signal.
     pub(crate) fn seen(&self, machine: u32, signal: u32) -> u32
         ensures { result ≡ seen_in self.now machine signal }
@@ -56,6 +68,38 @@ impl Tables {
         } else {
             signal
         }
+    }
+}
+
+// The numbers by which a machine sees signals; all else keeps its own.
+#[derive(Clone, Copy)]
+pub(crate) struct Seen<'a> {
+    // Who names what.
+    tables: &'a Tables,
+    // The machine.
+    machine: u32,
+}
+
+impl<'a> Renames for Seen<'a> {
+    ghost use Rattle.gg_cut_pipes.specs.Tables.{seen_in};
+    ghost use Rattle.gg_flat.specs.Renaming.{signals_by};
+
+    ghost numbers = { λ seen. signals_by (seen_in seen.tables.now seen.machine) };
+
+    fn signal(&self, signal: u32) -> u32 {
+        self.tables.seen(self.machine, signal)
+    }
+
+    fn register(&self, register: u32) -> u32 {
+        register
+    }
+
+    fn memory(&self, memory: u32) -> u32 {
+        memory
+    }
+
+    fn clock(&self, clock: Option<u32>) -> Option<u32> {
+        clock
     }
 }
 

@@ -1,28 +1,27 @@
 -- Who names what may be told in two ways that make one reference circuit.
-use Rattle.std.proofs.Common.{◌≡◌, ℕ, zero, suc, ◌+◌, ◌<◌, List, [], ◌∷◌, ◌++◌, length, map, get_or, slice_get, refl, sym, ◌∙◌, ap, ap₂, subst, inl, inr, arith}
-use Rattle.std.specs.Prelude.{Bool, Option, Some, None, cond, codes, filter, flat_map, Contains, All}
+use Rattle.std.proofs.Common.{◌≡◌, ℕ, zero, suc, ◌+◌, ◌<◌, List, [], ◌∷◌, ◌++◌, length, map, get_or, slice_get, refl, sym, ◌∙◌, ap, ap₂, subst, arith}
+use Rattle.std.specs.Prelude.{Bool, Some, cond, codes, filter, flat_map, Contains}
 use Rattle.std.specs.List.{range_with_len}
 use Rattle.std.proofs.lemmas.List.{get_or-map}
-use Rattle.std.proofs.lemmas.List.Elements.{Contains-append_left, Contains-append_right}
+use Rattle.std.proofs.lemmas.List.Elements.{Contains-append_left, Contains-append_right, Contains-get_or}
 use Rattle.std.proofs.lemmas.Option.{slice_get-get_or}
-use Rattle.gg_flat.specs.declared.line.Node.{Node}
-use Rattle.gg_flat.specs.declared.line.Op.{Op}
-use Rattle.gg_flat.specs.declared.line.Op.TheVariants.{Ref, Literal, One, Two, Fix, Mux}
 use Rattle.gg_flat.specs.declared.memory.Reader.{Reader}
 use Rattle.gg_flat.specs.declared.memory.Writer.{Writer}
 use Rattle.gg_flat.specs.declared.memory.Memory.{Memory}
 use Rattle.gg_flat.specs.declared.piece.Signal.{Signal}
 use Rattle.gg_flat.specs.declared.piece.Register.{Register}
-use Rattle.gg_flat.specs.declared.piece.Reset.{Reset}
 use Rattle.gg_flat.specs.declared.piece.Driver.{Driver}
-use Rattle.gg_flat.specs.declared.piece.Driver.TheVariants.{Input, Held, MemoryWord, ReadRegister, Computed}
+use Rattle.gg_flat.specs.declared.piece.Driver.TheVariants.{Input}
 use Rattle.gg_flat.specs.Circuit.{FlatCircuit, driver_at}
-use Rattle.gg_flat.specs.Reads.{Names, NamesSignal, NextNames, ResetNames, RegisterNames}
+use Rattle.gg_flat.specs.Reads.{NamesSignal, RegisterNames}
 use Rattle.gg_flat_tree.specs.Scoped.{memory_fields, reader_fields, writer_fields}
 use Rattle.gg_flat_tree.specs.Tree.{path_at}
 use Rattle.gg_flat.proofs.ListLemmas.{map-same}
 use Rattle.gg_cut_laws.proofs.ListLemmas.{flattened-in, flat_map-is}
-use Rattle.gg_cut_reference.specs.Reference.{Views, op_by, line_by, next_by, reset_by, register_by, reader_by, writer_by, memory_by, driver_by}
+use Rattle.gg_flat.specs.Line.{value_at}
+use Rattle.gg_flat.specs.Renaming.{signals_by}
+use Rattle.gg_flat.proofs.RenamedLaws as things
+use Rattle.gg_cut_reference.specs.Reference.{Views, register_by, memory_by, driver_by}
 use Rattle.gg_cut_reference.specs.Made.{by_number, seen_signal, pipe_signals, pipe_registers, reference_of}
 
 -- The two say the same of what the signals, the registers and the memories of a circuit name.
@@ -40,60 +39,21 @@ filter-agree f g a (suc n) same = ap₂ (λ b l. cond b (a ∷ l) l) (same a (om
 -- ---- names that agree
 
 module _ (to other : ℕ → ℕ) where
-  op-agree : (op : Op) → ((t : ℕ) → op ≡ Ref t → to t ≡ other t) → op_by to op ≡ op_by other op
-  op-agree (Ref s) same = ap Ref (same s refl)
-  op-agree (Literal value) same = refl
-  op-agree (One op i) same = refl
-  op-agree (Two op i j) same = refl
-  op-agree (Fix op i n m) same = refl
-  op-agree (Mux c i j) same = refl
-
-  line-agree : (line : List Node) → ((t : ℕ) → Names line t → to t ≡ other t) → line_by to line ≡ line_by other line
-  line-agree [] same = refl
-  line-agree (node ∷ nodes) same =
-      ap₂ (λ op rest. let named : Node = record { ty = node.ty; op = op } in named ∷ rest) (op-agree node.op (λ t is. same t (0, omega arith, is)))
-      (line-agree nodes (λ t named. same t (suc named.0, omega (arith, named.1), named.2)))
-
-  next-agree : (next : Option (List Node)) → ((t : ℕ) → NextNames next t → to t ≡ other t) → next_by to next ≡ next_by other next
-  next-agree None same = refl
-  next-agree (Some line) same = ap Some (line-agree line same)
-
-  reset-agree : (reset : Option Reset) → ((t : ℕ) → ResetNames reset t → to t ≡ other t) → reset_by to reset ≡ reset_by other reset
-  reset-agree None same = refl
-  reset-agree (Some reset) same =
-      ap₂ (λ condition init. let one : Reset = record { condition = condition; init = init } in Some one) (line-agree reset.condition (λ t named. same t (inl named))) (line-agree reset.init (λ t named. same t (inr named)))
-
   register-agree : (register : Register) → ((t : ℕ) → RegisterNames register t → to t ≡ other t) → register_by to register ≡ register_by other register
-  register-agree register same =
-      ap₂ (λ reset next. let one : Register = record { ty = register.ty; reset = reset; next = next; clock = register.clock } in one) (reset-agree register.reset (λ t named. same t (inl named))) (next-agree register.next (λ t named. same t (inr named)))
-
-  readers-agree : (readers : List Reader) → All (λ reader. (t : ℕ) → Contains (reader_fields reader) t → to t ≡ other t) readers → map (λ reader. reader_by to reader) readers ≡ map (λ reader. reader_by other reader) readers
-  readers-agree [] same = refl
-  readers-agree (reader ∷ readers) same =
-      let here = same 0 reader (omega arith) in
-      ap₂ (λ (one : Reader) rest. one ∷ rest)
-      (ap₂ (λ addr en. let one : Reader = record { addr = addr; en = en; word = to reader.word; clock = reader.clock } in one) (here reader.addr (0, omega arith, refl)) (here reader.en (1, omega arith, refl))
-      ∙ ap (λ word. let one : Reader = record { addr = other reader.addr; en = other reader.en; word = word; clock = reader.clock } in one) (here reader.word (2, omega arith, refl)))
-      (readers-agree readers (λ k d lt. same (suc k) d (omega (arith, lt))))
-
-  writers-agree : (writers : List Writer) → All (λ writer. (t : ℕ) → Contains (writer_fields writer) t → to t ≡ other t) writers → map (λ writer. writer_by to writer) writers ≡ map (λ writer. writer_by other writer) writers
-  writers-agree [] same = refl
-  writers-agree (writer ∷ writers) same =
-      let here = same 0 writer (omega arith) in
-      ap₂ (λ (one : Writer) rest. one ∷ rest)
-      (ap₂ (λ addr en. let one : Writer = record { addr = addr; en = en; word = to writer.word; mask = to writer.mask; clock = writer.clock } in one) (here writer.addr (0, omega arith, refl)) (here writer.en (1, omega arith, refl))
-      ∙ ap₂ (λ word mask. let one : Writer = record { addr = other writer.addr; en = other writer.en; word = word; mask = mask; clock = writer.clock } in one) (here writer.word (2, omega arith, refl)) (here writer.mask (3, omega arith, refl)))
-      (writers-agree writers (λ k d lt. same (suc k) d (omega (arith, lt))))
+  register-agree register same = things.register-agree (signals_by to) (signals_by other) register same refl
 
   memory-agree : (memory : Memory) → ((t : ℕ) → Contains (flat_map (λ reader. reader_fields reader) memory.readers ++ flat_map (λ writer. writer_fields writer) memory.writers) t → to t ≡ other t) → memory_by to memory ≡ memory_by other memory
   memory-agree memory same =
-      ap₂ (λ readers writers. let one : Memory = record { word = memory.word; depth = memory.depth; latency = memory.latency; readers = readers; writers = writers } in one)
-      (readers-agree memory.readers (λ k d lt t h. same t
-      (Contains-append_left reads writes t
-      (subst (λ (l : List ℕ). Contains l t) (sym (flat_map-is (λ (reader : Reader). reader_fields reader) memory.readers)) (flattened-in (λ (reader : Reader). reader_fields reader) memory.readers k d t lt h)))))
-      (writers-agree memory.writers (λ k d lt t h. same t
-      (Contains-append_right reads writes t
-      (subst (λ (l : List ℕ). Contains l t) (sym (flat_map-is (λ (writer : Writer). writer_fields writer) memory.writers)) (flattened-in (λ (writer : Writer). writer_fields writer) memory.writers k d t lt h)))))
+      things.memory-agree (signals_by to) (signals_by other) memory
+      (record {
+        readers = λ k d lt.
+            let at : (i : ℕ) → i < 3 → to (value_at (reader_fields (get_or memory.readers k d)) i) ≡ other (value_at (reader_fields (get_or memory.readers k d)) i) = λ i low. same _ (read k d lt i low) in
+            (at 0 (omega arith), at 1 (omega arith), at 2 (omega arith));
+        writers = λ k d lt.
+            let at : (i : ℕ) → i < 4 → to (value_at (writer_fields (get_or memory.writers k d)) i) ≡ other (value_at (writer_fields (get_or memory.writers k d)) i) = λ i low. same _ (written k d lt i low) in
+            (at 0 (omega arith), at 1 (omega arith), at 2 (omega arith), at 3 (omega arith));
+      })
+      (record { readers = λ k d lt. refl; writers = λ k d lt. refl })
     where
       reads : List ℕ
       reads = flat_map (λ reader. reader_fields reader) memory.readers
@@ -101,12 +61,20 @@ module _ (to other : ℕ → ℕ) where
       writes : List ℕ
       writes = flat_map (λ writer. writer_fields writer) memory.writers
 
+      read : (k : ℕ) (d : Reader) → k < length memory.readers → (i : ℕ) → i < 3 → Contains (reads ++ writes) (value_at (reader_fields (get_or memory.readers k d)) i)
+      read k d lt i low =
+          let t = value_at (reader_fields (get_or memory.readers k d)) i in
+          Contains-append_left reads writes t
+          (subst (λ (l : List ℕ). Contains l t) (sym (flat_map-is (λ (reader : Reader). reader_fields reader) memory.readers)) (flattened-in (λ (reader : Reader). reader_fields reader) memory.readers k d t lt (Contains-get_or (reader_fields (get_or memory.readers k d)) i 0 low)))
+
+      written : (k : ℕ) (d : Writer) → k < length memory.writers → (i : ℕ) → i < 4 → Contains (reads ++ writes) (value_at (writer_fields (get_or memory.writers k d)) i)
+      written k d lt i low =
+          let t = value_at (writer_fields (get_or memory.writers k d)) i in
+          Contains-append_right reads writes t
+          (subst (λ (l : List ℕ). Contains l t) (sym (flat_map-is (λ (writer : Writer). writer_fields writer) memory.writers)) (flattened-in (λ (writer : Writer). writer_fields writer) memory.writers k d t lt (Contains-get_or (writer_fields (get_or memory.writers k d)) i 0 low)))
+
   driver-agree : (driver : Driver) → ((t : ℕ) → NamesSignal driver t → to t ≡ other t) → driver_by to driver ≡ driver_by other driver
-  driver-agree (Input place) same = refl
-  driver-agree (Held register) same = refl
-  driver-agree (MemoryWord memory reader addr en) same = ap₂ (λ a e. MemoryWord memory reader a e) (same addr (inl refl)) (same en (inr refl))
-  driver-agree (ReadRegister memory reader) same = refl
-  driver-agree (Computed line) same = ap Computed (line-agree line same)
+  driver-agree driver same = things.driver-agree (signals_by to) (signals_by other) driver same (λ r named. refl) (λ m named. refl)
 
 -- ---- the circuit
 

@@ -1,103 +1,40 @@
 -- The reference circuit of a well-formed circuit is well formed.
 use Rattle.std.proofs.Common.{◌≡◌, ◌≢◌, ℕ, zero, suc, ◌+◌, ◌-◌, ◌<◌, ◌≤◌, List, [], ◌∷◌, length, map, get_or, refl, sym, ◌∙◌, ap, ap₂, subst, inl, inr, ◌⊎◌, arith}
-use Rattle.std.specs.Prelude.{Option, Some, None, MatchOption, ⊤, All, AllPairs}
+use Rattle.std.specs.Prelude.{None, MatchOption, ⊤, AllPairs}
 use Rattle.std.proofs.lemmas.Bool.{cases_lt}
 use Rattle.std.proofs.lemmas.List.{get_or-map, length-map}
 use Rattle.std.proofs.lemmas.List.Elements.{All-map}
 use Rattle.gg_bits.specs.Shape.{Shape, shape, uint}
 use Rattle.gg_flat.specs.declared.line.Node.{Node}
-use Rattle.gg_flat.specs.declared.line.Op.{Op}
-use Rattle.gg_flat.specs.declared.line.Op.TheVariants.{Ref, Literal, One, Two, Fix, Mux}
-use Rattle.gg_flat.specs.declared.memory.Latency.{Latency}
-use Rattle.gg_flat.specs.declared.memory.Latency.TheVariants.{Zero, One as Late}
+use Rattle.gg_flat.specs.declared.memory.Latency.TheVariants.{Zero}
 use Rattle.gg_flat.specs.declared.memory.Reader.{Reader}
 use Rattle.gg_flat.specs.declared.memory.Writer.{Writer}
 use Rattle.gg_flat.specs.declared.memory.Memory.{Memory}
 use Rattle.gg_flat.specs.declared.piece.Register.{Register}
-use Rattle.gg_flat.specs.declared.piece.Reset.{Reset}
 use Rattle.gg_flat.specs.declared.piece.Driver.{Driver}
 use Rattle.gg_flat.specs.declared.piece.Driver.TheVariants.{Input, Held, MemoryWord, ReadRegister, Computed}
-use Rattle.gg_flat.specs.Line.{value_at, shape_at, shapes_of, op_at, HasShape, HasType, IsLine, IsSource, line_shape}
+use Rattle.gg_flat.specs.Line.{value_at, shape_at, op_at, HasShape, HasType, IsSource}
 use Rattle.gg_flat.specs.Circuit.{FlatCircuit, signal_shapes, driver_at, readers_at, latency_at, reader_at}
-use Rattle.gg_flat.specs.WellFormed.{IsWellFormed, IsDataOf, MayDrive, IsReset, IsRegister, IsReader, IsWriter, IsMemory, IsClock, IsClockedMemory, reader_driver}
+use Rattle.gg_flat.specs.WellFormed.{IsWellFormed, IsDataOf, MayDrive, IsReset, IsRegister, IsMemory, IsClock, IsClockedMemory, reader_driver}
 use Rattle.gg_flat.proofs.ListLemmas.{some-item}
-use Rattle.gg_cut_reference.specs.Reference.{Views, IsReference, IsSeen, IsPiped, IsPipeRegister, op_by, line_by, next_by, reset_by, register_by, reader_by, writer_by, memory_by, driver_by}
+use Rattle.gg_flat.specs.Renaming.{signals_by}
+use Rattle.gg_flat.proofs.RenamedLineLaws.{source-there}
+use Rattle.gg_flat.proofs.RenamedLaws.{register-there, memory-there, reader_driver-renamed}
+use Rattle.gg_cut_reference.specs.Reference.{Views, IsReference, IsSeen, IsPiped, IsPipeRegister, line_by, register_by, reader_by, writer_by, memory_by, driver_by}
 
--- ---- lines
-
-shapes-by : (to : ℕ → ℕ) (line : List Node) → shapes_of (line_by to line) ≡ shapes_of line
-shapes-by to [] = refl
-shapes-by to (node ∷ nodes) = ap (λ shapes. shape node.ty ∷ shapes) (shapes-by to nodes)
-
-length-line : (to : ℕ → ℕ) (line : List Node) → length (line_by to line) ≡ length line
-length-line to line = length-map line (λ node. let named : Node = record { ty = node.ty; op = op_by to node.op } in named)
-
-line_shape-by : (to : ℕ → ℕ) (line : List Node) → line_shape (line_by to line) ≡ line_shape line
-line_shape-by to line = ap₂ (λ shapes n. shape_at shapes (n - 1)) (shapes-by to line) (length-line to line)
-
-op-at : (to : ℕ → ℕ) (line : List Node) (k : ℕ) → k < length line → op_at (line_by to line) k ≡ op_by to (op_at line k)
-op-at to [] k lt = absurd (omega (arith, lt))
-op-at to (node ∷ nodes) zero lt = refl
-op-at to (node ∷ nodes) (suc k) lt = op-at to nodes k (omega (arith, lt))
+-- ---- the same under the numbers that a machine sees
 
 module _ (one all : FlatCircuit) (to : ℕ → ℕ) (types : (s : ℕ) (sh : Shape) → HasType (signal_shapes one) s sh → HasType (signal_shapes all) (to s) sh) where
-  shape-by : (shapes : List Shape) (k : ℕ) (sh : Shape) (op : Op) → HasShape (HasType (signal_shapes one)) shapes k sh op → HasShape (HasType (signal_shapes all)) shapes k sh (op_by to op)
-  shape-by shapes k sh (Ref s) is = types s sh is
-  shape-by shapes k sh (Literal value) is = is
-  shape-by shapes k sh (One op i) is = is
-  shape-by shapes k sh (Two op i j) is = is
-  shape-by shapes k sh (Fix op i n m) is = is
-  shape-by shapes k sh (Mux c i j) is = is
-
-  line-is : (line : List Node) → IsLine (HasType (signal_shapes one)) line → IsLine (HasType (signal_shapes all)) (line_by to line)
-  line-is line is =
-      record {
-        some = (let low = is.some in omega (arith, low, length-line to line));
-        typed = λ k lt.
-            let inside : k < length line = omega (arith, lt, length-line to line) in
-            subst (λ shapes. HasShape (HasType (signal_shapes all)) shapes k (shape_at shapes k) (op_at (line_by to line) k)) (sym (shapes-by to line))
-            (subst (HasShape (HasType (signal_shapes all)) (shapes_of line) k (shape_at (shapes_of line) k)) (sym (op-at to line k inside)) (shape-by (shapes_of line) k (shape_at (shapes_of line) k) (op_at line k) (is.typed k inside)));
-      }
-
   source-is : (sink : Shape) (line : List Node) → IsSource (HasType (signal_shapes one)) sink line → IsSource (HasType (signal_shapes all)) sink (line_by to line)
-  source-is sink line is =
-      record {
-        line = line-is line is.line;
-        kind = ap (λ (sh : Shape). sh.kind) (line_shape-by to line) ∙ is.kind;
-        width = subst (λ (sh : Shape). sh.width ≤ sink.width) (sym (line_shape-by to line)) is.width;
-      }
-
-  next-is : (sink : Shape) (next : Option (List Node)) → MatchOption next ⊤ (IsSource (HasType (signal_shapes one)) sink) → MatchOption (next_by to next) ⊤ (IsSource (HasType (signal_shapes all)) sink)
-  next-is sink None is = is
-  next-is sink (Some line) is = source-is sink line is
-
-  reset-is : (sink : Shape) (reset : Option Reset) → MatchOption reset ⊤ (IsReset (HasType (signal_shapes one)) sink) → MatchOption (reset_by to reset) ⊤ (IsReset (HasType (signal_shapes all)) sink)
-  reset-is sink None is = is
-  reset-is sink (Some reset) is =
-      record {
-        condition = record { line = line-is reset.condition is.condition.line; bit = line_shape-by to reset.condition ∙ is.condition.bit };
-        init = source-is sink reset.init is.init;
-      }
+  source-is sink line is = source-there to (HasType (signal_shapes one)) (HasType (signal_shapes all)) sink line (λ s named. types s) is
 
   pub register-is : (register : Register) → IsRegister (HasType (signal_shapes one)) register → IsRegister (HasType (signal_shapes all)) (register_by to register)
-  register-is register is = record { reset = reset-is (shape register.ty) register.reset is.reset; next = next-is (shape register.ty) register.next is.next }
-
-  readers-are : (word : Shape) (depth : ℕ) (readers : List Reader) → All (IsReader (HasType (signal_shapes one)) word depth) readers → All (IsReader (HasType (signal_shapes all)) word depth) (map (λ reader. reader_by to reader) readers)
-  readers-are word depth readers are =
-      All-map (IsReader (HasType (signal_shapes all)) word depth) (λ reader. reader_by to reader) readers (λ k d lt.
-      let is = are k d lt in
-      let reader = get_or readers k d in
-      record { address = types reader.addr _ is.address; enable = types reader.en _ is.enable; output = types reader.word _ is.output })
-
-  writers-are : (word : Shape) (depth : ℕ) (writers : List Writer) → All (IsWriter (HasType (signal_shapes one)) word depth) writers → All (IsWriter (HasType (signal_shapes all)) word depth) (map (λ writer. writer_by to writer) writers)
-  writers-are word depth writers are =
-      All-map (IsWriter (HasType (signal_shapes all)) word depth) (λ writer. writer_by to writer) writers (λ k d lt.
-      let is = are k d lt in
-      let writer = get_or writers k d in
-      record { address = types writer.addr _ is.address; enable = types writer.en _ is.enable; input = types writer.word _ is.input; masked = types writer.mask _ is.masked })
+  register-is register is = register-there (signals_by to) (HasType (signal_shapes one)) (HasType (signal_shapes all)) register (λ s named. types s) is
 
   pub memory-is : (memory : Memory) → IsMemory (HasType (signal_shapes one)) memory → IsMemory (HasType (signal_shapes all)) (memory_by to memory)
-  memory-is memory is = record { some = is.some; readers = readers-are (shape memory.word) memory.depth memory.readers is.readers; writers = writers-are (shape memory.word) memory.depth memory.writers is.writers }
+  memory-is memory is =
+      memory-there (signals_by to) (HasType (signal_shapes one)) (HasType (signal_shapes all)) memory
+      (record { readers = λ k d lt. (types _, types _, types _); writers = λ k d lt. (types _, types _, types _, types _) }) is
 
 memory-clocked : (count : ℕ) (to : ℕ → ℕ) (memory : Memory) → IsClockedMemory count memory → IsClockedMemory count (memory_by to memory)
 memory-clocked count to memory is =
@@ -191,10 +128,6 @@ module _ (one all : FlatCircuit) (views : Views) (pipes : List ℕ) (reference :
     drives s (Computed line) lt is =
         subst (λ sink. IsSource (HasType (signal_shapes all)) sink (line_by (views.seen (views.maker s)) line)) (sym (reference.shapes s lt))
         (source-is one all (views.seen (views.maker s)) (types (views.maker s)) (shape_at (signal_shapes one) s) line is)
-
-    reader-by-driver : (latency : Latency) (m r : ℕ) (reader : Reader) (to : ℕ → ℕ) → driver_by to (reader_driver latency m r reader) ≡ reader_driver latency m r (reader_by to reader)
-    reader-by-driver Zero m r reader to = refl
-    reader-by-driver (Late under) m r reader to = refl
 
     -- the paths, the out-signals and the pipes' channels are as they must be
     pub record AreOuter : Type 0 where
@@ -306,7 +239,7 @@ module _ (one all : FlatCircuit) (views : Views) (pipes : List ℕ) (reference :
               ap (driver_at all) (ap (λ (q : Reader). q.word) (reader-all m r lt low) ∙ are.plain m r low)
               ∙ reference.drivers reader.word known
               ∙ ap₂ (λ j d. driver_by (views.seen j) d) (are.maker m r low) (formed.reads m lt r low)
-              ∙ reader-by-driver (latency_at one m) m r reader (views.seen (views.keeper m))
+              ∙ reader_driver-renamed (signals_by (views.seen (views.keeper m))) (latency_at one m) m r reader
               ∙ ap₂ (λ latency q. reader_driver latency m r q) (sym (latency-all m lt)) (sym (reader-all m r lt low))
             where
               word-known : (m r : ℕ) → m < length one.memories → r < length (readers_at one m) → (reader_at (readers_at one m) r).word < length one.signals

@@ -1,19 +1,12 @@
 -- Where nothing is piped, the reference circuit is the circuit.
 use Rattle.std.proofs.Common.{◌≡◌, ℕ, suc, List, [], ◌∷◌, ◌++◌, Bool, true, false, length, map, refl, ◌∙◌, ap, ap₂}
-use Rattle.std.specs.Prelude.{◌&&◌, ◌==◌, if◌then◌else◌, Option, Some, None, cond, filter}
+use Rattle.std.specs.Prelude.{◌&&◌, ◌==◌, if◌then◌else◌, cond, filter}
 use Rattle.std.specs.List.{list_any, range_with_len}
 use Rattle.std.proofs.lemmas.List.{append-nil, map-id}
-use Rattle.gg_flat.specs.declared.line.Node.{Node}
-use Rattle.gg_flat.specs.declared.line.Op.{Op}
-use Rattle.gg_flat.specs.declared.line.Op.TheVariants.{Ref, Literal, One, Two, Fix, Mux}
-use Rattle.gg_flat.specs.declared.memory.Reader.{Reader}
-use Rattle.gg_flat.specs.declared.memory.Writer.{Writer}
 use Rattle.gg_flat.specs.declared.memory.Memory.{Memory}
 use Rattle.gg_flat.specs.declared.piece.Signal.{Signal}
 use Rattle.gg_flat.specs.declared.piece.Register.{Register}
-use Rattle.gg_flat.specs.declared.piece.Reset.{Reset}
 use Rattle.gg_flat.specs.declared.piece.Driver.{Driver}
-use Rattle.gg_flat.specs.declared.piece.Driver.TheVariants.{Input, Held, MemoryWord, ReadRegister, Computed}
 use Rattle.gg_flat.specs.Circuit.{FlatCircuit}
 use Rattle.gg_flat.proofs.ListLemmas.{map-same}
 use Rattle.gg_flat_tree.specs.Tree.{path_at}
@@ -22,7 +15,9 @@ use Rattle.gg_partfile.specs.declared.request.Request.{Request}
 use Rattle.gg_cut_plan.specs.Listed.{first_place, is_among, listed_of}
 use Rattle.gg_cut_plan.specs.declared.wires.Wire.{Wire}
 use Rattle.gg_cut_plan.specs.Direct.{Hub, routes, plan_hub}
-use Rattle.gg_cut_reference.specs.Reference.{Views, op_by, line_by, next_by, reset_by, register_by, reader_by, writer_by, memory_by, driver_by}
+use Rattle.gg_flat.specs.Renaming.{signals_by, same_numbers}
+use Rattle.gg_flat.proofs.RenamedLaws as things
+use Rattle.gg_cut_reference.specs.Reference.{Views, register_by, memory_by, driver_by}
 use Rattle.gg_cut_reference.specs.Links.{is_carried, pipes_of, pipe_or, taken_as, seen_by, views_of}
 use Rattle.gg_cut_reference.specs.Made.{by_number, seen_signal, reference_of, reference, holder_of, keeper_of, plan_reference}
 
@@ -37,49 +32,17 @@ numbers-same f same n (x ∷ xs) = ap₂ (λ y ys. y ∷ ys) (same n x) (numbers
 -- ---- names that are the same
 
 module _ (to : ℕ → ℕ) (same : (s : ℕ) → to s ≡ s) where
-  op-same : (op : Op) → op_by to op ≡ op
-  op-same (Ref s) = ap Ref (same s)
-  op-same (Literal value) = refl
-  op-same (One op i) = refl
-  op-same (Two op i j) = refl
-  op-same (Fix op i n m) = refl
-  op-same (Mux c i j) = refl
-
-  line-same : (line : List Node) → line_by to line ≡ line
-  line-same line = all-same (λ node. let named : Node = record { ty = node.ty; op = op_by to node.op } in named) (λ node. ap (λ op. let named : Node = record { ty = node.ty; op = op } in named) (op-same node.op)) line
-
-  next-same : (next : Option (List Node)) → next_by to next ≡ next
-  next-same None = refl
-  next-same (Some line) = ap Some (line-same line)
-
-  reset-same : (reset : Option Reset) → reset_by to reset ≡ reset
-  reset-same None = refl
-  reset-same (Some reset) = ap₂ (λ condition init. let one : Reset = record { condition = condition; init = init } in Some one) (line-same reset.condition) (line-same reset.init)
-
   register-same : (register : Register) → register_by to register ≡ register
-  register-same register = ap₂ (λ reset next. let one : Register = record { ty = register.ty; reset = reset; next = next; clock = register.clock } in one) (reset-same register.reset) (next-same register.next)
-
-  reader-same : (reader : Reader) → reader_by to reader ≡ reader
-  reader-same reader =
-      ap₂ (λ addr en. let one : Reader = record { addr = addr; en = en; word = to reader.word; clock = reader.clock } in one) (same reader.addr) (same reader.en)
-      ∙ ap (λ word. let one : Reader = record { addr = reader.addr; en = reader.en; word = word; clock = reader.clock } in one) (same reader.word)
-
-  writer-same : (writer : Writer) → writer_by to writer ≡ writer
-  writer-same writer =
-      ap₂ (λ addr en. let one : Writer = record { addr = addr; en = en; word = to writer.word; mask = to writer.mask; clock = writer.clock } in one) (same writer.addr) (same writer.en)
-      ∙ ap₂ (λ word mask. let one : Writer = record { addr = writer.addr; en = writer.en; word = word; mask = mask; clock = writer.clock } in one) (same writer.word) (same writer.mask)
+  register-same register = things.register-agree (signals_by to) same_numbers register (λ s named. same s) refl ∙ things.register-same register
 
   memory-same : (memory : Memory) → memory_by to memory ≡ memory
   memory-same memory =
-      ap₂ (λ readers writers. let one : Memory = record { word = memory.word; depth = memory.depth; latency = memory.latency; readers = readers; writers = writers } in one)
-      (all-same (λ reader. reader_by to reader) reader-same memory.readers) (all-same (λ writer. writer_by to writer) writer-same memory.writers)
+      things.memory-agree (signals_by to) same_numbers memory
+      (things.memory-each (things.AgreeAt (signals_by to) same_numbers) memory same) (things.follows-each (things.AgreeOn (signals_by to) same_numbers) memory (λ clock. refl))
+      ∙ things.memory-same memory
 
   driver-same : (driver : Driver) → driver_by to driver ≡ driver
-  driver-same (Input place) = refl
-  driver-same (Held register) = refl
-  driver-same (MemoryWord memory reader addr en) = ap₂ (λ a e. MemoryWord memory reader a e) (same addr) (same en)
-  driver-same (ReadRegister memory reader) = refl
-  driver-same (Computed line) = ap Computed (line-same line)
+  driver-same driver = things.driver-agree (signals_by to) same_numbers driver (λ s named. same s) (λ r named. refl) (λ m named. refl) ∙ things.driver-same driver
 
 -- ---- the circuit
 

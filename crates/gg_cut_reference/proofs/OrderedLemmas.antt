@@ -1,23 +1,21 @@
 -- An order of the design, behind the pipes, is an order of the reference circuit. And a copy's origin is that of what it copies.
-use Rattle.std.proofs.Common.{◌≡◌, ◌≢◌, ℕ, zero, suc, ◌+◌, ◌-◌, ◌<◌, ◌≤◌, List, [], ◌∷◌, ◌++◌, length, take, get_or, sym, ◌∙◌, ap, subst, inl, inr, ◌⊎◌, refl, length-take, arith}
+use Rattle.std.proofs.Common.{◌≡◌, ◌≢◌, ℕ, ◌+◌, ◌-◌, ◌<◌, ◌≤◌, List, ◌++◌, length, take, get_or, sym, ◌∙◌, ap, subst, inl, inr, ◌⊎◌, refl, length-take, arith}
 use Rattle.std.specs.Prelude.{Contains, AllPairs}
 use Rattle.std.specs.List.{range_with_len}
 use Rattle.std.proofs.lemmas.Bool.{cases_lt}
 use Rattle.std.proofs.lemmas.List.{get_or-take, get_or_default, get_or_append_left, get_or-append-add, length-append}
 use Rattle.std.proofs.lemmas.List.FromFn.{get_or-range_with_len, length-range_with_len}
 use Rattle.std.proofs.lemmas.List.Elements.{Contains-append_left, Contains-append_right, Contains-append_cases, Contains-get_or}
-use Rattle.gg_flat.specs.declared.line.Node.{Node}
-use Rattle.gg_flat.specs.declared.line.Op.{Op}
-use Rattle.gg_flat.specs.declared.line.Op.TheVariants.{Ref, Literal, One, Two, Fix, Mux}
 use Rattle.gg_flat.specs.declared.piece.Driver.{Driver}
 use Rattle.gg_flat.specs.declared.piece.Driver.TheVariants.{Input, Held, MemoryWord, ReadRegister, Computed}
 use Rattle.gg_flat.specs.Line.{value_at}
 use Rattle.gg_flat.specs.Circuit.{FlatCircuit, driver_at}
-use Rattle.gg_flat.specs.Reads.{Names, NamesSignal, Reads}
+use Rattle.gg_flat.specs.Reads.{NamesSignal, Reads}
 use Rattle.gg_flat.specs.Order.{IsOrder}
 use Rattle.gg_flat.proofs.OrderLemmas.{stands-before}
 use Rattle.gg_cut_laws.proofs.ListLemmas.{AllPairs-append}
-use Rattle.gg_cut_reference.specs.Reference.{Views, IsReference, IsSeen, IsPiped, op_by, line_by, driver_by}
+use Rattle.gg_flat.proofs.RenamedLineLaws.{named-back}
+use Rattle.gg_cut_reference.specs.Reference.{Views, IsReference, IsSeen, IsPiped, driver_by}
 
 -- what a renamed driver names, by its name before
 pub record IsNameOf (to : ℕ → ℕ) (Named : ℕ → Type 0) (u : ℕ) : Type 0 where
@@ -25,28 +23,13 @@ pub record IsNameOf (to : ℕ → ℕ) (Named : ℕ → Type 0) (u : ℕ) : Type
   pub named : Named before
   pub is : to before ≡ u
 
-op-name : (to : ℕ → ℕ) (op : Op) (u : ℕ) → op_by to op ≡ Ref u → IsNameOf to (λ t. op ≡ Ref t) u
-op-name to (Ref s) u e = record { before = s; named = refl; is = cc }
-op-name to (Literal value) u e = absurd (cc)
-op-name to (One op i) u e = absurd (cc)
-op-name to (Two op i j) u e = absurd (cc)
-op-name to (Fix op i n m) u e = absurd (cc)
-op-name to (Mux c i j) u e = absurd (cc)
-
-line-name : (to : ℕ → ℕ) (line : List Node) (u : ℕ) → Names (line_by to line) u → IsNameOf to (Names line) u
-line-name to [] u named = absurd (omega (arith, named.1))
-line-name to (node ∷ nodes) u (zero, lt, e) = let n = op-name to node.op u e in record { before = n.before; named = (0, omega arith, n.named); is = n.is }
-line-name to (node ∷ nodes) u (suc k, lt, e) =
-    let n = line-name to nodes u (k, omega (arith, lt), e) in
-    record { before = n.before; named = (suc n.named.0, omega (arith, n.named.1), n.named.2); is = n.is }
-
 driver-name : (to : ℕ → ℕ) (driver : Driver) (u : ℕ) → NamesSignal (driver_by to driver) u → IsNameOf to (NamesSignal driver) u
 driver-name to (Input place) u named = absurd named
 driver-name to (Held register) u named = absurd named
 driver-name to (MemoryWord memory reader addr en) u (inl e) = record { before = addr; named = inl refl; is = e }
 driver-name to (MemoryWord memory reader addr en) u (inr e) = record { before = en; named = inr refl; is = e }
 driver-name to (ReadRegister memory reader) u named = absurd named
-driver-name to (Computed line) u named = line-name to line u named
+driver-name to (Computed line) u named = let n = named-back to line u named in record { before = n.0; named = n.1; is = n.2 }
 
 in-take : (list : List ℕ) (i j t : ℕ) → j < i → j < length list → value_at list j ≡ t → Contains (take i list) t
 in-take list i j t less lt e = (j, omega (arith, less, lt, length-take i list), get_or-take i list j t less ∙ get_or_default list j t 0 lt ∙ e)

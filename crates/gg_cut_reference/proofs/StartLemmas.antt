@@ -1,15 +1,11 @@
 -- Where the whole run of a request starts: cycle 0, with zeros. It is a case of a run from any start.
 use Rattle.std.proofs.Common.{◌≡◌, ℕ, zero, suc, ◌+◌, List, [], ◌∷◌, Option, None, Some, length, map, replicate, refl, sym, ◌∙◌, ap, ap₂, arith}
 use Rattle.std.specs.Prelude.{◌==◌}
-use Rattle.std.proofs.lemmas.List.{length-map}
-use Rattle.gg_flat.specs.declared.memory.Latency.{Latency}
-use Rattle.gg_flat.specs.declared.memory.Latency.TheVariants.{Zero, One as Late}
 use Rattle.gg_flat.specs.declared.memory.Memory.{Memory}
-use Rattle.gg_flat.specs.declared.memory.Reader.{Reader}
 use Rattle.gg_flat.specs.Clock.{Ratio}
 use Rattle.gg_flat.specs.Circuit.{FlatCircuit}
 use Rattle.gg_flat.specs.Line.{value_at}
-use Rattle.gg_flat.specs.Memory.{Bank, bank_at, opening_bank, read_count}
+use Rattle.gg_flat.specs.Memory.{Bank, bank_at, opening_bank}
 use Rattle.gg_flat.specs.State.{IsState, State, opening}
 use Rattle.gg_flat.specs.Run.{IsRunFrom, Start, clocked_start}
 use Rattle.gg_flat.proofs.StateLemmas.{IsState-opening}
@@ -24,7 +20,9 @@ use Rattle.gg_cut_plan.specs.Direct.{Hub, plan_hub}
 use Rattle.gg_cut_plan.specs.Listed.{first_place, listed_of}
 use Rattle.gg_cut_plan.specs.Plan.{IsCutPart}
 use Rattle.gg_cut_plan.specs.Solves.{AreRows}
-use Rattle.gg_cut_reference.specs.Reference.{Views, memory_by, reader_by}
+use Rattle.gg_flat.specs.Renaming.{signals_by}
+use Rattle.gg_flat.proofs.RenamedLaws.{opening-renamed}
+use Rattle.gg_cut_reference.specs.Reference.{Views, memory_by}
 use Rattle.gg_cut_reference.specs.Links.{pipes_of}
 use Rattle.gg_cut_reference.specs.Made.{by_number, plan_reference, reference_of, views_in}
 use Rattle.gg_cut_reference.specs.Follows.{plan_start, plan_token, token_of, token_or}
@@ -50,18 +48,9 @@ zeros-at : (n k : ℕ) (places : List ℕ) → map (value_at (replicate n 0)) pl
 zeros-at n k [] = refl
 zeros-at n k (place ∷ places) = ap₂ (λ (x : ℕ) xs. x ∷ xs) (zero-at n place ∙ sym (zero-at k place)) (zeros-at n k places)
 
-read_count-by : (to : ℕ → ℕ) (latency : Latency) (readers : List Reader) → read_count latency (map (λ reader. reader_by to reader) readers) ≡ read_count latency readers
-read_count-by to Zero readers = refl
-read_count-by to (Late under) readers = length-map readers (λ reader. reader_by to reader)
-
-bank-by : (to : ℕ → ℕ) (memory : Memory) → opening_bank (memory_by to memory) ≡ opening_bank memory
-bank-by to memory =
-    let bank : ℕ → Bank = λ count. record { words = replicate memory.depth 0; reads = replicate count 0 } in
-    ap bank (read_count-by to memory.latency memory.readers)
-
 banks-by : (to : ℕ → ℕ → ℕ) (n : ℕ) (memories : List Memory) → map (λ memory. opening_bank memory) (by_number (λ m memory. memory_by (to m) memory) n memories) ≡ map (λ memory. opening_bank memory) memories
 banks-by to n [] = refl
-banks-by to n (memory ∷ memories) = ap₂ (λ (bank : Bank) banks. bank ∷ banks) (bank-by (to n) memory) (banks-by to (suc n) memories)
+banks-by to n (memory ∷ memories) = ap₂ (λ (bank : Bank) banks. bank ∷ banks) (opening-renamed (signals_by (to n)) memory) (banks-by to (suc n) memories)
 
 -- a part begins with the same zeros in the reference circuit and in the design
 zeros-by : (one : FlatCircuit) (views : Views) (pipes held memories : List ℕ) → part_state held memories (opening (reference_of one views pipes)) ≡ part_state held memories (opening one)

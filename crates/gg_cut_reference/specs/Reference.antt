@@ -5,73 +5,47 @@ use Rattle.std.specs.Prelude.{◌≡◌, ◌⊎◌, ℕ, ◌+◌, ◌<◌, List,
 use Rattle.gg_bits.specs.Shape.{Shape, shape}
 use Rattle.gg_flat.specs.declared.line.Node.{Node}
 use Rattle.gg_flat.specs.declared.line.Op.{Op}
-use Rattle.gg_flat.specs.declared.line.Op.TheVariants.{Ref, Literal, One, Two, Fix, Mux}
+use Rattle.gg_flat.specs.declared.line.Op.TheVariants.{Ref}
 use Rattle.gg_flat.specs.declared.memory.Reader.{Reader}
 use Rattle.gg_flat.specs.declared.memory.Writer.{Writer}
 use Rattle.gg_flat.specs.declared.memory.Memory.{Memory}
 use Rattle.gg_flat.specs.declared.piece.Register.{Register}
 use Rattle.gg_flat.specs.declared.piece.Reset.{Reset}
 use Rattle.gg_flat.specs.declared.piece.Driver.{Driver}
-use Rattle.gg_flat.specs.declared.piece.Driver.TheVariants.{Input, Held, MemoryWord, ReadRegister, Computed}
+use Rattle.gg_flat.specs.declared.piece.Driver.TheVariants.{Held}
 use Rattle.gg_flat.specs.Line.{value_at, shape_at}
 use Rattle.gg_flat.specs.Circuit.{FlatCircuit, signal_shapes, driver_at}
 use Rattle.gg_flat_tree.specs.Tree.{path_at}
+use Rattle.gg_flat.specs.Renaming.{signals_by, renamed_op, renamed_line, renamed_next, renamed_reset, renamed_driver, renamed_register, renamed_reader, renamed_writer, renamed_memory}
 
 -- ---- other names for signals
 
--- an operation of a node; only a reference names a signal, which has another number by `to`
 abbrev pub op_by : (ℕ → ℕ) → Op → Op
-op_by to (Ref s) = Ref (to s)
-op_by to (Literal value) = Literal value
-op_by to (One op i) = One op i
-op_by to (Two op i j) = Two op i j
-op_by to (Fix op i n m) = Fix op i n m
-op_by to (Mux c i j) = Mux c i j
+op_by to op = renamed_op to op
 
--- a line, whose nodes keep their types
 abbrev pub line_by : (ℕ → ℕ) → List Node → List Node
-line_by to line = map (λ node. let named : Node = record { ty = node.ty; op = op_by to node.op } in named) line
+line_by to line = renamed_line to line
 
--- what a register is connected to, if anything
-abbrev pub next_by : (ℕ → ℕ) → Option (List Node) → Option (List Node)
-next_by to None = None
-next_by to (Some line) = Some (line_by to line)
-
--- a register's reset, if it has one
-abbrev pub reset_by : (ℕ → ℕ) → Option Reset → Option Reset
-reset_by to None = None
-reset_by to (Some reset) = Some (record { condition = line_by to reset.condition; init = line_by to reset.init })
-
--- a register, with the same clock
 abbrev pub register_by : (ℕ → ℕ) → Register → Register
-register_by to register = record { ty = register.ty; reset = reset_by to register.reset; next = next_by to register.next; clock = register.clock }
+register_by to register = renamed_register (signals_by to) register
 
--- a reader of a memory, with the same clock
 abbrev pub reader_by : (ℕ → ℕ) → Reader → Reader
-reader_by to reader = record { addr = to reader.addr; en = to reader.en; word = to reader.word; clock = reader.clock }
+reader_by to reader = renamed_reader (signals_by to) reader
 
--- a writer of a memory, with the same clock
 abbrev pub writer_by : (ℕ → ℕ) → Writer → Writer
-writer_by to writer = record { addr = to writer.addr; en = to writer.en; word = to writer.word; mask = to writer.mask; clock = writer.clock }
+writer_by to writer = renamed_writer (signals_by to) writer
 
--- a memory with all its ports
 abbrev pub memory_by : (ℕ → ℕ) → Memory → Memory
-memory_by to memory =
-    record {
-      word = memory.word;
-      depth = memory.depth;
-      latency = memory.latency;
-      readers = map (λ reader. reader_by to reader) memory.readers;
-      writers = map (λ writer. writer_by to writer) memory.writers;
-    }
+memory_by to memory = renamed_memory (signals_by to) memory
 
--- a driver; the place of an input and the numbers of registers, memories and readers stay
 abbrev pub driver_by : (ℕ → ℕ) → Driver → Driver
-driver_by to (Input place) = Input place
-driver_by to (Held register) = Held register
-driver_by to (MemoryWord memory reader addr en) = MemoryWord memory reader (to addr) (to en)
-driver_by to (ReadRegister memory reader) = ReadRegister memory reader
-driver_by to (Computed line) = Computed (line_by to line)
+driver_by to driver = renamed_driver (signals_by to) driver
+
+abbrev pub next_by : (ℕ → ℕ) → Option (List Node) → Option (List Node)
+next_by to next = renamed_next to next
+
+abbrev pub reset_by : (ℕ → ℕ) → Option Reset → Option Reset
+reset_by to reset = renamed_reset to reset
 
 -- ---- pipes
 

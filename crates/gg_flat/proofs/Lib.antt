@@ -10,6 +10,8 @@ pub mod WordLemmas
 pub mod BankLemmas
 pub mod StateLemmas
 pub mod WidthLemmas
+pub mod RenamedLineLaws
+pub mod RenamedLaws
 pub mod WorkedCircuits
 pub mod WorkedRows
 pub mod WorkedForms

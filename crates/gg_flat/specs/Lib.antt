@@ -14,3 +14,5 @@ pub mod Served
 pub mod Along
 pub mod Ports
 pub mod Streams
+pub mod Named
+pub mod Renaming

@@ -8,6 +8,9 @@
 //!
 //! A `Piece` is a flat circuit, built signal by signal; `Piece::copy` gives an equal one. `Line::value` gives what a line
 //! comes to without allocating, in scratch space (gg_flat_run's `scratch_of`). `in_ports` and `out_ports` give its ports.
+//!
+//! What gives other numbers is a `Renames`, such as `Lists`. `renamed_driver`, `renamed_register` and `renamed_memory` give the same under
+//! these numbers (`specs/Renaming`).
 #![tactic(auto)]
 
 mod by_form;
@@ -18,6 +21,8 @@ mod line;
 mod memory;
 mod piece;
 mod ports;
+mod renamed;
+mod renames;
 mod streams;
 
 pub use evaluate::{op_of, type_of};
@@ -25,4 +30,8 @@ pub use line::{Line, Node, Op};
 pub use memory::{Latency, Memory, Reader, Readers, UnderWrite, Writer, Writers, address_width};
 pub use piece::{Driver, Piece, Register, Reset, Signal};
 pub use ports::{Port, Ports};
+pub use renamed::{
+    renamed_driver, renamed_memory, renamed_reader, renamed_register, renamed_writer,
+};
+pub use renames::{Lists, Renames};
 pub use streams::Streams;

@@ -1,29 +1,21 @@
 -- If the signals of a part are listed along an order of the whole, each stands after those that it reads; and then their numbers,
 -- ascending, are an order of the part.
-use Rattle.std.proofs.Common.{◌≡◌, ℕ, zero, suc, ◌+◌, ◌<◌, ◌≤◌, List, [], ◌∷◌, length, refl, sym, ◌∙◌, ap, subst, inl, inr, ◌⊎◌, Option, arith}
+use Rattle.std.proofs.Common.{◌≡◌, ℕ, ◌+◌, ◌<◌, ◌≤◌, List, length, refl, sym, ◌∙◌, subst, inl, inr, ◌⊎◌, Option, arith}
 use Rattle.std.specs.List.{range_with_len}
 use Rattle.std.proofs.lemmas.List.{get_or-take, get_or_default, length-take}
 use Rattle.std.proofs.lemmas.List.FromFn.{get_or-range_with_len, length-range_with_len}
 use Rattle.std.proofs.lemmas.Bool.{cases_lt}
-use Rattle.gg_flat.specs.declared.line.Node.{Node}
 use Rattle.gg_flat.specs.declared.piece.Driver.{Driver}
 use Rattle.gg_flat.specs.declared.piece.Driver.TheVariants.{Input, Held, MemoryWord, ReadRegister, Computed}
 use Rattle.gg_flat.specs.Line.{value_at}
 use Rattle.gg_flat.specs.Circuit.{FlatCircuit, driver_at}
-use Rattle.gg_flat.specs.Reads.{Names, NamesSignal, Reads}
+use Rattle.gg_flat.specs.Reads.{NamesSignal, Reads}
 use Rattle.gg_flat.specs.Order.{IsOrder}
 use Rattle.gg_flat.proofs.OrderLemmas.{read-before, not-before, place-of}
 use Rattle.gg_flat.proofs.ListLemmas.{once-apart}
-use Rattle.gg_part.specs.Part.{IsPart, IsFrom, renamed_op, renamed_line}
+use Rattle.gg_part.specs.Part.{IsPart, IsFrom}
+use Rattle.gg_flat.proofs.RenamedLineLaws.{named-there}
 use Rattle.gg_part.specs.InOrder.{Precedes, IsAlong, IsInOrder}
-
--- what a line of the part names, the same line of the whole names by the whole's number
-pub Names-renamed : (globals : List ℕ) (line : List Node) (s : ℕ) → Names line s → Names (renamed_line globals line) (value_at globals s)
-Names-renamed globals [] s named = absurd (omega (arith, named.1))
-Names-renamed globals (node ∷ nodes) s (zero, lt, is) = (zero, omega arith, ap (renamed_op globals) is)
-Names-renamed globals (node ∷ nodes) s (suc k, lt, is) =
-    let rest = Names-renamed globals nodes s (k, omega (arith, lt), is) in
-    (suc rest.0, omega (arith, rest.1), rest.2)
 
 -- s is a signal of the part, and the driver names the whole's signal that it stands for
 pub record IsNamedIn (globals : List ℕ) (driver : Driver) (s : ℕ) : Type 0 where
@@ -39,7 +31,7 @@ named-in ins globals held memories a b whole (MemoryWord m r addr en) from (inr 
     subst (λ t. IsNamedIn globals whole t) is (record { within = from.2; named = subst (λ d. NamesSignal d (value_at globals en)) (sym from.3) (inr refl) })
 named-in ins globals held memories a b whole (ReadRegister m r) from named = absurd named
 named-in ins globals held memories a b whole (Computed line) from named =
-    record { within = from.0 b named; named = subst (λ d. NamesSignal d (value_at globals b)) (sym from.1) (Names-renamed globals line b named) }
+    record { within = from.0 b named; named = subst (λ d. NamesSignal d (value_at globals b)) (sym from.1) (named-there (value_at globals) line b named) }
 
 module _ (whole part : FlatCircuit) (globals held memories order : List ℕ) (clocks : List (Option ℕ)) (is : IsPart whole part globals held memories clocks) (ordered : IsOrder whole order) where
   -- if a signal of the part reads another, so do the signals of the whole for which they stand

@@ -1,115 +1,46 @@
 -- A part of a well-formed circuit is well formed.
-use Rattle.std.proofs.Common.{◌≡◌, ◌≢◌, ℕ, zero, suc, ◌<◌, ◌≤◌, List, [], ◌∷◌, length, map, get_or, refl, sym, ◌∙◌, ap, ap₂, subst, inl, inr, arith}
-use Rattle.std.specs.Prelude.{Option, Some, None, MatchOption, AllPairs, ⊤}
-use Rattle.std.proofs.lemmas.List.{get_or-map, get_or_default, length-map}
+use Rattle.std.proofs.Common.{◌≡◌, ◌≢◌, ℕ, ◌<◌, List, [], length, map, get_or, refl, sym, ◌∙◌, ap, ap₂, subst, arith}
+use Rattle.std.specs.Prelude.{Option, None, AllPairs}
+use Rattle.std.proofs.lemmas.List.{get_or-map, length-map}
 use Rattle.gg_bits.specs.Shape.{Shape, shape, uint}
 use Rattle.gg_flat.specs.declared.line.Node.{Node}
-use Rattle.gg_flat.specs.declared.line.Op.{Op}
-use Rattle.gg_flat.specs.declared.line.Op.TheVariants.{Ref, Literal, One, Two, Fix, Mux}
 use Rattle.gg_flat.specs.declared.memory.Latency.{Latency}
 use Rattle.gg_flat.specs.declared.memory.Latency.TheVariants.{Zero, One as Late}
 use Rattle.gg_flat.specs.declared.memory.Reader.{Reader}
-use Rattle.gg_flat.specs.declared.memory.Writer.{Writer}
 use Rattle.gg_flat.specs.declared.memory.Memory.{Memory}
 use Rattle.gg_flat.specs.declared.piece.Register.{Register}
-use Rattle.gg_flat.specs.declared.piece.Reset.{Reset}
 use Rattle.gg_flat.specs.declared.piece.Driver.{Driver}
 use Rattle.gg_flat.specs.declared.piece.Driver.TheVariants.{Input, Held, MemoryWord, ReadRegister, Computed}
-use Rattle.gg_flat.specs.Line.{value_at, shape_at, shapes_of, op_at, HasType, HasShape, IsLine, IsSource, IsCondition}
+use Rattle.gg_flat.specs.Line.{value_at, shape_at, HasType, IsSource}
 use Rattle.gg_flat.specs.Circuit.{FlatCircuit, signal_shapes, driver_at, readers_at, latency_at, reader_at}
-use Rattle.gg_flat.specs.Reads.{Names, ResetNames, NextNames}
 use Rattle.gg_flat_tree.specs.Tree.{path_at}
-use Rattle.gg_flat.specs.WellFormed.{IsDataOf, MayDrive, IsReset, IsRegister, IsReader, IsWriter, IsMemory, IsClock, IsClockedMemory, IsWellFormed, reader_driver}
+use Rattle.gg_flat.specs.WellFormed.{IsDataOf, MayDrive, IsRegister, IsMemory, IsClock, IsClockedMemory, IsWellFormed, reader_driver}
 use Rattle.gg_flat.proofs.ListLemmas.{some-item, once-apart}
-use Rattle.gg_part.specs.Part.{IsPart, IsFrom, renamed_op, renamed_line, renamed_next, renamed_reset, renamed_register, renamed_reader, renamed_writer, renamed_memory, NamesBelow, ReadsAmong}
-use Rattle.gg_part.proofs.RenameLemmas.{shapes_of-renamed, length-renamed, line_shape-renamed}
+use Rattle.gg_part.specs.Part.{IsPart, IsFrom, in_whole, renamed_line, renamed_register, renamed_reader, renamed_memory, NamesBelow, RegisterBelow, MemoryBelow, ReadsAmong}
+use Rattle.gg_flat.proofs.RenamedLineLaws.{IsTypedBack, source-back}
+use Rattle.gg_flat.proofs.RenamedLaws.{register-back, memory-back, memory-weaken}
 use Rattle.gg_part.proofs.RunLemmas.{shape-part, length-shapes}
 
 module _ (whole part : FlatCircuit) (globals held memories : List ℕ) (clocks : List (Option ℕ)) (is : IsPart whole part globals held memories clocks) where
   type-part : (s : ℕ) (to : Shape) → s < length globals → HasType (signal_shapes whole) (value_at globals s) to → HasType (signal_shapes part) s to
   type-part s to lt typed = (omega (arith, lt, length-shapes whole part globals held memories clocks is), shape-part whole part globals held memories clocks is s lt ∙ typed.1)
 
-  -- ---- lines
-
-  shape-op : (shapes : List Shape) (k : ℕ) (to : Shape) (op : Op) → ((s : ℕ) → op ≡ Ref s → s < length globals) → HasShape (HasType (signal_shapes whole)) shapes k to (renamed_op globals op) → HasShape (HasType (signal_shapes part)) shapes k to op
-  shape-op shapes k to (Ref s) below typed = type-part s to (below s refl) typed
-  shape-op shapes k to (Literal value) below typed = typed
-  shape-op shapes k to (One op i) below typed = typed
-  shape-op shapes k to (Two op i j) below typed = typed
-  shape-op shapes k to (Fix op i n m) below typed = typed
-  shape-op shapes k to (Mux c i j) below typed = typed
-
-  op-at : (line : List Node) (k : ℕ) → k < length line → op_at (renamed_line globals line) k ≡ renamed_op globals (op_at line k)
-  op-at [] k lt = absurd (omega arith)
-  op-at (node ∷ nodes) zero lt = refl
-  op-at (node ∷ nodes) (suc k) lt = op-at nodes k (omega arith)
-
-  named-at : (line : List Node) (k s : ℕ) → k < length line → op_at line k ≡ Ref s → Names line s
-  named-at line k s lt at =
-      let inside : k < length (map (λ (n : Node). n.op) line) = omega (arith, lt, length-map line (λ (n : Node). n.op)) in
-      (k, inside, get_or_default (map (λ (n : Node). n.op) line) k (Ref s) (Ref 0) inside ∙ at)
-
-  line-part : (line : List Node) → NamesBelow (length globals) line → IsLine (HasType (signal_shapes whole)) (renamed_line globals line) → IsLine (HasType (signal_shapes part)) line
-  line-part line below typed =
-      record {
-        some = omega (arith, typed.some, length-renamed globals line);
-        typed = λ k lt.
-            shape-op (shapes_of line) k (shape_at (shapes_of line) k) (op_at line k) (λ s at. below s (named-at line k s lt at))
-            (subst (λ (shapes : List Shape). HasShape (HasType (signal_shapes whole)) shapes k (shape_at shapes k) (renamed_op globals (op_at line k))) (shapes_of-renamed globals line)
-            (subst (HasShape (HasType (signal_shapes whole)) (shapes_of (renamed_line globals line)) k (shape_at (shapes_of (renamed_line globals line)) k)) (op-at line k lt)
-            (typed.typed k (omega (arith, lt, length-renamed globals line)))));
-      }
+  -- what is a signal of the whole of some shape is one of the part
+  typed-back : (s : ℕ) → s < length globals → IsTypedBack (value_at globals) (HasType (signal_shapes part)) (HasType (signal_shapes whole)) s
+  typed-back s lt to typed = type-part s to lt typed
 
   source-part : (sink : Shape) (line : List Node) → NamesBelow (length globals) line → IsSource (HasType (signal_shapes whole)) sink (renamed_line globals line) → IsSource (HasType (signal_shapes part)) sink line
   source-part sink line below source =
-      record {
-        line = line-part line below source.line;
-        kind = ap (λ (s : Shape). s.kind) (sym (line_shape-renamed globals line)) ∙ source.kind;
-        width = subst (λ (s : Shape). s.width ≤ sink.width) (line_shape-renamed globals line) source.width;
-      }
+      source-back (value_at globals) (HasType (signal_shapes part)) (HasType (signal_shapes whole)) sink line (λ s named. typed-back s (below s named)) source
 
-  condition-part : (line : List Node) → NamesBelow (length globals) line → IsCondition (HasType (signal_shapes whole)) (renamed_line globals line) → IsCondition (HasType (signal_shapes part)) line
-  condition-part line below condition = record { line = line-part line below condition.line; bit = sym (line_shape-renamed globals line) ∙ condition.bit }
+  register-part : (register : Register) → RegisterBelow (length globals) register → IsRegister (HasType (signal_shapes whole)) (renamed_register globals clocks register) → IsRegister (HasType (signal_shapes part)) register
+  register-part register below typed =
+      register-back (in_whole globals clocks) (HasType (signal_shapes part)) (HasType (signal_shapes whole)) register (λ s named. typed-back s (below s named)) typed
 
-  -- ---- registers
-
-  reset-part : (sink : Shape) (reset : Option Reset) → ((s : ℕ) → ResetNames reset s → s < length globals) → MatchOption (renamed_reset globals reset) ⊤ (IsReset (HasType (signal_shapes whole)) sink) → MatchOption reset ⊤ (IsReset (HasType (signal_shapes part)) sink)
-  reset-part sink None below typed = tt
-  reset-part sink (Some reset) below typed =
-      record { condition = condition-part reset.condition (λ s named. below s (inl named)) typed.condition; init = source-part sink reset.init (λ s named. below s (inr named)) typed.init }
-
-  next-part : (sink : Shape) (next : Option (List Node)) → ((s : ℕ) → NextNames next s → s < length globals) → MatchOption (renamed_next globals next) ⊤ (IsSource (HasType (signal_shapes whole)) sink) → MatchOption next ⊤ (IsSource (HasType (signal_shapes part)) sink)
-  next-part sink None below typed = tt
-  next-part sink (Some line) below typed = source-part sink line below typed
-
-  -- ---- memories
-
-  memory-part : (memory : Memory) → ((r : ℕ) (d : Reader) → r < length memory.readers → ReadsAmong (length globals) (get_or memory.readers r d)) → ((w : ℕ) (d : Writer) → w < length memory.writers → (λ (writer : Writer). (writer.addr < length globals) × (writer.en < length globals) × (writer.word < length globals) × (writer.mask < length globals)) (get_or memory.writers w d)) → IsMemory (HasType (signal_shapes whole)) (renamed_memory globals clocks memory) → IsMemory (HasType (signal_shapes part)) memory
-  memory-part memory reads writes typed =
-      record {
-        some = typed.some;
-        readers = λ r d lt.
-            let among = reads r d lt in
-            let long : r < length (map (λ reader. renamed_reader globals clocks reader) memory.readers) = omega (arith, lt, length-map memory.readers (λ reader. renamed_reader globals clocks reader)) in
-            let at = get_or-map (λ reader. renamed_reader globals clocks reader) memory.readers r d (renamed_reader globals clocks d) lt in
-            let old = subst (IsReader (HasType (signal_shapes whole)) (shape memory.word) memory.depth) at (typed.readers r (renamed_reader globals clocks d) long) in
-            record {
-              address = type-part (get_or memory.readers r d).addr _ among.0 old.address;
-              enable = type-part (get_or memory.readers r d).en _ among.1 old.enable;
-              output = type-part (get_or memory.readers r d).word _ among.2 old.output;
-            };
-        writers = λ w d lt.
-            let among = writes w d lt in
-            let long : w < length (map (λ writer. renamed_writer globals clocks writer) memory.writers) = omega (arith, lt, length-map memory.writers (λ writer. renamed_writer globals clocks writer)) in
-            let at = get_or-map (λ writer. renamed_writer globals clocks writer) memory.writers w d (renamed_writer globals clocks d) lt in
-            let old = subst (IsWriter (HasType (signal_shapes whole)) (shape memory.word) memory.depth) at (typed.writers w (renamed_writer globals clocks d) long) in
-            record {
-              address = type-part (get_or memory.writers w d).addr _ among.0 old.address;
-              enable = type-part (get_or memory.writers w d).en _ among.1 old.enable;
-              input = type-part (get_or memory.writers w d).word _ among.2 old.input;
-              masked = type-part (get_or memory.writers w d).mask _ among.3 old.masked;
-            };
-      }
+  memory-part : (memory : Memory) → MemoryBelow (length globals) memory → IsMemory (HasType (signal_shapes whole)) (renamed_memory globals clocks memory) → IsMemory (HasType (signal_shapes part)) memory
+  memory-part memory below typed =
+      memory-back (in_whole globals clocks) (HasType (signal_shapes part)) (HasType (signal_shapes whole)) memory
+      (memory-weaken (λ s. s < length globals) (IsTypedBack (value_at globals) (HasType (signal_shapes part)) (HasType (signal_shapes whole))) memory typed-back below) typed
 
   readers-part : (m : ℕ) → m < length memories → readers_at whole (value_at memories m) ≡ map (λ reader. renamed_reader globals clocks reader) (readers_at part m)
   readers-part m lt =
@@ -231,10 +162,7 @@ IsWellFormed-part whole part globals held memories clocks formed is =
           let at = is.register_from r known in
           let local = get_or part.registers r d in
           let old = subst (IsRegister (HasType (signal_shapes whole))) (at.is d (renamed_register globals clocks local)) (formed.registers (value_at held r) (renamed_register globals clocks local) at.within) in
-          record {
-            reset = reset-part whole part globals held memories clocks is (shape local.ty) local.reset (λ s named. at.below d s (inl named)) old.reset;
-            next = next-part whole part globals held memories clocks is (shape local.ty) local.next (λ s named. at.below d s (inr named)) old.next;
-          };
+          register-part whole part globals held memories clocks is local (at.below d) old;
       register_clocks = λ r d lt.
           let known : r < length held = omega (arith, lt, is.register_count) in
           subst (λ n. IsClock n (get_or part.registers r d).clock) (sym is.clock_count) ((is.register_from r known).clocked d);
@@ -246,7 +174,7 @@ IsWellFormed-part whole part globals held memories clocks formed is =
           let at = is.memory_from m known in
           let local = get_or part.memories m d in
           let old = subst (IsMemory (HasType (signal_shapes whole))) (at.is d (renamed_memory globals clocks local)) (formed.memories (value_at memories m) (renamed_memory globals clocks local) at.within) in
-          memory-part whole part globals held memories clocks is local (at.below d).readers (at.below d).writers old;
+          memory-part whole part globals held memories clocks is local (at.below d) old;
       reads = λ m lt r inside.
           let known : m < length memories = omega (arith, lt, is.memory_count) in
           let at = is.memory_from m known in

@@ -1,4 +1,6 @@
 pub mod RenameLemmas
+pub mod BackLemmas
+pub mod LocalLemmas
 pub mod AlongLemmas
 pub mod RunLemmas
 pub mod FormedLemmas

@@ -1,95 +1,42 @@
 -- A part of a circuit is a part at another place too, if what stands there is the same with other numbers.
-use Rattle.std.proofs.Common.{◌≡◌, ◌≢◌, ℕ, suc, ◌<◌, List, [], ◌∷◌, length, map, Option, Some, None, refl, sym, ap, ap₂, ◌∙◌, subst, arith, inl, inr}
-use Rattle.std.specs.Prelude.{slice_index_or, All}
+use Rattle.std.proofs.Common.{◌≡◌, ◌≢◌, ℕ, suc, ◌<◌, List, [], ◌∷◌, length, map, Option, refl, sym, ap, ap₂, ◌∙◌, subst, arith}
+use Rattle.std.specs.Prelude.{slice_index_or}
 use Rattle.std.proofs.lemmas.List.{length-map, get_or-map}
 use Rattle.std.proofs.lemmas.Simd.{map-map}
 use Rattle.gg_flat.specs.declared.line.Node.{Node}
-use Rattle.gg_flat.specs.declared.line.Op.{Op}
-use Rattle.gg_flat.specs.declared.line.Op.TheVariants.{Ref, Literal, One, Two, Fix, Mux}
 use Rattle.gg_flat.specs.declared.memory.Memory.{Memory}
-use Rattle.gg_flat.specs.declared.memory.Reader.{Reader}
-use Rattle.gg_flat.specs.declared.memory.Writer.{Writer}
 use Rattle.gg_flat.specs.declared.piece.Driver.{Driver}
 use Rattle.gg_flat.specs.declared.piece.Driver.TheVariants.{Input, Held, MemoryWord, ReadRegister, Computed}
 use Rattle.gg_flat.specs.declared.piece.Register.{Register}
-use Rattle.gg_flat.specs.declared.piece.Reset.{Reset}
 use Rattle.gg_flat.specs.Circuit.{FlatCircuit, signal_shapes, driver_at}
-use Rattle.gg_flat_tree.specs.Clocked.{clock_at}
 use Rattle.gg_flat.specs.Line.{shape_at, value_at}
-use Rattle.gg_flat.specs.Memory.{WritesAmong}
-use Rattle.gg_flat.specs.Reads.{ResetNames, NextNames}
-use Rattle.gg_flat.proofs.ListLemmas.{further}
-use Rattle.gg_part.specs.Moved.{moved_op, moved_line, moved_driver, moved_reset, moved_next, moved_register, moved_reader, moved_writer, moved_memory}
+use Rattle.gg_part.specs.Moved.{moved_line, moved_driver, moved_register, moved_memory}
+use Rattle.gg_flat.specs.Renaming.{Renaming, one_by_one, signals_by}
+use Rattle.gg_flat.proofs.RenamedLineLaws.{line-agree, line-twice}
+use Rattle.gg_flat.proofs.RenamedLaws.{AgreeAt, AgreeOn, register-agree, register-twice, memory-agree, memory-twice, memory-weaken, follows-each}
 use Rattle.gg_part.specs.StandsAgain.{StandsAgain, placed_at}
-use Rattle.gg_part.specs.Part.{IsPart, IsFrom, NamesBelow, RegisterBelow, ReadsAmong, MemoryBelow, renamed_op, renamed_line, renamed_next, renamed_reset, renamed_register, renamed_reader, renamed_writer, renamed_memory}
+use Rattle.gg_part.specs.Part.{IsPart, IsFrom, in_whole, NamesBelow, RegisterBelow, MemoryBelow, renamed_line, renamed_register, renamed_memory}
 
 value-map : (f : ℕ → ℕ) (xs : List ℕ) (k : ℕ) → k < length xs → value_at (map f xs) k ≡ f (value_at xs k)
 value-map f xs k lt = get_or-map f xs k 0 0 lt
 
 module _ (f : ℕ → ℕ) (globals : List ℕ) (clocks : List (Option ℕ)) where
-  op-moved : (op : Op) → ((s : ℕ) → op ≡ Ref s → s < length globals) → renamed_op (map f globals) op ≡ moved_op f (renamed_op globals op)
-  op-moved (Ref s) below = ap Ref (value-map f globals s (below s refl))
-  op-moved (Literal v) below = refl
-  op-moved (One op i) below = refl
-  op-moved (Two op i j) below = refl
-  op-moved (Fix op i n m) below = refl
-  op-moved (Mux c i j) below = refl
-
   pub line-moved : (line : List Node) → NamesBelow (length globals) line → renamed_line (map f globals) line ≡ moved_line f (renamed_line globals line)
-  line-moved [] below = refl
-  line-moved (n ∷ line) below =
-      ap₂ (λ (op : Op) (rest : List Node). node_made n op ∷ rest)
-      (op-moved n.op (λ s e. below s (0, omega arith, e)))
-      (line-moved line (λ s c. below s (further n.op (map (λ m. m.op) line) (Ref s) c)))
-    where
-      node_made : Node → Op → Node
-      node_made n op = record { ty = n.ty; op = op }
-
-  abbrev register_made : Register → Option Reset → Option (List Node) → Register
-  register_made r reset next = record { ty = r.ty; reset = reset; next = next; clock = clock_at clocks r.clock }
-
-  abbrev reset_made : List Node → List Node → Reset
-  reset_made condition init = record { condition = condition; init = init }
-
-  reset-moved : (reset : Option Reset) → ((s : ℕ) → ResetNames reset s → s < length globals) → renamed_reset (map f globals) reset ≡ moved_reset f (renamed_reset globals reset)
-  reset-moved None below = refl
-  reset-moved (Some r) below = ap₂ (λ c i. Some (reset_made c i)) (line-moved r.condition (λ s n. below s (inl n))) (line-moved r.init (λ s n. below s (inr n)))
-
-  next-moved : (next : Option (List Node)) → ((s : ℕ) → NextNames next s → s < length globals) → renamed_next (map f globals) next ≡ moved_next f (renamed_next globals next)
-  next-moved None below = refl
-  next-moved (Some line) below = ap Some (line-moved line below)
+  line-moved line below =
+      line-agree (value_at (map f globals)) (λ s. f (value_at globals s)) line (λ s named. value-map f globals s (below s named))
+      ∙ sym (line-twice (value_at globals) f line)
 
   pub register-moved : (r : Register) → RegisterBelow (length globals) r → renamed_register (map f globals) clocks r ≡ moved_register f (renamed_register globals clocks r)
-  register-moved r below = ap₂ (λ a b. register_made r a b) (reset-moved r.reset (λ s n. below s (inl n))) (next-moved r.next (λ s n. below s (inr n)))
-
-  abbrev reader_made : Option ℕ → ℕ → ℕ → ℕ → Reader
-  reader_made clock a e w = record { addr = a; en = e; word = w; clock = clock }
-
-  abbrev writer_made : Option ℕ → ℕ → ℕ → ℕ → ℕ → Writer
-  writer_made clock a e w m = record { addr = a; en = e; word = w; mask = m; clock = clock }
-
-  readers-moved : (readers : List Reader) → All (λ reader. ReadsAmong (length globals) reader) readers → map (λ reader. renamed_reader (map f globals) clocks reader) readers ≡ map (λ reader. moved_reader f reader) (map (λ reader. renamed_reader globals clocks reader) readers)
-  readers-moved [] below = refl
-  readers-moved (r ∷ readers) below =
-      let b = below 0 r (omega arith) in
-      ap₂ (λ x rest. x ∷ rest)
-      (ap₂ (λ a e. reader_made (clock_at clocks r.clock) a e (value_at (map f globals) r.word)) (value-map f globals r.addr b.0) (value-map f globals r.en b.1) ∙ ap (λ w. reader_made (clock_at clocks r.clock) (f (value_at globals r.addr)) (f (value_at globals r.en)) w) (value-map f globals r.word b.2))
-      (readers-moved readers (λ i d lt. below (suc i) d (omega (arith, lt))))
-
-  writers-moved : (writers : List Writer) → All (λ writer. WritesAmong (length globals) writer) writers → map (λ writer. renamed_writer (map f globals) clocks writer) writers ≡ map (λ writer. moved_writer f writer) (map (λ writer. renamed_writer globals clocks writer) writers)
-  writers-moved [] below = refl
-  writers-moved (r ∷ writers) below =
-      let b = below 0 r (omega arith) in
-      ap₂ (λ x rest. x ∷ rest)
-      (ap₂ (λ a e. writer_made (clock_at clocks r.clock) a e (value_at (map f globals) r.word) (value_at (map f globals) r.mask)) (value-map f globals r.addr b.0) (value-map f globals r.en b.1)
-      ∙ ap₂ (λ w m. writer_made (clock_at clocks r.clock) (f (value_at globals r.addr)) (f (value_at globals r.en)) w m) (value-map f globals r.word b.2) (value-map f globals r.mask b.3))
-      (writers-moved writers (λ i d lt. below (suc i) d (omega (arith, lt))))
-
-  abbrev memory_made : Memory → List Reader → List Writer → Memory
-  memory_made m readers writers = record { word = m.word; depth = m.depth; latency = m.latency; readers = readers; writers = writers }
+  register-moved r below =
+      register-agree (in_whole (map f globals) clocks) (one_by_one (in_whole globals clocks) (signals_by f)) r (λ s named. value-map f globals s (below s named)) refl
+      ∙ sym (register-twice (in_whole globals clocks) (signals_by f) r)
 
   pub memory-moved : (m : Memory) → MemoryBelow (length globals) m → renamed_memory (map f globals) clocks m ≡ moved_memory f (renamed_memory globals clocks m)
-  memory-moved m below = ap₂ (λ a b. memory_made m a b) (readers-moved m.readers below.readers) (writers-moved m.writers below.writers)
+  memory-moved m below =
+      let by : Renaming = in_whole (map f globals) clocks in
+      let other : Renaming = one_by_one (in_whole globals clocks) (signals_by f) in
+      memory-agree by other m (memory-weaken (λ s. s < length globals) (AgreeAt by other) m (value-map f globals) below) (follows-each (AgreeOn by other) m (λ clock. refl))
+      ∙ sym (memory-twice (in_whole globals clocks) (signals_by f) m)
 
 -- ---- the part
 

@@ -21,9 +21,10 @@ use Rattle.gg_flat.proofs.BankLemmas.{length-next_banks, next_banks-at}
 use Rattle.gg_flat.proofs.TypedLemmas.{shape_at-in_shapes}
 use Rattle.gg_flat.proofs.StateLemmas.{IsState-opening}
 use Rattle.gg_flat.proofs.ListLemmas.{some-item}
-use Rattle.gg_part.specs.Part.{IsPart, IsFrom, renamed_register, renamed_memory}
+use Rattle.gg_part.specs.Part.{IsPart, IsFrom, in_whole, renamed_register, renamed_memory}
 use Rattle.gg_part.specs.PartRun.{part_row, part_rows, part_state, part_ratios, part_start, part_columns}
-use Rattle.gg_part.proofs.RenameLemmas.{part_row-at, connected-renamed, register-renamed, bank-renamed, opening-renamed, ticks-part}
+use Rattle.gg_part.proofs.RenameLemmas.{part_row-at, connected-renamed, register-renamed, bank-renamed, ticks-part}
+use Rattle.gg_flat.proofs.RenamedLaws.{opening-renamed}
 
 -- a state has as many registers and banks as the circuit
 pub record HasCounts (circuit : FlatCircuit) (state : State) : Type 0 where
@@ -190,7 +191,7 @@ module _ (whole part : FlatCircuit) (globals held memories : List ℕ) (clocks :
       bank-at memories banks m known
       ∙ get_or-map (λ memory. opening_bank memory) whole.memories (value_at memories m) (renamed_memory globals clocks local) nothing at.within
       ∙ ap (λ memory. opening_bank memory) (at.is some (renamed_memory globals clocks local))
-      ∙ opening-renamed globals clocks local
+      ∙ opening-renamed (in_whole globals clocks) local
       ∙ sym (get_or-map (λ memory. opening_bank memory) part.memories m some nothing within))
 
   pub opening-part : part_state held memories (opening whole) ≡ opening part

@@ -1,4 +1,5 @@
 pub mod Part
+pub mod Local
 pub mod PartRun
 pub mod InOrder
 pub mod Choice

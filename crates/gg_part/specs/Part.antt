@@ -2,10 +2,9 @@
 -- that the part gets from outside are its in-signals, regardless of what drives them in the whole circuit.
 -- Source: FIRRTL Specification, "Circuit Definitions", "Instances" (a design is cut where its modules meet); MEMOCODE
 -- 2009 (a synchronous design as a network of its parts).
-use Rattle.std.specs.Prelude.{◌≡◌, ◌≢◌, ℕ, ◌<◌, List, Option, Some, None, length, map, slice_index_or, All, AllPairs}
+use Rattle.std.specs.Prelude.{◌≡◌, ◌≢◌, ℕ, ◌<◌, List, Option, length, map, slice_index_or, AllPairs}
 use Rattle.gg_flat.specs.declared.line.Node.{Node}
 use Rattle.gg_flat.specs.declared.line.Op.{Op}
-use Rattle.gg_flat.specs.declared.line.Op.TheVariants.{Ref, Literal, One, Two, Fix, Mux}
 use Rattle.gg_flat.specs.declared.memory.Reader.{Reader}
 use Rattle.gg_flat.specs.declared.memory.Writer.{Writer}
 use Rattle.gg_flat.specs.declared.memory.Memory.{Memory}
@@ -15,86 +14,64 @@ use Rattle.gg_flat.specs.declared.piece.Driver.{Driver}
 use Rattle.gg_flat.specs.declared.piece.Driver.TheVariants.{Input, Held, MemoryWord, ReadRegister, Computed}
 use Rattle.gg_flat.specs.Line.{shape_at, value_at}
 use Rattle.gg_flat.specs.Circuit.{FlatCircuit, signal_shapes, driver_at, readers_at, reader_at}
-use Rattle.gg_flat.specs.Reads.{Names, RegisterNames}
+use Rattle.gg_flat.specs.Named.{NamesOnly, RegisterNamesOnly, ReaderNamesOnly, MemoryNamesOnly}
+use Rattle.gg_flat.specs.Renaming.{Renaming}
+use Rattle.gg_flat.specs.Renaming as renaming
 use Rattle.gg_flat_tree.specs.Clocked.{clock_at}
-use Rattle.gg_flat.specs.Memory.{WritesAmong}
 use Rattle.gg_flat_tree.specs.Tree.{path_at}
 use Rattle.gg_flat.specs.WellFormed.{IsClock, IsClockedMemory}
 
 -- ---- the part's things in the numbers of the whole; `globals` has the number in the whole of each signal of the
 -- part, and `clocks` the clock of the whole that each clock of the part follows, if any
 
--- an operation of a node; only a reference names a signal
+-- the numbers in the whole of what the part has
+abbrev pub in_whole : (globals : List ℕ) (clocks : List (Option ℕ)) → Renaming
+in_whole globals clocks = record { signals = value_at globals; registers = λ r. r; memories = λ m. m; clocks = clock_at clocks }
+
 abbrev pub renamed_op : List ℕ → Op → Op
-renamed_op globals (Ref s) = Ref (value_at globals s)
-renamed_op globals (Literal value) = Literal value
-renamed_op globals (One op i) = One op i
-renamed_op globals (Two op i j) = Two op i j
-renamed_op globals (Fix op i n m) = Fix op i n m
-renamed_op globals (Mux c i j) = Mux c i j
+renamed_op globals op = renaming.renamed_op (value_at globals) op
 
--- a node of a line, with its type
 abbrev pub renamed_node : List ℕ → Node → Node
-renamed_node globals node = record { ty = node.ty; op = renamed_op globals node.op }
+renamed_node globals node = renaming.renamed_node (value_at globals) node
 
--- a line
 abbrev pub renamed_line : List ℕ → List Node → List Node
-renamed_line globals line = map (λ node. renamed_node globals node) line
+renamed_line globals line = renaming.renamed_line (value_at globals) line
 
--- what a register is connected to, if anything
 abbrev pub renamed_next : List ℕ → Option (List Node) → Option (List Node)
-renamed_next globals None = None
-renamed_next globals (Some line) = Some (renamed_line globals line)
+renamed_next globals next = renaming.renamed_next (value_at globals) next
 
--- a register's reset, if it has one
 abbrev pub renamed_reset : List ℕ → Option Reset → Option Reset
-renamed_reset globals None = None
-renamed_reset globals (Some reset) = Some (record { condition = renamed_line globals reset.condition; init = renamed_line globals reset.init })
+renamed_reset globals reset = renaming.renamed_reset (value_at globals) reset
 
--- a register, with the clock of the whole that it follows
 abbrev pub renamed_register : List ℕ → List (Option ℕ) → Register → Register
-renamed_register globals clocks register =
-    record { ty = register.ty; reset = renamed_reset globals register.reset; next = renamed_next globals register.next; clock = clock_at clocks register.clock }
+renamed_register globals clocks register = renaming.renamed_register (in_whole globals clocks) register
 
--- a reader of a memory, with the clock of the whole that it follows
 abbrev pub renamed_reader : List ℕ → List (Option ℕ) → Reader → Reader
-renamed_reader globals clocks reader =
-    record { addr = value_at globals reader.addr; en = value_at globals reader.en; word = value_at globals reader.word; clock = clock_at clocks reader.clock }
+renamed_reader globals clocks reader = renaming.renamed_reader (in_whole globals clocks) reader
 
--- a writer of a memory, with the clock of the whole that it follows
 abbrev pub renamed_writer : List ℕ → List (Option ℕ) → Writer → Writer
-renamed_writer globals clocks writer =
-    record { addr = value_at globals writer.addr; en = value_at globals writer.en; word = value_at globals writer.word; mask = value_at globals writer.mask; clock = clock_at clocks writer.clock }
+renamed_writer globals clocks writer = renaming.renamed_writer (in_whole globals clocks) writer
 
--- a memory with all its ports
 abbrev pub renamed_memory : List ℕ → List (Option ℕ) → Memory → Memory
-renamed_memory globals clocks memory =
-    record {
-      word = memory.word;
-      depth = memory.depth;
-      latency = memory.latency;
-      readers = map (λ reader. renamed_reader globals clocks reader) memory.readers;
-      writers = map (λ writer. renamed_writer globals clocks writer) memory.writers;
-    }
+renamed_memory globals clocks memory = renaming.renamed_memory (in_whole globals clocks) memory
 
 -- ---- what the part names exists
 
 -- a line names only signals below n
 abbrev pub NamesBelow : ℕ → List Node → Type 0
-NamesBelow n line = (s : ℕ) → Names line s → s < n
+NamesBelow n line = NamesOnly (λ s. s < n) line
 
 -- a register names only signals below n
 abbrev pub RegisterBelow : ℕ → Register → Type 0
-RegisterBelow n register = (s : ℕ) → RegisterNames register s → s < n
+RegisterBelow n register = RegisterNamesOnly (λ s. s < n) register
 
 -- the fields of a reader are below n
 abbrev pub ReadsAmong : ℕ → Reader → Type 0
-ReadsAmong n reader = (reader.addr < n) × (reader.en < n) × (reader.word < n)
+ReadsAmong n reader = ReaderNamesOnly (λ s. s < n) reader
 
 -- a memory's fields are below n
-pub record MemoryBelow (n : ℕ) (memory : Memory) : Type 0 where
-  pub readers : All (λ reader. ReadsAmong n reader) memory.readers
-  pub writers : All (λ writer. WritesAmong n writer) memory.writers
+abbrev pub MemoryBelow : ℕ → Memory → Type 0
+MemoryBelow n memory = MemoryNamesOnly (λ s. s < n) memory
 
 -- ---- the part
 

@@ -15,9 +15,9 @@ ghost use Rattle.gg_part.specs.Clocking.{AreTimed, IsTimed, MemoriesFollow, Regi
 use crate::frame::{Frame, driver_of, frame_of};
 use crate::numbers::Numbers;
 use crate::part::{Clocking, Part};
-use crate::rename::{clock_in, local_line, local_memory, local_register};
+use crate::rename::{at_port, own_memory};
 use gg_bits::{AddError, Name};
-use gg_flat::{Driver, Piece, Signal};
+use gg_flat::{Driver, Piece, Signal, renamed_driver, renamed_register};
 use std::alloc::{AllocError, Global};
 
 // ---- signals
@@ -30,20 +30,9 @@ fn local_driver(alloc: Global, frame: &Frame, driver: &Driver) -> Result<Driver,
     requires memories { (m : ℕ) → NamesMemory driver.now m → Contains frame.now.memories m }
     ensures { IfOk result (λ own. (ins : List ℕ) (s : ℕ) → IsFrom ins frame.now.globals frame.now.held frame.now.memories s driver.now own) }
 {
-    match driver {
-        Driver::Input(_) => unreachable!(),
-        Driver::Held(register) => Ok(Driver::Held(frame.held.place(*register))),
-        Driver::MemoryWord(memory, reader, addr, en) => {
-            let memory = frame.memories.place(*memory);
-            let addr = frame.globals.place(*addr);
-            let en = frame.globals.place(*en);
-            Ok(Driver::MemoryWord(memory, *reader, addr, en))
-        }
-        Driver::ReadRegister(memory, reader) => {
-            Ok(Driver::ReadRegister(frame.memories.place(*memory), *reader))
-        }
-        Driver::Computed(line) => Ok(Driver::Computed(local_line(alloc, &frame.globals, line)?)),
-    }
+    let by = frame.local();
+    let own = renamed_driver(alloc, &by, driver)?;
+    Ok(own)
 }
 
 // The driver of a signal of the part.
@@ -144,11 +133,11 @@ fn add_registers(
     ensures registers { OnOk result (AreRegisters whole.now frame.now.globals frame.now.held frame.now.clocks (length frame.now.held) piece.new.registers) }
     ensures own { OnOk result (RegistersFollow frame.now.held clocking.now.registers (length frame.now.held) piece.new.registers) }
 {
-    let clocks = frame.clocks.as_slice();
+    let by = frame.local();
     for number in frame.held.as_slice() {
         let register = &whole.registers()[*number as usize];
-        let clock = clock_in(clocking.registers.as_slice(), *number as usize);
-        let own = local_register(alloc, &frame.globals, clocks, clock, register)?;
+        let port = at_port(by, clocking.registers.as_slice(), *number as usize);
+        let own = renamed_register(alloc, &port, register)?;
         piece.add_register(own)?;
     }
     Ok(())
@@ -179,11 +168,11 @@ fn add_memories(
     ensures memories { OnOk result (AreMemories whole.now frame.now.globals frame.now.memories frame.now.clocks (length frame.now.memories) piece.new.memories) }
     ensures own { OnOk result (MemoriesFollow frame.now.memories clocking.now.ports (length frame.now.memories) piece.new.memories) }
 {
-    let clocks = frame.clocks.as_slice();
+    let by = frame.local();
     for number in frame.memories.as_slice() {
         let memory = &whole.memories()[*number as usize];
         let ports = ports_of(clocking, *number);
-        let own = local_memory(alloc, &frame.globals, clocks, ports, memory)?;
+        let own = own_memory(alloc, &by, ports, memory)?;
         piece.add_memory(own)?;
     }
     Ok(())

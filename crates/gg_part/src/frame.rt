@@ -4,10 +4,11 @@ ghost use Rattle.gg_flat.specs.Circuit.{driver_at};
 ghost use Rattle.gg_flat.specs.WellFormed.{IsWellFormed};
 ghost use Rattle.gg_part.specs.Choice.{IsChoice};
 ghost use Rattle.gg_part.specs.Building.{Holds, AreHeld};
+ghost use Rattle.gg_part.specs.Numbers.{ArePlaces};
 
 use crate::numbers::Numbers;
 use crate::part::Part;
-use gg_flat::{Driver, Piece};
+use gg_flat::{Driver, Lists, Piece};
 use gg_flat_tree::ClockNumbers;
 use std::alloc::{AllocError, Global};
 
@@ -39,6 +40,20 @@ impl Drop for Frame {
 }
 
 impl Frame {
+    // The numbers of the part, by the tables of places.
+    pub(crate) fn local(&self) -> Lists
+        ensures signals { ArePlaces self.now.globals (length self.now.globals) result.signals.now }
+        ensures registers { ArePlaces self.now.held (length self.now.held) result.registers.now }
+        ensures memories { ArePlaces self.now.memories (length self.now.memories) result.memories.now }
+    {
+        Lists {
+            signals: self.globals.places(),
+            registers: self.held.places(),
+            memories: self.memories.places(),
+            clock: None,
+        }
+    }
+
     // The part with this frame and this piece.
     pub(crate) fn part(self, piece: Piece) -> Part
         ensures piece { result.piece ≡ piece }

@@ -86,6 +86,13 @@ impl Numbers {
         self.items.as_slice()
     }
 
+    // The place of each of these numbers, in a table; its other entries don't matter.
+    pub(crate) fn places(&self) -> &[u32]
+        ensures { ArePlaces self.now (length self.now) result.now }
+    {
+        self.places.as_slice()
+    }
+
     // The place of a number, if it is one of these.
     pub(crate) fn find(&self, number: u32) -> Option<u32>
         ensures within { IfSome result (λ place. place < length self.now) }

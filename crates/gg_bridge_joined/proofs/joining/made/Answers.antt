@@ -1,7 +1,7 @@
-use Rattle.std.proofs.Common.{◌≡◌, [], ◌+◌, ◌<◌, List, ℕ, ◌++◌, length, map, ◌∙◌, ap, ap₂, arith}
+use Rattle.std.proofs.Common.{◌≡◌, ◌+◌, ◌<◌, ◌++◌, length, map, ◌∙◌, ap, ap₂, arith}
 use Rattle.gg_flat.specs.Circuit.{FlatCircuit}
-use Rattle.gg_part.specs.Part.{renamed_register, renamed_memory}
-use Rattle.gg_bridge_joined.specs.Joined.{linked, signal_behind}
+use Rattle.gg_flat.specs.Renaming.{renamed_register, renamed_memory}
+use Rattle.gg_bridge_joined.specs.Joined.{behind_by, linked, signal_behind}
 use Rattle.gg_bridge_joined.proofs.NumberLemmas.{length-by}
 use Rattle.gg_bridge_joined.proofs.joining.made.Goals as goal
 
@@ -26,16 +26,14 @@ returns c =
     (c.in_ok-add_ins.ensures
     ∙ ap (λ (p : FlatCircuit). let d : FlatCircuit = record p { ins = p.ins ++ links.ins.now } in d)
     (c.in_ok-move_memories.ensures
-    ∙ ap₂ (λ (p : FlatCircuit) (globals : List ℕ). let d : FlatCircuit = record p { memories = p.memories ++ map (λ memory. renamed_memory globals [] memory) model.memories } in d)
+    ∙ ap (λ (p : FlatCircuit). let d : FlatCircuit = record p { memories = p.memories ++ map (λ memory. renamed_memory (behind_by behind.globals.items behind.held.items behind.memories.items) memory) model.memories } in d)
     (c.in_ok-copy_memories.ensures
     ∙ ap (λ (p : FlatCircuit). let d : FlatCircuit = record p { memories = p.memories ++ one.memories } in d)
     (c.in_ok-move_registers.ensures
-    ∙ ap₂ (λ (p : FlatCircuit) (globals : List ℕ). let d : FlatCircuit = record p { registers = p.registers ++ map (λ register. renamed_register globals [] register) model.registers } in d)
+    ∙ ap (λ (p : FlatCircuit). let d : FlatCircuit = record p { registers = p.registers ++ map (λ register. renamed_register (behind_by behind.globals.items behind.held.items behind.memories.items) register) model.registers } in d)
     (c.in_ok-copy_registers.ensures
     ∙ ap (λ (p : FlatCircuit). let d : FlatCircuit = record p { registers = p.registers ++ one.registers } in d)
     (c.in_ok-add_behind.ensures
     ∙ ap (λ (p : FlatCircuit). let d : FlatCircuit = record p { paths = p.paths ++ map (λ path. c.args.front.now ++ path) model.paths; signals = p.signals ++ map (signal_behind behind.globals.items behind.held.items behind.memories.items links.sees.now) model.signals } in d)
-    c.in_ok-add_front.ensures))
-    c.deref.ensures.value))
-    c.deref-2.ensures.value)))
+    c.in_ok-add_front.ensures)))))))
     c.clocks.ensures

@@ -1,4 +1,5 @@
-use Rattle.std.proofs.Common.{◌≡◌, ◌<◌, ◌+◌, ℕ, List, length, take, get_or, ◌∙◌, ap, ap₂, arith}
+use Rattle.gg_cut_pipes.specs.declared.tables.Tables.{Tables}
+use Rattle.std.proofs.Common.{refl, ◌≡◌, ◌<◌, ◌+◌, ℕ, List, length, take, get_or, ◌∙◌, ap, ap₂, arith}
 use Rattle.gg_flat.specs.declared.piece.Register.{Register}
 use Rattle.gg_flat.specs.Line.{value_at}
 use Rattle.gg_cut_reference.specs.Reference.{register_by}
@@ -18,5 +19,6 @@ loop-place-preserved c =
     let read : own ≡ get_or one.registers k own = c.index-registers-place.is ∙ ap (λ (l : List Register). get_or l k own) c.registers.ensures in
     registers-grow c.args.piece.now c.loop-place.piece c.add_register.new.self (by_number f 0 (take k one.registers)) (by_number f 0 (take (k + 1) one.registers)) c.in_ok-register.register (f k (get_or one.registers k own))
     c.in_ok-add_register.ensures.ok c.loop-place.invariant
-    (c.in_ok-register.ensures ∙ ap₂ (λ m (register : Register). register_by (seen_in tables m) register) (c.number_at-machine.ensures ∙ ap (λ (l : List ℕ). value_at l k) c.as_slice.ensures) read)
+    (c.in_ok-register.ensures ∙ ap₂ (λ (t : Tables) (register : Register). register_by (seen_in t c.by.result.machine) register) c.by.ensures.tables refl
+    ∙ ap₂ (λ m (register : Register). register_by (seen_in tables m) register) (c.by.ensures.machine ∙ c.number_at-machine.ensures ∙ ap (λ (l : List ℕ). value_at l k) c.as_slice.ensures) read)
     (number-more f one.registers k own lt)
