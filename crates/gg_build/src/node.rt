@@ -167,6 +167,50 @@ impl<'a, B: Bridge + Send + Drop> Host for Node<'a, B> {
         }
     }
 
+    fn wants(&self, thread: u32, place: u32, cycle: u64) -> bool {
+        match self {
+            Node::Unit(host) => host.wants(thread, place, cycle),
+            Node::Shared(host) => host.wants(thread, place, cycle),
+            Node::Memory(host) => host.wants(thread, place, cycle),
+            Node::Source(host) => host.wants(thread, place, cycle),
+            Node::Tray(host) => host.wants(thread, place, cycle),
+            Node::Bridge(host) => host.wants(thread, place, cycle),
+        }
+    }
+
+    fn gives(&self, thread: u32, place: u32, cycle: u64) -> bool {
+        match self {
+            Node::Unit(host) => host.gives(thread, place, cycle),
+            Node::Shared(host) => host.gives(thread, place, cycle),
+            Node::Memory(host) => host.gives(thread, place, cycle),
+            Node::Source(host) => host.gives(thread, place, cycle),
+            Node::Tray(host) => host.gives(thread, place, cycle),
+            Node::Bridge(host) => host.gives(thread, place, cycle),
+        }
+    }
+
+    fn all_fired(&self, thread: u32, outs: u32) -> bool {
+        match self {
+            Node::Unit(host) => host.all_fired(thread, outs),
+            Node::Shared(host) => host.all_fired(thread, outs),
+            Node::Memory(host) => host.all_fired(thread, outs),
+            Node::Source(host) => host.all_fired(thread, outs),
+            Node::Tray(host) => host.all_fired(thread, outs),
+            Node::Bridge(host) => host.all_fired(thread, outs),
+        }
+    }
+
+    fn all_latched(&self, thread: u32, ins: u32) -> bool {
+        match self {
+            Node::Unit(host) => host.all_latched(thread, ins),
+            Node::Shared(host) => host.all_latched(thread, ins),
+            Node::Memory(host) => host.all_latched(thread, ins),
+            Node::Source(host) => host.all_latched(thread, ins),
+            Node::Tray(host) => host.all_latched(thread, ins),
+            Node::Bridge(host) => host.all_latched(thread, ins),
+        }
+    }
+
     fn token(&mut self, thread: u32, place: u32) -> u128 {
         match self {
             Node::Unit(host) => host.token(thread, place),

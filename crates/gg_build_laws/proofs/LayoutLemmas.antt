@@ -33,8 +33,9 @@ use Rattle.gg_node.specs.Machine.{Machine, machine_at, needs_at}
 use Rattle.gg_memunit.specs.MemoryUnit.{ports_of}
 use Rattle.gg_memunit.proofs.UnitLemmas.{sole}
 use Rattle.gg_net.specs.Network.{Frame, Kind, kind_of, kind_at, no_kind, wire_at as joint_at}
-use Rattle.gg_net_laws.specs.Marking.{Link, Turn, Layout, link_at, turns_at}
-use Rattle.gg_net_laws.specs.Fits.{AreTaken, AreTurnsOf, HasLayout, IsInOrder, IsLinkOf, places_of}
+use Rattle.gg_net.specs.Refusal.{Turn}
+use Rattle.gg_net_laws.specs.Marking.{Link, Layout, link_at, turns_at}
+use Rattle.gg_net_laws.specs.Fits.{AreTaken, AreTurnsOf, HasLayout, IsLinkOf, places_of}
 use Rattle.gg_build_laws.specs.Built.{machine_in, nameless, place_in, first_token, wires_of_plan, AreBuilt, IsBuilt, IsGiven, plan_frame}
 use Rattle.gg_build_laws.proofs.GivenLemmas.{faultless, routed}
 use Rattle.gg_build_laws.proofs.LinkLemmas.{AreLinks, length-wires, linked}
@@ -44,7 +45,7 @@ use Rattle.gg_build_laws.proofs.MemoryPartLemmas.{memory-part}
 use Rattle.gg_cut_plan.specs.Machines.{is_memory}
 use Rattle.gg_build_laws.specs.CutLayout.{IsChannelLink, IsLayoutBy, IsLayoutOf, machine_ports, machine_turns, memory_turns, memory_of}
 use Rattle.gg_build_laws.proofs.AscendingLemmas.{AreMadeOf, made-same}
-use Rattle.gg_build_laws.proofs.WireLemmas.{places-up, joint-capacity, place-at, joints-in-order, outs-in-order}
+use Rattle.gg_build_laws.proofs.WireLemmas.{places-up, joint-capacity, place-at}
 use Rattle.gg_build_laws.proofs.MemoryLemmas.{memory-ports, memory-turns}
 use Rattle.gg_build_laws.proofs.OutNeedLemmas.{HasOutNeeds, out-needs}
 
@@ -317,14 +318,7 @@ module _ (design : Ordered) (request : Request) (models : Models) (default : ℕ
         turns = λ m lt. net-turns m (omega (arith, lt, kinds, built.count, given.planned.machine_total));
       }
 
-  pub in-order : IsInOrder frame
-  in-order = record { ins = joints-in-order token plan wires are; outs = outs-in-order token plan wires are }
-
 pub plan-layout : (design : Ordered) (request : Request) (models : Models) (default : ℕ) (plan : Plan) (columns : List (List ℕ)) (n : ℕ) (start : Start) (rows : List (List ℕ)) (token : ℕ → ℕ) (starts : Body → Start) (machines : List Machine) → IsGiven design request models default plan columns n start rows → AreBuilt plan starts columns machines
     → (layout : Layout) × (IsLayoutOf design request default n layout × HasLayout (plan_frame token plan machines n) layout)
 plan-layout design request models default plan columns n start rows token starts machines given built =
     (layout design request models default plan columns n start rows token starts machines given built, (of-cut design request models default plan columns n start rows token starts machines given built, of-network design request models default plan columns n start rows token starts machines given built))
-
-pub plan-in-order : (design : Ordered) (request : Request) (models : Models) (default : ℕ) (plan : Plan) (columns : List (List ℕ)) (n : ℕ) (start : Start) (rows : List (List ℕ)) (token : ℕ → ℕ) (starts : Body → Start) (machines : List Machine) → IsGiven design request models default plan columns n start rows → AreBuilt plan starts columns machines
-    → IsInOrder (plan_frame token plan machines n)
-plan-in-order design request models default plan columns n start rows token starts machines given built = in-order design request models default plan columns n start rows token starts machines given built

@@ -11,6 +11,7 @@ use Rattle.gg_net.specs.Network.{wire_at, Kind, kind_at}
 use Rattle.gg_net.specs.Kept.{IsWired}
 use Rattle.gg_build_laws.specs.Built.{wires_of_plan}
 use Rattle.gg_build_laws.proofs.LinkLemmas.{AreLinks, linked, length-wires}
+use Rattle.gg_build_laws.proofs.WireLemmas.{joints-in-order, outs-in-order}
 use Rattle.gg_build_laws.proofs.ListedLemmas.{taken-placed, given-placed, at-in, at-out}
 
 -- A machine of this kind has an in for each channel that machine m of the plan takes, and an out for each that it gives. The ins
@@ -76,17 +77,8 @@ module _ (token : ℕ → ℕ) (plan : Plan) (links : List Link) (kinds : List K
         from = λ m o low lt.
             let outs = (fit.each m (known-kind m low)).outs in
             (value_at (channels_from links m) o, at-out token plan links are m o (omega (arith, lt, outs)));
-        one_in = λ c d lc ld same place.
-            sym (fast c lc).takes
-            ∙ ap (λ a. value_at (channels_to links a) (wire_at (wires_of_plan token plan) c).place) same
-            ∙ ap (value_at (channels_to links (wire_at (wires_of_plan token plan) d).consumer)) place
-            ∙ (fast d ld).takes;
+        order = record { ins = joints-in-order token plan links are; outs = outs-in-order token plan links are };
         needs = λ m o i low has. (fit.each m (known-kind m low)).needs o i has;
         fields = λ m low. (fit.each m (known-kind m low)).fields;
         numbers = λ m low. (fit.each m (known-kind m low)).numbers;
-        one_out = λ c d lc ld same out.
-            sym (fast c lc).gives
-            ∙ ap (λ a. value_at (channels_from links a) (wire_at (wires_of_plan token plan) c).out) same
-            ∙ ap (value_at (channels_from links (wire_at (wires_of_plan token plan) d).producer)) out
-            ∙ (fast d ld).gives;
       }

@@ -30,7 +30,8 @@ use Rattle.gg_cut_plan.specs.Channels.{wire, wires_of}
 use Rattle.gg_cut_plan.specs.Seated.{plan_wires}
 use Rattle.gg_cut_plan.proofs.WorkedPair.{input, output}
 use Rattle.gg_cut_text.specs.CheckText.{AreChannelNeeds, IsPathInside, NeedsChannel}
-use Rattle.gg_net_laws.specs.Marking.{Link, Turn, Layout, link_at}
+use Rattle.gg_net.specs.Refusal.{Turn}
+use Rattle.gg_net_laws.specs.Marking.{Link, Layout, link_at}
 use Rattle.gg_build_laws.specs.CutLayout.{IsChannelLink, IsLayoutOf, machine_ports, machine_turns, memory_turns}
 
 abbrev late : Memory

@@ -22,7 +22,8 @@ use Rattle.gg_cut_text.specs.CheckText.{AreChannelNeeds, channel_name}
 use Rattle.gg_node.specs.Machine.{Port}
 use Rattle.gg_node.specs.Step.{fields_of}
 use Rattle.gg_memunit.specs.MemoryUnit.{ports_by}
-use Rattle.gg_net_laws.specs.Marking.{Link, Turn, Layout, link_at}
+use Rattle.gg_net.specs.Refusal.{Turn}
+use Rattle.gg_net_laws.specs.Marking.{Link, Layout, link_at}
 
 -- ---- channels
 

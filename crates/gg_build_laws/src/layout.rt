@@ -4,16 +4,14 @@ ghost use Rattle.gg_order.specs.Design.{Ordered};
 ghost use Rattle.gg_partfile.specs.declared.request.Request.{Request};
 ghost use Rattle.gg_cut_text.specs.Alike.{AreAlike};
 ghost use Rattle.gg_net_laws.specs.Marking.{Layout};
-ghost use Rattle.gg_net_laws.specs.Fits.{HasLayout, IsInOrder};
+ghost use Rattle.gg_net_laws.specs.Fits.{HasLayout};
 ghost use Rattle.gg_build_laws.specs.CutLayout.{HaveOneLayout, IsLayoutOf};
 ghost use Rattle.gg_build_laws.specs.Each.{OfEachCut};
 
-/// The network of a plan has the layout of its cut, wherever its machines begin and whatever token a pipe opens with. The
-/// ins and the outs of its machines are in the order of their channels.
+/// The network of a plan has the layout of its cut, wherever its machines begin and whatever token a pipe opens with.
 pub fn plan_has_layout()
     ensures layout { OfEachCut (λ design request default frame. (layout : Layout)
         × (IsLayoutOf design request default frame.end layout × HasLayout frame layout)) }
-    ensures order { OfEachCut (λ design request default frame. IsInOrder frame) }
 {}
 
 /// For all designs that are alike, the cut of a request has the same layout.

@@ -12,16 +12,18 @@ use Rattle.gg_net.specs.declared.event.Event.{Event}
 use Rattle.gg_net.specs.declared.event.Event.TheVariants.{Latch, Fire, Serve, Finish}
 use Rattle.gg_net.specs.Network.{Network, Frame, Kind, kind_of, kind_at, frame_of}
 use Rattle.gg_net.specs.Kept.{Kept}
-use Rattle.gg_net.specs.Step.{Ready, Step}
+use Rattle.gg_net.specs.Step.{Ready, Step, machine_of}
 use Rattle.gg_net.proofs.StepLemmas.{kept-step}
+use Rattle.gg_net.proofs.TableLemmas.{latch-can, fire-can, serve-can, finish-can}
 use Rattle.gg_net.proofs.ProgressLemmas.{goes-on}
 use Rattle.gg_net_laws.specs.Marking.{Layout, Marking, turns_at, puts, takes, refusal, after}
 use Rattle.gg_net_laws.specs.Fits.{HasLayout, marking_of}
 use Rattle.gg_net_laws.proofs.CountLemmas.{cycle-at, puts-are, takes-are}
 use Rattle.gg_net_laws.proofs.GoesLemmas.{ready-free, step-marks, step-frame}
-use Rattle.gg_net_laws.specs.Counts.{counts_of, dues, fires, latches, finishes, accesses, IsAllowed, Raises, Free}
+use Rattle.gg_net_laws.specs.Counts.{counts_of, dues, fires, latches, finishes, accesses, IsAllowed, Raises}
+use Rattle.gg_net_laws.proofs.Free.{Free}
 use Rattle.gg_net_laws.specs.Measure.{left}
-use Rattle.gg_measure.specs.Nets.{IsAtWork, AllStandAt, IsIdle, StepBelow, StepsBelow, Goes, StaysWithin, machine_of, cycle_at, dues_at, net_left}
+use Rattle.gg_measure.specs.Nets.{IsAtWork, AllStandAt, IsIdle, StepBelow, StepsBelow, Goes, StaysWithin, cycle_at, dues_at, net_left}
 use Rattle.gg_net_laws.proofs.SumLemmas.{one-cases}
 use Rattle.gg_net_laws.proofs.FreeLemmas.{is-free}
 use Rattle.gg_net_laws.proofs.LeadLemmas.{Went, went}
@@ -85,22 +87,22 @@ module _ (flow : Flow) (net : Network) (kept : Kept flow net) where
 
   -- the machine of an event, in a network and in its layout
   machine-is : (layout : Layout) → HasLayout (frame_of net) layout → (event : Event) → Ready net event → machine_by layout event ≡ machine_of net event
-  machine-is layout has (Latch c) ready = (has.link c ready.can.0).consumer
-  machine-is layout has (Fire c) ready = (has.link c ready.can.0).producer
+  machine-is layout has (Latch c) ready = (has.link c (latch-can net c ready).can.0).consumer
+  machine-is layout has (Fire c) ready = (has.link c (fire-can net kept.sound.wired c ready).can.0).producer
   machine-is layout has (Serve m p) ready = refl
   machine-is layout has (Finish m) ready = refl
 
   not-idle : (event : Event) → Ready net event → IsIdle net (machine_of net event) → ⊥
-  not-idle (Latch c) ready idle = idle.latch c ready.can.0 refl ready
-  not-idle (Fire c) ready idle = idle.fire c ready.can.0 refl ready
+  not-idle (Latch c) ready idle = idle.latch c (latch-can net c ready).can.0 refl ready
+  not-idle (Fire c) ready idle = idle.fire c (fire-can net kept.sound.wired c ready).can.0 refl ready
   not-idle (Serve m p) ready idle = idle.serve p ready
   not-idle (Finish m) ready idle = idle.finish ready
 
   pub machine-there : (event : Event) → Ready net event → machine_of net event < length net.machines
-  machine-there (Latch c) ready = omega (arith, kept.sound.wired.consumer c ready.can.0, length-map net.machines kind_of)
-  machine-there (Fire c) ready = omega (arith, kept.sound.wired.producer c ready.can.0, length-map net.machines kind_of)
-  machine-there (Serve m p) ready = ready.there.0
-  machine-there (Finish m) ready = ready.there
+  machine-there (Latch c) ready = omega (arith, kept.sound.wired.consumer c (latch-can net c ready).can.0, length-map net.machines kind_of)
+  machine-there (Fire c) ready = omega (arith, kept.sound.wired.producer c (fire-can net kept.sound.wired c ready).can.0, length-map net.machines kind_of)
+  machine-there (Serve m p) ready = (serve-can net kept.sound.wired m p ready).there.0
+  machine-there (Finish m) ready = (finish-can net kept.sound.wired m ready).there
 
   -- If each machine that is below a cycle is idle, and none is above it, all stand at it.
   pub all-stand : (cycle : ℕ) → cycle ≤ net.end → ((m : ℕ) → m < length net.machines → cycle_at net m ≤ cycle) → ((m : ℕ) → m < length net.machines → cycle_at net m < cycle → IsIdle net m) → AllStandAt cycle net

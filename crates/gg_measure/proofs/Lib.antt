@@ -8,5 +8,4 @@ pub mod CountWays
 pub mod OrderLemmas
 pub mod FallLemmas
 pub mod AtLemmas
-mod SetLemmas
-mod FollowLemmas
+mod RunLemmas

@@ -9,7 +9,7 @@ use Rattle.std.proofs.lemmas.List.{length-map, length-take, get_or-map, get_or-t
 use Rattle.gg_flat.specs.Streams.{Flow}
 use Rattle.gg_flat.specs.Line.{value_at}
 use Rattle.gg_flat.specs.Served.{Access, ByReader, ByWriter}
-use Rattle.gg_node.specs.Machine.{Machine, Port, no_machine, machine_at, latch_at, first_empty, needs_at}
+use Rattle.gg_node.specs.Machine.{Machine, Port, no_machine, machine_at, latch_at}
 use Rattle.gg_node.specs.Step.{fields_of, HasFields}
 use Rattle.gg_net.proofs.PortLemmas.{any_port}
 use Rattle.gg_net.proofs.MayLemmas.{producer-there, consumer-there}
@@ -17,13 +17,17 @@ use Rattle.gg_net.specs.Network as network
 use Rattle.gg_net.specs.Network.{Network, Kind, Frame, wire_at, kind_at, kind_of, no_kind, frame_of, got_by}
 use Rattle.gg_net.specs.Kept.{Kept, MachineAt, BetweenAt, NeedsChannel, list_at}
 use Rattle.gg_net.specs.Net.{IsWithinLimits}
-use Rattle.gg_net.specs.Step.{latch_of, missing_of}
-use Rattle.gg_net_laws.specs.Marking.{Layout, Marking, Turn, link_at, turns_at, is_set, first_unmarked}
+use Rattle.gg_net.specs.Step.{latch_of}
+use Rattle.gg_net.proofs.Can.{missing_of}
+use Rattle.gg_net.specs.Refusal.{Turn, first_without}
+use Rattle.gg_net.specs.Step.{facts_of}
+use Rattle.gg_net.proofs.TableLemmas.{needs-none, none-unfired}
+use Rattle.gg_net_laws.specs.Marking.{Layout, Marking, link_at, turns_at, is_set, marked_facts}
 use Rattle.gg_net_laws.specs.Fits.{HasLayout, IsTurnOf, AreTurnsOf, places_of, marking_of}
 use Rattle.gg_net_laws.proofs.CountLemmas.{cycle-at, served-at, taken-at, given-at, puts-are, entered-are, takes-are}
 use Rattle.gg_net_laws.proofs.ChangeLemmas.{taken-count, given-count}
-use Rattle.gg_net_laws.proofs.NeedLemmas.{unmarked-none}
-use Rattle.gg_net_laws.proofs.FirstLemmas.{none-unfired}
+use Rattle.gg_net_laws.proofs.AlikeLemmas.{needs-same, outs-same}
+use Rattle.gg_net_laws.proofs.AgreeLemmas.{alike}
 use Rattle.gg_net_laws.proofs.PutsLemmas.{puts-within}
 use Rattle.gg_net_laws.specs.Counts.{Counts, counts_of, dues, WasTaken, IsAllowed, HasBegun, CanRun, IsMarkingOf}
 use Rattle.gg_net_laws.specs.Measure.{sum_below, left}
@@ -44,6 +48,12 @@ has-field (ByWriter w writer) = omega arith
 pub got-within : (cycle end : ℕ) (latch : Option ℕ) → cycle ≤ end → ((value : ℕ) → latch ≡ Some value → cycle < end) → got_by cycle latch ≤ end
 got-within cycle end None within lt = within
 got-within cycle end (Some value) within lt = omega (arith, lt value refl)
+
+pub takes-within : (flow : Flow) (net : Network) → Kept flow net → (c : ℕ) → c < length net.wires → network.takes net c ≤ net.end
+takes-within flow net kept c known =
+    let q : ℕ = (wire_at net.wires c).consumer in
+    let at : MachineAt flow (frame_of net) q (machine_at net.machines q) = kept.machines q (consumer-there flow net kept c known) in
+    got-within (machine_at net.machines q).cycle net.end (latch_of net c) at.within (λ value is. (at.latched c value known refl is).0)
 
 module _ (flow : Flow) (net : Network) (kept : Kept flow net) (layout : Layout) (has : HasLayout (frame_of net) layout) where
   abbrev frame : Frame
@@ -144,14 +154,13 @@ module _ (flow : Flow) (net : Network) (kept : Kept flow net) (layout : Layout) 
   machine m known = kept.machines m (machine-there m known)
 
   -- what a channel needs is taken, if its token was given
-  needs-taken : (c : ℕ) → c < length layout.links → is_set marking.given c ≡ true → first_unmarked marking.taken (link_at layout c).needs ≡ None
+  needs-taken : (c : ℕ) → c < length layout.links → is_set marking.given c ≡ true → first_without (marked_facts layout marking).taken (link_at layout c).needs ≡ None
   needs-taken c known set =
       let k : c < length net.wires = wire-there c known in
       let p : ℕ = (wire_at net.wires c).producer in
       let at : MachineAt flow frame p (machine_at net.machines p) = kept.machines p (producer-there flow net kept c k) in
       let none : missing_of net c ≡ None = (at.fired (wire_at net.wires c).out (sym (given-at net c k) ∙ set)).1 in
-      unmarked-none net p (link_at layout c).needs (link-needs c k)
-      (ap (first_empty (machine_at net.machines p).latches) ((has.link c k).needs ∙ ap (λ (kind : Kind). needs_at kind.needs (wire_at net.wires c).out) (kind-is p)) ∙ none)
+      sym (needs-same (facts_of net) (marked_facts layout marking) (alike flow net kept layout has) c k) ∙ needs-none net kept.sound.wired c k (wire_at net.wires c) refl none
 
   -- the fields of a port that was served are taken
   fields-taken : (m i : ℕ) (any : Turn) → m < length layout.turns → i < value_at marking.served m → All (WasTaken counts (counts.cycles m)) (slice_index_or (turns_at layout m) i any).fields
@@ -181,14 +190,7 @@ module _ (flow : Flow) (net : Network) (kept : Kept flow net) (layout : Layout) 
   take-end : (c : ℕ) → c < length layout.links → counts.takes c ≤ layout.end
   take-end c known =
       let k : c < length net.wires = wire-there c known in
-      let q : ℕ = (wire_at net.wires c).consumer in
-      let at : MachineAt flow frame q (machine_at net.machines q) = kept.machines q (consumer-there flow net kept c k) in
-      omega (
-        arith,
-        takes-are net layout has c k,
-        has.end,
-        got-within (machine_at net.machines q).cycle net.end (latch_of net c) at.within (λ value is. (at.latched c value k refl is).0),
-      )
+      omega (arith, takes-are net layout has c k, has.end, takes-within flow net kept c k)
 
   served-within : (m : ℕ) → m < length layout.turns → value_at marking.served m ≤ dues layout m
   served-within m known =
@@ -236,7 +238,7 @@ module _ (flow : Flow) (net : Network) (kept : Kept flow net) (layout : Layout) 
           record {
             count = refl;
             within = served-within m known;
-            given = λ some. has-given layout marking can-run m (none-unfired flow net kept layout has m (machine-there m known) ((machine m known).serving (omega (arith, some, served-at net m))));
+            given = λ some. has-given layout marking can-run m (sym (outs-same (facts_of net) (marked_facts layout marking) (alike flow net kept layout has) m) ∙ none-unfired net kept.sound.wired m (machine-there m known) ((machine m known).serving (omega (arith, some, served-at net m))));
             fields = λ i any lt. fields-taken m i any known lt;
           },
         );

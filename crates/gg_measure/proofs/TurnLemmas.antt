@@ -10,9 +10,12 @@ use Rattle.gg_net.specs.declared.event.Event.TheVariants.{Latch, Fire, Serve, Fi
 use Rattle.gg_net.specs.declared.shape.Wire.{Wire}
 use Rattle.gg_net.specs.Network.{Network, Frame, Kind, wire_at, kind_of, kind_at, frame_of, IsAtIn, IsAtOut}
 use Rattle.gg_net.specs.Kept.{Kept}
-use Rattle.gg_net.specs.Step.{Ready, Step}
+use Rattle.gg_net.specs.Step.{facts_of, Ready, Step, machine_of}
+use Rattle.gg_net.proofs.WireLemmas.{one-in, one-out}
+use Rattle.gg_net.proofs.RowLemmas.{latch-goes, fire-goes, serve-goes, finish-goes}
+use Rattle.gg_net.proofs.TableLemmas.{port-there, latch-can, fire-can, serve-can, finish-can}
 use Rattle.gg_net_laws.proofs.GoesLemmas.{step-frame}
-use Rattle.gg_measure.specs.Nets.{IsAtWork, NoLatch, NoFire, NoServe, IsIdle, AllStandAt, StepsBelow, StaysWithin, HasRun, Goes, cycle_at, machine_of}
+use Rattle.gg_measure.specs.Nets.{IsAtWork, NoLatch, NoFire, NoServe, IsIdle, AllStandAt, StepsBelow, StaysWithin, HasRun, Goes, cycle_at}
 use Rattle.gg_measure.specs.Turns.{HasTried, HasServedOne, HadTurn, HasGoneRound, NoneFound}
 use Rattle.gg_measure.proofs.GoLemmas.{goes-none, goes-one, goes-then, goes-still, goes-falls, steps-kept, steps-within, all-stand, none-ready, machine-there, work-latch, work-fire, work-serve}
 
@@ -57,14 +60,14 @@ module _ (flow : Flow) (cycle m count d : ℕ) (old net new : Network) (moved do
   pub latch-tried : HasTried (λ c. Latch c) IsAtIn cycle m count old moved net → IsAtIn net.wires m count d → MatchBool done (Step net (Latch d) new) ((new ≡ net) × (Ready net (Latch d) → ⊥)) → HasTried (λ c. Latch c) IsAtIn cycle m (count + 1) old (moved || done) new
   latch-tried tried at answer =
       one-tried (λ c. Latch c) IsAtIn cycle m count d old net new moved done tried
-      (λ c here. kept.sound.wired.one_in c d here.known at.known (here.machine ∙ sym at.machine) (here.place ∙ sym at.place))
+      (λ c here. one-in (frame_of net) kept.sound.wired c d here.known at.known (here.machine ∙ sym at.machine) (here.place ∙ sym at.place))
       (omega (arith, tried.work.below, ap (cycle_at net) at.machine))
       (λ step. work-latch flow net kept new d cycle m tried.work step) answer
 
   pub fire-tried : HasTried (λ c. Fire c) IsAtOut cycle m count old moved net → IsAtOut net.wires m count d → MatchBool done (Step net (Fire d) new) ((new ≡ net) × (Ready net (Fire d) → ⊥)) → HasTried (λ c. Fire c) IsAtOut cycle m (count + 1) old (moved || done) new
   fire-tried tried at answer =
       one-tried (λ c. Fire c) IsAtOut cycle m count d old net new moved done tried
-      (λ c here. kept.sound.wired.one_out c d here.known at.known (here.machine ∙ sym at.machine) (here.out ∙ sym at.out))
+      (λ c here. one-out (frame_of net) kept.sound.wired c d here.known at.known (here.machine ∙ sym at.machine) (here.out ∙ sym at.out))
       (omega (arith, tried.work.below, ap (cycle_at net) at.machine))
       (λ step. work-fire flow net kept new d cycle m tried.work step) answer
 
@@ -238,17 +241,17 @@ machine-found net channels n none both =
     }
 
 no-event : (net : Network) → NoneFound net (length net.wires) (length net.machines) → (event : Event) → Ready net event → ⊥
-no-event net none (Latch c) ready = none.latches c ready.can.0 ready
-no-event net none (Fire c) ready = none.fires c ready.can.0 ready
-no-event net none (Serve m p) ready = none.serves m ready.there.0 p ready
-no-event net none (Finish m) ready = none.finishes m ready.there ready
+no-event net none (Latch c) ready = none.latches c (latch-goes (facts_of net) c ready).known ready
+no-event net none (Fire c) ready = none.fires c (fire-goes (facts_of net) c ready).known ready
+no-event net none (Serve m p) ready = none.serves m (port-there net m p (serve-goes (facts_of net) m p ready).port) p ready
+no-event net none (Finish m) ready = none.finishes m (finish-goes (facts_of net) m ready).there ready
 
 module _ (flow : Flow) (net : Network) (kept : Kept flow net) where
   below-end : (event : Event) → Ready net event → cycle_at net (machine_of net event) < net.end
-  below-end (Latch c) ready = ready.can.1
-  below-end (Fire c) ready = ready.can.1
-  below-end (Serve m p) ready = ready.below
-  below-end (Finish m) ready = ready.below
+  below-end (Latch c) ready = (latch-can net c ready).can.1
+  below-end (Fire c) ready = (fire-can net kept.sound.wired c ready).can.1
+  below-end (Serve m p) ready = (serve-can net kept.sound.wired m p ready).below
+  below-end (Finish m) ready = (finish-can net kept.sound.wired m ready).below
 
   -- if an event may be done, its machine isn't at the end
   not-at-end : (event : Event) → Ready net event → AllStandAt net.end net → ⊥

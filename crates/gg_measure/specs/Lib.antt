@@ -2,4 +2,3 @@ pub mod Nets
 pub mod At
 pub mod Ways
 pub mod Turns
-pub mod Sets

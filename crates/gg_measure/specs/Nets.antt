@@ -10,7 +10,7 @@ use Rattle.gg_net.specs.declared.event.Event.TheVariants.{Latch, Fire, Serve, Fi
 use Rattle.gg_net.specs.Network as network
 use Rattle.gg_net.specs.Network.{Network, wire_at, queue_at, opening_queue}
 use Rattle.gg_net.specs.Kept.{list_at}
-use Rattle.gg_net.specs.Step.{Ready, Step}
+use Rattle.gg_net.specs.Step.{Ready, Step, cycle_of}
 use Rattle.gg_net_laws.specs.Measure.{sum_below}
 
 -- the cycle that a machine is in
@@ -67,17 +67,10 @@ pub record IsAtWork (cycle m : ℕ) (net : Network) : Type 0 where
 
 -- ---- steps one after another
 
--- the machine that does an event: a channel's consumer takes its token, and its producer gives it
-abbrev pub machine_of : Network → Event → ℕ
-machine_of net (Latch c) = (wire_at net.wires c).consumer
-machine_of net (Fire c) = (wire_at net.wires c).producer
-machine_of net (Serve m p) = m
-machine_of net (Finish m) = m
-
 -- A step of a machine that is below a cycle.
 pub record StepBelow (cycle : ℕ) (old : Network) (event : Event) (new : Network) : Type 0 where
   pub step : Step old event new
-  pub below : cycle_at old (machine_of old event) < cycle
+  pub below : cycle_of old event < cycle
 
 -- these events, one after another, lead from one network to another; each is of a machine that is below a cycle
 abbrev pub StepsBelow : ℕ → Network → List Event → Network → Type 0

@@ -14,11 +14,6 @@ pub record HasTried (event_of : ℕ → Event) (IsAt : List Wire → ℕ → ℕ
   pub goes : Goes cycle old moved new
   pub none : moved ≡ false → (i c : ℕ) → i < count → IsAt new.wires m i c → Ready new (event_of c) → ⊥
 
--- A machine did steps and is still at work.
-pub record HasWorked (cycle m : ℕ) (old : Network) (moved : Bool) (new : Network) : Type 0 where
-  pub work : IsAtWork cycle m new
-  pub goes : Goes cycle old moved new
-
 -- A machine served a port.
 pub record HasServedOne (cycle m : ℕ) (old new : Network) : Type 0 where
   pub work : IsAtWork cycle m new

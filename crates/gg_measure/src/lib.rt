@@ -14,18 +14,16 @@
 //!   the last values of its channel in each tray ([`steps_end_so`]);
 //! - [`left`] returns the measure, and [`possible`] a step that may be done, as long as there is one;
 //! - [`run_to`] brings all machines to a cycle by steps of machines below it, and no count further. [`run_to_end`]
-//!   brings them to the end.
+//!   brings them to the end. [`run_by`] does what calls of `run_to` for one cycle after another do, by an [`Order`] of the
+//!   steps of a cycle.
 //!
-//! Only `run_to` and `run_to_end` allocate: a schedule of what may have something to do, which they drop at the end. Where
-//! there is no memory for it, they do the same steps without one.
+//! Only [`Order::new`] allocates: room for the steps of a cycle.
 #![tactic(auto)]
 
-mod follow;
 mod laws;
-mod making;
+mod order;
+mod pass;
 mod run;
-mod schedule;
-mod set;
 mod tells;
 mod try_event;
 mod turn;
@@ -34,5 +32,6 @@ pub use laws::{
     made_by_counts, nets_are_allowed, none_left, one_end, reached_exactly, steps_end_so,
     steps_fall, steps_up,
 };
-pub use run::{run_to, run_to_end};
+pub use order::Order;
+pub use run::{run_by, run_to, run_to_end};
 pub use tells::{left, possible};

@@ -1,25 +1,26 @@
-//! `run_to`: steps in the fixed order.
+//! `run_to`: steps in the fixed order. `run_by`: the same cycle by cycle, by an order that is remembered.
 ghost use Rattle.std.specs.Prelude.{◌≡◌, ℕ, ◌<◌, ◌≤◌, true, length};
 ghost use Rattle.gg_net.specs.Network.{frame_of};
 ghost use Rattle.gg_measure.specs.Nets.{AllStandAt, AreDrained, HaveKept, StaysWithin, HasRun, cycle_at, net_left};
 ghost use Rattle.gg_measure.specs.Turns.{HasGoneRound};
 
-use crate::follow::follow;
+use crate::order::Order;
+use crate::pass::pass;
 use crate::turn::round;
 use gg_net::{Net, Streams};
 use gg_node::Host;
 
 // A turn of each machine that is below a cycle, by number. Returns whether anything was done, which lowers the measure.
-fn go_round<H: Host, Z: Streams>(net: &mut Net<H, Z>, cycle: u64) -> bool
+fn go_round<H: Host, Z: Streams>(net: &mut Net<H, Z>, order: &mut Order, cycle: u64) -> bool
     ensures round { HasGoneRound cycle (length net.old.machines) net.old result net.new }
     ensures falls { result ≡ true → net_left net.new < net_left net.old }
 {
     net.kept();
-    round(net, cycle)
+    round(net, order, cycle)
 }
 
 // Goes round the machines until all stand at a cycle.
-fn run_rounds<H: Host, Z: Streams>(net: &mut Net<H, Z>, cycle: u64)
+fn run_rounds<H: Host, Z: Streams>(net: &mut Net<H, Z>, order: &mut Order, cycle: u64)
     requires within { cycle ≤ net.old.end }
     requires none_above { (m : ℕ) → m < length net.old.machines → cycle_at net.old m ≤ cycle }
     ensures there { AllStandAt cycle net.new }
@@ -29,7 +30,7 @@ fn run_rounds<H: Host, Z: Streams>(net: &mut Net<H, Z>, cycle: u64)
 {
     net.kept();
     loop {
-        if !go_round(net, cycle) {
+        if !go_round(net, order, cycle) {
             break;
         }
     }
@@ -38,8 +39,7 @@ fn run_rounds<H: Host, Z: Streams>(net: &mut Net<H, Z>, cycle: u64)
 
 /// Does steps of the machines that are below a cycle until all stand at it, in a fixed order: the machines by number, and
 /// for each all tokens that it may take, by its ins, then all that it may give, by its outs, then its ports, then the end
-/// of its cycle; and again. Allocates a schedule, so that it tries little more than what may be done. Without memory for
-/// one it goes round all machines, and does the same steps.
+/// of its cycle; and again. Allocates nothing.
 pub fn run_to<H: Host, Z: Streams>(net: &mut Net<H, Z>, cycle: u64)
     requires within { cycle ≤ net.old.end }
     requires none_above { (m : ℕ) → m < length net.old.machines → cycle_at net.old m ≤ cycle }
@@ -48,9 +48,8 @@ pub fn run_to<H: Host, Z: Streams>(net: &mut Net<H, Z>, cycle: u64)
     ensures bounds { StaysWithin cycle net.old net.new }
     ensures frame { frame_of net.new ≡ frame_of net.old }
 {
-    net.kept();
-    follow(net, cycle);
-    run_rounds(net, cycle);
+    let mut none = Order::none(*net.shape().wires.allocator());
+    run_rounds(net, &mut none, cycle);
 }
 
 /// Does steps until all machines stand at the end. Each queue then holds as many tokens as it opened with.
@@ -66,4 +65,74 @@ pub fn run_to_end<H: Host, Z: Streams>(net: &mut Net<H, Z>)
     let end = net.end();
     run_to(net, end);
     net.kept();
+}
+
+// The highest cycle that a machine is in.
+fn highest<H: Host, Z: Streams>(net: &Net<H, Z>) -> u64 {
+    net.within_limits();
+    let mut cycle = 0;
+    for machine in 0..net.machines() {
+        cycle = cycle.max(net.cycle(machine as u32));
+    }
+    cycle
+}
+
+// Goes round the machines that are below both cycles until a round does nothing.
+fn settle<H: Host, Z: Streams>(net: &mut Net<H, Z>, order: &mut Order, upto: u64, _cycle: u64)
+    requires { upto ≤ _cycle }
+    ensures { HasRun _cycle net.old net.new }
+{
+    loop {
+        if !go_round(net, order, upto) {
+            break;
+        }
+    }
+}
+
+// Brings all machines to one cycle, and then to the next one, and notes these last steps.
+fn note<H: Host, Z: Streams>(net: &mut Net<H, Z>, order: &mut Order, cycle: u64)
+    ensures { HasRun cycle net.old net.new }
+{
+    let level = highest(net).min(cycle);
+    settle(net, order, level, cycle);
+    order.open();
+    settle(net, order, level.saturating_add(1).min(cycle), cycle);
+    order.close();
+}
+
+// Notes an order, if it is empty.
+fn note_first<H: Host, Z: Streams>(net: &mut Net<H, Z>, order: &mut Order, cycle: u64)
+    ensures { HasRun cycle net.old net.new }
+{
+    if order.is_empty() {
+        note(net, order, cycle);
+    }
+}
+
+// Goes by an order as long as a pass over it does anything. An empty one is noted first.
+fn follow<H: Host, Z: Streams>(net: &mut Net<H, Z>, order: &mut Order, cycle: u64)
+    ensures { HasRun cycle net.old net.new }
+{
+    note_first(net, order, cycle);
+    loop {
+        if !pass(net, order.events(), cycle) {
+            break;
+        }
+    }
+}
+
+/// Brings all machines to a cycle as `run_to` does, but cycle by cycle: all stand at one before any goes on. So each cycle
+/// has the same steps in the same order. The steps of the first are noted in the order, if it is empty, and those of the
+/// others are done by it.
+pub fn run_by<H: Host, Z: Streams>(net: &mut Net<H, Z>, order: &mut Order, cycle: u64)
+    requires within { cycle ≤ net.old.end }
+    requires none_above { (m : ℕ) → m < length net.old.machines → cycle_at net.old m ≤ cycle }
+    ensures there { AllStandAt cycle net.new }
+    ensures steps { HasRun cycle net.old net.new }
+    ensures bounds { StaysWithin cycle net.old net.new }
+    ensures frame { frame_of net.new ≡ frame_of net.old }
+{
+    net.kept();
+    follow(net, order, cycle);
+    run_rounds(net, order, cycle);
 }

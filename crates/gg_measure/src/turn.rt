@@ -4,7 +4,8 @@ ghost use Rattle.gg_node.specs.Machine.{machine_at};
 ghost use Rattle.gg_measure.specs.Nets.{IsAtWork, IsIdle, NoLatch, NoFire, NoServe, Goes, cycle_at};
 ghost use Rattle.gg_measure.specs.Turns.{HasServedOne, HadTurn, HasGoneRound};
 
-use crate::try_event::{attempt, serve_due};
+use crate::order::Order;
+use crate::try_event::{attempt_noted, serve_due};
 use gg_net::{Event, Net, Streams};
 use gg_node::Host;
 
@@ -16,7 +17,12 @@ pub(crate) fn either(one: bool, other: bool) -> bool
 }
 
 // Latches the front tokens of all channels into a machine for which that may be done. Returns whether it was for any.
-fn latch_all<H: Host, Z: Streams>(net: &mut Net<H, Z>, machine: u32, _cycle: u64) -> bool
+fn latch_all<H: Host, Z: Streams>(
+    net: &mut Net<H, Z>,
+    order: &mut Order,
+    machine: u32,
+    _cycle: u64,
+) -> bool
     requires { IsAtWork _cycle machine net.old }
     ensures work { IsAtWork _cycle machine net.new }
     ensures goes { Goes _cycle net.old result net.new }
@@ -28,14 +34,19 @@ fn latch_all<H: Host, Z: Streams>(net: &mut Net<H, Z>, machine: u32, _cycle: u64
     for place in 0..count {
         net.kept();
         let channel = net.in_channel(machine, place);
-        let done = attempt(net, Event::Latch { channel });
+        let done = attempt_noted(net, order, Event::Latch { channel });
         moved = either(moved, done);
     }
     moved
 }
 
 // Gives the tokens of all channels of a machine for which that may be done. Returns whether it was for any.
-fn fire_all<H: Host, Z: Streams>(net: &mut Net<H, Z>, machine: u32, _cycle: u64) -> bool
+fn fire_all<H: Host, Z: Streams>(
+    net: &mut Net<H, Z>,
+    order: &mut Order,
+    machine: u32,
+    _cycle: u64,
+) -> bool
     requires { IsAtWork _cycle machine net.old }
     ensures work { IsAtWork _cycle machine net.new }
     ensures goes { Goes _cycle net.old result net.new }
@@ -47,30 +58,40 @@ fn fire_all<H: Host, Z: Streams>(net: &mut Net<H, Z>, machine: u32, _cycle: u64)
     for place in 0..count {
         net.kept();
         let channel = net.out_channel(machine, place);
-        let done = attempt(net, Event::Fire { channel });
+        let done = attempt_noted(net, order, Event::Fire { channel });
         moved = either(moved, done);
     }
     moved
 }
 
 // Serves the port of a machine that is due, if that may be done. Returns whether it was done.
-fn serve_next<H: Host, Z: Streams>(net: &mut Net<H, Z>, machine: u32, _cycle: u64) -> bool
+fn serve_next<H: Host, Z: Streams>(
+    net: &mut Net<H, Z>,
+    order: &mut Order,
+    machine: u32,
+    _cycle: u64,
+) -> bool
     requires { IsAtWork _cycle machine net.old }
     ensures { MatchBool result (HasServedOne _cycle machine net.old net.new) ((net.new ≡ net.old) × NoServe net.old machine) }
 {
     net.kept();
-    serve_due(net, machine)
+    serve_due(net, order, machine)
 }
 
 // Serves the ports of a machine as long as that may be done. Returns whether it served any.
-pub(crate) fn serve_all<H: Host, Z: Streams>(net: &mut Net<H, Z>, machine: u32, cycle: u64) -> bool
+fn serve_all<H: Host, Z: Streams>(
+    net: &mut Net<H, Z>,
+    order: &mut Order,
+    machine: u32,
+    cycle: u64,
+) -> bool
     requires { IsAtWork cycle machine net.old }
     ensures work { IsAtWork cycle machine net.new }
     ensures goes { Goes cycle net.old result net.new }
     ensures none { NoServe net.new machine }
 {
     let mut moved = false;
-    while serve_next(net, machine, cycle) {
+    while serve_next(net, order, machine, cycle) {
         moved = true;
     }
     moved
@@ -78,20 +99,30 @@ pub(crate) fn serve_all<H: Host, Z: Streams>(net: &mut Net<H, Z>, machine: u32, 
 
 // The turn of a machine: all tokens that it may take, all that it may give, all ports that it may serve, and the end of
 // its cycle. Returns whether anything was done.
-fn take_turn<H: Host, Z: Streams>(net: &mut Net<H, Z>, machine: u32, cycle: u64) -> bool
+fn take_turn<H: Host, Z: Streams>(
+    net: &mut Net<H, Z>,
+    order: &mut Order,
+    machine: u32,
+    cycle: u64,
+) -> bool
     requires { IsAtWork cycle machine net.old }
     ensures { HadTurn cycle machine net.old result net.new }
 {
-    let latched = latch_all(net, machine, cycle);
-    let fired = fire_all(net, machine, cycle);
-    let served = serve_all(net, machine, cycle);
+    let latched = latch_all(net, order, machine, cycle);
+    let fired = fire_all(net, order, machine, cycle);
+    let served = serve_all(net, order, machine, cycle);
     net.kept();
-    let finished = attempt(net, Event::Finish { machine });
+    let finished = attempt_noted(net, order, Event::Finish { machine });
     either(either(either(latched, fired), served), finished)
 }
 
 // The turn of a machine, if it is below a cycle. Returns whether anything was done.
-fn turn_below<H: Host, Z: Streams>(net: &mut Net<H, Z>, machine: u32, cycle: u64) -> bool
+fn turn_below<H: Host, Z: Streams>(
+    net: &mut Net<H, Z>,
+    order: &mut Order,
+    machine: u32,
+    cycle: u64,
+) -> bool
     requires there { machine < length net.old.machines }
     ensures goes { Goes cycle net.old result net.new }
     ensures idle { result ≡ false → cycle_at net.new machine < cycle → IsIdle net.new machine }
@@ -99,18 +130,18 @@ fn turn_below<H: Host, Z: Streams>(net: &mut Net<H, Z>, machine: u32, cycle: u64
     if net.cycle(machine) >= cycle {
         return false;
     }
-    take_turn(net, machine, cycle)
+    take_turn(net, order, machine, cycle)
 }
 
 // A turn of each machine that is below a cycle, by number. Returns whether anything was done.
-pub(crate) fn round<H: Host, Z: Streams>(net: &mut Net<H, Z>, cycle: u64) -> bool
+pub(crate) fn round<H: Host, Z: Streams>(net: &mut Net<H, Z>, order: &mut Order, cycle: u64) -> bool
     ensures { HasGoneRound cycle (length net.old.machines) net.old result net.new }
 {
     net.within_limits();
     let count = net.machines();
     let mut moved = false;
     for machine in 0..count {
-        let done = turn_below(net, machine as u32, cycle);
+        let done = turn_below(net, order, machine as u32, cycle);
         moved = either(moved, done);
     }
     moved

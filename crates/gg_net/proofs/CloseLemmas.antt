@@ -9,21 +9,23 @@ use Rattle.gg_flat.specs.State.{State}
 use Rattle.gg_flat.specs.Streams.{Flow}
 use Rattle.gg_node.specs.Machine.{Machine, no_machine, machine_at}
 use Rattle.gg_node.specs.Token.{IsToken, IsNextState}
-use Rattle.gg_node.specs.Step.{MayLatch, MayFire, MayFinish, with_latch, with_flag, with_served, finished}
+use Rattle.gg_node.specs.Step.{MayLatch, MayFire, MayServe, MayFinish, with_latch, with_flag, with_served, finished}
 use Rattle.gg_net.specs.declared.shape.Wire.{Wire}
 use Rattle.gg_net.specs.declared.shape.Station.{Station}
 use Rattle.gg_net.specs.declared.event.Event.TheVariants.{Latch, Fire, Serve, Finish}
 use Rattle.gg_net.specs.Network.{Network, wire_at, queue_at, producer_of, consumer_of, Kind, kind_of, frame_of}
-use Rattle.gg_net.specs.Step.{CanLatch, CanFire, CanServe, CanFinish, front_of, after_latch, after_serve, Gives, GoesOn}
+use Rattle.gg_net.specs.Step.{front_of, after_latch, after_serve, Gives, GoesOn}
+use Rattle.gg_net.proofs.Can.{CanLatch, CanFire, CanServe, CanFinish}
 use Rattle.gg_net.specs.Kept.{Kept}
 use Rattle.gg_net.specs.Queue.{Held}
 use Rattle.gg_net.specs.Stations.{machines_by, stationed, IsStationed, IsReplacedAt, HasGoneOn}
 use Rattle.gg_net.specs.Net.{net_of, held_at, AreListed, HasRoom, IsWithinLimits, IsNet}
 use Rattle.gg_net.proofs.StationLemmas.{machines-set, are-stationed}
 use Rattle.gg_net.proofs.StepLemmas.{kept-step}
+use Rattle.gg_net.proofs.TableLemmas.{can-latch, can-fire, can-serve, can-finish}
 use Rattle.gg_net.proofs.MayLemmas.{consumer-there, producer-there, may-latch, may-fire}
 use Rattle.gg_net.proofs.FrameLemmas.{machine-known}
-use Rattle.gg_net.proofs.PartLemmas.{own-may-finish}
+use Rattle.gg_net.proofs.PartLemmas.{own-may-serve, own-may-finish}
 
 -- ---- kinds
 
@@ -170,7 +172,7 @@ module _ {flow : Flow} {hosts : List (List Machine)} {stations : List Station} {
           latch-closes =
               closes w.consumer station consumer-known s-is after (with_latch (stationed hosts station) w.place token) step (slice_set queues c new) (kind-latch (stationed hosts station) w.place token)
               (room-set wires queues c queue new (queues-there c known) q-is room net.room)
-              (kept-step flow old (Latch c) (net_of after stations wires (slice_set queues c new) end) net.kept (record { ready = can; after = latch-is }))
+              (kept-step flow old (Latch c) (net_of after stations wires (slice_set queues c new) end) net.kept (record { ready = can-latch old c can; after = latch-is }))
 
       -- ---- `Fire`
 
@@ -198,11 +200,19 @@ module _ {flow : Flow} {hosts : List (List Machine)} {stations : List Station} {
           fire-closes =
               closes w.producer station producer-known s-is after (with_flag (stationed hosts station) w.out) step (slice_set queues c new) (kind-flag (stationed hosts station) w.out)
               (room-set wires queues c queue new (queues-there c known) q-is room net.room)
-              (kept-step flow old (Fire c) (net_of after stations wires (slice_set queues c new) end) net.kept (record { ready = can; after = fire-gives }))
+              (kept-step flow old (Fire c) (net_of after stations wires (slice_set queues c new) end) net.kept (record { ready = can-fire old net.kept.sound.wired c can; after = fire-gives }))
 
   -- ---- `Serve` and `Finish`
 
   module _ (m : ℕ) (station : Station) (below : m < length stations) (is : station ≡ slice_index_or stations m station) where
+    pub serve-stationed : IsStationed hosts station
+    serve-stationed = subst (IsStationed hosts) (sym is) (net.stationed.each m station below)
+
+    pub serve-may : (p : ℕ) → CanServe old m p → MayServe (stationed hosts station) p
+    serve-may p can =
+        subst (λ x. MayServe x p) (machine-is m station below is)
+        (own-may-serve flow (frame_of old) net.kept.sound m (machine-known old m can.there.0) (machine_at (machines_by hosts stations) m) (net.kept.machines m can.there.0) p can.fired can.due can.fields)
+
     module _ (p : ℕ) (can : CanServe old m p) (after : List (List Machine)) (step : IsReplacedAt hosts after station (with_served (stationed hosts station))) where
       pub serve-is : net_of after stations wires queues end ≡ after_serve old m
       serve-is =
@@ -212,7 +222,7 @@ module _ {flow : Flow} {hosts : List (List Machine)} {stations : List Station} {
       pub serve-closes : IsNet flow after stations wires queues end
       serve-closes =
           closes m station below is after (with_served (stationed hosts station)) step queues refl net.room
-          (kept-step flow old (Serve m p) (net_of after stations wires queues end) net.kept (record { ready = can; after = serve-is }))
+          (kept-step flow old (Serve m p) (net_of after stations wires queues end) net.kept (record { ready = can-serve old net.kept.sound.wired m p can; after = serve-is }))
 
     module _ (can : CanFinish old m) where
       pub finish-stationed : IsStationed hosts station
@@ -237,4 +247,4 @@ module _ {flow : Flow} {hosts : List (List Machine)} {stations : List Station} {
       pub finish-closes : IsNet flow after stations wires queues end
       finish-closes =
           closes m station below is after (finished (stationed hosts station) goes.state) goes.step queues (kind-finished (stationed hosts station) goes.state) net.room
-          (kept-step flow old (Finish m) (net_of after stations wires queues end) net.kept (record { ready = can; after = finish-goes }))
+          (kept-step flow old (Finish m) (net_of after stations wires queues end) net.kept (record { ready = can-finish old net.kept.sound.wired m can; after = finish-goes }))

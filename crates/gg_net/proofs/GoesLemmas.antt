@@ -8,12 +8,14 @@ use Rattle.gg_node.specs.Token.{IsToken, IsNextState}
 use Rattle.gg_net.specs.declared.event.Event.{Event}
 use Rattle.gg_net.specs.declared.event.Event.TheVariants.{Latch, Fire, Serve, Finish}
 use Rattle.gg_net.specs.Network.{wire_at, Network, producer_of, entered_by, kind_of, frame_of}
-use Rattle.gg_net.specs.Step.{CanFire, CanFinish, after_latch, after_fire, after_serve, after_finish, Ready, Step}
+use Rattle.gg_net.specs.Step.{after_latch, after_fire, after_serve, after_finish, Ready, Step}
+use Rattle.gg_net.proofs.Can.{CanFire, CanFinish}
 use Rattle.gg_net.specs.Kept.{list_at, Kept}
 use Rattle.gg_net.proofs.MachineLemmas.{token_is, token_there, next_there, next_once}
 use Rattle.gg_net.proofs.PortLemmas.{any_port}
 use Rattle.gg_net.proofs.FrameLemmas.{machine-known, machine-there}
 use Rattle.gg_net.proofs.StepLemmas.{all-served}
+use Rattle.gg_net.proofs.TableLemmas.{fire-can, finish-can}
 
 module _ (flow : Flow) (net : Network) (kept : Kept flow net) where
   -- the value that a channel gets next
@@ -38,21 +40,23 @@ module _ (flow : Flow) (net : Network) (kept : Kept flow net) where
   -- An event that may be done can be done.
   pub goes : (event : Event) → Ready net event → (new : Network) × Step net event new
   goes (Latch c) can = (after_latch net c, record { ready = can; after = refl })
-  goes (Fire c) can = (after_fire net c (next_value c), record { ready = can; after = record { token = next_value c; is = fire-there c can; after = refl } })
+  goes (Fire c) ready = let can : CanFire net c = fire-can net kept.sound.wired c ready in (after_fire net c (next_value c), record { ready = ready; after = record { token = next_value c; is = fire-there c can; after = refl } })
   goes (Serve m p) can = (after_serve net m, record { ready = can; after = refl })
-  goes (Finish m) can =
+  goes (Finish m) ready =
+      let can : CanFinish net m = finish-can net kept.sound.wired m ready in
       let next : (state : State) × IsNextState (machine_at net.machines m) state = next_there flow (frame_of net) kept.sound m (machine-known net m can.there) (machine_at net.machines m) (kept.machines m can.there) can.below can.latched (whole m can) in
-      (after_finish net m next.0, record { ready = can; after = record { state = next.0; is = next.1; after = refl } })
+      (after_finish net m next.0, record { ready = ready; after = record { state = next.0; is = next.1; after = refl } })
 
   -- It can be done in one way only.
   pub goes-once : (event : Event) (one other : Network) → Step net event one → Step net event other → one ≡ other
   goes-once (Latch c) one other step same = step.after ∙ sym same.after
   goes-once (Fire c) one other step same =
       step.after.after
-      ∙ ap (after_fire net c) (fire-is c step.after.token step.ready step.after.is ∙ sym (fire-is c same.after.token same.ready same.after.is))
+      ∙ ap (after_fire net c) (fire-is c step.after.token (fire-can net kept.sound.wired c step.ready) step.after.is ∙ sym (fire-is c same.after.token (fire-can net kept.sound.wired c same.ready) same.after.is))
       ∙ sym same.after.after
   goes-once (Serve m p) one other step same = step.after ∙ sym same.after
   goes-once (Finish m) one other step same =
+      let can : CanFinish net m = finish-can net kept.sound.wired m step.ready in
       step.after.after
-      ∙ ap (after_finish net m) (next_once flow (frame_of net) kept.sound m (machine-known net m step.ready.there) (machine_at net.machines m) (kept.machines m step.ready.there) step.after.state same.after.state step.ready.below step.ready.latched (whole m step.ready) step.after.is same.after.is)
+      ∙ ap (after_finish net m) (next_once flow (frame_of net) kept.sound m (machine-known net m can.there) (machine_at net.machines m) (kept.machines m can.there) step.after.state same.after.state can.below can.latched (whole m can) step.after.is same.after.is)
       ∙ sym same.after.after

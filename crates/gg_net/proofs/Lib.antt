@@ -3,9 +3,14 @@ pub mod LatchLemmas
 pub mod StateLemmas
 pub mod MachineLemmas
 pub mod ChannelLemmas
+pub mod WireLemmas
+pub mod FindLemmas
+pub mod RowLemmas
+pub mod Can
+pub mod TableLemmas
+pub mod BelowLemmas
 pub mod StepLemmas
 pub mod GoesLemmas
-pub mod CauseLemmas
 pub mod CountLemmas
 pub mod ProgressLemmas
 pub mod StationLemmas

@@ -19,9 +19,10 @@ use Rattle.gg_node.specs.Machine.{Behaviour, RunsPiece, GivesColumn, KeepsLast, 
 use Rattle.gg_node.specs.Token.{AgreesOn, IsToken, IsTokenOf, IsNextState, IsNextOf, accessed}
 use Rattle.gg_node.specs.Step.{with_latch, with_flag, with_served, finished, kept_with, kept_after, fields_of, HasFields, AllFired, AllLatched}
 use Rattle.gg_net.specs.Network.{wire_at, IsAtIn, entered_by, Kind, kind_at, Frame}
-use Rattle.gg_net.specs.Step.{fields_at, due_fields}
+use Rattle.gg_net.specs.Readings.{fields_at, due_fields}
 use Rattle.gg_net.specs.Kept.{list_at, rows_at, start_at, ins_of, run_state, served_one, served_by, RunsRows, Runs, Answers, Asks, ServesRows, IsSound, IsStateOf, HasKept, Keeps, KeepsNone, MachineAt}
 use Rattle.gg_net.proofs.LatchLemmas.{has-value, latch-within, latch-grows, value-latched, all-filled, missing-grows, no-latch, no-flag}
+use Rattle.gg_net.proofs.WireLemmas.{one-in}
 use Rattle.gg_net.proofs.StateLemmas.{run_state-next, settled-at, accessed-is, served-next}
 use Rattle.gg_net.proofs.ChannelLemmas.{taken-one, put-one}
 
@@ -248,7 +249,7 @@ module _ (flow : Flow) (frame : Frame) (sound : IsSound flow frame) (m : ℕ) (b
           stands = at.stands;
           latched = λ d v there to has. ⊎_elim
               (λ (same : (wire_at frame.wires d).place ≡ i).
-              let one : d ≡ c = sound.wired.one_in d c there known (to ∙ sym is) same in
+              let one : d ≡ c = one-in frame sound.wired d c there known (to ∙ sym is) same in
               let value_is : value ≡ v = same_Some value v (sym (get_or-set_same x.latches i (Some value) None within) ∙ ap (latch_at (slice_set x.latches i (Some value))) (sym same) ∙ has) in
               (lt, sym value_is ∙ token ∙ ap (λ k. value_at (list_at flow.lists k) x.cycle) (sym one)))
               (λ other. at.latched d v there to (sym (get_or-set_other x.latches i (wire_at frame.wires d).place (Some value) None other) ∙ has))

@@ -11,7 +11,8 @@ use Rattle.gg_node.specs.Machine.{Behaviour, RunsPiece, GivesColumn, KeepsLast, 
 use Rattle.gg_node.specs.Step.{FitsIn, HasValueAt, MayLatch, MayFire}
 use Rattle.gg_net.specs.declared.shape.Wire.{Wire}
 use Rattle.gg_net.specs.Network.{Network, wire_at, queue_at, producer_of, consumer_of, takes, entered, got_by, kind_of, kind_at, Frame, frame_of}
-use Rattle.gg_net.specs.Step.{CanLatch, CanFire, front_of}
+use Rattle.gg_net.specs.Step.{front_of}
+use Rattle.gg_net.proofs.Can.{CanLatch, CanFire}
 use Rattle.gg_net.specs.Kept.{list_at, rows_at, start_at, RunsRows, Runs, Asks, IsSound, MachineAt, Kept}
 use Rattle.gg_net.proofs.MachineLemmas.{asks, does, behaviour-is, place-within, out-within}
 use Rattle.gg_net.proofs.ChannelLemmas.{front-is}

@@ -7,7 +7,7 @@ use Rattle.gg_node.specs.Machine.{Port, Machine, machine_at, first_empty, needs_
 use Rattle.gg_node.specs.Step.{fields_of}
 use Rattle.gg_net.specs.declared.shape.Wire.{Wire}
 use Rattle.gg_net.specs.Network.{Network, queue_at, wire_at, Kind}
-use Rattle.gg_net.specs.Step.{fields_at, due_fields}
+use Rattle.gg_net.specs.Readings.{fields_at, due_fields}
 use Rattle.gg_net.specs.Kept.{Kept}
 use Rattle.gg_net.proofs.LatchLemmas.{first-among}
 use Rattle.gg_net.proofs.MachineLemmas.{due-port}

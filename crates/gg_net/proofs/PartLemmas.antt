@@ -13,13 +13,14 @@ use Rattle.gg_node.proofs.EmptyLemmas.{empty-after}
 use Rattle.gg_net.specs.declared.shape.Wire.{Wire}
 use Rattle.gg_net.specs.declared.shape.Station.{Station}
 use Rattle.gg_net.specs.Network.{wire_at, Network, queue_at, given_by, got_by, entered_by, Kind, no_kind, kind_of, Frame, frame_of}
-use Rattle.gg_net.specs.Step.{fields_at, due_fields}
+use Rattle.gg_net.specs.Readings.{fields_at, due_fields}
 use Rattle.gg_net.specs.Kept.{list_at, IsSound, MachineAt, BetweenAt, Kept}
 use Rattle.gg_net.specs.Parted.{takes_by, enters_by}
 use Rattle.gg_net.specs.Queue.{Held}
 use Rattle.gg_net.specs.Stations.{hosted, stationed, machines_by, IsStationed}
 use Rattle.gg_net.specs.Net.{net_of, AreListed, HasRoom, IsWithinLimits, IsNet}
 use Rattle.gg_net.proofs.PortLemmas.{any_port}
+use Rattle.gg_net.proofs.WireLemmas.{one-in, one-out}
 use Rattle.gg_net.proofs.LatchLemmas.{has-value, all-filled}
 use Rattle.gg_net.proofs.MachineLemmas.{due-port, behaviour-is, place-within, out-within}
 use Rattle.gg_net.proofs.MayLemmas.{fits-by, known-by}
@@ -96,7 +97,7 @@ module _ (flow : Flow) (frame : Frame) (sound : IsSound flow frame) (m : ℕ) (b
 
   pub takes-latch-other : (c d value : ℕ) → c < length frame.wires → d < length frame.wires → (wire_at frame.wires c).consumer ≡ m → (wire_at frame.wires d).consumer ≡ m → d ≢ c → takes_by frame (with_latch x (wire_at frame.wires c).place value) d ≡ takes_by frame x d
   takes-latch-other c d value known lt to too other =
-      ap (got_by x.cycle) (get_or-set_other x.latches (wire_at frame.wires c).place (wire_at frame.wires d).place (Some value) None (λ same. other (sound.wired.one_in d c lt known (too ∙ sym to) same)))
+      ap (got_by x.cycle) (get_or-set_other x.latches (wire_at frame.wires c).place (wire_at frame.wires d).place (Some value) None (λ same. other (one-in frame sound.wired d c lt known (too ∙ sym to) same)))
 
   pub takes-finish : (next : State) (c : ℕ) → c < length frame.wires → (wire_at frame.wires c).consumer ≡ m → AllLatched x → takes_by frame (finished x next) c ≡ takes_by frame x c
   takes-finish next c known to all =
@@ -111,7 +112,7 @@ module _ (flow : Flow) (frame : Frame) (sound : IsSound flow frame) (m : ℕ) (b
 
   pub enters-fire-other : (c d : ℕ) → c < length frame.wires → d < length frame.wires → (wire_at frame.wires c).producer ≡ m → (wire_at frame.wires d).producer ≡ m → d ≢ c → enters_by frame (with_flag x (wire_at frame.wires c).out) d ≡ enters_by frame x d
   enters-fire-other c d known lt from too other =
-      ap (λ flag. entered_by (wire_at frame.wires d).first (given_by x.cycle flag)) (get_or-set_other x.flags (wire_at frame.wires c).out (wire_at frame.wires d).out true false (λ same. other (sound.wired.one_out d c lt known (too ∙ sym from) same)))
+      ap (λ flag. entered_by (wire_at frame.wires d).first (given_by x.cycle flag)) (get_or-set_other x.flags (wire_at frame.wires c).out (wire_at frame.wires d).out true false (λ same. other (one-out frame sound.wired d c lt known (too ∙ sym from) same)))
 
   pub enters-finish : (next : State) (c : ℕ) → c < length frame.wires → (wire_at frame.wires c).producer ≡ m → AllFired x → enters_by frame (finished x next) c ≡ enters_by frame x c
   enters-finish next c known from all =

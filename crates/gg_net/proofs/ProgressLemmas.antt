@@ -10,11 +10,14 @@ use Rattle.gg_node.specs.Step.{fields_of, AllFired, AllLatched}
 use Rattle.gg_net.specs.declared.event.Event.{Event}
 use Rattle.gg_net.specs.declared.event.Event.TheVariants.{Latch, Fire, Serve, Finish}
 use Rattle.gg_net.specs.Network.{Network, wire_at, IsAtIn, IsAtOut, queue_at, producer_of, consumer_of, given_by, got_by, entered_by, puts, takes, entered, Kind, kind_at, frame_of}
-use Rattle.gg_net.specs.Step.{latch_of, flag_of, missing_of, fields_at, Ready}
+use Rattle.gg_net.specs.Step.{latch_of, flag_of, Ready}
+use Rattle.gg_net.specs.Readings.{fields_at}
+use Rattle.gg_net.proofs.Can.{missing_of}
 use Rattle.gg_net.specs.Kept.{list_at, NeedsChannel, BetweenAt, Kept}
 use Rattle.gg_net.proofs.LatchLemmas.{first-among, none-empty}
 use Rattle.gg_net.proofs.MayLemmas.{producer-there, consumer-there}
 use Rattle.gg_net.proofs.NetLemmas.{missing-within}
+use Rattle.gg_net.proofs.TableLemmas.{can-latch, can-fire, can-serve, can-finish}
 use Rattle.gg_net.proofs.FrameLemmas.{machine-known, kind-is}
 
 -- ---- over plain variables
@@ -128,7 +131,7 @@ module _ (flow : Flow) (net : Network) (kept : Kept flow net) (t : ℕ) (below :
       let took : takes net c ≡ t = ap (got_by (consumer_of net c).cycle) empty ∙ at in
       let le : t ≤ (producer_of net c).cycle = least (wire_at net.wires c).producer (producer-there flow net kept c known) in
       ⊎_elim
-      (λ (held : 0 < length (queue_at net.queues c)). inl (Latch c, record { can = (known, omega (arith, at, below)); empty = empty; held = held }))
+      (λ (held : 0 < length (queue_at net.queues c)). inl (Latch c, can-latch net c (record { can = (known, omega (arith, at, below)); empty = empty; held = held })))
       (λ (none : length (queue_at net.queues c) ≤ 0).
       let in_all : entered net c ≤ t = omega (arith, none, took, between.held) in
       inr (given-at t (producer_of net c).cycle (flag_of net c) le (entered-least t (wire_at net.wires c).first (puts net c) (given-least t (producer_of net c).cycle (flag_of net c) le) in_all)))
@@ -145,11 +148,11 @@ module _ (flow : Flow) (net : Network) (kept : Kept flow net) (t : ℕ) (below :
       let some : 0 < (wire_at net.wires c).capacity = kept.sound.wired.some c known in
       let put : puts net c ≡ t = ap (given_by (producer_of net c).cycle) clear ∙ at in
       ⊎_elim
-      (λ (lt : length (queue_at net.queues c) < (wire_at net.wires c).capacity). (Fire c, record { can = (known, omega (arith, at, below)); clear = clear; needed = needed; room = lt }))
+      (λ (lt : length (queue_at net.queues c) < (wire_at net.wires c).capacity). (Fire c, can-fire net kept.sound.wired c (record { can = (known, omega (arith, at, below)); clear = clear; needed = needed; room = lt })))
       (λ (le : (wire_at net.wires c).capacity ≤ length (queue_at net.queues c)).
       let took : takes net c ≤ t = omega (arith, le, some, between.held, entered-most (wire_at net.wires c).first (puts net c), put) in
       let is : ((consumer_of net c).cycle ≡ t) × (latch_of net c ≡ None) = got-at t (consumer_of net c).cycle (latch_of net c) (least (wire_at net.wires c).consumer (consumer-there flow net kept c known)) took in
-      (Latch c, record { can = (known, omega (arith, is.0, below)); empty = is.1; held = omega (arith, le, some) }))
+      (Latch c, can-latch net c (record { can = (known, omega (arith, is.0, below)); empty = is.1; held = omega (arith, le, some) })))
       (cases_lt (length (queue_at net.queues c)) (wire_at net.wires c).capacity)
   fires-by c (Some i) needed known at clear lower =
       let p : ℕ = (wire_at net.wires c).producer in
@@ -178,7 +181,7 @@ module _ (flow : Flow) (net : Network) (kept : Kept flow net) (t : ℕ) (below :
 
     -- all tokens were given and taken: a port may be served, or the cycle may be finished
     ends-by : (port : Option Port) → slice_get x.ports x.served ≡ port → AllFired x → AllLatched x → MayGo
-    ends-by None is fired latched = (Finish m, record { there = there; below = omega (arith, at, below); fired = fired; served = ap port_number is; latched = latched })
+    ends-by None is fired latched = (Finish m, can-finish net kept.sound.wired m (record { there = there; below = omega (arith, at, below); fired = fired; served = ap port_number is; latched = latched }))
     ends-by (Some q) is fired latched =
         let served : x.served < length x.ports = slice_get_within x.ports x.served q is in
         let q-is : slice_index_or x.ports x.served q ≡ q = get_or_from_slice_get x.ports x.served q q is in
@@ -186,13 +189,13 @@ module _ (flow : Flow) (net : Network) (kept : Kept flow net) (t : ℕ) (below :
         let all : All (λ (port : Port). All (λ i. i < length x.latches) (fields_of port.access)) x.ports = subst (λ (k : Kind). All (λ (port : Port). All (λ i. i < k.ins) (fields_of port.access)) k.ports) (kind-is net m) (kept.sound.wired.fields m (machine-known net m there)) in
         let fields : All (λ i. i < length x.latches) (fields_of q.access) = subst (λ (port : Port). All (λ i. i < length x.latches) (fields_of port.access)) q-is (all x.served q served) in (
           Serve m q.number,
-          record {
+          can-serve net kept.sound.wired m q.number (record {
             there = (there, subst (λ (port : Port). port.number < x.port_count) q-is (numbers x.served q served));
             below = omega (arith, at, below);
             fired = fired;
             due = ap port_number is;
             fields = ap (λ (port : Option Port). first_empty x.latches (fields_at port)) is ∙ none-empty x.latches (fields_of q.access) (λ k d lt. latched (slice_index_or (fields_of q.access) k d) None (fields k d lt));
-          },
+          }),
         )
 
     machine-goes : MayGo

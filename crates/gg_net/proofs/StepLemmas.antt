@@ -17,9 +17,12 @@ use Rattle.gg_net.specs.declared.event.Event.{Event}
 use Rattle.gg_net.specs.declared.event.Event.TheVariants.{Latch, Fire, Serve, Finish}
 use Rattle.gg_net.specs.declared.shape.Wire.{Wire}
 use Rattle.gg_net.specs.Network.{wire_at, Network, queue_at, producer_of, consumer_of, given_by, got_by, entered_by, puts, takes, entered, Kind, kind_of, frame_of}
-use Rattle.gg_net.specs.Step.{CanLatch, CanFire, CanServe, CanFinish, front_of, after_latch, after_fire, after_serve, after_finish, Step}
+use Rattle.gg_net.specs.Step.{front_of, after_latch, after_fire, after_serve, after_finish, Step}
+use Rattle.gg_net.proofs.Can.{CanLatch, CanFire, CanServe, CanFinish}
 use Rattle.gg_net.specs.Kept.{list_at, IsSound, MachineAt, BetweenAt, Kept}
 use Rattle.gg_net.proofs.LatchLemmas.{has-value}
+use Rattle.gg_net.proofs.WireLemmas.{one-in, one-out}
+use Rattle.gg_net.proofs.TableLemmas.{latch-can, fire-can, serve-can, finish-can}
 use Rattle.gg_net.proofs.MachineLemmas.{token_is, out-within, place-within, own_latch, own_fire, own_serve, own_finish}
 use Rattle.gg_net.proofs.PortLemmas.{any_port}
 use Rattle.gg_net.proofs.FrameLemmas.{machine-known, machine-there}
@@ -119,7 +122,7 @@ module _ (flow : Flow) (net : Network) (kept : Kept flow net) where
       (taken-one (list_at flow.lists c) w.capacity (takes net c) (entered net c) (queue_at net.queues c) between can.held)))
       (λ (other : d ≢ c).
       between-same (list_at flow.lists d) (wire_at net.wires d).capacity (takes net d) (takes (changed m there y own queues) d) (entered net d) (entered (changed m there y own queues) d) (queue_at net.queues d) (queue_at queues d)
-      (takes-same m there y own queues d (λ is. ap (got_by x.cycle) (get_or-set_other x.latches w.place (wire_at net.wires d).place (Some (front_of net c)) None (λ same. other (kept.sound.wired.one_in d c lt known is same)))))
+      (takes-same m there y own queues d (λ is. ap (got_by x.cycle) (get_or-set_other x.latches w.place (wire_at net.wires d).place (Some (front_of net c)) None (λ same. other (one-in (frame_of net) kept.sound.wired d c lt known is same)))))
       (entered-same m there y own queues d (λ is. refl))
       (get_or-set_other net.queues c d (drop 1 (queue_at net.queues c)) [] other)
       (kept.channels d lt))
@@ -152,7 +155,7 @@ module _ (flow : Flow) (net : Network) (kept : Kept flow net) where
       (λ (other : d ≢ c).
       between-same (list_at flow.lists d) (wire_at net.wires d).capacity (takes net d) (takes (changed m there y own queues) d) (entered net d) (entered (changed m there y own queues) d) (queue_at net.queues d) (queue_at queues d)
       (takes-same m there y own queues d (λ is. refl))
-      (entered-same m there y own queues d (λ is. ap (given_by x.cycle) (get_or-set_other x.flags w.out (wire_at net.wires d).out true false (λ same. other (kept.sound.wired.one_out d c lt known is same)))))
+      (entered-same m there y own queues d (λ is. ap (given_by x.cycle) (get_or-set_other x.flags w.out (wire_at net.wires d).out true false (λ same. other (one-out (frame_of net) kept.sound.wired d c lt known is same)))))
       (get_or-set_other net.queues c d (queue_at net.queues c ++ token ∷ []) [] other)
       (kept.channels d lt))
       (cases_eq d c))
@@ -195,7 +198,7 @@ module _ (flow : Flow) (net : Network) (kept : Kept flow net) where
 
 -- A step of a network that is kept leads to one that is kept.
 pub kept-step : (flow : Flow) (old : Network) (event : Event) (new : Network) → Kept flow old → Step old event new → Kept flow new
-kept-step flow old (Latch c) new kept step = subst (Kept flow) (sym step.after) (kept-latch flow old kept c step.ready)
-kept-step flow old (Fire c) new kept step = subst (Kept flow) (sym step.after.after) (kept-fire flow old kept c step.after.token step.ready step.after.is)
-kept-step flow old (Serve m p) new kept step = subst (Kept flow) (sym step.after) (kept-serve flow old kept m p step.ready)
-kept-step flow old (Finish m) new kept step = subst (Kept flow) (sym step.after.after) (kept-finish flow old kept m step.after.state step.ready step.after.is)
+kept-step flow old (Latch c) new kept step = subst (Kept flow) (sym step.after) (kept-latch flow old kept c (latch-can old c step.ready))
+kept-step flow old (Fire c) new kept step = subst (Kept flow) (sym step.after.after) (kept-fire flow old kept c step.after.token (fire-can old kept.sound.wired c step.ready) step.after.is)
+kept-step flow old (Serve m p) new kept step = subst (Kept flow) (sym step.after) (kept-serve flow old kept m p (serve-can old kept.sound.wired m p step.ready))
+kept-step flow old (Finish m) new kept step = subst (Kept flow) (sym step.after.after) (kept-finish flow old kept m step.after.state (finish-can old kept.sound.wired m step.ready) step.after.is)

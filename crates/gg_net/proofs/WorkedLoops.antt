@@ -18,7 +18,10 @@ use Rattle.gg_flat.proofs.WorkedForms.{only, both, loaded-formed, loaded-ordered
 use Rattle.gg_node.specs.Machine.{RunsPiece, Machine, needs_at}
 use Rattle.gg_net.specs.declared.shape.Wire.{Wire}
 use Rattle.gg_net.specs.Network.{Network, wire_at, entered_by, puts, takes, kind_at, frame_of}
-use Rattle.gg_net.specs.Step.{CanFire, CanLatch, CanFinish, after_latch, after_fire, after_finish}
+use Rattle.gg_net.specs.declared.event.Event.TheVariants.{Latch, Fire, Finish}
+use Rattle.gg_net.specs.declared.event.StepRefusal.{StepRefusal}
+use Rattle.gg_net.specs.declared.event.StepRefusal.TheVariants.{NeedsInput}
+use Rattle.gg_net.specs.Step.{after_latch, after_fire, after_finish, Ready}
 use Rattle.gg_net.specs.Kept.{list_at, rows_at, start_at, in_columns, Runs, RunsRows, Answers, Asks, Solves, NeedsChannel, HasNoRing}
 use Rattle.gg_net.proofs.WorkedNets.{no-needs}
 use Rattle.gg_net.proofs.WorkedPipes.{none-reached}
@@ -124,14 +127,14 @@ not-ringed none = omega (arith, none.lower 0 0 needs-itself)
 
 -- ---- a cycle, event by event
 
-may-fire : CanFire opens 0
-may-fire = record { can = (lit< tt, lit< tt); clear = refl; needed = refl; room = lit< tt }
+may-fire : Ready opens (Fire 0)
+may-fire = refl
 
 gives : after_fire opens 0 0 ≡ loop (counts 0 0 None true) (0 ∷ [])
 gives = refl
 
-may-latch : CanLatch (loop (counts 0 0 None true) (0 ∷ [])) 0
-may-latch = record { can = (lit< tt, lit< tt); empty = refl; held = lit< tt }
+may-latch : Ready (loop (counts 0 0 None true) (0 ∷ [])) (Latch 0)
+may-latch = refl
 
 takes-it : after_latch (loop (counts 0 0 None true) (0 ∷ [])) 0 ≡ loop (counts 0 0 (Some 0) true) []
 takes-it = refl
@@ -142,5 +145,5 @@ one-each = (refl, refl)
 finishes : after_finish (loop (counts 0 0 (Some 0) true) []) 0 (holds 1) ≡ loop (counts 1 1 None false) []
 finishes = refl
 
-not-before-the-latch : CanFinish (loop (counts 0 0 None true) (0 ∷ [])) 0 → ⊥
-not-before-the-latch can = let is : false ≡ true = can.latched 0 None (lit< tt) in cc
+not-before-the-latch : Ready (loop (counts 0 0 None true) (0 ∷ [])) (Finish 0) → ⊥
+not-before-the-latch ready = let is : ◌≡◌ {A = Option StepRefusal} (Some (NeedsInput 0)) None = ready in cc

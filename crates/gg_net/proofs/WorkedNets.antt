@@ -1,6 +1,6 @@
 -- Networks worked by hand: two units that feed each other, and a memory that is served; what each event makes of them,
 -- why an event is refused, and what must not hold.
-use Rattle.std.proofs.Common.{◌≡◌, ℕ, zero, suc, ◌<◌, List, [], ◌∷◌, Option, Some, None, Bool, true, false, refl, arith, lit<}
+use Rattle.std.proofs.Common.{◌≡◌, ℕ, zero, suc, ◌<◌, List, [], ◌∷◌, Option, Some, None, Bool, true, false, refl, sym, ◌∙◌, arith, lit<}
 use Rattle.std.specs.Prelude.{◌+◌, ◌≤◌, slice_index_or, All, Contains, length}
 use Rattle.std.proofs.lemmas.Option.{none-some}
 use Rattle.gg_bits.specs.Limits.{capacity_limit}
@@ -15,10 +15,14 @@ use Rattle.gg_node.specs.Machine.{RunsPiece, Port, Machine, no_state, needs_at, 
 use Rattle.gg_node.specs.Step.{fields_of}
 use Rattle.gg_flat.proofs.WorkedForms.{only, both}
 use Rattle.gg_net.specs.declared.shape.Wire.{Wire}
+use Rattle.gg_net.specs.declared.event.Event.TheVariants.{Latch, Fire, Serve, Finish}
+use Rattle.gg_net.specs.declared.event.StepRefusal.{StepRefusal}
 use Rattle.gg_net.specs.declared.event.StepRefusal.TheVariants.{Stranger, Ended, Fired, NoToken, NeedsInput, Full, Order, Unfired, Unserved}
 use Rattle.gg_net.specs.Network.{Network, IsAtIn, puts, takes, entered_by, serves, frame_of, wire_at, IsAtOut, kind_at}
-use Rattle.gg_net.specs.Step.{CanFire, CanServe, after_latch, after_fire, after_serve, after_finish, LatchRefused, FireRefused, ServeRefused, FinishRefused}
+use Rattle.gg_net.specs.Step.{after_latch, after_fire, after_serve, after_finish, facts_of, Ready, Refused}
 use Rattle.gg_net.specs.Kept.{list_at, rows_at, start_at, Runs, Answers, Asks, Solves, IsWired, NeedsChannel, HasNoRing, BetweenAt}
+use Rattle.gg_net.proofs.FindLemmas.{some-none}
+use Rattle.gg_net.proofs.RowLemmas.{serve-stranger}
 use Rattle.gg_net.specs.Net.{IsWithinLimits, opening_net}
 use Rattle.gg_net.specs.declared.shape.Station.{Station}
 use Rattle.gg_flat.specs.Streams.{Flow}
@@ -104,40 +108,40 @@ all-true : (k : ℕ) (d : Bool) → k < 1 → slice_index_or (true ∷ []) k d �
 all-true zero d below = refl
 all-true (suc k) d below = absurd (omega arith)
 
-a-first : CanFire opens 0
-a-first = record { can = (lit< tt, lit< tt); clear = refl; needed = refl; room = lit< tt }
+a-first : Ready opens (Fire 0)
+a-first = refl
 
-b-waits : FireRefused opens 1 (NeedsInput 0)
-b-waits = ((lit< tt, lit< tt), refl, record { known = lit< tt; machine = refl; place = refl })
+b-waits : Refused opens (Fire 1) (NeedsInput 0)
+b-waits = refl
 
-b-not-yet : CanFire opens 1 → ⊥
-b-not-yet can = let is : ◌≡◌ {A = Option ℕ} (Some 0) None = can.needed in cc
+b-not-yet : Ready opens (Fire 1) → ⊥
+b-not-yet ready = let is : ◌≡◌ {A = Option StepRefusal} (Some (NeedsInput 0)) None = ready in cc
 
-nothing-to-take : LatchRefused opens 0 (NoToken 0)
-nothing-to-take = ((lit< tt, lit< tt), refl, refl, refl)
+nothing-to-take : Refused opens (Latch 0) (NoToken 0)
+nothing-to-take = refl
 
-no-channel : LatchRefused opens 2 Stranger
-no-channel = omega arith
+no-channel : Refused opens (Latch 2) Stranger
+no-channel = refl
 
-not-whole : FinishRefused opens 0 (Unfired 0)
-not-whole = (lit< tt, lit< tt, record { out = 0; first = record { known = lit< tt; clear = refl; before = λ k below. absurd (omega arith) }; at = record { known = lit< tt; machine = refl; out = refl } })
+not-whole : Refused opens (Finish 0) (Unfired 0)
+not-whole = refl
 
-without-in : FinishRefused (after_fire opens 0 3) 0 (NeedsInput 1)
-without-in = (lit< tt, lit< tt, all-true, refl, record { place = 0; first = record { known = lit< tt; empty = refl; before = λ k below. absurd (omega arith) }; at = record { known = lit< tt; machine = refl; place = refl } })
+without-in : Refused (after_fire opens 0 3) (Finish 0) (NeedsInput 1)
+without-in = refl
 
 -- the first condition that fails gives the refusal: a flag comes before a queue without room
-twice : FireRefused (after_fire opens 0 3) 0 Fired
-twice = ((lit< tt, lit< tt), refl)
+twice : Refused (after_fire opens 0 3) (Fire 0) Fired
+twice = refl
 
-not-full-first : FireRefused (after_fire opens 0 3) 0 (Full 0 1) → ⊥
-not-full-first refused = let is : true ≡ false = refused.1 in cc
+not-full-first : Refused (after_fire opens 0 3) (Fire 0) (Full 0 1) → ⊥
+not-full-first refused = let is : ◌≡◌ {A = Option StepRefusal} (Some Fired) (Some (Full 0 1)) = refused in cc
 
-no-room : FireRefused (pair (a 1 3 None false) (b None false) (3 ∷ []) []) 0 (Full 0 1)
-no-room = ((lit< tt, lit< tt), refl, refl, omega arith, refl, refl)
+no-room : Refused (pair (a 1 3 None false) (b None false) (3 ∷ []) []) (Fire 0) (Full 0 1)
+no-room = refl
 
 -- a machine that has done all its cycles
-ended : FireRefused (pair (a 2 3 None false) (b None false) [] []) 0 Ended
-ended = (lit< tt, λ below. omega (arith, below))
+ended : Refused (pair (a 2 3 None false) (b None false) [] []) (Fire 0) Ended
+ended = refl
 
 -- ---- no ring: only the channel of `b` needs another
 
@@ -204,27 +208,27 @@ alone machine =
 abbrev with_reader : List (Option ℕ)
 with_reader = Some 1 ∷ Some 1 ∷ None ∷ None ∷ None ∷ None ∷ []
 
-reader-first : CanServe (alone (memory 0 with_reader true)) 0 0
-reader-first = record { there = (lit< tt, lit< tt); below = lit< tt; fired = all-true; due = refl; fields = refl }
+reader-first : Ready (alone (memory 0 with_reader true)) (Serve 0 0)
+reader-first = refl
 
-not-the-writer : ServeRefused (alone (memory 0 with_reader true)) 0 1 (Order 0)
-not-the-writer = ((lit< tt, lit< tt), lit< tt, all-true, (λ is. let same : ◌≡◌ {A = Option ℕ} (Some 0) (Some 1) = is in cc), refl)
+not-the-writer : Refused (alone (memory 0 with_reader true)) (Serve 0 1) (Order 0)
+not-the-writer = refl
 
-not-before-the-token : CanServe (alone (memory 0 with_reader false)) 0 0 → ⊥
-not-before-the-token can = let is : false ≡ true = can.fired 0 false (lit< tt) in cc
+not-before-the-token : Ready (alone (memory 0 with_reader false)) (Serve 0 0) → ⊥
+not-before-the-token ready = let is : ◌≡◌ {A = Option StepRefusal} (Some (Unfired 0)) None = ready in cc
 
-field-wanted : ServeRefused (alone (memory 0 (Some 1 ∷ None ∷ None ∷ None ∷ None ∷ None ∷ []) true)) 0 0 (NeedsInput 1)
-field-wanted = ((lit< tt, lit< tt), lit< tt, all-true, refl, record { known = lit< tt; machine = refl; place = refl })
+field-wanted : Refused (alone (memory 0 (Some 1 ∷ None ∷ None ∷ None ∷ None ∷ None ∷ []) true)) (Serve 0 0) (NeedsInput 1)
+field-wanted = refl
 
-no-such-port : ServeRefused (alone (memory 0 with_reader true)) 0 2 Stranger
-no-such-port has = omega (arith, has.1)
+no-such-port : Refused (alone (memory 0 with_reader true)) (Serve 0 2) Stranger
+no-such-port = refl
 
 -- both were served: none is due, and the refusal has the number of the ports
-none-due : ServeRefused (alone (memory 2 with_reader true)) 0 1 (Order 2)
-none-due = ((lit< tt, lit< tt), lit< tt, all-true, (λ is. let same : ◌≡◌ {A = Option ℕ} None (Some 1) = is in cc), refl)
+none-due : Refused (alone (memory 2 with_reader true)) (Serve 0 1) (Order 2)
+none-due = refl
 
-left : FinishRefused (alone (memory 1 with_reader true)) 0 (Unserved 1)
-left = (lit< tt, lit< tt, all-true, refl)
+left : Refused (alone (memory 1 with_reader true)) (Finish 0) (Unserved 1)
+left = refl
 
 -- the reader has the word at 1; the writer hasn't written
 served-one : after_serve (alone (memory 0 with_reader true)) 0 ≡ alone (record (memory 1 with_reader true) { state = record { registers = []; banks = record { words = 7 ∷ 9 ∷ []; reads = 9 ∷ [] } ∷ [] } })
@@ -247,35 +251,36 @@ abbrev at_once : ℕ → Bool → Machine
 at_once served flag = record (memory served with_reader flag) { needs = (0 ∷ 1 ∷ []) ∷ []; ports = record { number = 1; access = ByWriter 0 (record { addr = 2; en = 3; word = 4; mask = 5; clock = None }) } ∷ [] }
 
 -- the reader is a port that is never due
-writer-due : ServeRefused (alone (at_once 0 true)) 0 0 (Order 1)
-writer-due = ((lit< tt, lit< tt), lit< tt, all-true, (λ is. let same : ◌≡◌ {A = Option ℕ} (Some 1) (Some 0) = is in cc), refl)
+writer-due : Refused (alone (at_once 0 true)) (Serve 0 0) (Order 1)
+writer-due = refl
 
-writer-served : ServeRefused (alone (at_once 1 true)) 0 0 (Order 2)
-writer-served = ((lit< tt, lit< tt), lit< tt, all-true, (λ is. let same : ◌≡◌ {A = Option ℕ} None (Some 0) = is in cc), refl)
+writer-served : Refused (alone (at_once 1 true)) (Serve 0 0) (Order 2)
+writer-served = refl
 
-word-first : ServeRefused (alone (at_once 0 false)) 0 0 (Unfired 0)
-word-first = ((lit< tt, lit< tt), lit< tt, record { out = 0; first = record { known = lit< tt; clear = refl; before = λ k below. absurd (omega arith) }; at = record { known = lit< tt; machine = refl; out = refl } })
+word-first : Refused (alone (at_once 0 false)) (Serve 0 0) (Unfired 0)
+word-first = refl
 
-two-ports : ServeRefused (alone (at_once 0 true)) 0 2 Stranger
-two-ports has = omega (arith, has.1)
+two-ports : Refused (alone (at_once 0 true)) (Serve 0 2) Stranger
+two-ports = refl
 
 -- it isn't refused as `Stranger`, and not with the number of the ports while a port is due
-reader-there : ServeRefused (alone (at_once 0 true)) 0 0 Stranger → ⊥
-reader-there refused = refused (lit< tt, lit< tt)
+reader-there : Refused (alone (at_once 0 true)) (Serve 0 0) Stranger → ⊥
+reader-there refused = let is : ◌≡◌ {A = Option StepRefusal} (Some (Order 1)) (Some Stranger) = refused in cc
 
-not-none-due : ServeRefused (alone (at_once 0 true)) 0 0 (Order 2) → ⊥
-not-none-due refused = let is : ◌≡◌ {A = ℕ} 2 1 = refused.4 in omega (arith, is)
+not-none-due : Refused (alone (at_once 0 true)) (Serve 0 0) (Order 2) → ⊥
+not-none-due refused = let is : ◌≡◌ {A = Option StepRefusal} (Some (Order 1)) (Some (Order 2)) = refused in cc
 
 -- ---- a memory that is only read, in the same cycle: none of its ports is served
 
 abbrev read_only : Machine
 read_only = record (at_once 0 true) { port_count = 1; ports = [] }
 
-never-due : ServeRefused (alone read_only) 0 0 (Order 1)
-never-due = ((lit< tt, lit< tt), lit< tt, all-true, (λ is. let same : ◌≡◌ {A = Option ℕ} None (Some 0) = is in cc), refl)
+never-due : Refused (alone read_only) (Serve 0 0) (Order 1)
+never-due = refl
 
-never-served : (p : ℕ) → CanServe (alone read_only) 0 p → ⊥
-never-served p can = let is : ◌≡◌ {A = Option ℕ} None (Some p) = can.due in cc
+never-served : (p : ℕ) → Ready (alone read_only) (Serve 0 p) → ⊥
+never-served zero ready = let is : ◌≡◌ {A = Option StepRefusal} (Some (Order 1)) None = ready in cc
+never-served (suc p) ready = some-none Stranger (sym (serve-stranger (facts_of (alone read_only)) 0 (suc p) (omega arith)) ∙ ready)
 
 -- ---- a source that feeds a tray: the values that its channel should carry, and rows without values, solve the network
 
@@ -337,11 +342,10 @@ fed-wired =
       place = only (λ c. (wire_at fed.wires c).place < (kind_at (frame_of fed).kinds (wire_at fed.wires c).consumer).ins) (lit< tt);
       into = fed-into;
       from = fed-from;
-      one_in = λ c d known there same_machine same_place. omega (arith, known, there);
+      order = record { ins = λ c d before there same. omega (arith, before, there); outs = λ c d before there same. omega (arith, before, there) };
       needs = fed-needs;
       fields = fed-fields;
       numbers = fed-numbers;
-      one_out = λ c d known there same_machine same_out. omega (arith, known, there);
     }
 
 pub fed-solved : Solves fed_flow (frame_of fed)

@@ -1,6 +1,6 @@
 -- A network worked by hand that begins at cycle 1, with a channel that opens with a token: a source sets a counter,
 -- whose values go to a tray one cycle later.
-use Rattle.std.proofs.Common.{◌≡◌, ℕ, zero, suc, ◌+◌, ◌<◌, ◌≤◌, List, [], ◌∷◌, Some, None, false, length, drop, refl, sym, ap, arith, lit<}
+use Rattle.std.proofs.Common.{Option, None, ◌≡◌, ℕ, zero, suc, ◌+◌, ◌<◌, ◌≤◌, List, [], ◌∷◌, Some, None, false, length, drop, refl, sym, ap, arith, lit<}
 use Rattle.std.specs.Prelude.{All, Contains}
 use Rattle.std.proofs.lemmas.Option.{none-some, same_Some}
 use Rattle.gg_bits.specs.Shape.{Fits}
@@ -20,9 +20,11 @@ use Rattle.gg_flat.proofs.WorkedForms.{only, both, three, loaded-formed, loaded-
 use Rattle.gg_node.specs.Machine.{RunsPiece, Port, Machine, no_state, machine_at, needs_at, source_machine, tray_machine}
 use Rattle.gg_node.specs.Step.{fields_of}
 use Rattle.gg_net.specs.declared.shape.Wire.{Wire}
+use Rattle.gg_net.specs.declared.event.Event.TheVariants.{Latch, Fire}
+use Rattle.gg_net.specs.declared.event.StepRefusal.{StepRefusal}
 use Rattle.gg_net.specs.declared.event.StepRefusal.TheVariants.{Full}
 use Rattle.gg_net.specs.Network.{Network, wire_at, IsAtIn, IsAtOut, queue_at, entered_by, puts, takes, entered, kind_at, frame_of}
-use Rattle.gg_net.specs.Step.{CanLatch, CanFire, FireRefused, after_latch}
+use Rattle.gg_net.specs.Step.{after_latch, Ready, Refused}
 use Rattle.gg_net.specs.Kept.{list_at, rows_at, start_at, in_columns, Runs, RunsRows, Answers, Asks, Solves, IsWired, NeedsChannel, BetweenAt, HasKept, Kept}
 use Rattle.gg_net.specs.Net.{IsOpening, opening_net}
 use Rattle.gg_net.proofs.OpenLemmas.{machine-open}
@@ -191,11 +193,10 @@ wired =
       place = both (λ c. (wire_at wires c).place < (kind_at (frame_of piped).kinds (wire_at wires c).consumer).ins) (lit< tt) (lit< tt);
       into = into;
       from = from;
-      one_in = λ c d low high same place. one-in c d low high same;
+      order = record { ins = λ c d before high same. let is : c ≡ d = one-in c d (omega (arith, before, high)) high same in omega (arith, before, is); outs = λ c d before high same. let is : c ≡ d = one-out c d (omega (arith, before, high)) high same in omega (arith, before, is) };
       needs = needs;
       fields = three (λ m. All (λ (port : Port). All (λ i. i < (kind_at (frame_of piped).kinds m).ins) (fields_of port.access)) (kind_at (frame_of piped).kinds m).ports) (λ k d lt. absurd (omega (arith, lt))) (λ k d lt. absurd (omega (arith, lt))) (λ k d lt. absurd (omega (arith, lt)));
       numbers = three (λ m. All (λ (port : Port). port.number < (kind_at (frame_of piped).kinds m).port_count) (kind_at (frame_of piped).kinds m).ports) (λ k d lt. absurd (omega (arith, lt))) (λ k d lt. absurd (omega (arith, lt))) (λ k d lt. absurd (omega (arith, lt)));
-      one_out = λ c d low high same out. one-out c d low high same;
     }
 
 -- no channel needs another
@@ -253,21 +254,21 @@ kept =
     }
 
 -- the queue is full before the first token is put; its token may be latched
-full-at-once : FireRefused piped 1 (Full 1 1)
-full-at-once = ((lit< tt, lit< tt), refl, refl, omega arith, refl, refl)
+full-at-once : Refused piped (Fire 1) (Full 1 1)
+full-at-once = refl
 
-no-room : CanFire piped 1 → ⊥
-no-room can = let room : 1 < 1 = can.room in omega (arith, room)
+no-room : Ready piped (Fire 1) → ⊥
+no-room ready = let is : ◌≡◌ {A = Option StepRefusal} (Some (Full 1 1)) None = ready in cc
 
-not-full-of-none : FireRefused piped 1 (Full 1 0) → ⊥
-not-full-of-none refused = let is : ◌≡◌ {A = ℕ} 0 1 = refused.4 in omega (arith, is)
+not-full-of-none : Refused piped (Fire 1) (Full 1 0) → ⊥
+not-full-of-none refused = let is : ◌≡◌ {A = Option StepRefusal} (Some (Full 1 1)) (Some (Full 1 0)) = refused in cc
 
-may-latch : CanLatch piped 1
-may-latch = record { can = (lit< tt, lit< tt); empty = refl; held = lit< tt }
+may-latch : Ready piped (Latch 1)
+may-latch = refl
 
 -- then there is room
-after-latch : CanFire (after_latch piped 1) 1
-after-latch = record { can = (lit< tt, lit< tt); clear = refl; needed = refl; room = lit< tt }
+after-latch : Ready (after_latch piped 1) (Fire 1)
+after-latch = refl
 
 -- ---- a tray that keeps the last two of the values from cycle 1 on
 

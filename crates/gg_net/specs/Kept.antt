@@ -103,9 +103,14 @@ pub record Solves (flow : Flow) (frame : Frame) : Type 0 where
 
 -- ---- the wiring
 
+-- The ins and the outs of each machine are in the order of their channels.
+pub record IsInOrder (frame : Frame) : Type 0 where
+  pub ins : (c d : ℕ) → c < d → d < length frame.wires → (wire_at frame.wires c).consumer ≡ (wire_at frame.wires d).consumer → (wire_at frame.wires c).place < (wire_at frame.wires d).place
+  pub outs : (c d : ℕ) → c < d → d < length frame.wires → (wire_at frame.wires c).producer ≡ (wire_at frame.wires d).producer → (wire_at frame.wires c).out < (wire_at frame.wires d).out
+
 -- Each channel leads from an out that exists to an in that exists, and may hold a token. Each in and each out has
--- exactly one channel. Needs and fields of ports are ins that exist. Ports that are served are among the machine's
--- ports.
+-- exactly one channel, and they are in the order of the channels. Needs and fields of ports are ins that exist. Ports
+-- that are served are among the machine's ports.
 pub record IsWired (frame : Frame) : Type 0 where
   pub some : (c : ℕ) → c < length frame.wires → 0 < (wire_at frame.wires c).capacity
   pub producer : (c : ℕ) → c < length frame.wires → (wire_at frame.wires c).producer < length frame.kinds
@@ -116,13 +121,11 @@ pub record IsWired (frame : Frame) : Type 0 where
   -- each in has a channel, and each out
   pub into : (m i : ℕ) → m < length frame.kinds → i < (kind_at frame.kinds m).ins → (c : ℕ) × IsAtIn frame.wires m i c
   pub from : (m o : ℕ) → m < length frame.kinds → o < (kind_at frame.kinds m).outs → (c : ℕ) × IsAtOut frame.wires m o c
-  -- two channels don't lead to one in
-  pub one_in : (c d : ℕ) → c < length frame.wires → d < length frame.wires → (wire_at frame.wires c).consumer ≡ (wire_at frame.wires d).consumer → (wire_at frame.wires c).place ≡ (wire_at frame.wires d).place → c ≡ d
+  -- so two channels don't lead to one in, nor come from one out
+  pub order : IsInOrder frame
   pub needs : (m o i : ℕ) → m < length frame.kinds → Contains (needs_at (kind_at frame.kinds m).needs o) i → i < (kind_at frame.kinds m).ins
   pub fields : (m : ℕ) → m < length frame.kinds → All (λ port. All (λ i. i < (kind_at frame.kinds m).ins) (fields_of port.access)) (kind_at frame.kinds m).ports
   pub numbers : (m : ℕ) → m < length frame.kinds → All (λ port. port.number < (kind_at frame.kinds m).port_count) (kind_at frame.kinds m).ports
-  -- two channels don't come from one out
-  pub one_out : (c d : ℕ) → c < length frame.wires → d < length frame.wires → (wire_at frame.wires c).producer ≡ (wire_at frame.wires d).producer → (wire_at frame.wires c).out ≡ (wire_at frame.wires d).out → c ≡ d
 
 -- Channel c needs channel d in the same cycle: d is at an in that c's out needs.
 pub record NeedsChannel (frame : Frame) (c d : ℕ) : Type 0 where

@@ -1,5 +1,7 @@
 pub mod Network
+pub mod Refusal
 pub mod Step
+pub mod Readings
 pub mod Kept
 pub mod Queue
 pub mod Stations

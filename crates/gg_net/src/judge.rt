@@ -1,8 +1,11 @@
 //! Whether an event may be done, and if not, why.
-ghost use Rattle.std.specs.Prelude.{◌≡◌, ◌<◌, ◌≤◌, Some, None, length, MatchOption, MatchResult};
-ghost use Rattle.gg_node.specs.Machine.{machine_at, missing, due};
+ghost use Rattle.std.specs.Prelude.{◌≡◌, ◌<◌, ◌≤◌, Some, length, MatchResult};
+ghost use Rattle.gg_node.specs.Machine.{machine_at, due};
 ghost use Rattle.gg_net.specs.Network.{wire_at, queue_at};
-ghost use Rattle.gg_net.specs.Step.{missing_field, IsWanted, Ready, Refused, CanLatch, CanFire, CanServe, CanFinish, LatchRefused, FireRefused, ServeRefused, FinishRefused};
+ghost use Rattle.gg_net.specs.Refusal.{first_without, ins_of_machine, outs_of_machine};
+ghost use Rattle.gg_net.specs.Step.{facts_of, Ready, Refused};
+ghost use Rattle.gg_net.specs.Readings.{due_channels};
+ghost use Rattle.gg_net.specs.declared.event.Event.TheVariants.{Latch, Fire, Serve, Finish};
 
 use crate::event::{Event, StepRefusal};
 use crate::net::Net;
@@ -20,24 +23,48 @@ impl<H: Host, Z: Streams> Net<H, Z> {
         self.queued(channel)
     }
 
-    // The channel at the first in that an out of a machine needs and that has no token yet, if there is one.
-    fn missing_channel(&self, machine: u32, out: u32) -> Option<u32>
-        requires there { machine < length self.now.machines }
-        requires within { out < length (machine_at self.now.machines machine).flags }
-        ensures { MatchOption result (missing (machine_at self.now.machines machine) out ≡ None) (IsWanted self.now machine (missing (machine_at self.now.machines machine) out)) }
+    // The first channel that a channel needs and that isn't latched, if there is one.
+    fn missing_channel(&self, channel: u32) -> Option<u32>
+        requires { channel < length self.now.wires }
+        ensures { result ≡ first_without (facts_of self.now).taken ((facts_of self.now).needs channel) }
     {
         self.kept();
-        let Some(place) = self.missing(machine, out) else {
+        let wire = self.wire(channel);
+        let Some(place) = self.missing(wire.producer, wire.out) else {
+            return None;
+        };
+        Some(self.in_channel(wire.producer, place))
+    }
+
+    // The first channel that a machine gives and hasn't given in its cycle, if there is one.
+    fn unfired_channel(&self, machine: u32) -> Option<u32>
+        requires { machine < length self.now.machines }
+        ensures { result ≡ first_without (facts_of self.now).given (outs_of_machine (facts_of self.now) machine) }
+    {
+        self.kept();
+        let Some(place) = self.first_unfired(machine) else {
+            return None;
+        };
+        Some(self.out_channel(machine, place))
+    }
+
+    // The first channel that a machine takes and hasn't taken in its cycle, if there is one.
+    fn unlatched_channel(&self, machine: u32) -> Option<u32>
+        requires { machine < length self.now.machines }
+        ensures { result ≡ first_without (facts_of self.now).taken (ins_of_machine (facts_of self.now) machine) }
+    {
+        self.kept();
+        let Some(place) = self.first_unlatched(machine) else {
             return None;
         };
         Some(self.in_channel(machine, place))
     }
 
-    // The channel at the first field of the port that is due that has no token yet, if there is one.
+    // The first channel at a field of the port that is due that isn't latched, if there is one.
     fn field_channel(&self, machine: u32, port: u32) -> Option<u32>
         requires there { machine < length self.now.machines }
         requires due { due (machine_at self.now.machines machine) ≡ Some port }
-        ensures { MatchOption result (missing_field self.now machine ≡ None) (IsWanted self.now machine (missing_field self.now machine)) }
+        ensures { result ≡ first_without (facts_of self.now).taken (due_channels self.now machine) }
     {
         self.kept();
         let Some(place) = self.missing_field(machine, port) else {
@@ -48,7 +75,7 @@ impl<H: Host, Z: Streams> Net<H, Z> {
 
     // Whether the front token of a channel may be latched.
     pub(crate) fn judge_latch(&self, channel: u32) -> Result<(), StepRefusal>
-        ensures { MatchResult result (λ _. CanLatch self.now channel) (LatchRefused self.now channel) }
+        ensures { MatchResult result (λ _. Ready self.now (Latch channel)) (Refused self.now (Latch channel)) }
     {
         if channel as usize >= self.channels() {
             return Err(StepRefusal::Stranger);
@@ -68,7 +95,7 @@ impl<H: Host, Z: Streams> Net<H, Z> {
 
     // Whether the token of a channel may be given.
     pub(crate) fn judge_fire(&self, channel: u32) -> Result<(), StepRefusal>
-        ensures { MatchResult result (λ _. CanFire self.now channel) (FireRefused self.now channel) }
+        ensures { MatchResult result (λ _. Ready self.now (Fire channel)) (Refused self.now (Fire channel)) }
     {
         if channel as usize >= self.channels() {
             return Err(StepRefusal::Stranger);
@@ -80,7 +107,7 @@ impl<H: Host, Z: Streams> Net<H, Z> {
         if self.fired(wire.producer, wire.out) {
             return Err(StepRefusal::Fired);
         }
-        if let Some(channel) = self.missing_channel(wire.producer, wire.out) {
+        if let Some(channel) = self.missing_channel(channel) {
             return Err(StepRefusal::NeedsInput { channel });
         }
         if self.filled(channel) >= wire.capacity as usize {
@@ -92,7 +119,7 @@ impl<H: Host, Z: Streams> Net<H, Z> {
 
     // Whether a port may be served.
     pub(crate) fn judge_serve(&self, machine: u32, port: u32) -> Result<(), StepRefusal>
-        ensures { MatchResult result (λ _. CanServe self.now machine port) (ServeRefused self.now machine port) }
+        ensures { MatchResult result (λ _. Ready self.now (Serve machine port)) (Refused self.now (Serve machine port)) }
     {
         if machine as usize >= self.machines() {
             return Err(StepRefusal::Stranger);
@@ -103,10 +130,8 @@ impl<H: Host, Z: Streams> Net<H, Z> {
         if self.cycle(machine) >= self.end() {
             return Err(StepRefusal::Ended);
         }
-        if let Some(place) = self.first_unfired(machine) {
-            return Err(StepRefusal::Unfired {
-                channel: self.out_channel(machine, place),
-            });
+        if let Some(channel) = self.unfired_channel(machine) {
+            return Err(StepRefusal::Unfired { channel });
         }
         let Some(due) = self.due(machine) else {
             return Err(StepRefusal::Order {
@@ -124,7 +149,7 @@ impl<H: Host, Z: Streams> Net<H, Z> {
 
     // Whether a machine may finish its cycle.
     pub(crate) fn judge_finish(&self, machine: u32) -> Result<(), StepRefusal>
-        ensures { MatchResult result (λ _. CanFinish self.now machine) (FinishRefused self.now machine) }
+        ensures { MatchResult result (λ _. Ready self.now (Finish machine)) (Refused self.now (Finish machine)) }
     {
         if machine as usize >= self.machines() {
             return Err(StepRefusal::Stranger);
@@ -132,18 +157,14 @@ impl<H: Host, Z: Streams> Net<H, Z> {
         if self.cycle(machine) >= self.end() {
             return Err(StepRefusal::Ended);
         }
-        if let Some(place) = self.first_unfired(machine) {
-            return Err(StepRefusal::Unfired {
-                channel: self.out_channel(machine, place),
-            });
+        if let Some(channel) = self.unfired_channel(machine) {
+            return Err(StepRefusal::Unfired { channel });
         }
         if let Some(port) = self.due(machine) {
             return Err(StepRefusal::Unserved { port });
         }
-        if let Some(place) = self.first_unlatched(machine) {
-            return Err(StepRefusal::NeedsInput {
-                channel: self.in_channel(machine, place),
-            });
+        if let Some(channel) = self.unlatched_channel(machine) {
+            return Err(StepRefusal::NeedsInput { channel });
         }
         Ok(())
     }

@@ -22,6 +22,7 @@
 //! The flow of values is part of the type of a network ([`Streams`]). No code reads it.
 #![tactic(auto)]
 
+mod below;
 mod event;
 mod judge;
 mod laws;

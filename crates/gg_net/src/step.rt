@@ -1,6 +1,6 @@
 //! `step`: how an event changes a network.
 ghost use Rattle.std.specs.Prelude.{◌≡◌, MatchResult};
-ghost use Rattle.gg_net.specs.Step.{CanLatch, CanFire, CanServe, CanFinish, after_latch, after_serve, Gives, GoesOn, Step, Refused, LatchRefused, FireRefused, ServeRefused, FinishRefused};
+ghost use Rattle.gg_net.specs.Step.{after_latch, after_serve, Gives, GoesOn, Step, Ready, Refused};
 ghost use Rattle.gg_net.specs.declared.event.Event.TheVariants.{Latch, Fire, Serve, Finish};
 
 use crate::event::{Event, StepRefusal};
@@ -11,8 +11,8 @@ use gg_node::Host;
 
 impl<H: Host, Z: Streams> Net<H, Z> {
     // Puts the front token of a channel into the latch.
-    fn latch(&mut self, channel: u32)
-        requires { CanLatch self.old channel }
+    pub(crate) fn latch(&mut self, channel: u32)
+        requires { Ready self.old (Latch channel) }
         ensures { self.new ≡ after_latch self.old channel }
     {
         let wire = self.shape.wires[channel as usize];
@@ -26,8 +26,8 @@ impl<H: Host, Z: Streams> Net<H, Z> {
     }
 
     // Gives the token of a channel.
-    fn fire(&mut self, channel: u32)
-        requires { CanFire self.old channel }
+    pub(crate) fn fire(&mut self, channel: u32)
+        requires { Ready self.old (Fire channel) }
         ensures { Gives self.old channel self.new }
     {
         let wire = self.shape.wires[channel as usize];
@@ -40,8 +40,8 @@ impl<H: Host, Z: Streams> Net<H, Z> {
     }
 
     // Serves a port.
-    fn serve(&mut self, machine: u32, port: u32)
-        requires { CanServe self.old machine port }
+    pub(crate) fn serve(&mut self, machine: u32, port: u32)
+        requires { Ready self.old (Serve machine port) }
         ensures { self.new ≡ after_serve self.old machine }
     {
         located::serve(
@@ -52,8 +52,8 @@ impl<H: Host, Z: Streams> Net<H, Z> {
     }
 
     // Finishes the cycle of a machine.
-    fn finish(&mut self, machine: u32)
-        requires { CanFinish self.old machine }
+    pub(crate) fn finish(&mut self, machine: u32)
+        requires { Ready self.old (Finish machine) }
         ensures { GoesOn self.old machine self.new }
     {
         located::finish(&mut self.hosts, &self.shape.stations[machine as usize]);
@@ -61,7 +61,7 @@ impl<H: Host, Z: Streams> Net<H, Z> {
 
     // Latches the front token of a channel, if that may be done.
     fn try_latch(&mut self, channel: u32) -> Result<(), StepRefusal>
-        ensures { MatchResult result (λ _. Step self.old (Latch channel) self.new) (λ refusal. LatchRefused self.old channel refusal × (self.new ≡ self.old)) }
+        ensures { MatchResult result (λ _. Step self.old (Latch channel) self.new) (λ refusal. Refused self.old (Latch channel) refusal × (self.new ≡ self.old)) }
     {
         self.judge_latch(channel)?;
         self.latch(channel);
@@ -70,7 +70,7 @@ impl<H: Host, Z: Streams> Net<H, Z> {
 
     // Gives the token of a channel, if that may be done.
     fn try_fire(&mut self, channel: u32) -> Result<(), StepRefusal>
-        ensures { MatchResult result (λ _. Step self.old (Fire channel) self.new) (λ refusal. FireRefused self.old channel refusal × (self.new ≡ self.old)) }
+        ensures { MatchResult result (λ _. Step self.old (Fire channel) self.new) (λ refusal. Refused self.old (Fire channel) refusal × (self.new ≡ self.old)) }
     {
         self.judge_fire(channel)?;
         self.fire(channel);
@@ -79,7 +79,7 @@ impl<H: Host, Z: Streams> Net<H, Z> {
 
     // Serves a port, if that may be done.
     fn try_serve(&mut self, machine: u32, port: u32) -> Result<(), StepRefusal>
-        ensures { MatchResult result (λ _. Step self.old (Serve machine port) self.new) (λ refusal. ServeRefused self.old machine port refusal × (self.new ≡ self.old)) }
+        ensures { MatchResult result (λ _. Step self.old (Serve machine port) self.new) (λ refusal. Refused self.old (Serve machine port) refusal × (self.new ≡ self.old)) }
     {
         self.judge_serve(machine, port)?;
         self.serve(machine, port);
@@ -88,7 +88,7 @@ impl<H: Host, Z: Streams> Net<H, Z> {
 
     // Finishes the cycle of a machine, if that may be done.
     fn try_finish(&mut self, machine: u32) -> Result<(), StepRefusal>
-        ensures { MatchResult result (λ _. Step self.old (Finish machine) self.new) (λ refusal. FinishRefused self.old machine refusal × (self.new ≡ self.old)) }
+        ensures { MatchResult result (λ _. Step self.old (Finish machine) self.new) (λ refusal. Refused self.old (Finish machine) refusal × (self.new ≡ self.old)) }
     {
         self.judge_finish(machine)?;
         self.finish(machine);

@@ -3,7 +3,7 @@ ghost use Rattle.std.specs.Prelude.{◌≡◌, ◌<◌, length, is_some, Some, M
 ghost use Rattle.gg_node.specs.Machine.{machine_at, latch_at, flag_at, missing, due, first_empty};
 ghost use Rattle.gg_node.specs.Step.{AllFired, AllLatched};
 ghost use Rattle.gg_net.specs.Network.{wire_at, queue_at, IsAtIn, IsAtOut};
-ghost use Rattle.gg_net.specs.Step.{due_fields, IsFirstClear, IsFirstEmpty};
+ghost use Rattle.gg_net.specs.Readings.{due_fields, IsFirstClear, IsFirstEmpty};
 
 use crate::net::Net;
 use crate::shape::Wire;

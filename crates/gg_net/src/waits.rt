@@ -2,7 +2,7 @@
 ghost use Rattle.std.specs.Prelude.{◌≡◌, ◌<◌, All, length, MatchOption};
 ghost use Rattle.gg_node.specs.Machine.{machine_at, first_empty};
 ghost use Rattle.gg_node.specs.Step.{AllFired, AllLatched};
-ghost use Rattle.gg_net.specs.Step.{IsFirstClear, IsFirstEmpty};
+ghost use Rattle.gg_net.specs.Readings.{IsFirstClear, IsFirstEmpty};
 
 use gg_node::Host;
 

@@ -1,7 +1,6 @@
 -- The marking of a network has the counts and the marks of the network.
-use Rattle.std.proofs.Common.{◌≡◌, ℕ, ◌-◌, ◌<◌, ◌≤◌, Option, None, Some, Bool, true, false, length, refl, sym, ap, ◌∙◌, ⊎_elim, arith}
+use Rattle.std.proofs.Common.{◌≡◌, ℕ, ◌-◌, ◌<◌, Option, None, Some, Bool, true, false, length, refl, sym, ap, ◌∙◌, arith}
 use Rattle.std.specs.Prelude.{is_some}
-use Rattle.std.proofs.lemmas.Bool.{cases_lt, lt-ltb, le-ltb}
 use Rattle.std.proofs.lemmas.List.{length-map}
 use Rattle.std.proofs.lemmas.List.FromFn.{get_or-map-range_with_len}
 use Rattle.std.proofs.Math.ListN as exact
@@ -10,9 +9,9 @@ use Rattle.gg_flat.specs.Streams.{Flow}
 use Rattle.gg_node.specs.Machine.{Machine, no_machine, machine_at}
 use Rattle.gg_net.specs.Network.{Network, wire_at, queue_at, given_by, got_by, entered_by, kind_of, frame_of}
 use Rattle.gg_net.specs.Network as network
-use Rattle.gg_net.specs.Step.{IsBelow, latch_of, flag_of}
+use Rattle.gg_net.specs.Step.{latch_of, flag_of}
 use Rattle.gg_net.specs.Kept.{Kept, BetweenAt, list_at}
-use Rattle.gg_net_laws.specs.Marking.{Layout, Marking, is_set, and_one, puts, entered, takes, held, is_below, is_channel, is_machine}
+use Rattle.gg_net_laws.specs.Marking.{Layout, Marking, is_set, and_one, puts, entered, takes, held}
 use Rattle.gg_net_laws.specs.Fits.{HasLayout, marking_of}
 
 -- ---- over plain variables
@@ -74,32 +73,8 @@ module _ (net : Network) where
     pub held-is : (flow : Flow) → Kept flow net → (c : ℕ) → c < length net.wires → held layout marking c ≡ length (queue_at net.queues c)
     held-is flow kept c known = omega (arith, (kept.channels c known).held, entered-are c known, takes-are c known)
 
-    -- ---- which channels and machines exist, and which machines have cycles left
-
-    pub is-channel : (c : ℕ) → c < length net.wires → is_channel layout c ≡ true
-    is-channel c known = lt-ltb c (length layout.links) (omega (arith, known, has.channels))
-
-    pub no-channel : (c : ℕ) → length net.wires ≤ c → is_channel layout c ≡ false
-    no-channel c past = le-ltb c (length layout.links) (omega (arith, past, has.channels))
-
-    machine-count : length layout.turns ≡ length net.machines
+    pub machine-count : length layout.turns ≡ length net.machines
     machine-count = has.machines ∙ length-map net.machines kind_of
-
-    pub is-machine : (m : ℕ) → m < length net.machines → is_machine layout m ≡ true
-    is-machine m there = lt-ltb m (length layout.turns) (omega (arith, there, machine-count))
-
-    pub no-machine : (m : ℕ) → length net.machines ≤ m → is_machine layout m ≡ false
-    no-machine m past = le-ltb m (length layout.turns) (omega (arith, past, machine-count))
-
-    pub below-is : (m : ℕ) → IsBelow net m → is_below layout marking m ≡ true
-    below-is m below = lt-ltb (value_at marking.cycles m) layout.end (omega (arith, below, cycle-at m, has.end))
-
-    pub below-not : (m : ℕ) → (IsBelow net m → ⊥) → is_below layout marking m ≡ false
-    below-not m over =
-        ⊎_elim
-        (λ (lt : (machine_at net.machines m).cycle < net.end). absurd (over lt))
-        (λ (le : net.end ≤ (machine_at net.machines m).cycle). le-ltb (value_at marking.cycles m) layout.end (omega (arith, le, cycle-at m, has.end)))
-        (cases_lt (machine_at net.machines m).cycle net.end)
 
 -- The newest token of a queue is the last one that has entered of its channel's list.
 pub newest-is : (flow : Flow) (net : Network) (c : ℕ) → Kept flow net → c < length net.wires → 0 < length (queue_at net.queues c)

@@ -9,8 +9,10 @@ use Rattle.gg_node.specs.Step.{with_flag}
 use Rattle.gg_net.specs.declared.shape.Wire.{Wire}
 use Rattle.gg_net.specs.declared.event.Event.TheVariants.{Fire}
 use Rattle.gg_net.specs.Network.{Network, wire_at, queue_at, producer_of, frame_of}
-use Rattle.gg_net.specs.Step.{CanFire, after_fire}
+use Rattle.gg_net.specs.Step.{after_fire}
+use Rattle.gg_net.proofs.Can.{CanFire}
 use Rattle.gg_net.specs.Kept.{Kept}
+use Rattle.gg_net.proofs.WireLemmas.{one-out}
 use Rattle.gg_net.proofs.MachineLemmas.{out-within}
 use Rattle.gg_net.proofs.MayLemmas.{producer-there}
 use Rattle.gg_net_laws.specs.Marking.{Layout, is_set, after}
@@ -55,7 +57,7 @@ module _ (flow : Flow) (net : Network) (kept : Kept flow net) (layout : Layout) 
       ∙ sym mark-here
       ∙ ap (is_set (slice_set (marking_of net).given c true)) (sym same))
       (λ (other : d ≢ c).
-      get_or-set_other x.flags w.out (wire_at net.wires d).out true false (λ same. other (kept.sound.wired.one_out d c lt known from same))
+      get_or-set_other x.flags w.out (wire_at net.wires d).out true false (λ same. other (one-out (frame_of net) kept.sound.wired d c lt known from same))
       ∙ ap (λ k. flag_at (machine_at net.machines k).flags (wire_at net.wires d).out) (sym from)
       ∙ sym (given-at net d lt)
       ∙ sym (get_or-set_other (marking_of net).given c d true false other))

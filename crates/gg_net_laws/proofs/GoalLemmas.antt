@@ -6,7 +6,8 @@ use Rattle.std.proofs.lemmas.Bool.{cases_lt}
 use Rattle.gg_net.specs.declared.event.Event.{Event}
 use Rattle.gg_net.specs.declared.event.Event.TheVariants.{Latch, Fire, Serve, Finish}
 use Rattle.gg_net_laws.specs.Marking.{Layout, Marking, link_at, turns_at, refusal}
-use Rattle.gg_net_laws.specs.Counts.{Counts, counts_of, dues, WasTaken, HasServed, IsAllowed, AreAtMost, IsBehind, Free, CanRun}
+use Rattle.gg_net_laws.specs.Counts.{Counts, counts_of, dues, WasTaken, HasServed, IsAllowed, AreAtMost, IsBehind, CanRun}
+use Rattle.gg_net_laws.proofs.Free.{Free}
 use Rattle.gg_net_laws.proofs.EarlyLemmas.{early-few}
 use Rattle.gg_net_laws.proofs.FreeLemmas.{is-free}
 use Rattle.gg_net_laws.proofs.LeadLemmas.{next-event}

@@ -6,8 +6,10 @@ use Rattle.std.proofs.lemmas.Bool.{cases_lt}
 use Rattle.std.proofs.lemmas.Option.{slice_get_within, get_or_from_slice_get}
 use Rattle.gg_net.specs.declared.event.Event.{Event}
 use Rattle.gg_net.specs.declared.event.Event.TheVariants.{Latch, Fire, Serve, Finish}
-use Rattle.gg_net_laws.specs.Marking.{Layout, Turn, link_at, turns_at}
-use Rattle.gg_net_laws.specs.Counts.{Counts, dues, WasTaken, WasGiven, HasServed, IsAllowed, AreAtMost, IsBehind, Raises, FreeLatch, FreeFire, FreeServe, FreeFinish, Free, CanRun}
+use Rattle.gg_net.specs.Refusal.{Turn}
+use Rattle.gg_net_laws.specs.Marking.{Layout, link_at, turns_at}
+use Rattle.gg_net_laws.specs.Counts.{Counts, dues, WasTaken, WasGiven, HasServed, IsAllowed, AreAtMost, IsBehind, Raises, CanRun}
+use Rattle.gg_net_laws.proofs.Free.{FreeLatch, FreeFire, FreeServe, FreeFinish, Free}
 use Rattle.gg_net_laws.proofs.SumLemmas.{one-cases}
 
 -- ---- what an event leaves

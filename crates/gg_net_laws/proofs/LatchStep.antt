@@ -9,8 +9,10 @@ use Rattle.gg_node.specs.Step.{with_latch}
 use Rattle.gg_net.specs.declared.shape.Wire.{Wire}
 use Rattle.gg_net.specs.declared.event.Event.TheVariants.{Latch}
 use Rattle.gg_net.specs.Network.{Network, wire_at, queue_at, consumer_of, frame_of}
-use Rattle.gg_net.specs.Step.{CanLatch, front_of, after_latch}
+use Rattle.gg_net.specs.Step.{front_of, after_latch}
+use Rattle.gg_net.proofs.Can.{CanLatch}
 use Rattle.gg_net.specs.Kept.{Kept}
+use Rattle.gg_net.proofs.WireLemmas.{one-in}
 use Rattle.gg_net.proofs.MachineLemmas.{place-within}
 use Rattle.gg_net.proofs.MayLemmas.{consumer-there}
 use Rattle.gg_net_laws.specs.Marking.{Layout, is_set, after}
@@ -56,7 +58,7 @@ module _ (flow : Flow) (net : Network) (kept : Kept flow net) (layout : Layout) 
       ∙ sym mark-here
       ∙ ap (is_set (slice_set (marking_of net).taken c true)) (sym same))
       (λ (other : d ≢ c).
-      ap is_some (get_or-set_other x.latches w.place (wire_at net.wires d).place (Some (front_of net c)) None (λ same. other (kept.sound.wired.one_in d c lt known to same)))
+      ap is_some (get_or-set_other x.latches w.place (wire_at net.wires d).place (Some (front_of net c)) None (λ same. other (one-in (frame_of net) kept.sound.wired d c lt known to same)))
       ∙ ap (λ k. is_some (latch_at (machine_at net.machines k).latches (wire_at net.wires d).place)) (sym to)
       ∙ sym (taken-at net d lt)
       ∙ sym (get_or-set_other (marking_of net).taken c d true false other))

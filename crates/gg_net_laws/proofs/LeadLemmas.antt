@@ -7,9 +7,11 @@ use Rattle.std.proofs.lemmas.List.{ext_get_or}
 use Rattle.gg_flat.specs.Line.{value_at}
 use Rattle.gg_net.specs.declared.event.Event.{Event}
 use Rattle.gg_net.specs.declared.event.Event.TheVariants.{Latch, Fire, Serve, Finish}
-use Rattle.gg_net_laws.specs.Marking.{Layout, Marking, Turn, link_at, is_set, and_one, due_turn, refusal, after}
+use Rattle.gg_net.specs.Refusal.{Turn}
+use Rattle.gg_net_laws.specs.Marking.{Layout, Marking, link_at, is_set, and_one, due_turn, refusal, after}
 use Rattle.gg_net_laws.proofs.ChangeLemmas.{same-parts}
-use Rattle.gg_net_laws.specs.Counts.{Counts, counts_of, dues, IsAllowed, AreAtMost, AreSame, IsBehind, Raises, FreeServe, Free, CanRun, IsMarkingOf}
+use Rattle.gg_net_laws.specs.Counts.{Counts, counts_of, dues, IsAllowed, AreAtMost, AreSame, IsBehind, Raises, CanRun, IsMarkingOf}
+use Rattle.gg_net_laws.proofs.Free.{FreeServe, Free}
 use Rattle.gg_net_laws.specs.Measure.{left}
 use Rattle.gg_net_laws.specs.Leads.{Leads}
 use Rattle.gg_net_laws.proofs.KeepLemmas.{keeps-allowed, stays-below}

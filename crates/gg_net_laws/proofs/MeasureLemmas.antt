@@ -3,7 +3,8 @@ use Rattle.std.proofs.Common.{◌≡◌, ℕ, suc, ◌+◌, ◌≤◌, length, r
 use Rattle.gg_net.specs.declared.event.Event.{Event}
 use Rattle.gg_net.specs.declared.event.Event.TheVariants.{Latch, Fire, Serve, Finish}
 use Rattle.gg_net_laws.specs.Marking.{Layout}
-use Rattle.gg_net_laws.specs.Counts.{Counts, fires, latches, finishes, accesses, IsAllowed, AreAtMost, Raises, Free}
+use Rattle.gg_net_laws.specs.Counts.{Counts, fires, latches, finishes, accesses, IsAllowed, AreAtMost, Raises}
+use Rattle.gg_net_laws.proofs.Free.{Free}
 use Rattle.gg_net_laws.specs.Measure.{sum_below, left_in, left_at, left}
 use Rattle.gg_net_laws.proofs.SumLemmas.{sum-same, sum-le, sum-add, sum-one, sum-none}
 

@@ -13,7 +13,10 @@ use Rattle.gg_net.specs.declared.event.Event.{Event}
 use Rattle.gg_net.specs.declared.event.Event.TheVariants.{Latch, Fire, Serve, Finish}
 use Rattle.gg_net.specs.declared.shape.Wire.{Wire}
 use Rattle.gg_net.specs.Network.{Network, Frame, wire_at, queue_at, consumer_of, producer_of, given_by, entered_by, puts, entered, kind_of, frame_of}
-use Rattle.gg_net.specs.Step.{CanLatch, CanFire, CanServe, CanFinish, Step, front_of, after_latch, after_fire, after_serve, after_finish}
+use Rattle.gg_net.specs.Step.{Step, front_of, after_latch, after_fire, after_serve, after_finish}
+use Rattle.gg_net.proofs.Can.{CanLatch, CanFire, CanServe, CanFinish}
+use Rattle.gg_net.proofs.WireLemmas.{one-out}
+use Rattle.gg_net.proofs.TableLemmas.{latch-can, fire-can, serve-can, finish-can}
 use Rattle.gg_net.specs.Kept.{MachineAt, Kept, list_at}
 use Rattle.gg_net.proofs.ChannelLemmas.{entered-suc}
 use Rattle.gg_net.proofs.MachineLemmas.{out-within}
@@ -72,7 +75,7 @@ module _ (flow : Flow) (net : Network) (kept : Kept flow net) where
         let w : Wire = wire_at net.wires c in
         let x : Machine = producer_of net c in
         told-same gave net.machines w.producer (with_flag x w.out) (producer-there flow net kept c can.can.0) (wire_at net.wires d).producer (λ same.
-        ap (given_by x.cycle) (get_or-set_other x.flags w.out (wire_at net.wires d).out true false (λ out. other (kept.sound.wired.one_out d c known can.can.0 same out))))
+        ap (given_by x.cycle) (get_or-set_other x.flags w.out (wire_at net.wires d).out true false (λ out. other (one-out (frame_of net) kept.sound.wired d c known can.can.0 same out))))
 
   -- `Fire` of a channel puts one more token into it
   pub fire-puts : (c token : ℕ) → CanFire net c → puts (after_fire net c token) c ≡ suc (puts net c)
@@ -89,13 +92,13 @@ module _ (flow : Flow) (net : Network) (kept : Kept flow net) where
   -- ---- each event
 
   pub step-fires : (c : ℕ) (new : Network) → Step net (Fire c) new → puts new c ≡ suc (puts net c)
-  step-fires c new step = ap (λ (n : Network). puts n c) step.after.after ∙ fire-puts c step.after.token step.ready
+  step-fires c new step = ap (λ (n : Network). puts n c) step.after.after ∙ fire-puts c step.after.token (fire-can net kept.sound.wired c step.ready)
 
   pub step-others : (event : Event) (new : Network) (d : ℕ) → Step net event new → d < length net.wires → (event ≡ Fire d → ⊥) → puts new d ≡ puts net d
-  step-others (Latch c) new d step known other = ap (λ (n : Network). puts n d) step.after ∙ latch-puts d c step.ready
-  step-others (Fire c) new d step known other = ap (λ (n : Network). puts n d) step.after.after ∙ fire-other d c step.after.token step.ready known (λ same. other (ap Fire (sym same)))
-  step-others (Serve m p) new d step known other = ap (λ (n : Network). puts n d) step.after ∙ serve-puts d m p step.ready
-  step-others (Finish m) new d step known other = ap (λ (n : Network). puts n d) step.after.after ∙ finish-puts d m step.after.state step.ready known
+  step-others (Latch c) new d step known other = ap (λ (n : Network). puts n d) step.after ∙ latch-puts d c (latch-can net c step.ready)
+  step-others (Fire c) new d step known other = ap (λ (n : Network). puts n d) step.after.after ∙ fire-other d c step.after.token (fire-can net kept.sound.wired c step.ready) known (λ same. other (ap Fire (sym same)))
+  step-others (Serve m p) new d step known other = ap (λ (n : Network). puts n d) step.after ∙ serve-puts d m p (serve-can net kept.sound.wired m p step.ready)
+  step-others (Finish m) new d step known other = ap (λ (n : Network). puts n d) step.after.after ∙ finish-puts d m step.after.state (finish-can net kept.sound.wired m step.ready) known
 
 -- ---- the token that was given
 
@@ -108,7 +111,7 @@ module _ (flow : Flow) (old new : Network) (kept : Kept flow old) (c : ℕ) (ste
   pub one-held : 0 < length (queue_at new.queues c)
   one-held =
       let queue : List ℕ = queue_at old.queues c ++ step.after.token ∷ [] in
-      let is : queue_at new.queues c ≡ queue = ap (λ (n : Network). queue_at n.queues c) step.after.after ∙ get_or-set_same old.queues c queue [] (omega (arith, step.ready.can.0, kept.queues)) in
+      let is : queue_at new.queues c ≡ queue = ap (λ (n : Network). queue_at n.queues c) step.after.after ∙ get_or-set_same old.queues c queue [] (omega (arith, (fire-can old kept.sound.wired c step.ready).can.0, kept.queues)) in
       omega (arith, ap length is, length-append (queue_at old.queues c) (step.after.token ∷ []))
 
   -- the tokens that have entered are the front of the channel's list, with one more: the newest of the queue
@@ -118,7 +121,7 @@ module _ (flow : Flow) (old new : Network) (kept : Kept flow old) (c : ℕ) (ste
       let frame : frame_of new ≡ frame_of old = step-frame old (Fire c) new step in
       let first : Option ℕ = (wire_at old.wires c).first in
       let more : entered new c ≡ suc (entered old c) = ap (λ (f : Frame). entered_by (wire_at f.wires c).first (puts new c)) frame ∙ ap (entered_by first) (step-fires flow old kept c new step) ∙ entered-suc first (puts old c) in
-      let known : c < length new.wires = omega (arith, step.ready.can.0, ap (λ (f : Frame). length f.wires) frame) in
+      let known : c < length new.wires = omega (arith, (fire-can old kept.sound.wired c step.ready).can.0, ap (λ (f : Frame). length f.wires) frame) in
       let after : Kept flow new = kept-step flow old (Fire c) new kept step in
       let within : entered old c < length list = omega (arith, more, entered-mono (wire_at new.wires c).first (puts new c) new.end (puts-within flow new after c known), after.sound.solves.long c known) in
       let newest : value_at (queue_at new.queues c) (length (queue_at new.queues c) - 1) ≡ value_at list (entered old c) = newest-is flow new c after known one-held ∙ ap (value_at list) (omega (arith, more)) in

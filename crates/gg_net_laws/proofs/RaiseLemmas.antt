@@ -8,7 +8,8 @@ use Rattle.gg_flat.specs.Line.{value_at}
 use Rattle.gg_net.specs.declared.event.Event.{Event}
 use Rattle.gg_net.specs.declared.event.Event.TheVariants.{Latch, Fire, Serve, Finish}
 use Rattle.gg_net_laws.specs.Marking.{Layout, Marking, Link, link_at, is_set, and_one, one_more, cleared, after}
-use Rattle.gg_net_laws.specs.Counts.{Counts, counts_of, dues, one_at, Raises, FreeLatch, FreeFire, FreeServe, FreeFinish, Free, IsMarkingOf}
+use Rattle.gg_net_laws.specs.Counts.{Counts, counts_of, dues, one_at, Raises, IsMarkingOf}
+use Rattle.gg_net_laws.proofs.Free.{FreeLatch, FreeFire, FreeServe, FreeFinish, Free}
 use Rattle.gg_net_laws.proofs.SumLemmas.{one-here, one-elsewhere}
 
 -- ---- entries

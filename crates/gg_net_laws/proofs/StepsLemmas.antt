@@ -11,8 +11,9 @@ use Rattle.gg_net.proofs.StepLemmas.{kept-step}
 use Rattle.gg_net_laws.specs.Marking.{Layout}
 use Rattle.gg_net_laws.specs.Goes.{Stopped, step_refusal, after_step, go_on, replayed_from}
 use Rattle.gg_net_laws.specs.Steps.{IsStep, StepRefused, Steps, StopsAt}
-use Rattle.gg_net_laws.specs.Fits.{HasLayout, IsInOrder, marking_of}
-use Rattle.gg_net_laws.proofs.GoesLemmas.{ready-free, refused-so, step-marks, step-frame}
+use Rattle.gg_net_laws.specs.Fits.{HasLayout, marking_of}
+use Rattle.gg_net_laws.proofs.AgreeLemmas.{marked}
+use Rattle.gg_net_laws.proofs.GoesLemmas.{ready-free, step-marks, step-frame}
 
 -- ---- what steps keep
 
@@ -48,9 +49,9 @@ module _ (flow : Flow) (layout : Layout) where
   one-marks old None new kept has step = absurd step
   one-marks old (Some event) new kept has step = sym (step-marks flow old kept layout has event new step)
 
-  one-refused : (net : Network) (event : Option Event) (cause : StepRefusal) → Kept flow net → HasLayout (frame_of net) layout → IsInOrder (frame_of net) → StepRefused net event cause → step_refusal layout (marking_of net) event ≡ Some cause
-  one-refused net None cause kept has order is = ap Some (sym is)
-  one-refused net (Some event) cause kept has order is = refused-so flow net kept layout has order event cause is
+  one-refused : (net : Network) (event : Option Event) (cause : StepRefusal) → Kept flow net → HasLayout (frame_of net) layout → StepRefused net event cause → step_refusal layout (marking_of net) event ≡ Some cause
+  one-refused net None cause kept has is = ap Some (sym is)
+  one-refused net (Some event) cause kept has is = sym (marked flow net kept layout has event) ∙ is
 
   -- if a step is done, the replay goes on with the steps that follow
   pub goes-on : (k : ℕ) (old : Network) (event : Option Event) (new : Network) (events : List (Option Event)) → Kept flow old → HasLayout (frame_of old) layout → IsStep old event new
@@ -67,17 +68,17 @@ module _ (flow : Flow) (layout : Layout) where
       ∙ all-done (suc k) steps.0 events new (one-kept flow old event steps.0 kept steps.1) (subst (λ frame. HasLayout frame layout) (sym (one-frame old event steps.0 steps.1)) has) steps.2
 
   -- if a step is refused after n were done, the replay stops there for the same cause
-  stops : (n k : ℕ) (old : Network) (events : List (Option Event)) (new : Network) (event : Option Event) (stopped : Stopped) → Kept flow old → HasLayout (frame_of old) layout → IsInOrder (frame_of old) → Steps old (take n events) new → slice_get events n ≡ Some event
+  stops : (n k : ℕ) (old : Network) (events : List (Option Event)) (new : Network) (event : Option Event) (stopped : Stopped) → Kept flow old → HasLayout (frame_of old) layout → Steps old (take n events) new → slice_get events n ≡ Some event
       → stopped.step ≡ k + n → StepRefused new event stopped.cause → replayed_from layout k (marking_of old) events ≡ Err stopped
-  stops zero k old [] new event stopped kept has order steps next number refused = let is : ◌≡◌ {A = Option (Option Event)} None (Some event) = next in cc
-  stops zero k old (first ∷ events) new event stopped kept has order steps next number refused =
+  stops zero k old [] new event stopped kept has steps next number refused = let is : ◌≡◌ {A = Option (Option Event)} None (Some event) = next in cc
+  stops zero k old (first ∷ events) new event stopped kept has steps next number refused =
       let so : StepRefused old first stopped.cause = subst (λ net. StepRefused net first stopped.cause) steps (subst (λ e. StepRefused new e stopped.cause) (sym (same_Some first event next)) refused) in
-      ap (λ o. go_on k o (replayed_from layout (suc k) (after_step layout (marking_of old) first) events)) (one-refused old first stopped.cause kept has order so)
+      ap (λ o. go_on k o (replayed_from layout (suc k) (after_step layout (marking_of old) first) events)) (one-refused old first stopped.cause kept has so)
       ∙ ap (λ (step : ℕ). Err (record { step = step; cause = stopped.cause })) (omega (arith, number))
-  stops (suc n) k old [] new event stopped kept has order steps next number refused = let is : ◌≡◌ {A = Option (Option Event)} None (Some event) = next in cc
-  stops (suc n) k old (first ∷ events) new event stopped kept has order steps next number refused =
+  stops (suc n) k old [] new event stopped kept has steps next number refused = let is : ◌≡◌ {A = Option (Option Event)} None (Some event) = next in cc
+  stops (suc n) k old (first ∷ events) new event stopped kept has steps next number refused =
       goes-on k old first steps.0 events kept has steps.1
-      ∙ stops n (suc k) steps.0 events new event stopped (one-kept flow old first steps.0 kept steps.1) (subst (λ frame. HasLayout frame layout) (sym (one-frame old first steps.0 steps.1)) has) (subst IsInOrder (sym (one-frame old first steps.0 steps.1)) order) steps.2 next (omega (arith, number)) refused
+      ∙ stops n (suc k) steps.0 events new event stopped (one-kept flow old first steps.0 kept steps.1) (subst (λ frame. HasLayout frame layout) (sym (one-frame old first steps.0 steps.1)) has) steps.2 next (omega (arith, number)) refused
 
-  pub stops-at : (k : ℕ) (old : Network) (events : List (Option Event)) (new : Network) (stopped : Stopped) → Kept flow old → HasLayout (frame_of old) layout → IsInOrder (frame_of old) → StopsAt k old events new stopped → replayed_from layout k (marking_of old) events ≡ Err stopped
-  stops-at k old events new stopped kept has order at = stops at.done k old events new at.event stopped kept has order at.steps at.next at.number at.refused
+  pub stops-at : (k : ℕ) (old : Network) (events : List (Option Event)) (new : Network) (stopped : Stopped) → Kept flow old → HasLayout (frame_of old) layout → StopsAt k old events new stopped → replayed_from layout k (marking_of old) events ≡ Err stopped
+  stops-at k old events new stopped kept has at = stops at.done k old events new at.event stopped kept has at.steps at.next at.number at.refused

@@ -4,8 +4,10 @@ use Rattle.std.proofs.Math.Nat.{mul-le-mul_left}
 use Rattle.std.specs.Prelude.{All, slice_index_or}
 use Rattle.std.proofs.lemmas.Bool.{cases_lt}
 use Rattle.std.proofs.lemmas.Option.{slice_get-get_or}
-use Rattle.gg_net_laws.specs.Marking.{Layout, Turn, link_at, turns_at}
-use Rattle.gg_net_laws.specs.Counts.{Counts, early, dues, WasTaken, HasGiven, HasServed, IsAllowed, AreAtMost, AreSame, FreeLatch, FreeFire, FreeServe, FreeFinish, CanRun}
+use Rattle.gg_net.specs.Refusal.{Turn}
+use Rattle.gg_net_laws.specs.Marking.{Layout, link_at, turns_at}
+use Rattle.gg_net_laws.specs.Counts.{Counts, early, dues, WasTaken, HasGiven, HasServed, IsAllowed, AreAtMost, AreSame, CanRun}
+use Rattle.gg_net_laws.proofs.Free.{FreeLatch, FreeFire, FreeServe, FreeFinish}
 use Rattle.gg_net_laws.proofs.EarlyLemmas.{early-few}
 
 any_turn : Turn

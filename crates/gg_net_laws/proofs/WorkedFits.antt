@@ -7,10 +7,12 @@ use Rattle.gg_flat.specs.Circuit.{no_circuit}
 use Rattle.gg_node.specs.Machine.{RunsPiece, KeepsLast, Port, Machine, no_state, source_machine, tray_machine}
 use Rattle.gg_net.specs.declared.event.Event.{Event}
 use Rattle.gg_net.specs.declared.event.Event.TheVariants.{Latch, Fire}
+use Rattle.gg_net.specs.declared.event.StepRefusal.{StepRefusal}
 use Rattle.gg_net.specs.declared.event.StepRefusal.TheVariants.{Stranger, Fired}
 use Rattle.gg_net.specs.Network.{Network, Frame, frame_of, kind_at, wire_at}
-use Rattle.gg_net.specs.Step.{Step, FireRefused, after_latch, after_fire}
-use Rattle.gg_net_laws.specs.Marking.{Turn, Layout, opening_marking, link_at, turns_at, puts, held, after}
+use Rattle.gg_net.specs.Step.{Step, after_latch, after_fire}
+use Rattle.gg_net.specs.Refusal.{Turn}
+use Rattle.gg_net_laws.specs.Marking.{Layout, opening_marking, link_at, turns_at, puts, held, after}
 use Rattle.gg_net_laws.specs.Steps.{StepRefused, StopsAt}
 use Rattle.gg_net_laws.specs.Fits.{IsLinkOf, IsTurnOf, AreTurnsOf, HasLayout, marking_of}
 
@@ -97,10 +99,10 @@ abbrev given : Network
 given = net None false true (5 ∷ []) []
 
 gives : Step opens (Fire 0) given
-gives = record { ready = record { can = (lit< tt, lit< tt); clear = refl; needed = refl; room = lit< tt }; after = record { token = 5; is = refl; after = refl } }
+gives = record { ready = refl; after = record { token = 5; is = refl; after = refl } }
 
 stops-twice : StopsAt 1 opens (Some (Fire 0) ∷ Some (Fire 0) ∷ Some (Latch 0) ∷ []) given (record { step = 2; cause = Fired })
-stops-twice = record { done = 1; steps = (given, gives, refl); event = Some (Fire 0); next = refl; number = refl; refused = ((lit< tt, lit< tt), refl) }
+stops-twice = record { done = 1; steps = (given, gives, refl); event = Some (Fire 0); next = refl; number = refl; refused = refl }
 
 stops-at-none : StopsAt 1 opens (None ∷ []) opens (record { step = 1; cause = Stranger })
 stops-at-none = record { done = 0; steps = refl; event = None; next = refl; number = refl; refused = refl }
@@ -111,8 +113,7 @@ not-so stops = by stops.done stops.number stops.event stops.next stops.refused
   where
     by : (done : ℕ) → 1 ≡ 1 + done → (event : Option Event) → slice_get (Some (Fire 0) ∷ []) done ≡ Some event → StepRefused opens event Fired → ⊥
     by zero number event next refused =
-        let so : FireRefused opens 0 Fired = subst (λ e. StepRefused opens e Fired) (sym (same_Some (Some (Fire 0)) event next)) refused in
-        let is : false ≡ true = so.1 in
+        let so : ◌≡◌ {A = Option StepRefusal} None (Some Fired) = subst (λ e. StepRefused opens e Fired) (sym (same_Some (Some (Fire 0)) event next)) refused in
         cc
     by (suc done) number event next refused = omega (arith, number)
 

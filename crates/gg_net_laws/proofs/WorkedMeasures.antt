@@ -3,7 +3,8 @@ use Rattle.std.proofs.Common.{◌≡◌, ℕ, zero, suc, ◌<◌, ◌≤◌, ◌
 use Rattle.std.specs.Prelude.{All}
 use Rattle.gg_net.specs.declared.event.Event.TheVariants.{Latch, Fire, Finish}
 use Rattle.gg_net.specs.declared.event.StepRefusal.TheVariants.{Unfired, NeedsInput, NoToken, Full}
-use Rattle.gg_net_laws.specs.Marking.{Link, Turn, Layout, opening_marking, held, refusal, after}
+use Rattle.gg_net.specs.Refusal.{Turn}
+use Rattle.gg_net_laws.specs.Marking.{Link, Layout, opening_marking, held, refusal, after}
 use Rattle.gg_net_laws.specs.Counts.{counts_of, early, CanRun, IsAllowed, Flows}
 use Rattle.gg_net_laws.specs.Measure.{left, all_dues}
 use Rattle.gg_net_laws.specs.Leads.{Leads, end_marking}

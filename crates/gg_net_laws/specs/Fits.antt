@@ -7,7 +7,8 @@ use Rattle.gg_node.specs.Machine.{Port, needs_at}
 use Rattle.gg_node.specs.Step.{fields_of}
 use Rattle.gg_net.specs.Network.{Network, Frame, kind_at, wire_at}
 use Rattle.gg_net.specs.Step.{latch_of, flag_of}
-use Rattle.gg_net_laws.specs.Marking.{Link, Turn, Layout, Marking, link_at, turns_at}
+use Rattle.gg_net.specs.Refusal.{Turn}
+use Rattle.gg_net_laws.specs.Marking.{Link, Layout, Marking, link_at, turns_at}
 
 -- for each of these channels, the in at which its consumer takes it
 abbrev pub places_of : Frame → List ℕ → List ℕ
@@ -47,11 +48,6 @@ pub record HasLayout (frame : Frame) (layout : Layout) : Type 0 where
   pub ports : layout.port_counts ≡ map (λ kind. kind.port_count) frame.kinds
   pub link : (c : ℕ) → c < length frame.wires → IsLinkOf frame c (link_at layout c)
   pub turns : (m : ℕ) → m < length frame.kinds → AreTurnsOf frame m (kind_at frame.kinds m).ports (turns_at layout m)
-
--- The ins and the outs of a machine are in the order of their channels.
-pub record IsInOrder (frame : Frame) : Type 0 where
-  pub ins : (c d : ℕ) → c < d → d < length frame.wires → (wire_at frame.wires c).consumer ≡ (wire_at frame.wires d).consumer → (wire_at frame.wires c).place < (wire_at frame.wires d).place
-  pub outs : (c d : ℕ) → c < d → d < length frame.wires → (wire_at frame.wires c).producer ≡ (wire_at frame.wires d).producer → (wire_at frame.wires c).out < (wire_at frame.wires d).out
 
 -- how far a network is
 abbrev pub marking_of : Network → Marking

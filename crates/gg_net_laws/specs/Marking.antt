@@ -1,15 +1,15 @@
 -- Markings: how far each machine and each channel of a network is, without the values. Whether a step may be done, and
 -- why not, depends only on the layout and the marking.
 -- Source: Commoner, Holt, Even and Pnueli, "Marked Directed Graphs" (1971), for counts of tokens in place of tokens;
--- MEMOCODE 2009 (when a node may take, give and finish); ICCAD 2019 for memories that are served port by port. The
--- order in which conditions are checked is this program's.
-use Rattle.std.specs.Prelude.{ℕ, suc, ◌-◌, ◌==◌, List, [], Bool, true, false, not, if◌then◌else◌, Option, Some, None, length, map, filter, find, replicate, slice_index_or, slice_set, slice_get, nat_lt}
+-- MEMOCODE 2009 (when a node may take, give and finish); ICCAD 2019 for memories that are served port by port.
+use Rattle.std.specs.Prelude.{ℕ, suc, ◌-◌, ◌==◌, List, [], Bool, true, false, if◌then◌else◌, Option, length, map, replicate, slice_index_or, slice_set, slice_get, nat_lt}
 use Rattle.std.specs.List.{range_with_len}
 use Rattle.gg_flat.specs.Line.{value_at}
 use Rattle.gg_net.specs.declared.event.Event.{Event}
 use Rattle.gg_net.specs.declared.event.Event.TheVariants.{Latch, Fire, Serve, Finish}
 use Rattle.gg_net.specs.declared.event.StepRefusal.{StepRefusal}
-use Rattle.gg_net.specs.declared.event.StepRefusal.TheVariants.{Stranger, Ended, Latched, Fired, NoToken, NeedsInput, Full, Order, Unfired, Unserved}
+use Rattle.gg_net.specs.Refusal.{Turn, Facts}
+use Rattle.gg_net.specs.Refusal as table
 
 -- ---- what never changes
 
@@ -21,11 +21,6 @@ pub record Link : Type 0 where
   pub capacity : ℕ
   pub needs : List ℕ
   pub piped : Bool
-
--- A port that is served: its number, and the channels of its fields.
-pub record Turn : Type 0 where
-  pub number : ℕ
-  pub fields : List ℕ
 
 -- The channels by number. For each machine the number of ports of its memory, or 0 if it isn't a memory that is served,
 -- and the ports that are served in a cycle, in their order. And the number of cycles.
@@ -42,14 +37,6 @@ link_at layout c = slice_index_or layout.links c (record { producer = 0; consume
 -- the ports that a machine serves in a cycle, in their order; none past the end
 abbrev pub turns_at : Layout → ℕ → List Turn
 turns_at layout m = slice_index_or layout.turns m []
-
--- the channels that a machine takes, and the channels that it gives, by number
-abbrev pub channels_into : Layout → ℕ → List ℕ
-channels_into layout m = filter (λ c. (link_at layout c).consumer == m) (range_with_len 0 (length layout.links))
-
--- those that it gives
-abbrev pub channels_out_of : Layout → ℕ → List ℕ
-channels_out_of layout m = filter (λ c. (link_at layout c).producer == m) (range_with_len 0 (length layout.links))
 
 -- ---- what changes
 
@@ -98,108 +85,35 @@ held layout marking c = entered layout marking c - takes layout marking c
 
 -- ---- when a step is refused
 
--- the first refusal of two
-abbrev pub or_next : Option StepRefusal → Option StepRefusal → Option StepRefusal
-or_next None later = later
-or_next (Some refusal) later = Some refusal
-
--- a refusal, if a condition fails
-abbrev pub unless : Bool → StepRefusal → Option StepRefusal
-unless true refusal = None
-unless false refusal = Some refusal
-
--- a refusal that names the first of these
-abbrev pub naming : (ℕ → StepRefusal) → Option ℕ → Option StepRefusal
-naming refusal None = None
-naming refusal (Some c) = Some (refusal c)
-
--- the first of these channels that isn't marked
-abbrev pub first_unmarked : List Bool → List ℕ → Option ℕ
-first_unmarked marks channels = find (λ c. not (is_set marks c)) channels
-
--- whether a machine has cycles left
-abbrev pub is_below : Layout → Marking → ℕ → Bool
-is_below layout marking m = nat_lt (value_at marking.cycles m) layout.end
-
--- whether there is a channel of this number
-abbrev pub is_channel : Layout → ℕ → Bool
-is_channel layout c = nat_lt c (length layout.links)
-
--- whether there is a machine of this number
-abbrev pub is_machine : Layout → ℕ → Bool
-is_machine layout m = nat_lt m (length layout.turns)
-
 -- the number of ports of a machine's memory
 abbrev pub port_count : Layout → ℕ → ℕ
 port_count layout m = value_at layout.port_counts m
-
--- whether a machine's memory has a port of this number
-abbrev pub has_port : Layout → ℕ → ℕ → Bool
-has_port layout m p = nat_lt p (port_count layout m)
 
 -- the port that is to be served next in the machine's cycle; none once all are served
 abbrev pub due_turn : Layout → Marking → ℕ → Option Turn
 due_turn layout marking m = slice_get (turns_at layout m) (value_at marking.served m)
 
--- refuses with the first channel that the machine gives and hasn't given in its cycle
-abbrev pub unfired : Layout → Marking → ℕ → Option StepRefusal
-unfired layout marking m = naming Unfired (first_unmarked marking.given (channels_out_of layout m))
+-- what decides a step, as a layout and a marking tell it
+abbrev pub marked_facts : Layout → Marking → Facts
+marked_facts layout marking =
+    record {
+      channels = length layout.links;
+      machines = length layout.turns;
+      ports = λ m. port_count layout m;
+      producer = λ c. (link_at layout c).producer;
+      consumer = λ c. (link_at layout c).consumer;
+      needs = λ c. (link_at layout c).needs;
+      capacity = λ c. (link_at layout c).capacity;
+      below = λ m. nat_lt (value_at marking.cycles m) layout.end;
+      due = λ m. due_turn layout marking m;
+      taken = λ c. is_set marking.taken c;
+      given = λ c. is_set marking.given c;
+      held = λ c. held layout marking c;
+    }
 
--- `Latch`: the channel exists; its consumer has cycles left; the consumer hasn't taken the token of this cycle; the
--- queue holds one
-abbrev pub latch_refusal : Layout → Marking → ℕ → Option StepRefusal
-latch_refusal layout marking c =
-    or_next (unless (is_channel layout c) Stranger)
-    (or_next (unless (is_below layout marking (link_at layout c).consumer) Ended)
-    (or_next (unless (not (is_set marking.taken c)) Latched)
-    (unless (nat_lt 0 (held layout marking c)) (NoToken c))))
-
--- `Fire`: the channel exists; its producer has cycles left; the producer hasn't given the token of this cycle; it has
--- taken the tokens of the channels that this one needs; the queue has room
-abbrev pub fire_refusal : Layout → Marking → ℕ → Option StepRefusal
-fire_refusal layout marking c =
-    or_next (unless (is_channel layout c) Stranger)
-    (or_next (unless (is_below layout marking (link_at layout c).producer) Ended)
-    (or_next (unless (not (is_set marking.given c)) Fired)
-    (or_next (naming NeedsInput (first_unmarked marking.taken (link_at layout c).needs))
-    (unless (nat_lt (held layout marking c) (link_at layout c).capacity) (Full c (held layout marking c))))))
-
--- the port is the one that is due, and its fields have tokens; if none is due, the refusal has the number of ports
-abbrev pub turn_refusal : Layout → Marking → ℕ → ℕ → Option Turn → Option StepRefusal
-turn_refusal layout marking m p None = Some (Order (port_count layout m))
-turn_refusal layout marking m p (Some turn) =
-    or_next (unless (turn.number == p) (Order turn.number)) (naming NeedsInput (first_unmarked marking.taken turn.fields))
-
--- `Serve`: the machine exists and has the port; it has cycles left; it has given all its tokens; the port is due; its
--- fields have tokens
-abbrev pub serve_refusal : Layout → Marking → ℕ → ℕ → Option StepRefusal
-serve_refusal layout marking m p =
-    or_next (unless (has_port layout m p) Stranger)
-    (or_next (unless (is_below layout marking m) Ended)
-    (or_next (unfired layout marking m)
-    (turn_refusal layout marking m p (due_turn layout marking m))))
-
--- refuses with the port that is due and not served
-abbrev pub unserved : Option Turn → Option StepRefusal
-unserved None = None
-unserved (Some turn) = Some (Unserved turn.number)
-
--- `Finish`: the machine exists and has cycles left; it has given all its tokens; all its ports are served; it has taken
--- all its tokens
-abbrev pub finish_refusal : Layout → Marking → ℕ → Option StepRefusal
-finish_refusal layout marking m =
-    or_next (unless (is_machine layout m) Stranger)
-    (or_next (unless (is_below layout marking m) Ended)
-    (or_next (unfired layout marking m)
-    (or_next (unserved (due_turn layout marking m))
-    (naming NeedsInput (first_unmarked marking.taken (channels_into layout m))))))
-
--- why an event is refused: the first of its conditions that fails
+-- why an event is refused: the first of its conditions that fails, by the table of steps
 abbrev pub refusal : Layout → Marking → Event → Option StepRefusal
-refusal layout marking (Latch c) = latch_refusal layout marking c
-refusal layout marking (Fire c) = fire_refusal layout marking c
-refusal layout marking (Serve m p) = serve_refusal layout marking m p
-refusal layout marking (Finish m) = finish_refusal layout marking m
+refusal layout marking event = table.refusal (marked_facts layout marking) event
 
 -- ---- what a step does
 

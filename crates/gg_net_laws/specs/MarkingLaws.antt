@@ -1,45 +1,32 @@
 -- What the marking of a network tells of the network, and of steps.
 -- Source: MEMOCODE 2009 (the k-th token of each queue is the signal's value in cycle k, so that a network's state
 -- follows from counts).
-use Rattle.std.specs.Prelude.{◌≡◌, ℕ, suc, ◌-◌, ◌<◌, ◌++◌, List, [], ◌∷◌, Option, Some, Ok, Err, length, take}
+use Rattle.std.specs.Prelude.{◌≡◌, ℕ, suc, ◌-◌, ◌<◌, ◌++◌, List, [], ◌∷◌, Option, Ok, Err, length, take}
 use Rattle.gg_flat.specs.Line.{value_at}
 use Rattle.gg_flat.specs.Streams.{Flow}
 use Rattle.gg_node.specs.Machine.{Machine, machine_at}
 use Rattle.gg_net.specs.declared.shape.Wire.{Wire}
 use Rattle.gg_net.specs.declared.event.Event.{Event}
 use Rattle.gg_net.specs.declared.event.Event.TheVariants.{Fire}
-use Rattle.gg_net.specs.declared.event.StepRefusal.{StepRefusal}
 use Rattle.gg_net.specs.Network.{Network, wire_at, queue_at, frame_of, entered}
 use Rattle.gg_net.specs.Network as network
 use Rattle.gg_net.specs.Kept.{Kept, list_at}
 use Rattle.gg_net.specs.Net.{IsOpening, opening_net}
-use Rattle.gg_net.specs.Step.{Refused, Step}
+use Rattle.gg_net.specs.Refusal as table
+use Rattle.gg_net.specs.Step.{facts_of, Step}
 use Rattle.gg_net_laws.specs.Marking.{Layout, opening_marking, refusal}
 use Rattle.gg_net_laws.specs.Goes.{Stopped, replayed_from}
-use Rattle.gg_net_laws.specs.Fits.{HasLayout, IsInOrder, marking_of}
+use Rattle.gg_net_laws.specs.Fits.{HasLayout, marking_of}
 use Rattle.gg_net_laws.specs.Steps.{IsStep, Steps, StopsAt}
 
--- The cause for which an event is refused is the marking's.
+-- An event of a network is refused just as its marking refuses it: for the same cause, or not at all.
 abbrev pub RefusalsAreMarked : Type 0
 RefusalsAreMarked =
-    (flow : Flow) (net : Network) (layout : Layout) (event : Event) (cause : StepRefusal)
-    -- The network is kept and has this layout, and ins and outs are in the order of their channels.
-    → Kept flow net → HasLayout (frame_of net) layout → IsInOrder (frame_of net)
-    -- The event is refused for this cause.
-    → Refused net event cause
-    -- The marking refuses the event for the same cause.
-    → refusal layout (marking_of net) event ≡ Some cause
-
--- The cause for which the marking refuses an event is the network's.
-abbrev pub MarkedAreRefused : Type 0
-MarkedAreRefused =
-    (flow : Flow) (net : Network) (layout : Layout) (event : Event) (cause : StepRefusal)
-    -- The network is kept and has this layout, and ins and outs are in the order of their channels.
-    → Kept flow net → HasLayout (frame_of net) layout → IsInOrder (frame_of net)
-    -- The marking refuses the event for this cause.
-    → refusal layout (marking_of net) event ≡ Some cause
-    -- The event is refused for the same cause.
-    → Refused net event cause
+    (flow : Flow) (net : Network) (layout : Layout) (event : Event)
+    -- The network is kept and has this layout.
+    → Kept flow net → HasLayout (frame_of net) layout
+    -- The table says the same of the network and of its marking.
+    → table.refusal (facts_of net) event ≡ refusal layout (marking_of net) event
 
 -- Before the first cycle the marking is the opening marking.
 abbrev pub OpensMarked : Type 0
@@ -97,8 +84,8 @@ StepsAreReplayed =
 abbrev pub StopsAreReplayed : Type 0
 StopsAreReplayed =
     (flow : Flow) (old new : Network) (layout : Layout) (k : ℕ) (events : List (Option Event)) (stopped : Stopped)
-    -- The network is kept and has this layout, and ins and outs are in the order of their channels.
-    → Kept flow old → HasLayout (frame_of old) layout → IsInOrder (frame_of old)
+    -- The network is kept and has this layout.
+    → Kept flow old → HasLayout (frame_of old) layout
     -- The steps stop at this step, for this cause.
     → StopsAt k old events new stopped
     -- Replayed from the marking they stop so.

@@ -12,7 +12,7 @@
 //! network that has a layout (`specs/Fits`) and the invariant `Kept` of gg_net, it promises:
 //!
 //! - an event may be done exactly if the marking doesn't refuse it, every other event is refused for the marking's
-//!   cause, if ins and outs are in the order of their channels, and a step changes the marking as its event does
+//!   cause, and a step changes the marking as its event does
 //!   ([`goes_by_marking`]);
 //! - the network begins with the opening marking ([`opens_with_marking`]);
 //! - the numbers of tokens that were put into a channel, were taken from it and are held are those of the marking, and

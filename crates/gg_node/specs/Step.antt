@@ -103,3 +103,16 @@ pub record MayFinish (machine : Machine) : Type 0 where
   pub served : machine.served ≡ length machine.ports
   pub latched : AllLatched machine
   pub below : machine.cycle < machine.limit
+
+-- ---- what a machine that is below a cycle waits for
+
+-- A machine is below a cycle, and an in has no token of its own cycle.
+pub record Wants (cycle : ℕ) (machine : Machine) (i : ℕ) : Type 0 where
+  pub below : machine.cycle < cycle
+  pub empty : latch_at machine.latches i ≡ None
+
+-- A machine is below a cycle, and an out that hasn't given its token needs no other.
+pub record Gives (cycle : ℕ) (machine : Machine) (o : ℕ) : Type 0 where
+  pub below : machine.cycle < cycle
+  pub clear : flag_at machine.flags o ≡ false
+  pub needed : missing machine o ≡ None

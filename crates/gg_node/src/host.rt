@@ -1,8 +1,8 @@
 //! `Host`: holds machines and does their steps.
-ghost use Rattle.std.specs.Prelude.{◌≡◌, ℕ, ◌<◌, List, length, is_some, slice_set};
+ghost use Rattle.std.specs.Prelude.{◌≡◌, ◌↔◌, ℕ, ◌<◌, List, length, is_some, slice_set, true};
 ghost use Rattle.gg_node.specs.Machine.{Machine, machine_at, latch_at, flag_at, missing, due};
 ghost use Rattle.gg_node.specs.Token.{IsToken, IsNextState};
-ghost use Rattle.gg_node.specs.Step.{MayLatch, MayFire, MayServe, MayFinish, with_latch, with_flag, with_served, finished};
+ghost use Rattle.gg_node.specs.Step.{Wants, Gives, AllFired, AllLatched, MayLatch, MayFire, MayServe, MayFinish, with_latch, with_flag, with_served, finished};
 
 /// Holds machines, one for each of its threads, and does their steps. Threads, ins and outs are given by their places.
 /// A call that does a step changes the machine of its thread, and no other. No call allocates.
@@ -57,6 +57,54 @@ pub trait Host: Drop + Send {
     fn port_count(&self, thread: u32) -> u32
         requires { thread < length (machines self.now) }
         ensures { result ≡ (machine_at (machines self.now) thread).port_count };
+
+    /// Whether a machine is below a cycle, and an in of it has no token of its own cycle.
+    fn wants(&self, thread: u32, place: u32, cycle: u64) -> bool
+        requires thread { thread < length (machines self.now) }
+        requires place { place < length (machine_at (machines self.now) thread).latches }
+        ensures { (result ≡ true) ↔ Wants cycle (machine_at (machines self.now) thread) place }
+    {
+        self.cycle(thread) < cycle && !self.latched(thread, place)
+    }
+
+    /// Whether a machine is below a cycle, and an out of it may give its token.
+    fn gives(&self, thread: u32, place: u32, cycle: u64) -> bool
+        requires thread { thread < length (machines self.now) }
+        requires place { place < length (machine_at (machines self.now) thread).flags }
+        ensures { (result ≡ true) ↔ Gives cycle (machine_at (machines self.now) thread) place }
+    {
+        self.cycle(thread) < cycle
+            && !self.fired(thread, place)
+            && self.missing(thread, place).is_none()
+    }
+
+    /// Whether all of the `outs` outs of a machine have given their tokens of this cycle.
+    fn all_fired(&self, thread: u32, outs: u32) -> bool
+        requires thread { thread < length (machines self.now) }
+        requires outs { outs ≡ length (machine_at (machines self.now) thread).flags }
+        ensures { result ≡ true → AllFired (machine_at (machines self.now) thread) }
+    {
+        for place in 0..outs {
+            if !self.fired(thread, place) {
+                return false;
+            }
+        }
+        true
+    }
+
+    /// Whether all of the `ins` ins of a machine have their tokens of this cycle.
+    fn all_latched(&self, thread: u32, ins: u32) -> bool
+        requires thread { thread < length (machines self.now) }
+        requires ins { ins ≡ length (machine_at (machines self.now) thread).latches }
+        ensures { result ≡ true → AllLatched (machine_at (machines self.now) thread) }
+    {
+        for place in 0..ins {
+            if !self.latched(thread, place) {
+                return false;
+            }
+        }
+        true
+    }
 
     /// The token that an out would give. Changes no machine.
     fn token(&mut self, thread: u32, place: u32) -> u128

@@ -9,7 +9,8 @@ use Rattle.gg_net.specs.declared.event.Event.{Event}
 use Rattle.gg_net.specs.declared.event.Event.TheVariants.{Fire}
 use Rattle.gg_net.specs.Network.{Network, Frame, wire_at, queue_at, puts, entered_by, entered}
 use Rattle.gg_net.specs.Kept.{Kept, list_at}
-use Rattle.gg_net.specs.Step.{Step}
+use Rattle.gg_net.specs.Step.{facts_of, Step}
+use Rattle.gg_net.proofs.RowLemmas.{fire-goes}
 use Rattle.gg_net_laws.specs.Steps.{IsStep, Steps}
 use Rattle.gg_net_laws.proofs.GoesLemmas.{step-frame}
 use Rattle.gg_net_laws.proofs.PutsLemmas.{front-grows, step-others}
@@ -45,7 +46,7 @@ module _ (flow : Flow) (old : Network) (kept : Kept flow old) (log : List (List 
   -- `Fire` puts a token, and the log with this token is right
   one-put : (c token : ℕ) → Step old (Fire c) new → token ≡ value_at (queue_at new.queues c) (length (queue_at new.queues c) - 1) → AreFronts flow new (slice_set log c (tokens_at log c ++ token ∷ []))
   one-put c token step is =
-      let known : c < length old.wires = step.ready.can.0 in
+      let known : c < length old.wires = (fire-goes (facts_of old) c step.ready).known in
       let longer : List ℕ = tokens_at log c ++ token ∷ [] in
       let grown : longer ≡ take (entered new c) (list_at flow.lists c) =
       ap (λ l. l ++ token ∷ []) (fronts.each c known) ∙ ap (λ x. take (entered old c) (list_at flow.lists c) ++ x ∷ []) is ∙ sym (front-grows flow old new kept c step) in

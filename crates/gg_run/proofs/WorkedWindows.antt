@@ -59,30 +59,22 @@ abbrev after : Network
 after = net_with (source 1 false) (tray 1 (4 ∷ []) None) []
 
 give : Step fed (Fire 0) given
-give = record { ready = record { can = (lit< tt, lit< tt); clear = refl; needed = refl; room = lit< tt }; after = record { token = 4; is = refl; after = refl } }
+give = record { ready = refl; after = record { token = 4; is = refl; after = refl } }
 
 take-it : Step given (Latch 0) taken
-take-it = record { ready = record { can = (lit< tt, lit< tt); empty = refl; held = lit< tt }; after = refl }
-
-all-set : (k : ℕ) (d : Bool) → k < 1 → get_or (true ∷ []) k d ≡ true
-all-set zero d lt = refl
-all-set (suc k) d lt = absurd (omega (arith, lt))
-
-all-held : (k : ℕ) (d : Option ℕ) → k < 1 → IsSome (get_or (Some 4 ∷ []) k d)
-all-held zero d lt = refl
-all-held (suc k) d lt = absurd (omega (arith, lt))
+take-it = record { ready = refl; after = refl }
 
 go : Step taken (Finish 0) gone
 go =
     record {
-      ready = record { there = lit< tt; below = lit< tt; fired = all-set; served = refl; latched = λ k d lt. absurd (omega (arith, lt)) };
+      ready = refl;
       after = record { state = no_state; is = refl; after = refl };
     }
 
 go-on : Step gone (Finish 1) after
 go-on =
     record {
-      ready = record { there = lit< tt; below = lit< tt; fired = λ k d lt. absurd (omega (arith, lt)); served = refl; latched = all-held };
+      ready = refl;
       after = record { state = no_state; is = refl; after = refl };
     }
 

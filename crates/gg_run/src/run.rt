@@ -12,7 +12,9 @@ use gg_bridge::Bridge;
 use gg_build::Node;
 use gg_command::Ending;
 use gg_io::Gate;
+use gg_measure::Order;
 use gg_net::{Net, Streams};
+use gg_node::Host;
 use gg_ring::Ring;
 use std::alloc::Global;
 use std::thread::Threads;
@@ -61,6 +63,14 @@ fn take_window<B: Bridge + Send + Drop, Z: Streams, T, W: Rows<T>>(
     Ok(true)
 }
 
+// An order with room for the steps of a cycle; without memory for it one that remembers nothing.
+fn order_of<H: Host, Z: Streams>(alloc: Global, net: &Net<H, Z>) -> Order {
+    match Order::new(alloc, net) {
+        Ok(order) => order,
+        Err(_) => Order::none(alloc),
+    }
+}
+
 /// Runs a network from its first cycle on, which is `begin`, window by window: by this many workers, and then by steps in the fixed
 /// order. After each window it hands over the rows of its cycles: the values of the out-signals of the plan's circuit, which the trays keep,
 /// from number `first` on. It ends with the
@@ -102,6 +112,7 @@ pub fn run_rows<
     net.within_limits();
     let end = net.end();
     let mut net = net;
+    let mut order = order_of(alloc, &net);
     let mut begun = begin;
     while begun < end {
         let upto = window_end(begun, end);
@@ -112,6 +123,7 @@ pub fn run_rows<
             net,
             workers,
             upto,
+            &mut order,
             gate,
         ) {
             Ok(net) => net,

@@ -8,7 +8,7 @@ use gg_build::TRAY_ROWS;
 use gg_flat::Streams;
 use gg_io::Gate;
 use gg_link::Link;
-use gg_measure::run_to;
+use gg_measure::{Order, run_by};
 use gg_net::Net;
 use gg_node::Host;
 use gg_workers::work;
@@ -46,8 +46,8 @@ fn run_workers<R: Threads + Sync, H: Host, L: Link, Z: Streams, G: Gate + Sync>(
     work::<R, H, L, Z, G>(rt, home, alloc, net, workers, upto, gate)
 }
 
-/// Runs a network up to a cycle, the end of a window: by this many workers first, and then by steps in the fixed order,
-/// until all machines stand there. With no workers all steps are done so.
+/// Runs a network up to a cycle, the end of a window: by this many workers first, and then cycle by cycle, by an order that
+/// is remembered, until all machines stand there. With no workers all steps are done so.
 ///
 /// # Errors
 ///
@@ -59,6 +59,7 @@ pub fn run_window<R: Threads + Sync, H: Host, L: Link, Z: Streams, G: Gate + Syn
     net: Net<H, Z>,
     workers: u32,
     upto: u64,
+    order: &mut Order,
     gate: &G,
 ) -> Result<Net<H, Z>, (Net<H, Z>, AllocError)>
     requires few { workers ≤ 64 }
@@ -70,7 +71,7 @@ pub fn run_window<R: Threads + Sync, H: Host, L: Link, Z: Streams, G: Gate + Syn
 {
     match run_workers::<R, H, L, Z, G>(rt, home, alloc, net, workers, upto, gate) {
         Ok(mut net) => {
-            run_to(&mut net, upto);
+            run_by(&mut net, order, upto);
             Ok(net)
         }
         Err(refused) => Err(refused),

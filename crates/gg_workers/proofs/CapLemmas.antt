@@ -4,7 +4,10 @@ use Rattle.std.specs.Prelude.{Result, Ok, Err, IfOk}
 use Rattle.std.proofs.Math.Nat.{mul-le-mul_left}
 use Rattle.gg_flat.specs.Streams.{Flow}
 use Rattle.gg_node.specs.Machine.{machine_at}
-use Rattle.gg_net.specs.Network.{Network}
+use Rattle.gg_net.specs.Network.{Network, wire_at}
+use Rattle.gg_net.specs.Step.{facts_of}
+use Rattle.gg_net.proofs.RowLemmas.{latch-goes, fire-goes, serve-goes, finish-goes}
+use Rattle.gg_net.proofs.TableLemmas.{is-below}
 use Rattle.gg_workers_pass.specs.Pass.{RisesTo}
 use Rattle.gg_workers.specs.Work.{IsLater}
 
@@ -28,9 +31,9 @@ is-capped flow bound upto old new le below is =
         takes = λ c lt. rises-wider bound upto _ _ le (is.counts.takes c lt);
       };
       done = record {
-        latch = λ c can low. is.done.latch c can (below _ low can.can.1);
-        fire = λ c can low. is.done.fire c can (below _ low can.can.1);
-        serve = λ m p can low. is.done.serve m p can (below _ low can.below);
-        finish = λ m can low. is.done.finish m can (below _ low can.below);
+        latch = λ c can low. is.done.latch c can (below _ low (is-below old (wire_at old.wires c).consumer (latch-goes (facts_of old) c can).below));
+        fire = λ c can low. is.done.fire c can (below _ low (is-below old (wire_at old.wires c).producer (fire-goes (facts_of old) c can).below));
+        serve = λ m p can low. is.done.serve m p can (below _ low (is-below old m (serve-goes (facts_of old) m p can).below));
+        finish = λ m can low. is.done.finish m can (below _ low (is-below old m (finish-goes (facts_of old) m can).below));
       };
     }

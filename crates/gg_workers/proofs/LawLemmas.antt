@@ -4,12 +4,14 @@ use Rattle.std.proofs.Common.{◌≡◌, ◌≢◌, ℕ, suc, ◌+◌, ◌<◌, 
 use Rattle.std.specs.Prelude.{All, AllPairs, slice_index_or}
 use Rattle.std.proofs.lemmas.Option.{same_Some}
 use Rattle.gg_flat.specs.Streams.{Flow}
-use Rattle.gg_node.specs.Machine.{machine_at, due}
 use Rattle.gg_net.specs.declared.event.Event.{Event}
 use Rattle.gg_net.specs.declared.event.Event.TheVariants.{Latch, Fire, Serve, Finish}
 use Rattle.gg_net.specs.Network.{Network, Frame, frame_of}
 use Rattle.gg_net.specs.Kept.{Kept}
-use Rattle.gg_net.specs.Step.{Ready}
+use Rattle.gg_net.specs.Refusal.{Turn}
+use Rattle.gg_net.specs.Step.{facts_of, Ready, machine_of}
+use Rattle.gg_net.proofs.RowLemmas.{ServeGoes, serve-goes}
+use Rattle.gg_net.proofs.TableLemmas.{latch-can, fire-can, serve-can, finish-can}
 use Rattle.gg_net_laws.specs.Marking.{Layout}
 use Rattle.gg_net_laws.specs.LayoutOf.{layout_of}
 use Rattle.gg_net_laws.specs.Fits.{HasLayout, marking_of}
@@ -20,7 +22,7 @@ use Rattle.gg_net_laws.specs.Measure.{sum_below, left_in, left_at, left}
 use Rattle.gg_net_laws.proofs.SumLemmas.{one-elsewhere, sum-same, sum-add, sum-one, sum-none}
 use Rattle.gg_net_laws.proofs.KeepLemmas.{stays-below}
 use Rattle.gg_net_laws.proofs.MeasureLemmas.{left-below}
-use Rattle.gg_measure.specs.Nets.{cycle_at, machine_of, net_left}
+use Rattle.gg_measure.specs.Nets.{cycle_at, net_left}
 use Rattle.gg_measure.proofs.NetLemmas.{wire-there, machine-there, kind-count, allowed-of, serves-are, left-is}
 use Rattle.gg_measure.proofs.GoLemmas.{laid-out}
 use Rattle.gg_measure.proofs.WayLemmas.{steps-up}
@@ -49,7 +51,10 @@ apart net (Serve k q) (Latch c) other one two = refl
 apart net (Serve k q) (Fire c) other one two = refl
 apart net (Serve k q) (Serve m p) other one two =
     one-elsewhere k m (λ same.
-    let port : q ≡ p = same_Some q p (sym one.due ∙ ap (λ j. due (machine_at net.machines j)) same ∙ two.due) in
+    let first : ServeGoes (facts_of net) k q = serve-goes (facts_of net) k q one in
+    let second : ServeGoes (facts_of net) m p = serve-goes (facts_of net) m p two in
+    let turns : first.due.turn ≡ second.due.turn = same_Some first.due.turn second.due.turn (sym first.due.is ∙ ap (facts_of net).due same ∙ second.due.is) in
+    let port : q ≡ p = sym first.due.number ∙ ap (λ (turn : Turn). turn.number) turns ∙ second.due.number in
     other (ap (λ j. Serve j q) same ∙ ap (λ j. Serve m j) port))
 apart net (Serve k q) (Finish m) other one two = refl
 apart net (Finish k) (Latch c) other one two = refl
@@ -152,16 +157,16 @@ module _ (flow : Flow) (upto : ℕ) (old new : Network) (kept : Kept flow old) (
   steps-of = steps-up flow old new layout kept later.kept later.frame has up
 
   behind : (e : Event) → Ready old e → cycle_at old (machine_of old e) < upto → IsBehind (counts_of layout (marking_of old)) (counts_of layout (marking_of new)) e
-  behind (Latch c) can below = omega (arith, later.done.latch c can below, takes-are old layout has c can.can.0, takes-are new layout has-new c (there-new c can.can.0))
-  behind (Fire c) can below = omega (arith, later.done.fire c can below, puts-are old layout has c can.can.0, puts-are new layout has-new c (there-new c can.can.0))
-  behind (Serve m p) can below = let known = machine-known m can.there.0 in omega (arith, later.done.serve m p can below, serves-are flow old kept layout has m known, serves-are flow new later.kept layout has-new m known)
+  behind (Latch c) ready below = let can = latch-can old c ready in omega (arith, later.done.latch c ready below, takes-are old layout has c can.can.0, takes-are new layout has-new c (there-new c can.can.0))
+  behind (Fire c) ready below = let can = fire-can old kept.sound.wired c ready in omega (arith, later.done.fire c ready below, puts-are old layout has c can.can.0, puts-are new layout has-new c (there-new c can.can.0))
+  behind (Serve m p) ready below = let known = machine-known m (serve-can old kept.sound.wired m p ready).there.0 in omega (arith, later.done.serve m p ready below, serves-are flow old kept layout has m known, serves-are flow new later.kept layout has-new m known)
   behind (Finish m) can below = omega (arith, later.done.finish m can below, cycle-at old m, cycle-at new m)
 
   known-event : (e : Event) → Ready old e → IsKnown layout e
-  known-event (Latch c) can = channel-known c can.can.0
-  known-event (Fire c) can = channel-known c can.can.0
-  known-event (Serve m p) can = machine-known m can.there.0
-  known-event (Finish m) can = machine-known m can.there
+  known-event (Latch c) ready = channel-known c (latch-can old c ready).can.0
+  known-event (Fire c) ready = channel-known c (fire-can old kept.sound.wired c ready).can.0
+  known-event (Serve m p) ready = machine-known m (serve-can old kept.sound.wired m p ready).there.0
+  known-event (Finish m) ready = machine-known m (finish-can old kept.sound.wired m ready).there
 
   pub falls-by-ready : (ready : List Event) → AllPairs (λ a b. a ≢ b) ready → All (λ e. Ready old e × (cycle_at old (machine_of old e) < upto)) ready → length ready + net_left new ≤ net_left old
   falls-by-ready ready distinct could =

@@ -6,7 +6,10 @@ use Rattle.gg_flat.proofs.WorkedForms.{only, both}
 use Rattle.gg_node.specs.Machine.{Machine, machine_at, latch_at, flag_at, source_machine, tray_machine}
 use Rattle.gg_net.specs.Network.{Network, Frame, wire_at, producer_of, consumer_of, puts, takes, serves, entered, queue_at, frame_of}
 use Rattle.gg_net.specs.Kept.{list_at, BetweenAt, HasKept, MachineAt, NeedsChannel, Kept}
-use Rattle.gg_net.specs.Step.{CanLatch, CanFire, CanServe, CanFinish}
+use Rattle.gg_net.specs.declared.event.Event.TheVariants.{Latch, Fire, Serve, Finish}
+use Rattle.gg_net.specs.Step.{facts_of, Ready}
+use Rattle.gg_net.proofs.RowLemmas.{latch-goes, fire-goes, serve-goes, finish-goes}
+use Rattle.gg_net.proofs.TableLemmas.{port-there}
 use Rattle.gg_net.proofs.WorkedNets.{fed, fed_wires, fed_flow, fed-wired, fed-solved, no-needs}
 use Rattle.gg_workers_pass.specs.Tries.{StandsBelow}
 use Rattle.gg_workers_pass.specs.Pass.{RisesTo}
@@ -53,29 +56,29 @@ not-untaken rose = omega (arith, (rose.takes 0 (lit< tt)).up)
 
 -- ---- what could be done
 
-may-fire : CanFire fed 0
-may-fire = record { can = (lit< tt, lit< tt); clear = refl; needed = refl; room = lit< tt }
+may-fire : Ready fed (Fire 0)
+may-fire = refl
 
 all-done : ReadyDone 1 fed after
 all-done = record { latch = latch; fire = fire; serve = serve; finish = finish }
   where
-    latch : (c : ℕ) → CanLatch fed c → StandsBelow 1 (consumer_of fed c) → takes fed c < takes after c
+    latch : (c : ℕ) → Ready fed (Latch c) → StandsBelow 1 (consumer_of fed c) → takes fed c < takes after c
     latch zero can below = lit< tt
-    latch (suc c) can below = absurd (omega (arith, can.can.0))
+    latch (suc c) can below = absurd (omega (arith, (latch-goes (facts_of fed) (suc c) can).known))
 
-    fire : (c : ℕ) → CanFire fed c → StandsBelow 1 (producer_of fed c) → puts fed c < puts after c
+    fire : (c : ℕ) → Ready fed (Fire c) → StandsBelow 1 (producer_of fed c) → puts fed c < puts after c
     fire zero can below = lit< tt
-    fire (suc c) can below = absurd (omega (arith, can.can.0))
+    fire (suc c) can below = absurd (omega (arith, (fire-goes (facts_of fed) (suc c) can).known))
 
-    serve : (m p : ℕ) → CanServe fed m p → StandsBelow 1 (machine_at fed.machines m) → serves fed m < serves after m
-    serve zero p can below = absurd (omega (arith, can.there.1))
-    serve (suc zero) p can below = absurd (omega (arith, can.there.1))
-    serve (suc (suc m)) p can below = absurd (omega (arith, can.there.0))
+    serve : (m p : ℕ) → Ready fed (Serve m p) → StandsBelow 1 (machine_at fed.machines m) → serves fed m < serves after m
+    serve zero p can below = absurd (omega (arith, (serve-goes (facts_of fed) 0 p can).port))
+    serve (suc zero) p can below = absurd (omega (arith, (serve-goes (facts_of fed) 1 p can).port))
+    serve (suc (suc m)) p can below = absurd (omega (arith, port-there fed (suc (suc m)) p (serve-goes (facts_of fed) (suc (suc m)) p can).port))
 
-    finish : (m : ℕ) → CanFinish fed m → StandsBelow 1 (machine_at fed.machines m) → (machine_at fed.machines m).cycle < (machine_at after.machines m).cycle
+    finish : (m : ℕ) → Ready fed (Finish m) → StandsBelow 1 (machine_at fed.machines m) → (machine_at fed.machines m).cycle < (machine_at after.machines m).cycle
     finish zero can below = lit< tt
     finish (suc zero) can below = lit< tt
-    finish (suc (suc m)) can below = absurd (omega (arith, can.there))
+    finish (suc (suc m)) can below = absurd (omega (arith, (finish-goes (facts_of fed) (suc (suc m)) can).there))
 
 -- the network handed back unstepped
 not-unstepped : ReadyDone 1 fed fed → ⊥

@@ -6,7 +6,8 @@ use Rattle.gg_flat.specs.Streams.{Flow}
 use Rattle.gg_node.specs.Machine.{machine_at}
 use Rattle.gg_net.specs.Network.{Network, producer_of, consumer_of, puts, takes, serves, frame_of}
 use Rattle.gg_net.specs.Kept.{Kept}
-use Rattle.gg_net.specs.Step.{CanLatch, CanFire, CanServe, CanFinish}
+use Rattle.gg_net.specs.declared.event.Event.TheVariants.{Latch, Fire, Serve, Finish}
+use Rattle.gg_net.specs.Step.{Ready}
 use Rattle.gg_workers_pass.specs.Tries.{StandsBelow}
 use Rattle.gg_workers_pass.specs.Pass.{RisesTo}
 
@@ -19,10 +20,10 @@ pub record CountsRose (upto : ℕ) (old new : Network) : Type 0 where
 
 -- Each event that could be done, of a machine below `upto`, was done: its count has risen.
 pub record ReadyDone (upto : ℕ) (old new : Network) : Type 0 where
-  pub latch : (c : ℕ) → CanLatch old c → StandsBelow upto (consumer_of old c) → takes old c < takes new c
-  pub fire : (c : ℕ) → CanFire old c → StandsBelow upto (producer_of old c) → puts old c < puts new c
-  pub serve : (m p : ℕ) → CanServe old m p → StandsBelow upto (machine_at old.machines m) → serves old m < serves new m
-  pub finish : (m : ℕ) → CanFinish old m → StandsBelow upto (machine_at old.machines m) → (machine_at old.machines m).cycle < (machine_at new.machines m).cycle
+  pub latch : (c : ℕ) → Ready old (Latch c) → StandsBelow upto (consumer_of old c) → takes old c < takes new c
+  pub fire : (c : ℕ) → Ready old (Fire c) → StandsBelow upto (producer_of old c) → puts old c < puts new c
+  pub serve : (m p : ℕ) → Ready old (Serve m p) → StandsBelow upto (machine_at old.machines m) → serves old m < serves new m
+  pub finish : (m : ℕ) → Ready old (Finish m) → StandsBelow upto (machine_at old.machines m) → (machine_at old.machines m).cycle < (machine_at new.machines m).cycle
 
 -- A network that comes back from workers: one of the same flow and frame, so that its counts say all of it.
 pub record IsLater (flow : Flow) (upto : ℕ) (old new : Network) : Type 0 where

@@ -9,6 +9,7 @@ use Rattle.gg_net.specs.declared.shape.Station.{Station}
 use Rattle.gg_net.specs.Network.{wire_at, IsAtIn, IsAtOut, kind_at, Frame}
 use Rattle.gg_net.specs.Kept.{IsWired}
 use Rattle.gg_net.specs.Net.{IsListed}
+use Rattle.gg_net.proofs.WireLemmas.{one-in, one-out}
 use Rattle.gg_workers_pass.specs.SeatLists.{seat_at, AreOnce, RowIsThere, AllThere, RowTakenOut, RowPutBack, AreLeft, IsBack, AreBack}
 
 -- ---- the channels of one machine
@@ -20,14 +21,14 @@ module _ (frame : Frame) (wired : IsWired frame) (m : ℕ) (station : Station) (
       let i : ℕ = (wire_at frame.wires c).place in
       let within : i < (kind_at frame.kinds m).ins = subst (λ k. i < (kind_at frame.kinds k).ins) to (wired.place c there) in
       let at : IsAtIn frame.wires m i (value_at station.ins i) = listed.into i within in
-      (omega (arith, within, listed.ins), wired.one_in (value_at station.ins i) c at.known there (at.machine ∙ sym to) at.place)
+      (omega (arith, within, listed.ins), one-in frame wired (value_at station.ins i) c at.known there (at.machine ∙ sym to) at.place)
 
   pub out-listed : (c : ℕ) → c < length frame.wires → (wire_at frame.wires c).producer ≡ m → ((wire_at frame.wires c).out < length station.outs) × (value_at station.outs (wire_at frame.wires c).out ≡ c)
   out-listed c there from =
       let o : ℕ = (wire_at frame.wires c).out in
       let within : o < (kind_at frame.kinds m).outs = subst (λ k. o < (kind_at frame.kinds k).outs) from (wired.out c there) in
       let at : IsAtOut frame.wires m o (value_at station.outs o) = listed.from o within in
-      (omega (arith, within, listed.outs), wired.one_out (value_at station.outs o) c at.known there (at.machine ∙ sym from) at.out)
+      (omega (arith, within, listed.outs), one-out frame wired (value_at station.outs o) c at.known there (at.machine ∙ sym from) at.out)
 
   pub ins-once : AreOnce station.ins
   ins-once j k low high same =

@@ -6,7 +6,10 @@ use Rattle.gg_link.specs.Seats.{SeatState}
 use Rattle.gg_node.specs.Machine.{Machine, machine_at, latch_at, flag_at, missing}
 use Rattle.gg_net.specs.declared.shape.Station.{Station}
 use Rattle.gg_net.specs.Network.{Network, wire_at, queue_at, puts, takes, kind_at, Frame, frame_of}
-use Rattle.gg_net.specs.Step.{CanLatch, CanFire}
+use Rattle.gg_net.proofs.Can.{CanLatch, CanFire}
+use Rattle.gg_net.specs.Step.{facts_of}
+use Rattle.gg_net.proofs.RowLemmas.{latch-goes, fire-goes}
+use Rattle.gg_net.proofs.TableLemmas.{latch-can, fire-can, serve-can, finish-can}
 use Rattle.gg_net.specs.Kept.{Kept}
 use Rattle.gg_net.specs.Net.{IsListed}
 use Rattle.gg_net.specs.Parted.{takes_by}
@@ -23,8 +26,8 @@ some-of (x ∷ xs) k lt = x
 pub events-later : (net : Network) (m upto : ℕ) (y z : Machine) → EventsDone net m upto y → MachineWentOn (frame_of net) m upto y z → EventsDone net m upto z
 events-later net m upto y z done went =
     record {
-      latch = λ c can to below. omega (arith, done.latch c can to below, (went.takes c can.can.0 to).up);
-      fire = λ c can from below. omega (arith, done.fire c can from below, (went.puts c can.can.0 from).up);
+      latch = λ c can to below. omega (arith, done.latch c can to below, (went.takes c (latch-goes (facts_of net) c can).known to).up);
+      fire = λ c can from below. omega (arith, done.fire c can from below, (went.puts c (fire-goes (facts_of net) c can).known from).up);
       serve = λ p can below. omega (arith, done.serve p can below, went.serves.up);
       finish = λ can below. omega (arith, done.finish can below, went.cycle.up);
     }
@@ -66,12 +69,14 @@ module _ {X S T : Type 0} (takes_from : X → S → Type 0) (puts_into : X → T
   pub events-done : EventsDone net m upto y
   events-done =
       record {
-        latch = latch-done;
-        fire = fire-done;
-        serve = λ p can below.
+        latch = λ c ready. latch-done c (latch-can net c ready);
+        fire = λ c ready. fire-done c (fire-can net kept.sound.wired c ready);
+        serve = λ p ready below.
+            let can = serve-can net kept.sound.wired m p ready in
             subst (λ (z : Machine). length z.ports * z.cycle + z.served < serves_by y) new.machine
             (known.serve p (going below) (subst (λ z. ServeIsDue z p) (sym new.machine) (record { fired = can.fired; due = can.due; fields = can.fields })));
-        finish = λ can below.
+        finish = λ ready below.
+            let can = finish-can net kept.sound.wired m ready in
             subst (λ (z : Machine). z.cycle < y.cycle) new.machine
             (known.finish (going below) (subst FinishIsDue (sym new.machine) (record { fired = can.fired; served = can.served; latched = can.latched })));
       }

@@ -11,7 +11,7 @@ use Rattle.gg_node.specs.Token.{IsNextState}
 use Rattle.gg_node.specs.Step.{AllFired, finished}
 use Rattle.gg_net.specs.declared.shape.Station.{Station}
 use Rattle.gg_net.specs.Network.{Network, wire_at, Kind, kind_of, kind_at, Frame, frame_of}
-use Rattle.gg_net.specs.Step.{fields_at, due_fields}
+use Rattle.gg_net.specs.Readings.{fields_at, due_fields}
 use Rattle.gg_net.specs.Kept.{MachineAt, Kept}
 use Rattle.gg_net.specs.Net.{IsListed}
 use Rattle.gg_net.specs.Parted.{takes_by, enters_by}

@@ -10,7 +10,8 @@ use Rattle.gg_net.specs.declared.shape.Station.{Station}
 use Rattle.gg_net.specs.Network.{Network, wire_at, queue_at, given_by, kind_of, Frame, frame_of, takes, puts, serves}
 use Rattle.gg_net.specs.Kept.{MachineAt}
 use Rattle.gg_net.specs.Parted.{takes_by, enters_by}
-use Rattle.gg_net.specs.Step.{CanLatch, CanFire, CanServe, CanFinish}
+use Rattle.gg_net.specs.declared.event.Event.TheVariants.{Latch, Fire, Serve, Finish}
+use Rattle.gg_net.specs.Step.{Ready}
 use Rattle.gg_workers_pass.specs.declared.machine_seats.MachineSeats.{MachineSeats}
 use Rattle.gg_workers_pass.specs.Tries.{StandsBelow, ServeIsDue, FinishIsDue}
 use Rattle.gg_workers_pass.specs.Rows.{SeatsByPlace}
@@ -66,10 +67,10 @@ module _ {S T : Type 0} (taking : S → SeatState) (putting : T → SeatState) w
 
 -- Each event of machine m that could be done in the network was done, if the machine was below `upto` there. It is y.
 pub record EventsDone (net : Network) (m upto : ℕ) (y : Machine) : Type 0 where
-  pub latch : (c : ℕ) → CanLatch net c → (wire_at net.wires c).consumer ≡ m → StandsBelow upto (machine_at net.machines m) → takes net c < takes_by (frame_of net) y c
-  pub fire : (c : ℕ) → CanFire net c → (wire_at net.wires c).producer ≡ m → StandsBelow upto (machine_at net.machines m) → puts net c < puts_by (frame_of net) y c
-  pub serve : (p : ℕ) → CanServe net m p → StandsBelow upto (machine_at net.machines m) → serves net m < serves_by y
-  pub finish : CanFinish net m → StandsBelow upto (machine_at net.machines m) → (machine_at net.machines m).cycle < y.cycle
+  pub latch : (c : ℕ) → Ready net (Latch c) → (wire_at net.wires c).consumer ≡ m → StandsBelow upto (machine_at net.machines m) → takes net c < takes_by (frame_of net) y c
+  pub fire : (c : ℕ) → Ready net (Fire c) → (wire_at net.wires c).producer ≡ m → StandsBelow upto (machine_at net.machines m) → puts net c < puts_by (frame_of net) y c
+  pub serve : (p : ℕ) → Ready net (Serve m p) → StandsBelow upto (machine_at net.machines m) → serves net m < serves_by y
+  pub finish : Ready net (Finish m) → StandsBelow upto (machine_at net.machines m) → (machine_at net.machines m).cycle < y.cycle
 
 -- ---- the machine at a station, at the station's thread of these machines of a host
 

@@ -7,7 +7,7 @@ use Rattle.gg_link.specs.Seats.{SeatState, SeatWentOn, Counted}
 use Rattle.gg_node.specs.Machine.{Machine, machine_at, latch_at, flag_at, missing, due, first_empty}
 use Rattle.gg_node.specs.Token.{IsNextState}
 use Rattle.gg_node.specs.Step.{with_latch, with_flag, with_served, finished, AllFired, AllLatched}
-use Rattle.gg_net.specs.Step.{due_fields}
+use Rattle.gg_net.specs.Readings.{due_fields}
 
 -- a machine is below the cycle up to which machines are stepped
 abbrev pub StandsBelow : ℕ → Machine → Type 0

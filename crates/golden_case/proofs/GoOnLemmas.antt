@@ -24,7 +24,8 @@ use Rattle.gg_net.specs.declared.event.Event.TheVariants.{Latch, Fire, Serve, Fi
 use Rattle.gg_net.specs.declared.event.StepRefusal.{StepRefusal}
 use Rattle.gg_net.specs.declared.event.StepRefusal.TheVariants.{Stranger}
 use Rattle.gg_net_laws.specs.Goes.{after_step, replayed_from, step_refusal}
-use Rattle.gg_net_laws.specs.Marking.{Layout, Marking, has_port, is_channel, is_machine, opening_marking, or_next, refusal, unless}
+use Rattle.gg_net.specs.Refusal.{or_next, unless}
+use Rattle.gg_net_laws.specs.Marking.{Layout, Marking, opening_marking, refusal}
 use Rattle.gg_net_laws.specs.Marking as marks
 use Rattle.gg_net_laws.specs.Counts.{CanRun, IsAllowed, IsMarkingOf, counts_of}
 use Rattle.gg_net_laws.specs.Measure.{all_dues, left}
@@ -72,7 +73,7 @@ module _ (design : Ordered) (request : Request) (models : Models) (default n : �
 
   -- ---- a step that may be done has names
 
-  channel-named : (c : ℕ) → is_channel layout c ≡ true → c < length naming.channels
+  channel-named : (c : ℕ) → nat_lt c (length layout.links) ≡ true → c < length naming.channels
   channel-named c e =
       let known : c < length layout.links = ltb-true c (length layout.links) e in
       omega (arith, known, laid.channels, length-map-range_with_len (channel_name design.circuit wires) 0 (length wires))
@@ -98,7 +99,7 @@ module _ (design : Ordered) (request : Request) (models : Models) (default n : �
           omega (arith, lt, ports)
       go false e lt = absurd (omega (arith, lt))
 
-  port-named : (m p : ℕ) → has_port layout m p ≡ true → (m < length naming.machines) × (p < length (ports_at naming m))
+  port-named : (m p : ℕ) → nat_lt p (marks.port_count layout m) ≡ true → (m < length naming.machines) × (p < length (ports_at naming m))
   port-named m p e = go (cases_lt m count) (ltb-true p (marks.port_count layout m) e)
     where
       go : (m < count) ⊎ (count ≤ m) → p < marks.port_count layout m → (m < length naming.machines) × (p < length (ports_at naming m))
@@ -116,11 +117,11 @@ module _ (design : Ordered) (request : Request) (models : Models) (default n : �
           absurd (omega (arith, below, past))
 
   free-named : (marking : Marking) (event : Event) → refusal layout marking event ≡ None → HasNames naming event
-  free-named marking (Latch c) e = channel-named c (first-holds (is_channel layout c) Stranger _ e)
-  free-named marking (Fire c) e = channel-named c (first-holds (is_channel layout c) Stranger _ e)
-  free-named marking (Serve m p) e = port-named m p (first-holds (has_port layout m p) Stranger _ e)
+  free-named marking (Latch c) e = channel-named c (first-holds (nat_lt c (length layout.links)) Stranger _ e)
+  free-named marking (Fire c) e = channel-named c (first-holds (nat_lt c (length layout.links)) Stranger _ e)
+  free-named marking (Serve m p) e = port-named m p (first-holds (nat_lt p (marks.port_count layout m)) Stranger _ e)
   free-named marking (Finish m) e =
-      let known : m < length layout.turns = ltb-true m (length layout.turns) (first-holds (is_machine layout m) Stranger _ e) in
+      let known : m < length layout.turns = ltb-true m (length layout.turns) (first-holds (nat_lt m (length layout.turns)) Stranger _ e) in
       machine-named m (omega (arith, known, turns-count))
 
   -- ---- one more line

@@ -49,7 +49,7 @@ use Rattle.gg_build_laws.proofs.OpeningLemmas.{built-opening}
 use Rattle.gg_build_laws.proofs.SolvedLemmas.{stream-at}
 use Rattle.gg_build_laws.proofs.ZeroLemmas.{built-with-zeros}
 use Rattle.gg_build_laws.specs.CutLayout.{IsLayoutOf}
-use Rattle.gg_build_laws.proofs.LayoutLemmas.{plan-layout, plan-in-order}
+use Rattle.gg_build_laws.proofs.LayoutLemmas.{plan-layout}
 use Rattle.gg_replay.specs.ReplayText.{channel_line}
 use Rattle.golden_case.specs.Replay.{Setting, channel_told, naming_of, port_names, replay_text}
 use Rattle.golden_case.specs.RunText.{IsRunBy}
@@ -183,4 +183,4 @@ module _ (design : Ordered) (request : Request) (models : Models) (default : ℕ
 
     pub stopped-so : (events : List (Option Event)) (net : Network) (stopped : Stopped) → StopsAt 1 opening events net stopped → replayed_from laid.0 1 (opening_marking laid.0 0) events ≡ Err stopped
     stopped-so events net stopped stops =
-        ap (λ m. replayed_from laid.0 1 m events) (sym opens) ∙ stops-at flow laid.0 1 opening events net stopped kept laid.1.1 (plan-in-order design request models default plan columns n start rows no_token (opening_of plan.ratios) machines given built) stops
+        ap (λ m. replayed_from laid.0 1 m events) (sym opens) ∙ stops-at flow laid.0 1 opening events net stopped kept laid.1.1 stops

@@ -2,7 +2,7 @@
 use crate::networks::Case;
 use gg_bridge::Echo;
 use gg_build::Node;
-use gg_measure::{left, possible, run_to, run_to_end};
+use gg_measure::{Order, left, possible, run_by, run_to, run_to_end};
 use gg_net::{Net, Streams};
 use net_testing::{is_at_most, keeps};
 
@@ -19,16 +19,30 @@ fn follow<Z: Streams>(net: &mut Net<Node<'_, Echo>, Z>, most: u64) -> u64 {
     most
 }
 
-// Runs a network that is before its first cycle to cycle 1, and then to its end. Returns whether what was left at cycle
-// 1 is what the other cycles take.
+// Runs a network to its end by an order that is noted in its next cycle. Returns whether that could be done.
+fn run_by_order<Z: Streams>(net: &mut Net<Node<'_, Echo>, Z>) -> bool {
+    let alloc = *net.shape().wires.allocator();
+    let Ok(mut order) = Order::new(alloc, net) else {
+        return false;
+    };
+    let end = net.end();
+    let begins = is_at_most(net, end);
+    if begins {
+        run_by(net, &mut order, end);
+    }
+    begins
+}
+
+// Runs a network that is before its first cycle to cycle 1, and then by an order to its end. Returns whether what was left
+// at cycle 1 is what the other cycles take.
 fn run_in_two<Z: Streams>(net: &mut Net<Node<'_, Echo>, Z>, case: &Case) -> bool {
     let begins = net.end() >= 1 && is_at_most(net, 1);
     if begins {
         run_to(net, 1);
     }
     let middle = left(net);
-    run_to_end(net);
-    begins && middle == case.left - case.left / case.end.max(1)
+    let ends = run_by_order(net);
+    begins && ends && middle == case.left - case.left / case.end.max(1)
 }
 
 // Whether nothing is left to do.

@@ -1,7 +1,7 @@
 use Rattle.std.proofs.Common.{◌≡◌}
 use Rattle.gg_net.specs.Step.{Ready, Refused, Step}
 use Rattle.gg_measure.proofs.TellLemmas.{told}
-use Rattle.gg_net.proofs.CauseLemmas.{never}
+use Rattle.gg_net.proofs.TableLemmas.{never}
 use Rattle.gg_measure.proofs.try_event.attempt.Goals as goal
 
 pub returns : goal.returns

@@ -1,6 +1,6 @@
 use Rattle.gg_net.specs.Step.{Ready, Refused}
 use Rattle.gg_measure.proofs.TellLemmas.{told}
-use Rattle.gg_net.proofs.CauseLemmas.{never}
+use Rattle.gg_net.proofs.TableLemmas.{never}
 use Rattle.gg_measure.proofs.try_event.may.Goals as goal
 
 pub returns : goal.returns

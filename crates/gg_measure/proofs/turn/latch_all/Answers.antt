@@ -11,9 +11,9 @@ in_channel-channel-requires-clause-within g c κs within =
 
 pub loop-place-preserved : goal.loop-place-preserved
 loop-place-preserved g c =
-    subst (λ b. HasTried (λ d. Latch d) IsAtIn c.args._cycle c.args.machine (c.loop-place.place + 1) c.args.net.now b c.attempt-done.new.net) (sym c.either-moved.ensures)
-    (latch-tried g.Z.Streams.flow c.args._cycle c.args.machine c.loop-place.place c.in_channel-channel.result c.args.net.now c.loop-place.net c.attempt-done.new.net c.loop-place.moved c.attempt-done.result c.kept-in-loop-place.ensures
-    c.loop-place.invariant c.in_channel-channel.ensures c.attempt-done.ensures)
+    subst (λ b. HasTried (λ d. Latch d) IsAtIn c.args._cycle c.args.machine (c.loop-place.place + 1) c.args.net.now b c.attempt_noted-done.new.net) (sym c.either-moved.ensures)
+    (latch-tried g.Z.Streams.flow c.args._cycle c.args.machine c.loop-place.place c.in_channel-channel.result c.args.net.now c.loop-place.net c.attempt_noted-done.new.net c.loop-place.moved c.attempt_noted-done.result c.kept-in-loop-place.ensures
+    c.loop-place.invariant c.in_channel-channel.ensures c.attempt_noted-done.ensures)
 
 pub returns-clause-none : goal.returns-clause-none
 returns-clause-none g c =

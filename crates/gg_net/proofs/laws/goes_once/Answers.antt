@@ -1,6 +1,6 @@
 -- proofs/laws/goes_once/Answers.antt
 use Rattle.gg_net.proofs.GoesLemmas.{goes, goes-once}
-use Rattle.gg_net.proofs.CauseLemmas.{never}
+use Rattle.gg_net.proofs.TableLemmas.{never}
 use Rattle.gg_net.proofs.laws.goes_once.Goals as goal
 
 pub returns-clause-goes : goal.returns-clause-goes

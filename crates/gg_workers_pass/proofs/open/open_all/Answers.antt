@@ -1,5 +1,5 @@
 use Rattle.std.proofs.Common.{◌∙◌, sym}
-use Rattle.gg_workers_pass.proofs.StandLemmas.{open-step, open-more, open-new}
+use Rattle.gg_workers_pass.proofs.StandLemmas.{open-between, open-step, open-more, open-new}
 use Rattle.gg_workers_pass.proofs.open.open_all.Goals as goal
 
 pub loop-channel-preserved : goal.loop-channel-preserved
@@ -17,3 +17,7 @@ loop-channel-preserved g c =
       puts_room = c.push_reserved-in-loop-channel.ensures.capacity ∙ inv.puts_room;
       takes_room = c.push_reserved-in-loop-channel-2.ensures.capacity ∙ inv.takes_room;
     }
+
+pub open_one-requires-clause-between : goal.open_one-requires-clause-between
+open_one-requires-clause-between g c κs within =
+    open-between g.L.Link.takes_from g.L.Link.puts_into g.L.Link.taking g.L.Link.putting g.Z.Streams.flow g.E.Era.start c.requires.kept c.args.wires.now c.requires.here c.args.starts.now c.requires.starts.1 c.loop-channel.links.items c.loop-channel.put_seats.items c.loop-channel.take_seats.items c.loop-channel.queues.items c.loop-channel.invariant.standing c.loop-channel.channel c.loop-channel.invariant.count c.loop-channel-test.true

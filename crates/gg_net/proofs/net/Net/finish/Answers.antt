@@ -2,7 +2,9 @@ use Rattle.std.proofs.Common.{◌<◌, length, map, sym, subst, arith}
 use Rattle.std.proofs.lemmas.List.{length-map}
 use Rattle.gg_net.specs.Net.{net_of}
 use Rattle.gg_net.specs.Stations.{stationed}
-use Rattle.gg_net.specs.Step.{CanFinish, GoesOn}
+use Rattle.gg_net.specs.Step.{Ready, GoesOn}
+use Rattle.gg_net.specs.declared.event.Event.TheVariants.{Finish}
+use Rattle.gg_net.proofs.TableLemmas.{finish-can}
 use Rattle.gg_net.proofs.CloseLemmas.{finish-stationed, finish-may, finish-goes, finish-closes}
 use Rattle.gg_net.proofs.net.Net.finish.Goals as goal
 
@@ -10,14 +12,14 @@ pub index-requires : goal.index-requires
 index-requires g c =
     let m = c.args.machine in
     let stations = c.self.inside.shape.stations.items in
-    let can = subst (λ n. CanFinish n m) (sym c.self.view_is) c.requires in
+    let can = finish-can (net_of (map g.H.Host.machines c.self.inside.hosts.items) c.self.inside.shape.stations.items c.self.inside.shape.wires.items c.self.inside.queues.items c.self.inside.shape.end) c.self.invariant.kept.sound.wired m (subst (λ n. Ready n (Finish m)) (sym c.self.view_is) c.requires) in
     omega (arith, can.there, length-map stations (stationed (map g.H.Host.machines c.self.inside.hosts.items)))
 
 pub finish-requires-clause-stationed : goal.finish-requires-clause-stationed
 finish-requires-clause-stationed g c =
     let m = c.args.machine in
     let stations = c.self.inside.shape.stations.items in
-    let can = subst (λ n. CanFinish n m) (sym c.self.view_is) c.requires in
+    let can = finish-can (net_of (map g.H.Host.machines c.self.inside.hosts.items) c.self.inside.shape.stations.items c.self.inside.shape.wires.items c.self.inside.queues.items c.self.inside.shape.end) c.self.invariant.kept.sound.wired m (subst (λ n. Ready n (Finish m)) (sym c.self.view_is) c.requires) in
     let below : m < length stations = omega (arith, can.there, length-map stations (stationed (map g.H.Host.machines c.self.inside.hosts.items))) in
     λ κs outlive. finish-stationed c.self.invariant m c.index.result.now below c.index.ensures can
 
@@ -25,7 +27,7 @@ pub finish-requires-clause-may : goal.finish-requires-clause-may
 finish-requires-clause-may g c =
     let m = c.args.machine in
     let stations = c.self.inside.shape.stations.items in
-    let can = subst (λ n. CanFinish n m) (sym c.self.view_is) c.requires in
+    let can = finish-can (net_of (map g.H.Host.machines c.self.inside.hosts.items) c.self.inside.shape.stations.items c.self.inside.shape.wires.items c.self.inside.queues.items c.self.inside.shape.end) c.self.invariant.kept.sound.wired m (subst (λ n. Ready n (Finish m)) (sym c.self.view_is) c.requires) in
     let below : m < length stations = omega (arith, can.there, length-map stations (stationed (map g.H.Host.machines c.self.inside.hosts.items))) in
     λ κs outlive. finish-may c.self.invariant m c.index.result.now below c.index.ensures can
 
@@ -33,7 +35,7 @@ pub invariant_of-self : goal.invariant_of-self
 invariant_of-self g c =
     let m = c.args.machine in
     let stations = c.self.inside.shape.stations.items in
-    let can = subst (λ n. CanFinish n m) (sym c.self.view_is) c.requires in
+    let can = finish-can (net_of (map g.H.Host.machines c.self.inside.hosts.items) c.self.inside.shape.stations.items c.self.inside.shape.wires.items c.self.inside.queues.items c.self.inside.shape.end) c.self.invariant.kept.sound.wired m (subst (λ n. Ready n (Finish m)) (sym c.self.view_is) c.requires) in
     let below : m < length stations = omega (arith, can.there, length-map stations (stationed (map g.H.Host.machines c.self.inside.hosts.items))) in
     finish-closes c.self.invariant m c.index.result.now below c.index.ensures can (map g.H.Host.machines c.finish.new.hosts.items) c.finish.ensures
 
@@ -41,7 +43,7 @@ pub returns : goal.returns
 returns g c =
     let m = c.args.machine in
     let stations = c.self.inside.shape.stations.items in
-    let can = subst (λ n. CanFinish n m) (sym c.self.view_is) c.requires in
+    let can = finish-can (net_of (map g.H.Host.machines c.self.inside.hosts.items) c.self.inside.shape.stations.items c.self.inside.shape.wires.items c.self.inside.queues.items c.self.inside.shape.end) c.self.invariant.kept.sound.wired m (subst (λ n. Ready n (Finish m)) (sym c.self.view_is) c.requires) in
     let below : m < length stations = omega (arith, can.there, length-map stations (stationed (map g.H.Host.machines c.self.inside.hosts.items))) in
     let after = map g.H.Host.machines c.finish.new.hosts.items in
     subst (λ n. GoesOn n m (net_of after stations c.self.inside.shape.wires.items c.self.inside.queues.items c.self.inside.shape.end)) c.self.view_is

@@ -1,9 +1,0 @@
-use Rattle.std.proofs.Common.{Bool}
-use Rattle.gg_measure.specs.Nets.{Goes, net_left}
-use Rattle.gg_measure.proofs.follow.follow.Given as goal
-
-abbrev pub invariant-loop : goal.invariant-loop
-invariant-loop g l = record { moved : Bool; goes : Goes l.cycle l.initial.net moved l.net }
-
-abbrev pub decreases-loop : goal.decreases-loop
-decreases-loop g l = net_left l.net
