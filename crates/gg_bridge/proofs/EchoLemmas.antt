@@ -11,9 +11,9 @@ use Rattle.gg_flat.specs.Reads.{Reads, IsPath}
 use Rattle.gg_flat.specs.Order.{IsOrder}
 use Rattle.gg_flat.specs.Settled.{IsInputs}
 use Rattle.gg_flat.specs.WellFormed.{IsWellFormed, MayDrive, IsRegister, IsClock}
-use Rattle.gg_bridge_joined.specs.Model.{IsModel, IsSaid, IsAnswer}
-use Rattle.gg_bridge_joined.proofs.FormedLemmas.{copy-source}
-use Rattle.gg_bridge_joined.proofs.RunLemmas.{copy-value}
+use Rattle.gg_bridge.specs.Model.{IsModel, IsSaid, IsAnswer}
+use Rattle.gg_bridge.proofs.FormedLemmas.{copy-source}
+use Rattle.gg_bridge.proofs.RunLemmas.{copy-value}
 use Rattle.gg_bridge.specs.Echo.{echo_piece, echo_state}
 
 module _ (ty : Ty) where

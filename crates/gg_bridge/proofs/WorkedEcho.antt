@@ -14,8 +14,8 @@ use Rattle.gg_flat_tree.specs.Tree.{path_at}
 use Rattle.gg_flat.specs.Along.{rows_along}
 use Rattle.gg_flat.proofs.WorkedCircuits.{eight, nine, node}
 use Rattle.gg_flat.proofs.WorkedMemories.{signal, copy}
-use Rattle.gg_bridge_joined.specs.Model.{IsModel}
-use Rattle.gg_bridge_joined.specs.Joined.{CanJoin, joined}
+use Rattle.gg_bridge.specs.Model.{IsModel}
+use Rattle.gg_bridge.specs.Joined.{CanJoin, joined}
 use Rattle.gg_bridge.specs.Echo.{echo_piece}
 use Rattle.gg_bridge.specs.Ports.{CanStand, IsAmong, joined_at, seen_at}
 

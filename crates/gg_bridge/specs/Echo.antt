@@ -5,7 +5,7 @@ use Rattle.gg_bits.specs.declared.types.Ty.{Ty}
 use Rattle.gg_flat.specs.declared.piece.Driver.TheVariants.{Input, Held}
 use Rattle.gg_flat.specs.Circuit.{FlatCircuit}
 use Rattle.gg_flat.specs.State.{State}
-use Rattle.gg_bridge_joined.specs.Joined.{copy_line}
+use Rattle.gg_bridge.specs.Joined.{copy_line}
 
 -- its in-signal, its out-signal, which is a register, and that register, which takes the in-signal in each tick
 abbrev pub echo_piece : Ty → FlatCircuit

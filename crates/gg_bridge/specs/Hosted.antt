@@ -9,8 +9,8 @@ use Rattle.gg_flat.specs.Line.{shape_at}
 use Rattle.gg_flat.specs.State.{State}
 use Rattle.gg_flat.specs.Settled.{in_shapes}
 use Rattle.gg_node.specs.Machine.{RunsPiece, Machine, latch_at}
-use Rattle.gg_bridge_joined.specs.Model.{IsModel, IsSaid}
-use Rattle.gg_bridge_joined.specs.Turned.{turned, AreAllPlaces}
+use Rattle.gg_bridge.specs.Model.{IsModel, IsSaid}
+use Rattle.gg_bridge.specs.Turned.{turned, AreAllPlaces}
 
 -- the machine of this model, at this moment of its run
 abbrev pub bridge_machine : FlatCircuit → ℕ → State → List (Option ℕ) → List Bool → Machine

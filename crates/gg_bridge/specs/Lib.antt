@@ -1,3 +1,9 @@
 pub mod Echo
 pub mod Hosted
 pub mod Ports
+pub mod Model
+pub mod Joined
+pub mod Turned
+pub mod All
+pub mod JoinedRuns
+pub mod JoinedParts

@@ -4,7 +4,7 @@ use Rattle.std.specs.Prelude.{◌≡◌, ℕ, List, [], ◌∷◌, ◌++◌, Boo
 use Rattle.std.specs.List.{list_any}
 use Rattle.gg_flat.specs.Circuit.{FlatCircuit}
 use Rattle.gg_flat.specs.Line.{value_at}
-use Rattle.gg_bridge_joined.specs.Joined.{CanJoin, joined, place_at}
+use Rattle.gg_bridge.specs.Joined.{CanJoin, joined, place_at}
 
 -- what the paths of a bridge's model begin with
 abbrev pub front_of : List ℕ → List ℕ

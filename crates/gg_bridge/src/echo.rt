@@ -1,7 +1,7 @@
 //! `Echo`: a bridge that says what it saw in the cycle before.
 ghost use Rattle.std.specs.Prelude.{◌≡◌, ◌≤◌, ◌<◌, ◌-◌, ◌^◌, [], ◌∷◌, ◌++◌, length, IfOk, OnOk};
 ghost use Rattle.gg_bits.specs.declared.types.Kind.TheVariants.{UInt};
-ghost use Rattle.gg_bridge_joined.specs.Joined.{copy_line};
+ghost use Rattle.gg_bridge.specs.Joined.{copy_line};
 ghost use Rattle.gg_bridge.specs.Echo.{echo_piece, echo_state};
 
 use crate::bridge::Bridge;

@@ -4,7 +4,7 @@ ghost use Rattle.gg_flat.specs.Line.{value_at};
 ghost use Rattle.gg_node.specs.Machine.{IsTray, Machine, machine_at, latch_at, flag_at, latched_value, missing, due};
 ghost use Rattle.gg_node.specs.Token.{IsToken, IsNextState};
 ghost use Rattle.gg_node.specs.Step.{MayLatch, MayFire, MayServe, MayFinish, with_latch, with_flag, with_served, finished};
-ghost use Rattle.gg_bridge_joined.specs.Turned.{turned, AreAllPlaces};
+ghost use Rattle.gg_bridge.specs.Turned.{turned, AreAllPlaces};
 ghost use Rattle.gg_bridge.specs.Hosted.{started_bridge, ArePorts};
 
 use crate::bridge::Bridge;
@@ -32,7 +32,7 @@ pub struct Hosted<B: Bridge + Drop> {
 
 impl<B: Bridge + Drop> Model for Hosted<B> {
     ghost use Rattle.gg_node.specs.Machine.{Machine};
-    ghost use Rattle.gg_bridge_joined.specs.Turned.{turned};
+    ghost use Rattle.gg_bridge.specs.Turned.{turned};
     ghost use Rattle.gg_bridge.specs.Hosted.{bridge_machine, IsHosted};
 
     ghost Value = { Machine };

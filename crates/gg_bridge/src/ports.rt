@@ -1,11 +1,11 @@
 //! `join`: a design with a bridge's model at its ports.
 ghost use Rattle.std.specs.Prelude.{◌≡◌, ◌≢◌, ◌++◌, AllPairs, codes, length, map, string_bytes, IfOk};
-ghost use Rattle.gg_bridge_joined.specs.Joined.{HasPlaces};
-ghost use Rattle.gg_bridge_joined.specs.Model.{IsModel};
+ghost use Rattle.gg_bridge.specs.Joined.{HasPlaces};
+ghost use Rattle.gg_bridge.specs.Model.{IsModel};
 ghost use Rattle.gg_bridge.specs.Ports.{CanStand, earlier, first_called, front_of, joined_at, picked, place_by};
 
 use gg_bits::{Name, Names};
-use gg_bridge_joined::{place_at, places_of};
+use crate::{place_at, places_of};
 use gg_flat::Piece;
 use gg_order::Design;
 use std::alloc::{AllocError, Global};
@@ -122,5 +122,5 @@ pub fn join(
     let driven = all_called(alloc, piece, piece.ins(), drives.as_slice())?;
     let mut front = behind(alloc, "bridge:", name)?;
     front.push_str(".")?;
-    gg_bridge_joined::join(alloc, design, front.as_str(), model, &seen, &driven)
+    crate::designs::join(alloc, design, front.as_str(), model, &seen, &driven)
 }

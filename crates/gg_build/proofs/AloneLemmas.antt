@@ -14,12 +14,12 @@ use Rattle.gg_cut_plan.specs.Fault.{first_fault_with}
 use Rattle.gg_cut_plan.specs.Held.{AreHeldOnce}
 use Rattle.gg_cut_plan.specs.Listed.{listed_of}
 use Rattle.gg_cut_plan.specs.Plan.{IsBody, IsPlan}
-use Rattle.gg_cut_seats.specs.Fitting.{AreModels}
+use Rattle.gg_cut_reference.specs.fitting.Fitting.{AreModels}
 use Rattle.gg_cut_reference.specs.Made.{plan_reference}
 use Rattle.gg_cut_reference.proofs.PlanLemmas.{plan-columns}
-use Rattle.gg_bridged.specs.Whole.{CanBridge, HasFreeFronts, plan_circuit, with_bridges}
-use Rattle.gg_bridged.proofs.PlanLemmas.{faultless as no-fault}
-use Rattle.gg_build_laws.specs.Built.{nameless}
+use Rattle.gg_cut_reference.specs.whole.Whole.{CanBridge, HasFreeFronts, plan_circuit, with_bridges}
+use Rattle.gg_cut_reference.proofs.WholeLemmas.PlanLemmas.{faultless as no-fault}
+use Rattle.gg_build.specs.plan.Built.{nameless}
 use Rattle.gg_build.specs.Build.{HasBridges, NeedsNone}
 
 pub needs-none : (design : Ordered) (request : Request) (models : Models) (default : ℕ) (plan : Plan) → IsPlan design request models default plan → request.bridges ≡ [] → NeedsNone plan

@@ -4,7 +4,7 @@ use Rattle.gg_bits.specs.Limits.{capacity_limit, cycle_limit}
 use Rattle.gg_flat.specs.Circuit.{FlatCircuit}
 use Rattle.gg_flat.specs.Order.{IsOrder}
 use Rattle.gg_flat.specs.Run.{IsColumns, IsRunFrom, Start}
-use Rattle.gg_flat_run.proofs.AlongLemmas.{IsRunFrom-along}
+use Rattle.gg_order.proofs.RunsLemmas.AlongLemmas.{IsRunFrom-along}
 use Rattle.gg_flat.proofs.OrderLemmas.{IsLoop-none}
 use Rattle.gg_order.specs.Design.{Ordered}
 use Rattle.gg_partfile.specs.declared.request.Request.{Request}
@@ -16,11 +16,11 @@ use Rattle.gg_cut_plan.specs.Solves.{AreRows}
 use Rattle.gg_cut_reference.specs.Follows.{plan_start}
 use Rattle.gg_cut_reference.specs.Made.{plan_reference}
 use Rattle.gg_cut_reference.proofs.StartLemmas.{plan-typed}
-use Rattle.gg_bridged.specs.Whole.{CanBridge, plan_begin, plan_circuit}
+use Rattle.gg_cut_reference.specs.whole.Whole.{CanBridge, plan_begin, plan_circuit}
 use Rattle.gg_order.proofs.FoundLemmas.{found-is}
-use Rattle.gg_bridged.proofs.PlanLemmas.{circuit-formed, circuit-ordered}
-use Rattle.gg_bridged.proofs.StateLemmas.{states-with}
-use Rattle.gg_build_laws.specs.Built.{IsGiven}
+use Rattle.gg_cut_reference.proofs.WholeLemmas.PlanLemmas.{circuit-formed, circuit-ordered}
+use Rattle.gg_cut_reference.proofs.WholeLemmas.StateLemmas.{states-with}
+use Rattle.gg_build.specs.plan.Built.{IsGiven}
 use Rattle.gg_build.specs.Build.{IsToRun, circuit_order, circuit_rows, flow_along}
 
 module _ (design : Ordered) (request : Request) (models : Models) (default : ℕ) (plan : Plan) (columns : List (List ℕ)) (n : ℕ) (can : CanBridge design request models) (held : AreHeldOnce design.circuit) (planned : IsPlan design request models default plan)

@@ -18,8 +18,8 @@ use Rattle.gg_cut_reference.specs.Follows.{plan_start, plan_token}
 use Rattle.gg_cut_reference.proofs.StartLemmas.{start-token}
 use Rattle.gg_node.specs.Machine.{Machine, machine_at, no_state}
 use Rattle.gg_net.specs.Network.{Network}
-use Rattle.gg_build_laws.specs.Built.{AreBuilt, IsBuilt, body_start, machine_in, nameless, no_token, opening_of}
-use Rattle.gg_build_laws.proofs.ZeroLemmas.{begins-there}
+use Rattle.gg_build.specs.plan.Built.{AreBuilt, IsBuilt, body_start, machine_in, nameless, no_token, opening_of}
+use Rattle.gg_build.proofs.PlanLemmas.ZeroLemmas.{begins-there}
 use Rattle.gg_build.specs.declared.begin.Begin.{Begin}
 use Rattle.gg_build.specs.Begin.{AreTokens, part_begin, starts_of, state_from}
 use Rattle.gg_build.specs.Build.{Begins, IsOpeningFrom, IsOpeningOf, IsStarted, IsToBegin, IsToRun, IsToStart}

@@ -12,7 +12,7 @@ use Rattle.gg_cut_plan.specs.declared.plan.Body.{Body}
 use Rattle.gg_cut_plan.specs.declared.plan.Body.TheVariants.{Cut, Memory, Source, Tray, Bridge}
 use Rattle.gg_cut_plan.specs.declared.plan.Machine as planned
 use Rattle.gg_cut_plan.specs.declared.plan.Plan.{Plan}
-use Rattle.gg_build_laws.specs.Built.{machine_in}
+use Rattle.gg_build.specs.plan.Built.{machine_in}
 use Rattle.gg_build.specs.Bridges.{Table, AreApart, HasOwn, KeepsOthers, TellsBridges, bridge_named}
 use Rattle.gg_build.specs.Build.{HasBridges}
 use Rattle.gg_build.specs.Hosts.{AreAllApart, HaveBridges, first_body}

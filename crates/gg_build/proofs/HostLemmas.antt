@@ -13,7 +13,7 @@ use Rattle.gg_cut_plan.specs.declared.plan.Body.TheVariants.{Cut, Memory, Source
 use Rattle.gg_cut_plan.specs.declared.plan.BridgeBody.{BridgeBody}
 use Rattle.gg_cut_plan.specs.declared.plan.Machine as planned
 use Rattle.gg_part.specs.declared.part.Part.{Part}
-use Rattle.gg_part_needs.specs.Needs.{AreNeedsOfOuts}
+use Rattle.gg_order.specs.needs.Needs.{AreNeedsOfOuts}
 use Rattle.gg_program.specs.Programmed.{Programmed}
 use Rattle.gg_node.specs.Machine.{Machine, first_kept, machine_at, no_machine, IsTray, kept_value}
 use Rattle.gg_fame5.specs.Machine.{started_unit}
@@ -22,7 +22,7 @@ use Rattle.gg_fame5.specs.Shared.{Sharing}
 use Rattle.gg_fame5.specs.Shared as shared
 use Rattle.gg_net.specs.Net.{entry_of}
 use Rattle.gg_net.specs.declared.shape.ServedPort.{ServedPort}
-use Rattle.gg_build_laws.specs.Built.{IsUnitOf}
+use Rattle.gg_build.specs.plan.Built.{IsUnitOf}
 use Rattle.gg_build.specs.declared.node.Node.{Node}
 use Rattle.gg_build.specs.Groups.{group_at}
 use Rattle.gg_build.specs.Hosts.{IsUnitPart, IsGroup, IsAlone, IsBuiltWith, IsHost, IsHostOf, AreHosts, AreUnits, body_at, outs_at}

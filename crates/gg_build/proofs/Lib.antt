@@ -12,3 +12,4 @@ pub mod OpenLemmas
 pub mod AlongLemmas
 pub mod AloneLemmas
 pub mod WorkedPlacement
+pub mod PlanLemmas

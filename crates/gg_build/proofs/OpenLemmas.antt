@@ -14,14 +14,14 @@ use Rattle.gg_net.specs.Network.{Network, Kind, kind_of, kind_at, IsAtIn, IsAtOu
 use Rattle.gg_net.specs.Stations.{stationed, machines_by}
 use Rattle.gg_net.specs.Kept.{IsSound}
 use Rattle.gg_net.specs.Net.{entry_of, IsListed, opening_net, Opens}
-use Rattle.gg_bridged.proofs.PortLemmas.{plan-ins}
-use Rattle.gg_bridged.proofs.RunLemmas.{whole-runs}
-use Rattle.gg_build_laws.specs.Built.{machine_in, wires_of_plan, AreBuilt, IsBuilt, body_start, flow_of, plan_frame}
-use Rattle.gg_build_laws.proofs.PlanLemmas.{plan-listed, plan-wired, plan-no-ring}
-use Rattle.gg_build_laws.proofs.FitLemmas.{kind-is}
-use Rattle.gg_build_laws.proofs.SolvedLemmas.{plan-solved}
-use Rattle.gg_build_laws.proofs.OpeningLemmas.{built-opening}
-use Rattle.gg_build_laws.proofs.WithinLemmas.{plan-within}
+use Rattle.gg_cut_reference.proofs.WholeLemmas.PortLemmas.{plan-ins}
+use Rattle.gg_cut_reference.proofs.WholeLemmas.RunLemmas.{whole-runs}
+use Rattle.gg_build.specs.plan.Built.{machine_in, wires_of_plan, AreBuilt, IsBuilt, body_start, flow_of, plan_frame}
+use Rattle.gg_build.proofs.PlanLemmas.PlanLemmas.{plan-listed, plan-wired, plan-no-ring}
+use Rattle.gg_build.proofs.PlanLemmas.FitLemmas.{kind-is}
+use Rattle.gg_build.proofs.PlanLemmas.SolvedLemmas.{plan-solved}
+use Rattle.gg_build.proofs.PlanLemmas.OpeningLemmas.{built-opening}
+use Rattle.gg_build.proofs.PlanLemmas.WithinLemmas.{plan-within}
 use Rattle.gg_build.specs.declared.node.Node.{Node}
 use Rattle.gg_build.specs.Node.{machines_of}
 use Rattle.gg_build.specs.declared.begin.Begin.{Begin}

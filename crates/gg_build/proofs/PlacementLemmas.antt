@@ -12,7 +12,7 @@ use Rattle.gg_node.specs.Machine.{Machine, machine_at, no_machine}
 use Rattle.gg_net.specs.declared.shape.Station.{Station}
 use Rattle.gg_net.specs.Net.{entry_of}
 use Rattle.gg_net.specs.Stations.{hosted, stationed, IsStationed, HasStation, AreStationed}
-use Rattle.gg_build_laws.specs.Built.{machine_in, nameless}
+use Rattle.gg_build.specs.plan.Built.{machine_in, nameless}
 use Rattle.gg_build.specs.declared.node.Node.{Node}
 use Rattle.gg_build.specs.declared.node.Node.TheVariants as node
 use Rattle.gg_build.specs.Groups.{group_at, IsMember, AreGroups, HasEarlier}

@@ -16,15 +16,15 @@ use Rattle.gg_cut_plan.specs.Hosts.{machine_of, least_machine, group_of, leader_
 use Rattle.gg_cut_plan.specs.Listed.{listed_of}
 use Rattle.gg_cut_plan.specs.Plan.{wire_at, IsBody}
 use Rattle.gg_cut_plan.proofs.RangeLemmas.{filter-few}
-use Rattle.gg_cut_laws.proofs.FaultlessLemmas.{faultless-few}
+use Rattle.gg_cut_split.proofs.ClosedLemmas.FaultlessLemmas.{faultless-few}
 use Rattle.gg_cut_reference.specs.Made.{plan_reference}
-use Rattle.gg_bridged.proofs.PlanLemmas.{faultless as no-fault}
-use Rattle.gg_bridged.proofs.PortLemmas.{plan-ins}
-use Rattle.gg_build_laws.specs.Built.{IsGiven, body_start, machine_in, nameless}
-use Rattle.gg_build_laws.proofs.BodyLemmas.{attached-once, attached-ports, unit-formed, unit-ordered, source-known, source-some, source-few}
-use Rattle.gg_build_laws.proofs.FitLemmas.{outs-count}
-use Rattle.gg_build_laws.proofs.StandLemmas.{memory-formed, memory-chosen, memory-alone}
-use Rattle.gg_build_laws.proofs.SeenLemmas.{seen-typed}
+use Rattle.gg_cut_reference.proofs.WholeLemmas.PlanLemmas.{faultless as no-fault}
+use Rattle.gg_cut_reference.proofs.WholeLemmas.PortLemmas.{plan-ins}
+use Rattle.gg_build.specs.plan.Built.{IsGiven, body_start, machine_in, nameless}
+use Rattle.gg_build.proofs.PlanLemmas.BodyLemmas.{attached-once, attached-ports, unit-formed, unit-ordered, source-known, source-some, source-few}
+use Rattle.gg_build.proofs.PlanLemmas.FitLemmas.{outs-count}
+use Rattle.gg_build.proofs.PlanLemmas.StandLemmas.{memory-formed, memory-chosen, memory-alone}
+use Rattle.gg_build.proofs.PlanLemmas.SeenLemmas.{seen-typed}
 use Rattle.gg_build.specs.declared.begin.Begin.{Begin}
 use Rattle.gg_build.specs.Begin.{starts_of}
 use Rattle.gg_build.specs.Build.{IsFaultless, IsToStart}

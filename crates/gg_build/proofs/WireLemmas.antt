@@ -12,14 +12,14 @@ use Rattle.gg_cut_plan.specs.Direct.{plan_routes}
 use Rattle.gg_cut_plan.specs.Seated.{plan_bridges, plan_wires, seated_wire}
 use Rattle.gg_cut_plan.specs.Plan.{wire_at as link_at, channels_to, channels_from}
 use Rattle.gg_cut_plan.proofs.RangeLemmas.{filter-few}
-use Rattle.gg_cut_laws.proofs.FaultlessLemmas.{faultless-few}
-use Rattle.gg_bridged.proofs.PlanLemmas.{faultless as no-fault}
+use Rattle.gg_cut_split.proofs.ClosedLemmas.FaultlessLemmas.{faultless-few}
+use Rattle.gg_cut_reference.proofs.WholeLemmas.PlanLemmas.{faultless as no-fault}
 use Rattle.gg_net.specs.declared.shape.Wire.{Wire}
 use Rattle.gg_net.specs.Network.{wire_at}
-use Rattle.gg_build_laws.specs.Built.{nameless, first_token, wire_of, wires_of_plan}
-use Rattle.gg_build_laws.proofs.LinkLemmas.{AreLinks, length-from, wire-from}
-use Rattle.gg_build_laws.proofs.ListedLemmas.{given-at, given-in, taken-at, taken-in, at-in, at-out}
-use Rattle.gg_build_laws.proofs.GivenLemmas.{links-of}
+use Rattle.gg_build.specs.plan.Built.{nameless, first_token, wire_of, wires_of_plan}
+use Rattle.gg_build.proofs.PlanLemmas.LinkLemmas.{AreLinks, length-from, wire-from}
+use Rattle.gg_build.proofs.PlanLemmas.ListedLemmas.{given-at, given-in, taken-at, taken-in, at-in, at-out}
+use Rattle.gg_build.proofs.PlanLemmas.GivenLemmas.{links-of}
 use Rattle.gg_build.specs.Begin.{AreTokens}
 use Rattle.gg_build.specs.Build.{IsFaultless}
 use Rattle.gg_build.specs.Wires.{channels_at, IsPlace, AreListed, ArePlaces, AreWires}

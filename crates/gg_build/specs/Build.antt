@@ -17,11 +17,11 @@ use Rattle.gg_cut_plan.specs.declared.plan.BridgeBody.{BridgeBody}
 use Rattle.gg_cut_plan.specs.Plan.{IsPlan}
 use Rattle.gg_cut_reference.specs.Follows.{plan_start, plan_token}
 use Rattle.gg_order.specs.Found.{found_order}
-use Rattle.gg_bridged.specs.Whole.{CanBridge, plan_begin, plan_circuit}
+use Rattle.gg_cut_reference.specs.whole.Whole.{CanBridge, plan_begin, plan_circuit}
 use Rattle.gg_node.specs.Machine.{Machine}
 use Rattle.gg_net.specs.Network.{Network}
 use Rattle.gg_net.specs.Net.{opening_net}
-use Rattle.gg_build_laws.specs.Built.{AreBuilt, IsGiven, body_start, flow_of, machine_in, no_token, opening_of, wires_of_plan}
+use Rattle.gg_build.specs.plan.Built.{AreBuilt, IsGiven, body_start, flow_of, machine_in, no_token, opening_of, wires_of_plan}
 use Rattle.gg_build.specs.declared.begin.Begin.{Begin}
 use Rattle.gg_build.specs.Begin.{AreTokens, starts_of}
 

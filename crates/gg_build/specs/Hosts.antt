@@ -22,8 +22,8 @@ use Rattle.gg_node.specs.Machine.{Machine, machine_at}
 use Rattle.gg_net.specs.declared.shape.Station.{Station}
 use Rattle.gg_net.specs.Net.{entry_of}
 use Rattle.gg_net.specs.Stations.{AreStationed, stationed}
-use Rattle.gg_build_laws.specs.Alone.{IsCutAgain}
-use Rattle.gg_build_laws.specs.Built.{IsBuilt, IsUnitOf, machine_in, nameless}
+use Rattle.gg_build.specs.plan.Alone.{IsCutAgain}
+use Rattle.gg_build.specs.plan.Built.{IsBuilt, IsUnitOf, machine_in, nameless}
 use Rattle.gg_build.specs.declared.node.Node.{Node}
 use Rattle.gg_build.specs.declared.node.Node.TheVariants as node
 use Rattle.gg_build.specs.Bridges.{Table, AreApart, HasOwn}

@@ -5,7 +5,7 @@ use Rattle.gg_flat.specs.Line.{value_at}
 use Rattle.gg_cut_plan.specs.declared.plan.Channel.{Channel}
 use Rattle.gg_net.specs.declared.shape.Wire.{Wire}
 use Rattle.gg_net.specs.Network.{wire_at}
-use Rattle.gg_build_laws.specs.Built.{first_token}
+use Rattle.gg_build.specs.plan.Built.{first_token}
 
 -- channel c is at place p of the list of a machine
 pub record IsPlaceAt (channels : List ℕ) (c p : ℕ) : Type 0 where

@@ -5,7 +5,7 @@ ghost use Rattle.gg_flat.specs.Memory.{bank_at};
 ghost use Rattle.gg_part.specs.PartRun.{part_state};
 ghost use Rattle.gg_build.specs.Begin.{state_from};
 
-use gg_flat_run::{Bank, State};
+use gg_order::{Bank, State};
 use gg_part::Part;
 use std::alloc::{AllocError, Global};
 

@@ -1,7 +1,7 @@
 //! The bridges that are handed in, by their names.
 ghost use Rattle.std.specs.Prelude.{◌≡◌, ◌≢◌, map, AllPairs, IfOk, OnOk};
 ghost use Rattle.gg_flat.specs.State.{opening};
-ghost use Rattle.gg_bridge_joined.specs.Turned.{turned};
+ghost use Rattle.gg_bridge.specs.Turned.{turned};
 ghost use Rattle.gg_bridge.specs.Hosted.{started_bridge, ArePorts};
 ghost use Rattle.gg_cut_plan.specs.declared.plan.Body.TheVariants.{Bridge as OfBridge};
 ghost use Rattle.gg_build.specs.Bridges.{IsTold, KeepsOthers, TellsBridges};

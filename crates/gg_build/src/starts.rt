@@ -7,7 +7,7 @@ ghost use Rattle.gg_build.specs.Hosts.{ratios_for, states_for};
 use crate::begin::{Begin, own_state};
 use gg_clocks::{Ratio, Ratios};
 use gg_cut_plan::{Body, Machine, part_ratios};
-use gg_flat_run::State;
+use gg_order::State;
 use gg_part::Part;
 use std::alloc::{AllocError, Global};
 

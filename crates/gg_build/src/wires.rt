@@ -2,7 +2,7 @@
 ghost use Rattle.std.specs.Prelude.{◌≡◌, ◌^◌, ◌<◌, ◌≤◌, ℕ, length, map, All, IfOk, slice_index_or};
 ghost use Rattle.gg_flat.specs.Line.{value_at};
 ghost use Rattle.gg_cut_plan.specs.declared.plan.Channel.{Channel};
-ghost use Rattle.gg_build_laws.specs.Built.{first_token, wires_of_plan};
+ghost use Rattle.gg_build.specs.plan.Built.{first_token, wires_of_plan};
 ghost use Rattle.gg_build.specs.Begin.{AreTokens};
 ghost use Rattle.gg_build.specs.Build.{IsFaultless};
 ghost use Rattle.gg_build.specs.Wires.{IsNoted, AreListed, ArePlaces, AreWires};

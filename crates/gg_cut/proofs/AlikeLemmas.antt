@@ -18,8 +18,8 @@ use Rattle.gg_cut_plan.specs.Hosts.{leader}
 use Rattle.gg_cut_plan.specs.Machines.{machine_count}
 use Rattle.gg_cut_plan.specs.Plan.{IsCutBody, IsCutMachine}
 use Rattle.gg_cut.specs.Made.{HasAscending, IsTimedUnit, IsMadeBody, AreMachinesTo, AreMachines}
-use Rattle.gg_cut_bridges.proofs.HostLemmas.{leader-below}
-use Rattle.gg_cut_bridges.proofs.LeaderLemmas.{leaders-first, one-host}
+use Rattle.gg_cut_machines.proofs.HostLemmas.{leader-below}
+use Rattle.gg_cut_machines.proofs.LeaderLemmas.{leaders-first, one-host}
 
 -- ---- pieces that are alike
 

@@ -16,3 +16,4 @@ pub mod WorkedPipe
 pub mod WorkedCore
 pub mod WorkedBridge
 pub mod FirstLemmas
+pub mod ExistenceLemmas

@@ -7,7 +7,7 @@ use Rattle.std.proofs.lemmas.List.Elements.{Contains-get_or}
 use Rattle.std.proofs.lemmas.List.FromFn.{length-range_with_len, get_or-range_with_len}
 use Rattle.gg_flat.specs.Line.{value_at}
 use Rattle.gg_flat.proofs.ListLemmas.{Contains-filter, filter-cases, numbers-up, once-apart}
-use Rattle.gg_part_needs.specs.Needs.{AreNeeds, AreNeedsOfOuts}
+use Rattle.gg_order.specs.needs.Needs.{AreNeeds, AreNeedsOfOuts}
 use Rattle.gg_part.specs.declared.part.Part.{Part}
 use Rattle.gg_cut_plan.specs.declared.plan.Body.{Body}
 use Rattle.gg_cut_plan.specs.declared.plan.Body.TheVariants.{Cut, Memory}

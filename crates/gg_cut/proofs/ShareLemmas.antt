@@ -12,7 +12,7 @@ use Rattle.gg_cut_plan.specs.Listed.{listed_of}
 use Rattle.gg_cut_plan.specs.Machines.{machine_count}
 use Rattle.gg_cut_plan.specs.Direct.{Hub, hub_of, plan_hub, routes, is_gone, is_piped, is_driven}
 use Rattle.gg_cut_plan.specs.Plan.{channels_to, channels_from}
-use Rattle.gg_cut_laws.specs.Apart.{AreApart}
+use Rattle.gg_cut_split.specs.closed.Apart.{AreApart}
 use Rattle.gg_cut_split.specs.declared.share.Share.{Share}
 use Rattle.gg_cut_split.specs.IsShare.{IsShare, AreShares}
 use Rattle.gg_cut_split.specs.Spread.{AreLists}

@@ -15,7 +15,7 @@ use Rattle.gg_flat.specs.declared.piece.Driver.TheVariants.{Input, Held, MemoryW
 use Rattle.gg_flat.specs.Line.{value_at}
 use Rattle.gg_flat.specs.Circuit.{FlatCircuit, driver_at}
 use Rattle.gg_flat.specs.Reads.{Names, NamesSignal, Reads, Reaches}
-use Rattle.gg_part_needs.proofs.ReachLemmas.{Reaches-on, along-reaches}
+use Rattle.gg_order.proofs.NeedsLemmas.ReachLemmas.{Reaches-on, along-reaches}
 use Rattle.gg_order.specs.Marks.{is_marked}
 use Rattle.gg_part.specs.Part.{NamesBelow}
 use Rattle.gg_part.specs.InOrder.{IsInOrder}

@@ -12,7 +12,7 @@ use Rattle.gg_cut.specs.Made.{IsMadeBody, AreChannels, AreMachines, AreMachinesT
 use Rattle.gg_cut_parts.specs.declared.draft.Draft.{Draft}
 use Rattle.gg_cut_parts.specs.declared.machine_draft.MachineDraft.{MachineDraft}
 use Rattle.gg_cut_parts.specs.Draft.{draft_hub}
-use Rattle.gg_cut_bridges.specs.Seating.{draft_wires}
+use Rattle.gg_cut_machines.specs.Seating.{draft_wires}
 
 -- what machine m of a draft does, as if there were no bridges
 abbrev pub IsDraftBody : Draft → ℕ → Body → Type 0

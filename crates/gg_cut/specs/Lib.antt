@@ -1,2 +1,3 @@
 pub mod Drafted
 pub mod Made
+pub mod existence

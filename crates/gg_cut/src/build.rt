@@ -10,7 +10,7 @@ ghost use Rattle.gg_cut_plan.specs.Fault.{IsSmall, Tells, first_fault_with};
 ghost use Rattle.gg_cut_plan.specs.Plan.{IsPlan};
 ghost use Rattle.gg_cut_parts.specs.Draft.{IsDraft};
 ghost use Rattle.gg_cut.specs.Drafted.{AreDraftChannels};
-ghost use Rattle.gg_cut_bridges.specs.Seating.{AreDraftSeats, ArePlannedMachines};
+ghost use Rattle.gg_cut_machines.specs.Seating.{AreDraftSeats, ArePlannedMachines};
 ghost use Rattle.gg_cut.specs.Made.{IsCapacity};
 
 use crate::channels::channels_of;
@@ -19,7 +19,7 @@ use crate::machines::machines_of;
 use crate::needs::needs_table;
 use gg_bits::Items;
 use gg_clocks::Ratio;
-use gg_cut_bridges::{Seats, seat_machines, seats_of};
+use gg_cut_machines::{Seats, seat_machines, seats_of};
 use gg_cut_parts::Draft;
 use gg_cut_plan::{Channel, CutFault, Machine, Models, Plan, Wire};
 use gg_cut_rules::clock_ratios;

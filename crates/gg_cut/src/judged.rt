@@ -9,7 +9,7 @@ ghost use Rattle.gg_cut_plan.specs.Listed.{listed_of};
 ghost use Rattle.gg_cut_parts.specs.Draft.{IsDraft};
 ghost use Rattle.gg_cut.specs.Made.{IsCapacity};
 
-use gg_cut_laws::listed_apart;
+use gg_cut_split::listed_apart;
 use gg_cut_parts::Draft;
 use gg_cut_plan::{CutFault, Listed, Models, Wire};
 use gg_cut_routes::plan_routes;

@@ -9,9 +9,9 @@
 //! - `deps` returns the channels that a channel of a plan needs. It allocates nothing.
 //!
 //! `draft_of` (`judged`) judges the request and makes gg_cut_parts' `Draft`. The machines are made of it as if there were no bridges
-//! (`machines`); gg_cut_bridges puts the bridges among them.
+//! (`machines`); gg_cut_machines puts the bridges among them.
 //!
-//! The time that `cut` takes is that of gg_cut_split, gg_cut_routes, gg_part, gg_part_needs and gg_cut_bridges, and otherwise linear.
+//! The time that `cut` takes is that of gg_cut_split, gg_cut_routes, gg_part, gg_order and gg_cut_machines, and otherwise linear.
 #![tactic(auto)]
 
 mod build;
@@ -23,3 +23,5 @@ mod needs;
 mod shares;
 
 pub use build::{cut, deps};
+mod existence;
+pub use existence::{each_has_plan};

@@ -4,18 +4,18 @@ ghost use Rattle.gg_cut_plan.specs.Alike.{AreAlike};
 ghost use Rattle.gg_cut_plan.specs.Hosts.{leader, host_of};
 ghost use Rattle.gg_cut_plan.specs.Plan.{cut_names};
 ghost use Rattle.gg_flat_tree.specs.Tree.{path_at};
-ghost use Rattle.gg_cut_share.specs.Again.{IsUnitAgain};
+ghost use Rattle.gg_cut_split.specs.again.Again.{IsUnitAgain};
 ghost use Rattle.gg_cut_parts.specs.Draft.{IsDraft, IsMachineDraft};
 ghost use Rattle.gg_cut.specs.Drafted.{AreDraftMachines, AreEarlier, IsDraftBody, IsDraftMachine, IsNextBody};
 ghost use Rattle.gg_cut.specs.Made.{HasAscending, IsTimedBody, IsTimedUnit};
 
 use crate::shares::plan_shares;
 use gg_bits::{Ids, Name};
-use gg_cut_bridges::{hosts_of, machine_name};
-use gg_cut_clocks::domains_of;
+use gg_cut_machines::{hosts_of, machine_name};
+use gg_cut_parts::domains_of;
 use gg_cut_parts::{Draft, MachineDraft, copied, cut_part, moved_part};
 use gg_cut_plan::{Body, Machine, Role};
-use gg_cut_share::units_stand_again;
+use gg_cut_split::units_stand_again;
 use std::alloc::{AllocError, Global};
 
 // The machines of a draft, by their numbers, as if there were no bridges.

@@ -13,7 +13,7 @@ use Rattle.gg_part.specs.Part.{IsPart}
 use Rattle.gg_cut_plan.specs.declared.listed.Listed.{Listed}
 use Rattle.gg_cut_plan.specs.Direct.{Hub, routes}
 use Rattle.gg_cut_plan.specs.Plan.{channels_from, givens_of, machine_clocks}
-use Rattle.gg_cut_share.specs.Again.{IsUnitAgain, again_at, unit_first}
+use Rattle.gg_cut_split.specs.again.Again.{IsUnitAgain, again_at, unit_first}
 use Rattle.gg_cut_parts.specs.declared.machine_draft.MachineDraft.{MachineDraft}
 use Rattle.gg_cut_parts.specs.Draft.{IsDraftPart, IsMachineDraft, draft_hub}
 use Rattle.gg_cut_parts.specs.MovedPart.{IsUnitRouted, IsUnitShare, IsMovedPiece, IsFollower, HoldAgain}

@@ -17,11 +17,11 @@ use Rattle.gg_part.specs.Part.{IsPart}
 use Rattle.gg_cut_plan.specs.declared.listed.Listed.{Listed}
 use Rattle.gg_cut_plan.specs.Direct.{Hub, routes}
 use Rattle.gg_cut_plan.specs.Plan.{channels_to, channels_from, signals_of, givens_of, IsCutPart, Makes, machine_clocks}
-use Rattle.gg_cut_laws.specs.Apart.{AreApart}
-use Rattle.gg_cut_laws.proofs.ListLemmas.{Somewhere, map-cases}
-use Rattle.gg_cut_share.specs.Again.{HasSignal, IsUnitAgain, again_at, cut_wires, unit_first}
-use Rattle.gg_cut_clocks.specs.Domains.{AreUnitClocks}
-use Rattle.gg_cut_clocks.proofs.TimedLemmas.{machine-timed}
+use Rattle.gg_cut_split.specs.closed.Apart.{AreApart}
+use Rattle.gg_cut_split.proofs.ClosedLemmas.ListLemmas.{Somewhere, map-cases}
+use Rattle.gg_cut_split.specs.again.Again.{HasSignal, IsUnitAgain, again_at, cut_wires, unit_first}
+use Rattle.gg_cut_parts.specs.Domains.{AreUnitClocks}
+use Rattle.gg_cut_parts.proofs.DomainTimes.{machine-timed}
 use Rattle.gg_cut_parts.specs.MovedPart.{IsUnitPart, IsUnitRouted, IsUnitShare, IsMovedPiece, IsFollower, HoldAgain}
 use Rattle.gg_cut_parts.proofs.RoutedLemmas.{to-unit, from-unit}
 use Rattle.gg_cut_parts.proofs.MovedUnitLemmas.{behind-first, counterparts-once, hold-again, counterparts-within, givens-known, banks-again}

@@ -10,3 +10,7 @@ pub mod PlaceLemmas
 pub mod RegisterLemmas
 pub mod RoutedLemmas
 pub mod TimedLemmas
+pub mod TableLemmas
+pub mod FollowLemmas
+pub mod DomainTimes
+mod WorkedDomains

@@ -31,10 +31,10 @@ use Rattle.gg_part.specs.Part.{IsPart, IsFrom, IsRegisterFrom, IsMemoryFrom, Reg
 use Rattle.gg_cut_plan.specs.declared.listed.Listed.{Listed}
 use Rattle.gg_cut_plan.specs.Alike.{IsAlike}
 use Rattle.gg_cut_plan.specs.Plan.{channels_to, signals_of, Takes, HasMemory, machine_clocks}
-use Rattle.gg_cut_laws.proofs.ListLemmas.{map-cases}
-use Rattle.gg_cut_share.specs.Again.{IsUnitAgain, HasSignal, again_at, cut_wires}
-use Rattle.gg_cut_clocks.specs.Domains.{AreUnitClocks}
-use Rattle.gg_cut_clocks.proofs.TimedLemmas.{register-same, ports-same}
+use Rattle.gg_cut_split.proofs.ClosedLemmas.ListLemmas.{map-cases}
+use Rattle.gg_cut_split.specs.again.Again.{IsUnitAgain, HasSignal, again_at, cut_wires}
+use Rattle.gg_cut_parts.specs.Domains.{AreUnitClocks}
+use Rattle.gg_cut_parts.proofs.DomainTimes.{register-same, ports-same}
 use Rattle.gg_cut_parts.specs.MovedPart.{IsUnitPart, IsUnitShare, AreGivens, IsMovedPiece, IsMovedPart}
 use Rattle.gg_cut_parts.proofs.MovedUnitLemmas.{among-has, counterpart-one, counterparts-once, counterpart-driver, has-memory, held-by, registers-within, register-there, memories-within, memory-there, counterparts-within, counterpart-of}
 

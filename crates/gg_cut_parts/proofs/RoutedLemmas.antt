@@ -13,7 +13,7 @@ use Rattle.gg_cut_plan.specs.Listed.{listed_of}
 use Rattle.gg_cut_plan.specs.Machines.{first_source}
 use Rattle.gg_cut_plan.specs.Direct.{Hub, hub_of, is_piped, plan_hub, routes, is_driven}
 use Rattle.gg_cut_plan.specs.Plan.{channels_from, givens_of, IsCutPart}
-use Rattle.gg_cut_laws.specs.Apart.{AreApart}
+use Rattle.gg_cut_split.specs.closed.Apart.{AreApart}
 use Rattle.gg_cut_routes.specs.Share.{IsPlanShare}
 use Rattle.gg_cut_routes.proofs.PlanLemmas.{plan-base}
 use Rattle.gg_cut_routes.proofs.UnitLemmas.{ins-still, givens-still}

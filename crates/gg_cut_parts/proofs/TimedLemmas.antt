@@ -11,11 +11,11 @@ use Rattle.gg_cut_plan.specs.declared.listed.Listed.{Listed}
 use Rattle.gg_cut_plan.specs.Direct.{Hub, routes}
 use Rattle.gg_cut_plan.specs.Machines.{first_memory, first_source, first_unit}
 use Rattle.gg_cut_plan.specs.Plan.{channels_to, machine_clocks, signals_of, Makes}
-use Rattle.gg_cut_laws.specs.Apart.{AreApart}
-use Rattle.gg_cut_clocks.specs.declared.domains.Domains.{Domains}
-use Rattle.gg_cut_clocks.specs.Domains.{AreDomains}
-use Rattle.gg_cut_clocks.proofs.TimedLemmas.{machine-timed, top-clocks, whole-timed}
-use Rattle.gg_cut_share.specs.Again.{HasSignal, cut_wires}
+use Rattle.gg_cut_split.specs.closed.Apart.{AreApart}
+use Rattle.gg_cut_parts.specs.declared.domains.Domains.{Domains}
+use Rattle.gg_cut_parts.specs.Domains.{AreDomains}
+use Rattle.gg_cut_parts.proofs.DomainTimes.{machine-timed, top-clocks, whole-timed}
+use Rattle.gg_cut_split.specs.again.Again.{HasSignal, cut_wires}
 use Rattle.gg_cut_routes.specs.Share.{IsPlanShare}
 use Rattle.gg_cut_parts.specs.MovedPart.{IsUnitRouted}
 

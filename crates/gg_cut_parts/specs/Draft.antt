@@ -13,8 +13,8 @@ use Rattle.gg_cut_plan.specs.Held.{AreHeldOnce}
 use Rattle.gg_cut_plan.specs.Listed.{listed_of}
 use Rattle.gg_cut_plan.specs.Machines.{first_unit, first_memory, machine_count}
 use Rattle.gg_cut_plan.specs.Plan.{IsCutPart}
-use Rattle.gg_cut_laws.specs.Apart.{AreApart}
-use Rattle.gg_cut_clocks.specs.Domains.{AreDomains}
+use Rattle.gg_cut_split.specs.closed.Apart.{AreApart}
+use Rattle.gg_cut_parts.specs.Domains.{AreDomains}
 use Rattle.gg_cut_split.specs.IsShare.{AreShares}
 use Rattle.gg_cut_routes.specs.Routes.{AreRoutes}
 use Rattle.gg_cut_routes.specs.Share.{IsPlanShare}

@@ -1,2 +1,4 @@
 pub mod Draft
 pub mod MovedPart
+pub mod Innermost
+pub mod Domains

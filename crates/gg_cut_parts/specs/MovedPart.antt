@@ -17,7 +17,7 @@ use Rattle.gg_cut_plan.specs.declared.listed.Listed.{Listed}
 use Rattle.gg_cut_plan.specs.Alike.{IsAlike}
 use Rattle.gg_cut_plan.specs.Direct.{Hub, routes}
 use Rattle.gg_cut_plan.specs.Plan.{channels_to, channels_from, signals_of, givens_of, MakesBy, Takes, HasMemory, IsCutPart, machine_clocks}
-use Rattle.gg_cut_share.specs.Again.{HasSignal, cut_wires}
+use Rattle.gg_cut_split.specs.again.Again.{HasSignal, cut_wires}
 
 -- ---- the piece
 

@@ -5,10 +5,25 @@
 //!
 //! - `cut_part` makes the part of the hub, of a unit or of a listed memory that the plan asks for (`IsCutPart` in gg_cut_plan);
 //! - `moved_part` makes the part of a unit from that of the first unit of its host, with its own numbers and paths: so units of one
-//!   host run one program. By a law of gg_cut_share that is the part that the plan asks for: inside of both units registers and ports
-//!   follow the same Clock inputs (gg_cut_clocks).
+//!   host run one program. By a law of gg_cut_split that is the part that the plan asks for: inside of both units registers and ports
+//!   follow the same Clock inputs (gg_cut_parts).
 //!
 //! The time that a part takes is that of gg_part, or linear in what is moved.
+//!
+//! The clocks of the machines of a cut.
+//!
+//! The hub and the listed memories have the clocks of the circuit, and a unit has its own Clock inputs. The crate promises:
+//!
+//! - `domains_of` tells, for a design that keeps to its tree and whose registers are held once, what each register and each port of
+//!   a memory follows in the circuit, and inside of the unit in which it lies (`AreDomains` in `specs/Domains`);
+//! - [`Domains`] tells a machine's clocks, and which of the two its registers and ports follow;
+//! - `whole_clocking` tells the clocks that the registers and ports of any circuit follow, and `own_clocks` its clocks.
+//!
+//! `proofs/TimedLemmas` says that this is what `part_of` of gg_part asks for, and that units which share a host follow the same
+//! Clock inputs.
+//!
+//! `domains_of` takes time for the signals of the circuit times the depth of the instances, which is at most 32, and else for what
+//! the circuit has.
 #![tactic(auto)]
 
 mod draft;
@@ -26,3 +41,9 @@ pub use machine_draft::MachineDraft;
 pub use moved::moved_part;
 pub use parts::{copied, cut_part};
 pub use paths::signal_name;
+mod domains;
+mod tables;
+mod whole;
+
+pub use domains::{Domains, domains_of};
+pub use whole::{own_clocks, whole_clocking};

@@ -8,7 +8,7 @@ ghost use Rattle.gg_part.specs.Building.{AreHeld};
 ghost use Rattle.gg_part.specs.Clocking.{IsTimed};
 ghost use Rattle.gg_part.specs.Part.{IsPart};
 ghost use Rattle.gg_cut_plan.specs.Machines.{first_unit, first_memory};
-ghost use Rattle.gg_cut_share.specs.Again.{IsUnitAgain, unit_first};
+ghost use Rattle.gg_cut_split.specs.again.Again.{IsUnitAgain, unit_first};
 ghost use Rattle.gg_cut_parts.specs.Draft.{draft_hub, IsDraft, IsDraftPart, IsMachineDraft};
 ghost use Rattle.gg_cut_parts.specs.MovedPart.{IsFollower, HoldAgain, HasAgain};
 

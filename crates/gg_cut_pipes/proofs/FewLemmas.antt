@@ -12,8 +12,8 @@ use Rattle.gg_part.proofs.FrameLemmas.{length-once}
 use Rattle.gg_cut_plan.specs.Machines.{machine_count}
 use Rattle.gg_cut_plan.specs.declared.listed.Listed.{Listed}
 use Rattle.gg_cut_plan.specs.declared.plan.Plan.{Plan}
-use Rattle.gg_cut_laws.proofs.FaultlessLemmas.{faultless-few}
-use Rattle.gg_cut_laws.proofs.ListLemmas.{AllPairs-map}
+use Rattle.gg_cut_split.proofs.ClosedLemmas.FaultlessLemmas.{faultless-few}
+use Rattle.gg_cut_split.proofs.ClosedLemmas.ListLemmas.{AllPairs-map}
 use Rattle.gg_cut_routes.proofs.FewLemmas as routed
 use Rattle.gg_cut_routes.proofs.RoutedLemmas.{plan-routed}
 use Rattle.gg_cut_reference.specs.Made.{AllHeld}

@@ -29,13 +29,13 @@ use Rattle.gg_cut_plan.specs.Direct.{Hub, routes, plan_hub, is_piped, is_driven}
 use Rattle.gg_cut_plan.proofs.PathLemmas.{first_place-Some}
 use Rattle.gg_cut_plan.proofs.OriginLemmas.{any-finds, finds-any, clash}
 use Rattle.gg_cut_plan.proofs.WireLemmas.{unit_or_hub-below}
-use Rattle.gg_cut_seats.proofs.LowLemmas.{seat-back}
-use Rattle.gg_cut_seats.proofs.SeatedLemmas.{seat-low}
-use Rattle.gg_cut_seats.proofs.WireLemmas.{same-test}
-use Rattle.gg_cut_laws.specs.Apart.{AreApart}
-use Rattle.gg_cut_laws.proofs.FaultlessLemmas.{faultless-apart}
-use Rattle.gg_cut_laws.proofs.ListLemmas.{AllPairs-map, map-cases}
-use Rattle.gg_cut_laws.proofs.PlaceLemmas.{same-bool}
+use Rattle.gg_cut_reference.proofs.FittingLemmas.LowLemmas.{seat-back}
+use Rattle.gg_cut_reference.proofs.FittingLemmas.SeatedLemmas.{seat-low}
+use Rattle.gg_cut_reference.proofs.FittingLemmas.WireLemmas.{same-test}
+use Rattle.gg_cut_split.specs.closed.Apart.{AreApart}
+use Rattle.gg_cut_split.proofs.ClosedLemmas.FaultlessLemmas.{faultless-apart}
+use Rattle.gg_cut_split.proofs.ClosedLemmas.ListLemmas.{AllPairs-map, map-cases}
+use Rattle.gg_cut_split.proofs.ClosedLemmas.PlaceLemmas.{same-bool}
 use Rattle.gg_cut_routes.proofs.ChoiceLemmas.{any-wire}
 use Rattle.gg_cut_routes.proofs.RouteLemmas.{IsBase, routes-known, routes-once}
 use Rattle.gg_cut_routes.proofs.RoutedLemmas.{routed-base}

@@ -21,7 +21,7 @@ use Rattle.gg_cut_plan.specs.Direct.{Hub, routes}
 use Rattle.gg_cut_plan.proofs.PathLemmas.{IsPlace, first_place-Some, first_place-None}
 use Rattle.gg_cut_plan.proofs.OriginLemmas.{any-finds, finds-any, clash}
 use Rattle.gg_cut_plan.proofs.DirectLemmas.{find-some}
-use Rattle.gg_cut_laws.proofs.ListLemmas.{AllPairs-map}
+use Rattle.gg_cut_split.proofs.ClosedLemmas.ListLemmas.{AllPairs-map}
 use Rattle.gg_cut_routes.proofs.RouteLemmas.{IsBase, routes-once}
 use Rattle.gg_cut_routes.proofs.ChoiceLemmas.{any-wire}
 use Rattle.gg_cut_split.specs.declared.owned.Owned.{Owned}

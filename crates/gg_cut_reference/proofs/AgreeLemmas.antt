@@ -17,7 +17,7 @@ use Rattle.gg_flat.specs.Reads.{NamesSignal, RegisterNames}
 use Rattle.gg_flat_tree.specs.Scoped.{memory_fields, reader_fields, writer_fields}
 use Rattle.gg_flat_tree.specs.Tree.{path_at}
 use Rattle.gg_flat.proofs.ListLemmas.{map-same}
-use Rattle.gg_cut_laws.proofs.ListLemmas.{flattened-in, flat_map-is}
+use Rattle.gg_cut_split.proofs.ClosedLemmas.ListLemmas.{flattened-in, flat_map-is}
 use Rattle.gg_flat.specs.Line.{value_at}
 use Rattle.gg_flat.specs.Renaming.{signals_by}
 use Rattle.gg_flat.proofs.RenamedLaws as things

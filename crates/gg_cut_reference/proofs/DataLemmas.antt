@@ -7,10 +7,10 @@ use Rattle.gg_flat_tree.specs.Tree.{InstanceTree, IsTree, memory_at}
 use Rattle.gg_flat_tree.specs.Scoped.{IsScoped, memory_fields}
 use Rattle.gg_cut_plan.specs.declared.listed.Listed.{Listed}
 use Rattle.gg_cut_plan.specs.Plan.{HasMemory}
-use Rattle.gg_cut_laws.specs.Apart.{AreApart}
-use Rattle.gg_cut_laws.proofs.KindLemmas.{word-field}
-use Rattle.gg_cut_laws.proofs.ClosedLemmas.{fields-closed, words-made}
-use Rattle.gg_cut_laws.proofs.TreeLemmas.{innermost-known}
+use Rattle.gg_cut_split.specs.closed.Apart.{AreApart}
+use Rattle.gg_cut_split.proofs.ClosedLemmas.KindLemmas.{word-field}
+use Rattle.gg_cut_split.proofs.ClosedLemmas.ClosedLemmas.{fields-closed, words-made}
+use Rattle.gg_cut_split.proofs.ClosedLemmas.TreeLemmas.{innermost-known}
 use Rattle.gg_cut_plan.specs.Direct.{Hub, hub_of}
 use Rattle.gg_cut_routes.proofs.RouteLemmas.{IsBase}
 use Rattle.gg_cut_routes.proofs.ChoiceLemmas.{Made, Taken, inner-none, wire-made, ins-before}

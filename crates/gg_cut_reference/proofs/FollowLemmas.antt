@@ -14,8 +14,8 @@ use Rattle.gg_flat.specs.Settled.{driver_value}
 use Rattle.gg_flat.specs.Run.{IsColumns, Start, state_at, row_at, inputs_at, column, later, since}
 use Rattle.gg_flat.specs.State.{IsState}
 use Rattle.gg_flat.specs.WellFormed.{IsWellFormed}
-use Rattle.gg_flat_run.proofs.SinceLemmas.{later-since, row-dropped}
-use Rattle.gg_flat_run.proofs.UniqueLemmas.{IsRunFrom-once}
+use Rattle.gg_order.proofs.RunsLemmas.SinceLemmas.{later-since, row-dropped}
+use Rattle.gg_order.proofs.RunsLemmas.UniqueLemmas.{IsRunFrom-once}
 use Rattle.gg_flat.proofs.ListLemmas.{Contains-map}
 use Rattle.gg_part.proofs.AlongLemmas.{IsOrder-numbers}
 use Rattle.gg_part.specs.PartRun.{part_rows, part_start}

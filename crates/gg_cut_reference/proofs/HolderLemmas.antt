@@ -16,7 +16,7 @@ use Rattle.gg_cut_plan.specs.declared.listed.Listed.{Listed}
 use Rattle.gg_cut_plan.specs.Listed.{first_place, memory_owner}
 use Rattle.gg_cut_plan.specs.Plan.{HasMemory}
 use Rattle.gg_cut_plan.proofs.PathLemmas.{IsPlace, first_place-Some, first_place-None}
-use Rattle.gg_cut_laws.proofs.ListLemmas.{AllPairs-map}
+use Rattle.gg_cut_split.proofs.ClosedLemmas.ListLemmas.{AllPairs-map}
 use Rattle.gg_cut_plan.specs.Direct.{Hub}
 use Rattle.gg_cut_reference.specs.Links.{maker_of}
 use Rattle.gg_cut_plan.specs.Held.{AreHeldOnce}

@@ -21,3 +21,6 @@ pub mod OneLemmas
 pub mod OneReference
 pub mod StartLemmas
 pub mod PlanLemmas
+pub mod FittingLemmas
+pub mod WholeLemmas
+pub mod TextLemmas

@@ -13,7 +13,7 @@ use Rattle.gg_flat.specs.Line.{value_at, shape_at}
 use Rattle.gg_flat.specs.Circuit.{FlatCircuit, signal_shapes}
 use Rattle.gg_flat.specs.WellFormed.{IsWellFormed}
 use Rattle.gg_flat.specs.State.{IsState}
-use Rattle.gg_flat_run.proofs.SinceLemmas.{row-dropped}
+use Rattle.gg_order.proofs.RunsLemmas.SinceLemmas.{row-dropped}
 use Rattle.gg_flat.specs.Run.{Start, row_at, column, state_at, inputs_at, later, since}
 use Rattle.gg_cut_plan.specs.declared.wires.Wire.{Wire}
 use Rattle.gg_cut_plan.specs.Listed.{first_place}

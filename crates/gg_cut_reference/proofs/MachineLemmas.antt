@@ -23,7 +23,7 @@ use Rattle.gg_part.proofs.RenameLemmas.{part_row-at}
 use Rattle.gg_order.specs.Design.{Ordered}
 use Rattle.gg_cut_plan.specs.declared.listed.Listed.{Listed}
 use Rattle.gg_cut_plan.specs.declared.wires.Wire.{Wire}
-use Rattle.gg_cut_laws.proofs.ListLemmas.{map-cases}
+use Rattle.gg_cut_split.proofs.ClosedLemmas.ListLemmas.{map-cases}
 use Rattle.gg_cut_plan.specs.Plan.{wire_at, channels_to, channels_from, signals_of, givens_of, Takes, MakesBy, IsCutPart}
 use Rattle.gg_cut_plan.specs.Direct.{Hub, hub_of, routes}
 use Rattle.gg_cut_reference.specs.Reference.{IsReference, with_paths}

@@ -32,11 +32,11 @@ use Rattle.gg_cut_plan.specs.Fault.{first_fault}
 use Rattle.gg_cut_plan.proofs.ChannelLemmas.{named-channel}
 use Rattle.gg_cut_plan.proofs.OriginLemmas.{Finds, any-finds, finds-any}
 use Rattle.gg_cut_plan.proofs.PathLemmas.{first_place-Some, among-contains}
-use Rattle.gg_cut_laws.specs.Apart.{AreApart}
-use Rattle.gg_cut_laws.proofs.ClosedLemmas.{reader-known}
-use Rattle.gg_cut_laws.proofs.FaultlessLemmas.{faultless-apart, faultless-pipes}
-use Rattle.gg_cut_laws.proofs.ListLemmas.{Somewhere, map-cases}
-use Rattle.gg_cut_laws.proofs.PlaceLemmas.{same-bool}
+use Rattle.gg_cut_split.specs.closed.Apart.{AreApart}
+use Rattle.gg_cut_split.proofs.ClosedLemmas.ClosedLemmas.{reader-known}
+use Rattle.gg_cut_split.proofs.ClosedLemmas.FaultlessLemmas.{faultless-apart, faultless-pipes}
+use Rattle.gg_cut_split.proofs.ClosedLemmas.ListLemmas.{Somewhere, map-cases}
+use Rattle.gg_cut_split.proofs.ClosedLemmas.PlaceLemmas.{same-bool}
 use Rattle.gg_cut_routes.proofs.ChoiceLemmas.{any-wire}
 use Rattle.gg_cut_routes.proofs.RouteLemmas.{IsBase, routes-known}
 use Rattle.gg_cut_routes.proofs.RoutedLemmas.{routed-base}

@@ -13,7 +13,7 @@ use Rattle.gg_flat.specs.Circuit.{FlatCircuit, driver_at}
 use Rattle.gg_flat.specs.Reads.{NamesSignal, Reads}
 use Rattle.gg_flat.specs.Order.{IsOrder}
 use Rattle.gg_flat.proofs.OrderLemmas.{stands-before}
-use Rattle.gg_cut_laws.proofs.ListLemmas.{AllPairs-append}
+use Rattle.gg_cut_split.proofs.ClosedLemmas.ListLemmas.{AllPairs-append}
 use Rattle.gg_flat.proofs.RenamedLineLaws.{named-back}
 use Rattle.gg_cut_reference.specs.Reference.{Views, IsReference, IsSeen, IsPiped, driver_by}
 

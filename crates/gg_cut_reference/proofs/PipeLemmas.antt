@@ -14,7 +14,7 @@ use Rattle.gg_flat.specs.Settled.{driver_value}
 use Rattle.gg_flat.specs.Run.{Start, state_at, row_at, inputs_at, column, later, since}
 use Rattle.gg_flat.proofs.AdvanceLemmas.{length-next_registers, next_registers-at}
 use Rattle.gg_flat.proofs.ListLemmas.{some-item}
-use Rattle.gg_flat_run.proofs.SinceLemmas.{row-dropped, since-add, since-next, since-self}
+use Rattle.gg_order.proofs.RunsLemmas.SinceLemmas.{row-dropped, since-add, since-next, since-self}
 use Rattle.gg_cut_plan.specs.Solves.{AreRows}
 use Rattle.gg_cut_reference.specs.Reference.{IsPipeRegister}
 use Rattle.gg_cut_plan.proofs.SameLemmas.{bare-value}

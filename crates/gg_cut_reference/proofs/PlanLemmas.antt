@@ -22,8 +22,8 @@ use Rattle.gg_cut_plan.specs.Fault.{first_fault}
 use Rattle.gg_cut_plan.specs.Plan.{wire_at, Takes, IsCutPart}
 use Rattle.gg_cut_plan.specs.Direct.{Hub, is_driven, is_piped, plan_hub, plan_routes}
 use Rattle.gg_cut_plan.specs.Solves.{AreRows, stream}
-use Rattle.gg_cut_laws.specs.Apart.{AreApart}
-use Rattle.gg_cut_laws.proofs.FaultlessLemmas.{faultless-apart}
+use Rattle.gg_cut_split.specs.closed.Apart.{AreApart}
+use Rattle.gg_cut_split.proofs.ClosedLemmas.FaultlessLemmas.{faultless-apart}
 use Rattle.gg_cut_routes.proofs.ChoiceLemmas.{any-wire}
 use Rattle.gg_cut_routes.proofs.RouteLemmas.{IsBase}
 use Rattle.gg_cut_routes.proofs.RoutedLemmas.{routed-base}

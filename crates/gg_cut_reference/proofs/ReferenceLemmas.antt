@@ -14,7 +14,7 @@ use Rattle.gg_flat.specs.State.{IsState, next_state}
 use Rattle.gg_flat.specs.Run.{Start, IsRunFrom, state_at, row_at, inputs_at, later, since}
 use Rattle.gg_flat.specs.Settled.{Settled}
 use Rattle.gg_flat.proofs.ListLemmas.{some-item}
-use Rattle.gg_cut_laws.proofs.ListLemmas.{AllPairs-map}
+use Rattle.gg_cut_split.proofs.ClosedLemmas.ListLemmas.{AllPairs-map}
 use Rattle.gg_part.specs.PartRun.{part_row, part_rows, part_columns, part_start}
 use Rattle.gg_part.proofs.RunLemmas.{column-at, IsRunFrom-part}
 use Rattle.gg_part.specs.Part.{IsPart, IsFrom, IsRegisterFrom, IsMemoryFrom, MemoryBelow}

@@ -9,7 +9,7 @@ use Rattle.gg_flat.proofs.ListLemmas.{Contains-filter, filter-cases, in-range, r
 use Rattle.gg_cut_plan.specs.declared.wires.Wire.{Wire}
 use Rattle.gg_cut_plan.specs.Listed.{first_place}
 use Rattle.gg_cut_plan.proofs.PathLemmas.{first_place-Some}
-use Rattle.gg_cut_laws.proofs.PlaceLemmas.{place-none}
+use Rattle.gg_cut_split.proofs.ClosedLemmas.PlaceLemmas.{place-none}
 use Rattle.gg_cut_plan.specs.Plan.{Takes, MakesBy}
 use Rattle.gg_cut_plan.specs.Direct.{Hub, is_own, routes, origin_within}
 use Rattle.gg_cut_reference.specs.Reference.{IsSeen, IsPiped}

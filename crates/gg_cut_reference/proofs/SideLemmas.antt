@@ -14,14 +14,14 @@ use Rattle.gg_cut_plan.specs.Listed.{owner_of_instance, memory_owner}
 use Rattle.gg_cut_plan.specs.Machines.{first_memory}
 use Rattle.gg_cut_plan.specs.Channels.{wire, wires_of}
 use Rattle.gg_cut_plan.proofs.WireLemmas.{unit_or_hub-below}
-use Rattle.gg_cut_laws.specs.Apart.{AreApart}
-use Rattle.gg_cut_laws.proofs.TreeLemmas.{innermost-one}
-use Rattle.gg_cut_laws.proofs.PlaceLemmas.{owner-unit, owner-top, owner-outside}
-use Rattle.gg_cut_laws.proofs.KindLemmas.{IsSourceWire, IsTrayWire, IsPortWire, IsFieldWire, IsInto, IsWordWire, Kind, OfSource, OfPort, OfField, OfTray, outside_unit, outside_memory, kind-of, data-wire, word-field}
-use Rattle.gg_cut_laws.proofs.NameLemmas.{port-no-field, field-one}
-use Rattle.gg_cut_laws.proofs.OnceLemmas.{IsChosen, IsStopSignal, top-input, top-port, out-cases, stop-port, stop-field, port-one, same-instance, channel-one}
-use Rattle.gg_cut_laws.proofs.MakerLemmas.{field-listed}
-use Rattle.gg_cut_laws.proofs.ClosedLemmas.{owner-listed}
+use Rattle.gg_cut_split.specs.closed.Apart.{AreApart}
+use Rattle.gg_cut_split.proofs.ClosedLemmas.TreeLemmas.{innermost-one}
+use Rattle.gg_cut_split.proofs.ClosedLemmas.PlaceLemmas.{owner-unit, owner-top, owner-outside}
+use Rattle.gg_cut_split.proofs.ClosedLemmas.KindLemmas.{IsSourceWire, IsTrayWire, IsPortWire, IsFieldWire, IsInto, IsWordWire, Kind, OfSource, OfPort, OfField, OfTray, outside_unit, outside_memory, kind-of, data-wire, word-field}
+use Rattle.gg_cut_split.proofs.ClosedLemmas.NameLemmas.{port-no-field, field-one}
+use Rattle.gg_cut_split.proofs.ClosedLemmas.OnceLemmas.{IsChosen, IsStopSignal, top-input, top-port, out-cases, stop-port, stop-field, port-one, same-instance, channel-one}
+use Rattle.gg_cut_split.proofs.ClosedLemmas.MakerLemmas.{field-listed}
+use Rattle.gg_cut_split.proofs.ClosedLemmas.ClosedLemmas.{owner-listed}
 
 -- ---- what comes into an instance
 

@@ -4,3 +4,6 @@ pub mod Made
 pub mod Follows
 pub mod ReferenceRuns
 pub mod ReferenceForm
+pub mod fitting
+pub mod whole
+pub mod text

@@ -14,7 +14,7 @@ use Rattle.gg_cut_plan.specs.declared.listed.Listed.{Listed}
 use Rattle.gg_cut_plan.specs.Clocks.{ratio_of}
 use Rattle.gg_cut_plan.specs.Direct.{hub_of}
 use Rattle.gg_cut_plan.specs.Fault.{first_fault}
-use Rattle.gg_cut_laws.specs.Apart.{AreApart}
+use Rattle.gg_cut_split.specs.closed.Apart.{AreApart}
 use Rattle.gg_cut_reference.specs.Reference.{IsReference}
 use Rattle.gg_cut_reference.specs.Links.{pipes_of}
 use Rattle.gg_cut_reference.specs.Made.{plan_reference, reference_circuit, views_in, AllHeld, IsFresh}

@@ -14,7 +14,7 @@ use Rattle.gg_cut_plan.specs.Held.{AreHeldOnce}
 use Rattle.gg_cut_plan.specs.Plan.{wire_at, channels_from, IsCutPart}
 use Rattle.gg_cut_plan.specs.Direct.{Hub, hub_of, routes}
 use Rattle.gg_cut_plan.specs.Solves.{AreRows}
-use Rattle.gg_cut_laws.specs.Apart.{AreApart}
+use Rattle.gg_cut_split.specs.closed.Apart.{AreApart}
 use Rattle.gg_cut_reference.specs.Links.{taken_as}
 use Rattle.gg_cut_reference.specs.Made.{reference_circuit}
 use Rattle.gg_cut_reference.specs.Follows.{Follows, given_column, taken_column}

@@ -8,7 +8,7 @@ ghost use Rattle.gg_cut_reference.specs.Made.{plan_reference};
 ghost use Rattle.gg_cut_reference.specs.ReferenceRuns.{MachinesFollow, ChannelsFollow, SourcesFollow};
 ghost use Rattle.gg_cut_reference.specs.ReferenceForm.{ReferencesArePiped, ReferencesAreFormed, ReferencesAreOrdered, NothingIsPiped, PipesDecideReference, PipesDecideStart};
 
-use gg_cut_laws::channels_once;
+use gg_cut_split::channels_once;
 
 /// A machine follows a run of the reference circuit, from any start and whatever the ratios of the clocks: on the values of
 /// the channels that it takes, those of piped channels a cycle later and behind the pipe's token, its piece has a run from its

@@ -15,8 +15,8 @@ use Rattle.gg_cut_plan.specs.Channels.{wires_of}
 use Rattle.gg_cut_plan.specs.Plan.{channels_to, channels_from, signals_of, givens_of, Makes, Takes, HasMemory}
 use Rattle.gg_part.specs.KeepsToTree.{KeepsToTree}
 use Rattle.gg_cut_plan.proofs.WireLemmas.{all-plain}
-use Rattle.gg_cut_laws.specs.Apart.{AreApart, AreEnds}
-use Rattle.gg_cut_laws.proofs.ChoiceLemmas.{wire-known}
+use Rattle.gg_cut_split.specs.closed.Apart.{AreApart, AreEnds}
+use Rattle.gg_cut_split.proofs.ClosedLemmas.ChoiceLemmas.{wire-known}
 use Rattle.gg_cut_plan.specs.Direct.{Hub, hub_of, route, routes}
 use Rattle.gg_cut_routes.specs.Routes.{AreRoutes}
 use Rattle.gg_cut_routes.proofs.RouteLemmas.{IsBase, out-routes, routes-once, routes-known, no-echo, Routing, Plain, Direct, routing, route-consumer, plain-producer, direct-producer}

@@ -12,7 +12,7 @@ use Rattle.gg_cut_plan.specs.declared.wires.Wire.{Wire}
 use Rattle.gg_cut_plan.specs.Listed.{listed_of}
 use Rattle.gg_cut_plan.specs.Machines.{first_source, first_tray, machine_count}
 use Rattle.gg_cut_plan.specs.Direct.{plan_hub, plan_routes}
-use Rattle.gg_cut_laws.specs.Apart.{AreFew}
+use Rattle.gg_cut_split.specs.closed.Apart.{AreFew}
 use Rattle.gg_cut_routes.specs.Routes.{AreRoutes}
 use Rattle.gg_cut_routes.proofs.RouteLemmas.{chosen-out}
 use Rattle.gg_cut_routes.proofs.ChoiceLemmas.{any-wire}

@@ -7,7 +7,7 @@ use Rattle.std.proofs.lemmas.Bool.{eqb-true}
 use Rattle.std.proofs.lemmas.List.{map-append}
 use Rattle.std.proofs.lemmas.List.Elements.{filter_more, Contains-get_or}
 use Rattle.gg_flat.proofs.ListLemmas.{some-item, here, further}
-use Rattle.gg_cut_laws.proofs.ListLemmas.{flattened-cases, flat_map-is}
+use Rattle.gg_cut_split.proofs.ClosedLemmas.ListLemmas.{flattened-cases, flat_map-is}
 use Rattle.gg_cut_plan.proofs.OriginLemmas.{any-finds, finds-any, clash}
 
 pub filter-next : {A : Type 0} (test : A → Bool) (xs : List A) (i : ℕ) (d : A) → i < length xs → filter test (take (i + 1) xs) ≡ filter test (take i xs) ++ (if test (get_or xs i d) then get_or xs i d ∷ [] else [])

@@ -16,10 +16,10 @@ use Rattle.gg_cut_plan.specs.Channels.{wires_of}
 use Rattle.gg_cut_plan.specs.Direct.{Hub, hub_of, is_direct, is_gone, direct_of, route, routes}
 use Rattle.gg_cut_plan.specs.Plan.{channels_to, channels_from, MakesBy, Takes, HasMemory}
 use Rattle.gg_cut_plan.proofs.OriginLemmas.{any-finds, finds-any, clash}
-use Rattle.gg_cut_laws.specs.Apart.{AreApart}
-use Rattle.gg_cut_laws.proofs.ChoiceLemmas.{pairs-once}
-use Rattle.gg_cut_laws.proofs.EndLemmas.{ends}
-use Rattle.gg_cut_laws.proofs.ListLemmas.{map-cases}
+use Rattle.gg_cut_split.specs.closed.Apart.{AreApart}
+use Rattle.gg_cut_split.proofs.ClosedLemmas.ChoiceLemmas.{pairs-once}
+use Rattle.gg_cut_split.proofs.ClosedLemmas.EndLemmas.{ends}
+use Rattle.gg_cut_split.proofs.ClosedLemmas.ListLemmas.{map-cases}
 use Rattle.gg_cut_split.specs.Share.{IsShareOf}
 use Rattle.gg_cut_split.proofs.ShareLemmas.{along-once}
 use Rattle.gg_cut_routes.specs.Routes.{AreRoutes}

@@ -11,7 +11,7 @@ use Rattle.gg_cut_plan.specs.declared.wires.Wire.{Wire}
 use Rattle.gg_cut_plan.specs.Machines.{machine_count}
 use Rattle.gg_cut_plan.specs.Channels.{wires_of}
 use Rattle.gg_cut_plan.specs.Plan.{channels_from, signals_of, givens_of}
-use Rattle.gg_cut_laws.specs.Apart.{AreApart, AreEnds}
+use Rattle.gg_cut_split.specs.closed.Apart.{AreApart, AreEnds}
 use Rattle.gg_cut_split.specs.declared.share.Share.{Share}
 use Rattle.gg_cut_split.specs.IsShare.{AreShares, IsShare}
 use Rattle.gg_cut_plan.specs.Direct.{hub_of}

@@ -10,7 +10,7 @@ use Rattle.std.proofs.lemmas.List.FromFn.{get_or-range_with_len, length-range_wi
 use Rattle.gg_flat.proofs.ListLemmas.{Contains-map, Contains-filter, filter-cases, in-range, range-below, once-apart}
 use Rattle.gg_cut_plan.specs.declared.wires.Wire.{Wire}
 use Rattle.gg_cut_plan.specs.Channels.{wire}
-use Rattle.gg_cut_laws.proofs.ListLemmas.{map-cases, AllPairs-map}
+use Rattle.gg_cut_split.proofs.ClosedLemmas.ListLemmas.{map-cases, AllPairs-map}
 use Rattle.gg_cut_plan.specs.Direct.{Hub, is_own, is_taken, is_gone, left_by, is_number, origin, direct_of, giver, giver_or, route, route_by, routes}
 use Rattle.gg_cut_plan.proofs.OriginLemmas.{any-finds, finds-any, clash, Chain, Here, Copy, chain, chain-end, own-free}
 use Rattle.gg_cut_plan.proofs.DirectLemmas.{find-some, IsDirect, direct-is}

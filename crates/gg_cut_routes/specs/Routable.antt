@@ -13,7 +13,7 @@ use Rattle.gg_cut_plan.specs.Machines.{machine_count}
 use Rattle.gg_cut_plan.specs.Channels.{wires_of}
 use Rattle.gg_cut_plan.specs.Plan.{channels_to, channels_from, signals_of, givens_of, Makes, Takes, HasMemory}
 use Rattle.gg_order.specs.Marks.{is_marked}
-use Rattle.gg_cut_laws.specs.Apart.{AreApart, AreEnds}
+use Rattle.gg_cut_split.specs.closed.Apart.{AreApart, AreEnds}
 use Rattle.gg_cut_plan.specs.Direct.{Hub, routes, is_gone}
 
 -- A circuit that is well formed, with its tree and an order; units that lie apart; the channels before; and the signals and the

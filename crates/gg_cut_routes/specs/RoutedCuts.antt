@@ -13,8 +13,8 @@ use Rattle.gg_cut_plan.specs.Listed.{listed_of}
 use Rattle.gg_cut_plan.specs.Machines.{machine_count}
 use Rattle.gg_cut_plan.specs.Plan.{channels_to, channels_from, signals_of, givens_of}
 use Rattle.gg_cut_split.specs.Share.{IsShareOf}
-use Rattle.gg_cut_laws.specs.Apart.{AreApart, AreFew}
-use Rattle.gg_cut_laws.specs.Closed.{ins_in_cut, outs_in_cut}
+use Rattle.gg_cut_split.specs.closed.Apart.{AreApart, AreFew}
+use Rattle.gg_cut_split.specs.closed.Closed.{ins_in_cut, outs_in_cut}
 use Rattle.gg_cut_routes.specs.Routable.{MarksGone}
 use Rattle.gg_cut_routes.specs.Routes.{AreRoutes}
 use Rattle.gg_cut_routes.specs.Share.{IsPlanShare, stays_by}

@@ -9,7 +9,7 @@ ghost use Rattle.gg_cut_plan.specs.Channels.{wires_of};
 ghost use Rattle.gg_cut_plan.specs.Direct.{hub_of, routes, is_gone, plan_routes};
 ghost use Rattle.gg_cut_routes.specs.RoutedCuts.{ChannelsAreRouted, PlansAreRouted, MachinesAreFew, HubIsRouted, OthersAreRouted, OthersTakeTheSame, OthersGiveTheSame};
 
-use gg_cut_laws::{channels_once, machine_makes_part};
+use gg_cut_split::{channels_once, machine_makes_part};
 
 /// If what is listed is apart, the routed channels make parts of the circuit, as the channels before do.
 pub fn channels_routed()

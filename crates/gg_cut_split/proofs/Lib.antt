@@ -4,3 +4,5 @@ pub mod SpreadLemmas
 pub mod ShareLemmas
 pub mod GatherLemmas
 pub mod PartingLemmas
+pub mod ClosedLemmas
+pub mod AgainLemmas

@@ -15,16 +15,16 @@ use Rattle.gg_cut_plan.specs.Machines.{machine_count}
 use Rattle.gg_cut_plan.specs.Channels.{wires_of}
 use Rattle.gg_cut_plan.specs.Plan.{channels_to, channels_from}
 use Rattle.gg_cut_split.specs.declared.share.Share.{Share}
-use Rattle.gg_cut_laws.specs.Apart.{AreApart}
+use Rattle.gg_cut_split.specs.closed.Apart.{AreApart}
 use Rattle.gg_cut_split.specs.CanSplit.{CanSplit}
 use Rattle.gg_cut_split.specs.IsShare.{IsShare, AreShares, AreGathered}
-use Rattle.gg_cut_laws.specs.Apart.{AreEnds}
+use Rattle.gg_cut_split.specs.closed.Apart.{AreEnds}
 use Rattle.gg_cut_split.specs.Spread.{AreLists, EachList, AreChannels, signals_among, memories_below, AreSignals, AreMemories}
-use Rattle.gg_cut_laws.proofs.ChoiceLemmas.{wire-known}
-use Rattle.gg_cut_laws.proofs.OnceLemmas.{wires-once}
+use Rattle.gg_cut_split.proofs.ClosedLemmas.ChoiceLemmas.{wire-known}
+use Rattle.gg_cut_split.proofs.ClosedLemmas.OnceLemmas.{wires-once}
 use Rattle.gg_part.proofs.FrameLemmas.{length-once}
-use Rattle.gg_cut_laws.proofs.EndLemmas.{machine-below, owner-few, ends}
-use Rattle.gg_cut_laws.proofs.MakerLemmas.{no-field-place, out-plain}
+use Rattle.gg_cut_split.proofs.ClosedLemmas.EndLemmas.{machine-below, owner-few, ends}
+use Rattle.gg_cut_split.proofs.ClosedLemmas.MakerLemmas.{no-field-place, out-plain}
 use Rattle.gg_cut_split.proofs.ShareLemmas.{signals-are, memories-are, shared}
 
 module _ (circuit : FlatCircuit) (tree : InstanceTree) (listed : Listed) (fits : IsTree circuit tree) (apart : AreApart tree listed) where

@@ -22,16 +22,16 @@ use Rattle.gg_part.specs.Choice.{IsChoice}
 use Rattle.gg_cut_plan.specs.Channels.{wires_of}
 use Rattle.gg_cut_plan.proofs.WireLemmas.{givens-same}
 use Rattle.gg_cut_plan.specs.Plan.{wire_at, channels_to, channels_from, signals_of, givens_of, HasMemory}
-use Rattle.gg_cut_laws.specs.Apart.{AreApart}
+use Rattle.gg_cut_split.specs.closed.Apart.{AreApart}
 use Rattle.gg_cut_split.specs.Share.{IsShareOf}
 use Rattle.gg_cut_split.specs.Spread.{AreChannels, IsChannelBelow, has_by, has, signals_among, memories_below, AreSignals, AreMemories}
-use Rattle.gg_cut_laws.proofs.ListLemmas.{map-cases, AllPairs-map}
-use Rattle.gg_cut_laws.proofs.TreeLemmas.{innermost}
-use Rattle.gg_cut_laws.proofs.PlaceLemmas.{place-signal}
-use Rattle.gg_cut_laws.proofs.OnceLemmas.{channel-one}
-use Rattle.gg_cut_laws.proofs.MakerLemmas.{Gets, chosen-in, chosen-out, given-out, wire-among, no-channel, owner-signal}
-use Rattle.gg_cut_laws.proofs.WrittenLemmas.{inner-plain}
-use Rattle.gg_cut_laws.proofs.ChoiceLemmas.{gets-known, choice}
+use Rattle.gg_cut_split.proofs.ClosedLemmas.ListLemmas.{map-cases, AllPairs-map}
+use Rattle.gg_cut_split.proofs.ClosedLemmas.TreeLemmas.{innermost}
+use Rattle.gg_cut_split.proofs.ClosedLemmas.PlaceLemmas.{place-signal}
+use Rattle.gg_cut_split.proofs.ClosedLemmas.OnceLemmas.{channel-one}
+use Rattle.gg_cut_split.proofs.ClosedLemmas.MakerLemmas.{Gets, chosen-in, chosen-out, given-out, wire-among, no-channel, owner-signal}
+use Rattle.gg_cut_split.proofs.ClosedLemmas.WrittenLemmas.{inner-plain}
+use Rattle.gg_cut_split.proofs.ClosedLemmas.ChoiceLemmas.{gets-known, choice}
 
 -- ---- signals
 

@@ -8,7 +8,7 @@ use Rattle.gg_flat_tree.specs.Scoped.{IsScoped}
 use Rattle.gg_flat.specs.Order.{IsOrder}
 use Rattle.gg_cut_plan.specs.declared.listed.Listed.{Listed}
 use Rattle.gg_cut_plan.specs.Channels.{wires_of}
-use Rattle.gg_cut_laws.specs.Apart.{AreApart}
+use Rattle.gg_cut_split.specs.closed.Apart.{AreApart}
 
 -- A circuit can be split: it is well formed, with its tree and an order, its memories are numbered by their places in the tree,
 -- the units that are listed lie apart, and there are fewer than 2^32 channels.

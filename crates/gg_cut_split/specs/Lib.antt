@@ -3,3 +3,5 @@ pub mod CanSplit
 pub mod Share
 pub mod IsShare
 pub mod Spread
+pub mod closed
+pub mod again

@@ -3,7 +3,7 @@ ghost use Rattle.std.specs.Prelude.{◌≡◌, ◌<◌, ◌^◌, [], length, set
 ghost use Rattle.gg_part.specs.KeepsToTree.{KeepsToTree};
 ghost use Rattle.gg_cut_plan.specs.Machines.{machine_count};
 ghost use Rattle.gg_cut_plan.specs.Channels.{wires_of};
-ghost use Rattle.gg_cut_laws.specs.Apart.{AreApart};
+ghost use Rattle.gg_cut_split.specs.closed.Apart.{AreApart};
 ghost use Rattle.gg_cut_split.specs.Beginning.{IsBeginning, IsWhole, ordered_of};
 ghost use Rattle.gg_cut_split.specs.Spread.{EachList, AreSignals, AreMemories};
 ghost use Rattle.gg_cut_split.specs.IsShare.{AreShares, IsGathered, AreGathered};

@@ -9,11 +9,11 @@ use Rattle.std.proofs.lemmas.List.Sums.{sum_by-cons}
 use Rattle.gg_ast.specs.declared.statement.Stmt.{Stmt}
 use Rattle.gg_ast.specs.Places.{place_of}
 use Rattle.gg_ast.specs.Tree.{CircuitTree, ModuleTree, empty_module, module_names}
-use Rattle.gg_elab_count.specs.declared.counts.Counts.{Counts}
-use Rattle.gg_elab_count.specs.declared.counts.Excess.{Excess}
-use Rattle.gg_elab_count.specs.declared.counts.Measure.TheVariants as measures
-use Rattle.gg_elab_count.specs.Counts.{counts_of, excess_of, first_excess}
-use Rattle.gg_elab_count.specs.Sites.{Site, all_sites, module_at, sites_from, sites_of}
+use Rattle.gg_elab_sites.specs.declared.counts.Counts.{Counts}
+use Rattle.gg_elab_sites.specs.declared.counts.Excess.{Excess}
+use Rattle.gg_elab_sites.specs.declared.counts.Measure.TheVariants as measures
+use Rattle.gg_elab_sites.specs.Counts.{counts_of, excess_of, first_excess}
+use Rattle.gg_elab_sites.specs.Sites.{Site, all_sites, module_at, sites_from, sites_of}
 use Rattle.gg_flat.specs.Line.{value_at}
 use Rattle.gg_flat.proofs.ListLemmas.{Contains-cases}
 use Rattle.gg_elab_sites.specs.Known.{types_of}

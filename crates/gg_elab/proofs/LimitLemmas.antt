@@ -2,10 +2,10 @@
 use Rattle.std.proofs.Common.{◌≡◌, ℕ, suc, ◌+◌, ◌<◌, List, [], ◌∷◌, length, map, get_or, Option, Some, refl, sym, ap, ◌∙◌, arith}
 use Rattle.std.proofs.lemmas.List.{length-map}
 use Rattle.gg_ast.specs.Tree.{ModuleTree}
-use Rattle.gg_elab_count.specs.declared.counts.Counts.{Counts}
-use Rattle.gg_elab_count.specs.declared.counts.Excess.{Excess}
-use Rattle.gg_elab_count.specs.Counts.{counts_of, first_excess}
-use Rattle.gg_elab_count.specs.Sites.{module_at}
+use Rattle.gg_elab_sites.specs.declared.counts.Counts.{Counts}
+use Rattle.gg_elab_sites.specs.declared.counts.Excess.{Excess}
+use Rattle.gg_elab_sites.specs.Counts.{counts_of, first_excess}
+use Rattle.gg_elab_sites.specs.Sites.{module_at}
 use Rattle.gg_elab_sites.specs.declared.digest.Digest.{Digest}
 use Rattle.gg_elab.specs.Limits.{own_counts, excess_over}
 use Rattle.gg_elab_sites.specs.Signals.{Types, own_signals}

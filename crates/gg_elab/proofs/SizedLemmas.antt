@@ -17,7 +17,7 @@ use Rattle.gg_ast.specs.declared.statement.StmtKind.TheVariants as says
 use Rattle.gg_ast.specs.declared.expression.Reference.{Reference}
 use Rattle.gg_ast.specs.Tree.{CircuitTree, ModuleTree, empty_module}
 use Rattle.gg_flat.specs.declared.memory.Latency.{Latency}
-use Rattle.gg_elab_count.specs.Sites.{Site}
+use Rattle.gg_elab_sites.specs.Sites.{Site}
 use Rattle.gg_flat.specs.Line.{shape_at}
 use Rattle.gg_shape_names.specs.Modules.{module_at}
 use Rattle.gg_types.specs.declared.sort.Sort.{Sort}

@@ -9,7 +9,7 @@ use Rattle.std.proofs.lemmas.Simd.{map-map}
 use Rattle.gg_ast.specs.declared.module.Direction.{Direction}
 use Rattle.gg_ast.specs.declared.module.Port.{Port}
 use Rattle.gg_ast.specs.Tree.{ModuleTree}
-use Rattle.gg_elab_count.specs.Sites.{Site, module_at, all_sites, sites_from}
+use Rattle.gg_elab_sites.specs.Sites.{Site, module_at, all_sites, sites_from}
 use Rattle.gg_flat.specs.declared.memory.Memory.{Memory}
 use Rattle.gg_bits.specs.Shape.{Shape, shape}
 use Rattle.gg_flat.specs.declared.piece.Driver.TheVariants.{Input}

@@ -1,8 +1,8 @@
 -- The text of a fault of the elaboration.
 -- Source: this program's own, as the limits are.
 use Rattle.std.specs.Prelude.{ℕ, List, codes}
-use Rattle.gg_elab_count.specs.declared.counts.Measure.{Measure}
-use Rattle.gg_elab_count.specs.declared.counts.Measure.TheVariants as measures
+use Rattle.gg_elab_sites.specs.declared.counts.Measure.{Measure}
+use Rattle.gg_elab_sites.specs.declared.counts.Measure.TheVariants as measures
 use Rattle.gg_shape.specs.declared.fault.Fault.TheVariants.{OverLimit}
 use Rattle.gg_shape.specs.declared.fault.Limit.{Limit}
 use Rattle.gg_shape.specs.declared.fault.Limit.TheVariants as limits

@@ -1,9 +1,9 @@
 -- Which count of a circuit is above its limit, if any.
--- Source: this program's own; the counts and the limits are gg_elab_count's.
+-- Source: this program's own; the counts and the limits are gg_elab_sites's.
 use Rattle.std.specs.Prelude.{◌≡◌, ℕ, suc, List, [], ◌∷◌, Option, Some, None, Result, Ok, Err, length}
 use Rattle.gg_ast.specs.Tree.{ModuleTree}
-use Rattle.gg_elab_count.specs.declared.counts.Excess.{Excess}
-use Rattle.gg_elab_count.specs.Counts.{counts_of, first_excess}
+use Rattle.gg_elab_sites.specs.declared.counts.Excess.{Excess}
+use Rattle.gg_elab_sites.specs.Counts.{counts_of, first_excess}
 use Rattle.gg_elab.specs.declared.fault.ElabFault.{ElabFault}
 use Rattle.gg_elab.specs.declared.fault.ElabFault.TheVariants.{TooLarge, NoMemory}
 use Rattle.gg_elab_sites.specs.Signals.{Types, own_signals}

@@ -5,7 +5,7 @@ ghost use Rattle.gg_flat.specs.Line.{HasType, IsSource};
 ghost use Rattle.gg_flat.specs.WellFormed.{IsRegister, IsReset};
 ghost use Rattle.gg_elab_tree.specs.Fitting.{FitsDriver, IsFitting};
 ghost use Rattle.gg_elab_sites.specs.Flat.{drive_of, input_drive, FlatSignal, flat_signal, signals_at, flat_signals, Gets};
-ghost use Rattle.gg_elab_count.specs.Sites.{module_at};
+ghost use Rattle.gg_elab_sites.specs.Sites.{module_at};
 ghost use Rattle.gg_flat.specs.Circuit.{no_circuit};
 ghost use Rattle.gg_flat_tree.specs.Clocked.{clock_at as clock_at_number};
 ghost use Rattle.gg_elab_sites.specs.Clocks.{clock_of as clock_of_term, site_clocks};

@@ -17,7 +17,7 @@ ghost use Rattle.gg_elab.specs.Limits.{excess_over, IsAnswered};
 use crate::build::add_sites;
 use crate::fault::ElabFault;
 use crate::ports::{add_all_memories, add_ports, add_stops};
-use gg_elab_count::count;
+use gg_elab_sites::count;
 use gg_elab_sites::{Digest, Place, clock_count, digests, places, table_of};
 use gg_elab_tree::{distinct, fits, formed, top_of, tree_of};
 use gg_flat::Piece;

@@ -3,7 +3,7 @@ ghost use Rattle.std.specs.Prelude.{◌≡◌};
 ghost use Rattle.gg_elab.specs.declared.fault.ElabFault.TheVariants.{NoMemory};
 ghost use Rattle.gg_elab.specs.ElabText.{limit_of};
 
-use gg_elab_count::{Excess, Measure};
+use gg_elab_sites::{Excess, Measure};
 use gg_shape::{Fault, Limit};
 use std::alloc::AllocError;
 use std::error::Error;

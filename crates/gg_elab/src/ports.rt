@@ -1,7 +1,7 @@
 //! The memories, the ports and the stops of the flat circuit.
 ghost use Rattle.std.specs.Prelude.{◌≡◌, ◌<◌, ◌++◌, ◌∷◌, [], List, map, length, All, IfOk, OnOk};
 ghost use Rattle.gg_ast.specs.declared.module.Direction.TheVariants as direction;
-ghost use Rattle.gg_elab_count.specs.Sites.{module_at};
+ghost use Rattle.gg_elab_sites.specs.Sites.{module_at};
 ghost use Rattle.gg_flat_tree.specs.Clocked.{clock_at as clock_at_number};
 ghost use Rattle.gg_flat_tree.specs.Tree.{joined as joined_text};
 ghost use Rattle.gg_elab_sites.specs.Clocks.{port_clock as clock_of_port, site_clocks};

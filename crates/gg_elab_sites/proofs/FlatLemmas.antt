@@ -8,7 +8,7 @@ use Rattle.gg_bits.specs.declared.types.Ty.{Ty}
 use Rattle.gg_bits.specs.Shape.{shape}
 use Rattle.gg_ast.specs.Tree.{ModuleTree}
 use Rattle.gg_flat_tree.specs.Tree.{joined}
-use Rattle.gg_elab_count.specs.Sites.{Site}
+use Rattle.gg_elab_sites.specs.Sites.{Site}
 use Rattle.gg_elab_sites.specs.declared.digest.Digest.{Digest}
 use Rattle.gg_elab_sites.specs.declared.digest.OwnMemory.{OwnMemory}
 use Rattle.gg_elab_sites.specs.declared.own.OwnSignal.{OwnSignal}

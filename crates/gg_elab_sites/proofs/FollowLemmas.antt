@@ -12,7 +12,7 @@ use Rattle.gg_flat_tree.specs.Clocked.{clock_at, clocks_from}
 use Rattle.gg_flat.specs.WellFormed.{IsClock}
 use Rattle.gg_types.specs.Clocks.{clock_followed, clock_inputs, clock_named, root_of}
 use Rattle.gg_types.proofs.InputLemmas.{clock-below}
-use Rattle.gg_elab_count.specs.Sites.{Site, Step, held_at, module_at, all_sites, site_below, sites, top_site}
+use Rattle.gg_elab_sites.specs.Sites.{Site, Step, held_at, module_at, all_sites, site_below, sites, top_site}
 use Rattle.gg_elab_sites.specs.Clocks.{clock_connected, clock_of, clocks_around, clocks_given, clocks_led, port_clock, site_clocks}
 use Rattle.gg_elab_sites.specs.Connection.{Connection, ConnectedTo, Zeroed, connection_in}
 use Rattle.gg_elab_sites.specs.Signals.{dotted, field_name}

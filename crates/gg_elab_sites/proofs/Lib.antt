@@ -19,3 +19,6 @@ mod WorkedHierarchy
 mod WorkedParts
 pub mod WorkedStops
 pub mod WorkedText
+pub mod PassLemmas
+pub mod CountLemmas
+mod WorkedRows

@@ -1,4 +1,4 @@
--- An order of modules as gg_shape_names defines it is an order of modules as gg_elab_count defines it.
+-- An order of modules as gg_shape_names defines it is an order of modules as gg_elab_sites defines it.
 use Rattle.std.proofs.Common.{◌≡◌, ℕ, List, [], ◌∷◌, ◌++◌, length, Option, Some, None, option_to_list, refl, ap, ◌∙◌, subst}
 use Rattle.std.specs.Prelude.{Contains, option_map, flat_map}
 use Rattle.std.specs.List.{cons_option}
@@ -7,8 +7,8 @@ use Rattle.gg_ast.specs.declared.statement.StmtKind.{StmtKind}
 use Rattle.gg_ast.specs.declared.statement.StmtKind.TheVariants as says
 use Rattle.gg_ast.specs.Places.{place_of}
 use Rattle.gg_ast.specs.Tree.{ModuleTree, names_of}
-use Rattle.gg_elab_count.specs.Sites.{Held, held, held_by, held_by_kind, module_at, HoldsModule}
-use Rattle.gg_elab_count.proofs.PassLemmas.{numbers_of}
+use Rattle.gg_elab_sites.specs.Sites.{Held, held, held_by, held_by_kind, module_at, HoldsModule}
+use Rattle.gg_elab_sites.proofs.PassLemmas.{numbers_of}
 use Rattle.gg_shape_names.specs.Modules as names
 use Rattle.gg_graph.specs.Graph.{IsOrderOf}
 

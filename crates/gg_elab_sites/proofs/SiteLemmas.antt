@@ -3,9 +3,9 @@ use Rattle.std.proofs.Common.{◌≡◌, ℕ, zero, suc, ◌+◌, ◌-◌, ◌<�
 use Rattle.std.specs.Prelude.{flat_map, Contains, IfSome}
 use Rattle.std.proofs.lemmas.List.{flat_map_more, map-append, take_more, length-map, get_or-map}
 use Rattle.gg_ast.specs.Tree.{ModuleTree}
-use Rattle.gg_elab_count.specs.Sites.{Held, Site, site_below, sites, held_at, module_at}
-use Rattle.gg_elab_count.proofs.CountLemmas.{held_by-below}
-use Rattle.gg_elab_count.proofs.PassLemmas.{numbers_of}
+use Rattle.gg_elab_sites.specs.Sites.{Held, Site, site_below, sites, held_at, module_at}
+use Rattle.gg_elab_sites.proofs.CountLemmas.{held_by-below}
+use Rattle.gg_elab_sites.proofs.PassLemmas.{numbers_of}
 use Rattle.gg_flat_tree.specs.Clocked.{clock_at}
 use Rattle.gg_flat_tree.specs.Tree.{joined}
 use Rattle.gg_elab_sites.specs.declared.digest.Instance.{Instance}

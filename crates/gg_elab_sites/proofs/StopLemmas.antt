@@ -9,7 +9,7 @@ use Rattle.std.proofs.lemmas.List.Elements.{Contains-append_cases}
 use Rattle.gg_flat.proofs.ListLemmas.{further}
 use Rattle.gg_ast.specs.declared.statement.Stmt.{Stmt}
 use Rattle.gg_ast.specs.Tree.{ModuleTree, empty_module}
-use Rattle.gg_elab_count.specs.Sites.{module_at}
+use Rattle.gg_elab_sites.specs.Sites.{module_at}
 use Rattle.gg_elab_sites.specs.declared.digest.Digest.{Digest}
 use Rattle.gg_elab_sites.specs.Signals.{Asked, OwnStop, Types, numbered, own_stops, stop_name, stop_of_kind}
 use Rattle.gg_elab_sites.specs.Views.{AreDigests, own_stop_of}

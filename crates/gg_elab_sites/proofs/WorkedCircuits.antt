@@ -54,7 +54,7 @@ use Rattle.gg_flat.specs.declared.memory.UnderWrite.TheVariants.{Undefined}
 use Rattle.gg_flat.specs.declared.piece.Driver.TheVariants.{Computed}
 use Rattle.gg_flat.specs.Circuit.{FlatCircuit}
 use Rattle.gg_flat.specs.Reads.{Names}
-use Rattle.gg_elab_count.specs.Sites.{sites_of}
+use Rattle.gg_elab_sites.specs.Sites.{sites_of}
 use Rattle.gg_elab_sites.specs.Signals.{Types}
 use Rattle.gg_elab_sites.specs.Connection.{Connection, ConnectedTo, Zeroed}
 use Rattle.gg_elab_sites.specs.Flat.{Scope, Drive, Gets, Answers, FlatSignal, FlatMemory, flat_signals, flat_memories}

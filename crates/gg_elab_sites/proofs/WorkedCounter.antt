@@ -32,7 +32,7 @@ use Rattle.gg_flat.specs.declared.piece.Driver.TheVariants.{Input, Held, Compute
 use Rattle.gg_flat.specs.declared.piece.Register.{Register}
 use Rattle.gg_flat.specs.Circuit.{FlatCircuit}
 use Rattle.gg_flat.specs.Line.{connected_value as line_connected}
-use Rattle.gg_elab_count.specs.Sites.{sites_of}
+use Rattle.gg_elab_sites.specs.Sites.{sites_of}
 use Rattle.gg_types.specs.Literal.{digit}
 use Rattle.gg_elab_sites.specs.Connection.{ConnectedTo}
 use Rattle.gg_elab_sites.specs.Flat.{FlatSignal, flat_signals}

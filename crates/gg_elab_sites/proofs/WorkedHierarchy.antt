@@ -19,7 +19,7 @@ use Rattle.gg_flat.specs.declared.piece.Signal.{Signal}
 use Rattle.gg_flat.specs.Circuit.{FlatCircuit}
 use Rattle.gg_flat.specs.Line.{shape_at}
 use Rattle.gg_flat_tree.specs.Tree.{joined}
-use Rattle.gg_elab_count.specs.Sites.{sites_of}
+use Rattle.gg_elab_sites.specs.Sites.{sites_of}
 use Rattle.gg_shape_names.specs.Scope.{written}
 use Rattle.gg_elab_sites.specs.Connection.{ConnectedTo, Zeroed}
 use Rattle.gg_elab_sites.specs.Flat.{Scope, FlatSignal, FlatMemory, flat_signals, flat_memories}

@@ -39,7 +39,7 @@ use Rattle.gg_ast.specs.declared.module.GroundType.TheVariants as types
 use Rattle.gg_ast.specs.declared.statement.StmtKind.TheVariants as says
 use Rattle.gg_ast.specs.Term.{Term, NamedTerm}
 use Rattle.gg_ast.specs.Tree.{ModuleTree, CircuitTree}
-use Rattle.gg_elab_count.specs.Sites.{sites_of}
+use Rattle.gg_elab_sites.specs.Sites.{sites_of}
 use Rattle.gg_elab_sites.specs.Clocks.{own_clocks, site_clocks}
 use Rattle.gg_elab_sites.specs.Connection.{ConnectedTo}
 use Rattle.gg_elab_sites.specs.Flat.{Outside, Gets, Holds, FlatSignal, flat_signals, stop_paths}

@@ -8,7 +8,7 @@ use Rattle.gg_ast.specs.Term.{Term, NamedTerm, ConstantTerm, UnaryTerm, BinaryTe
 use Rattle.gg_ast.specs.Tree.{ModuleTree}
 use Rattle.gg_flat_tree.specs.Clocked.{clock_at, clocks_from}
 use Rattle.gg_types.specs.Clocks.{clock_followed, clock_inputs}
-use Rattle.gg_elab_count.specs.Sites.{Site, Step, module_at}
+use Rattle.gg_elab_sites.specs.Sites.{Site, Step, module_at}
 use Rattle.gg_elab_sites.specs.Connection.{Connection, ConnectedTo, Zeroed, connection_in}
 use Rattle.gg_elab_sites.specs.Signals.{dotted, field_name}
 

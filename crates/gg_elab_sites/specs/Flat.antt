@@ -8,7 +8,7 @@ use Rattle.gg_ast.specs.Tree.{ModuleTree}
 use Rattle.gg_flat.specs.declared.memory.Latency.{Latency}
 use Rattle.gg_flat_tree.specs.Clocked.{clock_at}
 use Rattle.gg_flat_tree.specs.Tree.{joined}
-use Rattle.gg_elab_count.specs.Sites.{Site, Outer, module_at}
+use Rattle.gg_elab_sites.specs.Sites.{Site, Outer, module_at}
 use Rattle.gg_types.specs.Memories.{Bank}
 use Rattle.gg_elab_sites.specs.Clocks.{clock_of, port_clock, site_clocks}
 use Rattle.gg_elab_sites.specs.Signals.{Cause, FromOutside, Connected, Expressed, Kept, Answered, Own, Types, own_signals, OwnBank, own_banks, own_stops, dotted, field_name}

@@ -25,7 +25,7 @@ use Rattle.gg_flat.specs.Circuit.{FlatCircuit, signal_shapes, driver_at}
 use Rattle.gg_flat.specs.Line.{shape_at, line_value, connected_value as line_connected}
 use Rattle.gg_flat.specs.Reads.{Names}
 use Rattle.gg_types.specs.Clocks.{clock_inputs}
-use Rattle.gg_elab_count.specs.Sites.{module_at, sites_of}
+use Rattle.gg_elab_sites.specs.Sites.{module_at, sites_of}
 use Rattle.gg_types.specs.Memories.{type_shape}
 use Rattle.gg_elab_sites.specs.Signals.{Types, field_name}
 use Rattle.gg_elab_sites.specs.Connection.{Connection}

@@ -7,3 +7,6 @@ pub mod Meaning
 pub mod Lines
 pub mod IsFlat
 pub mod Views
+pub mod Sites
+pub mod Counts
+pub mod Graph

@@ -4,7 +4,7 @@ use Rattle.gg_bits.specs.Shape.{shape}
 use Rattle.gg_ast.specs.declared.statement.Stmt.{Stmt}
 use Rattle.gg_ast.specs.Places.{place_of}
 use Rattle.gg_ast.specs.Tree.{ModuleTree}
-use Rattle.gg_elab_count.specs.Sites as count
+use Rattle.gg_elab_sites.specs.Sites as count
 use Rattle.gg_elab_sites.specs.declared.connections.Source.{Source}
 use Rattle.gg_elab_sites.specs.declared.connections.Source.TheVariants.{Of, Zero}
 use Rattle.gg_elab_sites.specs.declared.digest.Digest.{Digest}

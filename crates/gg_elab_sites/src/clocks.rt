@@ -1,6 +1,6 @@
 //! Which Clock inputs the expressions, the memories and the instances of a module follow.
 ghost use Rattle.std.specs.Prelude.{◌≡◌, ◌<◌, ◌++◌, ◌∷◌, [], length, map, IfOk, OnOk};
-ghost use Rattle.gg_elab_count.specs.Sites.{module_at};
+ghost use Rattle.gg_elab_sites.specs.Sites.{module_at};
 ghost use Rattle.gg_elab_sites.specs.Clocks.{clock_of as clock_of_term, clock_connected as clock_of_connection, port_clock as clock_of_port, clocks_given as clocks_of_instance, clocks_of_top};
 ghost use Rattle.gg_elab_sites.specs.Connection.{connection_in};
 ghost use Rattle.gg_elab_sites.specs.Known.{types_of};

@@ -1,6 +1,6 @@
 //! What each module says, read once.
 ghost use Rattle.std.specs.Prelude.{◌≡◌, ◌<◌, ◌^◌, map, length, option_map, option_to_list, ◌++◌, IfOk, OnOk};
-ghost use Rattle.gg_elab_count.specs.Sites.{held_by, held_by_kind, module_at};
+ghost use Rattle.gg_elab_sites.specs.Sites.{held_by, held_by_kind, module_at};
 ghost use Rattle.gg_elab_sites.specs.Known.{types_of};
 ghost use Rattle.gg_elab_sites.specs.Signals.{own_bank, own_banks, bank_of_kind};
 ghost use Rattle.gg_elab_sites.specs.Views.{held_of, own_bank_of, IsDigest, AreDigests};

@@ -1,6 +1,6 @@
 //! Which flat circuit a circuit has, and what each module declares, read once for building it.
 //!
-//! The crate stands between the checks of a circuit (gg_types, gg_elab_count) and the crates that make its flat circuit:
+//! The crate stands between the checks of a circuit (gg_types, gg_elab_sites) and the crates that make its flat circuit:
 //! gg_elab_tree states laws of it, and gg_elab builds it. The definition `IsFlat` is here.
 //!
 //! The signals of a circuit are those of its top and of every instance below it, by their paths (`flat_signals`). The
@@ -35,6 +35,19 @@
 //!
 //! The definitions are total: what isn't known, or doesn't fit, is 0. This never occurs in a circuit that passed the
 //! checks.
+//!
+//! Counts over a circuit's top and all instances below it, without building the instances, and the limits of the
+//! counts.
+//!
+//! The sites of a circuit are its top and the instances below it (`sites_of`). Four counts are made over the sites:
+//! the depth of the deepest, the signals, the words of all memories and the instances. The first memory in the text
+//! that is too deep is found as well. The crate promises:
+//!
+//! - `count` gives each count as it is defined over the sites (`counts_of`). Each count takes one pass over the
+//!   modules, regardless of the number of sites. A count saturates at 18,446,744,073,709,551,615;
+//! - `Counts::excess` is the first count above its limit, or none.
+//!
+//! The caller gives the number of each module's own signals.
 #![tactic(auto)]
 
 mod clocks;
@@ -58,3 +71,7 @@ pub use own::{Origin, OwnSignal};
 pub use sites::{Around, Place, Step, places};
 pub use stops::OwnStop;
 pub use table::{Table, add_path, number, table_of};
+mod counts;
+mod pass;
+
+pub use counts::{Counts, Excess, Measure, count};

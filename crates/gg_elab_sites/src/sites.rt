@@ -1,6 +1,6 @@
 //! The sites of a circuit: its top and all instances below it.
 ghost use Rattle.std.specs.Prelude.{◌≡◌, ◌+◌, ◌<◌, ◌^◌, ◌++◌, ◌∷◌, [], map, length, Some, OnOk, IfOk, IfSome, All};
-ghost use Rattle.gg_elab_count.specs.Sites.{sites as sites_below, all_sites, module_at, top_site};
+ghost use Rattle.gg_elab_sites.specs.Sites.{sites as sites_below, all_sites, module_at, top_site};
 ghost use Rattle.gg_flat_tree.specs.Clocked.{clock_at};
 ghost use Rattle.gg_flat_tree.specs.Tree.{joined as joined_text};
 ghost use Rattle.gg_elab_sites.specs.Clocks.{clocks_given as clocks_of_instance};

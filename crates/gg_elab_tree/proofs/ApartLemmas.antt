@@ -7,7 +7,7 @@ use Rattle.std.proofs.lemmas.Simd.{map-map}
 use Rattle.gg_ast.specs.Tree.{ModuleTree}
 use Rattle.gg_flat_tree.specs.Tree.{joined}
 use Rattle.gg_flat.proofs.ListLemmas.{further, Contains-map, map-same}
-use Rattle.gg_elab_count.specs.Sites.{Held, Site, site_below, sites, held_at}
+use Rattle.gg_elab_sites.specs.Sites.{Held, Site, site_below, sites, held_at}
 use Rattle.gg_elab_sites.proofs.NameLemmas.{Differ, Differ-tail}
 use Rattle.gg_elab_tree.proofs.DeclaredLemmas.{Differ-head}
 use Rattle.gg_elab_tree.proofs.JoinLemmas.{joined-twice}

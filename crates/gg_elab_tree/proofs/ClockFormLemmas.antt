@@ -14,7 +14,7 @@ use Rattle.gg_flat.specs.declared.memory.Reader.{Reader}
 use Rattle.gg_flat.specs.declared.memory.Writer.{Writer}
 use Rattle.gg_flat.specs.declared.piece.Register.{Register}
 use Rattle.gg_flat.specs.declared.piece.Signal.{Signal}
-use Rattle.gg_elab_count.specs.Sites.{Site, all_sites, module_at}
+use Rattle.gg_elab_sites.specs.Sites.{Site, all_sites, module_at}
 use Rattle.gg_elab_sites.specs.Clocks.{port_clock, site_clocks}
 use Rattle.gg_elab_sites.specs.Flat.{FlatMemory, FlatSignal, Outside, drive_of, flat_memories, flat_memory, flat_signal, flat_signals, memories_at, signals_at, stop_paths}
 use Rattle.gg_elab_sites.specs.IsFlat.{IsFlatOf, IsMemoryOf, bindings_of, count_before, drive_at, is_outside, is_register, reader_of, signals_of, writer_of}

@@ -20,7 +20,7 @@ use Rattle.gg_flat.specs.declared.piece.Register.{Register}
 use Rattle.gg_flat.proofs.ListLemmas.{some-item}
 use Rattle.gg_flat_tree.proofs.TopClockLemmas.{top_clocks-only}
 use Rattle.gg_types.specs.Clocks.{clock_inputs}
-use Rattle.gg_elab_count.specs.Sites.{Site, module_at, site_below, sites_of, top_site}
+use Rattle.gg_elab_sites.specs.Sites.{Site, module_at, site_below, sites_of, top_site}
 use Rattle.gg_elab_sites.specs.Clocks.{clock_of, own_clocks, port_clock, site_clocks}
 use Rattle.gg_elab_sites.specs.Flat.{FlatMemory, FlatSignal, Outside, drive_of, flat_memory, flat_signal, flat_signals}
 use Rattle.gg_elab_sites.specs.IsFlat.{IsFlat, IsMemoryOf, bindings_of, count_before, drive_at, is_outside, is_register, reader_of, signals_of, top_ports, writer_of}

@@ -11,7 +11,7 @@ use Rattle.gg_flat.specs.declared.memory.Reader.{Reader}
 use Rattle.gg_flat.specs.declared.piece.Driver.TheVariants.{MemoryWord}
 use Rattle.gg_flat_tree.specs.Tree.{joined}
 use Rattle.gg_flat.specs.WellFormed.{IsDataOf, MayDrive, reader_driver}
-use Rattle.gg_elab_count.specs.Sites.{Site, Outer}
+use Rattle.gg_elab_sites.specs.Sites.{Site, Outer}
 use Rattle.gg_elab_sites.specs.Flat.{Drive, Outside, Gets, Holds, Answers, drive_of}
 use Rattle.gg_elab_sites.specs.IsFlat.{answer, number_of, is_outside}
 use Rattle.gg_elab_sites.specs.Signals.{Cause, FromOutside, Connected, Expressed, Kept, Answered}

@@ -33,7 +33,7 @@ use Rattle.gg_flat_tree.specs.Tree.{InstanceTree, IsInnermost, instance_at, join
 use Rattle.gg_flat_tree.specs.Scoped.{IsScoped, IsVisible, IsWritten, IsOwnSink, IsChildsInput, IsInputOf}
 use Rattle.gg_flat.proofs.ListLemmas.{some-item}
 use Rattle.gg_shape_names.specs.Scope.{written}
-use Rattle.gg_elab_count.specs.Sites.{Site, site_below, module_at, sites_of}
+use Rattle.gg_elab_sites.specs.Sites.{Site, site_below, module_at, sites_of}
 use Rattle.gg_elab_sites.specs.Clocks.{clock_of, site_clocks}
 use Rattle.gg_elab_sites.specs.Connection.{Connection, ConnectedTo, Zeroed, connection_in}
 use Rattle.gg_elab_sites.specs.Flat.{scope_at, Drive, Outside, FlatSignal, flat_signal, flat_signals, drive_of}

@@ -15,7 +15,7 @@ use Rattle.gg_flat_tree.specs.declared.tree.StopInstance.{StopInstance}
 use Rattle.gg_flat_tree.specs.Tree.{InstanceTree, joined}
 use Rattle.gg_flat.proofs.ListLemmas.{here, further, Contains-map}
 use Rattle.gg_types.specs.Clocks.{clock_inputs}
-use Rattle.gg_elab_count.specs.Sites.{Outer, Site, module_at, sites_of}
+use Rattle.gg_elab_sites.specs.Sites.{Outer, Site, module_at, sites_of}
 use Rattle.gg_elab_sites.specs.Clocks.{clock_of, own_clocks}
 use Rattle.gg_elab_sites.specs.Flat.{FlatMemory, FlatSignal, flat_signal, flat_signals, memories_at, signals_at}
 use Rattle.gg_elab_sites.specs.IsFlat.{memory_paths, top_ports}

@@ -11,7 +11,7 @@ use Rattle.gg_ast.specs.declared.statement.StmtKind.TheVariants as says
 use Rattle.gg_ast.specs.Tree.{ModuleTree}
 use Rattle.gg_flat_tree.specs.Tree.{joined}
 use Rattle.gg_flat_tree.specs.Scoped.{reader_fields, writer_fields}
-use Rattle.gg_elab_count.specs.Sites.{Site}
+use Rattle.gg_elab_sites.specs.Sites.{Site}
 use Rattle.gg_elab_sites.specs.Flat.{flat_memory}
 use Rattle.gg_elab_sites.specs.IsFlat.{number_of, reader_of, writer_of}
 use Rattle.gg_types.specs.Memories.{Bank, bank_of}

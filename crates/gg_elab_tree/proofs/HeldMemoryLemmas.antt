@@ -8,7 +8,7 @@ use Rattle.gg_ast.specs.Places.{place_of}
 use Rattle.gg_ast.specs.Tree.{ModuleTree, CircuitTree, module_names}
 use Rattle.gg_flat_tree.specs.declared.tree.MemoryInstance.{MemoryInstance}
 use Rattle.gg_flat_tree.specs.Tree.{InstanceTree, memory_at}
-use Rattle.gg_elab_count.specs.Sites.{Site, module_at, sites_of}
+use Rattle.gg_elab_sites.specs.Sites.{Site, module_at, sites_of}
 use Rattle.gg_elab_sites.specs.Flat.{FlatMemory, flat_memory, memories_at, flat_memories}
 use Rattle.gg_elab_sites.specs.IsFlat.{memory_paths}
 use Rattle.gg_elab_tree.specs.IsTreeOf.{site_paths, memories_of, IsMemoryFor, HeldMemory, held_memory, held_memories, IsTreeOf}

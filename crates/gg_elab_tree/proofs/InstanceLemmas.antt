@@ -7,7 +7,7 @@ use Rattle.gg_ast.specs.Places.{place_of}
 use Rattle.gg_ast.specs.Tree.{CircuitTree, module_names}
 use Rattle.gg_flat_tree.specs.declared.tree.Instance.{Instance}
 use Rattle.gg_flat_tree.specs.Tree.{InstanceTree, instance_at}
-use Rattle.gg_elab_count.specs.Sites.{Site, Outer, site_below, sites, sites_of, sites_from, top_site}
+use Rattle.gg_elab_sites.specs.Sites.{Site, Outer, site_below, sites, sites_of, sites_from, top_site}
 use Rattle.gg_elab_sites.specs.Flat.{FlatSignal, signals_at}
 use Rattle.gg_elab_tree.specs.IsTreeOf.{site_paths, IsParent, IsInstanceFor, AreInstances, IsTreeOf}
 use Rattle.gg_elab_sites.specs.Known.{types_of}

@@ -20,7 +20,7 @@ use Rattle.gg_shape_names.specs.Namespace.{name_by, name_by_kind, port_names, na
 use Rattle.gg_shape_names.specs.Repetitions.{repeated_in, repeated_in_field, repeated_port, repeated_by, repeated_by_kind, repeated_declarations, repetitions}
 use Rattle.gg_flat_tree.specs.Tree.{joined}
 use Rattle.gg_flat.proofs.ListLemmas.{Contains-map}
-use Rattle.gg_elab_count.specs.Sites.{Held, Site, top_site, module_at, held_at, held_by_kind, sites_from, sites_of}
+use Rattle.gg_elab_sites.specs.Sites.{Held, Site, top_site, module_at, held_at, held_by_kind, sites_from, sites_of}
 use Rattle.gg_elab_sites.specs.Flat.{FlatMemory, flat_memory, memories_at}
 use Rattle.gg_elab_sites.specs.IsFlat.{memory_paths}
 use Rattle.gg_elab_sites.specs.Known.{types_of}

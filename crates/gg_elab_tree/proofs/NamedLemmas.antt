@@ -10,7 +10,7 @@ use Rattle.gg_ast.specs.Tree.{CircuitTree, module_names}
 use Rattle.gg_flat.specs.Circuit.{FlatCircuit}
 use Rattle.gg_flat_tree.specs.Tree.{InstanceTree, IsInnermost, IsJustBelow, memory_at, path_at, joined}
 use Rattle.gg_flat_tree.specs.Scoped.{IsMemoryField, memory_fields}
-use Rattle.gg_elab_count.specs.Sites.{Site, site_below, module_at, held_at, sites_of, top_site}
+use Rattle.gg_elab_sites.specs.Sites.{Site, site_below, module_at, held_at, sites_of, top_site}
 use Rattle.gg_elab_sites.specs.Flat.{flat_memory, memories_at}
 use Rattle.gg_elab_sites.specs.IsFlat.{IsFlat}
 use Rattle.gg_elab_tree.specs.IsTreeOf.{IsTreeOf, held_memory, held_memories, signal_paths, site_paths}

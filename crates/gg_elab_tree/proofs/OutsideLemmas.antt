@@ -14,7 +14,7 @@ use Rattle.gg_ast.specs.declared.statement.Stmt.{Stmt}
 use Rattle.gg_ast.specs.declared.statement.StmtKind.{StmtKind}
 use Rattle.gg_ast.specs.declared.statement.StmtKind.TheVariants as says
 use Rattle.gg_ast.specs.Tree.{ModuleTree}
-use Rattle.gg_elab_count.specs.Sites.{Held, Site, Outer, top_site, site_below, sites, all_sites, module_at, held_at}
+use Rattle.gg_elab_sites.specs.Sites.{Held, Site, Outer, top_site, site_below, sites, all_sites, module_at, held_at}
 use Rattle.gg_elab_sites.specs.Flat.{FlatSignal, flat_signal, drive_of, signals_at, flat_signals}
 use Rattle.gg_elab_sites.specs.IsFlat.{number_of, is_outside, port_name, port_names, same_direction}
 use Rattle.gg_types.specs.Memories.{Bank, bank_of, type_shape}

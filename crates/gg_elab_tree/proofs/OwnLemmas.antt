@@ -11,7 +11,7 @@ use Rattle.gg_ast.specs.Places.{place_of}
 use Rattle.gg_ast.specs.Tree.{CircuitTree}
 use Rattle.gg_flat_tree.specs.declared.tree.InstancePort.{InstancePort}
 use Rattle.gg_flat_tree.specs.Tree.{joined}
-use Rattle.gg_elab_count.specs.Sites.{Site, module_at, sites_of}
+use Rattle.gg_elab_sites.specs.Sites.{Site, module_at, sites_of}
 use Rattle.gg_elab_sites.specs.Flat.{FlatSignal, flat_signal, flat_signals}
 use Rattle.gg_elab_tree.specs.IsTreeOf.{Pairwise, signal_paths, signal_ports, IsPortFor}
 use Rattle.gg_elab_sites.specs.Known.{types_of}

@@ -4,7 +4,7 @@ use Rattle.std.specs.Prelude.{flat_map, Contains}
 use Rattle.std.proofs.lemmas.Bool.{cases_lt}
 use Rattle.std.proofs.Math.Seq.{drop-append_seam}
 use Rattle.gg_ast.specs.Tree.{ModuleTree}
-use Rattle.gg_elab_count.specs.Sites.{Held, Site, site_below, sites, held_at}
+use Rattle.gg_elab_sites.specs.Sites.{Held, Site, site_below, sites, held_at}
 use Rattle.gg_flat.proofs.ListLemmas.{further}
 
 -- a site with all sites below it, down to the depth `deepest`

@@ -6,7 +6,7 @@ use Rattle.std.proofs.lemmas.Grind.{flat_map-append}
 use Rattle.std.proofs.Math.Seq.{take-append_seam}
 use Rattle.gg_ast.specs.Tree.{ModuleTree}
 use Rattle.gg_flat_tree.specs.Tree.{InstanceTree, instance_at, Holds, IsInnermost}
-use Rattle.gg_elab_count.specs.Sites.{Site, site_below, sites}
+use Rattle.gg_elab_sites.specs.Sites.{Site, site_below, sites}
 use Rattle.gg_elab_tree.proofs.PlaceLemmas.{within, within-some, Placed, Under, HeldFrom, held_from}
 
 -- how many elements the sites before a place have

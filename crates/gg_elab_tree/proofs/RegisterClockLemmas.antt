@@ -12,7 +12,7 @@ use Rattle.gg_flat.specs.declared.memory.Latency.TheVariants.{Zero, One}
 use Rattle.gg_flat.specs.declared.piece.Driver.{Driver}
 use Rattle.gg_flat.specs.declared.piece.Driver.TheVariants.{Held}
 use Rattle.gg_flat.specs.declared.piece.Register.{Register}
-use Rattle.gg_elab_count.specs.Sites.{Outer, Site, module_at}
+use Rattle.gg_elab_sites.specs.Sites.{Outer, Site, module_at}
 use Rattle.gg_elab_sites.specs.Clocks.{clock_of, site_clocks}
 use Rattle.gg_elab_sites.specs.Connection.{Connection}
 use Rattle.gg_elab_sites.specs.Flat.{Drive, Outside, Gets, Holds, Answers, FlatSignal, Scope, drive_of, input_drive}

@@ -16,7 +16,7 @@ use Rattle.gg_flat_tree.specs.declared.tree.InstancePort.{InstancePort}
 use Rattle.gg_flat_tree.specs.Tree.{InstanceTree, IsInnermost, IsWithin, IsJustBelow, instance_at, memory_at, path_at, joined}
 use Rattle.gg_flat_tree.specs.Scoped.{IsPort, IsOwnPort, IsOwnField, IsFieldOf, input_signals, output_signals, reader_fields, writer_fields, writers_at, memory_fields}
 use Rattle.gg_flat.proofs.ListLemmas.{filter-cases, some-item}
-use Rattle.gg_elab_count.specs.Sites.{Held, Site, module_at, held_at, sites_of, top_site}
+use Rattle.gg_elab_sites.specs.Sites.{Held, Site, module_at, held_at, sites_of, top_site}
 use Rattle.gg_elab_sites.specs.Flat.{flat_memory}
 use Rattle.gg_elab_sites.specs.IsFlat.{IsFlat, number_of, reader_of, writer_of, port_names, top_ports}
 use Rattle.gg_elab_tree.specs.IsTreeOf.{IsTreeOf, IsPortFor, signal_paths, signal_ports, is_input, Pairwise}

@@ -10,7 +10,7 @@ use Rattle.gg_ast.specs.Tree.{CircuitTree, module_names}
 use Rattle.gg_shape_names.specs.Repetitions.{repetitions}
 use Rattle.gg_flat_tree.specs.Tree.{joined}
 use Rattle.gg_flat.proofs.ListLemmas.{here, further}
-use Rattle.gg_elab_count.specs.Sites.{Held, Site, held_at, module_at, sites_of, top_site}
+use Rattle.gg_elab_sites.specs.Sites.{Held, Site, held_at, module_at, sites_of, top_site}
 use Rattle.gg_elab_sites.specs.Flat.{FlatSignal, flat_signal, signals_at}
 use Rattle.gg_elab_sites.specs.Known.{types_of}
 use Rattle.gg_elab_sites.specs.Signals.{Own, own_banks, own_signals, own_stops}

@@ -10,7 +10,7 @@ use Rattle.gg_ast.specs.declared.module.Port.{Port}
 use Rattle.gg_ast.specs.Tree.{CircuitTree}
 use Rattle.gg_shape_names.specs.Namespace.{name_by, port_names, names_in}
 use Rattle.gg_shape_names.specs.Repetitions.{repetitions}
-use Rattle.gg_elab_count.specs.Sites.{Site, module_at}
+use Rattle.gg_elab_sites.specs.Sites.{Site, module_at}
 use Rattle.gg_flat.proofs.ListLemmas.{filter-cases}
 use Rattle.gg_elab_tree.specs.IsTreeOf.{signal_ports}
 use Rattle.gg_elab_sites.specs.Known.{types_of}

@@ -14,7 +14,7 @@ use Rattle.gg_flat_tree.specs.declared.tree.InstancePort.{InstancePort}
 use Rattle.gg_flat_tree.specs.declared.tree.StopInstance.{StopInstance}
 use Rattle.gg_flat_tree.specs.Scoped.{IsFieldOf, IsPort, IsStop, stop_signals}
 use Rattle.gg_flat_tree.specs.Tree.{InstanceTree, IsInnermost, instance_at, joined, stop_at}
-use Rattle.gg_elab_count.specs.Sites.{Site, module_at, sites_of}
+use Rattle.gg_elab_sites.specs.Sites.{Site, module_at, sites_of}
 use Rattle.gg_elab_sites.specs.Clocks.{clock_of}
 use Rattle.gg_elab_sites.specs.IsFlat.{IsFlat}
 use Rattle.gg_elab_sites.specs.Known.{types_of}

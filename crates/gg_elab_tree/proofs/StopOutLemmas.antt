@@ -10,7 +10,7 @@ use Rattle.gg_flat.specs.Circuit.{FlatCircuit}
 use Rattle.gg_flat_tree.specs.declared.tree.StopInstance.{StopInstance}
 use Rattle.gg_flat_tree.specs.Scoped.{output_signals, stop_signals}
 use Rattle.gg_flat_tree.specs.Tree.{InstanceTree, instance_at, joined}
-use Rattle.gg_elab_count.specs.Sites.{Site, module_at, sites_of}
+use Rattle.gg_elab_sites.specs.Sites.{Site, module_at, sites_of}
 use Rattle.gg_elab_sites.specs.Flat.{stop_paths}
 use Rattle.gg_elab_sites.specs.IsFlat.{IsFlat, number_of, port_names, top_ports}
 use Rattle.gg_elab_sites.specs.Signals.{own_stops}

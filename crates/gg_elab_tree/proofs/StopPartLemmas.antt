@@ -10,7 +10,7 @@ use Rattle.gg_ast.specs.Tree.{ModuleTree, CircuitTree}
 use Rattle.gg_flat_tree.specs.declared.tree.StopInstance.{StopInstance}
 use Rattle.gg_flat_tree.specs.Tree.{joined}
 use Rattle.gg_flat.proofs.ListLemmas.{Contains-map}
-use Rattle.gg_elab_count.specs.Sites.{Outer, Site, module_at, sites_of}
+use Rattle.gg_elab_sites.specs.Sites.{Outer, Site, module_at, sites_of}
 use Rattle.gg_elab_sites.specs.declared.digest.Digest.{Digest}
 use Rattle.gg_elab_sites.specs.declared.own.OwnSignal.{OwnSignal}
 use Rattle.gg_elab_sites.specs.declared.sites.Place.{Place}

@@ -6,7 +6,7 @@ use Rattle.gg_ast.specs.Places.{place_of}
 use Rattle.gg_ast.specs.Tree.{ModuleTree, CircuitTree, module_names}
 use Rattle.gg_flat_tree.specs.Tree.{joined}
 use Rattle.gg_flat.proofs.ListLemmas.{further, Contains-map}
-use Rattle.gg_elab_count.specs.Sites.{Held, Site, Outer, top_site, site_below, sites, sites_of, sites_from, held_at, module_at}
+use Rattle.gg_elab_sites.specs.Sites.{Held, Site, Outer, top_site, site_below, sites, sites_of, sites_from, held_at, module_at}
 use Rattle.gg_elab_sites.specs.declared.digest.Digest.{Digest}
 use Rattle.gg_elab_sites.specs.declared.digest.OwnMemory.{OwnMemory}
 use Rattle.gg_elab_sites.specs.declared.sites.Around.{Around}

@@ -1,7 +1,7 @@
 -- The sites from which the tree is built are the circuit's.
 use Rattle.std.proofs.Common.{◌≡◌, ◌≢◌, ℕ, List, Option, Some, None, sym, ap, ◌∙◌}
 use Rattle.gg_ast.specs.Tree.{ModuleTree}
-use Rattle.gg_elab_count.specs.Sites.{Site, all_sites, sites_from}
+use Rattle.gg_elab_sites.specs.Sites.{Site, all_sites, sites_from}
 
 -- all sites of a known top module are the sites of the circuit
 pub sites-of : (modules : List ModuleTree) (o : Option ℕ) (top : ℕ) (sites : List Site) → o ≡ Some top → sites ≡ all_sites modules top → sites ≡ sites_from modules o

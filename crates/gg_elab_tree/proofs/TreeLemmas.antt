@@ -17,7 +17,7 @@ use Rattle.gg_flat_tree.specs.declared.tree.InstancePort.{InstancePort}
 use Rattle.gg_flat_tree.specs.declared.tree.MemoryInstance.{MemoryInstance}
 use Rattle.gg_flat_tree.specs.Tree.{InstanceTree, IsTree, IsTop, IsBelow, IsInstance, IsHeld, IsInnermost, IsWithin, Holds, instance_at, memory_at, parent_place, path_at, joined, port_count}
 use Rattle.gg_flat.proofs.ListLemmas.{some-item}
-use Rattle.gg_elab_count.specs.Sites.{Held, Site, site_below, module_at, held_at, sites_of, top_site}
+use Rattle.gg_elab_sites.specs.Sites.{Held, Site, site_below, module_at, held_at, sites_of, top_site}
 use Rattle.gg_elab_sites.specs.Flat.{FlatSignal, FlatMemory, flat_memory, memories_at, flat_signals}
 use Rattle.gg_elab_sites.specs.IsFlat.{IsFlat, IsMemoryOf, signals_of, reader_of, writer_of, memory_paths}
 use Rattle.gg_elab_tree.specs.IsTreeOf.{IsTreeOf, IsInstanceFor, IsPortFor, IsMemoryAt, held_memories, site_paths, signal_paths, memories_of, signal_ports, Pairwise}

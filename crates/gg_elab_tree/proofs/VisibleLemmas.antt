@@ -14,7 +14,7 @@ use Rattle.gg_flat.specs.Circuit.{FlatCircuit}
 use Rattle.gg_flat_tree.specs.Tree.{InstanceTree, IsInnermost, instance_at, joined}
 use Rattle.gg_flat_tree.specs.Scoped.{IsVisible}
 use Rattle.gg_shape_names.specs.Scope.{written}
-use Rattle.gg_elab_count.specs.Sites.{Held, Site, site_below, module_at, held_at, sites_of, top_site}
+use Rattle.gg_elab_sites.specs.Sites.{Held, Site, site_below, module_at, held_at, sites_of, top_site}
 use Rattle.gg_elab_sites.specs.Flat.{FlatSignal, flat_signals}
 use Rattle.gg_elab_sites.specs.IsFlat.{IsFlat}
 use Rattle.gg_elab_tree.specs.IsTreeOf.{IsTreeOf, IsPortFor, signal_paths, signal_ports, site_paths}

@@ -21,7 +21,7 @@ use Rattle.gg_ast.specs.Tree.{ModuleTree, empty_module, names_of}
 use Rattle.gg_flat.specs.declared.memory.Latency.{Latency}
 use Rattle.gg_flat.specs.declared.memory.UnderWrite.TheVariants.{Undefined}
 use Rattle.gg_shape_names.specs.Namespace.{name_by, name_by_kind}
-use Rattle.gg_elab_count.specs.Sites.{Held, held, held_by, held_by_kind}
+use Rattle.gg_elab_sites.specs.Sites.{Held, held, held_by, held_by_kind}
 use Rattle.gg_types.specs.Memories.{Bank, bank_of, bank_with, readers_said, writers_said, type_shape, first_said, type_said, depth_said, latency_said, under_said, latency_of}
 use Rattle.gg_elab_sites.specs.Signals.{Types, Cause, Connected, Expressed, Kept, Own, own, OwnBank, own_bank, own_banks, bank_of_kind, own_of_kind, memory_signals}
 use Rattle.gg_elab_tree.proofs.ElementLemmas.{value_or}

@@ -13,7 +13,7 @@ use Rattle.gg_flat_tree.specs.declared.tree.MemoryInstance.{MemoryInstance}
 use Rattle.gg_flat_tree.specs.declared.tree.StopInstance.{StopInstance}
 use Rattle.gg_flat_tree.specs.Tree.{InstanceTree, joined}
 use Rattle.gg_types.specs.Clocks.{clock_inputs}
-use Rattle.gg_elab_count.specs.Sites.{Site, Outer, module_at, sites, sites_of}
+use Rattle.gg_elab_sites.specs.Sites.{Site, Outer, module_at, sites, sites_of}
 use Rattle.gg_elab_sites.specs.Clocks.{clock_of, own_clocks}
 use Rattle.gg_elab_sites.specs.Flat.{Drive, Outside, Gets, Holds, Answers, FlatSignal, FlatMemory, signals_at, flat_signals, memories_at, flat_memories}
 use Rattle.gg_elab_sites.specs.IsFlat.{memory_paths, top_ports}

@@ -1,6 +1,6 @@
 //! The clocks of the tree.
 ghost use Rattle.std.specs.Prelude.{◌≡◌, ◌<◌, ◌++◌, map, flat_map, length, OnOk, All};
-ghost use Rattle.gg_elab_count.specs.Sites.{module_at};
+ghost use Rattle.gg_elab_sites.specs.Sites.{module_at};
 ghost use Rattle.gg_elab_sites.specs.Flat.{flat_signals};
 ghost use Rattle.gg_elab_sites.specs.Known.{types_of};
 ghost use Rattle.gg_elab_sites.specs.Views.{IsPlaceIn, AreDigests, cause_of, site_of};

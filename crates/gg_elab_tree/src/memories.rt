@@ -1,6 +1,6 @@
 //! The memories of the tree.
 ghost use Rattle.std.specs.Prelude.{List, ◌≡◌, ◌≢◌, ◌<◌, ◌++◌, ◌∷◌, [], map, flat_map, length, IfOk, OnOk, All, AllPairs, Contains};
-ghost use Rattle.gg_elab_count.specs.Sites.{module_at, sites_of};
+ghost use Rattle.gg_elab_sites.specs.Sites.{module_at, sites_of};
 ghost use Rattle.gg_elab_sites.specs.Clocks.{port_clock as clock_of_port};
 ghost use Rattle.gg_elab_sites.specs.Flat.{flat_memories};
 ghost use Rattle.gg_elab_sites.specs.IsFlat.{memory_paths};

@@ -1,6 +1,6 @@
 //! The stops of the tree.
 ghost use Rattle.std.specs.Prelude.{List, ◌≡◌, ◌<◌, ◌++◌, [], map, flat_map, length, IfOk, OnOk, All, Contains};
-ghost use Rattle.gg_elab_count.specs.Sites.{module_at, sites_of};
+ghost use Rattle.gg_elab_sites.specs.Sites.{module_at, sites_of};
 ghost use Rattle.gg_elab_sites.specs.Known.{types_of};
 ghost use Rattle.gg_elab_sites.specs.Views.{IsPlaceIn, AreDigests, site_of};
 ghost use Rattle.gg_flat_tree.specs.Tree.{joined as joined_text};

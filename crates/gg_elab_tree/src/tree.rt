@@ -2,7 +2,7 @@
 ghost use Rattle.std.specs.Prelude.{◌≡◌, ◌≢◌, None, map, IfOk, All, AllPairs};
 ghost use Rattle.gg_ast.specs.Places.{place_of};
 ghost use Rattle.gg_ast.specs.Tree.{module_names};
-ghost use Rattle.gg_elab_count.specs.Sites.{sites_of};
+ghost use Rattle.gg_elab_sites.specs.Sites.{sites_of};
 ghost use Rattle.gg_elab_sites.specs.IsFlat.{memory_paths, top_ports};
 ghost use Rattle.gg_elab_sites.specs.Known.{types_of};
 ghost use Rattle.gg_elab_sites.specs.Views.{IsPlaceIn, AreDigests, site_of};

@@ -11,7 +11,7 @@ ghost use Rattle.gg_fame5.specs.Shared.{machines_of, unset_of, IsConeDoneOf};
 use gg_clocks::Ratio;
 use gg_fame5::Shared;
 use gg_flat::Piece;
-use gg_flat_run::State;
+use gg_order::State;
 use gg_node::Host;
 use gg_program::{NoMemory, Program, Steps};
 use std::alloc::Global;

@@ -14,7 +14,7 @@ use Rattle.gg_flat.specs.State.{State, IsState}
 use Rattle.gg_flat.specs.Settled.{in_shapes}
 use Rattle.gg_node.specs.Machine.{latch_at, latched_value, needs_at, first_empty, missing}
 use Rattle.gg_node.proofs.EmptyLemmas.{empty-after}
-use Rattle.gg_part_needs.specs.Needs.{AreNeedsOfOuts}
+use Rattle.gg_order.specs.needs.Needs.{AreNeedsOfOuts}
 use Rattle.gg_program.specs.Programmed.{Programmed}
 use Rattle.gg_program.specs.Slots.{Slotted, NoneDone, HasInput, HasNeeded, with_input, DoneWith, inputs_in}
 use Rattle.gg_program.specs.Right.{InCycle}

@@ -12,7 +12,7 @@ use Rattle.gg_node.specs.Machine.{RunsPiece, latch_at, latched_value, latched_va
 use Rattle.gg_node.specs.Token.{IsTokenOf, IsNextOf}
 use Rattle.gg_node.proofs.EmptyLemmas.{filled}
 use Rattle.gg_program.specs.ConeValue.{IsConeValue}
-use Rattle.gg_part_needs.specs.Needs.{AreNeedsOfOuts}
+use Rattle.gg_order.specs.needs.Needs.{AreNeedsOfOuts}
 use Rattle.gg_program.specs.Programmed.{Programmed}
 use Rattle.gg_program.proofs.ConeLemmas.{row-in}
 use Rattle.gg_fame5.specs.Machine.{unit_machine}

@@ -11,7 +11,7 @@ use Rattle.gg_node.specs.Machine.{Machine, latch_at, missing, no_state}
 use Rattle.gg_node.specs.Token.{AgreesOn, IsToken}
 use Rattle.gg_node.specs.Step.{MayFire, MayFinish, with_latch, finished}
 use Rattle.gg_program.specs.Programmed.{Programmed}
-use Rattle.gg_part_needs.proofs.WorkedUnits.{unit}
+use Rattle.gg_order.proofs.NeedsLemmas.WorkedUnits.{unit}
 use Rattle.gg_fame5.specs.Machine.{unit_machine, opening_unit}
 
 -- `p` needs `x` alone, `q` needs both

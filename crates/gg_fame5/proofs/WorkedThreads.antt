@@ -2,8 +2,8 @@
 -- `xor(x, k)`. The first thread gives both. The second gives `q` twice and then `p`, and has a clock of ratio 2/3.
 use Rattle.std.proofs.Common.{◌≡◌, ℕ, List, [], ◌∷◌, Option, Some, None, true, false, true≢false, refl, sym, subst, arith, lit<, ◌+◌, ◌≤◌}
 use Rattle.gg_flat.specs.Clock.{Ratio}
-use Rattle.gg_part_needs.proofs.ReachLemmas.{Reaches-itself}
-use Rattle.gg_part_needs.proofs.WorkedUnits.{unit}
+use Rattle.gg_order.proofs.NeedsLemmas.ReachLemmas.{Reaches-itself}
+use Rattle.gg_order.proofs.NeedsLemmas.WorkedUnits.{unit}
 use Rattle.gg_node.specs.Machine.{Machine, machine_at, missing, edges_of, no_state}
 use Rattle.gg_node.specs.Step.{MayFire}
 use Rattle.gg_program.specs.Programmed.{Programmed}

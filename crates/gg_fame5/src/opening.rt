@@ -10,7 +10,7 @@ use crate::lane::Lane;
 use gg_bits::Ids;
 use gg_clocks::Ratios;
 use gg_flat::Piece;
-use gg_flat_run::State;
+use gg_order::State;
 use gg_program::{NoMemory, Program};
 use std::alloc::{AllocError, Global};
 

@@ -15,7 +15,7 @@ use crate::opening::{lanes_of, opening_states};
 use gg_bits::Ids;
 use gg_clocks::{Ratio, Ratios};
 use gg_flat::Piece;
-use gg_flat_run::State;
+use gg_order::State;
 use gg_node::Host;
 use gg_program::{NoMemory, Program, Slots, Steps};
 use std::alloc::Global;

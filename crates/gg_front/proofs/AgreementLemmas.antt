@@ -2,7 +2,7 @@
 use Rattle.std.proofs.Common.{◌≡◌, ◌≢◌, ℕ, List, Option, None, Some, refl, sym, ◌∙◌, subst, inl, inr}
 use Rattle.std.specs.Str.{IsUtf8}
 use Rattle.gg_ast.specs.Tree.{CircuitTree}
-use Rattle.gg_elab_count.specs.declared.counts.Excess.{Excess}
+use Rattle.gg_elab_sites.specs.declared.counts.Excess.{Excess}
 use Rattle.gg_read.specs.Text.{LineTokens, IsFaultLine, IsTooDeep, HasReadFault, first_outside}
 use Rattle.gg_read.specs.declared.text.ReadFault.{ReadFault}
 use Rattle.gg_read.specs.declared.text.ReadFault.TheVariants as unread

@@ -7,8 +7,8 @@ use Rattle.gg_flat.specs.Circuit.{FlatCircuit}
 use Rattle.gg_flat.specs.Order.{IsOrder}
 use Rattle.gg_flat.specs.Run.{opening_start}
 use Rattle.gg_flat.specs.WellFormed.{IsWellFormed}
-use Rattle.gg_flat_run.proofs.AlongLemmas.{IsRun-along}
-use Rattle.gg_flat_run.proofs.UniqueLemmas.{IsRunFrom-once}
+use Rattle.gg_order.proofs.RunsLemmas.AlongLemmas.{IsRun-along}
+use Rattle.gg_order.proofs.RunsLemmas.UniqueLemmas.{IsRunFrom-once}
 use Rattle.gg_shape_names.specs.declared.fault.Repetition.{Repetition}
 use Rattle.gg_shape_names.specs.Repetitions.{repetitions}
 use Rattle.gg_order.specs.Design.{IsDesign, Ordered}

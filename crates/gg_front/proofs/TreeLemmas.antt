@@ -8,7 +8,7 @@ use Rattle.gg_flat_tree.specs.declared.tree.Instance.{Instance}
 use Rattle.gg_flat_tree.specs.declared.tree.InstancePort.{InstancePort}
 use Rattle.gg_flat_tree.specs.declared.tree.MemoryInstance.{MemoryInstance}
 use Rattle.gg_flat_tree.specs.declared.tree.StopInstance.{StopInstance}
-use Rattle.gg_elab_count.specs.Sites.{Site, Outer, module_at, sites_of}
+use Rattle.gg_elab_sites.specs.Sites.{Site, Outer, module_at, sites_of}
 use Rattle.gg_elab_sites.specs.Flat.{FlatMemory, memories_at, signals_at}
 use Rattle.gg_elab_tree.specs.IsTreeOf.{IsAt, Pairwise, IsParent, IsPortFor, IsMemoryAt, IsInstanceFor, AreInstances, IsMemoryFor, HeldMemory, held_memories, IsStopFor, HeldStop, held_stops, IsTreeOf, signal_ports, site_paths}
 use Rattle.gg_elab_sites.specs.Known.{types_of}

@@ -4,7 +4,7 @@
 use Rattle.std.specs.Prelude.{◌≡◌, List, [], ℕ, Option, None}
 use Rattle.gg_ast.specs.Places.{place_of}
 use Rattle.gg_ast.specs.Tree.{CircuitTree, module_names}
-use Rattle.gg_elab_count.specs.declared.counts.Excess.{Excess}
+use Rattle.gg_elab_sites.specs.declared.counts.Excess.{Excess}
 use Rattle.gg_elab_sites.specs.IsFlat.{IsFlat}
 use Rattle.gg_elab_sites.specs.Known.{types_of}
 use Rattle.gg_elab.specs.Limits.{excess_over}

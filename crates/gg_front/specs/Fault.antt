@@ -2,7 +2,7 @@
 -- Source: this program's own; what the faults are is defined in the crates that find them.
 use Rattle.std.specs.Prelude.{◌≡◌, ◌≢◌, ℕ, List, Some, None, map, codes, ⊤}
 use Rattle.gg_ast.specs.Tree.{CircuitTree}
-use Rattle.gg_elab_count.specs.declared.counts.Excess.{Excess}
+use Rattle.gg_elab_sites.specs.declared.counts.Excess.{Excess}
 use Rattle.gg_elab.specs.ElabText.{limit_of}
 use Rattle.gg_elab_sites.specs.IsFlat.{IsFlat}
 use Rattle.gg_flat.specs.Circuit.{FlatCircuit}

@@ -3,3 +3,5 @@ pub mod Accepted
 pub mod Agreement
 pub mod Fault
 pub mod Meaning
+pub mod Paths
+pub mod PathLaws

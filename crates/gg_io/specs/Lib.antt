@@ -4,3 +4,9 @@ pub mod LoadFail
 pub mod Memory
 pub mod PutFail
 pub mod Told
+-- What is told of any order of files.
+pub mod Ends
+pub mod Endings
+pub mod Order
+pub mod Said
+pub mod WentOn

@@ -7,16 +7,16 @@ use Rattle.gg_net.specs.Kept.{Kept}
 use Rattle.gg_net.specs.Step.{Ready, Step}
 use Rattle.gg_net.proofs.StepLemmas.{kept-step}
 use Rattle.gg_net.proofs.GoesLemmas.{goes}
-use Rattle.gg_net_laws.specs.Marking.{Layout, Marking, opening_marking}
-use Rattle.gg_net_laws.specs.LayoutOf.{layout_of}
-use Rattle.gg_net_laws.specs.Fits.{HasLayout, marking_of}
-use Rattle.gg_net_laws.specs.Steps.{Steps}
-use Rattle.gg_net_laws.proofs.GoesLemmas.{free-ready}
-use Rattle.gg_net_laws.proofs.StepsLemmas.{steps-kept}
-use Rattle.gg_net_laws.specs.Counts.{counts_of, CanRun}
-use Rattle.gg_net_laws.specs.Measure.{left, sum_below, all_dues}
-use Rattle.gg_net_laws.proofs.SumLemmas.{sum-same}
-use Rattle.gg_net_laws.proofs.EndLemmas.{goes-or-ends, end-left, opening-left}
+use Rattle.gg_net.specs.markings.Marking.{Layout, Marking, opening_marking}
+use Rattle.gg_net.specs.markings.LayoutOf.{layout_of}
+use Rattle.gg_net.specs.markings.Fits.{HasLayout, marking_of}
+use Rattle.gg_net.specs.markings.Steps.{Steps}
+use Rattle.gg_net.proofs.MarkingsLemmas.GoesLemmas.{free-ready}
+use Rattle.gg_net.proofs.MarkingsLemmas.StepsLemmas.{steps-kept}
+use Rattle.gg_net.specs.markings.Counts.{counts_of, CanRun}
+use Rattle.gg_net.specs.markings.Measure.{left, sum_below, all_dues}
+use Rattle.gg_net.proofs.MarkingsLemmas.SumLemmas.{sum-same}
+use Rattle.gg_net.proofs.MarkingsLemmas.EndLemmas.{goes-or-ends, end-left, opening-left}
 use Rattle.gg_measure.specs.Nets.{AllStandAt, AreDrained, HaveKept, dues_at, net_left}
 use Rattle.gg_measure.proofs.NetLemmas.{can-run, shape-of, allowed-of, left-is, dues-are, kind-count}
 use Rattle.gg_measure.proofs.GoLemmas.{laid-out, step-falls, none-ready}
@@ -69,8 +69,8 @@ pub opening-net-left : (flow : Flow) (net : Network) (layout : Layout) → Kept 
 opening-net-left flow net layout kept has opens =
     let machines : length layout.turns ≡ length net.machines = has.machines ∙ kind-count flow net kept layout has in
     let ports : all_dues layout ≡ sum_below (dues_at net) (length net.machines) =
-    ap (sum_below (λ m. length (Rattle.gg_net_laws.specs.Marking.turns_at layout m))) machines
-    ∙ sum-same (λ m. length (Rattle.gg_net_laws.specs.Marking.turns_at layout m)) (dues_at net) (length net.machines) (λ m lt. dues-are flow net kept layout has m (omega (arith, lt, machines))) in
+    ap (sum_below (λ m. length (Rattle.gg_net.specs.markings.Marking.turns_at layout m))) machines
+    ∙ sum-same (λ m. length (Rattle.gg_net.specs.markings.Marking.turns_at layout m)) (dues_at net) (length net.machines) (λ m lt. dues-are flow net kept layout has m (omega (arith, lt, machines))) in
     let factor : 2 * length layout.links + length layout.turns + all_dues layout ≡ 2 * length net.wires + length net.machines + sum_below (dues_at net) (length net.machines) =
     omega (arith, has.channels, machines, ports) in
     left-is flow net kept layout has

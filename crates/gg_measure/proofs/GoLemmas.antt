@@ -16,22 +16,22 @@ use Rattle.gg_net.specs.Step.{Ready, Step, machine_of}
 use Rattle.gg_net.proofs.StepLemmas.{kept-step}
 use Rattle.gg_net.proofs.TableLemmas.{latch-can, fire-can, serve-can, finish-can}
 use Rattle.gg_net.proofs.ProgressLemmas.{goes-on}
-use Rattle.gg_net_laws.specs.Marking.{Layout, Marking, turns_at, puts, takes, refusal, after}
-use Rattle.gg_net_laws.specs.Fits.{HasLayout, marking_of}
-use Rattle.gg_net_laws.proofs.CountLemmas.{cycle-at, puts-are, takes-are}
-use Rattle.gg_net_laws.proofs.GoesLemmas.{ready-free, step-marks, step-frame}
-use Rattle.gg_net_laws.specs.Counts.{counts_of, dues, fires, latches, finishes, accesses, IsAllowed, Raises}
-use Rattle.gg_net_laws.proofs.Free.{Free}
-use Rattle.gg_net_laws.specs.Measure.{left}
+use Rattle.gg_net.specs.markings.Marking.{Layout, Marking, turns_at, puts, takes, refusal, after}
+use Rattle.gg_net.specs.markings.Fits.{HasLayout, marking_of}
+use Rattle.gg_net.proofs.MarkingsLemmas.CountLemmas.{cycle-at, puts-are, takes-are}
+use Rattle.gg_net.proofs.MarkingsLemmas.GoesLemmas.{ready-free, step-marks, step-frame}
+use Rattle.gg_net.specs.markings.Counts.{counts_of, dues, fires, latches, finishes, accesses, IsAllowed, Raises}
+use Rattle.gg_net.proofs.MarkingsLemmas.Free.{Free}
+use Rattle.gg_net.specs.markings.Measure.{left}
 use Rattle.gg_measure.specs.Nets.{IsAtWork, AllStandAt, IsIdle, StepBelow, StepsBelow, Goes, StaysWithin, cycle_at, dues_at, net_left}
-use Rattle.gg_net_laws.proofs.SumLemmas.{one-cases}
-use Rattle.gg_net_laws.proofs.FreeLemmas.{is-free}
-use Rattle.gg_net_laws.proofs.LeadLemmas.{Went, went}
-use Rattle.gg_net_laws.specs.LayoutOf.{layout_of}
-use Rattle.gg_net_laws.proofs.LayoutLemmas.{has-layout}
-use Rattle.gg_net_laws.proofs.GoesLemmas.{free-ready}
+use Rattle.gg_net.proofs.MarkingsLemmas.SumLemmas.{one-cases}
+use Rattle.gg_net.proofs.MarkingsLemmas.FreeLemmas.{is-free}
+use Rattle.gg_net.proofs.MarkingsLemmas.LeadLemmas.{Went, went}
+use Rattle.gg_net.specs.markings.LayoutOf.{layout_of}
+use Rattle.gg_net.proofs.MarkingsLemmas.LayoutLemmas.{has-layout}
+use Rattle.gg_net.proofs.MarkingsLemmas.GoesLemmas.{free-ready}
 use Rattle.gg_measure.proofs.NetLemmas.{can-run, shape-of, allowed-of, left-is, dues-are, serves-are}
-use Rattle.gg_net_laws.proofs.GoalLemmas.{goes-below, machine_by}
+use Rattle.gg_net.proofs.MarkingsLemmas.GoalLemmas.{goes-below, machine_by}
 
 -- ---- the layout
 

@@ -9,17 +9,17 @@ use Rattle.gg_net.specs.Step.{Step}
 use Rattle.gg_net.proofs.StepLemmas.{kept-step}
 use Rattle.gg_net.proofs.GoesLemmas.{goes}
 use Rattle.gg_net.proofs.CountLemmas.{counted-once}
-use Rattle.gg_net_laws.specs.Marking.{Layout, Marking, puts, takes}
-use Rattle.gg_net_laws.specs.Fits.{HasLayout, marking_of}
-use Rattle.gg_net_laws.specs.Steps.{Steps}
-use Rattle.gg_net_laws.proofs.CountLemmas.{cycle-at, served-at, puts-are, takes-are}
-use Rattle.gg_net_laws.proofs.GoesLemmas.{step-marks, step-frame}
-use Rattle.gg_net_laws.proofs.StepsLemmas.{steps-kept, steps-frame}
-use Rattle.gg_net_laws.specs.Counts.{counts_of, AreAtMost}
-use Rattle.gg_net_laws.specs.Leads.{Leads}
-use Rattle.gg_net_laws.proofs.LeadLemmas.{leads-up}
+use Rattle.gg_net.specs.markings.Marking.{Layout, Marking, puts, takes}
+use Rattle.gg_net.specs.markings.Fits.{HasLayout, marking_of}
+use Rattle.gg_net.specs.markings.Steps.{Steps}
+use Rattle.gg_net.proofs.MarkingsLemmas.CountLemmas.{cycle-at, served-at, puts-are, takes-are}
+use Rattle.gg_net.proofs.MarkingsLemmas.GoesLemmas.{step-marks, step-frame}
+use Rattle.gg_net.proofs.MarkingsLemmas.StepsLemmas.{steps-kept, steps-frame}
+use Rattle.gg_net.specs.markings.Counts.{counts_of, AreAtMost}
+use Rattle.gg_net.specs.markings.Leads.{Leads}
+use Rattle.gg_net.proofs.MarkingsLemmas.LeadLemmas.{leads-up}
 use Rattle.gg_measure.proofs.NetLemmas.{can-run, shape-of, allowed-of}
-use Rattle.gg_net_laws.proofs.GoesLemmas.{free-ready}
+use Rattle.gg_net.proofs.MarkingsLemmas.GoesLemmas.{free-ready}
 
 -- ---- from markings to networks
 

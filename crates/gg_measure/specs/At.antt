@@ -7,7 +7,7 @@ use Rattle.gg_flat.specs.Streams.{Flow}
 use Rattle.gg_node.specs.Machine.{KeepsLast, Machine, machine_at, latch_at, flag_at}
 use Rattle.gg_net.specs.Network.{Network, Frame, Kind, wire_at, queue_at, kind_of, kind_at, frame_of, entered_by}
 use Rattle.gg_net.specs.Kept.{IsStateOf, KeepsNone, list_at, rows_at, start_at}
-use Rattle.gg_net_laws.specs.Counts.{Counts}
+use Rattle.gg_net.specs.markings.Counts.{Counts}
 use Rattle.gg_measure.specs.Nets.{AreLast}
 
 -- a latch that holds this value, or is empty

@@ -11,7 +11,7 @@ use Rattle.gg_net.specs.Network as network
 use Rattle.gg_net.specs.Network.{Network, wire_at, queue_at, opening_queue}
 use Rattle.gg_net.specs.Kept.{list_at}
 use Rattle.gg_net.specs.Step.{Ready, Step, cycle_of}
-use Rattle.gg_net_laws.specs.Measure.{sum_below}
+use Rattle.gg_net.specs.markings.Measure.{sum_below}
 
 -- the cycle that a machine is in
 abbrev pub cycle_at : Network → ℕ → ℕ

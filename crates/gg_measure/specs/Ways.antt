@@ -5,10 +5,10 @@ use Rattle.gg_flat.specs.Streams.{Flow}
 use Rattle.gg_net.specs.declared.event.Event.{Event}
 use Rattle.gg_net.specs.Network.{Network, frame_of}
 use Rattle.gg_net.specs.Kept.{Kept}
-use Rattle.gg_net_laws.specs.Marking.{Layout, opening_marking}
-use Rattle.gg_net_laws.specs.Steps.{Steps}
-use Rattle.gg_net_laws.specs.Fits.{HasLayout, marking_of}
-use Rattle.gg_net_laws.specs.Counts.{Counts, AreSame, HasBegun, IsAllowed, counts_of}
+use Rattle.gg_net.specs.markings.Marking.{Layout, opening_marking}
+use Rattle.gg_net.specs.markings.Steps.{Steps}
+use Rattle.gg_net.specs.markings.Fits.{HasLayout, marking_of}
+use Rattle.gg_net.specs.markings.Counts.{Counts, AreSame, HasBegun, IsAllowed, counts_of}
 
 -- what the laws say holds of each network that has the invariant of a flow, and of its layout
 abbrev pub OfEachKept : (Flow → Network → Layout → Type 0) → Type 0

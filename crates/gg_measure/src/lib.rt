@@ -2,7 +2,7 @@
 //!
 //! The crate promises, of all networks with gg_net's invariant `Kept`:
 //!
-//! - counts are allowed and have begun, as gg_net_laws says of layouts that can run ([`nets_are_allowed`]);
+//! - counts are allowed and have begun, as gg_net says of layouts that can run ([`nets_are_allowed`]);
 //! - from a network before its first cycle steps lead to a network with given counts exactly if the counts are allowed
 //!   and have begun, and it is the one network with these counts ([`reached_exactly`], [`made_by_counts`]);
 //! - from any network steps lead to each other whose counts are nowhere lower ([`steps_up`]);

@@ -19,7 +19,7 @@ use Rattle.gg_flat.specs.Settled.{Settled, driver_value}
 use Rattle.gg_flat.specs.WellFormed.{AreDriven, reader_driver}
 use Rattle.gg_flat.specs.Memory.{Bank, found_word, read_word, next_words_from, next_reads, next_banks, read_count, bank_at, LooksAmong}
 use Rattle.gg_flat.specs.Served.{Access, ByReader, ByWriter, after_access}
-use Rattle.gg_flat_run.specs.Lent.{with_bank}
+use Rattle.gg_order.specs.runs.Lent.{with_bank}
 use Rattle.gg_node.specs.Machine.{RunsPiece, Port, Machine, latch_at, latched_value, latched_values, first_empty, needs_at, port_number}
 use Rattle.gg_node.specs.Token.{AgreesOn, IsTokenOf, IsNextOf, accessed}
 use Rattle.gg_node.specs.Step.{with_served}

@@ -5,7 +5,7 @@ ghost use Rattle.gg_flat.specs.Served.{after_access};
 ghost use Rattle.gg_memunit.specs.MemoryUnit.{access_of};
 
 use gg_flat::{Memory, Reader};
-use gg_flat_run::Bank;
+use gg_order::Bank;
 
 // The word that a reader finds.
 pub(crate) fn find(bank: &Bank, reader: &Reader, inputs: &[u128]) -> u128

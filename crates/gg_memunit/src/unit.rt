@@ -10,7 +10,7 @@ ghost use Rattle.gg_memunit.specs.MemoryUnit.{IsMemoryPiece, opening_unit, start
 use crate::{access, ports};
 use gg_clocks::{Ratio, Timing};
 use gg_flat::{Latency, Memory, Piece};
-use gg_flat_run::{Bank, State};
+use gg_order::{Bank, State};
 use gg_node::{Host, clean, clear_flags, empty_latches};
 use std::alloc::{AllocError, Global};
 use std::marker::Model;

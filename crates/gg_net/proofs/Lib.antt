@@ -25,3 +25,4 @@ pub mod OpenLemmas
 pub mod WorkedOpenings
 pub mod WorkedPipes
 pub mod WorkedLoops
+pub mod MarkingsLemmas

@@ -18,7 +18,7 @@ use Rattle.gg_net.specs.Net.{net_of, IsNet, OpensIn, IsOpening, opening_net, Ope
 use Rattle.gg_net.proofs.LatchLemmas.{no-latch, no-flag}
 use Rattle.gg_net.proofs.StepLemmas.{clear-after}
 use Rattle.gg_net.proofs.ChannelLemmas.{between-same, between-open}
-use Rattle.gg_flat_run.proofs.SinceLemmas.{since-self}
+use Rattle.gg_order.proofs.RunsLemmas.SinceLemmas.{since-self}
 
 -- ---- queues
 

@@ -16,7 +16,7 @@ use Rattle.gg_node.specs.Machine.{Port, latched_values}
 use Rattle.gg_node.specs.Token.{accessed}
 use Rattle.gg_node.specs.Step.{fields_of}
 use Rattle.gg_net.specs.Kept.{ins_of, in_columns, run_state, served_one, served_by}
-use Rattle.gg_flat_run.proofs.SinceLemmas.{since-next, later-since, since-add, row-dropped}
+use Rattle.gg_order.proofs.RunsLemmas.SinceLemmas.{since-next, later-since, since-add, row-dropped}
 
 -- ---- inputs
 

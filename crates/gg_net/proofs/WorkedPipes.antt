@@ -12,9 +12,9 @@ use Rattle.gg_flat.specs.Settled.{in_shapes, IsInputs}
 use Rattle.gg_flat.specs.Depends.{DependsOn}
 use Rattle.gg_flat.specs.Run.{Start, later, since, inputs_at, row_at, IsRunFrom}
 use Rattle.gg_flat.specs.Streams.{Flow}
-use Rattle.gg_flat_run.proofs.AlongLemmas.{IsRunFrom-along}
-use Rattle.gg_flat_run.proofs.UniqueLemmas.{Settled-once}
-use Rattle.gg_flat_run.proofs.DependLemmas.{depends-reached}
+use Rattle.gg_order.proofs.RunsLemmas.AlongLemmas.{IsRunFrom-along}
+use Rattle.gg_order.proofs.RunsLemmas.UniqueLemmas.{Settled-once}
+use Rattle.gg_order.proofs.RunsLemmas.DependLemmas.{depends-reached}
 use Rattle.gg_flat.proofs.WorkedCircuits.{loaded, loaded_order}
 use Rattle.gg_flat.proofs.WorkedForms.{only, both, three, loaded-formed, loaded-ordered}
 use Rattle.gg_node.specs.Machine.{RunsPiece, Port, Machine, no_state, machine_at, needs_at, source_machine, tray_machine}

@@ -8,3 +8,4 @@ pub mod Stations
 pub mod Net
 pub mod Parted
 pub mod TrayLaws
+pub mod markings

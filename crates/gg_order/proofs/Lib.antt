@@ -4,3 +4,5 @@ pub mod LoopLemmas
 pub mod NumberLemmas
 pub mod FoundLemmas
 mod WorkedLoops
+pub mod RunsLemmas
+pub mod NeedsLemmas

@@ -4,3 +4,5 @@ pub mod Found
 pub mod Loop
 pub mod Marks
 pub mod Places
+pub mod runs
+pub mod needs

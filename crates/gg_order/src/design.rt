@@ -37,7 +37,7 @@ impl Model for Design {
 
 impl Design {
     /// The design of a circuit, a tree of instances and an order of the circuit. The circuit is well formed, as
-    /// gg_flat_rules `is_well_formed` tells. The order has each signal once, after all signals that it reads.
+    /// gg_refsim `is_well_formed` tells. The order has each signal once, after all signals that it reads.
     pub fn new(piece: Piece, tree: Tree, order: Order) -> Design
         requires formed { IsWellFormed piece }
         requires ordered { IsOrder piece order }

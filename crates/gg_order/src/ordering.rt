@@ -11,7 +11,7 @@ use crate::graph::Dependencies;
 use crate::loops::told;
 use gg_bits::Ids;
 use gg_flat::Piece;
-use gg_flat_run::no_loop;
+use crate::runs::no_loop;
 use gg_graph::{WalkFault, walk};
 use std::alloc::Global;
 

@@ -10,14 +10,14 @@ use Rattle.gg_flat.specs.declared.piece.Driver.TheVariants.{Input}
 use Rattle.gg_flat.specs.Line.{shape_at, value_at, AreTyped}
 use Rattle.gg_flat.specs.Circuit.{FlatCircuit, signal_shapes}
 use Rattle.gg_flat.specs.Reads.{Reaches}
-use Rattle.gg_flat_run.specs.Room.{HasRoom}
+use Rattle.gg_order.specs.runs.Room.{HasRoom}
 use Rattle.gg_flat.specs.WellFormed.{IsWellFormed, MayDrive}
 use Rattle.gg_flat.specs.State.{State}
 use Rattle.gg_flat.specs.Settled.{Settled, in_shapes}
 use Rattle.gg_flat.proofs.TypedLemmas.{shape_at-in_shapes, AreTyped-zeros, AreTyped-set}
 use Rattle.gg_part.specs.InOrder.{IsInOrder}
 use Rattle.gg_order.specs.Marks.{is_marked}
-use Rattle.gg_part_needs.proofs.ReachLemmas.{Reaches-on, Reaches-within, along-reaches}
+use Rattle.gg_order.proofs.NeedsLemmas.ReachLemmas.{Reaches-on, Reaches-within, along-reaches}
 use Rattle.gg_program.specs.Slots.{Slotted, IsDone, NoneDone, AreSlots, HasInput, HasInputs, HasNeeded, with_input, inputs_in, DoneWith}
 use Rattle.gg_program.specs.Right.{AreRight, InCycle, IsInner}
 use Rattle.gg_program.specs.Search.{Searched, IsGathered, IsFull, StandBehind}

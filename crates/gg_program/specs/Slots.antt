@@ -4,7 +4,7 @@ use Rattle.std.specs.Prelude.{◌≡◌, ◌⊎◌, ℕ, ◌<◌, List, length, 
 use Rattle.gg_flat.specs.Line.{value_at, AreTyped}
 use Rattle.gg_flat.specs.Circuit.{FlatCircuit, signal_shapes}
 use Rattle.gg_flat.specs.Reads.{Reaches}
-use Rattle.gg_flat_run.specs.Room.{HasRoom}
+use Rattle.gg_order.specs.runs.Room.{HasRoom}
 
 -- A place for the value of each signal, a mark for each signal whose value is there, and room for this many nodes.
 pub record Slotted : Type 0 where

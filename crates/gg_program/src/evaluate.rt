@@ -6,7 +6,7 @@ ghost use Rattle.gg_flat.specs.Circuit.{signal_shapes, driver_at};
 ghost use Rattle.gg_flat.specs.WellFormed.{IsWellFormed};
 ghost use Rattle.gg_flat.specs.State.{IsState};
 ghost use Rattle.gg_flat.specs.Settled.{HasSource, driver_value};
-ghost use Rattle.gg_flat_run.specs.Room.{HasRoom, line_length};
+ghost use Rattle.gg_order.specs.runs.Room.{HasRoom, line_length};
 ghost use Rattle.gg_part.specs.InOrder.{IsInOrder};
 ghost use Rattle.gg_order.specs.Marks.{is_marked};
 ghost use Rattle.gg_program.specs.Slots.{inputs_in};
@@ -16,7 +16,7 @@ ghost use Rattle.gg_program.specs.Unset.{unset_among};
 
 use crate::steps::Steps;
 use gg_flat::{Piece, Signal};
-use gg_flat_run::{State, driver_value};
+use gg_order::{State, driver_value};
 use std::sync::ledger::Ledger;
 
 // Evaluates these signals, each after all signals that it reads. Each evaluation is a step.

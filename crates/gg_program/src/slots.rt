@@ -15,7 +15,7 @@ use crate::evaluate::{work_out, work_rest};
 use crate::search::{Search, are_marked};
 use crate::steps::Steps;
 use gg_flat::Piece;
-use gg_flat_run::{State, zeros};
+use gg_order::{State, zeros};
 use std::alloc::{AllocError, Global};
 use std::marker::Model;
 use std::sync::ledger::Ledger;

@@ -5,7 +5,7 @@ use Rattle.gg_flat.specs.Circuit.{FlatCircuit}
 use Rattle.gg_flat.specs.State.{State, next_state}
 use Rattle.gg_flat.specs.Settled.{Settled}
 use Rattle.gg_flat.specs.Order.{IsOrder}
-use Rattle.gg_flat_run.proofs.UniqueLemmas.{Settled-once}
+use Rattle.gg_order.proofs.RunsLemmas.UniqueLemmas.{Settled-once}
 use Rattle.gg_refsim.specs.Cycle.{Cycle, outputs}
 
 pub Cycle-once : (edges : List Bool) (circuit : FlatCircuit) (order : List ℕ) (before : State) (inputs printed others : List ℕ) (after next : State) → IsOrder circuit order → Cycle edges circuit before inputs printed after → Cycle edges circuit before inputs others next → (printed ≡ others) × (after ≡ next)

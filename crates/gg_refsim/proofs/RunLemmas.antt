@@ -5,7 +5,7 @@ use Rattle.gg_flat.specs.Circuit.{FlatCircuit}
 use Rattle.gg_flat.specs.State.{State}
 use Rattle.gg_flat.specs.Settled.{Settled}
 use Rattle.gg_flat.specs.Run.{Start, IsRunFrom, later, state_at, inputs_at}
-use Rattle.gg_flat_run.proofs.RunLemmas.{IsRunFrom-push, state_at-next}
+use Rattle.gg_order.proofs.RunsLemmas.RunLemmas.{IsRunFrom-push, state_at-next}
 use Rattle.gg_refsim.specs.Cycle.{Cycle}
 
 -- the state after one more cycle

@@ -3,7 +3,7 @@ use Rattle.std.specs.Prelude.{ℕ, List}
 use Rattle.gg_flat.specs.Line.{AreTyped}
 use Rattle.gg_flat.specs.Circuit.{signal_shapes}
 use Rattle.gg_flat.specs.State.{State, IsState}
-use Rattle.gg_flat_run.specs.Room.{HasRoom}
+use Rattle.gg_order.specs.runs.Room.{HasRoom}
 use Rattle.gg_order.specs.Design.{Ordered}
 
 -- the state and the values of the signals have the circuit's types, and there is room for each of its lines

@@ -5,6 +5,10 @@
 //! afterwards is the next state by them and by the edges. It allocates nothing. No other outputs and no other next
 //! state make such a cycle, since a design's circuit has an order. So n cycles from a start, whether the opening or
 //! another, are the circuit's one run from it (`run_begins`, `run_continues`).
+//!
+//! Whether a flat circuit is well formed, by the definitions of gg_flat.
+//!
+//! `is_well_formed` returns true exactly if a piece is well formed. It does not allocate.
 #![tactic(auto)]
 
 mod laws;
@@ -12,3 +16,8 @@ mod mono;
 
 pub use laws::{run_begins, run_continues};
 pub use mono::{Mono, NoMemory};
+mod check;
+mod check_clocks;
+mod check_memory;
+
+pub use check::is_well_formed;

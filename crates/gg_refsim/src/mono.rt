@@ -11,7 +11,7 @@ ghost use Rattle.gg_refsim.specs.Cycle.{Cycle, begun};
 
 use gg_clocks::{Ratio, Timing};
 use gg_flat::Piece;
-use gg_flat_run::{State, scratch_of, signal_zeros};
+use gg_order::{State, scratch_of, signal_zeros};
 use gg_order::Design;
 use std::alloc::{AllocError, Global};
 use std::error::Error;

@@ -11,10 +11,10 @@ use Rattle.gg_net.specs.Network.{Network, Frame, wire_at, queue_at, puts, entere
 use Rattle.gg_net.specs.Kept.{Kept, list_at}
 use Rattle.gg_net.specs.Step.{facts_of, Step}
 use Rattle.gg_net.proofs.RowLemmas.{fire-goes}
-use Rattle.gg_net_laws.specs.Steps.{IsStep, Steps}
-use Rattle.gg_net_laws.proofs.GoesLemmas.{step-frame}
-use Rattle.gg_net_laws.proofs.PutsLemmas.{front-grows, step-others}
-use Rattle.gg_net_laws.proofs.StepsLemmas.{steps-more}
+use Rattle.gg_net.specs.markings.Steps.{IsStep, Steps}
+use Rattle.gg_net.proofs.MarkingsLemmas.GoesLemmas.{step-frame}
+use Rattle.gg_net.proofs.MarkingsLemmas.PutsLemmas.{front-grows, step-others}
+use Rattle.gg_net.proofs.MarkingsLemmas.StepsLemmas.{steps-more}
 use Rattle.gg_replay.specs.Log.{tokens_at, AreFronts, IsBehind}
 
 -- equal `Fire` events give the token of the same channel

@@ -3,3 +3,4 @@ pub mod FrontLemmas
 pub mod LineLemmas
 pub mod OpeningLemmas
 pub mod WorkedRows
+pub mod StepsFileLemmas

@@ -10,7 +10,7 @@ use Rattle.gg_net.specs.declared.shape.Wire.{Wire}
 use Rattle.gg_net.specs.Network.{Network, wire_at, given_by, puts, entered_by, opening_queue}
 use Rattle.gg_net.specs.Kept.{Kept, list_at}
 use Rattle.gg_net.specs.Net.{IsOpening, opening_net}
-use Rattle.gg_net_laws.proofs.OpeningLemmas.{none-put}
+use Rattle.gg_net.proofs.MarkingsLemmas.OpeningLemmas.{none-put}
 use Rattle.gg_replay.specs.Log.{AreFronts, opening_log}
 
 -- the first value of a list

@@ -1,3 +1,4 @@
 pub mod Log
 pub mod Stopping
 pub mod ReplayText
+pub mod steps_file

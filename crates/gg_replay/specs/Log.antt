@@ -8,7 +8,7 @@ use Rattle.gg_net.specs.declared.shape.Wire.{Wire}
 use Rattle.gg_net.specs.Network.{Network, entered, opening_queue}
 use Rattle.gg_net.specs.Kept.{Kept, list_at}
 use Rattle.gg_net.specs.Net.{IsOpening, opening_net}
-use Rattle.gg_net_laws.specs.Steps.{IsStep}
+use Rattle.gg_net.specs.markings.Steps.{IsStep}
 
 -- these machines are before their first step, as the flow has them
 abbrev pub AreOpening : Flow → List Machine → Type 0

@@ -5,7 +5,7 @@ use Rattle.std.specs.Prelude.{ℕ, List, Option, ⊤}
 use Rattle.gg_flat.specs.Streams.{Flow}
 use Rattle.gg_net.specs.declared.event.Event.{Event}
 use Rattle.gg_net.specs.Network.{Network}
-use Rattle.gg_net_laws.specs.Steps.{StopsAt}
+use Rattle.gg_net.specs.markings.Steps.{StopsAt}
 use Rattle.gg_replay.specs.Log.{AreFronts}
 use Rattle.gg_replay.specs.declared.fault.ReplayFault.{ReplayFault}
 use Rattle.gg_replay.specs.declared.fault.ReplayFault.TheVariants.{Refused, NoMemory}

@@ -1,7 +1,7 @@
 //! `replay`: the steps of a network one after another.
 ghost use Rattle.std.specs.Prelude.{◌≡◌, Some, IfErr, OnOk, MatchResult};
 ghost use Rattle.gg_net.specs.declared.event.Event.TheVariants.{Fire};
-ghost use Rattle.gg_net_laws.specs.Steps.{IsStep, StepRefused, Steps};
+ghost use Rattle.gg_net.specs.markings.Steps.{IsStep, StepRefused, Steps};
 ghost use Rattle.gg_replay.specs.Log.{AreFronts, IsBehind};
 ghost use Rattle.gg_replay.specs.Stopping.{IsStop, KeepsLog};
 

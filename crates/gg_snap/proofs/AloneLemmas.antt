@@ -17,9 +17,9 @@ use Rattle.gg_cut_plan.specs.Plan.{IsPlan}
 use Rattle.gg_cut_plan.specs.Seated.{first_bridge, plan_bridges}
 use Rattle.gg_cut_plan.specs.Solves.{AreRows}
 use Rattle.gg_cut_reference.specs.Made.{plan_reference}
-use Rattle.gg_bridged.specs.Whole.{states_with, with_bridges}
-use Rattle.gg_build_laws.specs.Built.{IsGiven}
-use Rattle.gg_build_laws.proofs.GivenLemmas.{faultless}
+use Rattle.gg_cut_reference.specs.whole.Whole.{states_with, with_bridges}
+use Rattle.gg_build.specs.plan.Built.{IsGiven}
+use Rattle.gg_build.proofs.PlanLemmas.GivenLemmas.{faultless}
 use Rattle.gg_build.specs.Build.{IsToRunFrom}
 
 -- What is given with a plan without bridges: the run is one of the reference circuit.

@@ -19,7 +19,7 @@ use Rattle.gg_cut_reference.specs.Made.{plan_reference}
 use Rattle.gg_cut_reference.proofs.PlanLemmas.{plan-made}
 use Rattle.gg_build.specs.declared.begin.Begin.{Begin}
 use Rattle.gg_build.specs.Begin.{AreTokens}
-use Rattle.gg_build_laws.specs.Built.{nameless}
+use Rattle.gg_build.specs.plan.Built.{nameless}
 use Rattle.gg_build.specs.Build.{Begins, HasBridges, IsToBegin}
 use Rattle.gg_snap.specs.Gathered.{pipe_number}
 use Rattle.gg_snap.specs.Whole.{CanBegin}

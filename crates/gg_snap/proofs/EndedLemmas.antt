@@ -11,7 +11,7 @@ use Rattle.gg_cut_plan.specs.declared.plan.Plan.{Plan}
 use Rattle.gg_cut_reference.specs.Made.{AllHeld, IsFresh, plan_reference}
 use Rattle.gg_net.specs.Kept.{Kept}
 use Rattle.gg_net.specs.Network.{Network}
-use Rattle.gg_build_laws.proofs.LinkLemmas.{length-from}
+use Rattle.gg_build.proofs.PlanLemmas.LinkLemmas.{length-from}
 use Rattle.gg_build.specs.Build.{run_token}
 use Rattle.gg_snap.specs.Gathered.{AreApart, AreIn, IsAll}
 use Rattle.gg_snap.specs.Whole.{HasEnded, last_state}

@@ -36,13 +36,13 @@ use Rattle.gg_cut_plan.specs.Machines.{first_source}
 use Rattle.gg_cut_plan.specs.Plan.{IsBody, IsPlan, MakesBy, Takes}
 use Rattle.gg_cut_plan.proofs.OriginLemmas.{any-finds, clash}
 use Rattle.gg_cut_plan.proofs.WireLemmas.{Each, owner-below, rest-below, rest_wires}
-use Rattle.gg_cut_laws.proofs.FaultlessLemmas.{faultless-apart, faultless-few}
-use Rattle.gg_cut_laws.proofs.ListLemmas.{map-cases}
+use Rattle.gg_cut_split.proofs.ClosedLemmas.FaultlessLemmas.{faultless-apart, faultless-few}
+use Rattle.gg_cut_split.proofs.ClosedLemmas.ListLemmas.{map-cases}
 use Rattle.gg_cut_routes.proofs.ChoiceLemmas.{Made, has-still, hub-has, inner-item, ins-before, item-inner, made-wire, wire-made, wire-taken}
 use Rattle.gg_cut_routes.proofs.RouteLemmas.{IsBase, apart-at, same-wire}
 use Rattle.gg_cut_routes.proofs.RoutedLemmas.{plan-routed, routed-base}
-use Rattle.gg_build_laws.specs.Built.{machine_in, nameless}
-use Rattle.gg_build_laws.proofs.MemoryPartLemmas.{IsMemoryPart, memory-part}
+use Rattle.gg_build.specs.plan.Built.{machine_in, nameless}
+use Rattle.gg_build.proofs.PlanLemmas.MemoryPartLemmas.{IsMemoryPart, memory-part}
 use Rattle.gg_snap.specs.Gathered.{IsHeldBy, held_by}
 
 -- ---- a signal that is no copy

@@ -13,3 +13,4 @@ mod StandLemmas
 mod TokenLemmas
 mod EndedLemmas
 mod BeginLemmas
+pub mod TextLemmas

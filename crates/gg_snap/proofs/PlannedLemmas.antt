@@ -22,8 +22,8 @@ use Rattle.gg_cut_plan.specs.Listed.{first_place}
 use Rattle.gg_cut_plan.specs.Plan.{IsPlan, wire_at}
 use Rattle.gg_cut_plan.specs.Seated.{Bridges, plan_bridges, plan_wires, seated_wire}
 use Rattle.gg_cut_plan.proofs.OriginLemmas.{any-finds, finds-any}
-use Rattle.gg_cut_seats.proofs.LowLemmas.{wire-signal}
-use Rattle.gg_cut_laws.proofs.PlaceLemmas.{same-bool}
+use Rattle.gg_cut_reference.proofs.FittingLemmas.LowLemmas.{wire-signal}
+use Rattle.gg_cut_split.proofs.ClosedLemmas.PlaceLemmas.{same-bool}
 use Rattle.gg_cut_routes.proofs.ChoiceLemmas.{any-wire}
 use Rattle.gg_cut_routes.proofs.RouteLemmas.{IsBase, routes-known, routes-once}
 use Rattle.gg_cut_routes.proofs.RoutedLemmas.{routed-base}

@@ -8,12 +8,12 @@ use Rattle.gg_flat.specs.declared.piece.Driver.TheVariants.{Input, Held, MemoryW
 use Rattle.gg_flat.specs.Circuit.{FlatCircuit, driver_at}
 use Rattle.gg_flat_tree.specs.Tree.{InstanceTree, IsTree, memory_at, path_at}
 use Rattle.gg_flat.specs.WellFormed.{IsWellFormed, MayDrive}
-use Rattle.gg_front_laws.specs.Paths.{HavePaths, IsPath, IsSignalPath, is_path_byte, is_signal_byte}
+use Rattle.gg_front.specs.Paths.{HavePaths, IsPath, IsSignalPath, is_path_byte, is_signal_byte}
 use Rattle.gg_cut_plan.specs.Held.{AreHeldOnce}
 use Rattle.gg_cut_reference.specs.Reference.{IsReference, Views, driver_by}
-use Rattle.gg_snap_text.specs.Known.{CanSave, IsPlain}
-use Rattle.gg_snap_text.proofs.FeedLemmas.{free-no, no-append, no-nil}
-use Rattle.gg_snap_text.proofs.SaveLemmas.{plain-path, tree-memories}
+use Rattle.gg_snap.specs.text.Known.{CanSave, IsPlain}
+use Rattle.gg_snap.proofs.TextLemmas.FeedLemmas.{free-no, no-append, no-nil}
+use Rattle.gg_snap.proofs.TextLemmas.SaveLemmas.{plain-path, tree-memories}
 
 -- ---- paths
 

@@ -12,14 +12,14 @@ use Rattle.gg_flat.specs.State.{IsState, State, opening}
 use Rattle.gg_flat.proofs.ListLemmas.{some-item}
 use Rattle.gg_flat.specs.Run.{Start, since}
 use Rattle.gg_flat.specs.Streams.{Flow}
-use Rattle.gg_flat_run.proofs.AlongLemmas.{IsState-at}
+use Rattle.gg_order.proofs.RunsLemmas.AlongLemmas.{IsState-at}
 use Rattle.gg_cut_plan.specs.declared.plan.Plan.{Plan}
 use Rattle.gg_cut_reference.specs.Made.{IsFresh, plan_reference}
 use Rattle.gg_cut_reference.specs.Reference.{IsReference, Views, reader_by}
 use Rattle.gg_cut_reference.proofs.PlanLemmas.{plan-formed, plan-made}
 use Rattle.gg_build.specs.Build.{IsToRunFrom}
-use Rattle.gg_snap_text.specs.Parts.{HasSizeOf}
-use Rattle.gg_snap_text.proofs.PartLemmas.{no_bank}
+use Rattle.gg_snap.specs.text.Parts.{HasSizeOf}
+use Rattle.gg_snap.proofs.TextLemmas.PartLemmas.{no_bank}
 use Rattle.gg_snap.specs.Whole.{last_state}
 use Rattle.gg_snap.proofs.AloneLemmas.{run-alone}
 

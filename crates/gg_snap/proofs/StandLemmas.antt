@@ -23,7 +23,7 @@ use Rattle.gg_cut_plan.specs.declared.plan.Plan.{Plan}
 use Rattle.gg_cut_plan.specs.Direct.{plan_hub}
 use Rattle.gg_cut_plan.specs.Listed.{listed_of}
 use Rattle.gg_cut_plan.specs.Plan.{IsBody, IsCutPart}
-use Rattle.gg_cut_laws.proofs.FaultlessLemmas.{faultless-apart, faultless-few}
+use Rattle.gg_cut_split.proofs.ClosedLemmas.FaultlessLemmas.{faultless-apart, faultless-few}
 use Rattle.gg_cut_routes.proofs.RoutedLemmas.{plan-routed}
 use Rattle.gg_cut_reference.specs.Made.{IsFresh, plan_reference, plan_seen}
 use Rattle.gg_cut_reference.specs.Reference.{with_paths}
@@ -33,17 +33,17 @@ use Rattle.gg_node.specs.Machine.{Machine, RunsPiece, machine_at, no_state}
 use Rattle.gg_net.specs.Network.{Frame, Kind, Network, frame_of, kind_at, kind_of}
 use Rattle.gg_net.specs.Kept.{IsStateOf, Kept, ins_of, rows_at, run_state, served_by, start_at}
 use Rattle.gg_build.specs.Build.{IsToRunFrom, run_token}
-use Rattle.gg_build_laws.specs.Built.{IsBuilt, IsMemoryOf, IsUnitOf, body_rows, body_start, body_state, flow_of, machine_in, nameless, rows_of, states_of}
-use Rattle.gg_build_laws.proofs.AlikeLemmas.{state-alike}
-use Rattle.gg_build_laws.proofs.BeginLemmas.{memory-begins}
-use Rattle.gg_build_laws.proofs.FitLemmas.{kind-is}
-use Rattle.gg_build_laws.proofs.MemoryPartLemmas.{memory-part}
-use Rattle.gg_build_laws.proofs.RowLemmas.{models_in, rows-at}
-use Rattle.gg_build_laws.proofs.SeenLemmas.{seen-typed}
-use Rattle.gg_build_laws.proofs.ShownLemmas.{rows-twice, seen-twice}
-use Rattle.gg_build_laws.proofs.StateLemmas.{ratios-again}
-use Rattle.gg_run.specs.Rows.{StandsAt}
-use Rattle.gg_snap_text.specs.Parts.{IsPartState}
+use Rattle.gg_build.specs.plan.Built.{IsBuilt, IsMemoryOf, IsUnitOf, body_rows, body_start, body_state, flow_of, machine_in, nameless, rows_of, states_of}
+use Rattle.gg_build.proofs.PlanLemmas.AlikeLemmas.{state-alike}
+use Rattle.gg_build.proofs.PlanLemmas.BeginLemmas.{memory-begins}
+use Rattle.gg_build.proofs.PlanLemmas.FitLemmas.{kind-is}
+use Rattle.gg_build.proofs.PlanLemmas.MemoryPartLemmas.{memory-part}
+use Rattle.gg_build.proofs.PlanLemmas.RowLemmas.{models_in, rows-at}
+use Rattle.gg_build.proofs.PlanLemmas.SeenLemmas.{seen-typed}
+use Rattle.gg_build.proofs.PlanLemmas.ShownLemmas.{rows-twice, seen-twice}
+use Rattle.gg_build.proofs.PlanLemmas.StateLemmas.{ratios-again}
+use Rattle.gg_rows.specs.Rows.{StandsAt}
+use Rattle.gg_snap.specs.text.Parts.{IsPartState}
 use Rattle.gg_snap.specs.Gathered.{AreIn, HoldsBody}
 use Rattle.gg_snap.specs.Whole.{last_state}
 use Rattle.gg_snap.proofs.AloneLemmas.{no-bridge, run-alone}

@@ -9,7 +9,7 @@ use Rattle.gg_flat.specs.Circuit.{FlatCircuit, signal_shapes}
 use Rattle.gg_flat.specs.Line.{shape_at, value_at}
 use Rattle.gg_flat.specs.Run.{Start, column, since, state_at}
 use Rattle.gg_flat.specs.Streams.{Flow}
-use Rattle.gg_flat_run.proofs.SinceLemmas.{since-next, since-self}
+use Rattle.gg_order.proofs.RunsLemmas.SinceLemmas.{since-next, since-self}
 use Rattle.gg_cut_plan.specs.declared.plan.Channel.{Channel}
 use Rattle.gg_cut_plan.specs.declared.plan.Plan.{Plan}
 use Rattle.gg_cut_plan.specs.Direct.{plan_hub}
@@ -24,11 +24,11 @@ use Rattle.gg_net.specs.declared.shape.Wire.{Wire}
 use Rattle.gg_net.specs.Network.{Frame, Network, queue_at, wire_at}
 use Rattle.gg_net.specs.Kept.{Kept, list_at}
 use Rattle.gg_net.proofs.StateLemmas.{column-at}
-use Rattle.gg_build_laws.specs.Built.{first_token, wires_of_plan}
-use Rattle.gg_build_laws.proofs.LinkLemmas.{length-from, wire-from}
-use Rattle.gg_build_laws.proofs.SolvedLemmas.{stream-at}
+use Rattle.gg_build.specs.plan.Built.{first_token, wires_of_plan}
+use Rattle.gg_build.proofs.PlanLemmas.LinkLemmas.{length-from, wire-from}
+use Rattle.gg_build.proofs.PlanLemmas.SolvedLemmas.{stream-at}
 use Rattle.gg_build.specs.Build.{IsToRunFrom, run_token}
-use Rattle.gg_run.specs.Rows.{StandsAt}
+use Rattle.gg_rows.specs.Rows.{StandsAt}
 use Rattle.gg_snap.specs.Gathered.{ArePipes, IsAll, newest, newest_tokens, pipe_number}
 use Rattle.gg_snap.specs.Whole.{last_state}
 use Rattle.gg_snap.proofs.AloneLemmas.{run-alone}

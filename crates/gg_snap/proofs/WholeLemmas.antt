@@ -10,12 +10,12 @@ use Rattle.gg_partfile.specs.declared.request.Request.{Request}
 use Rattle.gg_cut_plan.specs.Direct.{is_driven, is_piped, plan_hub}
 use Rattle.gg_cut_plan.specs.Fault.{first_fault}
 use Rattle.gg_cut_plan.specs.Listed.{listed_of}
-use Rattle.gg_cut_laws.proofs.FaultlessLemmas.{faultless-apart}
+use Rattle.gg_cut_split.proofs.ClosedLemmas.FaultlessLemmas.{faultless-apart}
 use Rattle.gg_cut_routes.proofs.RoutedLemmas.{routed-base}
 use Rattle.gg_cut_reference.specs.Made.{AllHeld, holder_of, keeper_of, plan_reference}
 use Rattle.gg_cut_reference.proofs.WholeReference.{made}
 use Rattle.gg_cut_reference.specs.Reference.{IsReference, Views, driver_by}
-use Rattle.gg_snap_text.specs.Whole.{HasHolder, IsWhole}
+use Rattle.gg_snap.specs.text.Whole.{HasHolder, IsWhole}
 
 module _ (one all : FlatCircuit) (views : Views) (pipes : List ℕ) (reference : IsReference one all views pipes) (tree : InstanceTree) (keeps : KeepsToTree one tree) (held : AllHeld one) where
   own : (r : ℕ) → r < length one.registers → HasHolder all r

@@ -13,8 +13,8 @@ use Rattle.gg_cut_plan.specs.declared.plan.Channel.{Channel}
 use Rattle.gg_cut_plan.specs.declared.plan.Plan.{Plan}
 use Rattle.gg_node.specs.Machine.{Machine, RunsPiece, machine_at}
 use Rattle.gg_net.specs.Network.{Network, queue_at}
-use Rattle.gg_build_laws.specs.Built.{machine_in}
-use Rattle.gg_snap_text.specs.Parts.{HasSizeOf, IsPartState}
+use Rattle.gg_build.specs.plan.Built.{machine_in}
+use Rattle.gg_snap.specs.text.Parts.{HasSizeOf, IsPartState}
 
 -- a machine runs a piece
 pub record IsRunning (machine : Machine) : Type 0 where

@@ -1,3 +1,4 @@
 pub mod Gathered
 pub mod Whole
 pub mod StatesHeld
+pub mod text

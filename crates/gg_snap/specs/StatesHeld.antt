@@ -8,7 +8,7 @@ use Rattle.gg_flat.specs.Streams.{Flow}
 use Rattle.gg_part.specs.KeepsToTree.{KeepsToTree}
 use Rattle.gg_order.specs.Design.{IsDesign, Ordered}
 use Rattle.gg_partfile.specs.declared.request.Request.{Request}
-use Rattle.gg_front_laws.specs.Paths.{HavePaths}
+use Rattle.gg_front.specs.Paths.{HavePaths}
 use Rattle.gg_cut_plan.specs.Bridges.{Models}
 use Rattle.gg_cut_plan.specs.Fault.{first_fault}
 use Rattle.gg_cut_plan.specs.Held.{AreHeldOnce}
@@ -18,9 +18,9 @@ use Rattle.gg_cut_reference.specs.Made.{AllHeld, IsFresh, plan_reference}
 use Rattle.gg_net.specs.Kept.{Kept}
 use Rattle.gg_net.specs.Network.{Network}
 use Rattle.gg_build.specs.Build.{IsOpeningFrom, IsToRunFrom, run_token}
-use Rattle.gg_run.specs.Rows.{StandsAt}
-use Rattle.gg_snap_text.specs.Known.{CanSave}
-use Rattle.gg_snap_text.specs.Whole.{IsWhole}
+use Rattle.gg_rows.specs.Rows.{StandsAt}
+use Rattle.gg_snap.specs.text.Known.{CanSave}
+use Rattle.gg_snap.specs.text.Whole.{IsWhole}
 use Rattle.gg_snap.specs.Gathered.{AreIn, IsAll, IsHeldBy, IsKeptBy}
 use Rattle.gg_snap.specs.Whole.{CanBegin, last_state}
 

@@ -6,7 +6,7 @@ ghost use Rattle.gg_cut_plan.specs.declared.plan.Plan.{Plan};
 ghost use Rattle.gg_node.specs.Machine.{machine_at};
 ghost use Rattle.gg_net.specs.Network.{queue_at};
 ghost use Rattle.gg_build.specs.Node.{machines_of};
-ghost use Rattle.gg_snap_text.specs.Parts.{HasPart, HasSizeOf};
+ghost use Rattle.gg_snap.specs.text.Parts.{HasPart, HasSizeOf};
 ghost use Rattle.gg_snap.specs.Gathered.{AreApart, AreDone, AreIn, HoldsBody, HoldsPart, IsAll, IsRunning, IsSized, held_by, kept_by, newest, newest_tokens};
 
 use crate::pipes::pipes_of;
@@ -14,9 +14,9 @@ use gg_bridge::Bridge;
 use gg_build::Node;
 use gg_cut_plan::{Body, Machine, Plan};
 use gg_flat::{Piece, Streams};
-use gg_flat_run::State;
+use gg_order::State;
 use gg_net::Net;
-use gg_snap_text::Draft;
+use crate::text::Draft;
 use std::alloc::{AllocError, Global};
 
 // The state of a thread's machine, if it runs a piece. A bridge's host can't tell its state: the network of a plan without bridges has no

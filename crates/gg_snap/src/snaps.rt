@@ -12,7 +12,7 @@ use gg_build::{Begin, Node, build_from};
 use gg_cut_plan::Plan;
 use gg_net::{Net, Streams};
 use gg_order::Design;
-use gg_snap_text::Snap;
+use crate::text::Snap;
 use gg_trace::Trace;
 use std::alloc::{AllocError, Global};
 

@@ -4,7 +4,7 @@ ghost use Rattle.gg_flat.specs.Streams.{Flow};
 ghost use Rattle.gg_net.specs.declared.event.Event.{Event};
 ghost use Rattle.gg_net.specs.Network.{Network};
 ghost use Rattle.gg_net.specs.Kept.{Kept};
-ghost use Rattle.gg_net_laws.specs.Steps.{Steps};
+ghost use Rattle.gg_net.specs.markings.Steps.{Steps};
 ghost use Rattle.gg_workers.specs.Work.{IsLater};
 ghost use Rattle.gg_workers.specs.LaterLaws.{FallsByReady};
 

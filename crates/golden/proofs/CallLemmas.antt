@@ -1,18 +1,18 @@
 -- How a call ends whose command has ended, or whose words were no command.
 use Rattle.std.proofs.Common.{◌≡◌, ℕ, List, [], refl, sym, ◌∙◌}
 use Rattle.std.specs.Prelude.{Result, Err}
-use Rattle.gg_command.specs.Ends.{Loads, Puts, Reports}
-use Rattle.gg_command.specs.Endings.{IfRefused, EndedOn, said_by}
-use Rattle.gg_command.specs.declared.endings.Ending.{Ending}
-use Rattle.gg_command.specs.declared.endings.Ending.TheVariants.{Refused, Unwritten, NoMemory}
-use Rattle.gg_command.proofs.WritingLemmas.{append_known-nil}
+use Rattle.gg_io.specs.Ends.{Loads, Puts, Reports}
+use Rattle.gg_io.specs.Endings.{IfRefused, EndedOn, said_by}
+use Rattle.gg_io.specs.declared.endings.Ending.{Ending}
+use Rattle.gg_io.specs.declared.endings.Ending.TheVariants.{Refused, Unwritten, NoMemory}
+use Rattle.gg_io.proofs.WritingLemmas.{append_known-nil}
 use Rattle.gg_words.specs.Meaning.{IsCommand}
 use Rattle.gg_words.specs.declared.command.Cmd.{Cmd}
 use Rattle.gg_cut_plan.specs.Bridges.{Models}
-use Rattle.gg_command.proofs.EndingLemmas.{wants-ends}
-use Rattle.golden_case.specs.Commands.{order_of}
-use Rattle.golden_case.specs.Outcome.{Asked, Unasked, WantsMemoryFirst, Answered, CallEnded}
-use Rattle.golden_case.specs.Words.{AskForCommand, TellsUnasked}
+use Rattle.gg_io.proofs.EndingLemmas.{wants-ends}
+use Rattle.golden_commands.specs.Commands.{order_of}
+use Rattle.golden_commands.specs.Outcome.{Asked, Unasked, WantsMemoryFirst, Answered, CallEnded}
+use Rattle.golden_commands.specs.Words.{AskForCommand, TellsUnasked}
 
 module _ {T : Type 0} {models : Models} {words : List (List ℕ)} {loads : Loads} {out : Puts} where
   -- the words ask for this command, which has ended

@@ -1,23 +1,23 @@
 -- The cause of each status of an outcome.
 use Rattle.std.proofs.Common.{◌≡◌, ◌≢◌, ℕ, List, [], refl, ap, sym, ◌∙◌, subst, inl, inr, arith, ◌⊎◌}
 use Rattle.std.specs.Prelude.{Result, Ok}
-use Rattle.gg_command.specs.Said.{Said}
-use Rattle.gg_command.specs.Order.{StopsAt, DueAt, IsDueAccepted, IsExact, IsJudgement}
-use Rattle.gg_command.specs.Ends.{Loads}
-use Rattle.gg_command.specs.Endings.{IfRefused}
-use Rattle.gg_command.specs.declared.endings.Ending.{Ending}
-use Rattle.gg_command.proofs.EndingLemmas.{IfRefused-map}
-use Rattle.gg_command.proofs.EndsLemmas.{WhyEnds, Stopped, Wrote, Failed, Wanted, SaysDue, complete-ends, due-ends, ends-why, unjudged-0, unjudged-2, unjudged-3, unjudged-4, unjudged-5, unjudged-8}
-use Rattle.gg_command.proofs.OrderLemmas.{Why, Lost, Cut, Judged, why-stops}
+use Rattle.gg_io.specs.Said.{Said}
+use Rattle.gg_io.specs.Order.{StopsAt, DueAt, IsDueAccepted, IsExact, IsJudgement}
+use Rattle.gg_io.specs.Ends.{Loads}
+use Rattle.gg_io.specs.Endings.{IfRefused}
+use Rattle.gg_io.specs.declared.endings.Ending.{Ending}
+use Rattle.gg_io.proofs.EndingLemmas.{IfRefused-map}
+use Rattle.gg_io.proofs.EndsLemmas.{WhyEnds, Stopped, Wrote, Failed, Wanted, SaysDue, complete-ends, due-ends, ends-why, unjudged-0, unjudged-2, unjudged-3, unjudged-4, unjudged-5, unjudged-8}
+use Rattle.gg_io.proofs.OrderLemmas.{Why, Lost, Cut, Judged, why-stops}
 use Rattle.gg_words.specs.Meaning as command_line
 use Rattle.gg_words.specs.Meaning.{IsCommand, Says}
 use Rattle.gg_words.specs.declared.command.Cmd.{Cmd}
 use Rattle.gg_words.specs.declared.command.WordFault.{WordFault}
 use Rattle.gg_words.specs.declared.command.WordFault.TheVariants as word
 use Rattle.gg_cut_plan.specs.Bridges.{Models}
-use Rattle.golden_case.specs.Commands.{order_of}
-use Rattle.golden_case.specs.Outcome.{Outcome, Asked, Unasked, WantsMemoryFirst}
-use Rattle.golden_case.specs.Words.{AskForCommand, TellsUnasked, TellsWords}
+use Rattle.golden_commands.specs.Commands.{order_of}
+use Rattle.golden_commands.specs.Outcome.{Outcome, Asked, Unasked, WantsMemoryFirst}
+use Rattle.golden_commands.specs.Words.{AskForCommand, TellsUnasked, TellsWords}
 
 -- words mean at most one thing
 abbrev pub OneMeaning : Type 0

@@ -1,15 +1,15 @@
 -- The text of a cut is the only one.
 use Rattle.std.proofs.Common.{◌≡◌, ℕ, List, subst}
-use Rattle.gg_cut_text.specs.Alike.{AreAlike}
-use Rattle.gg_cut_text.specs.CheckText.{IsTextOfCut}
+use Rattle.gg_cut_reference.specs.text.Alike.{AreAlike}
+use Rattle.gg_cut_reference.specs.text.CheckText.{IsTextOfCut}
 use Rattle.gg_front.specs.Meaning.{MeansDesign}
 use Rattle.gg_order.specs.Design.{Ordered}
 use Rattle.gg_partfile.proofs.OnceLemmas.{request-once}
 use Rattle.gg_partfile.specs.Partition.{IsPartition}
 use Rattle.gg_partfile.specs.declared.request.Request.{Request}
-use Rattle.golden_case.specs.Check.{IsCutTextOf}
-use Rattle.gg_command.specs.Order.{IsOnly}
-use Rattle.golden_case.proofs.PartitionLemmas.{DesignsAgree}
+use Rattle.golden_commands.specs.Check.{IsCutTextOf}
+use Rattle.gg_io.specs.Order.{IsOnly}
+use Rattle.golden_commands.proofs.PartitionLemmas.{DesignsAgree}
 
 -- the cut of a request has only one text, and designs that are alike have the same one
 abbrev pub OneText : Type 0

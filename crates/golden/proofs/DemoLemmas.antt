@@ -4,50 +4,50 @@ use Rattle.std.specs.Prelude.{Result, slice_index}
 use Rattle.std.proofs.lemmas.List.{length-map}
 use Rattle.gg_build.specs.Build.{NeedsNone, circuit_order, circuit_rows}
 use Rattle.gg_build.proofs.AloneLemmas.{needs-none}
-use Rattle.gg_demo_text.specs.CircuitText.{demo_circuit}
-use Rattle.gg_demo_text.specs.PartitionText.{demo_partition}
-use Rattle.gg_demo_text.specs.SummaryText.{demo_summary, fold_line, folded, last_line, network_line, size_line}
-use Rattle.gg_demo_text.specs.TraceText.{demo_cycles, demo_trace}
+use Rattle.gg_rows.specs.CircuitText.{demo_circuit}
+use Rattle.gg_rows.specs.PartitionText.{demo_partition}
+use Rattle.gg_rows.specs.SummaryText.{demo_summary, fold_line, folded, last_line, network_line, size_line}
+use Rattle.gg_rows.specs.TraceText.{demo_cycles, demo_trace}
 use Rattle.gg_cut_plan.specs.Direct.{plan_hub}
 use Rattle.gg_flat.specs.Circuit.{FlatCircuit}
-use Rattle.gg_net_laws.specs.Fits.{HasLayout, marking_of}
-use Rattle.gg_net_laws.specs.Marking.{Layout, Marking, opening_marking}
+use Rattle.gg_net.specs.markings.Fits.{HasLayout, marking_of}
+use Rattle.gg_net.specs.markings.Marking.{Layout, Marking, opening_marking}
 use Rattle.gg_measure.specs.Nets.{net_left}
 use Rattle.gg_measure.proofs.NetLemmas.{can-run, left-is}
 use Rattle.gg_net.specs.Kept.{Kept}
 use Rattle.gg_net.specs.Net.{opening_net}
 use Rattle.gg_net.specs.Network.{Network, frame_of, kind_of}
 use Rattle.gg_order.specs.Design.{Ordered}
-use Rattle.gg_net_laws.specs.Counts.{counts_of}
-use Rattle.gg_net_laws.specs.Measure.{all_dues, left}
-use Rattle.gg_net_laws.proofs.EndLemmas.{opening-left}
+use Rattle.gg_net.specs.markings.Counts.{counts_of}
+use Rattle.gg_net.specs.markings.Measure.{all_dues, left}
+use Rattle.gg_net.proofs.MarkingsLemmas.EndLemmas.{opening-left}
 use Rattle.gg_cut_reference.specs.Follows.{plan_start}
 use Rattle.gg_cut_reference.specs.Links.{taken_as}
-use Rattle.gg_bridged.specs.Whole.{plan_circuit}
-use Rattle.gg_build_laws.specs.Built.{IsGiven, no_token, wires_of_plan}
-use Rattle.gg_run.specs.Sums.{AreSums, FoldsRows, output_column, sums_text}
-use Rattle.gg_run.specs.declared.sums.Sums.{Sums}
-use Rattle.gg_command.specs.Ends.{Loads, Puts}
-use Rattle.gg_command.specs.Endings.{EndedOn, PrintsOrStops, PrintsText, Stops, Wants}
-use Rattle.gg_command.specs.Order.{IsOnly, Write}
-use Rattle.gg_command.specs.declared.endings.Ending.{Ending}
-use Rattle.gg_command.specs.declared.endings.Ending.TheVariants.{Refused, Unwritten, NoMemory}
-use Rattle.gg_command.proofs.EndingLemmas.{only-ends, wants-ends}
-use Rattle.golden_case.specs.Case.{IsFed}
-use Rattle.golden_case.specs.Demo.{IsDemoText, demo_capacity, setting_summary}
-use Rattle.golden_case.specs.Partition.{to_run}
-use Rattle.golden_case.specs.Replay.{IsSetting, Setting}
-use Rattle.golden_case.specs.Replayed.{fed_flow}
-use Rattle.golden_case.specs.declared.case.Fed.{Fed}
-use Rattle.golden_case.proofs.AloneLemmas.{circuit-alone}
-use Rattle.golden_case.proofs.CaseLemmas.{case-can, case-ordered}
-use Rattle.golden_case.proofs.FedLemmas.{to-replay}
-use Rattle.golden_case.proofs.FedLemmas as fed_setting
-use Rattle.golden_case.proofs.HandedLemmas.{no-models}
-use Rattle.golden_case.proofs.PartitionLemmas.{DesignsAgree}
-use Rattle.golden_case.proofs.ReplayLemmas.{AreSet, are-set, laid, opens, setting_of}
-use Rattle.golden_case.proofs.SettingLemmas.{circuits-same, cycles-same, layouts-same, rows-same}
-use Rattle.golden_case.proofs.TextLemmas.{OneRun}
+use Rattle.gg_cut_reference.specs.whole.Whole.{plan_circuit}
+use Rattle.gg_build.specs.plan.Built.{IsGiven, no_token, wires_of_plan}
+use Rattle.gg_rows.specs.Sums.{AreSums, FoldsRows, output_column, sums_text}
+use Rattle.gg_rows.specs.declared.sums.Sums.{Sums}
+use Rattle.gg_io.specs.Ends.{Loads, Puts}
+use Rattle.gg_io.specs.Endings.{EndedOn, PrintsOrStops, PrintsText, Stops, Wants}
+use Rattle.gg_io.specs.Order.{IsOnly, Write}
+use Rattle.gg_io.specs.declared.endings.Ending.{Ending}
+use Rattle.gg_io.specs.declared.endings.Ending.TheVariants.{Refused, Unwritten, NoMemory}
+use Rattle.gg_io.proofs.EndingLemmas.{only-ends, wants-ends}
+use Rattle.golden_commands.specs.Case.{IsFed}
+use Rattle.golden_commands.specs.Demo.{IsDemoText, demo_capacity, setting_summary}
+use Rattle.golden_commands.specs.Partition.{to_run}
+use Rattle.golden_commands.specs.Replay.{IsSetting, Setting}
+use Rattle.golden_commands.specs.Replayed.{fed_flow}
+use Rattle.golden_commands.specs.declared.case.Fed.{Fed}
+use Rattle.golden_commands.proofs.AloneLemmas.{circuit-alone}
+use Rattle.golden_commands.proofs.CaseLemmas.{case-can, case-ordered}
+use Rattle.golden_commands.proofs.FedLemmas.{to-replay}
+use Rattle.golden_commands.proofs.FedLemmas as fed_setting
+use Rattle.golden_commands.proofs.HandedLemmas.{no-models}
+use Rattle.golden_commands.proofs.PartitionLemmas.{DesignsAgree}
+use Rattle.golden_commands.proofs.ReplayLemmas.{AreSet, are-set, laid, opens, setting_of}
+use Rattle.golden_commands.proofs.SettingLemmas.{circuits-same, cycles-same, layouts-same, rows-same}
+use Rattle.golden_commands.proofs.TextLemmas.{OneRun}
 
 -- ---- lines
 

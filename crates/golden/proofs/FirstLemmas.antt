@@ -9,11 +9,11 @@ use Rattle.gg_flat.specs.Clock.{Ratio}
 use Rattle.gg_flat.specs.Line.{value_at}
 use Rattle.gg_flat.specs.Run.{IsColumns, IsRunFrom, Start, clocked_start, column, row_at, state_at}
 use Rattle.gg_flat.specs.Settled.{IsInputs, Settled}
-use Rattle.gg_flat_run.proofs.RunLemmas.{IsRunFrom-first, state_at-append}
+use Rattle.gg_order.proofs.RunsLemmas.RunLemmas.{IsRunFrom-first, state_at-append}
 use Rattle.gg_trace.specs.Last.{row_count}
 use Rattle.gg_trace.specs.Table.{row_of}
 use Rattle.gg_trace.proofs.LastLaws.{halts-first, halts-none, rows-grow, rows-within}
-use Rattle.gg_run.specs.Printed.{IsFirst}
+use Rattle.gg_rows.specs.Printed.{IsFirst}
 
 -- ---- rows
 

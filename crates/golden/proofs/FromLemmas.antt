@@ -6,8 +6,8 @@ use Rattle.gg_flat.specs.Line.{value_at}
 use Rattle.gg_flat.specs.Order.{IsOrder}
 use Rattle.gg_flat.specs.Run.{IsRunFrom, Start, column, row_at, since}
 use Rattle.gg_flat.specs.declared.ports.Port.{Port}
-use Rattle.gg_flat_run.proofs.SinceLemmas.{row-dropped}
-use Rattle.gg_flat_run.proofs.UniqueLemmas.{IsRunFrom-once}
+use Rattle.gg_order.proofs.RunsLemmas.SinceLemmas.{row-dropped}
+use Rattle.gg_order.proofs.RunsLemmas.UniqueLemmas.{IsRunFrom-once}
 use Rattle.gg_net.proofs.StateLemmas.{column-at}
 use Rattle.gg_trace.specs.Last.{acts, halts, row_count}
 use Rattle.gg_trace.specs.Printing.{row_line, text_from}

@@ -10,11 +10,11 @@ use Rattle.gg_front.specs.declared.fault.FrontFault.{FrontFault}
 use Rattle.gg_front.specs.declared.fault.FrontFault.TheVariants as front
 use Rattle.gg_front.proofs.AgreementLemmas.{OneFaultLine, read-once}
 use Rattle.gg_shape.specs.declared.fault.Fault.{Fault}
-use Rattle.gg_command.specs.Said.{Said}
-use Rattle.golden_case.specs.Lines.{TellsUnread, circuit_fault}
-use Rattle.gg_command.specs.Order.{IsExactFile}
-use Rattle.golden_case.specs.Run.{TellsCircuit, circuit_file}
-use Rattle.gg_command.proofs.OrderLemmas.{exact-by}
+use Rattle.gg_io.specs.Said.{Said}
+use Rattle.golden_commands.specs.Lines.{TellsUnread, circuit_fault}
+use Rattle.gg_io.specs.Order.{IsExactFile}
+use Rattle.golden_commands.specs.Run.{TellsCircuit, circuit_file}
+use Rattle.gg_io.proofs.OrderLemmas.{exact-by}
 
 -- an accepted text has no fault
 abbrev pub NoFaultAccepted : Type 0

@@ -17,24 +17,24 @@ use Rattle.gg_cut_plan.specs.Clocks.{ratios_of}
 use Rattle.gg_cut_plan.specs.Direct.{plan_hub}
 use Rattle.gg_cut_reference.specs.Links.{taken_as}
 use Rattle.gg_cut_reference.proofs.NothingLemmas.{plan-plain, plan-taken-same}
-use Rattle.gg_run.specs.Printed.{plan_stops}
-use Rattle.gg_command.specs.Ends.{Loads}
-use Rattle.gg_command.specs.Order.{IsOnly, IsWritten}
-use Rattle.gg_command.proofs.EndsLemmas.{Failed, Stopped, Wanted, WhyEnds, Wrote, ends-why}
-use Rattle.gg_command.proofs.OrderLemmas.{told-bytes, why-stops}
+use Rattle.gg_rows.specs.Printed.{plan_stops}
+use Rattle.gg_io.specs.Ends.{Loads}
+use Rattle.gg_io.specs.Order.{IsOnly, IsWritten}
+use Rattle.gg_io.proofs.EndsLemmas.{Failed, Stopped, Wanted, WhyEnds, Wrote, ends-why}
+use Rattle.gg_io.proofs.OrderLemmas.{told-bytes, why-stops}
 use Rattle.gg_trace.specs.Last.{halts, row_count}
 use Rattle.gg_trace.specs.Printing.{trace_text}
 use Rattle.gg_trace.specs.Trace.{Columns}
 use Rattle.gg_words.specs.Meaning.{IsCommand}
 use Rattle.gg_words.specs.declared.command.Cmd.{Cmd}
 use Rattle.gg_words.specs.declared.command.Cmd.TheVariants.{Resume, Run}
-use Rattle.golden_case.specs.Commands.{order_of}
-use Rattle.golden_case.specs.Outcome.{Asked, Outcome, Unasked, WantsMemoryFirst}
-use Rattle.golden_case.specs.Partition.{Known, partition_file_for, to_run, to_save}
-use Rattle.golden_case.specs.Resumed.{IsResumedText, snap_file_for}
-use Rattle.golden_case.specs.Run.{IsPlainText, IsTextOf, circuit_file, trace_file_for}
-use Rattle.golden_case.specs.RunText.{IsRunBy, IsRunText, columns_of, outputs_of, run_rows}
-use Rattle.golden_case.proofs.AloneLemmas.{fed-alone, kept-alone, run-alone, shown-alone}
+use Rattle.golden_commands.specs.Commands.{order_of}
+use Rattle.golden_commands.specs.Outcome.{Asked, Outcome, Unasked, WantsMemoryFirst}
+use Rattle.golden_commands.specs.Partition.{Known, partition_file_for, to_run, to_save}
+use Rattle.golden_commands.specs.Resumed.{IsResumedText, snap_file_for}
+use Rattle.golden_commands.specs.Run.{IsPlainText, IsTextOf, circuit_file, trace_file_for}
+use Rattle.golden_commands.specs.RunText.{IsRunBy, IsRunText, columns_of, outputs_of, run_rows}
+use Rattle.golden_commands.proofs.AloneLemmas.{fed-alone, kept-alone, run-alone, shown-alone}
 use Rattle.golden.proofs.CauseLemmas.{ExactOrders, OneMeaning, asks-once}
 use Rattle.golden.proofs.NetworkLemmas.{refused-some}
 use Rattle.golden.proofs.StopLemmas.{ratios-plain, rows-plain}

@@ -11,27 +11,27 @@ use Rattle.gg_flat.specs.declared.ports.Port.{Port}
 use Rattle.gg_order.specs.Design.{Ordered}
 use Rattle.gg_partfile.proofs.OnceLemmas.{request-once}
 use Rattle.gg_partfile.specs.declared.request.Request.{Request}
-use Rattle.gg_cut_text.specs.Alike.{AreAlike}
-use Rattle.gg_cut_text.proofs.SameCutLemmas.{alike-is}
-use Rattle.gg_front_laws.specs.Paths.{HavePaths}
-use Rattle.gg_front_laws.proofs.FreshLemmas.{none-piped}
-use Rattle.gg_front_laws.proofs.PortLemmas.{have-paths}
+use Rattle.gg_cut_reference.specs.text.Alike.{AreAlike}
+use Rattle.gg_cut_reference.proofs.TextLemmas.SameCutLemmas.{alike-is}
+use Rattle.gg_front.specs.Paths.{HavePaths}
+use Rattle.gg_front.proofs.FreshLemmas.{none-piped}
+use Rattle.gg_front.proofs.PortLemmas.{have-paths}
 use Rattle.gg_cut_plan.specs.Bridges.{Models}
 use Rattle.gg_cut_plan.specs.Direct.{plan_hub}
 use Rattle.gg_cut_plan.specs.Fault.{first_fault}
 use Rattle.gg_cut_reference.specs.Links.{pipes_of}
 use Rattle.gg_cut_reference.specs.Made.{IsFresh}
 use Rattle.gg_cut_reference.proofs.PlanLemmas.{plan-formed, plan-ordered}
-use Rattle.gg_snap_text.specs.Standing.{IsSnap}
+use Rattle.gg_snap.specs.text.Standing.{IsSnap}
 use Rattle.gg_trace.specs.Header.{field}
 use Rattle.gg_trace.specs.Ports.{IsNamed}
 use Rattle.gg_trace.specs.Trace.{Columns, header_of}
-use Rattle.golden_case.specs.Meant.{AreMeant, Meant, meant_reference}
-use Rattle.golden_case.specs.Partition.{Known}
-use Rattle.golden_case.specs.RunText.{IsRunBy, fed_ports}
-use Rattle.golden_case.proofs.AloneLemmas.{faultless-first}
-use Rattle.golden_case.proofs.PartitionLemmas.{DesignsAgree}
-use Rattle.golden_case.proofs.TextLemmas.{feeds-moved}
+use Rattle.golden_commands.specs.Meant.{AreMeant, Meant, meant_reference}
+use Rattle.golden_commands.specs.Partition.{Known}
+use Rattle.golden_commands.specs.RunText.{IsRunBy, fed_ports}
+use Rattle.golden_commands.proofs.AloneLemmas.{faultless-first}
+use Rattle.golden_commands.proofs.PartitionLemmas.{DesignsAgree}
+use Rattle.golden_commands.proofs.TextLemmas.{feeds-moved}
 
 -- ---- the columns of a trace
 

@@ -3,20 +3,20 @@ use Rattle.std.proofs.Common.{◌≡◌, ℕ, List, Bool, false, sym, ap, ◌∙
 use Rattle.std.specs.Prelude.{Err, IfOk, Ok, Option, Result}
 use Rattle.std.specs.Io.KnownBytes.{append_known}
 use Rattle.gg_io.specs.Told.{Told}
-use Rattle.gg_command.specs.Order.{IsExact, IsJudgement, Order}
-use Rattle.gg_command.specs.Ends.{Loads, Puts}
-use Rattle.gg_command.specs.Endings.{IfRefused, Prints, StopsBy, said_by, said_of}
-use Rattle.gg_command.specs.Said.{Said}
-use Rattle.gg_command.specs.declared.endings.Ending.{Ending}
-use Rattle.gg_command.specs.declared.endings.Ending.TheVariants.{NoMemory, Refused, Unwritten}
-use Rattle.gg_command.proofs.EndsLemmas.{unjudged-0}
-use Rattle.gg_command.proofs.OrderLemmas.{Cut, Judged, Lost, Why, why-stops}
+use Rattle.gg_io.specs.Order.{IsExact, IsJudgement, Order}
+use Rattle.gg_io.specs.Ends.{Loads, Puts}
+use Rattle.gg_io.specs.Endings.{IfRefused, Prints, StopsBy, said_by, said_of}
+use Rattle.gg_io.specs.Said.{Said}
+use Rattle.gg_io.specs.declared.endings.Ending.{Ending}
+use Rattle.gg_io.specs.declared.endings.Ending.TheVariants.{NoMemory, Refused, Unwritten}
+use Rattle.gg_io.proofs.EndsLemmas.{unjudged-0}
+use Rattle.gg_io.proofs.OrderLemmas.{Cut, Judged, Lost, Why, why-stops}
 use Rattle.gg_words.specs.Meaning.{IsCommand}
 use Rattle.gg_words.specs.declared.command.Cmd.{Cmd}
 use Rattle.gg_words.specs.declared.command.Cmd.TheVariants.{Run}
-use Rattle.golden_case.specs.Network.{RanNetwork}
-use Rattle.golden_case.specs.Partition.{Known}
-use Rattle.golden_case.specs.Words.{AskForCommand, TellsUnasked}
+use Rattle.golden_commands.specs.Network.{RanNetwork}
+use Rattle.golden_commands.specs.Partition.{Known}
+use Rattle.golden_commands.specs.Words.{AskForCommand, TellsUnasked}
 
 -- ---- a status of 0
 

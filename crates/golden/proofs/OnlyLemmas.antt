@@ -8,25 +8,25 @@ use Rattle.gg_part.specs.KeepsToTree.{KeepsToTree}
 use Rattle.gg_order.specs.Design.{Ordered}
 use Rattle.gg_partfile.specs.declared.request.Request.{Request}
 use Rattle.gg_partfile.proofs.OnceLemmas.{request-once}
-use Rattle.gg_cut_text.specs.Alike.{AreAlike}
-use Rattle.gg_cut_text.proofs.SameCutLemmas.{alike-is}
-use Rattle.gg_bridged.specs.Whole.{CanBridge, HasFreeFronts, plan_circuit}
+use Rattle.gg_cut_reference.specs.text.Alike.{AreAlike}
+use Rattle.gg_cut_reference.proofs.TextLemmas.SameCutLemmas.{alike-is}
+use Rattle.gg_cut_reference.specs.whole.Whole.{CanBridge, HasFreeFronts, plan_circuit}
 use Rattle.gg_cut_plan.specs.Held.{AreHeldOnce}
 use Rattle.gg_cut_reference.specs.Follows.{plan_start}
 use Rattle.gg_cut_reference.proofs.StartLemmas.{plan-typed}
-use Rattle.gg_build_laws.specs.Built.{flow_of}
+use Rattle.gg_build.specs.plan.Built.{flow_of}
 use Rattle.gg_build.specs.Build.{IsToRun}
-use Rattle.gg_run.proofs.TextLemmas.{shown-text}
-use Rattle.golden_case.specs.Case.{IsFed}
-use Rattle.golden_case.specs.Network.{IsNetworkText}
-use Rattle.golden_case.specs.Partition.{Known}
-use Rattle.golden_case.specs.RunText.{IsRunBy, run_text, shown_ports}
-use Rattle.golden_case.specs.declared.case.Fed.{Fed}
-use Rattle.golden_case.proofs.BeginLemmas.{rows-of}
-use Rattle.golden_case.proofs.CaseLemmas.{case-can}
-use Rattle.golden_case.proofs.PartitionLemmas.{DesignsAgree}
-use Rattle.golden_case.proofs.TextLemmas.{alike-run, circuit-same, feeds-moved}
-use Rattle.golden_case.proofs.WholePortLemmas.{whole-text}
+use Rattle.gg_rows.proofs.TextLemmas.{shown-text}
+use Rattle.golden_commands.specs.Case.{IsFed}
+use Rattle.golden_commands.specs.Network.{IsNetworkText}
+use Rattle.golden_commands.specs.Partition.{Known}
+use Rattle.golden_commands.specs.RunText.{IsRunBy, run_text, shown_ports}
+use Rattle.golden_commands.specs.declared.case.Fed.{Fed}
+use Rattle.golden_commands.proofs.BeginLemmas.{rows-of}
+use Rattle.golden_commands.proofs.CaseLemmas.{case-can}
+use Rattle.golden_commands.proofs.PartitionLemmas.{DesignsAgree}
+use Rattle.golden_commands.proofs.TextLemmas.{alike-run, circuit-same, feeds-moved}
+use Rattle.golden_commands.proofs.WholePortLemmas.{whole-text}
 
 module _ (known : Known) (agree : DesignsAgree) (circuit partition trace : List ℕ) (capacity : ℕ) (fed : Fed) (is : IsFed known circuit partition trace capacity fed)
     (rows : List (List ℕ)) (run : IsRunBy fed.case.design fed.case.cut.request known.models fed.trace.columns fed.trace.rows rows)

@@ -11,37 +11,37 @@ use Rattle.gg_cut_plan.specs.Bridges.{Models}
 use Rattle.gg_front.specs.Accepted.{IsAcceptedText}
 use Rattle.gg_front.specs.Meaning.{Means, MeansDesign}
 use Rattle.gg_front.specs.declared.fault.FrontFault.TheVariants as front
-use Rattle.gg_net_laws.specs.Goes as goes
+use Rattle.gg_net.specs.markings.Goes as goes
 use Rattle.gg_order.specs.Design.{Ordered}
 use Rattle.gg_partfile.specs.Partition.{IsPartition}
 use Rattle.gg_partfile.specs.declared.request.Request.{Request}
-use Rattle.gg_command.specs.Said.{Said}
-use Rattle.gg_command.specs.Order.{Order, Load, Write, StopsAt, DueAt, IsDueAccepted, IsOnly, IsExact, IsExactFile, IsUnique, IsUniqueFile, IsJudgement}
-use Rattle.gg_command.specs.Ends.{Loads, Puts, Reports, Tells}
-use Rattle.gg_command.proofs.EndsLemmas.{SaysDue}
-use Rattle.gg_command.proofs.OrderLemmas.{IsOnlyDue, first-only, later-only}
-use Rattle.gg_command.proofs.WritingLemmas.{append_known-nil}
+use Rattle.gg_io.specs.Said.{Said}
+use Rattle.gg_io.specs.Order.{Order, Load, Write, StopsAt, DueAt, IsDueAccepted, IsOnly, IsExact, IsExactFile, IsUnique, IsUniqueFile, IsJudgement}
+use Rattle.gg_io.specs.Ends.{Loads, Puts, Reports, Tells}
+use Rattle.gg_io.proofs.EndsLemmas.{SaysDue}
+use Rattle.gg_io.proofs.OrderLemmas.{IsOnlyDue, first-only, later-only}
+use Rattle.gg_io.proofs.WritingLemmas.{append_known-nil}
 use Rattle.gg_trace.specs.FaultText.{fault_words}
 use Rattle.gg_trace.specs.Trace.{IsFirstFault}
 use Rattle.gg_trace.specs.declared.faults.TraceFault.{TraceFault}
 use Rattle.gg_words.specs.Meaning.{IsCommand}
 use Rattle.gg_words.specs.declared.command.Cmd.{Cmd}
 use Rattle.gg_words.specs.declared.command.Cmd.TheVariants.{Run, Replay, Check, Demo, Save, Resume}
-use Rattle.golden_case.specs.Commands.{Asked, asked_by, asking, known_of, order_behind, order_by, order_of, read_order, trace_of}
-use Rattle.golden_case.specs.Limits.{circuit_limit, partition_limit, snap_limit, steps_limit, trace_limit}
-use Rattle.golden_case.specs.GoesOn.{ResumedIsTheRest, SavedIsAccepted}
-use Rattle.golden_case.specs.Lines.{TellsUnread, partition_fault, trace_fault}
-use Rattle.golden_case.specs.Network.{RanNetwork}
-use Rattle.golden_case.specs.Outcome.{Answered}
-use Rattle.golden_case.specs.Partition.{HasFault, IsPartitionFor, TellsPartitionFor, partition_file_for, to_run, to_save}
-use Rattle.golden_case.specs.Promised.{JudgedAt, Promised}
-use Rattle.golden_case.specs.Replay.{IsReplayOf, IsSetting, Setting, TellsSteps, replayed, steps_file_for, stopped_said}
-use Rattle.golden_case.specs.Resumed.{CanBeResumed, HaveSamePipes, HaveSameRatios, IsRestOf}
-use Rattle.golden_case.specs.Saved.{IsSavedText, saved_file_for}
-use Rattle.golden_case.specs.Stepped.{ToldByNetwork}
-use Rattle.golden_case.specs.Run.{IsPlainText, IsTextOf, TellsCircuit, TellsTraceFor, circuit_file, trace_file_for}
-use Rattle.golden_case.specs.RunText.{fed_ports}
-use Rattle.golden_case.specs.Words.{AskForCommand, TellsUnasked}
+use Rattle.golden_commands.specs.Commands.{Asked, asked_by, asking, known_of, order_behind, order_by, order_of, read_order, trace_of}
+use Rattle.golden_commands.specs.Limits.{circuit_limit, partition_limit, snap_limit, steps_limit, trace_limit}
+use Rattle.golden_commands.specs.GoesOn.{ResumedIsTheRest, SavedIsAccepted}
+use Rattle.golden_commands.specs.Lines.{TellsUnread, partition_fault, trace_fault}
+use Rattle.golden_commands.specs.Network.{RanNetwork}
+use Rattle.golden_commands.specs.Outcome.{Answered}
+use Rattle.golden_commands.specs.Partition.{HasFault, IsPartitionFor, TellsPartitionFor, partition_file_for, to_run, to_save}
+use Rattle.golden_commands.specs.Promised.{JudgedAt, Promised}
+use Rattle.golden_commands.specs.Replay.{IsReplayOf, IsSetting, Setting, TellsSteps, replayed, steps_file_for, stopped_said}
+use Rattle.golden_commands.specs.Resumed.{CanBeResumed, HaveSamePipes, HaveSameRatios, IsRestOf}
+use Rattle.golden_commands.specs.Saved.{IsSavedText, saved_file_for}
+use Rattle.golden_commands.specs.Stepped.{ToldByNetwork}
+use Rattle.golden_commands.specs.Run.{IsPlainText, IsTextOf, TellsCircuit, TellsTraceFor, circuit_file, trace_file_for}
+use Rattle.golden_commands.specs.RunText.{fed_ports}
+use Rattle.golden_commands.specs.Words.{AskForCommand, TellsUnasked}
 use Rattle.golden.proofs.CauseLemmas.{Cause, ExactOrders, OneMeaning, cause, complete-status, cut-8, due-said, judged-file, lost-3, no_command-2, none-written, unasked-2, unasked-status, unwritten-4}
 use Rattle.golden.proofs.KnownLemmas.{OneRequest, resume-known, run-known, run-plain, written-0}
 

@@ -11,8 +11,8 @@ use Rattle.gg_flat.specs.State.{IsState, State}
 use Rattle.gg_flat_tree.specs.Tree.{InstanceTree}
 use Rattle.gg_flat.specs.WellFormed.{IsWellFormed}
 use Rattle.gg_flat.specs.declared.ports.Port.{Port}
-use Rattle.gg_flat_run.proofs.AlongLemmas.{IsRunFrom-along}
-use Rattle.gg_flat_run.proofs.SinceLemmas.{later-since, since-add}
+use Rattle.gg_order.proofs.RunsLemmas.AlongLemmas.{IsRunFrom-along}
+use Rattle.gg_order.proofs.RunsLemmas.SinceLemmas.{later-since, since-add}
 use Rattle.gg_cut_plan.specs.Bridges.{Models}
 use Rattle.gg_cut_plan.specs.Clocks.{ratios_of}
 use Rattle.gg_cut_plan.specs.Fault.{first_fault}
@@ -23,38 +23,38 @@ use Rattle.gg_partfile.specs.declared.request.BridgeEntry.{BridgeEntry}
 use Rattle.gg_partfile.specs.declared.request.Request.{Request}
 use Rattle.gg_cut_reference.specs.Made.{AllHeld, plan_reference}
 use Rattle.gg_cut_reference.proofs.PlanLemmas.{plan-formed}
-use Rattle.gg_bridged.specs.Whole.{CanBridge, plan_begin, plan_circuit, states_with}
-use Rattle.gg_bridged.proofs.PlanLemmas.{circuit-formed}
-use Rattle.gg_bridged.proofs.StateLemmas.{states-with}
+use Rattle.gg_cut_reference.specs.whole.Whole.{CanBridge, plan_begin, plan_circuit, states_with}
+use Rattle.gg_cut_reference.proofs.WholeLemmas.PlanLemmas.{circuit-formed}
+use Rattle.gg_cut_reference.proofs.WholeLemmas.StateLemmas.{states-with}
 use Rattle.gg_build.specs.Build.{circuit_order}
-use Rattle.gg_build_laws.specs.Built.{IsGiven}
-use Rattle.gg_run.specs.Printed.{plan_stops, rows_since, text_since}
+use Rattle.gg_build.specs.plan.Built.{IsGiven}
+use Rattle.gg_rows.specs.Printed.{plan_stops, rows_since, text_since}
 use Rattle.gg_snap.specs.Whole.{CanBegin}
-use Rattle.gg_snap_text.specs.Known.{AreKnown}
-use Rattle.gg_snap_text.specs.Standing.{IfFault, IsFirstFault, IsSnap}
-use Rattle.gg_snap_text.specs.Table.{rows_of}
-use Rattle.gg_snap_text.specs.Whole.{IsWhole}
-use Rattle.gg_snap_text.specs.FaultText.{fault_words}
-use Rattle.gg_snap_text.specs.declared.fault.SnapFault.{SnapFault}
-use Rattle.gg_snap_text.specs.declared.fault.SnapFault.TheVariants as snap
-use Rattle.gg_snap_text.specs.declared.fault.SnapFault.TheVariants.{S1}
-use Rattle.gg_command.specs.Order.{IsOnly}
-use Rattle.gg_command.specs.Said.{Said}
+use Rattle.gg_snap.specs.text.Known.{AreKnown}
+use Rattle.gg_snap.specs.text.Standing.{IfFault, IsFirstFault, IsSnap}
+use Rattle.gg_snap.specs.text.Table.{rows_of}
+use Rattle.gg_snap.specs.text.Whole.{IsWhole}
+use Rattle.gg_snap.specs.text.FaultText.{fault_words}
+use Rattle.gg_snap.specs.declared.text.fault.SnapFault.{SnapFault}
+use Rattle.gg_snap.specs.declared.text.fault.SnapFault.TheVariants as snap
+use Rattle.gg_snap.specs.declared.text.fault.SnapFault.TheVariants.{S1}
+use Rattle.gg_io.specs.Order.{IsOnly}
+use Rattle.gg_io.specs.Said.{Said}
 use Rattle.gg_trace.specs.Last.{halts, row_count}
 use Rattle.gg_trace.specs.Printing.{text_from}
-use Rattle.golden_case.specs.Case.{IsFed}
-use Rattle.golden_case.specs.Lines.{few_rows, snap_fault}
-use Rattle.golden_case.specs.Resumed.{CanBeResumed, HasRest, IsResumedText, TellsLate, TellsNoSnap, rest_text, start_at}
-use Rattle.golden_case.specs.Partition.{to_save}
-use Rattle.golden_case.specs.RunText.{columns_of, outputs_kept, shown_ports}
-use Rattle.golden_case.specs.Runs.{TellsSnapOf, meant_by, resumed_flow, resumed_rows}
-use Rattle.golden_case.specs.declared.case.Fed.{Fed}
-use Rattle.golden_case.proofs.AloneLemmas.{circuit-alone}
-use Rattle.golden_case.proofs.CaseLemmas.{case-can, case-faultless, case-fresh, case-ordered}
-use Rattle.golden_case.proofs.FedLemmas.{fed-are}
-use Rattle.golden_case.proofs.PartitionLemmas.{DesignsAgree}
+use Rattle.golden_commands.specs.Case.{IsFed}
+use Rattle.golden_commands.specs.Lines.{few_rows, snap_fault}
+use Rattle.golden_commands.specs.Resumed.{CanBeResumed, HasRest, IsResumedText, TellsLate, TellsNoSnap, rest_text, start_at}
+use Rattle.golden_commands.specs.Partition.{to_save}
+use Rattle.golden_commands.specs.RunText.{columns_of, outputs_kept, shown_ports}
+use Rattle.golden_commands.specs.Runs.{TellsSnapOf, meant_by, resumed_flow, resumed_rows}
+use Rattle.golden_commands.specs.declared.case.Fed.{Fed}
+use Rattle.golden_commands.proofs.AloneLemmas.{circuit-alone}
+use Rattle.golden_commands.proofs.CaseLemmas.{case-can, case-faultless, case-fresh, case-ordered}
+use Rattle.golden_commands.proofs.FedLemmas.{fed-are}
+use Rattle.golden_commands.proofs.PartitionLemmas.{DesignsAgree}
 use Rattle.golden.proofs.ResumedLemmas.{resumed-only}
-use Rattle.golden_case.proofs.WholePortLemmas.{shown-are, stops-shown}
+use Rattle.golden_commands.proofs.WholePortLemmas.{shown-are, stops-shown}
 
 -- ---- cycles
 

@@ -10,25 +10,25 @@ use Rattle.gg_flat_tree.specs.Tree.{InstanceTree}
 use Rattle.gg_part.specs.KeepsToTree.{KeepsToTree}
 use Rattle.gg_order.specs.Design.{IsDesign, Ordered}
 use Rattle.gg_partfile.specs.declared.request.Request.{Request}
-use Rattle.gg_front_laws.specs.Paths.{HavePaths}
+use Rattle.gg_front.specs.Paths.{HavePaths}
 use Rattle.gg_cut_reference.specs.Made.{plan_reference}
-use Rattle.gg_run.specs.Printed.{plan_stops}
-use Rattle.gg_snap_text.specs.FaultText.{fault_words}
-use Rattle.gg_snap_text.specs.Known.{CanSave}
-use Rattle.gg_snap_text.specs.Standing.{IsFirstFault, IsSnap}
-use Rattle.gg_snap_text.specs.declared.fault.SnapFault.TheVariants.{S1}
-use Rattle.gg_command.specs.Order.{IsExactFile, IsOnly, IsUniqueFile}
-use Rattle.gg_command.specs.Said.{Said}
-use Rattle.gg_command.proofs.OrderLemmas.{exact-by}
+use Rattle.gg_rows.specs.Printed.{plan_stops}
+use Rattle.gg_snap.specs.text.FaultText.{fault_words}
+use Rattle.gg_snap.specs.text.Known.{CanSave}
+use Rattle.gg_snap.specs.text.Standing.{IsFirstFault, IsSnap}
+use Rattle.gg_snap.specs.declared.text.fault.SnapFault.TheVariants.{S1}
+use Rattle.gg_io.specs.Order.{IsExactFile, IsOnly, IsUniqueFile}
+use Rattle.gg_io.specs.Said.{Said}
+use Rattle.gg_io.proofs.OrderLemmas.{exact-by}
 use Rattle.gg_trace.specs.Printing.{text_from}
-use Rattle.golden_case.specs.Lines.{few_rows, snap_fault}
-use Rattle.golden_case.specs.Meant.{AreMeant, Meant, meant_reference}
-use Rattle.golden_case.specs.Resumed.{CanBeResumed, HasRest, IsResumedText, TellsLate, TellsNoSnap, rest_rows, rest_text, snap_file_for, start_at}
-use Rattle.golden_case.specs.Partition.{Known, to_save}
-use Rattle.golden_case.specs.RunText.{columns_of, outputs_kept, shown_ports, stops_kept}
+use Rattle.golden_commands.specs.Lines.{few_rows, snap_fault}
+use Rattle.golden_commands.specs.Meant.{AreMeant, Meant, meant_reference}
+use Rattle.golden_commands.specs.Resumed.{CanBeResumed, HasRest, IsResumedText, TellsLate, TellsNoSnap, rest_rows, rest_text, snap_file_for, start_at}
+use Rattle.golden_commands.specs.Partition.{Known, to_save}
+use Rattle.golden_commands.specs.RunText.{columns_of, outputs_kept, shown_ports, stops_kept}
 use Rattle.golden.proofs.FromLemmas.{counts-from, texts-from}
 use Rattle.golden.proofs.MeantLemmas.{meant-faultless, meant-given, meant-is, meant-ordered, meant-paths, meant-snap, reference_order}
-use Rattle.golden_case.proofs.PartitionLemmas.{DesignsAgree}
+use Rattle.golden_commands.proofs.PartitionLemmas.{DesignsAgree}
 
 -- ---- what snapshots are
 

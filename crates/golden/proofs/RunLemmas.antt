@@ -1,17 +1,17 @@
 -- The orders of the commands.
 use Rattle.std.proofs.Common.{ℕ, List, [], Option, None, Some}
-use Rattle.gg_command.specs.Order.{IsExact, IsUnique, Load, Order}
+use Rattle.gg_io.specs.Order.{IsExact, IsUnique, Load, Order}
 use Rattle.gg_words.specs.declared.command.Cmd.{Cmd}
 use Rattle.gg_words.specs.declared.command.Cmd.TheVariants.{Run, Replay, Check, Demo, Save, Resume}
 use Rattle.gg_cut_plan.specs.Bridges.{Models}
-use Rattle.golden_case.specs.Commands.{Asked, asked_by, known_of, order_behind, order_by, order_of}
-use Rattle.golden_case.specs.Partition.{Known, partition_file_for, to_run}
+use Rattle.golden_commands.specs.Commands.{Asked, asked_by, known_of, order_behind, order_by, order_of}
+use Rattle.golden_commands.specs.Partition.{Known, partition_file_for, to_run}
 use Rattle.golden.proofs.FrontLemmas.{NoFaultAccepted, circuit_file-exact}
-use Rattle.golden_case.proofs.PartitionLemmas.{DesignsAgree, FileApart, OneKey, partition_file-exact, partition_file-unique}
+use Rattle.golden_commands.proofs.PartitionLemmas.{DesignsAgree, FileApart, OneKey, partition_file-exact, partition_file-unique}
 use Rattle.golden.proofs.ResumedLemmas.{NoSnapFault, OneCycle, OneSnapFault, PlansCanSave, snap_file-exact, snap_file-unique}
 use Rattle.golden.proofs.SavedLemmas.{saved_file-exact, saved_file-unique}
-use Rattle.golden_case.proofs.SettingLemmas.{steps_file-exact, steps_file-unique}
-use Rattle.golden_case.proofs.TextLemmas.{OneFlat}
+use Rattle.golden_commands.proofs.SettingLemmas.{steps_file-exact, steps_file-unique}
+use Rattle.golden_commands.proofs.TextLemmas.{OneFlat}
 use Rattle.golden.proofs.TraceLemmas.{NoFault, OneFirstFault, trace_file-exact, trace_file-unique}
 
 module _ (models : Models) (designs : DesignsAgree) (apart : FileApart) (key : OneKey) (agree : OneFlat) (once : OneFirstFault) (none : NoFault)

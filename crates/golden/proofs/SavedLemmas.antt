@@ -2,22 +2,22 @@
 use Rattle.std.proofs.Common.{◌≡◌, ◌⊎◌, ℕ, List, ◌≤◌, refl, sym, ap, ◌∙◌, subst, inl, inr, arith}
 use Rattle.gg_cut_plan.specs.Bridges.{Models}
 use Rattle.gg_flat.specs.Run.{IsRunFrom}
-use Rattle.gg_flat_run.proofs.UniqueLemmas.{IsRunFrom-once}
+use Rattle.gg_order.proofs.RunsLemmas.UniqueLemmas.{IsRunFrom-once}
 use Rattle.gg_cut_reference.specs.Follows.{plan_start}
 use Rattle.gg_partfile.proofs.OnceLemmas.{request-once}
-use Rattle.gg_snap_text.specs.Lines.{snap_text}
-use Rattle.gg_command.specs.Order.{IsExactFile, IsJudgement, IsOnly, IsUniqueFile}
-use Rattle.gg_command.specs.Said.{Said}
-use Rattle.golden_case.specs.Lines.{few_rows}
-use Rattle.golden_case.specs.Meant.{Meant, meant_reference, meant_values}
-use Rattle.golden_case.specs.Partition.{to_save}
-use Rattle.golden_case.specs.Run.{TellsTraceFor}
-use Rattle.golden_case.specs.RunText.{fed_ports}
-use Rattle.golden_case.specs.Saved.{CanBeSaved, HasRun, IsSavedText, TellsFew, save_limit, saved_file_for, state_before}
-use Rattle.golden_case.proofs.AloneLemmas.{run-alone}
+use Rattle.gg_snap.specs.text.Lines.{snap_text}
+use Rattle.gg_io.specs.Order.{IsExactFile, IsJudgement, IsOnly, IsUniqueFile}
+use Rattle.gg_io.specs.Said.{Said}
+use Rattle.golden_commands.specs.Lines.{few_rows}
+use Rattle.golden_commands.specs.Meant.{Meant, meant_reference, meant_values}
+use Rattle.golden_commands.specs.Partition.{to_save}
+use Rattle.golden_commands.specs.Run.{TellsTraceFor}
+use Rattle.golden_commands.specs.RunText.{fed_ports}
+use Rattle.golden_commands.specs.Saved.{CanBeSaved, HasRun, IsSavedText, TellsFew, save_limit, saved_file_for, state_before}
+use Rattle.golden_commands.proofs.AloneLemmas.{run-alone}
 use Rattle.golden.proofs.MeantLemmas.{meant-is, meant-ordered, meant-run, reference_order}
-use Rattle.golden_case.proofs.PartitionLemmas.{DesignsAgree}
-use Rattle.golden_case.proofs.TextLemmas.{OneFlat}
+use Rattle.golden_commands.proofs.PartitionLemmas.{DesignsAgree}
+use Rattle.golden_commands.proofs.TextLemmas.{OneFlat}
 use Rattle.golden.proofs.TraceLemmas.{NoFault, OneFirstFault, fault-moved, trace-once, trace-status}
 
 module _ (models : Models) (agree : DesignsAgree) where

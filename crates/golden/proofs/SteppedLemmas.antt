@@ -3,31 +3,31 @@ use Rattle.std.proofs.Common.{◌≡◌, ◌≢◌, ◌⊎◌, ℕ, List, inl, i
 use Rattle.std.specs.Prelude.{Err, Ok, Option, Result}
 use Rattle.gg_io.specs.Told.{Told}
 use Rattle.gg_net.specs.declared.event.Event.{Event}
-use Rattle.gg_replay_steps.specs.Naming.{Naming}
-use Rattle.gg_replay_steps.specs.Steps.{steps_of}
-use Rattle.gg_command.specs.Order.{CanBe, File, IsRefused}
-use Rattle.gg_command.specs.Ends.{Loads, Puts, Reports, Tells}
-use Rattle.gg_command.specs.Endings.{IfRefused, Prints, PrintsOrStops, PrintsText, Stops, StopsBy, Wants, said_by, said_of}
-use Rattle.gg_command.specs.Said.{Said, cannot_load, is_over}
-use Rattle.gg_command.specs.declared.endings.Ending.{Ending}
-use Rattle.gg_command.specs.declared.endings.Ending.TheVariants.{NoMemory, Refused, Unwritten}
-use Rattle.gg_command.proofs.EndingLemmas.{judged-map}
+use Rattle.gg_replay.specs.steps_file.Naming.{Naming}
+use Rattle.gg_replay.specs.steps_file.Steps.{steps_of}
+use Rattle.gg_io.specs.Order.{CanBe, File, IsRefused}
+use Rattle.gg_io.specs.Ends.{Loads, Puts, Reports, Tells}
+use Rattle.gg_io.specs.Endings.{IfRefused, Prints, PrintsOrStops, PrintsText, Stops, StopsBy, Wants, said_by, said_of}
+use Rattle.gg_io.specs.Said.{Said, cannot_load, is_over}
+use Rattle.gg_io.specs.declared.endings.Ending.{Ending}
+use Rattle.gg_io.specs.declared.endings.Ending.TheVariants.{NoMemory, Refused, Unwritten}
+use Rattle.gg_io.proofs.EndingLemmas.{judged-map}
 use Rattle.gg_words.specs.Meaning.{IsCommand}
 use Rattle.gg_words.specs.declared.command.Cmd.{Cmd}
 use Rattle.gg_words.specs.declared.command.Cmd.TheVariants.{Replay}
-use Rattle.golden_case.specs.Case.{FedRead, IsFed, trace_order}
-use Rattle.golden_case.specs.Commands.{Asked, asking}
-use Rattle.golden_case.specs.Lines.{circuit_fault, partition_fault, trace_fault}
-use Rattle.golden_case.specs.Partition.{Known, TellsPartitionFor, partition_file_for}
-use Rattle.golden_case.specs.Replay.{IsReplayed, TellsSteps, steps_file_for}
-use Rattle.golden_case.specs.Replayed.{IsNetText, TellsStop, case_naming, fed_flow}
-use Rattle.golden_case.specs.Run.{TellsCircuit, TellsTraceFor, circuit_file, trace_file_for}
-use Rattle.golden_case.specs.Stepped.{IsSteppedText, IsToldText, TellsRefusedStep, TellsToldStep, ToldBehind, ToldByNetwork}
-use Rattle.golden_case.specs.Words.{AskForCommand, TellsUnasked}
-use Rattle.golden_case.specs.declared.case.Fed.{Fed}
-use Rattle.golden_case.proofs.FedLemmas.{named, stop-so, text-so}
-use Rattle.golden_case.proofs.PartitionLemmas.{DesignsAgree}
-use Rattle.golden_case.proofs.TextLemmas.{OneRun}
+use Rattle.golden_commands.specs.Case.{FedRead, IsFed, trace_order}
+use Rattle.golden_commands.specs.Commands.{Asked, asking}
+use Rattle.golden_commands.specs.Lines.{circuit_fault, partition_fault, trace_fault}
+use Rattle.golden_commands.specs.Partition.{Known, TellsPartitionFor, partition_file_for}
+use Rattle.golden_commands.specs.Replay.{IsReplayed, TellsSteps, steps_file_for}
+use Rattle.golden_commands.specs.Replayed.{IsNetText, TellsStop, case_naming, fed_flow}
+use Rattle.golden_commands.specs.Run.{TellsCircuit, TellsTraceFor, circuit_file, trace_file_for}
+use Rattle.golden_commands.specs.Stepped.{IsSteppedText, IsToldText, TellsRefusedStep, TellsToldStep, ToldBehind, ToldByNetwork}
+use Rattle.golden_commands.specs.Words.{AskForCommand, TellsUnasked}
+use Rattle.golden_commands.specs.declared.case.Fed.{Fed}
+use Rattle.golden_commands.proofs.FedLemmas.{named, stop-so, text-so}
+use Rattle.golden_commands.proofs.PartitionLemmas.{DesignsAgree}
+use Rattle.golden_commands.proofs.TextLemmas.{OneRun}
 
 -- ---- bytes
 

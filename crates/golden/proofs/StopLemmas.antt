@@ -7,7 +7,7 @@ use Rattle.gg_order.specs.Design.{Ordered}
 use Rattle.gg_partfile.specs.declared.request.Request.{Request}
 use Rattle.gg_part.specs.PartRun.{part_ratios, ratio_at}
 use Rattle.gg_cut_plan.specs.Clocks.{ratio_of, ratios_of, stop_clocks, stop_ratios}
-use Rattle.gg_run.specs.Printed.{plan_stops}
+use Rattle.gg_rows.specs.Printed.{plan_stops}
 use Rattle.gg_trace.specs.Last.{acts, halts, row_count}
 use Rattle.gg_trace.specs.Table.{row_of}
 use Rattle.gg_trace.proofs.LastLaws.{rows-agree}

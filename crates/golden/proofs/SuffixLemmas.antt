@@ -10,10 +10,10 @@ use Rattle.gg_flat.specs.Run.{IsRunFrom, Start, since, state_at}
 use Rattle.gg_flat_tree.specs.Scoped.{stop_signals}
 use Rattle.gg_flat.specs.State.{IsState, State}
 use Rattle.gg_flat.specs.declared.ports.Port.{Port}
-use Rattle.gg_flat_run.proofs.AlongLemmas.{IsState-at}
-use Rattle.gg_flat_run.proofs.RunLemmas.{IsRunFrom-rest, state_at-append}
-use Rattle.gg_flat_run.proofs.SinceLemmas.{since-add}
-use Rattle.gg_flat_run.proofs.UniqueLemmas.{IsRunFrom-once}
+use Rattle.gg_order.proofs.RunsLemmas.AlongLemmas.{IsState-at}
+use Rattle.gg_order.proofs.RunsLemmas.RunLemmas.{IsRunFrom-rest, state_at-append}
+use Rattle.gg_order.proofs.RunsLemmas.SinceLemmas.{since-add}
+use Rattle.gg_order.proofs.RunsLemmas.UniqueLemmas.{IsRunFrom-once}
 use Rattle.gg_part.specs.KeepsToTree.{KeepsToTree}
 use Rattle.gg_order.specs.Design.{IsDesign, Ordered}
 use Rattle.gg_partfile.specs.Partition.{IsPartition}
@@ -31,25 +31,25 @@ use Rattle.gg_cut_reference.specs.Made.{AllHeld, plan_reference}
 use Rattle.gg_cut_reference.proofs.OneReference.{one-reference, one-start}
 use Rattle.gg_cut_reference.proofs.PlanLemmas.{plan-ordered}
 use Rattle.gg_cut_reference.proofs.StartLemmas.{plan-typed}
-use Rattle.gg_run.specs.Printed.{plan_stops}
-use Rattle.gg_snap_text.specs.Lines.{snap_text}
-use Rattle.gg_snap_text.specs.Standing.{IsSnap}
-use Rattle.gg_snap_text.specs.Table.{rows_of}
+use Rattle.gg_rows.specs.Printed.{plan_stops}
+use Rattle.gg_snap.specs.text.Lines.{snap_text}
+use Rattle.gg_snap.specs.text.Standing.{IsSnap}
+use Rattle.gg_snap.specs.text.Table.{rows_of}
 use Rattle.gg_trace.specs.Last.{has_halted, halts, row_count}
 use Rattle.gg_trace.specs.Printing.{text_from}
 use Rattle.gg_trace.specs.Trace.{Columns}
 use Rattle.gg_trace.proofs.LastLaws.{rows-before, rows-since, rows-stay, rows-within}
-use Rattle.golden_case.specs.Meant.{AreMeant, Meant, meaning, meant_reference, meant_values}
-use Rattle.golden_case.specs.Partition.{IsPartitionFor, to_run, to_save}
-use Rattle.golden_case.specs.Resumed.{CanBeResumed, HaveSamePipes, HaveSameRatios, IsRestOf, IsResumedText, rest_rows, rest_text, start_at}
-use Rattle.golden_case.specs.Run.{IsTextOf}
-use Rattle.golden_case.specs.RunText.{FeedsOnly, IsRunBy, columns_of, outputs_kept, outputs_of, run_rows, run_text, shown_ports, stops_kept}
-use Rattle.golden_case.specs.Saved.{HasRun, save_limit, state_before}
-use Rattle.golden_case.proofs.AloneLemmas.{circuit-alone, fed-alone, kept-alone, run-alone, shown-alone}
+use Rattle.golden_commands.specs.Meant.{AreMeant, Meant, meaning, meant_reference, meant_values}
+use Rattle.golden_commands.specs.Partition.{IsPartitionFor, to_run, to_save}
+use Rattle.golden_commands.specs.Resumed.{CanBeResumed, HaveSamePipes, HaveSameRatios, IsRestOf, IsResumedText, rest_rows, rest_text, start_at}
+use Rattle.golden_commands.specs.Run.{IsTextOf}
+use Rattle.golden_commands.specs.RunText.{FeedsOnly, IsRunBy, columns_of, outputs_kept, outputs_of, run_rows, run_text, shown_ports, stops_kept}
+use Rattle.golden_commands.specs.Saved.{HasRun, save_limit, state_before}
+use Rattle.golden_commands.proofs.AloneLemmas.{circuit-alone, fed-alone, kept-alone, run-alone, shown-alone}
 use Rattle.golden.proofs.FromLemmas.{counts-from, texts-from}
 use Rattle.golden.proofs.MeantLemmas.{columns-few, columns-once, meant-faultless, meant-formed, meant-is, meant-ordered, meant-snap, reference_order}
-use Rattle.golden_case.proofs.PartitionLemmas.{DesignsAgree, fault-with-same}
-use Rattle.golden_case.proofs.TextLemmas.{only-text}
+use Rattle.golden_commands.proofs.PartitionLemmas.{DesignsAgree, fault-with-same}
+use Rattle.golden_commands.proofs.TextLemmas.{only-text}
 
 -- ---- how far a run may be saved
 

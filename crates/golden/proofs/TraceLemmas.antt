@@ -7,13 +7,13 @@ use Rattle.gg_partfile.specs.declared.request.Request.{Request}
 use Rattle.gg_trace.specs.FaultText.{fault_words}
 use Rattle.gg_trace.specs.Trace.{Columns, IsFirstFault}
 use Rattle.gg_trace.specs.declared.faults.TraceFault.{TraceFault}
-use Rattle.gg_command.specs.Said.{Said}
-use Rattle.golden_case.specs.Lines.{trace_fault}
-use Rattle.gg_command.specs.Order.{IsExactFile, IsUniqueFile}
-use Rattle.golden_case.specs.Run.{trace_file_for, IsTraceFor, TellsTraceFor}
-use Rattle.golden_case.specs.RunText.{fed_ports}
-use Rattle.gg_command.proofs.OrderLemmas.{exact-by}
-use Rattle.golden_case.proofs.TextLemmas.{OneFlat}
+use Rattle.gg_io.specs.Said.{Said}
+use Rattle.golden_commands.specs.Lines.{trace_fault}
+use Rattle.gg_io.specs.Order.{IsExactFile, IsUniqueFile}
+use Rattle.golden_commands.specs.Run.{trace_file_for, IsTraceFor, TellsTraceFor}
+use Rattle.golden_commands.specs.RunText.{fed_ports}
+use Rattle.gg_io.proofs.OrderLemmas.{exact-by}
+use Rattle.golden_commands.proofs.TextLemmas.{OneFlat}
 
 -- a trace has at most one first fault
 abbrev pub OneFirstFault : Type 0

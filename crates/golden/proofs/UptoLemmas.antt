@@ -6,7 +6,7 @@ use Rattle.gg_flat.specs.Circuit.{FlatCircuit}
 use Rattle.gg_flat.specs.Clock.{Ratio}
 use Rattle.gg_flat.specs.Run.{Start, clocked_start, state_at}
 use Rattle.gg_flat.specs.declared.ports.Port.{Port}
-use Rattle.gg_flat_run.proofs.UniqueLemmas.{IsRunFrom-once}
+use Rattle.gg_order.proofs.RunsLemmas.UniqueLemmas.{IsRunFrom-once}
 use Rattle.gg_order.specs.Design.{Ordered}
 use Rattle.gg_partfile.specs.declared.request.BridgeEntry.{BridgeEntry}
 use Rattle.gg_partfile.specs.declared.request.Request.{Request}
@@ -20,45 +20,45 @@ use Rattle.gg_cut_plan.specs.Plan.{IsBody, IsPlan}
 use Rattle.gg_cut_plan.specs.declared.plan.Body.{Body}
 use Rattle.gg_cut_plan.specs.declared.plan.Plan.{Plan}
 use Rattle.gg_measure.specs.Nets.{AllStandAt}
-use Rattle.gg_run.proofs.OpeningLemmas.{from-zeros}
-use Rattle.gg_run.proofs.OutputLemmas.{net-stays, opening-is-net}
-use Rattle.gg_bridged.specs.Whole.{plan_circuit}
+use Rattle.gg_rows.proofs.OpeningLemmas.{from-zeros}
+use Rattle.gg_rows.proofs.OutputLemmas.{net-stays, opening-is-net}
+use Rattle.gg_cut_reference.specs.whole.Whole.{plan_circuit}
 use Rattle.gg_build.specs.Build.{HasBridges, IsOpeningOf, IsToRun, circuit_order, circuit_rows, run_from_zeros, run_token}
 use Rattle.gg_build.proofs.AlongLemmas.{given-along}
-use Rattle.gg_build_laws.specs.Built.{IsGiven, nameless}
+use Rattle.gg_build.specs.plan.Built.{IsGiven, nameless}
 use Rattle.gg_flat.specs.State.{State}
 use Rattle.gg_flat.specs.Streams.{Flow}
 use Rattle.gg_flat_tree.specs.Tree.{InstanceTree}
 use Rattle.gg_net.specs.Network.{Network, frame_of}
-use Rattle.gg_run.specs.Rows.{StandsAt}
+use Rattle.gg_rows.specs.Rows.{StandsAt}
 use Rattle.gg_snap.specs.Whole.{HasEnded, last_state}
-use Rattle.gg_snap_text.specs.Snap.{Snapshot}
-use Rattle.gg_snap_text.specs.Standing.{IsSnap}
-use Rattle.gg_run.specs.Printed.{IsFirst, ends_run, is_halt, plan_stops}
-use Rattle.gg_snap_text.specs.Lines.{snap_text}
-use Rattle.gg_snap_text.specs.Table.{rows_of}
-use Rattle.gg_command.specs.Ends.{Loads, Puts}
-use Rattle.gg_command.specs.Endings.{EndedOn, IfRefused, PrintsOrStops, StopsBy}
-use Rattle.gg_command.specs.Order.{IsOnly, Load, Write}
-use Rattle.gg_command.specs.Said.{Said}
-use Rattle.gg_command.specs.declared.endings.Ending.{Ending}
-use Rattle.gg_command.specs.declared.endings.Ending.TheVariants.{NoMemory}
-use Rattle.gg_command.proofs.EndingLemmas.{judged-ends, judged-map, loads-same}
+use Rattle.gg_snap.specs.text.Snap.{Snapshot}
+use Rattle.gg_snap.specs.text.Standing.{IsSnap}
+use Rattle.gg_rows.specs.Printed.{IsFirst, ends_run, is_halt, plan_stops}
+use Rattle.gg_snap.specs.text.Lines.{snap_text}
+use Rattle.gg_snap.specs.text.Table.{rows_of}
+use Rattle.gg_io.specs.Ends.{Loads, Puts}
+use Rattle.gg_io.specs.Endings.{EndedOn, IfRefused, PrintsOrStops, StopsBy}
+use Rattle.gg_io.specs.Order.{IsOnly, Load, Write}
+use Rattle.gg_io.specs.Said.{Said}
+use Rattle.gg_io.specs.declared.endings.Ending.{Ending}
+use Rattle.gg_io.specs.declared.endings.Ending.TheVariants.{NoMemory}
+use Rattle.gg_io.proofs.EndingLemmas.{judged-ends, judged-map, loads-same}
 use Rattle.gg_trace.specs.Last.{acts}
-use Rattle.golden_case.specs.Case.{FedRead, IsCase, IsFed, trace_order}
-use Rattle.golden_case.specs.Commands.{Asked, read_order}
-use Rattle.golden_case.specs.Lines.{few_rows}
-use Rattle.golden_case.specs.Partition.{Known, to_save}
-use Rattle.golden_case.specs.RunText.{shown_ports}
-use Rattle.golden_case.specs.Replayed.{IsToReplay, fed_flow}
-use Rattle.golden_case.specs.Runs.{FindsStop, Halted, IsUpto, Short, TellsEarly, meant_by, text_after, upto}
-use Rattle.golden_case.specs.Saved.{CanBeSaved, HasRun, IsSavedText, TellsFew, save_limit, saved_file_for}
-use Rattle.golden_case.specs.declared.case.Fed.{Fed}
-use Rattle.golden_case.proofs.BeginLemmas.{run-of}
-use Rattle.golden_case.proofs.CaseLemmas.{case-can, case-ends, case-ordered}
-use Rattle.golden_case.proofs.FedLemmas.{fed-are, fed-rows, own-run}
+use Rattle.golden_commands.specs.Case.{FedRead, IsCase, IsFed, trace_order}
+use Rattle.golden_commands.specs.Commands.{Asked, read_order}
+use Rattle.golden_commands.specs.Lines.{few_rows}
+use Rattle.golden_commands.specs.Partition.{Known, to_save}
+use Rattle.golden_commands.specs.RunText.{shown_ports}
+use Rattle.golden_commands.specs.Replayed.{IsToReplay, fed_flow}
+use Rattle.golden_commands.specs.Runs.{FindsStop, Halted, IsUpto, Short, TellsEarly, meant_by, text_after, upto}
+use Rattle.golden_commands.specs.Saved.{CanBeSaved, HasRun, IsSavedText, TellsFew, save_limit, saved_file_for}
+use Rattle.golden_commands.specs.declared.case.Fed.{Fed}
+use Rattle.golden_commands.proofs.BeginLemmas.{run-of}
+use Rattle.golden_commands.proofs.CaseLemmas.{case-can, case-ends, case-ordered}
+use Rattle.golden_commands.proofs.FedLemmas.{fed-are, fed-rows, own-run}
 use Rattle.golden.proofs.FirstLemmas.{first-alike, first-columns, first-columns-row, first-run, first-states, limit_of, none-limit, stop-limit, whole-none}
-use Rattle.golden_case.proofs.PartitionLemmas.{DesignsAgree}
+use Rattle.golden_commands.proofs.PartitionLemmas.{DesignsAgree}
 use Rattle.golden.proofs.SavedLemmas.{saved-only}
 
 -- What is told of a network of the first rows, for the whole run.

@@ -1,22 +1,22 @@
 //! The command `check`.
 ghost use Rattle.std.specs.Prelude.{◌≤◌, ℕ, List};
 ghost use Rattle.gg_words.specs.Range.{IsCapacity};
-ghost use Rattle.golden_case.specs.Case.{IsCase};
-ghost use Rattle.golden_case.specs.Check.{IsCutTextOf};
-ghost use Rattle.golden_case.specs.Commands.{asking, read_order};
-ghost use Rattle.golden_case.specs.Handed.{AreHandedIn};
-ghost use Rattle.golden_case.specs.Partition.{Known, to_run};
-ghost use Rattle.gg_command.specs.Endings.{EndedOn, PrintsOn};
-ghost use Rattle.gg_command.specs.Order.{IsOnly, Write};
-ghost use Rattle.gg_command.specs.Ends.{loads_of, puts_of};
-ghost use Rattle.gg_command.specs.WentOn.{ShelfWentOn, SinkWentOn};
+ghost use Rattle.golden_commands.specs.Case.{IsCase};
+ghost use Rattle.golden_commands.specs.Check.{IsCutTextOf};
+ghost use Rattle.golden_commands.specs.Commands.{asking, read_order};
+ghost use Rattle.golden_commands.specs.Handed.{AreHandedIn};
+ghost use Rattle.golden_commands.specs.Partition.{Known, to_run};
+ghost use Rattle.gg_io.specs.Endings.{EndedOn, PrintsOn};
+ghost use Rattle.gg_io.specs.Order.{IsOnly, Write};
+ghost use Rattle.gg_io.specs.Ends.{loads_of, puts_of};
+ghost use Rattle.gg_io.specs.WentOn.{ShelfWentOn, SinkWentOn};
 
-use gg_command::Ending;
+use gg_io::Ending;
 use gg_cut_plan::Models;
-use gg_cut_text::{one_text, plan_is_told};
+use gg_cut_reference::{one_text, plan_is_told};
 use gg_front::one_meaning;
 use gg_io::{Shelf, Sink};
-use golden_case::{Case, print_plan, read_case};
+use golden_commands::{Case, print_plan, read_case};
 use std::alloc::Global;
 
 // Prints the cut of a case.

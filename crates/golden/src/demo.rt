@@ -1,41 +1,41 @@
 //! The command `demo`.
 ghost use Rattle.std.specs.Prelude.{◌≡◌, ◌≤◌, ◌<◌, [], IfOk, length, true};
 ghost use Rattle.gg_cut_plan.specs.Plan.{IsPlan};
-ghost use Rattle.gg_demo_text.specs.CircuitText.{demo_circuit};
-ghost use Rattle.gg_demo_text.specs.PartitionText.{demo_partition};
-ghost use Rattle.gg_demo_text.specs.TraceText.{demo_cycles, demo_trace};
-ghost use Rattle.gg_bridged.specs.Whole.{plan_circuit};
+ghost use Rattle.gg_rows.specs.CircuitText.{demo_circuit};
+ghost use Rattle.gg_rows.specs.PartitionText.{demo_partition};
+ghost use Rattle.gg_rows.specs.TraceText.{demo_cycles, demo_trace};
+ghost use Rattle.gg_cut_reference.specs.whole.Whole.{plan_circuit};
 ghost use Rattle.gg_build.specs.Build.{NeedsNone};
 ghost use Rattle.gg_front.specs.Meaning.{MeansDesign};
 ghost use Rattle.gg_bits.specs.Limits.{cycle_limit};
 ghost use Rattle.gg_part.specs.KeepsToTree.{KeepsToTree};
 ghost use Rattle.gg_cut_plan.specs.Held.{AreHeldOnce};
 ghost use Rattle.gg_cut_reference.specs.Made.{AllHeld};
-ghost use Rattle.gg_run.specs.Sums.{AreSums};
+ghost use Rattle.gg_rows.specs.Sums.{AreSums};
 ghost use Rattle.gg_trace.specs.Trace.{HaveWidths};
-ghost use Rattle.gg_command.specs.Ends.{puts_of};
-ghost use Rattle.gg_command.specs.Endings.{PrintsOrStops};
-ghost use Rattle.gg_command.specs.Order.{IsOnly};
-ghost use Rattle.gg_command.specs.WentOn.{SinkWentOn};
-ghost use Rattle.golden_case.specs.Case.{IsCase, IsFed};
-ghost use Rattle.golden_case.specs.Demo.{IsDemoText, demo_capacity};
-ghost use Rattle.golden_case.specs.Partition.{Cuts, to_run};
-ghost use Rattle.golden_case.specs.Replayed.{IsToReplay};
-ghost use Rattle.golden_case.specs.RunText.{FeedsOnly, fed_ports};
+ghost use Rattle.gg_io.specs.Ends.{puts_of};
+ghost use Rattle.gg_io.specs.Endings.{PrintsOrStops};
+ghost use Rattle.gg_io.specs.Order.{IsOnly};
+ghost use Rattle.gg_io.specs.WentOn.{SinkWentOn};
+ghost use Rattle.golden_commands.specs.Case.{IsCase, IsFed};
+ghost use Rattle.golden_commands.specs.Demo.{IsDemoText, demo_capacity};
+ghost use Rattle.golden_commands.specs.Partition.{Cuts, to_run};
+ghost use Rattle.golden_commands.specs.Replayed.{IsToReplay};
+ghost use Rattle.golden_commands.specs.RunText.{FeedsOnly, fed_ports};
 
 use gg_bridge::Echo;
-use gg_command::Ending;
+use gg_io::Ending;
 use gg_cut_plan::Models;
-use gg_demo_text::{circuit_text, partition_text, trace_text};
-use gg_flat_run::run_once;
+use gg_rows::{circuit_text, partition_text, trace_text};
+use gg_order::run_once;
 use gg_front::{front, one_meaning};
 use gg_io::{Gate, Sink};
 use gg_net::Streams;
 use gg_order::Design;
 use gg_partfile::Request;
-use gg_run::{Sums, put_summary, sum_net};
+use gg_rows::{Sums, put_summary, sum_net};
 use gg_trace::Trace;
-use golden_case::{
+use golden_commands::{
     CIRCUIT_LIMIT, Case, Cut, Fed, PARTITION_LIMIT, cut_request, inputs_of, request_of,
 };
 use std::alloc::{AllocError, Global};

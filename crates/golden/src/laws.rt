@@ -3,20 +3,20 @@ ghost use Rattle.std.specs.Prelude.{◌≡◌, ℕ, List};
 ghost use Rattle.gg_cut_plan.specs.Bridges.{Models};
 ghost use Rattle.gg_read.specs.Text.{HasReadFault};
 ghost use Rattle.gg_read.specs.declared.text.ReadFault.{ReadFault};
-ghost use Rattle.gg_command.specs.Said.{Said};
-ghost use Rattle.golden_case.specs.Lines.{TellsUnread};
+ghost use Rattle.gg_io.specs.Said.{Said};
+ghost use Rattle.golden_commands.specs.Lines.{TellsUnread};
 ghost use Rattle.gg_words.specs.declared.command.Cmd.{Cmd};
-ghost use Rattle.golden_case.specs.Commands.{Asked, known_of, order_behind, order_of};
-ghost use Rattle.gg_command.specs.Order.{IsExact, IsUnique, Load};
-ghost use Rattle.golden_case.specs.Partition.{partition_file_for};
-ghost use Rattle.golden_case.specs.Run.{TellsCircuit};
-ghost use Rattle.golden_case.specs.GoesOn.{ResumedIsTheRest, RunsGoOn, SavedIsAccepted};
+ghost use Rattle.golden_commands.specs.Commands.{Asked, known_of, order_behind, order_of};
+ghost use Rattle.gg_io.specs.Order.{IsExact, IsUnique, Load};
+ghost use Rattle.golden_commands.specs.Partition.{partition_file_for};
+ghost use Rattle.golden_commands.specs.Run.{TellsCircuit};
+ghost use Rattle.golden_commands.specs.GoesOn.{ResumedIsTheRest, RunsGoOn, SavedIsAccepted};
 
 use gg_front::{faults_apart, one_meaning};
 use gg_partfile::one_answer;
 use gg_read::one_fault_line;
 use gg_snap::plans_can_save;
-use gg_snap_text::one_snapshot;
+use gg_snap::one_snapshot;
 use gg_trace::one_first_fault;
 
 /// Whatever models are handed in, nothing is reported for accepted bytes of a command's file, and all that is reported for other bytes has

@@ -11,7 +11,7 @@
 //! `save` runs the network of the cut up to a cycle, and prints a snapshot: the state of the circuit with the pipes before that cycle. `resume`
 //! prints the run from a snapshot on, from the network of a cut with the same pipes.
 //!
-//! What the call promises (`Promised`, which golden_case defines with all else), for every shelf and all outputs, and whatever bridges are handed in, of whose code only the contract is
+//! What the call promises (`Promised`, which golden_commands defines with all else), for every shelf and all outputs, and whatever bridges are handed in, of whose code only the contract is
 //! used (gg_bridge's `Bridge`):
 //!
 //! - `outcome`: the status, the text on `out` and the line on `err` are those of one end of the command that the words

@@ -1,28 +1,28 @@
 //! The command `replay`.
 ghost use Rattle.std.specs.Prelude.{◌≤◌, ℕ, List};
-ghost use Rattle.gg_command.specs.Ends.{loads_of, puts_of};
-ghost use Rattle.gg_command.specs.Endings.{EndedOn, PrintsOrStops, said_by};
-ghost use Rattle.gg_command.specs.Order.{Load, Write};
-ghost use Rattle.gg_command.specs.WentOn.{ShelfWentOn, SinkWentOn};
+ghost use Rattle.gg_io.specs.Ends.{loads_of, puts_of};
+ghost use Rattle.gg_io.specs.Endings.{EndedOn, PrintsOrStops, said_by};
+ghost use Rattle.gg_io.specs.Order.{Load, Write};
+ghost use Rattle.gg_io.specs.WentOn.{ShelfWentOn, SinkWentOn};
 ghost use Rattle.gg_words.specs.Range.{IsCapacity};
 ghost use Rattle.gg_build.specs.Build.{HasBridges};
-ghost use Rattle.golden_case.specs.Bridges.{HaveModels};
-ghost use Rattle.golden_case.specs.Case.{IsFed};
-ghost use Rattle.golden_case.specs.Commands.{asking, fed_order};
-ghost use Rattle.golden_case.specs.Handed.{AreHandedIn};
-ghost use Rattle.golden_case.specs.Partition.{to_run};
-ghost use Rattle.golden_case.specs.Replay.{IsReplayOf, steps_file_for};
-ghost use Rattle.golden_case.specs.Stepped.{IsToldText, TellsToldStep, ToldBehind, ToldByNetwork};
+ghost use Rattle.golden_commands.specs.Bridges.{HaveModels};
+ghost use Rattle.golden_commands.specs.Case.{IsFed};
+ghost use Rattle.golden_commands.specs.Commands.{asking, fed_order};
+ghost use Rattle.golden_commands.specs.Handed.{AreHandedIn};
+ghost use Rattle.golden_commands.specs.Partition.{to_run};
+ghost use Rattle.golden_commands.specs.Replay.{IsReplayOf, steps_file_for};
+ghost use Rattle.golden_commands.specs.Stepped.{IsToldText, TellsToldStep, ToldBehind, ToldByNetwork};
 
 use gg_bits::Name;
 use gg_bridge::Bridge;
-use gg_command::{Ending, load};
+use gg_io::{Ending, load};
 use gg_cut_plan::Models;
-use gg_flat_run::run_once;
+use gg_order::run_once;
 use gg_front::one_meaning;
 use gg_io::{Shelf, Sink};
-use gg_replay_steps::read_steps;
-use golden_case::{Fed, STEPS_LIMIT, names_of, read_fed, replay_net};
+use gg_replay::read_steps;
+use golden_commands::{Fed, STEPS_LIMIT, names_of, read_fed, replay_net};
 use std::alloc::Global;
 use std::marker::Brand;
 

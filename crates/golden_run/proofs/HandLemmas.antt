@@ -6,8 +6,8 @@ use Rattle.std.proofs.lemmas.List.Kept.{AllPairs-cons}
 use Rattle.gg_flat.specs.Circuit.{FlatCircuit}
 use Rattle.gg_flat.specs.State.{State, opening}
 use Rattle.gg_bits.proofs.PathLemmas.{missing-path}
-use Rattle.golden_case.specs.Handed.{IsBridgeName, most_signals}
-use Rattle.golden_case.specs.Bridges.{CanHandIn}
+use Rattle.golden_commands.specs.Handed.{IsBridgeName, most_signals}
+use Rattle.golden_commands.specs.Bridges.{CanHandIn}
 
 module _ {B : Type 0} (piece : B → FlatCircuit) (state : B → State) where
   pub can-none : CanHandIn {B = B} piece state []

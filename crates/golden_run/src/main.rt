@@ -14,7 +14,7 @@ use std::process::ExitCode;
 use std::thread::Threads;
 use std::{env, io};
 
-// The status and the line for a call whose words or whose echoes can't be allocated. They are those of `out_of_memory` in gg_command's
+// The status and the line for a call whose words or whose echoes can't be allocated. They are those of `out_of_memory` in gg_io's
 // specs, repeated here since `golden_with` needs the words.
 const OUT_OF_MEMORY: u8 = 5;
 

@@ -7,3 +7,5 @@
 
 #[cfg(test)]
 mod tests;
+mod cuts;
+mod bridges;

@@ -1,5 +1,5 @@
 //! Tests of networks, from their cut to their end: what no contract says, namely that each public call succeeds with ample memory, and what circuits
-//! do that were worked out by hand. Circuits, partitions and traces are texts. circuit_tests has the tests of what stands below a network,
+//! do that were worked out by hand. Circuits, partitions and traces are texts. net_tests has the tests of what stands below a network,
 //! golden_tests those of the program.
 //!
 //! A row of a table is a circuit and what is expected of it. One loop goes over all tables of a kind, since each further test function
@@ -27,3 +27,7 @@ mod refusals;
 mod sharing;
 #[cfg(test)]
 mod tables;
+mod bridges;
+mod links;
+mod circuits;
+mod workers;

@@ -4,7 +4,7 @@ use gg_bridge::Echo;
 use gg_build::Node;
 use gg_measure::{Order, left, possible, run_by, run_to, run_to_end};
 use gg_net::{Net, Streams};
-use net_testing::{is_at_most, keeps};
+use net_helpers::{is_at_most, keeps};
 
 // Does the steps that `possible` answers, one after another. Returns how many were done, at most this many.
 fn follow<Z: Streams>(net: &mut Net<Node<'_, Echo>, Z>, most: u64) -> u64 {

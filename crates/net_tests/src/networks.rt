@@ -4,7 +4,7 @@ ghost use Rattle.gg_build.specs.Build.{IsToRun, NeedsNone};
 ghost use Rattle.gg_cut_plan.specs.Fault.{IsSmall};
 ghost use Rattle.gg_part.specs.KeepsToTree.{KeepsToTree};
 ghost use Rattle.gg_cut_plan.specs.Held.{AreHeldOnce};
-ghost use Rattle.gg_bridged.specs.Whole.{HasFreeFronts};
+ghost use Rattle.gg_cut_reference.specs.whole.Whole.{HasFreeFronts};
 ghost use Rattle.gg_flat.specs.Run.{IsColumns};
 
 use crate::measures::end_alike;
@@ -18,8 +18,8 @@ use gg_net::{Event, Net, StepRefusal, Streams};
 use gg_order::Design;
 use gg_partfile::Request;
 use gg_trace::Trace;
-use net_testing::Circuit::{Memory, Whole};
-use net_testing::{
+use net_helpers::Circuit::{Memory, Whole};
+use net_helpers::{
     COUNTER, COUNTER_TRACE, Circuit, FOUR_PORTS, FOUR_PORTS_TRACE, PAIR, PAIR_TRACE, THREE_CYCLES,
     build_alone, design_of, inputs_of, request_of, text_of,
 };

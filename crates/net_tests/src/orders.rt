@@ -9,7 +9,7 @@ use gg_measure::run_to_end;
 use gg_net::{Net, Parts, Streams};
 use gg_node::Host;
 use gg_trace::Trace;
-use net_testing::build_alone;
+use net_helpers::build_alone;
 use std::alloc::{AllocError, Global};
 
 // The network with hosts that note their calls.

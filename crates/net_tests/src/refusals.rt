@@ -8,7 +8,7 @@ use gg_build::Node;
 use gg_cut_plan::Plan;
 use gg_net::{Event, Net, StepRefusal, Streams};
 use gg_trace::Trace;
-use net_testing::build_alone;
+use net_helpers::build_alone;
 use std::alloc::Global;
 
 // Whether a step is refused behind these steps. It is tested, and then tried twice.

@@ -1,4 +1,4 @@
-//! Tests of crates that read or write texts and files, and of the walk over graphs: gg_trace, gg_replay_steps, gg_partfile, gg_io and
+//! Tests of crates that read or write texts and files, and of the walk over graphs: gg_trace, gg_replay, gg_partfile, gg_io and
 //! gg_graph, a module each. They show what no contract says: that with ample memory there is an answer, and that the answers are those
 //! worked out by hand.
 #![tactic(auto)]
@@ -19,3 +19,6 @@ mod step_files;
 mod traces;
 #[cfg(test)]
 mod walks;
+mod bits;
+mod front;
+mod snaps;

@@ -1,9 +1,9 @@
-//! gg_replay_steps: the steps of a file, and the texts of causes, with two channels and a memory of two ports.
+//! gg_replay: the steps of a file, and the texts of causes, with two channels and a memory of two ports.
 ghost use Rattle.std.specs.Prelude.{◌≡◌, IfOk, length};
 
 use gg_bits::Name;
 use gg_net::{Event, StepRefusal};
-use gg_replay_steps::{StepNames, cause_text, read_steps};
+use gg_replay::{StepNames, cause_text, read_steps};
 use std::alloc::{AllocError, Global};
 
 static FILE: &[u8] = b"latch x\r\nfire y\n\nserve m w\nfinish m\nserve\tm r";

@@ -1,7 +1,7 @@
 //! Circuits that are run, and circuits that are refused.
-use golden_testing::Call::{Run, RunEdited, RunLines};
-use golden_testing::End::{Prints, Refuses};
-use golden_testing::{COUNTER, LATE, LOOP, MEMORY, PAIR, Row, TEXT, TRACE, WIDE};
+use golden_helpers::Call::{Run, RunEdited, RunLines};
+use golden_helpers::End::{Prints, Refuses};
+use golden_helpers::{COUNTER, LATE, LOOP, MEMORY, PAIR, Row, TEXT, TRACE, WIDE};
 
 // Circuits of one module.
 pub(crate) static RUNS: [Row; 17] = [

@@ -1,8 +1,8 @@
 //! The words of a call.
-use golden_testing::Call::{Ask, AskCounter};
-use golden_testing::End::{Prints, Refuses, Saves, Unasked};
-use golden_testing::{PAIR, PAIR_UNITS, Row, TEXT};
-use net_testing::PAIR_TRACE;
+use golden_helpers::Call::{Ask, AskCounter};
+use golden_helpers::End::{Prints, Refuses, Saves, Unasked};
+use golden_helpers::{PAIR, PAIR_UNITS, Row, TEXT};
+use net_helpers::PAIR_TRACE;
 
 // Words that run the counter.
 pub(crate) static ASKED: [Row; 12] = [

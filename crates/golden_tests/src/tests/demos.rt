@@ -1,7 +1,7 @@
 //! The command `demo`. Expected texts were worked out outside, by a few lines of another language.
-use golden_testing::Call::{Ask, AskFailing};
-use golden_testing::End::{Prints, Stops};
-use golden_testing::{Answer, NONE, Row, ask};
+use golden_helpers::Call::{Ask, AskFailing};
+use golden_helpers::End::{Prints, Stops};
+use golden_helpers::{Answer, NONE, Row, ask};
 use std::alloc::{AllocError, Global};
 use std::collections::BTreeMap;
 use std::process::Abort;

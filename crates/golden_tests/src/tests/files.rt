@@ -1,7 +1,7 @@
 //! Files that are missing, that fail, or that are no text.
-use golden_testing::Call::{AskFailing, RunAlone, RunBytes};
-use golden_testing::End::Refuses;
-use golden_testing::{COUNTER, NONE, RUN, Row, TRACE};
+use golden_helpers::Call::{AskFailing, RunAlone, RunBytes};
+use golden_helpers::End::Refuses;
+use golden_helpers::{COUNTER, NONE, RUN, Row, TRACE};
 
 // A file that is missing, also where the circuit before it is refused.
 pub(crate) static MISSING: [Row; 2] = [

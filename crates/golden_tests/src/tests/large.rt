@@ -1,8 +1,8 @@
 //! Calls on texts that are made: at the limits, and past them.
 use super::large::Large::{Blanks, Chain, Clocks, Nested, Nodes, Outputs, Padded, Rows, Units};
 use gg_io::hold;
-use golden_testing::End::{Prints, Refuses};
-use golden_testing::{
+use golden_helpers::End::{Prints, Refuses};
+use golden_helpers::{
     Answer, CHECK, COUNTER, End, REPLAY, RESUME, RUN, TEXT, TRACE, ask, ask_of, check_end, counter,
     counter_files, files_of, run,
 };

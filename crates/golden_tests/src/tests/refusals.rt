@@ -1,7 +1,7 @@
 //! Of several faults the first is told.
-use golden_testing::Call::RunEdited;
-use golden_testing::End::Refuses;
-use golden_testing::{COUNTER, Row, TRACE};
+use golden_helpers::Call::RunEdited;
+use golden_helpers::End::Refuses;
+use golden_helpers::{COUNTER, Row, TRACE};
 
 // The counter with a line changed, and other files.
 pub(crate) static REFUSALS: [Row; 9] = [

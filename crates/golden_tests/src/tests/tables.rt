@@ -6,7 +6,7 @@ use super::files::{FAILING, MISSING};
 use super::large::{CHAINS, LARGE_FILES, LIMITS, check_large};
 use super::refusals::REFUSALS;
 use super::traces::TRACES;
-use golden_testing::check_rows;
+use golden_helpers::check_rows;
 use std::test::Fail;
 
 // Few tables a test, and no long ones: a test takes more steps the more its tables hold, and has a limit.

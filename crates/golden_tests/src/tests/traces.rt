@@ -1,7 +1,7 @@
 //! Traces with a fault.
-use golden_testing::Call::Run;
-use golden_testing::End::Refuses;
-use golden_testing::{COUNTER, Row};
+use golden_helpers::Call::Run;
+use golden_helpers::End::Refuses;
+use golden_helpers::{COUNTER, Row};
 
 // Traces of the counter with a fault.
 pub(crate) static TRACES: [Row; 15] = [

@@ -3,7 +3,7 @@ use Rattle.std.proofs.lemmas.List.{get_or_default}
 use Rattle.gg_cut_plan.specs.declared.plan.Machine as planned
 use Rattle.gg_flat.specs.Line.{value_at}
 use Rattle.gg_node.specs.Machine.{machine_at}
-use Rattle.gg_build_laws.specs.Built.{nameless}
+use Rattle.gg_build.specs.plan.Built.{nameless}
 use Rattle.gg_build.specs.declared.node.Node.{Node}
 use Rattle.gg_build.specs.Hosts.{IsStation}
 use Rattle.gg_build.specs.Node.{machines_of}

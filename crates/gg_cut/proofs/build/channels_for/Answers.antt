@@ -4,7 +4,7 @@ use Rattle.gg_cut_plan.specs.Direct.{is_piped}
 use Rattle.gg_cut_plan.specs.declared.wires.Wire.{Wire}
 use Rattle.gg_cut.specs.Made.{AreChannels, IsFit}
 use Rattle.gg_cut.proofs.PlanLemmas.{machine-fit, channels-made}
-use Rattle.gg_cut_bridges.proofs.WireLemmas.{given-below, known-below}
+use Rattle.gg_cut_machines.proofs.WireLemmas.{given-below, known-below}
 use Rattle.gg_cut.proofs.build.channels_for.Goals as goal
 
 pub needs_table-requires-clause-fit : goal.needs_table-requires-clause-fit

@@ -1,8 +1,8 @@
 use Rattle.std.proofs.Common.{List, sym, subst}
 use Rattle.std.specs.Prelude.{All}
 use Rattle.gg_cut_plan.specs.declared.plan.Channel.{Channel}
-use Rattle.gg_cut_laws.proofs.FaultlessLemmas.{range-free}
-use Rattle.gg_cut_bridges.specs.Seating.{draft_wires}
+use Rattle.gg_cut_split.proofs.ClosedLemmas.FaultlessLemmas.{range-free}
+use Rattle.gg_cut_machines.specs.Seating.{draft_wires}
 use Rattle.gg_cut.specs.Made.{IsCapacity}
 use Rattle.gg_cut.proofs.PlanLemmas.{bounds-sound}
 use Rattle.gg_cut.proofs.build.plan_by.Goals as goal

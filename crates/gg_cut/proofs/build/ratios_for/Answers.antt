@@ -1,6 +1,6 @@
 use Rattle.std.proofs.Common.{◌≡◌, ℕ, List, None, sym, subst}
 use Rattle.gg_cut_plan.specs.Fault.{ratio_fault}
-use Rattle.gg_cut_laws.proofs.FaultlessLemmas.{faultless-ratios}
+use Rattle.gg_cut_split.proofs.ClosedLemmas.FaultlessLemmas.{faultless-ratios}
 use Rattle.gg_cut.proofs.build.ratios_for.Goals as goal
 
 pub clock_ratios-requires : goal.clock_ratios-requires

@@ -2,11 +2,11 @@ use Rattle.std.proofs.Common.{◌<◌, sym, ◌∙◌, ap, subst, arith}
 use Rattle.gg_cut_plan.specs.declared.listed.Listed.{Listed}
 use Rattle.gg_cut_plan.specs.Hosts.{leader}
 use Rattle.gg_cut_plan.specs.Machines.{machine_count}
-use Rattle.gg_cut_share.specs.Again.{IsUnitAgain}
+use Rattle.gg_cut_split.specs.again.Again.{IsUnitAgain}
 use Rattle.gg_cut_parts.specs.Draft.{draft_hub}
 use Rattle.gg_cut.proofs.AlikeLemmas.{own-made}
-use Rattle.gg_cut_bridges.proofs.HostLemmas.{leader-below}
-use Rattle.gg_cut_bridges.proofs.LeaderLemmas.{leaders-first}
+use Rattle.gg_cut_machines.proofs.HostLemmas.{leader-below}
+use Rattle.gg_cut_machines.proofs.LeaderLemmas.{leaders-first}
 use Rattle.gg_cut.proofs.machines.body_at.Goals as goal
 
 pub moved_body-requires-clause-again : goal.moved_body-requires-clause-again

@@ -6,7 +6,7 @@ use Rattle.gg_cut_plan.specs.declared.wires.Wire.{Wire}
 use Rattle.gg_cut_plan.specs.Direct.{routes}
 use Rattle.gg_cut_plan.specs.Machines.{machine_count}
 use Rattle.gg_cut_plan.specs.Plan.{channels_to, channels_from}
-use Rattle.gg_cut_laws.proofs.FaultlessLemmas.{faultless-apart, faultless-few}
+use Rattle.gg_cut_split.proofs.ClosedLemmas.FaultlessLemmas.{faultless-apart, faultless-few}
 use Rattle.gg_cut_parts.specs.Draft.{draft_hub}
 use Rattle.gg_cut_split.specs.declared.share.Share.{Share}
 use Rattle.gg_cut_split.specs.Spread.{AreLists}

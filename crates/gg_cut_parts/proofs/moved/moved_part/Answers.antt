@@ -5,8 +5,8 @@ use Rattle.gg_part.specs.declared.part.Part.{Part}
 use Rattle.gg_cut_plan.specs.declared.wires.Wire.{Wire}
 use Rattle.gg_cut_plan.specs.Direct.{routes}
 use Rattle.gg_cut_plan.specs.Plan.{channels_from, clock_home, givens_of, machine_clocks}
-use Rattle.gg_cut_clocks.proofs.TimedLemmas.{home-known}
-use Rattle.gg_cut_share.specs.Again.{again_at}
+use Rattle.gg_cut_parts.proofs.DomainTimes.{home-known}
+use Rattle.gg_cut_split.specs.again.Again.{again_at}
 use Rattle.gg_cut_parts.specs.Draft.{draft_hub}
 use Rattle.gg_cut_parts.proofs.MachineLemmas.{from-below}
 use Rattle.gg_cut_parts.proofs.DraftFollowerLemmas.{ready, follows, all-behind, all-few, held-is, part-in, globals-within}

@@ -8,7 +8,7 @@ use Rattle.gg_cut_plan.specs.declared.wires.Wire.{Wire}
 use Rattle.gg_cut_plan.specs.Direct.{routes}
 use Rattle.gg_cut_plan.specs.Machines.{first_memory, first_unit}
 use Rattle.gg_cut_plan.specs.Plan.{channels_to, channels_from, clock_home, givens_of, machine_clocks, signals_of}
-use Rattle.gg_cut_clocks.proofs.TimedLemmas.{home-known}
+use Rattle.gg_cut_parts.proofs.DomainTimes.{home-known}
 use Rattle.gg_cut_parts.specs.Draft.{draft_hub}
 use Rattle.gg_cut_parts.specs.MovedPart.{IsUnitRouted}
 use Rattle.gg_cut_parts.proofs.DraftLemmas.{draft-routed}

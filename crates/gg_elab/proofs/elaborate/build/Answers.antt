@@ -3,7 +3,7 @@ use Rattle.std.proofs.lemmas.List.{length-map, get_or_default}
 use Rattle.gg_ast.specs.Tree.{ModuleTree, CircuitTree, module_names, empty_module}
 use Rattle.gg_ast.specs.Places.{place_of}
 use Rattle.gg_ast.proofs.NamePlaces.{place_of-below}
-use Rattle.gg_elab_count.specs.Sites.{Site, module_at, sites_of}
+use Rattle.gg_elab_sites.specs.Sites.{Site, module_at, sites_of}
 use Rattle.gg_flat.specs.Circuit.{FlatCircuit}
 use Rattle.gg_elab_sites.specs.Known.{types_of}
 use Rattle.gg_elab_sites.specs.Views.{site_of, table_bindings, table_signals}

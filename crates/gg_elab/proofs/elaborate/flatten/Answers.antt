@@ -3,8 +3,8 @@ use Rattle.std.proofs.lemmas.List.{length-map}
 use Rattle.gg_ast.specs.Tree.{ModuleTree, CircuitTree, module_names}
 use Rattle.gg_ast.specs.Places.{place_of}
 use Rattle.gg_ast.proofs.NamePlaces.{place_of-below}
-use Rattle.gg_elab_count.specs.Counts.{counts_of}
-use Rattle.gg_elab_count.specs.Sites.{HoldsModule}
+use Rattle.gg_elab_sites.specs.Counts.{counts_of}
+use Rattle.gg_elab_sites.specs.Sites.{HoldsModule}
 use Rattle.gg_shape_names.specs.Modules.{Holds}
 use Rattle.gg_graph.specs.Graph.{IsOrderOf}
 use Rattle.gg_elab_sites.proofs.OrderLemmas.{order_of}

@@ -1,5 +1,5 @@
 use Rattle.std.proofs.Common.{◌≡◌, map, take}
-use Rattle.gg_elab_count.specs.Sites.{module_at}
+use Rattle.gg_elab_sites.specs.Sites.{module_at}
 use Rattle.gg_elab_sites.specs.Clocks.{clock_connected}
 use Rattle.gg_elab_sites.specs.Connection.{connection_in}
 use Rattle.gg_elab_sites.specs.Signals.{dotted}

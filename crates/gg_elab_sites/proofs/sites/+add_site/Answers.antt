@@ -2,7 +2,7 @@ use Rattle.std.proofs.Common.{◌≡◌, ◌-◌, ◌<◌, List, [], ◌∷◌, 
 use Rattle.std.specs.Prelude.{All}
 use Rattle.std.proofs.lemmas.List.{map-append, take_all, append-nil}
 use Rattle.std.proofs.lemmas.List.Elements.{All-push}
-use Rattle.gg_elab_count.specs.Sites.{Held, Site, site_below, sites, held_at}
+use Rattle.gg_elab_sites.specs.Sites.{Held, Site, site_below, sites, held_at}
 use Rattle.gg_elab_sites.specs.Views.{IsPlaceIn, site_of, held_of}
 use Rattle.gg_elab_sites.specs.Known.{types_of}
 use Rattle.gg_elab_sites.specs.declared.digest.Digest.{Digest}

@@ -1,5 +1,5 @@
 use Rattle.std.proofs.Common.{◌+◌, flat_map, take, arith}
-use Rattle.gg_elab_count.specs.Sites.{module_at}
+use Rattle.gg_elab_sites.specs.Sites.{module_at}
 use Rattle.gg_elab_sites.specs.declared.own.OwnSignal.{OwnSignal}
 use Rattle.gg_elab_sites.specs.Views.{cause_of}
 use Rattle.gg_elab_tree.specs.TreeParts.{clock_kept}

@@ -2,7 +2,7 @@ use Rattle.std.proofs.Common.{◌≡◌, [], ◌∙◌, subst}
 use Rattle.gg_ast.specs.Names.{AreNamesOfCircuit}
 use Rattle.gg_ast.specs.Places.{place_of}
 use Rattle.gg_ast.specs.Tree.{CircuitTree, module_names}
-use Rattle.gg_elab_count.specs.Sites.{sites_of}
+use Rattle.gg_elab_sites.specs.Sites.{sites_of}
 use Rattle.gg_elab_sites.specs.Flat.{flat_signals, flat_memories, stop_paths}
 use Rattle.gg_elab_sites.specs.IsFlat.{top_ports}
 use Rattle.gg_elab_sites.specs.Known.{types_of}

@@ -7,7 +7,7 @@ use Rattle.gg_flat.proofs.ListLemmas.{Contains-map}
 use Rattle.gg_ast.specs.declared.module.Port.{Port}
 use Rattle.gg_ast.specs.Places.{place_of}
 use Rattle.gg_ast.specs.Tree.{ModuleTree, module_names}
-use Rattle.gg_elab_count.specs.Sites.{Site, module_at, sites_of}
+use Rattle.gg_elab_sites.specs.Sites.{Site, module_at, sites_of}
 use Rattle.gg_shape_names.proofs.FindLemmas.{module-at}
 use Rattle.gg_elab_sites.specs.declared.sites.Place.{Place}
 use Rattle.gg_elab_sites.specs.declared.digest.OwnMemory.{OwnMemory}

@@ -1,5 +1,5 @@
 use Rattle.std.proofs.Common.{◌≡◌, ◌++◌, map, take}
-use Rattle.gg_elab_count.specs.Sites.{module_at}
+use Rattle.gg_elab_sites.specs.Sites.{module_at}
 use Rattle.gg_elab_sites.specs.Clocks.{port_clock}
 use Rattle.gg_elab_tree.proofs.memories.add_port_clocks.Given as goal
 

@@ -1,6 +1,6 @@
 use Rattle.std.proofs.Common.{ℕ, ◌<◌, List, ◌++◌, length, map, flat_map, take, subst, sym, ap, ◌∙◌, arith}
 use Rattle.std.specs.Prelude.{All, Contains}
-use Rattle.gg_elab_count.specs.Sites.{Site, sites_of}
+use Rattle.gg_elab_sites.specs.Sites.{Site, sites_of}
 use Rattle.gg_flat_tree.specs.Tree.{joined}
 use Rattle.gg_flat.proofs.ListLemmas.{Contains-map}
 use Rattle.gg_elab_sites.specs.declared.sites.Place.{Place}

@@ -3,7 +3,7 @@ use Rattle.gg_ast.specs.Places.{place_of}
 use Rattle.gg_ast.specs.Tree.{module_names}
 use Rattle.gg_flat_tree.specs.Tree.{InstanceTree}
 use Rattle.gg_types.specs.Clocks.{clock_inputs}
-use Rattle.gg_elab_count.specs.Sites.{Site}
+use Rattle.gg_elab_sites.specs.Sites.{Site}
 use Rattle.gg_elab_sites.specs.Flat.{flat_memories, flat_signals}
 use Rattle.gg_elab_sites.specs.IsFlat.{memory_paths}
 use Rattle.gg_elab_sites.specs.Known.{types_of}

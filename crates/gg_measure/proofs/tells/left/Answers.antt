@@ -1,7 +1,7 @@
 use Rattle.std.proofs.Common.{◌≡◌, ◌+◌, suc, length, ap, arith}
 use Rattle.gg_net.specs.Network.{frame_of}
-use Rattle.gg_net_laws.specs.LayoutOf.{layout_of}
-use Rattle.gg_net_laws.specs.Measure.{sum_below}
+use Rattle.gg_net.specs.markings.LayoutOf.{layout_of}
+use Rattle.gg_net.specs.markings.Measure.{sum_below}
 use Rattle.gg_measure.specs.Nets.{wire_left, machine_left}
 use Rattle.gg_measure.proofs.GoLemmas.{laid-out}
 use Rattle.gg_measure.proofs.NetLemmas.{wires-small, machines-small}

@@ -1,5 +1,5 @@
 use Rattle.std.proofs.Common.{◌≡◌, ◌+◌, length}
-use Rattle.gg_net_laws.specs.Measure.{sum_below}
+use Rattle.gg_net.specs.markings.Measure.{sum_below}
 use Rattle.gg_measure.specs.Nets.{wire_left, machine_left}
 use Rattle.gg_measure.proofs.tells.left.Given as goal
 

@@ -1,6 +1,6 @@
 use Rattle.std.proofs.Common.{◌≡◌, ◌*◌, ◌∙◌, ap, arith}
 use Rattle.gg_net.specs.Network.{frame_of}
-use Rattle.gg_net_laws.specs.LayoutOf.{layout_of}
+use Rattle.gg_net.specs.markings.LayoutOf.{layout_of}
 use Rattle.gg_measure.specs.Nets.{dues_at}
 use Rattle.gg_measure.proofs.GoLemmas.{laid-out}
 use Rattle.gg_measure.proofs.NetLemmas.{serves-within}

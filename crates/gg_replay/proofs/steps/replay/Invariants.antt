@@ -1,5 +1,5 @@
 use Rattle.std.proofs.Common.{take}
-use Rattle.gg_net_laws.specs.Steps.{Steps}
+use Rattle.gg_net.specs.markings.Steps.{Steps}
 use Rattle.gg_replay.specs.Log.{AreFronts}
 use Rattle.gg_replay.proofs.steps.replay.Given as goal
 

@@ -1,13 +1,13 @@
 use Rattle.std.proofs.Common.{ap, ◌∙◌, refl, subst}
 use Rattle.gg_cut_plan.specs.Bridges.{Models}
-use Rattle.gg_command.specs.Ends.{loads_of, puts_of}
-use Rattle.gg_command.specs.Endings.{said_by}
-use Rattle.gg_command.proofs.EndingLemmas.{exit-is}
-use Rattle.golden_case.specs.Bridges.{models_in}
-use Rattle.golden_case.specs.Network.{RanNetwork}
-use Rattle.golden_case.specs.Outcome.{CallEnded}
-use Rattle.golden_case.specs.Partition.{to_run}
-use Rattle.golden_case.specs.Stepped.{ToldByNetwork}
+use Rattle.gg_io.specs.Ends.{loads_of, puts_of}
+use Rattle.gg_io.specs.Endings.{said_by}
+use Rattle.gg_io.proofs.EndingLemmas.{exit-is}
+use Rattle.golden_commands.specs.Bridges.{models_in}
+use Rattle.golden_commands.specs.Network.{RanNetwork}
+use Rattle.golden_commands.specs.Outcome.{CallEnded}
+use Rattle.golden_commands.specs.Partition.{to_run}
+use Rattle.golden_commands.specs.Stepped.{ToldByNetwork}
 use Rattle.golden.proofs.CallLemmas.{wanting-ends}
 use Rattle.golden.proofs.NetworkLemmas.{wants-some}
 use Rattle.golden.proofs.SteppedLemmas.{untold, wants-other}

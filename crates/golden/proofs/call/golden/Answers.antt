@@ -1,9 +1,9 @@
 use Rattle.std.proofs.Common.{subst}
 use Rattle.gg_cut_plan.specs.Bridges.{Models}
-use Rattle.gg_command.specs.Ends.{loads_of, puts_of}
+use Rattle.gg_io.specs.Ends.{loads_of, puts_of}
 use Rattle.gg_words.specs.Meaning.{texts}
-use Rattle.golden_case.specs.Promised.{Promised}
-use Rattle.golden_case.proofs.HandedLemmas.{none-can, none-models}
+use Rattle.golden_commands.specs.Promised.{Promised}
+use Rattle.golden_commands.proofs.HandedLemmas.{none-can, none-models}
 use Rattle.golden.proofs.call.golden.Goals as goal
 
 pub golden_with-requires-clause-bridges : goal.golden_with-requires-clause-bridges

@@ -1,11 +1,11 @@
 use Rattle.std.proofs.Common.{refl}
-use Rattle.gg_command.specs.Ends.{loads_of}
-use Rattle.gg_command.specs.Order.{Write}
-use Rattle.gg_command.proofs.EndingLemmas.{IfRefused-map, exit-is, loads-on, only-ends, stopped-ends}
-use Rattle.golden_case.specs.Check.{IsCutTextOf}
-use Rattle.golden_case.specs.Commands.{asking}
-use Rattle.golden_case.specs.Partition.{to_run}
-use Rattle.golden_case.proofs.CaseLemmas.{case-ends, case-stops}
+use Rattle.gg_io.specs.Ends.{loads_of}
+use Rattle.gg_io.specs.Order.{Write}
+use Rattle.gg_io.proofs.EndingLemmas.{IfRefused-map, exit-is, loads-on, only-ends, stopped-ends}
+use Rattle.golden_commands.specs.Check.{IsCutTextOf}
+use Rattle.golden_commands.specs.Commands.{asking}
+use Rattle.golden_commands.specs.Partition.{to_run}
+use Rattle.golden_commands.proofs.CaseLemmas.{case-ends, case-stops}
 use Rattle.golden.proofs.check.check.Goals as goal
 
 pub returns-in_err-case-clause-ended : goal.returns-in_err-case-clause-ended

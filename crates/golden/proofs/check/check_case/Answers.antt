@@ -1,5 +1,5 @@
 use Rattle.golden.proofs.CutLemmas.{only-cut-text}
-use Rattle.golden_case.proofs.PartitionLemmas.{designs-agree}
+use Rattle.golden_commands.proofs.PartitionLemmas.{designs-agree}
 use Rattle.golden.proofs.check.check_case.Goals as goal
 
 pub returns-clause-prints : goal.returns-clause-prints

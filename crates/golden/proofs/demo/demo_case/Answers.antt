@@ -1,5 +1,5 @@
 use Rattle.std.proofs.Common.{arith}
-use Rattle.golden_case.proofs.HandedLemmas.{none-handed}
+use Rattle.golden_commands.proofs.HandedLemmas.{none-handed}
 use Rattle.golden.proofs.demo.demo_case.Goals as goal
 
 pub returns-in-Ok : goal.returns-in-Ok

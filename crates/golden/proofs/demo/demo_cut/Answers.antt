@@ -1,14 +1,14 @@
 use Rattle.std.proofs.Common.{◌≡◌, ◌∙◌, ℕ, List, [], None, subst, sym}
 use Rattle.gg_cut_plan.specs.Bridges.{Models}
 use Rattle.gg_cut_plan.specs.Fault.{first_fault_with}
-use Rattle.golden_case.specs.Handed.{AreHandedIn}
-use Rattle.golden_case.proofs.HandedLemmas.{none-handed}
+use Rattle.golden_commands.specs.Handed.{AreHandedIn}
+use Rattle.golden_commands.proofs.HandedLemmas.{none-handed}
 use Rattle.gg_cut_plan.specs.Plan.{IsPlan}
-use Rattle.gg_demo_text.specs.PartitionText.{demo_partition}
+use Rattle.gg_rows.specs.PartitionText.{demo_partition}
 use Rattle.gg_partfile.specs.Partition.{IsPartition}
 use Rattle.gg_partfile.specs.declared.request.Request.{Request}
-use Rattle.golden_case.specs.Demo.{demo_capacity}
-use Rattle.golden_case.specs.Partition.{Cuts, to_run}
+use Rattle.golden_commands.specs.Demo.{demo_capacity}
+use Rattle.golden_commands.specs.Partition.{Cuts, to_run}
 use Rattle.golden.proofs.demo.demo_cut.Goals as goal
 
 pub returns-clause-cuts : goal.returns-clause-cuts

@@ -1,6 +1,6 @@
 use Rattle.std.proofs.Common.{◌∙◌, ℕ, List, subst}
 use Rattle.gg_front.specs.Meaning.{MeansDesign}
-use Rattle.gg_front_laws.proofs.HeldLemmas.{held-once}
+use Rattle.gg_front.proofs.HeldLemmas.{held-once}
 use Rattle.golden.proofs.demo.demo_design.Goals as goal
 
 pub returns-in-Ok-clause-means : goal.returns-in-Ok-clause-means

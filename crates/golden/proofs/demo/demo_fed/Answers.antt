@@ -1,7 +1,7 @@
 use Rattle.std.proofs.Common.{[]}
-use Rattle.golden_case.proofs.CaseLemmas.{case-can}
-use Rattle.golden_case.proofs.WholePortLemmas.{fed-columns}
-use Rattle.gg_demo_text.specs.TraceText.{demo_trace}
+use Rattle.golden_commands.proofs.CaseLemmas.{case-can}
+use Rattle.golden_commands.proofs.WholePortLemmas.{fed-columns}
+use Rattle.gg_rows.specs.TraceText.{demo_trace}
 use Rattle.golden.proofs.demo.demo_fed.Goals as goal
 
 pub returns-in-Ok : goal.returns-in-Ok

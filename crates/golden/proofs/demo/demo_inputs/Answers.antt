@@ -1,5 +1,5 @@
 use Rattle.std.proofs.Common.{◌∙◌, ℕ, List, subst, arith}
-use Rattle.golden_case.specs.RunText.{FeedsOnly}
+use Rattle.golden_commands.specs.RunText.{FeedsOnly}
 use Rattle.golden.proofs.demo.demo_inputs.Goals as goal
 
 pub returns-clause-feeds : goal.returns-clause-feeds

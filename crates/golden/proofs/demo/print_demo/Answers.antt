@@ -1,14 +1,14 @@
 use Rattle.std.proofs.Common.{[], refl, arith}
-use Rattle.golden_case.specs.Partition.{to_run}
-use Rattle.gg_demo_text.specs.CircuitText.{demo_circuit}
-use Rattle.gg_demo_text.specs.PartitionText.{demo_partition}
-use Rattle.gg_demo_text.specs.TraceText.{demo_trace}
-use Rattle.gg_command.specs.Endings.{PrintsText, Wants}
-use Rattle.gg_command.proofs.EndingLemmas.{exit-is}
-use Rattle.golden_case.specs.Demo.{demo_capacity}
+use Rattle.golden_commands.specs.Partition.{to_run}
+use Rattle.gg_rows.specs.CircuitText.{demo_circuit}
+use Rattle.gg_rows.specs.PartitionText.{demo_partition}
+use Rattle.gg_rows.specs.TraceText.{demo_trace}
+use Rattle.gg_io.specs.Endings.{PrintsText, Wants}
+use Rattle.gg_io.proofs.EndingLemmas.{exit-is}
+use Rattle.golden_commands.specs.Demo.{demo_capacity}
 use Rattle.golden.proofs.DemoLemmas.{demo-none, demo-two, sums-only}
-use Rattle.golden_case.proofs.FedLemmas.{to-replay}
-use Rattle.golden_case.proofs.PartitionLemmas.{designs-agree}
+use Rattle.golden_commands.proofs.FedLemmas.{to-replay}
+use Rattle.golden_commands.proofs.PartitionLemmas.{designs-agree}
 use Rattle.golden.proofs.demo.print_demo.Goals as goal
 
 pub sum_fed-requires-clause-run : goal.sum_fed-requires-clause-run

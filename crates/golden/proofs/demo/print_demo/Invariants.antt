@@ -1,5 +1,5 @@
 use Rattle.std.proofs.Common.{[]}
-use Rattle.golden_case.specs.Replayed.{fed_flow}
+use Rattle.golden_commands.specs.Replayed.{fed_flow}
 use Rattle.golden.proofs.demo.print_demo.Given as goal
 
 -- what the plan's network computes on the trace

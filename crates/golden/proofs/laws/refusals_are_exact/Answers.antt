@@ -1,5 +1,5 @@
 use Rattle.golden.proofs.FrontLemmas.{unread-once}
-use Rattle.golden_case.proofs.PartitionLemmas.{designs-agree}
+use Rattle.golden_commands.proofs.PartitionLemmas.{designs-agree}
 use Rattle.golden.proofs.RunLemmas.{order-exact, order-unique}
 use Rattle.golden.proofs.laws.refusals_are_exact.Goals as goal
 

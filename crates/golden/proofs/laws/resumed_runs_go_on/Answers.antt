@@ -1,4 +1,4 @@
-use Rattle.golden_case.proofs.PartitionLemmas.{designs-agree}
+use Rattle.golden_commands.proofs.PartitionLemmas.{designs-agree}
 use Rattle.golden.proofs.SuffixLemmas.{can-resume, goes-on, runs-go-on}
 use Rattle.golden.proofs.laws.resumed_runs_go_on.Goals as goal
 

@@ -1,13 +1,13 @@
 use Rattle.std.proofs.Common.{refl}
-use Rattle.gg_command.specs.Ends.{loads_of}
-use Rattle.gg_command.specs.Order.{Load, Write}
-use Rattle.gg_command.proofs.EndingLemmas.{IfRefused-map, exit-is, loads-on, stopped-ends}
-use Rattle.golden_case.specs.Commands.{asking}
-use Rattle.golden_case.specs.Replay.{IsReplayOf, steps_file_for}
-use Rattle.golden_case.specs.Partition.{to_run}
-use Rattle.golden_case.proofs.CaseLemmas.{fed-ends, fed-stops}
-use Rattle.golden_case.proofs.FedLemmas.{given}
-use Rattle.golden_case.proofs.HandedLemmas.{has-bridges}
+use Rattle.gg_io.specs.Ends.{loads_of}
+use Rattle.gg_io.specs.Order.{Load, Write}
+use Rattle.gg_io.proofs.EndingLemmas.{IfRefused-map, exit-is, loads-on, stopped-ends}
+use Rattle.golden_commands.specs.Commands.{asking}
+use Rattle.golden_commands.specs.Replay.{IsReplayOf, steps_file_for}
+use Rattle.golden_commands.specs.Partition.{to_run}
+use Rattle.golden_commands.proofs.CaseLemmas.{fed-ends, fed-stops}
+use Rattle.golden_commands.proofs.FedLemmas.{given}
+use Rattle.golden_commands.proofs.HandedLemmas.{has-bridges}
 use Rattle.golden.proofs.SteppedLemmas.{by-ending, ended-other, files-other, read-told, untold}
 use Rattle.golden.proofs.replay.replay.Goals as goal
 

@@ -1,9 +1,9 @@
 use Rattle.std.proofs.Common.{sym, ap, ◌∙◌, subst}
 use Rattle.gg_flat_tree.specs.Tree.{InstanceTree}
-use Rattle.golden_case.specs.Replayed.{AreFewNames, plan_naming}
-use Rattle.golden_case.specs.Partition.{to_run}
-use Rattle.golden_case.proofs.FedLemmas.{few-named, to-replay}
-use Rattle.golden_case.proofs.PartitionLemmas.{designs-agree}
+use Rattle.golden_commands.specs.Replayed.{AreFewNames, plan_naming}
+use Rattle.golden_commands.specs.Partition.{to_run}
+use Rattle.golden_commands.proofs.FedLemmas.{few-named, to-replay}
+use Rattle.golden_commands.proofs.PartitionLemmas.{designs-agree}
 use Rattle.golden.proofs.SteppedLemmas.{steps-told}
 use Rattle.golden.proofs.replay.replay_bytes.Goals as goal
 

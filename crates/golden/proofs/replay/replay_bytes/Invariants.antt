@@ -1,4 +1,4 @@
-use Rattle.golden_case.specs.Replayed.{fed_flow}
+use Rattle.golden_commands.specs.Replayed.{fed_flow}
 use Rattle.golden.proofs.replay.replay_bytes.Given as goal
 
 -- what the plan's network computes on the trace

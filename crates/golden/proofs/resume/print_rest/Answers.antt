@@ -1,9 +1,9 @@
 use Rattle.std.proofs.Common.{List, ℕ, refl, subst}
-use Rattle.gg_command.specs.Endings.{PrintsOn}
-use Rattle.gg_command.proofs.EndingLemmas.{exit-is}
-use Rattle.gg_command.proofs.WritingLemmas.{none-front}
-use Rattle.golden_case.specs.Partition.{to_save}
-use Rattle.golden_case.proofs.FedLemmas.{fed-ports}
+use Rattle.gg_io.specs.Endings.{PrintsOn}
+use Rattle.gg_io.proofs.EndingLemmas.{exit-is}
+use Rattle.gg_io.proofs.WritingLemmas.{none-front}
+use Rattle.golden_commands.specs.Partition.{to_save}
+use Rattle.golden_commands.proofs.FedLemmas.{fed-ports}
 use Rattle.golden.proofs.RestLemmas.{resumed-can, resumed-text}
 use Rattle.golden.proofs.resume.print_rest.Goals as goal
 

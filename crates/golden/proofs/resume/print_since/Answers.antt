@@ -5,14 +5,14 @@ use Rattle.gg_build.specs.Build.{run_token}
 use Rattle.gg_measure.specs.Nets.{AllStandAt}
 use Rattle.gg_net.specs.Network.{Network}
 use Rattle.gg_order.specs.Design.{Ordered}
-use Rattle.gg_bridged.specs.Whole.{plan_circuit}
-use Rattle.gg_run.specs.Printed.{plan_stops, text_since}
-use Rattle.gg_run.proofs.OutputLemmas.{opening-is-net, outs-few, trays-told}
-use Rattle.gg_run.proofs.PrintedLemmas.{stops-are}
-use Rattle.gg_run.proofs.RunLemmas.{opening-stands}
-use Rattle.gg_command.specs.Endings.{PrintsOn}
-use Rattle.gg_command.proofs.EndingLemmas.{exit-is}
-use Rattle.gg_command.proofs.WritingLemmas.{none-front}
+use Rattle.gg_cut_reference.specs.whole.Whole.{plan_circuit}
+use Rattle.gg_rows.specs.Printed.{plan_stops, text_since}
+use Rattle.gg_rows.proofs.OutputLemmas.{opening-is-net, outs-few, trays-told}
+use Rattle.gg_rows.proofs.PrintedLemmas.{stops-are}
+use Rattle.gg_rows.proofs.RunLemmas.{opening-stands}
+use Rattle.gg_io.specs.Endings.{PrintsOn}
+use Rattle.gg_io.proofs.EndingLemmas.{exit-is}
+use Rattle.gg_io.proofs.WritingLemmas.{none-front}
 use Rattle.golden.proofs.resume.print_since.Goals as goal
 
 pub stop_ratios-requires : goal.stop_ratios-requires

@@ -1,11 +1,11 @@
 use Rattle.std.proofs.Common.{refl}
-use Rattle.gg_command.specs.Ends.{loads_of}
-use Rattle.gg_command.specs.Order.{Load, Write}
-use Rattle.gg_command.proofs.EndingLemmas.{IfRefused-map, exit-is, loads-on, stopped-ends}
-use Rattle.golden_case.specs.Commands.{asking}
-use Rattle.golden_case.specs.Partition.{to_save}
-use Rattle.golden_case.specs.Resumed.{IsResumedText, snap_file_for}
-use Rattle.golden_case.proofs.CaseLemmas.{fed-ends, fed-stops}
+use Rattle.gg_io.specs.Ends.{loads_of}
+use Rattle.gg_io.specs.Order.{Load, Write}
+use Rattle.gg_io.proofs.EndingLemmas.{IfRefused-map, exit-is, loads-on, stopped-ends}
+use Rattle.golden_commands.specs.Commands.{asking}
+use Rattle.golden_commands.specs.Partition.{to_save}
+use Rattle.golden_commands.specs.Resumed.{IsResumedText, snap_file_for}
+use Rattle.golden_commands.proofs.CaseLemmas.{fed-ends, fed-stops}
 use Rattle.golden.proofs.resume.resume.Goals as goal
 
 pub resume_fed-requires-clause-fed : goal.resume_fed-requires-clause-fed

@@ -1,12 +1,12 @@
 use Rattle.std.proofs.Common.{◌≤◌, refl, sym, arith}
-use Rattle.gg_snap_text.specs.Known.{AreKnown, CanSave}
-use Rattle.gg_snap_text.specs.Standing.{IsSnap}
-use Rattle.gg_snap_text.specs.Table.{rows_of}
-use Rattle.gg_command.specs.Endings.{PrintsText, Stops, Wants}
-use Rattle.gg_command.proofs.EndingLemmas.{IfRefused-map, exit-is}
-use Rattle.golden_case.specs.Partition.{to_save}
-use Rattle.golden_case.proofs.CaseLemmas.{case-can-save, of-made}
-use Rattle.golden_case.proofs.PartitionLemmas.{designs-agree}
+use Rattle.gg_snap.specs.text.Known.{AreKnown, CanSave}
+use Rattle.gg_snap.specs.text.Standing.{IsSnap}
+use Rattle.gg_snap.specs.text.Table.{rows_of}
+use Rattle.gg_io.specs.Endings.{PrintsText, Stops, Wants}
+use Rattle.gg_io.proofs.EndingLemmas.{IfRefused-map, exit-is}
+use Rattle.golden_commands.specs.Partition.{to_save}
+use Rattle.golden_commands.proofs.CaseLemmas.{case-can-save, of-made}
+use Rattle.golden_commands.proofs.PartitionLemmas.{designs-agree}
 use Rattle.golden.proofs.RestLemmas.{resumed-so, snap-tells}
 use Rattle.golden.proofs.resume.resume_bytes.Goals as goal
 

@@ -1,7 +1,7 @@
 use Rattle.std.proofs.Common.{inl, refl}
-use Rattle.gg_command.proofs.EndingLemmas.{IfRefused-map, exit-is, judged-ends, stopped-ends}
-use Rattle.golden_case.specs.Partition.{to_save}
-use Rattle.golden_case.specs.Resumed.{IsResumedText, snap_file_for}
+use Rattle.gg_io.proofs.EndingLemmas.{IfRefused-map, exit-is, judged-ends, stopped-ends}
+use Rattle.golden_commands.specs.Partition.{to_save}
+use Rattle.golden_commands.specs.Resumed.{IsResumedText, snap_file_for}
 use Rattle.golden.proofs.resume.resume_fed.Goals as goal
 
 pub resume_bytes-requires-clause-fed : goal.resume_bytes-requires-clause-fed

@@ -1,8 +1,8 @@
 use Rattle.std.proofs.Common.{ℕ, List, sym, inr, subst}
 use Rattle.std.proofs.lemmas.Result.{IfErr-weaker, IfOk-weaker}
-use Rattle.gg_snap_text.specs.Snap.{Snapshot}
-use Rattle.gg_snap_text.specs.Standing.{IsSnap}
-use Rattle.gg_command.proofs.EndingLemmas.{IfRefused-map}
+use Rattle.gg_snap.specs.text.Snap.{Snapshot}
+use Rattle.gg_snap.specs.text.Standing.{IsSnap}
+use Rattle.gg_io.proofs.EndingLemmas.{IfRefused-map}
 use Rattle.golden.proofs.RestLemmas.{snap-fault}
 use Rattle.golden.proofs.resume.snap_in.Goals as goal
 

@@ -1,6 +1,6 @@
 use Rattle.std.proofs.Common.{ℕ, ◌<◌, ap, ◌∙◌, subst, arith}
-use Rattle.gg_command.proofs.EndingLemmas.{IfRefused-map}
-use Rattle.golden_case.specs.Lines.{few_rows}
+use Rattle.gg_io.proofs.EndingLemmas.{IfRefused-map}
+use Rattle.golden_commands.specs.Lines.{few_rows}
 use Rattle.golden.proofs.resume.within.Goals as goal
 
 pub returns-then-rows-cycle-clause-refused : goal.returns-then-rows-cycle-clause-refused

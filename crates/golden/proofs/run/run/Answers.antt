@@ -1,20 +1,20 @@
 use Rattle.std.proofs.Common.{◌≡◌, refl, subst}
-use Rattle.golden_case.specs.Commands.{asking, order_of}
-use Rattle.gg_command.specs.Ends.{loads_of, puts_of}
-use Rattle.gg_command.specs.Endings.{said_by}
-use Rattle.gg_command.specs.Order.{Write}
+use Rattle.golden_commands.specs.Commands.{asking, order_of}
+use Rattle.gg_io.specs.Ends.{loads_of, puts_of}
+use Rattle.gg_io.specs.Endings.{said_by}
+use Rattle.gg_io.specs.Order.{Write}
 use Rattle.gg_words.specs.declared.command.Cmd.TheVariants.{Run}
-use Rattle.golden_case.specs.Partition.{to_run}
-use Rattle.golden_case.specs.Run.{IsTextOf}
+use Rattle.golden_commands.specs.Partition.{to_run}
+use Rattle.golden_commands.specs.Run.{IsTextOf}
 use Rattle.gg_build.specs.Build.{circuit_order}
-use Rattle.golden_case.specs.RunText.{run_text}
-use Rattle.golden_case.proofs.CaseLemmas.{case-ordered, fed-ends, fed-stops}
-use Rattle.golden_case.proofs.FedLemmas.{given, network-text-of, run-text-of}
-use Rattle.golden_case.proofs.HandedLemmas.{has-bridges}
+use Rattle.golden_commands.specs.RunText.{run_text}
+use Rattle.golden_commands.proofs.CaseLemmas.{case-ordered, fed-ends, fed-stops}
+use Rattle.golden_commands.proofs.FedLemmas.{given, network-text-of, run-text-of}
+use Rattle.golden_commands.proofs.HandedLemmas.{has-bridges}
 use Rattle.golden.proofs.OnlyLemmas.{network-only}
-use Rattle.golden_case.proofs.PartitionLemmas.{designs-agree}
-use Rattle.gg_command.proofs.EndingLemmas.{exit-is, loads-on, stopped-ends, printed-ends, IfRefused-map}
-use Rattle.golden_case.proofs.TextLemmas.{only-text}
+use Rattle.golden_commands.proofs.PartitionLemmas.{designs-agree}
+use Rattle.gg_io.proofs.EndingLemmas.{exit-is, loads-on, stopped-ends, printed-ends, IfRefused-map}
+use Rattle.golden_commands.proofs.TextLemmas.{only-text}
 use Rattle.golden.proofs.NetworkLemmas.{printed-whole, stopped-some}
 use Rattle.golden.proofs.run.run.Goals as goal
 

@@ -6,13 +6,13 @@ use Rattle.gg_build.specs.Build.{run_from_zeros, run_token}
 use Rattle.gg_order.specs.Design.{Ordered}
 use Rattle.gg_partfile.specs.declared.request.Request.{Request}
 use Rattle.gg_cut_reference.specs.Follows.{plan_start}
-use Rattle.gg_run.proofs.OpeningLemmas.{from-zeros}
-use Rattle.gg_run.proofs.OutputLemmas.{opening-is-net, outs-few, trays-told}
-use Rattle.gg_run.proofs.PrintedLemmas.{stops-are}
-use Rattle.gg_run.proofs.RunLemmas.{opening-stands}
-use Rattle.golden_case.specs.RunText.{shown_ports}
+use Rattle.gg_rows.proofs.OpeningLemmas.{from-zeros}
+use Rattle.gg_rows.proofs.OutputLemmas.{opening-is-net, outs-few, trays-told}
+use Rattle.gg_rows.proofs.PrintedLemmas.{stops-are}
+use Rattle.gg_rows.proofs.RunLemmas.{opening-stands}
+use Rattle.golden_commands.specs.RunText.{shown_ports}
 use Rattle.golden.proofs.UptoLemmas.{IfOk-both, none-asked, stands-end}
-use Rattle.golden_case.proofs.WholePortLemmas.{shown-few}
+use Rattle.golden_commands.proofs.WholePortLemmas.{shown-few}
 use Rattle.golden.proofs.save.run_upto.Goals as goal
 
 pub shown_ports-requires : goal.shown_ports-requires

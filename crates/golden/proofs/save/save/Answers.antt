@@ -1,7 +1,7 @@
 use Rattle.std.proofs.Common.{refl}
-use Rattle.gg_command.specs.Ends.{loads_of}
-use Rattle.gg_command.proofs.EndingLemmas.{IfRefused-map, exit-is, stopped-ends}
-use Rattle.golden_case.specs.Commands.{asking}
+use Rattle.gg_io.specs.Ends.{loads_of}
+use Rattle.gg_io.proofs.EndingLemmas.{IfRefused-map, exit-is, stopped-ends}
+use Rattle.golden_commands.specs.Commands.{asking}
 use Rattle.golden.proofs.UptoLemmas.{saved-ends, saved-stops}
 use Rattle.golden.proofs.save.save.Goals as goal
 

@@ -1,7 +1,7 @@
 use Rattle.std.proofs.Common.{List, ℕ, refl, ◌∙◌, subst}
-use Rattle.gg_command.specs.Endings.{PrintsOn, PrintsText, Stops}
-use Rattle.gg_command.proofs.EndingLemmas.{IfRefused-map, exit-is}
-use Rattle.golden_case.proofs.PartitionLemmas.{designs-agree}
+use Rattle.gg_io.specs.Endings.{PrintsOn, PrintsText, Stops}
+use Rattle.gg_io.proofs.EndingLemmas.{IfRefused-map, exit-is}
+use Rattle.golden_commands.proofs.PartitionLemmas.{designs-agree}
 use Rattle.golden.proofs.UptoLemmas.{upto-case, upto-gives}
 use Rattle.golden.proofs.save.save_upto.Goals as goal
 

@@ -1,8 +1,8 @@
 use Rattle.std.proofs.Common.{refl, sym}
 use Rattle.std.proofs.lemmas.Result.{IfOk-weaker}
-use Rattle.gg_snap_text.specs.Known.{CanSave}
-use Rattle.golden_case.specs.Partition.{to_save}
-use Rattle.golden_case.proofs.CaseLemmas.{case-can-save, case-fresh, of-made}
+use Rattle.gg_snap.specs.text.Known.{CanSave}
+use Rattle.golden_commands.specs.Partition.{to_save}
+use Rattle.golden_commands.proofs.CaseLemmas.{case-can-save, case-fresh, of-made}
 use Rattle.golden.proofs.UptoLemmas.{after-is, has-ended}
 use Rattle.golden.proofs.save.text_of.Goals as goal
 

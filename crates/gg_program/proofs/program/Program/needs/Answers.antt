@@ -1,7 +1,7 @@
 use Rattle.std.proofs.Common.{◌<◌, [], length, get_or, subst, sym, ◌∙◌, arith}
 use Rattle.std.proofs.lemmas.List.{get_or_default}
 use Rattle.gg_flat.specs.Line.{value_at}
-use Rattle.gg_part_needs.specs.Needs.{AreNeeds}
+use Rattle.gg_order.specs.needs.Needs.{AreNeeds}
 use Rattle.gg_program.specs.Programmed.{Programmed}
 use Rattle.gg_program.proofs.program.Program.needs.Goals as goal
 

@@ -1,5 +1,5 @@
 use Rattle.std.proofs.Common.{◌≡◌, List, length, subst, sym, ap}
-use Rattle.gg_flat_run.specs.Room.{HasRoom}
+use Rattle.gg_order.specs.runs.Room.{HasRoom}
 use Rattle.gg_flat.specs.declared.piece.Signal.{Signal}
 use Rattle.gg_program.specs.Programmed.{Programmed}
 use Rattle.gg_program.specs.Right.{InCycle}

@@ -2,7 +2,7 @@ use Rattle.std.proofs.Common.{length, subst}
 use Rattle.gg_flat.specs.Circuit.{FlatCircuit, signal_shapes}
 use Rattle.gg_flat.specs.Line.{AreTyped}
 use Rattle.gg_flat.specs.State.{IsState}
-use Rattle.gg_flat_run.specs.Room.{HasRoom}
+use Rattle.gg_order.specs.runs.Room.{HasRoom}
 use Rattle.gg_refsim.proofs.mono.Mono.with_clocks.Goals as goal
 
 pub invariant_of-result : goal.invariant_of-result

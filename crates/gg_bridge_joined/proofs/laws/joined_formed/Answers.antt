@@ -1,5 +1,0 @@
-use Rattle.gg_bridge_joined.proofs.FormedLemmas.{whole-formed}
-use Rattle.gg_bridge_joined.proofs.laws.joined_formed.Goals as goal
-
-pub returns : goal.returns
-returns c = λ one front model sees drives can formed is. whole-formed one front model sees drives can formed is.formed is.clocks

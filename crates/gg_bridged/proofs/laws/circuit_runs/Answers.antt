@@ -1,5 +1,0 @@
-use Rattle.gg_bridged.proofs.RunLemmas.{whole-runs}
-use Rattle.gg_bridged.proofs.laws.circuit_runs.Goals as goal
-
-pub returns : goal.returns
-returns c = λ design request models start columns end rows can typed given run. whole-runs design request models start columns end rows can typed given run

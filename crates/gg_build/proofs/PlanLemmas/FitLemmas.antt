@@ -1,0 +1,171 @@
+-- The machines of the network have the ins and outs that the plan lists, and what they need and serve exists.
+use Rattle.std.proofs.Common.{◌≡◌, ℕ, ◌+◌, ◌<◌, List, [], None, false, length, map, refl, sym, ◌∙◌, ap, subst, arith}
+use Rattle.std.specs.Prelude.{Option, All, replicate}
+use Rattle.std.proofs.lemmas.List.{length-map, length-replicate, get_or-map}
+use Rattle.std.proofs.lemmas.List.Elements.{All-nil, All-weaker}
+use Rattle.gg_flat.specs.Line.{value_at}
+use Rattle.gg_flat.specs.Run.{Start}
+use Rattle.gg_order.specs.Design.{Ordered}
+use Rattle.gg_partfile.specs.declared.request.Request.{Request}
+use Rattle.gg_part.specs.declared.part.Part.{Part}
+use Rattle.gg_cut_plan.specs.declared.listed.Listed.{Listed}
+use Rattle.gg_cut_plan.specs.declared.plan.Body.{Body}
+use Rattle.gg_cut_plan.specs.declared.plan.Body.TheVariants.{Cut, Memory, Source, Tray, Bridge}
+use Rattle.gg_cut_plan.specs.declared.plan.Plan.{Plan}
+use Rattle.gg_cut_plan.specs.Listed.{listed_of}
+use Rattle.gg_cut_plan.specs.declared.wires.Wire.{Wire as Link}
+use Rattle.gg_cut_plan.specs.Machines.{first_source, first_tray}
+use Rattle.gg_cut_plan.specs.Bridges.{Models}
+use Rattle.gg_cut_plan.specs.Direct.{Hub, routes, plan_hub}
+use Rattle.gg_cut_plan.specs.Seated.{plan_wires}
+use Rattle.gg_cut_plan.specs.Plan.{wire_at as link_at, channels_to, channels_from, IsCutPart, IsBody, IsPlan}
+use Rattle.gg_cut_routes.specs.Routes.{AreRoutes}
+use Rattle.gg_bridge.specs.Turned.{turned}
+use Rattle.gg_cut_reference.specs.whole.Whole.{CanBridge}
+use Rattle.gg_memunit.specs.MemoryUnit.{count_of, needs_of, ports_of}
+use Rattle.gg_node.specs.Machine.{Machine, Port, machine_at, no_machine}
+use Rattle.gg_node.specs.Step.{fields_of}
+use Rattle.gg_net.specs.Network.{Kind, kind_of, kind_at, no_kind}
+use Rattle.gg_build.specs.plan.Built.{machine_in, nameless, IsUnitOf, IsMemoryOf, IsBuilt, AreBuilt}
+use Rattle.gg_build.proofs.PlanLemmas.BridgeLemmas.{driven_place, seen_place}
+use Rattle.gg_build.proofs.PlanLemmas.GivenLemmas.{routed}
+use Rattle.gg_build.proofs.PlanLemmas.SeatLemmas.{IsSeatOf, low-seat, source-at, tray-seat}
+use Rattle.gg_build.proofs.PlanLemmas.SideLemmas.{source-takes, tray-takes, tray-gives-none}
+use Rattle.gg_build.proofs.PlanLemmas.PortLemmas.{needs-there, no-needs, needs-count, piece-needs, IsFitPort, ports-fit}
+use Rattle.gg_build.proofs.PlanLemmas.WiredLemmas.{IsFitting, AreFitting}
+
+no-ports-fields : (n : ℕ) → All (λ (port : Port). All (λ i. i < n) (fields_of port.access)) []
+no-ports-fields n = All-nil (λ (port : Port). All (λ i. i < n) (fields_of port.access))
+
+no-ports-numbers : All (λ (port : Port). port.number < 0) []
+no-ports-numbers = All-nil (λ (port : Port). port.number < 0)
+
+abbrev empty_latch : Option ℕ
+empty_latch = None
+
+-- ---- machines with a piece
+
+module _ (design : Ordered) (listed : Listed) (hub : Hub) (m : ℕ) (part : Part) (cut : IsCutPart design listed hub m part) where
+  pub ins-count : length part.piece.ins ≡ length (channels_to (routes hub) m)
+  ins-count = sym (length-map part.piece.ins (value_at part.globals)) ∙ ap length cut.ins ∙ length-map (channels_to (routes hub) m) (λ c. (link_at (routes hub) c).signal)
+
+  pub outs-count : length part.piece.outs ≡ length (channels_from (routes hub) m)
+  outs-count = sym (length-map part.piece.outs (value_at part.globals)) ∙ ap length cut.outs ∙ length-map (channels_from (routes hub) m) (λ c. (link_at (routes hub) c).given)
+
+  unit-fits : (own : Start) (machine : Machine) → IsUnitOf own part machine → IsFitting (routes hub) m (kind_of machine)
+  unit-fits own machine unit =
+      let piece = unit.circuit in
+      let ins : length (replicate (length piece.ins) empty_latch) ≡ length part.piece.ins = length-replicate (length piece.ins) empty_latch ∙ ap length unit.alike.ins in
+      subst (λ (t : Machine). IsFitting (routes hub) m (kind_of t)) (sym unit.is)
+      (record {
+        ins = ins ∙ ins-count;
+        outs = length-replicate (length piece.outs) false ∙ ap length unit.outs ∙ outs-count;
+        needs = λ o i has.
+            let low = needs-there unit.needs o i has in
+            let known = (((unit.exact.each o (omega (arith, low, unit.exact.count))).exact i).0 has).0 in
+            omega (arith, known, ins);
+        fields = no-ports-fields _;
+        numbers = no-ports-numbers;
+      })
+
+  memory-fits : (own : Start) (machine : Machine) → IsMemoryOf own part machine → IsFitting (routes hub) m (kind_of machine)
+  memory-fits own machine memory =
+      let piece = memory.alone.piece in
+      let ins = length-replicate (length piece.ins) empty_latch in
+      let own_ins : length piece.ins ≡ length part.piece.ins = sym (length-map piece.ins (value_at memory.alone.globals)) ∙ ap length memory.ins in
+      let own_outs : length piece.outs ≡ length part.piece.outs = sym (length-map piece.outs (value_at memory.alone.globals)) ∙ ap length memory.outs in
+      let is = memory.is_memory in
+      let ports = ports-fit piece.memories (length piece.ins) is.readers is.writers in
+      subst (λ (t : Machine). IsFitting (routes hub) m (kind_of t)) (sym memory.is)
+      (record {
+        ins = ins ∙ own_ins ∙ ins-count;
+        outs = length-replicate (length piece.outs) false ∙ own_outs ∙ outs-count;
+        needs = λ o i has.
+            let there = needs-there (needs_of piece.memories) o i has in
+            let low : o < length piece.outs = omega (arith, there, needs-count piece.memories, ap length is.outs) in
+            let read = piece-needs piece o i is low has in
+            omega (arith, read.within, ins);
+        fields = All-weaker (IsFitPort (length piece.ins) (count_of piece.memories)) (λ (port : Port). All (λ i. i < length (replicate (length piece.ins) empty_latch)) (fields_of port.access)) (λ port fit. subst (λ n. All (λ i. i < n) (fields_of port.access)) (sym ins) fit.fields) (ports_of piece.memories) ports;
+        numbers = All-weaker (IsFitPort (length piece.ins) (count_of piece.memories)) (λ (port : Port). port.number < count_of piece.memories) (λ port fit. fit.number) (ports_of piece.memories) ports;
+      })
+
+-- ---- all machines
+
+-- a machine that lists as many channels fits as well
+fitting-by : (one other : List Link) (m n : ℕ) (kind : Kind) → channels_to one m ≡ channels_to other n → channels_from one m ≡ channels_from other n → IsFitting other n kind → IsFitting one m kind
+fitting-by one other m n kind into from fit = record { ins = fit.ins ∙ ap length (sym into); outs = fit.outs ∙ ap length (sym from); needs = fit.needs; fields = fit.fields; numbers = fit.numbers }
+
+module _ (design : Ordered) (request : Request) (models : Models) (can : CanBridge design request models) where
+  abbrev listed : Listed
+  listed = listed_of design.tree request
+
+  abbrev hub : Hub
+  hub = plan_hub design.circuit design.tree request
+
+  abbrev wires : List Link
+  wires = plan_wires design.circuit design.tree request
+
+  abbrev is-routed : AreRoutes design listed hub
+  is-routed = routed design request models can
+
+  -- what fits machine `base` of the cut fits the plan's machine that it is
+  seat-fits : (m base : ℕ) (kind : Kind) → IsSeatOf design request m base → IsFitting (routes hub) base kind → IsFitting wires m kind
+  seat-fits m base kind seat fit = fitting-by wires (routes hub) m base kind seat.into seat.from fit
+
+  fits : (columns : List (List ℕ)) (m : ℕ) (own : Start) (body : Body) (machine : Machine) → IsBody design request models listed hub m body → IsBuilt columns (length (channels_from wires m)) own body machine → IsFitting wires m (kind_of machine)
+  fits columns m own (Cut part) machine body built =
+      seat-fits m m (kind_of machine) (low-seat design request is-routed m (omega (arith, body.0))) (unit-fits design listed hub m part body.1 own machine built)
+  fits columns m own (Memory part) machine body built = seat-fits m m (kind_of machine) (low-seat design request is-routed m body.1) (memory-fits design listed hub m part body.2 own machine built)
+  fits columns m own (Source place) machine body built =
+      let source = source-at design request is-routed m place body.0 body.1 in
+      let seat = source.seat in
+      subst (λ (t : Machine). IsFitting wires m (kind_of t)) (sym built)
+      (record {
+        ins = sym (ap length seat.into ∙ source-takes design listed hub is-routed (first_source listed + source.base) source.base source.known refl);
+        outs = length-replicate (length (channels_from wires m)) false;
+        needs = λ o i has. absurd (no-needs (length (replicate (length (channels_from wires m)) false)) o i has);
+        fields = no-ports-fields 0;
+        numbers = no-ports-numbers;
+      })
+  fits columns m own Tray machine body built =
+      let tray = tray-seat design request is-routed m body.0 body.1 in
+      let seat = tray.seat in
+      let base = first_tray design.circuit listed + tray.place in
+      subst (λ (t : Machine). IsFitting wires m (kind_of t)) (sym built)
+      (record {
+        ins = sym (ap length seat.into ∙ tray-takes design listed hub is-routed base (omega arith) seat.known);
+        outs = sym (ap length seat.from ∙ tray-gives-none design listed hub is-routed base (omega arith) seat.known);
+        needs = λ o i has. absurd (omega (arith, has.1));
+        fields = no-ports-fields 1;
+        numbers = no-ports-numbers;
+      })
+  fits columns m own (Bridge bridge) machine body built =
+      let piece = turned bridge.model bridge.ins bridge.outs in
+      let at = body.1 in
+      let ins : length bridge.ins ≡ length (channels_to wires m) = ap length at.ins ∙ length-map (channels_to wires m) (seen_place design request models can m bridge body.0 at) in
+      let outs : length bridge.outs ≡ length (channels_from wires m) = ap length at.outs ∙ length-map (channels_from wires m) (driven_place design request models can m bridge body.0 at) in
+      subst (λ (t : Machine). IsFitting wires m (kind_of t)) (sym built)
+      (record {
+        ins = length-replicate (length piece.ins) empty_latch ∙ length-map bridge.ins (value_at bridge.model.ins) ∙ ins;
+        outs = length-replicate (length piece.outs) false ∙ length-map bridge.outs (value_at bridge.model.outs) ∙ outs;
+        needs = λ o i has. absurd (no-needs (length piece.outs) o i has);
+        fields = no-ports-fields _;
+        numbers = no-ports-numbers;
+      })
+
+-- the kind of a machine of the network by its number
+pub kind-is : (machines : List Machine) (m : ℕ) → m < length machines → kind_at (map kind_of machines) m ≡ kind_of (machine_at machines m)
+kind-is machines m lt = get_or-map kind_of machines m no_machine no_kind lt
+
+pub fitting : (design : Ordered) (request : Request) (models : Models) (default : ℕ) (plan : Plan) (starts : Body → Start) (columns : List (List ℕ)) (machines : List Machine) → CanBridge design request models → IsPlan design request models default plan → AreBuilt plan starts columns machines
+    → AreFitting (plan_wires design.circuit design.tree request) (length plan.machines) (map kind_of machines)
+fitting design request models default plan starts columns machines can planned built =
+    let links = plan_wires design.circuit design.tree request in
+    record {
+      total = length-map machines kind_of ∙ built.count;
+      each = λ m lt.
+          let own = planned.machine m nameless lt in
+          subst (IsFitting links m) (sym (kind-is machines m (omega (arith, lt, built.count))))
+          (fits design request models can columns m (starts (machine_in plan m).body) (machine_in plan m).body (machine_at machines m) own.body
+          (subst (λ (l : List ℕ). IsBuilt columns (length l) (starts (machine_in plan m).body) (machine_in plan m).body (machine_at machines m)) own.outs (built.each m lt)));
+    }

@@ -1,0 +1,236 @@
+-- The network of a plan: its channels, its machines before their first step, and the rows of its machines, from any start. The values
+-- that its channels carry are gg_cut_plan's `columns_of`, those of a pipe a cycle later and behind its token. `flow_of` has all that it computes.
+-- Source: MEMOCODE 2009 (a synchronous circuit as a network of its parts, whose streams are the circuit's own); ICCAD
+-- 2019 (units and memories of a target as models of their own, with sources for its inputs and sinks for its outputs).
+use Rattle.std.specs.List.{range_with_len}
+use Rattle.std.specs.Prelude.{◌≡◌, ℕ, suc, ◌+◌, ◌^◌, ◌<◌, ◌≤◌, ◌==◌, ◌++◌, List, [], ◌∷◌, Bool, false, if◌then◌else◌, Option, None, Some, length, map, replicate, slice_index_or, unwrap_or}
+use Rattle.gg_bits.specs.Limits.{cycle_limit}
+use Rattle.gg_flat.specs.Circuit.{FlatCircuit}
+use Rattle.gg_flat_tree.specs.Clocked.{clocks_from}
+use Rattle.gg_flat.specs.Line.{value_at}
+use Rattle.gg_flat.specs.Clock.{Ratio}
+use Rattle.gg_flat.specs.Run.{IsColumns, Start, clocked_start, opening_start}
+use Rattle.gg_flat.specs.State.{State, IsState, opening}
+use Rattle.gg_flat.specs.Streams.{Flow}
+use Rattle.gg_flat.specs.WellFormed.{IsWellFormed}
+use Rattle.gg_order.specs.Design.{Ordered}
+use Rattle.gg_partfile.specs.declared.request.Request.{Request}
+use Rattle.gg_order.specs.needs.Needs.{AreNeedsOfOuts}
+use Rattle.gg_part.specs.Part.{IsPart}
+use Rattle.gg_part.specs.PartRun.{part_ratios, part_rows, part_start, part_state}
+use Rattle.gg_part.specs.declared.part.Part.{Part}
+use Rattle.gg_cut_plan.specs.Alike.{IsAlike}
+use Rattle.gg_cut_plan.specs.declared.plan.Body.{Body}
+use Rattle.gg_cut_plan.specs.declared.plan.Body.TheVariants.{Cut, Memory, Source, Tray, Bridge}
+use Rattle.gg_cut_plan.specs.declared.plan.Machine as planned
+use Rattle.gg_cut_plan.specs.declared.plan.Channel.{Channel}
+use Rattle.gg_cut_plan.specs.declared.plan.Plan.{Plan}
+use Rattle.gg_cut_plan.specs.Clocks.{ratios_of}
+use Rattle.gg_cut_plan.specs.Bridges.{Models}
+use Rattle.gg_cut_plan.specs.Listed.{first_place}
+use Rattle.gg_cut_plan.specs.Plan.{IsPlan}
+use Rattle.gg_cut_plan.specs.Solves.{AreRows, columns_of, model_start, streams}
+use Rattle.gg_cut_plan.specs.Held.{AreHeldOnce}
+use Rattle.gg_cut_reference.specs.Follows.{plan_token}
+use Rattle.gg_cut_reference.specs.Made.{plan_reference, plan_seen}
+use Rattle.gg_bridge.specs.Turned.{turned}
+use Rattle.gg_bridge.specs.Hosted.{started_bridge}
+use Rattle.gg_cut_reference.specs.whole.Whole.{CanBridge, plan_begin, plan_circuit}
+use Rattle.gg_node.specs.Machine.{Machine, machine_at, no_state, source_machine, tray_machine}
+use Rattle.gg_fame5.specs.Machine as dataflow
+use Rattle.gg_memunit.specs.MemoryUnit as memory
+use Rattle.gg_net.specs.declared.shape.Wire.{Wire}
+use Rattle.gg_net.specs.Network.{IsAtIn, IsAtOut, Kind, Frame, frame_of}
+use Rattle.gg_net.specs.Net.{opening_net}
+
+-- a machine of a plan without a name and without channels
+abbrev pub nameless : planned.Machine
+nameless = record { name = []; host = 0; body = Tray; ins = []; outs = [] }
+
+-- machine m of a plan; past the end one without a name and channels
+abbrev pub machine_in : Plan → ℕ → planned.Machine
+machine_in plan m = slice_index_or plan.machines m nameless
+
+-- ---- channels
+
+-- the place of a channel among those of a machine; 0 if it isn't one of them
+abbrev pub place_in : List ℕ → ℕ → ℕ
+place_in channels c = unwrap_or (first_place (λ d. d == c) channels) 0
+
+-- the token with which a channel opens, if it has a pipe with this one
+abbrev pub first_token : Bool → ℕ → Option ℕ
+first_token pipe token = if pipe then Some token else None
+
+-- the tokens with which all begins at cycle 0
+abbrev pub no_token : ℕ → ℕ
+no_token s = 0
+
+-- the channel of the network for a channel of the plan, which has number c; `token` has the token of each signal's pipe
+abbrev pub wire_of : (token : ℕ → ℕ) → Plan → ℕ → Channel → Wire
+wire_of token plan c channel =
+    record {
+      producer = channel.producer;
+      out = place_in (machine_in plan channel.producer).outs c;
+      consumer = channel.consumer;
+      place = place_in (machine_in plan channel.consumer).ins c;
+      capacity = channel.capacity;
+      first = first_token channel.pipe (token channel.signal);
+    }
+
+-- the channels of the network, from number c on
+abbrev pub wires_from : (token : ℕ → ℕ) → Plan → ℕ → List Channel → List Wire
+wires_from token plan c [] = []
+wires_from token plan c (channel ∷ channels) = wire_of token plan c channel ∷ wires_from token plan (suc c) channels
+
+-- the channels of the network of a plan
+abbrev pub wires_of_plan : (token : ℕ → ℕ) → Plan → List Wire
+wires_of_plan token plan = wires_from token plan 0 plan.channels
+
+-- ---- where machines begin
+
+-- where a machine begins, if the circuit begins with this start: a unit or a listed memory with its part of it,
+-- and a bridge with zeros at its cycle
+abbrev pub body_start : Start → Body → Start
+body_start start (Cut part) = part_start part.held part.memories part.clocks start
+body_start start (Memory part) = part_start part.held part.memories part.clocks start
+body_start start (Source place) = record { cycle = start.cycle; state = no_state; ratios = [] }
+body_start start Tray = record { cycle = start.cycle; state = no_state; ratios = [] }
+body_start start (Bridge bridge) = model_start bridge.model start
+
+-- where a machine begins at cycle 0, with zeros, if the circuit's clocks have these ratios
+abbrev pub opening_of : List Ratio → Body → Start
+opening_of ratios (Cut part) = clocked_start part.piece (part_ratios part.clocks ratios)
+opening_of ratios (Memory part) = clocked_start part.piece (part_ratios part.clocks ratios)
+opening_of ratios (Source place) = record { cycle = 0; state = no_state; ratios = [] }
+opening_of ratios Tray = record { cycle = 0; state = no_state; ratios = [] }
+opening_of ratios (Bridge bridge) = opening_start bridge.model
+
+-- ---- machines before their first step
+
+-- A unit that runs a part of the circuit from this start. Its own piece is like the part's, with the same out-signals in their order, so
+-- that units with one piece can share it. Each of its outs needs the ins that it depends on. The ratios are those of the part's clocks.
+pub record IsUnitOf (own : Start) (part : Part) (machine : Machine) : Type 0 where
+  pub circuit : FlatCircuit
+  pub needs : List (List ℕ)
+  pub formed : IsWellFormed circuit
+  pub alike : IsAlike circuit part.piece
+  pub outs : circuit.outs ≡ part.piece.outs
+  pub exact : AreNeedsOfOuts part.piece needs
+  pub is : machine ≡ dataflow.started_unit (record { circuit = circuit; needs = needs }) own.ratios own.state own.cycle
+
+-- The machine of a listed memory, whose part begins with this start. It is a memory unit, whose piece is a part of the listed memory's
+-- part. The piece has the in-signals followed by the out-signals, the memory, and all clocks, each under its number and so with its
+-- ratio. As the piece of a memory unit it has the in-signals first.
+pub record IsMemoryOf (own : Start) (part : Part) (machine : Machine) : Type 0 where
+  pub alone : Part
+  pub is_part : IsPart part.piece alone.piece alone.globals alone.held alone.memories alone.clocks
+  pub clocks : alone.clocks ≡ clocks_from 0 part.piece.clocks
+  pub globals : alone.globals ≡ part.piece.ins ++ part.piece.outs
+  pub ins : map (value_at alone.globals) alone.piece.ins ≡ part.piece.ins
+  pub outs : map (value_at alone.globals) alone.piece.outs ≡ part.piece.outs
+  pub memories : alone.memories ≡ 0 ∷ []
+  pub is_memory : memory.IsMemoryPiece alone.piece
+  pub is : machine ≡ memory.started_unit alone.piece own.ratios (part_state alone.held alone.memories own.state) own.cycle
+
+-- the most values that a tray keeps
+abbrev pub tray_rows : ℕ
+tray_rows = 1024
+
+-- The machine of the network for a machine of the plan that gives this many channels and begins with this start. `columns` are the
+-- columns of the top's inputs that no bridge drives, by their places. A source has an out for each channel. A bridge's machine runs its
+-- model, whose ports have the order of the machine's channels.
+abbrev pub IsBuilt : List (List ℕ) → ℕ → Start → Body → Machine → Type 0
+IsBuilt columns outs own (Cut part) machine = IsUnitOf own part machine
+IsBuilt columns outs own (Memory part) machine = IsMemoryOf own part machine
+IsBuilt columns outs own (Source place) machine = machine ≡ source_machine (slice_index_or columns place []) own.cycle (replicate outs false)
+IsBuilt columns outs own Tray machine = machine ≡ tray_machine tray_rows cycle_limit own.cycle [] None
+IsBuilt columns outs own (Bridge bridge) machine = machine ≡ started_bridge (turned bridge.model bridge.ins bridge.outs) own.cycle own.state
+
+-- the machines of the network of a plan, by number; `starts` tells where a machine begins
+pub record AreBuilt (plan : Plan) (starts : Body → Start) (columns : List (List ℕ)) (machines : List Machine) : Type 0 where
+  pub count : length machines ≡ length plan.machines
+  pub each : (m : ℕ) → m < length plan.machines → IsBuilt columns (length (machine_in plan m).outs) (starts (machine_in plan m).body) (machine_in plan m).body (machine_at machines m)
+
+-- ---- the network
+
+-- the frame, which never changes, of the network of a plan with these machines and pipes with these tokens, which has to do its cycles
+-- below n
+abbrev pub plan_frame : (token : ℕ → ℕ) → Plan → List Machine → ℕ → Frame
+plan_frame token plan machines n = frame_of (opening_net machines (wires_of_plan token plan) n)
+
+-- Machine m of the network, which has this kind, has an in for each channel that the plan's machine m takes and an out
+-- for each channel that it gives, in the plan's order. Each channel is connected there. Numbers of 32 bits suffice for
+-- ins and outs.
+pub record IsListedAt (token : ℕ → ℕ) (plan : Plan) (m : ℕ) (kind : Kind) : Type 0 where
+  pub ins : length (machine_in plan m).ins ≡ kind.ins
+  pub into : (i : ℕ) → i < kind.ins → IsAtIn (wires_of_plan token plan) m i (value_at (machine_in plan m).ins i)
+  pub outs : length (machine_in plan m).outs ≡ kind.outs
+  pub from : (o : ℕ) → o < kind.outs → IsAtOut (wires_of_plan token plan) m o (value_at (machine_in plan m).outs o)
+  pub few : (kind.ins < 2 ^ 32) × (kind.outs < 2 ^ 32)
+
+-- ---- what the network has to do
+
+-- The rows of a machine, from the rows of the circuit that the network computes. `seen` tells by which of its signals the machine sees a
+-- signal of the design, and `behind` is the number of the first signal of a bridge's model.
+abbrev pub body_rows : (seen : ℕ → ℕ) → (behind : ℕ) → Body → List (List ℕ) → List (List ℕ)
+body_rows seen behind (Cut part) rows = part_rows (map seen part.globals) rows
+body_rows seen behind (Memory part) rows = part_rows (map seen (map (value_at part.globals) (part.piece.ins ++ part.piece.outs))) rows
+body_rows seen behind (Source place) rows = []
+body_rows seen behind Tray rows = []
+body_rows seen behind (Bridge bridge) rows = part_rows (range_with_len behind (length bridge.model.signals)) rows
+
+-- how many signals a machine's model has behind the circuit, if it is a bridge
+abbrev pub own_signals : Body → ℕ
+own_signals (Cut part) = 0
+own_signals (Memory part) = 0
+own_signals (Source place) = 0
+own_signals Tray = 0
+own_signals (Bridge bridge) = length bridge.model.signals
+
+-- The rows of these machines, of which the first has number m; `seen` tells by which signal a machine sees a signal. The models' signals
+-- stand one model behind another.
+abbrev pub rows_from : (ℕ → ℕ → ℕ) → (m behind : ℕ) → List planned.Machine → List (List ℕ) → List (List (List ℕ))
+rows_from seen m behind [] rows = []
+rows_from seen m behind (machine ∷ machines) rows = body_rows (seen m) behind machine.body rows ∷ rows_from seen (suc m) (behind + own_signals machine.body) machines rows
+
+-- the rows of the machines of a plan
+abbrev pub rows_of : Ordered → Request → Plan → List (List ℕ) → List (List (List ℕ))
+rows_of design request plan rows = rows_from (plan_seen design request) 0 (length (plan_reference design request).signals) plan.machines rows
+
+-- the state in which a machine begins, if the reference circuit begins in this state: its part of it, and zeros for a bridge
+abbrev pub body_state : Body → State → State
+body_state (Cut part) state = part_state part.held part.memories state
+body_state (Memory part) state = part_state [] part.memories state
+body_state (Source place) state = no_state
+body_state Tray state = no_state
+body_state (Bridge bridge) state = opening bridge.model
+
+-- the states in which the machines of a plan begin
+abbrev pub states_of : Plan → State → List State
+states_of plan state = map (λ machine. body_state machine.body state) plan.machines
+
+-- What the network of a plan computes, from the rows of its circuit, by cycle, and where all begins.
+abbrev pub flow_of : Ordered → Request → Plan → Start → List (List ℕ) → Flow
+flow_of design request plan start rows =
+    record {
+      lists = streams start.cycle (plan_token design request start.state) plan.channels (columns_of plan rows);
+      runs = rows_of design request plan rows;
+      begin = start.cycle;
+      states = states_of plan start.state;
+    }
+
+-- A design whose circuit keeps to its tree, in which no two signals hold one register, and whose paths leave the fronts of pipes and bridges
+-- free; models that bridges may have; a request that has no fault for the design and these models; their plan, whose channels may hold at
+-- least one token each; a start, with a state of the reference circuit and the ratios that the request gives its clocks; and the run from
+-- there, up to cycle n, of the reference circuit with the models of the bridges in it, which start with zeros, on the columns of the inputs
+-- that no bridge drives.
+pub record IsGiven (design : Ordered) (request : Request) (models : Models) (default : ℕ) (plan : Plan) (columns : List (List ℕ)) (n : ℕ) (start : Start) (rows : List (List ℕ)) : Type 0 where
+  pub can : CanBridge design request models
+  pub held : AreHeldOnce design.circuit
+  pub some : 0 < default
+  pub planned : IsPlan design request models default plan
+  pub most : n ≤ cycle_limit
+  pub given : IsColumns (plan_circuit design request models) n columns
+  pub typed : IsState (plan_reference design request) start.state
+  pub clocked : start.ratios ≡ ratios_of design.tree request
+  pub run : AreRows (plan_circuit design request models) (plan_begin design request models start) columns n rows

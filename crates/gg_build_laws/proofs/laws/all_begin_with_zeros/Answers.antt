@@ -1,8 +1,0 @@
-use Rattle.gg_build_laws.proofs.ZeroLemmas.{built-with-zeros, zero-tokens}
-use Rattle.gg_build_laws.proofs.laws.all_begin_with_zeros.Goals as goal
-
-pub returns-clause-machines : goal.returns-clause-machines
-returns-clause-machines c = λ design request models default plan can planned columns machines built. built-with-zeros design request models default plan columns machines planned built
-
-pub returns-clause-tokens : goal.returns-clause-tokens
-returns-clause-tokens c = λ design request plan. zero-tokens design request plan

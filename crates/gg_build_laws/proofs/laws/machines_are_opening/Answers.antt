@@ -1,5 +1,0 @@
-use Rattle.gg_build_laws.proofs.OpeningLemmas.{built-opening}
-use Rattle.gg_build_laws.proofs.laws.machines_are_opening.Goals as goal
-
-pub returns : goal.returns
-returns c = λ design request models default plan columns n start rows given machines built m lt. built-opening design request models default plan columns n start rows machines given built m lt

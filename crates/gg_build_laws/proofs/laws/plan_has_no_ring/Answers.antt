@@ -1,5 +1,0 @@
-use Rattle.gg_build_laws.proofs.PlanLemmas.{plan-no-ring}
-use Rattle.gg_build_laws.proofs.laws.plan_has_no_ring.Goals as goal
-
-pub returns : goal.returns
-returns c = λ design request models default plan columns n start rows given token starts machines built. plan-no-ring design request models default plan columns n start rows token starts machines given built

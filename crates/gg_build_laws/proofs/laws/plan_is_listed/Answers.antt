@@ -1,5 +1,0 @@
-use Rattle.gg_build_laws.proofs.PlanLemmas.{plan-listed}
-use Rattle.gg_build_laws.proofs.laws.plan_is_listed.Goals as goal
-
-pub returns : goal.returns
-returns c = λ design request models default plan columns n start rows given token starts machines built m lt. plan-listed design request models default plan columns n start rows token starts machines given built m lt

@@ -1,5 +1,0 @@
-use Rattle.gg_build_laws.proofs.WithinLemmas.{plan-within}
-use Rattle.gg_build_laws.proofs.solved.plan_is_within.Goals as goal
-
-pub returns : goal.returns
-returns c = λ design request models default plan columns n start rows given token starts machines built most. plan-within design request models default plan columns n start rows token starts machines given built most

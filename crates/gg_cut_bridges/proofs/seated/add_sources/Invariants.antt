@@ -1,8 +1,0 @@
-use Rattle.std.proofs.Common.{◌+◌}
-use Rattle.gg_cut_plan.specs.Seated.{before, undriven}
-use Rattle.gg_cut_bridges.specs.Seating.{draft_bridges}
-use Rattle.gg_cut_bridges.proofs.SeatingLemmas.{AreSeatedBy}
-use Rattle.gg_cut_bridges.proofs.seated.add_sources.Given as goal
-
-abbrev pub invariant-loop-place : goal.invariant-loop-place
-invariant-loop-place l = AreSeatedBy l.seating.draft.now ((draft_bridges l.seating.draft.now).first + before (undriven (draft_bridges l.seating.draft.now)) l.place) l.machines.items

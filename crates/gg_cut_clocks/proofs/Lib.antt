@@ -1,4 +1,0 @@
-pub mod TableLemmas
-pub mod FollowLemmas
-pub mod TimedLemmas
-mod WorkedDomains

@@ -1,2 +1,0 @@
-pub mod Innermost
-pub mod Domains

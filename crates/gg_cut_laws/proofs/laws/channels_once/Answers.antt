@@ -1,9 +1,0 @@
-use Rattle.gg_cut_laws.proofs.ChoiceLemmas.{pairs-once}
-use Rattle.gg_cut_laws.proofs.EndLemmas.{ends}
-use Rattle.gg_cut_laws.proofs.laws.channels_once.Goals as goal
-
-pub returns-clause-once : goal.returns-clause-once
-returns-clause-once c = λ design listed is keeps apart. pairs-once design.circuit design.tree listed is.formed keeps.fitting keeps.scoped apart
-
-pub returns-clause-ends : goal.returns-clause-ends
-returns-clause-ends c = λ design listed is keeps apart. ends design.circuit design.tree listed keeps.fitting apart

@@ -1,0 +1,175 @@
+-- Tables by signals: which bridge has each port, and the places of ports.
+use Rattle.std.proofs.Common.{◌≡◌, ℕ, zero, suc, ◌+◌, ◌-◌, ◌<◌, ◌≤◌, List, [], ◌∷◌, length, map, get_or, take, drop, replicate, Bool, true, false, true≢false, refl, sym, ◌∙◌, ap, ap₂, Some, None, inl, inr, ◌⊎◌, arith}
+use Rattle.std.specs.Prelude.{All, Option, option_map, unwrap_or, bytes_eq, ◌||◌, if◌then◌else◌}
+use Rattle.std.proofs.lemmas.Bool.{cases_lt}
+use Rattle.std.proofs.lemmas.List.{get_or_past}
+use Rattle.std.proofs.lemmas.List.Folds.{list_any_at, list_any_more}
+use Rattle.std.proofs.lemmas.Slice.Eq.{bytes_eq-Decides}
+use Rattle.gg_flat.specs.Line.{value_at}
+use Rattle.gg_flat_tree.specs.Tree.{path_at}
+use Rattle.gg_partfile.specs.declared.request.BridgeEntry.{BridgeEntry}
+use Rattle.gg_cut_plan.specs.Listed.{is_among, place_of}
+use Rattle.gg_cut_plan.specs.Channels.{wire}
+use Rattle.gg_cut_plan.specs.declared.wires.Wire.{Wire}
+use Rattle.gg_cut_plan.specs.Plan.{port_place, wire_at}
+use Rattle.gg_cut_plan.specs.Seated.{lister}
+use Rattle.gg_cut_plan.proofs.FindLemmas.{rest-at}
+use Rattle.gg_cut_plan.proofs.PathLemmas.{first_place-Some}
+use Rattle.gg_cut_machines.specs.Seats.{one_more, ports_of}
+
+eq-back : (a b : List ℕ) → bytes_eq a b ≡ bytes_eq b a
+eq-back a b = by (bytes_eq a b) refl (bytes_eq b a) refl
+  where
+    by : (x : Bool) → bytes_eq a b ≡ x → (y : Bool) → bytes_eq b a ≡ y → x ≡ y
+    by true e true f = refl
+    by false e false f = refl
+    by true e false f = sym ((bytes_eq-Decides b a).1 (sym ((bytes_eq-Decides a b).0 e))) ∙ f
+    by false e true f = sym e ∙ (bytes_eq-Decides a b).1 (sym ((bytes_eq-Decides b a).0 f))
+
+-- ---- one port more, from the front
+
+put-cases : (a t : Bool) (number old : ℕ) → (if t then number else (if a then number else old)) ≡ (if (a || t) then number else old)
+put-cases true true number old = refl
+put-cases true false number old = refl
+put-cases false true number old = refl
+put-cases false false number old = refl
+
+pub put-more : (ports : List (List ℕ)) (i : ℕ) (port path : List ℕ) (number old before new : ℕ) → i < length ports → port ≡ get_or ports i port
+    → before ≡ (if is_among (take i ports) path then number else old) → new ≡ (if bytes_eq port path then number else before) → new ≡ (if is_among (take (i + 1) ports) path then number else old)
+put-more ports i port path number old before new lt read was set =
+    let a = is_among (take i ports) path in
+    let joined : is_among (take (i + 1) ports) path ≡ (a || bytes_eq port path) =
+    list_any_more (bytes_eq path) ports i port lt ∙ ap (λ x. a || bytes_eq path x) (sym read) ∙ ap (λ x. a || x) (eq-back path port) in
+    set ∙ ap (λ x. if bytes_eq port path then number else x) was ∙ put-cases a (bytes_eq port path) number old ∙ ap (λ b. if b then number else old) (sym joined)
+
+-- ---- nothing yet
+
+-- a list of zeros has no other number
+pub zeros : (count s : ℕ) → value_at (replicate count 0) s ≡ 0
+zeros zero s = refl
+zeros (suc count) zero = refl
+zeros (suc count) (suc s) = zeros count s
+
+all-dropped : {A : Type 0} (xs : List A) (n : ℕ) → length xs ≤ n → drop n xs ≡ []
+all-dropped [] zero le = refl
+all-dropped [] (suc n) le = refl
+all-dropped (x ∷ xs) zero le = absurd (omega (arith, le))
+all-dropped (x ∷ xs) (suc n) le = all-dropped xs n (omega (arith, le))
+
+-- ---- one entry more, from the back
+
+-- one more than a place behind this many others
+abbrev pub one_behind : ℕ → Option ℕ → ℕ
+one_behind base None = 0
+one_behind base (Some k) = base + suc k
+
+pub behind-none : (o : Option ℕ) → one_behind 0 o ≡ one_more o
+behind-none None = refl
+behind-none (Some k) = omega arith
+
+pub taker-more : (seen : Bool) (entries : List BridgeEntry) (step : ℕ) (entry : BridgeEntry) (path : List ℕ) (old new : ℕ) → step < length entries → entry ≡ get_or entries (length entries - 1 - step) entry
+    → old ≡ one_behind (length entries - step) (lister (ports_of seen) (drop (length entries - step) entries) path)
+    → new ≡ (if is_among (ports_of seen entry) path then length entries - 1 - step + 1 else old)
+    → new ≡ one_behind (length entries - (step + 1)) (lister (ports_of seen) (drop (length entries - (step + 1)) entries) path)
+taker-more seen entries step entry path old new lt read was set =
+    let i = length entries - (step + 1) in
+    let rest = lister (ports_of seen) (drop (length entries - step) entries) path in
+    let same : length entries - 1 - step ≡ i = omega (arith, lt) in
+    let next : i + 1 ≡ length entries - step = omega (arith, lt) in
+    let here : drop i entries ≡ entry ∷ drop (length entries - step) entries =
+    rest-at entries i entry (omega (arith, lt)) (read ∙ ap (λ k. get_or entries k entry) same) ∙ ap (λ k. entry ∷ drop k entries) next in
+    set ∙ ap (λ x. if is_among (ports_of seen entry) path then length entries - 1 - step + 1 else x) was
+    ∙ by (is_among (ports_of seen entry) path) i rest (omega (arith, lt)) (omega (arith, lt))
+    ∙ sym (ap (λ l. one_behind i (lister (ports_of seen) l path)) here)
+  where
+    by : (b : Bool) (i : ℕ) (rest : Option ℕ) → length entries - 1 - step + 1 ≡ i + 1 → length entries - step ≡ i + 1 → (if b then length entries - 1 - step + 1 else one_behind (length entries - step) rest) ≡ one_behind i (if b then Some 0 else option_map suc rest)
+    by true i rest e f = omega (arith, e)
+    by false i None e f = refl
+    by false i (Some k) e f = omega (arith, f)
+
+-- ---- one place more, from the back
+
+abbrev pub or_behind : ℕ → Option ℕ → ℕ
+or_behind base None = 0
+or_behind base (Some k) = base + k
+
+pub behind-place : (ports : List (List ℕ)) (path : List ℕ) → or_behind 0 (place_of ports path) ≡ port_place ports path
+behind-place ports path = by (place_of ports path)
+  where
+    by : (o : Option ℕ) → or_behind 0 o ≡ unwrap_or o 0
+    by None = refl
+    by (Some k) = omega arith
+
+pub place-more : (ports : List (List ℕ)) (step : ℕ) (port path : List ℕ) (old new : ℕ) → step < length ports → port ≡ get_or ports (length ports - 1 - step) port
+    → old ≡ or_behind (length ports - step) (place_of (drop (length ports - step) ports) path)
+    → new ≡ (if bytes_eq port path then length ports - 1 - step else old)
+    → new ≡ or_behind (length ports - (step + 1)) (place_of (drop (length ports - (step + 1)) ports) path)
+place-more ports step port path old new lt read was set =
+    let i = length ports - (step + 1) in
+    let rest = place_of (drop (length ports - step) ports) path in
+    let same : length ports - 1 - step ≡ i = omega (arith, lt) in
+    let next : i + 1 ≡ length ports - step = omega (arith, lt) in
+    let here : drop i ports ≡ port ∷ drop (length ports - step) ports =
+    rest-at ports i port (omega (arith, lt)) (read ∙ ap (λ k. get_or ports k port) same) ∙ ap (λ k. port ∷ drop k ports) next in
+    set ∙ ap (λ x. if bytes_eq port path then length ports - 1 - step else x) was
+    ∙ ap (λ b. if b then length ports - 1 - step else or_behind (length ports - step) rest) (eq-back port path)
+    ∙ by (bytes_eq path port) i rest (omega (arith, lt)) (omega (arith, lt))
+    ∙ sym (ap (λ l. or_behind i (place_of l path)) here)
+  where
+    by : (b : Bool) (i : ℕ) (rest : Option ℕ) → length ports - 1 - step ≡ i → length ports - step ≡ i + 1 → (if b then length ports - 1 - step else or_behind (length ports - step) rest) ≡ or_behind i (if b then Some 0 else option_map suc rest)
+    by true i rest e f = omega (arith, e)
+    by false i None e f = refl
+    by false i (Some k) e f = omega (arith, f)
+
+-- nothing is left of the places
+pub place-cleared : (ports : List (List ℕ)) (path : List ℕ) → (if is_among ports path then 0 else port_place ports path) ≡ 0
+place-cleared ports path = by (is_among ports path) refl (place_of ports path) refl
+  where
+    by : (a : Bool) → is_among ports path ≡ a → (o : Option ℕ) → place_of ports path ≡ o → (if a then 0 else unwrap_or o 0) ≡ 0
+    by true e o f = refl
+    by false e None f = refl
+    by false e (Some k) f =
+        let at = first_place-Some (bytes_eq path) ports k f in
+        absurd (true≢false (sym (list_any_at (bytes_eq path) ports k [] at.within (at.passes [])) ∙ e))
+
+-- at first no entry has a port
+pub no-taker : (seen : Bool) (entries : List BridgeEntry) (path : List ℕ) (count s value : ℕ) → value ≡ value_at (replicate count 0) s → value ≡ one_behind (length entries - 0) (lister (ports_of seen) (drop (length entries - 0) entries) path)
+no-taker seen entries path count s value is =
+    is ∙ zeros count s ∙ ap (λ l. one_behind (length entries - 0) (lister (ports_of seen) l path)) (sym (all-dropped entries (length entries - 0) (omega arith)))
+
+pub taken-as : (b : Bool) (x y : ℕ) → x ≡ y → (if b then x else 0) ≡ (if b then y else 0)
+taken-as true x y e = e
+taken-as false x y e = refl
+
+-- ---- the places of channels' ports
+
+pub no-place : (ports : List (List ℕ)) (path : List ℕ) (value : ℕ) → value ≡ 0 → value ≡ or_behind (length ports - 0) (place_of (drop (length ports - 0) ports) path)
+no-place ports path value is = is ∙ ap (λ l. or_behind (length ports - 0) (place_of l path)) (sym (all-dropped ports (length ports - 0) (omega arith)))
+
+-- what a table with the places of ports has for channels
+pub places-as : (paths : List (List ℕ)) (count : ℕ) (ports : List (List ℕ)) (wires : List Wire) (channels table places : List ℕ) → All (λ w. w.signal < count) wires → All (λ c. c < length wires) channels
+    → ((s : ℕ) → s < count → value_at table s ≡ port_place ports (path_at paths s)) → places ≡ map (λ c. value_at table (wire_at wires c).signal) channels → places ≡ map (λ c. port_place ports (path_at paths (wire_at wires c).signal)) channels
+places-as paths count ports wires channels table places known within are is = is ∙ each channels within
+  where
+    each : (l : List ℕ) → All (λ c. c < length wires) l → map (λ c. value_at table (wire_at wires c).signal) l ≡ map (λ c. port_place ports (path_at paths (wire_at wires c).signal)) l
+    each [] all = refl
+    each (c ∷ l) all =
+        ap₂ (λ h t. h ∷ t) (are (wire_at wires c).signal (known c (wire 0 0 0) (all 0 c (omega arith)))) (each l (λ k d lt. all (suc k) d (omega (arith, lt))))
+
+-- a table of places is cleared
+pub all-cleared : (paths : List (List ℕ)) (count : ℕ) (ports : List (List ℕ)) (places new : List ℕ) → length new ≡ count → ((s : ℕ) → s < count → value_at places s ≡ port_place ports (path_at paths s))
+    → ((s : ℕ) → s < count → value_at new s ≡ (if is_among ports (path_at paths s) then 0 else value_at places s)) → (s : ℕ) → value_at new s ≡ 0
+all-cleared paths count ports places new many are cleared s = by (cases_lt s count)
+  where
+    by : (s < count) ⊎ (count ≤ s) → value_at new s ≡ 0
+    by (inl lt) = cleared s lt ∙ ap (λ x. if is_among ports (path_at paths s) then 0 else x) (are s lt) ∙ place-cleared ports (path_at paths s)
+    by (inr le) = get_or_past new s 0 (omega (arith, le, many))
+
+-- the places of ports by equal lists
+pub places-at : (one other paths these : List (List ℕ)) (wires all : List Wire) (taken channels : List ℕ) → one ≡ other → paths ≡ these → wires ≡ all → taken ≡ channels
+    → map (λ c. port_place one (path_at paths (wire_at wires c).signal)) taken ≡ map (λ c. port_place other (path_at these (wire_at all c).signal)) channels
+places-at one other paths these wires all taken channels e p w t =
+    ap (λ (l : List (List ℕ)). map (λ c. port_place l (path_at paths (wire_at wires c).signal)) taken) e
+    ∙ ap (λ (l : List (List ℕ)). map (λ c. port_place other (path_at l (wire_at wires c).signal)) taken) p
+    ∙ ap (λ (l : List Wire). map (λ c. port_place other (path_at these (wire_at l c).signal)) taken) w
+    ∙ ap (λ (l : List ℕ). map (λ c. port_place other (path_at these (wire_at all c).signal)) l) t

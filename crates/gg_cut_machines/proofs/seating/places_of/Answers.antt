@@ -1,0 +1,41 @@
+use Rattle.std.proofs.Common.{◌<◌, ℕ, List, length, refl, sym, ◌∙◌, ap, subst, arith}
+use Rattle.std.specs.Prelude.{All}
+use Rattle.std.proofs.lemmas.List.{length-map}
+use Rattle.gg_cut_plan.specs.declared.wires.Wire.{Wire}
+use Rattle.gg_cut_plan.specs.Direct.{plan_routes}
+use Rattle.gg_cut_plan.specs.Listed.{listed_of}
+use Rattle.gg_cut_plan.specs.Seated.{machine_end, seated_wire}
+use Rattle.gg_cut_split.proofs.ClosedLemmas.FaultlessLemmas.{faultless-few}
+use Rattle.gg_cut_machines.specs.Seating.{draft_bridges}
+use Rattle.gg_cut_machines.proofs.WireLemmas.{seated-ends}
+use Rattle.gg_cut_parts.proofs.DraftLemmas.{units-count}
+use Rattle.gg_cut_machines.proofs.SeatingLemmas.{sides-made}
+use Rattle.gg_cut_machines.proofs.seating.places_of.Goals as goal
+
+pub hosts_of-requires-clause-units : goal.hosts_of-requires-clause-units
+hosts_of-requires-clause-units c =
+    let draft = c.args.draft.now in
+    let count = units-count draft.design.now draft.request.now (listed_of draft.design.now.tree draft.request.now) refl in
+    omega (arith, c.requires.seats.numbers.end, count)
+
+pub hosts_of-requires-clause-few : goal.hosts_of-requires-clause-few
+hosts_of-requires-clause-few c = omega (arith, c.requires.seats.numbers.end, c.requires.seats.numbers.few)
+
+pub sides_of-requires-clause-few : goal.sides_of-requires-clause-few
+sides_of-requires-clause-few c =
+    let draft = c.args.draft.now in
+    let design = draft.design.now in
+    let most = (faultless-few design draft.request.now c.requires.draft.faultless).channels in
+    omega (arith, most, ap length (c.deref.ensures.value ∙ c.requires.seats.wires), length-map (plan_routes design.circuit design.tree draft.request.now) (seated_wire (draft_bridges draft)))
+
+pub sides_of-requires-clause-ends : goal.sides_of-requires-clause-ends
+sides_of-requires-clause-ends c =
+    let draft = c.args.draft.now in
+    subst (λ (n : ℕ). All (λ (w : Wire). (w.producer < n) × (w.consumer < n)) c.deref.result.now) (sym c.requires.seats.numbers.end)
+    (subst (λ (l : List Wire). All (λ w. (w.producer < machine_end (draft_bridges draft)) × (w.consumer < machine_end (draft_bridges draft))) l) (sym (c.deref.ensures.value ∙ c.requires.seats.wires))
+    (seated-ends draft.design.now draft.request.now draft.listed c.requires.draft.listed c.requires.draft.sound))
+
+pub returns : goal.returns
+returns c =
+    sides-made c.args.draft.now c.in_ok-hosts.hosts c.args.seats.now.end c.in_ok-sides.sides.ins.items c.in_ok-sides.sides.outs.items c.deref.result.now c.requires.seats.numbers.end (c.in_ok-hosts.ensures {u = tt}) (c.deref.ensures.value ∙ c.requires.seats.wires)
+    c.in_ok-sides.ensures.ins c.in_ok-sides.ensures.outs

@@ -1,0 +1,23 @@
+-- The text of a cut tells what each channel needs.
+-- Source: MEMOCODE 2009 (what an output of a machine depends on).
+use Rattle.std.specs.Prelude.{ℕ, ◌<◌, length, slice_index_or}
+use Rattle.gg_order.specs.Design.{Ordered}
+use Rattle.gg_partfile.specs.declared.request.Request.{Request}
+use Rattle.gg_cut_plan.specs.Bridges.{Models}
+use Rattle.gg_cut_plan.specs.Listed.{listed_of}
+use Rattle.gg_cut_plan.specs.Plan.{IsPlan}
+use Rattle.gg_cut_plan.specs.Seated.{plan_wires}
+use Rattle.gg_cut_plan.specs.declared.plan.Channel.{Channel}
+use Rattle.gg_cut_plan.specs.declared.plan.Plan.{Plan}
+use Rattle.gg_cut_reference.specs.text.CheckText.{AreChannelNeeds}
+
+-- What a channel of a plan needs is exactly what it needs in the circuit.
+abbrev pub NeedsAreTold : Type 0
+NeedsAreTold =
+    (design : Ordered) (request : Request) (models : Models) (default : ℕ) (plan : Plan)
+    -- The plan is that of the request.
+    → IsPlan design request models default plan
+    -- The channel is one of the plan.
+    → (c : ℕ) (any : Channel) → c < length (plan_wires design.circuit design.tree request)
+    -- What the plan says that it needs, it needs in the circuit, and nothing else.
+    → AreChannelNeeds design.circuit (listed_of design.tree request) (plan_wires design.circuit design.tree request) c (slice_index_or plan.channels c any).needs

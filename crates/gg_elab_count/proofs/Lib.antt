@@ -1,3 +1,0 @@
-pub mod PassLemmas
-pub mod CountLemmas
-mod WorkedRows

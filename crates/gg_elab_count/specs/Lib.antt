@@ -1,3 +1,0 @@
-pub mod Sites
-pub mod Counts
-pub mod Graph

@@ -1,0 +1,138 @@
+-- What is counted over the sites of a circuit, and the limits.
+-- Source: FIRRTL Specification, "Instances", "Memories" (depth). The limits are this program's. A count saturates at
+-- 2^64 - 1.
+use Rattle.std.specs.Prelude.{ℕ, suc, ◌-◌, ◌^◌, min, max, Bool, true, false, List, [], ◌∷◌, Option, Some, None, length, fold, slice_index_or, nat_lt, nat_eq, is_some, if◌then◌else◌}
+use Rattle.std.specs.List.{sum_by, list_any}
+use Rattle.gg_ast.specs.declared.statement.Field.{Field}
+use Rattle.gg_ast.specs.declared.statement.MemoryField.{MemoryField}
+use Rattle.gg_ast.specs.declared.statement.MemoryField.TheVariants as field
+use Rattle.gg_ast.specs.declared.statement.Stmt.{Stmt}
+use Rattle.gg_ast.specs.declared.statement.StmtKind.{StmtKind}
+use Rattle.gg_ast.specs.declared.statement.StmtKind.TheVariants as says
+use Rattle.gg_ast.specs.Tree.{ModuleTree}
+use Rattle.gg_elab_sites.specs.declared.counts.Counts.{Counts}
+use Rattle.gg_elab_sites.specs.declared.counts.Excess.{Excess}
+use Rattle.gg_elab_sites.specs.declared.counts.Measure.{Measure}
+use Rattle.gg_elab_sites.specs.declared.counts.Measure.TheVariants.{Depth, Signals, Memory, Words, Instances}
+use Rattle.gg_elab_sites.specs.Sites.{Site, module_at, all_sites}
+
+-- a count, which saturates at the greatest value of its type
+abbrev pub capped : ℕ → ℕ
+capped n = min n (2 ^ 64 - 1)
+
+-- ---- memories
+
+-- the depth that a field gives
+abbrev pub depth_in : MemoryField → Option ℕ
+depth_in (field.DataType ty) = None
+depth_in (field.Depth n) = Some n
+depth_in (field.ReadLatency n) = None
+depth_in (field.WriteLatency n) = None
+depth_in (field.Readers names) = None
+depth_in (field.Writers names) = None
+depth_in (field.ReadUnderWrite word) = None
+
+-- the first value, if there is one, else the second
+abbrev pub first_of : Option ℕ → ℕ → ℕ
+first_of None other = other
+first_of (Some n) other = n
+
+-- a memory's depth: what the first field that gives a depth gives; 0 if none does
+abbrev pub depth_of_fields : List Field → ℕ
+depth_of_fields [] = 0
+depth_of_fields (f ∷ fs) = first_of (depth_in f.kind) (depth_of_fields fs)
+
+-- the words of a statement: a memory's depth
+abbrev pub words_of_kind : StmtKind → ℕ
+words_of_kind (says.Wire name ty) = 0
+words_of_kind (says.Node name value) = 0
+words_of_kind (says.Register name ty clock reset) = 0
+words_of_kind (says.Instance name of_module) = 0
+words_of_kind (says.Memory name fields) = depth_of_fields fields
+words_of_kind (says.Connect sink source) = 0
+words_of_kind (says.Invalid sink) = 0
+words_of_kind says.Skip = 0
+words_of_kind (says.Stop clock condition code label) = 0
+words_of_kind (says.Report word arguments label) = 0
+
+-- the words of a module's own memories
+abbrev pub words_in : ModuleTree → ℕ
+words_in m = sum_by (λ (s : Stmt). words_of_kind s.kind) m.statements
+
+-- the depth of the first memory that has more than 65,536 words
+abbrev pub deep_in : List Stmt → Option ℕ
+deep_in [] = None
+deep_in (s ∷ ss) = if nat_lt 65536 (words_of_kind s.kind) then Some (words_of_kind s.kind) else deep_in ss
+
+-- that depth if the module is reached, else what follows
+abbrev pub deep_or : Bool → Option ℕ → Option ℕ → Option ℕ
+deep_or true (Some depth) later = Some depth
+deep_or true None later = later
+deep_or false depth later = later
+
+-- the same for the modules from place k on that are reached
+abbrev pub deep_from : (ℕ → Bool) → ℕ → List ModuleTree → Option ℕ
+deep_from reached k [] = None
+deep_from reached k (m ∷ ms) = deep_or (reached k) (deep_in m.statements) (deep_from reached (suc k) ms)
+
+-- ---- counts over sites
+
+-- one of the sites is of the module at place k
+abbrev pub is_reached : List Site → ℕ → Bool
+is_reached all k = list_any (λ s. nat_eq s.number k) all
+
+-- the depth of the deepest site
+abbrev pub deepest : List Site → ℕ
+deepest all = fold (λ n s. max n s.depth) 0 all
+
+-- The counts over these sites, where `own` has the number of each module's own signals: the depth of the deepest
+-- site, the signals, the depth of the first memory in the text that is too deep, the words, and the instances, which
+-- are all sites but the top.
+abbrev pub counts_over : List ModuleTree → List ℕ → List Site → Counts
+counts_over modules own all =
+    record {
+      depth = capped (deepest all);
+      signals = capped (sum_by (λ s. slice_index_or own s.number 0) all);
+      memory = deep_from (is_reached all) 0 modules;
+      words = capped (sum_by (λ s. words_in (module_at modules s.number)) all);
+      instances = capped (length all - 1);
+    }
+
+-- the counts of the module at a place as the top
+abbrev pub counts_of : List ModuleTree → List ℕ → ℕ → Counts
+counts_of modules own k = counts_over modules own (all_sites modules k)
+
+-- ---- which module has the first memory that is too deep
+
+-- the place of a module if it has a memory that is too deep, else a number that isn't a place
+abbrev pub deep_place : ℕ → List Stmt → ℕ
+deep_place k statements = if is_some (deep_in statements) then k else 2 ^ 64 - 1
+
+-- the same for the modules from place k on
+abbrev pub deep_places : ℕ → List ModuleTree → List ℕ
+deep_places k [] = []
+deep_places k (m ∷ ms) = deep_place k m.statements ∷ deep_places (suc k) ms
+
+-- the depth of the first memory that is too deep in the module at a place; none past the end
+abbrev pub deep_at : List ModuleTree → ℕ → Option ℕ
+deep_at modules k = if nat_lt k (length modules) then deep_in (module_at modules k).statements else None
+
+-- ---- limits
+
+-- this count of this measure, as one that is above its limit
+abbrev pub excess_of : Measure → ℕ → Option Excess
+excess_of measure count = Some (record { measure = measure; count = count })
+
+-- a memory that is too deep, else what follows
+abbrev pub memory_or : Option ℕ → Option Excess → Option Excess
+memory_or None other = other
+memory_or (Some depth) other = excess_of Memory depth
+
+-- the first count above its limit: 32, 200,000, 65,536, 1,048,576 and 1,000,000
+abbrev pub first_excess : Counts → Option Excess
+first_excess c =
+    if nat_lt 32 c.depth then excess_of Depth c.depth
+    else (if nat_lt 200000 c.signals then excess_of Signals c.signals
+    else memory_or c.memory
+    (if nat_lt 1048576 c.words then excess_of Words c.words
+    else (if nat_lt 1000000 c.instances then excess_of Instances c.instances else None)))

@@ -1,6 +1,0 @@
--- proofs/bank/read_words/Invariants.antt
-use Rattle.gg_flat_run.proofs.LateLemmas.{Found}
-use Rattle.gg_flat_run.proofs.bank.read_words.Given as goal
-
-abbrev pub invariant-loop-r : goal.invariant-loop-r
-invariant-loop-r l = Found l.edges l.signals l.words l.readers l.initial.reads l.r l.reads

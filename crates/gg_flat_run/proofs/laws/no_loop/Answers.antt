@@ -1,5 +1,0 @@
-use Rattle.gg_flat.proofs.OrderLemmas.{IsLoop-none}
-use Rattle.gg_flat_run.proofs.laws.no_loop.Goals as goal
-
-pub returns : goal.returns
-returns c = IsLoop-none

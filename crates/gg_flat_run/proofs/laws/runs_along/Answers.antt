@@ -1,8 +1,0 @@
-use Rattle.gg_flat_run.proofs.AlongLemmas.{IsRunFrom-along, IsRun-along}
-use Rattle.gg_flat_run.proofs.laws.runs_along.Goals as goal
-
-pub returns-clause-from : goal.returns-clause-from
-returns-clause-from c = IsRunFrom-along
-
-pub returns-clause-opening : goal.returns-clause-opening
-returns-clause-opening c = IsRun-along

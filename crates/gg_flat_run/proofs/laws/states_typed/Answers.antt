@@ -1,9 +1,0 @@
-use Rattle.gg_flat.proofs.StateLemmas.{IsState-opening}
-use Rattle.gg_flat_run.proofs.AlongLemmas.{IsState-at}
-use Rattle.gg_flat_run.proofs.laws.states_typed.Goals as goal
-
-pub returns-clause-opening : goal.returns-clause-opening
-returns-clause-opening c = IsState-opening
-
-pub returns-clause-at : goal.returns-clause-at
-returns-clause-at c = IsState-at

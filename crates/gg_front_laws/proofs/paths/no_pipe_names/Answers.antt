@@ -1,5 +1,0 @@
-use Rattle.gg_front_laws.proofs.FreshLemmas.{none-piped}
-use Rattle.gg_front_laws.proofs.paths.no_pipe_names.Goals as goal
-
-pub returns : goal.returns
-returns c = λ text circuit flat spelt is s path lt. none-piped text circuit flat spelt is s path

@@ -1,0 +1,7 @@
+use Rattle.std.proofs.Common.{take}
+use Rattle.gg_order.specs.needs.Walk.{AreMarkedAmong}
+use Rattle.gg_order.specs.needs.Marks.{marks_of}
+use Rattle.gg_order.proofs.needs.needs.marked_ins.Given as goal
+
+abbrev pub invariant-loop-each : goal.invariant-loop-each
+invariant-loop-each l = AreMarkedAmong l.piece (marks_of l.place l.marks) (take l.each-index l.touched) l.ins.items

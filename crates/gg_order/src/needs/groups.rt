@@ -1,0 +1,14 @@
+//! Groups of out-signals.
+ghost use Rattle.std.specs.Prelude.{◌≡◌, ◌<◌, length};
+ghost use Rattle.gg_order.specs.needs.Groups.{IsGroup};
+
+use crate::needs::marks::MOST;
+
+// The out-signals from a place on, at most 128 of them.
+pub(crate) fn group_from(outs: &[u32], first: usize) -> &[u32]
+    requires { first < length outs.now }
+    ensures { IsGroup outs.now first result.now }
+{
+    let count = (outs.len() - first).min(MOST);
+    &outs[first..first + count]
+}

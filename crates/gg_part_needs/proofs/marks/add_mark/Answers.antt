@@ -1,5 +1,0 @@
-use Rattle.gg_part_needs.proofs.AddLemmas.{Adds-one}
-use Rattle.gg_part_needs.proofs.marks.add_mark.Goals as goal
-
-pub returns : goal.returns
-returns c = Adds-one c.args.added c.args.signal c.args.marks.now c.requires

@@ -1,7 +1,0 @@
-use Rattle.std.proofs.Common.{take}
-use Rattle.gg_flat.specs.Reads.{Names}
-use Rattle.gg_part_needs.specs.Marks.{Adds}
-use Rattle.gg_part_needs.proofs.marks.add_nodes.Given as goal
-
-abbrev pub invariant-loop-node : goal.invariant-loop-node
-invariant-loop-node l = Adds l.added (Names (take l.node-index l.nodes)) l.initial.marks l.marks

@@ -1,7 +1,0 @@
-use Rattle.std.proofs.Common.{take}
-use Rattle.gg_part_needs.specs.Walk.{AreMarkedAmong}
-use Rattle.gg_part_needs.specs.Marks.{marks_of}
-use Rattle.gg_part_needs.proofs.needs.marked_ins.Given as goal
-
-abbrev pub invariant-loop-each : goal.invariant-loop-each
-invariant-loop-each l = AreMarkedAmong l.piece (marks_of l.place l.marks) (take l.each-index l.touched) l.ins.items

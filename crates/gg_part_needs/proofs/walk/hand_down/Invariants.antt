@@ -1,6 +1,0 @@
-use Rattle.std.proofs.Common.{◌-◌, length}
-use Rattle.gg_part_needs.proofs.WalkLemmas.{AreWalks}
-use Rattle.gg_part_needs.proofs.walk.hand_down.Given as goal
-
-abbrev pub invariant-loop-done : goal.invariant-loop-done
-invariant-loop-done l = AreWalks l.piece l._group (length l.piece.signals - l.done) l.marks

@@ -1,0 +1,25 @@
+use Rattle.std.proofs.Common.{◌≡◌, ◌+◌, ◌<◌, suc, length, sym, ap, ◌∙◌, arith}
+use Rattle.std.specs.Prelude.{drop}
+use Rattle.std.specs.List.{prefix_len}
+use Rattle.gg_rows.specs.Trays.{is_tray}
+use Rattle.gg_rows.proofs.CountLemmas.{len-ends, len-more, len-none}
+use Rattle.gg_rows.proofs.trays.trays_len.Goals as goal
+
+pub loop-number-init : goal.loop-number-init
+loop-number-init c = omega arith
+
+pub loop-number-preserved : goal.loop-number-preserved
+loop-number-preserved c =
+    let lt : c.loop-number.«number» < length c.args.machines.now = c.loop-number-test.true in
+    let x = c.index-machines-number.result in
+    let next = ap (λ k. prefix_len is_tray (drop k c.args.machines.now)) (let same : c.loop-number.«number» + 1 ≡ suc c.loop-number.«number» = omega arith in same) in
+    omega (arith, c.loop-number.invariant, next, len-more is_tray c.loop-number.«number» c.args.machines.now x lt (sym c.index-machines-number.is) (sym c.is_tray-tray.ensures ∙ grind (arith, c.if-not-tray.false)))
+
+pub returns-then-not-tray : goal.returns-then-not-tray
+returns-then-not-tray c =
+    let lt : c.loop-number.«number» < length c.args.machines.now = c.loop-number-test.true in
+    let x = c.index-machines-number.result in
+    omega (arith, c.loop-number.invariant, len-ends is_tray c.loop-number.«number» c.args.machines.now x lt (sym c.index-machines-number.is) (sym c.is_tray-tray.ensures ∙ grind (arith, c.if-not-tray.true)))
+
+pub returns : goal.returns
+returns c = omega (arith, c.loop-number.invariant, c.loop-number.auto.number-end, c.loop-number-test.false, len-none is_tray c.loop-number.«number» c.args.machines.now c.loop-number-test.false)

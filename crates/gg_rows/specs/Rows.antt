@@ -1,0 +1,84 @@
+-- What trays tell of a run, the rows of a circuit's outputs, and what host steps bring to trays.
+-- Source: MEMOCODE 2009 (the k-th token of a queue is the value of its signal in cycle k, so the sink of an output has the
+-- output's column, in whatever order the nodes go on); ICCAD 2019 (sinks at the outputs of a target).
+use Rattle.std.specs.Prelude.{◌≡◌, ℕ, ◌+◌, ◌<◌, ◌≤◌, List, Option, Some, length, map, unwrap_or}
+use Rattle.gg_flat.specs.Circuit.{FlatCircuit}
+use Rattle.gg_flat.specs.Line.{value_at}
+use Rattle.gg_flat.specs.Run.{Start, row_at}
+use Rattle.gg_flat.specs.Streams.{Flow}
+use Rattle.gg_build.specs.Build.{IsToRunFrom}
+use Rattle.gg_cut_plan.specs.declared.plan.Plan.{Plan}
+use Rattle.gg_cut_plan.specs.Seated.{first_kept_tray, plan_bridges}
+use Rattle.gg_net.specs.markings.Steps.{Steps}
+use Rattle.gg_measure.specs.Nets.{AllStandAt}
+use Rattle.gg_node.specs.Machine.{Behaviour, RunsPiece, GivesColumn, KeepsLast, Machine, machine_at, kept_value}
+use Rattle.gg_net.specs.declared.event.Event.{Event}
+use Rattle.gg_net.specs.Network.{Network, frame_of, wire_at}
+use Rattle.gg_cut_reference.specs.whole.Whole.{plan_circuit}
+use Rattle.gg_build.specs.plan.Built.{AreBuilt, body_start, plan_frame}
+
+-- ---- one tray
+
+-- what a machine tells of a cycle: the value that it keeps, and 0 if it keeps none or is no tray
+abbrev pub told_by : Behaviour → Option ℕ → ℕ
+told_by (RunsPiece piece) kept = 0
+told_by (GivesColumn column) kept = 0
+told_by (KeepsLast rows) kept = unwrap_or kept 0
+
+-- what a machine tells of this cycle
+abbrev pub told_value : Machine → ℕ → ℕ
+told_value machine cycle = told_by machine.behaviour (kept_value machine cycle)
+
+-- Machine m is a tray at the end of channel c, and still has the value of a cycle: the cycle is one of the last before
+-- the one that it is in, as many as it keeps, and none before `begin`.
+pub record StillHas (net : Network) (m c begin cycle : ℕ) : Type 0 where
+  pub there : m < length net.machines
+  pub known : c < length net.wires
+  pub taken : (wire_at net.wires c).consumer ≡ m
+  pub rows : ℕ
+  pub tray : (machine_at net.machines m).behaviour ≡ KeepsLast rows
+  pub begun : begin ≤ cycle
+  pub done : cycle < (machine_at net.machines m).cycle
+  pub last : (machine_at net.machines m).cycle ≤ cycle + rows
+
+-- ---- the network of a plan
+
+-- A network of a plan, at any time of its run from a start, with these tokens in its pipes at the start: its frame is that of the plan's
+-- network before its first step.
+pub record IsNetOfPlan (plan : Plan) (start : Start) (token : ℕ → ℕ) (columns : List (List ℕ)) (n : ℕ) (net : Network) : Type 0 where
+  pub machines : List Machine
+  pub built : AreBuilt plan (body_start start) columns machines
+  pub frame : frame_of net ≡ plan_frame token plan machines n
+
+-- A network of a plan, all of whose machines stand at this cycle.
+pub record StandsAt (plan : Plan) (start : Start) (token : ℕ → ℕ) (columns : List (List ℕ)) (n cycle : ℕ) (net : Network) : Type 0 where
+  pub of_plan : IsNetOfPlan plan start token columns n net
+  pub all : AllStandAt cycle net
+  pub within : cycle ≤ n
+
+-- the values of a circuit's outputs in a row
+abbrev pub outputs_in : FlatCircuit → List (List ℕ) → ℕ → List ℕ
+outputs_in circuit rows t = map (value_at (row_at rows t)) circuit.outs
+
+-- The trays of the plan's network: the number of the first, and how many there are.
+pub record AreTraysOf {plan : Plan} {start : Start} {columns : List (List ℕ)} {n : ℕ} {flow : Flow} (run : IsToRunFrom plan start columns n flow) (first count : ℕ) : Type 0 where
+  pub begin : first ≡ first_kept_tray (plan_bridges run.design.circuit run.design.tree run.request)
+  pub many : count ≡ length (plan_circuit run.design run.request run.models).outs
+
+-- the row of a cycle: the values of the out-signals of the plan's circuit in its run
+abbrev pub run_row : {plan : Plan} {start : Start} {columns : List (List ℕ)} {n : ℕ} {flow : Flow} → IsToRunFrom plan start columns n flow → (t : ℕ) → List ℕ
+run_row run t = outputs_in (plan_circuit run.design run.request run.models) run.rows t
+
+-- ---- what host steps bring to trays
+
+-- From this network host steps bring these values of a cycle to the machines from number `first` on, in order. Some steps, one
+-- after another, lead to a network in which each machine has done the cycle, and in which these machines have kept these values of
+-- it. And whatever steps are done, these machines never keep another value of the cycle.
+pub record TraysKeep (opening : Network) (first cycle : ℕ) (values : List ℕ) : Type 0 where
+  pub events : List (Option Event)
+  pub net : Network
+  pub leads : Steps opening events net
+  pub done : (m : ℕ) → m < length net.machines → cycle < (machine_at net.machines m).cycle
+  pub keep : (k : ℕ) → k < length values → kept_value (machine_at net.machines (first + k)) cycle ≡ Some (value_at values k)
+  pub only : (others : List (Option Event)) (other : Network) (k value : ℕ) → Steps opening others other → k < length values
+      → kept_value (machine_at other.machines (first + k)) cycle ≡ Some value → value ≡ value_at values k

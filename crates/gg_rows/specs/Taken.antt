@@ -1,0 +1,58 @@
+-- How the rows of a run were taken, one after another.
+-- Source: this program's own.
+use Rattle.std.specs.Prelude.{◌≡◌, ℕ, zero, suc, ◌<◌, ◌≤◌, ◌+◌, ◌⊎◌, List, Bool, true, false, Result, Ok, Err, IfErr}
+use Rattle.gg_measure.specs.Nets.{AllStandAt}
+use Rattle.gg_net.specs.Network.{Network, frame_of}
+use Rattle.gg_io.specs.declared.endings.Ending.{Ending}
+use Rattle.gg_io.specs.declared.endings.Ending.TheVariants.{NoMemory}
+use Rattle.gg_rows.specs.Rows.{TraysKeep}
+
+-- The first n rows from that of cycle `begin` on were taken, and after each of them it was to go on. `takes` tells what the taking of a row
+-- does: the value before, the cycle, the row, the value after, and the answer.
+abbrev pub TookTo : {T : Type 0} (takes : T → ℕ → List ℕ → T → Result Bool Ending → Type 0) (row : ℕ → List ℕ) (begin : ℕ) (before : T) (n : ℕ) (after : T) → Type 0
+TookTo takes row begin before zero after = after ≡ before
+TookTo {T = T} takes row begin before (suc n) after = (middle : T) × TookTo takes row begin before n middle × takes middle (begin + n) (row (begin + n)) after (Ok true)
+
+-- How the taking of n rows, from that of cycle `begin` on, has ended. `count` is the number of rows that were taken.
+pub data Took {T : Type 0} (takes : T → ℕ → List ℕ → T → Result Bool Ending → Type 0) (row : ℕ → List ℕ) (begin n count : ℕ) (before after : T) (result : Result Bool Ending) : Type 0 where
+  -- all of them were taken
+  All : (took : TookTo takes row begin before n after) (counts : count ≡ n) (ends : result ≡ Ok true) → Took takes row begin n count before after result
+  -- after t others a row was taken after which it wasn't to go on
+  Last : (t : ℕ) (within : t < n) (middle : T) (took : TookTo takes row begin before t middle) (last : takes middle (begin + t) (row (begin + t)) after (Ok false)) (counts : count ≡ suc t) (ends : result ≡ Ok false) → Took takes row begin n count before after result
+  -- after t others a row couldn't be taken
+  Fails : (t : ℕ) (within : t < n) (middle : T) (took : TookTo takes row begin before t middle) (ending : Ending) (fails : takes middle (begin + t) (row (begin + t)) after (Err ending)) (counts : count ≡ t) (ends : result ≡ Err ending) → Took takes row begin n count before after result
+  -- there was no memory for the row of the next cycle
+  Wants : (within : count ≤ n) (took : TookTo takes row begin before count after) (ends : result ≡ Err NoMemory) → Took takes row begin n count before after result
+
+-- A row was taken so, or couldn't be taken, whichever it was.
+pub record TakesSome {T : Type 0} (takes : T → ℕ → List ℕ → T → Result Bool Ending → Type 0) (before after : T) (answer : Result Bool Ending) : Type 0 where
+  pub cycle : ℕ
+  pub row : List ℕ
+  pub took : takes before cycle row after answer
+
+-- That happened n times, one after another.
+abbrev pub TookSome : {T : Type 0} (takes : T → ℕ → List ℕ → T → Result Bool Ending → Type 0) (before : T) (n : ℕ) (after : T) → Type 0
+TookSome takes before zero after = after ≡ before
+TookSome {T = T} takes before (suc n) after = (middle : T) × (answer : Result Bool Ending) × TookSome takes before n middle × TakesSome takes middle after answer
+
+-- What a run did, whatever its network: rows were taken one after another. If it failed, memory was refused, or a row couldn't be taken.
+pub record WentBy {T : Type 0} (takes : T → ℕ → List ℕ → T → Result Bool Ending → Type 0) (before after : T) (result : Result Bool Ending) : Type 0 where
+  pub count : ℕ
+  pub took : TookSome takes before count after
+  pub cause : IfErr result (λ ending. (ending ≡ NoMemory) ⊎ ((old : T) × (new : T) × TakesSome takes old new (Err ending)))
+
+-- The rows of a network's run were taken so, from that of cycle `begin` on, and they came to its trays from number `first` on.
+pub record Ran {T : Type 0} (takes : T → ℕ → List ℕ → T → Result Bool Ending → Type 0) (row : ℕ → List ℕ) (opening : Network) (first begin n : ℕ) (before after : T) (result : Result Bool Ending) : Type 0 where
+  pub count : ℕ
+  pub took : Took takes row begin n count before after result
+  pub kept : (t : ℕ) → t < count → TraysKeep opening first (begin + t) (row (begin + t))
+
+-- what a run answers besides its network: whether all rows were taken, or why not
+abbrev pub answer_of : {N : Type 0} → Result (N × Bool) Ending → Result Bool Ending
+answer_of (Ok ran) = Ok ran.1
+answer_of (Err ending) = Err ending
+
+-- The network that a run gave back: if all rows were taken, all machines stand at the end.
+pub record IsRanOut (old new : Network) (all : Bool) : Type 0 where
+  pub frame : frame_of new ≡ frame_of old
+  pub stands : all ≡ true → AllStandAt old.end new

@@ -1,0 +1,44 @@
+//! Laws: facts about the definitions. Each is the contract of a function with an empty body.
+ghost use Rattle.std.specs.Prelude.{ℕ, ◌+◌, ◌≤◌, List};
+ghost use Rattle.gg_flat.specs.Run.{Start};
+ghost use Rattle.gg_cut_plan.specs.declared.plan.Plan.{Plan};
+ghost use Rattle.gg_net.specs.Network.{Network};
+ghost use Rattle.gg_build.specs.Build.{IsOpeningFrom};
+ghost use Rattle.gg_build.specs.plan.Built.{tray_rows};
+ghost use Rattle.gg_rows.specs.Rows.{IsNetOfPlan};
+ghost use Rattle.gg_rows.specs.Window.{window_end};
+ghost use Rattle.gg_rows.specs.NetOfPlan.{NetsStayOfThePlan, OpeningsAreKept, TraysGetNothingElse, TraysGetTheOutputs, ZerosAreAStart};
+
+/// The network of a plan before its first step is a network of the plan.
+pub fn openings_are_nets()
+    ensures { (plan : Plan) (start : Start) (token : ℕ → ℕ) (columns : List (List ℕ)) (n : ℕ) (net : Network) → IsOpeningFrom plan start token columns n net → IsNetOfPlan plan start token columns n net }
+{}
+
+/// It is kept: all that holds of a network at all times holds of it.
+pub fn openings_are_kept()
+    ensures { OpeningsAreKept }
+{}
+
+/// The network of a plan before its first cycle, with zeros, is one that begins with the start of the whole run.
+pub fn zeros_are_a_start()
+    ensures { ZerosAreAStart }
+{}
+
+/// A network of a plan stays one as long as its frame stays.
+pub fn steps_keep_nets()
+    ensures { NetsStayOfThePlan }
+{}
+
+/// A window is no longer than what a tray of the network of a plan keeps: at its end the value of each of its cycles is
+/// still there.
+pub fn windows_are_kept()
+    ensures { (begun n t : ℕ) → begun ≤ t → window_end begun n ≤ t + tray_rows }
+{}
+
+/// A network that goes on from the network of a plan before its first step, and all of whose machines stand at the end of a
+/// window, has what host steps bring to the trays: for each cycle of the window the outputs of the reference circuit. Nothing else
+/// comes to the trays in any cycle.
+pub fn trays_keep_rows()
+    ensures keep { TraysGetTheOutputs }
+    ensures only { TraysGetNothingElse }
+{}

@@ -1,0 +1,73 @@
+//! The rows of a run, from the network of a plan.
+//!
+//! A tray keeps only the last values that it gets. So a network is run a window of cycles at a time, and between two windows the
+//! rows of the window are read and handed over to what takes them ([`Rows`]). The crate promises:
+//!
+//! - [`window_end`] returns where the next window ends: 1,024 cycles on, or at the end;
+//! - [`run_window`] runs a network up to the end of a window, by workers first and then by steps in the fixed order. All
+//!   machines then stand there, and no count is past it;
+//! - [`tray_value`] returns the value of a cycle that a tray keeps: the one that the tray's channel carries in that cycle;
+//! - [`trays_of`] tells which machines of a plan are its trays;
+//! - [`output_values`] returns the values of the circuit's out-signals in a cycle, from the network of a plan: those of the
+//!   run of the plan's circuit (the reference circuit with the models of the bridges);
+//! - host steps bring these values to the trays, and bring no others there, whatever steps are done ([`trays_keep_rows`]);
+//! - [`run_rows`] runs a network and hands over its rows, one after another, until one is the last. The rows are those of the
+//!   run of the plan's circuit, and host steps bring them to the trays. It is the one loop over windows;
+//! - [`RowPrinter`] writes a row, and goes on unless a stop acts in it; [`print_net`] prints the run of a plan's network so, and
+//!   [`print_from`] a run from any start. The text is that of the run of the plan's circuit, to the row of the first cycle in which a stop
+//!   acts;
+//! - [`run_to_stop`] runs a network to its end, and tells the first cycle in which a stop ends the run;
+//! - [`sum_net`] counts the network of a plan and the steps from its opening to its end, runs it, and folds its rows;
+//! - [`put_summary`] writes the four lines of a demo's summary, one piece each.
+//!
+//! The input that `demo` makes from a seed and a size, and its summary.
+//!
+//! A demo is a circuit of 1 to 64 stages in a row, a partition that makes a unit of each stage, and a trace of pseudo-random
+//! numbers. The definitions in `specs/` say what each text is, byte by byte:
+//!
+//! - the circuit (CircuitText), the partition (PartitionText) and the trace (TraceText);
+//! - the four lines of the summary (SummaryText).
+//!
+//! The crate promises that `circuit_text`, `partition_text` and `trace_text` return these texts, and that
+//! `size_line`, `network_line`, `last_line` and `fold_line` return the lines. A [`Fold`] keeps what the last two lines
+//! tell: it is given the rows one after another.
+#![tactic(auto)]
+
+mod laws;
+mod lines;
+mod printer;
+mod printing;
+mod rows;
+mod run;
+mod stopping;
+mod sums;
+mod taking;
+mod trays;
+mod window;
+
+pub use laws::{
+    openings_are_kept, openings_are_nets, steps_keep_nets, trays_keep_rows, windows_are_kept,
+    zeros_are_a_start,
+};
+pub use lines::put_summary;
+pub use printer::RowPrinter;
+pub use printing::{print_from, print_net};
+pub use rows::{output_values, tray_value};
+pub use run::run_rows;
+pub use stopping::run_to_stop;
+pub use sums::{Sums, sum_net};
+pub use taking::Rows;
+pub use trays::{Trays, trays_of};
+pub use window::{run_window, window_end};
+mod circuit;
+mod digits;
+mod fold;
+mod partition;
+mod summary;
+mod trace;
+
+pub use circuit::circuit_text;
+pub use fold::Fold;
+pub use partition::partition_text;
+pub use summary::{fold_line, last_line, network_line, size_line};
+pub use trace::trace_text;

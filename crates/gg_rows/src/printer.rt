@@ -1,0 +1,56 @@
+//! `RowPrinter`: rows are written.
+ghost use Rattle.std.specs.Prelude.{◌≡◌, ◌≤◌, length};
+ghost use Rattle.gg_rows.specs.Printed.{PrintsRow};
+
+use crate::taking::Rows;
+use gg_clocks::Ratio;
+use gg_io::{Ending, put};
+use gg_flat::Ports;
+use gg_io::Sink;
+use gg_trace::{acts, row_text};
+use std::alloc::Global;
+use std::marker::Model;
+
+/// Writes rows: of each the first values, one for each port. The others are conditions of stops, and the first row in which a stop acts
+/// is the last one. A stop acts in a cycle in which its clock has an edge.
+#[derive(Drop)]
+pub struct RowPrinter<'p> {
+    alloc: Global,
+    ports: &'p Ports,
+    // of the clocks of the stops
+    stops: &'p [Ratio],
+}
+
+impl<'p> Model for RowPrinter<'p> {
+    ghost use Rattle.gg_rows.specs.Printed.{RowForm};
+
+    ghost Value = { RowForm };
+
+    ghost view = { λ printer. record { ports = printer.ports.now; stops = printer.stops.now } };
+}
+
+impl<'p> RowPrinter<'p> {
+    /// For these ports, and for stops whose clocks have these ratios. Without ratios each clock has an edge in each cycle.
+    pub fn new(alloc: Global, ports: &'p Ports, stops: &'p [Ratio]) -> RowPrinter<'p>
+        ensures { result ≡ record { ports = ports.now; stops = stops.now } }
+    {
+        RowPrinter {
+            alloc,
+            ports,
+            stops,
+        }
+    }
+}
+
+impl<'p, K: Sink> Rows<K> for RowPrinter<'p> {
+    ghost can_take = { λ form count. length form.ports ≤ count };
+
+    ghost takes = { λ form. PrintsRow K.Sink form.stops form.ports };
+
+    fn take(&self, taken: &mut K, cycle: u64, values: &[u128]) -> Result<bool, Ending> {
+        let shown = self.ports.as_slice().len();
+        let text = row_text(self.alloc, self.ports, cycle, &values[..shown])?;
+        put(taken, text.as_bytes())?;
+        Ok(!acts(self.stops, cycle, &values[shown..]))
+    }
+}

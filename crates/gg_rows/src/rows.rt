@@ -1,0 +1,47 @@
+//! The values that trays keep.
+ghost use Rattle.std.specs.Prelude.{◌≡◌, ℕ, ◌+◌, ◌<◌, ◌≤◌, length};
+ghost use Rattle.gg_flat.specs.Line.{value_at};
+ghost use Rattle.gg_node.specs.Machine.{machine_at};
+ghost use Rattle.gg_net.specs.Kept.{list_at};
+ghost use Rattle.gg_rows.specs.Rows.{StillHas, told_value};
+ghost use Rattle.gg_rows.specs.RunPrinted.{AreOutputsOf};
+
+use gg_bridge::Bridge;
+use gg_build::Node;
+use gg_net::{Net, Streams};
+
+/// The value of a cycle that a tray keeps. It is the value that the tray's channel carries in that cycle. If the machine
+/// is no tray or doesn't keep the value, 0.
+pub fn tray_value<B: Bridge + Send + Drop, Z: Streams>(
+    net: &Net<Node<'_, B>, Z>,
+    machine: u32,
+    cycle: u64,
+) -> u128
+    requires { machine < length net.now.machines }
+    ensures told { result ≡ told_value (machine_at net.now.machines machine) cycle }
+    ensures carried { (c : ℕ) → StillHas net.now machine c Z.flow.begin cycle → result ≡ value_at (list_at Z.flow.lists c) cycle }
+{
+    net.kept();
+    net.host(machine).value(cycle).unwrap_or(0)
+}
+
+/// Writes the values of a cycle that the trays keep, in the order of their numbers, of which the first is `first`. In a network of a plan
+/// they are those of the out-signals of the plan's circuit in its run.
+///
+/// The network should stand at the end of the cycle's window, which is no longer than what a tray keeps, and there should
+/// be a place for each tray.
+pub fn output_values<B: Bridge + Send + Drop, Z: Streams>(
+    net: &Net<Node<'_, B>, Z>,
+    first: usize,
+    cycle: u64,
+    outs: &mut [u128],
+)
+    requires { first + length outs.old ≤ length net.now.machines }
+    ensures { AreOutputsOf Z.flow net.now first (length outs.old) cycle outs.new }
+{
+    net.kept();
+    net.within_limits();
+    for (k, out) in outs.iter_mut().enumerate() {
+        *out = tray_value(net, (first + k) as u32, cycle);
+    }
+}

@@ -1,0 +1,140 @@
+//! `run_rows`: a network is run window by window, and its rows are handed over.
+ghost use Rattle.std.specs.Prelude.{◌+◌, ◌≤◌, IfOk, length};
+ghost use Rattle.gg_bits.specs.Limits.{cycle_limit};
+ghost use Rattle.gg_measure.specs.Nets.{AllStandAt};
+ghost use Rattle.gg_rows.specs.RunTaken.{TakesTheRow, TakesTheRun, TakesTheWindow};
+ghost use Rattle.gg_rows.specs.Taken.{IsRanOut, TakesSome, WentBy, answer_of};
+
+use crate::rows::output_values;
+use crate::taking::Rows;
+use crate::window::{run_window, window_end};
+use gg_bridge::Bridge;
+use gg_build::Node;
+use gg_io::Ending;
+use gg_io::Gate;
+use gg_measure::Order;
+use gg_net::{Net, Streams};
+use gg_node::Host;
+use gg_ring::Ring;
+use std::alloc::Global;
+use std::thread::Threads;
+
+// Hands over the row of a cycle, from a network that stands at the end of the cycle's window. Returns whether to go on.
+fn take_cycle<B: Bridge + Send + Drop, Z: Streams, T, W: Rows<T>>(
+    net: &Net<Node<'_, B>, Z>,
+    first: usize,
+    cycle: u64,
+    outs: &mut [u128],
+    rows: &W,
+    taken: &mut T,
+) -> Result<bool, Ending>
+    requires within { cycle ≤ cycle_limit }
+    requires outs { first + length outs.old ≤ length net.now.machines }
+    requires can { W.can_take rows.now (length outs.old) }
+    ensures row { TakesTheRow (W.takes rows.now) Z.flow net.now first (length outs.old) cycle taken.old taken.new result }
+    ensures some { TakesSome (W.takes rows.now) taken.old taken.new result }
+{
+    output_values(net, first, cycle, outs);
+    rows.take(taken, cycle, outs)
+}
+
+// Hands over the rows of a window, from a network that stands at its end. Returns whether to go on.
+fn take_window<B: Bridge + Send + Drop, Z: Streams, T, W: Rows<T>>(
+    net: &Net<Node<'_, B>, Z>,
+    first: usize,
+    begun: u64,
+    upto: u64,
+    outs: &mut [u128],
+    rows: &W,
+    taken: &mut T,
+) -> Result<bool, Ending>
+    requires within { upto ≤ cycle_limit }
+    requires outs { first + length outs.old ≤ length net.now.machines }
+    requires can { W.can_take rows.now (length outs.old) }
+    ensures rows { TakesTheWindow (W.takes rows.now) Z.flow net.now first (length outs.old) begun upto taken.old taken.new result }
+    ensures went { WentBy (W.takes rows.now) taken.old taken.new result }
+{
+    for cycle in begun..upto {
+        let goes_on = take_cycle(net, first, cycle, outs, rows, taken)?;
+        if !goes_on {
+            return Ok(false);
+        }
+    }
+    Ok(true)
+}
+
+// An order with room for the steps of a cycle; without memory for it one that remembers nothing.
+fn order_of<H: Host, Z: Streams>(alloc: Global, net: &Net<H, Z>) -> Order {
+    match Order::new(alloc, net) {
+        Ok(order) => order,
+        Err(_) => Order::none(alloc),
+    }
+}
+
+/// Runs a network from its first cycle on, which is `begin`, window by window: by this many workers, and then by steps in the fixed
+/// order. After each window it hands over the rows of its cycles: the values of the out-signals of the plan's circuit, which the trays keep,
+/// from number `first` on. It ends with the
+/// network, or with a row after which it isn't to go on; no window begins then. Returns the network, and whether all rows were taken. If
+/// they were, all machines stand at the network's end.
+///
+/// # Errors
+///
+/// Returns why a row couldn't be taken, and `NoMemory` if an allocation fails.
+pub fn run_rows<
+    'n,
+    R: Threads + Sync,
+    B: Bridge + Send + Drop,
+    Z: Streams,
+    T,
+    W: Rows<T>,
+    G: Gate + Sync,
+>(
+    rt: &R,
+    alloc: Global,
+    net: Net<Node<'n, B>, Z>,
+    begin: u64,
+    workers: u32,
+    first: usize,
+    outs: &mut [u128],
+    rows: &W,
+    taken: &mut T,
+    gate: &G,
+) -> Result<(Net<Node<'n, B>, Z>, bool), Ending>
+    requires few { workers ≤ 64 }
+    requires opening { AllStandAt begin net }
+    requires within { begin ≤ net.end }
+    requires outs { first + length outs.old ≤ length net.machines }
+    requires can { W.can_take rows.now (length outs.old) }
+    ensures ran { TakesTheRun (W.takes rows.now) Z.flow net.entry begin first (length outs.old) taken.old taken.new (answer_of result) }
+    ensures out { IfOk result (λ r. IsRanOut net.entry r.0 r.1) }
+    ensures went { WentBy (W.takes rows.now) taken.old taken.new (answer_of result) }
+{
+    net.within_limits();
+    let end = net.end();
+    let mut net = net;
+    let mut order = order_of(alloc, &net);
+    let mut begun = begin;
+    while begun < end {
+        let upto = window_end(begun, end);
+        net = match run_window::<R, Node<'n, B>, Ring, Z, G>(
+            rt,
+            (),
+            alloc,
+            net,
+            workers,
+            upto,
+            &mut order,
+            gate,
+        ) {
+            Ok(net) => net,
+            Err(_) => return Err(Ending::NoMemory),
+        };
+        net.kept();
+        let goes_on = take_window(&net, first, begun, upto, outs, rows, taken)?;
+        if !goes_on {
+            return Ok((net, false));
+        }
+        begun = upto;
+    }
+    Ok((net, true))
+}

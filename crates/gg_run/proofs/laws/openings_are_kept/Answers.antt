@@ -1,5 +1,0 @@
-use Rattle.gg_run.proofs.OpeningLemmas.{opening-kept}
-use Rattle.gg_run.proofs.laws.openings_are_kept.Goals as goal
-
-pub returns : goal.returns
-returns c = λ plan start columns n flow run net opens. opening-kept plan start columns n flow run net opens

@@ -1,5 +1,0 @@
-use Rattle.std.proofs.Common.{arith}
-use Rattle.gg_run.proofs.laws.windows_are_kept.Goals as goal
-
-pub returns : goal.returns
-returns c = λ begun n t low. omega (arith, low)

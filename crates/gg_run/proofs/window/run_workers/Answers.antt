@@ -1,5 +1,0 @@
-use Rattle.gg_run.proofs.WindowLemmas.{worked}
-use Rattle.gg_run.proofs.window.run_workers.Goals as goal
-
-pub returns-clause-within : goal.returns-clause-within
-returns-clause-within g c = worked c.args.workers c.args.upto g.Z.Streams.flow c.args.net c.work.result c.work.ensures.later c.work.ensures.none

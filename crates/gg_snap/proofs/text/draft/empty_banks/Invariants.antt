@@ -1,0 +1,6 @@
+use Rattle.std.proofs.Common.{◌≡◌, map, take}
+use Rattle.gg_flat.specs.Memory.{opening_bank}
+use Rattle.gg_snap.proofs.text.draft.empty_banks.Given as goal
+
+abbrev pub invariant-loop-memory : goal.invariant-loop-memory
+invariant-loop-memory l = l.banks.items ≡ map (λ memory. opening_bank memory) (take l.memory-index l.memories)

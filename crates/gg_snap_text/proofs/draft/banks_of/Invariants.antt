@@ -1,5 +1,0 @@
-use Rattle.std.proofs.Common.{◌≡◌}
-use Rattle.gg_snap_text.proofs.draft.banks_of.Given as goal
-
-abbrev pub invariant-loop-bank : goal.invariant-loop-bank
-invariant-loop-bank l = l.banks.items ≡ l.yielded

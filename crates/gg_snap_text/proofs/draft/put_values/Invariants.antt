@@ -1,6 +1,0 @@
-use Rattle.std.proofs.Common.{◌≡◌, drop, length}
-use Rattle.gg_snap_text.specs.Parts.{put}
-use Rattle.gg_snap_text.proofs.draft.put_values.Given as goal
-
-abbrev pub invariant-loop-i : goal.invariant-loop-i
-invariant-loop-i l = (length l.old ≡ length l.initial.old) × (put l.old (drop l.i l.places) (drop l.i l.values) ≡ put l.initial.old l.places l.values)

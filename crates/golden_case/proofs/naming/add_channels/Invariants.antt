@@ -1,5 +1,0 @@
-use Rattle.std.proofs.Common.{◌≡◌, ◌++◌, map, take}
-use Rattle.golden_case.proofs.naming.add_channels.Given as goal
-
-abbrev pub invariant-loop-channel : goal.invariant-loop-channel
-invariant-loop-channel l = l.names ≡ record l.initial.names { channels = l.initial.names.channels ++ map (λ channel. channel.name) (take l.channel-index l.channels) }

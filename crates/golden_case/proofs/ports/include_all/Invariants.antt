@@ -1,5 +1,0 @@
-use Rattle.golden_case.proofs.OpenLemmas.{HasMore}
-use Rattle.golden_case.proofs.ports.include_all.Given as goal
-
-abbrev pub invariant-loop-name : goal.invariant-loop-name
-invariant-loop-name l = HasMore l.initial.set l.names l.name-index l.set

@@ -1,5 +1,0 @@
-use Rattle.golden_case.proofs.OpenLemmas.{HasListed}
-use Rattle.golden_case.proofs.ports.seen_by.Given as goal
-
-abbrev pub invariant-loop-entry : goal.invariant-loop-entry
-invariant-loop-entry l = HasListed (λ entry. entry.sees) l.bridges l.entry-index l.set

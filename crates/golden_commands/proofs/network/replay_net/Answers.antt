@@ -1,0 +1,32 @@
+use Rattle.std.proofs.Common.{refl, ap, ◌∙◌, subst}
+use Rattle.gg_replay.specs.Log.{opening_log}
+use Rattle.gg_replay.specs.Stopping.{IsStop}
+use Rattle.gg_replay.specs.declared.fault.ReplayFault.{ReplayFault}
+use Rattle.gg_io.specs.Endings.{PrintsText}
+use Rattle.golden_commands.proofs.NetLemmas.{opening-right, wires-stay, net-goes, net-stopped, told-so}
+use Rattle.golden_commands.proofs.network.replay_net.Goals as goal
+
+pub replay-requires-clause-logged : goal.replay-requires-clause-logged
+replay-requires-clause-logged g c κs within =
+    let fed = c.args.fed.now in
+    opening-right fed.case.cut.plan fed.trace.columns fed.trace.rows g.Z.Streams.flow c.in_ok-net.net c.in_ok-net.ensures
+    c.in_ok-log.log c.shape.result.now.wires.items c.requires.run c.kept.ensures c.shape.ensures.wires (c.in_ok-log.ensures ∙ ap opening_log c.as_slice.ensures.value)
+
+pub print_net-requires-clause-wires : goal.print_net-requires-clause-wires
+print_net-requires-clause-wires g c κs within =
+    let fed = c.args.fed.now in
+    wires-stay fed.case.cut.plan fed.trace.columns fed.trace.rows g.Z.Streams.flow c.in_ok-net.net c.in_ok-net.ensures
+    c.args.events.now c.replay.new.net c.in-Ok.ensures.done.0
+
+pub returns-in-Ok-clause-ended : goal.returns-in-Ok-clause-ended
+returns-in-Ok-clause-ended g c =
+    PrintsText _
+    (net-goes c.args.fed.now g.Z.Streams.flow c.in_ok-net.net c.in_ok-net.ensures c.kept.ensures c.args.events.now c.replay.new.net c.in-Ok.ensures.done.0)
+    c.print_net.ensures.prints
+
+pub returns-in-Err-Refused-clause-ended : goal.returns-in-Err-Refused-clause-ended
+returns-in-Err-Refused-clause-ended g c =
+    net-stopped c.args.fed.now g.Z.Streams.flow c.in_ok-net.net c.in_ok-net.ensures c.kept.ensures c.args.events.now c.replay.new.net c.args.names.now
+    (record { step = c.in-Err-Refused.step; cause = c.in-Err-Refused.cause }) c.end_at_step.result refl
+    (subst (λ (s : ReplayFault). IsStop c.in_ok-net.net c.args.events.now c.replay.new.net s) c.in-Err-Refused.field-0-is c.in-Err-Refused.ensures.refused)
+    (told-so c.args.names.now c.args.events.now c.end_at_step.result _ _ _ _ c.in-Err-Refused.step-is c.in-Err-Refused.cause-is c.end_at_step.ensures)

@@ -1,0 +1,100 @@
+-- The network of a plan on a trace: where the steps of a file lead it, and what is then printed or reported.
+-- Source: this program's own.
+use Rattle.std.specs.Prelude.{◌≡◌, ℕ, ◌<◌, ◌^◌, List, Option, flat_map, length, map, take}
+use Rattle.std.specs.List.{range_with_len}
+use Rattle.gg_flat.specs.Line.{value_at}
+use Rattle.gg_flat.specs.Streams.{Flow}
+use Rattle.gg_flat_tree.specs.Tree.{InstanceTree, path_at}
+use Rattle.gg_cut_plan.specs.Bridges.{Models}
+use Rattle.gg_cut_plan.specs.declared.plan.Plan.{Plan}
+use Rattle.gg_node.specs.Machine.{Machine}
+use Rattle.gg_net.specs.declared.event.Event.{Event}
+use Rattle.gg_net.specs.Kept.{Kept, list_at}
+use Rattle.gg_net.specs.Net.{opening_net}
+use Rattle.gg_net.specs.Network.{Network, puts, entered, takes}
+use Rattle.gg_net.specs.markings.Goes.{Stopped}
+use Rattle.gg_net.specs.markings.Steps.{Steps, StopsAt}
+use Rattle.gg_build.specs.plan.Built.{AreBuilt, no_token, opening_of, wires_of_plan}
+use Rattle.gg_build.specs.Build.{IsToRun, flow_along}
+use Rattle.gg_replay.specs.steps_file.Naming.{Naming}
+use Rattle.gg_replay.specs.ReplayText.{channel_line}
+use Rattle.gg_io.specs.Said.{Said}
+use Rattle.golden_commands.specs.Replay.{port_names, stopped_by}
+use Rattle.golden_commands.specs.declared.case.Case.{Case}
+use Rattle.golden_commands.specs.declared.case.Fed.{Fed}
+
+-- ---- names
+
+-- the names of a plan's channels, machines and ports
+abbrev pub plan_naming : Plan → InstanceTree → Naming
+plan_naming plan tree =
+    record {
+      channels = map (λ channel. channel.name) plan.channels;
+      machines = map (λ machine. machine.name) plan.machines;
+      ports = map (port_names tree plan.listed) (range_with_len 0 (length plan.machines));
+    }
+
+-- Numbers of 32 bits suffice for these names.
+pub record AreFewNames (plan : Plan) (tree : InstanceTree) : Type 0 where
+  pub channels : length plan.channels < 2 ^ 32
+  pub machines : length plan.machines < 2 ^ 32
+  pub ports : (m : ℕ) → length (port_names tree plan.listed m) < 2 ^ 32
+
+-- the names of a case's plan
+abbrev pub case_naming : Case → Naming
+case_naming case = plan_naming case.cut.plan case.design.tree
+
+-- ---- lines
+
+-- the name and the width of channel c of a plan
+abbrev pub name_in : Plan → ℕ → List ℕ
+name_in plan c = path_at (map (λ channel. channel.name) plan.channels) c
+
+-- the width of the channel with number c; 0 if there is none
+abbrev pub width_in : Plan → ℕ → ℕ
+width_in plan c = value_at (map (λ channel. channel.ty.width) plan.channels) c
+
+-- the line of channel c, if the channels carry the values of this flow
+abbrev pub net_line : Plan → Flow → Network → ℕ → List ℕ
+net_line plan flow net c = channel_line (name_in plan c) (width_in plan c) (puts net c) (takes net c) (take (entered net c) (list_at flow.lists c))
+
+-- the lines of all channels
+abbrev pub net_text : Plan → Flow → Network → List ℕ
+net_text plan flow net = flat_map (net_line plan flow net) (range_with_len 0 (length plan.channels))
+
+-- ---- steps
+
+-- what the plan's network computes on the trace, with these models
+abbrev pub fed_flow : Models → Fed → Flow
+fed_flow models fed = flow_along fed.case.design fed.case.cut.request models fed.case.cut.plan fed.trace.columns fed.trace.rows
+
+-- the plan's network can be built for this flow
+abbrev pub IsToReplay : Fed → Flow → Type 0
+IsToReplay fed flow = IsToRun fed.case.cut.plan fed.trace.columns fed.trace.rows flow
+
+-- the plan's network before its first cycle, with these machines
+abbrev pub fed_opening : Fed → List Machine → Network
+fed_opening fed machines = opening_net machines (wires_of_plan no_token fed.case.cut.plan) fed.trace.rows
+
+-- The machines of the plan's network, which carries the values of this flow.
+pub record Opened (fed : Fed) (flow : Flow) (machines : List Machine) : Type 0 where
+  pub built : AreBuilt fed.case.cut.plan (opening_of fed.case.cut.plan.ratios) fed.trace.columns machines
+  pub kept : Kept flow (fed_opening fed machines)
+
+-- The text of the network that these steps lead to.
+pub record IsNetText (fed : Fed) (flow : Flow) (events : List (Option Event)) (text : List ℕ) : Type 0 where
+  pub machines : List Machine
+  pub opened : Opened fed flow machines
+  pub net : Network
+  pub steps : Steps (fed_opening fed machines) events net
+  pub is : text ≡ net_text fed.case.cut.plan flow net
+
+-- This is reported for these steps, which stop at one.
+pub record TellsStop (fed : Fed) (flow : Flow) (naming : Naming) (events : List (Option Event)) (said : Said) : Type 0 where
+  pub machines : List Machine
+  pub opened : Opened fed flow machines
+  -- the network before the step that is refused
+  pub net : Network
+  pub stopped : Stopped
+  pub stops : StopsAt 1 (fed_opening fed machines) events net stopped
+  pub is : said ≡ stopped_by naming events stopped

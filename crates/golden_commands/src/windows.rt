@@ -1,0 +1,88 @@
+//! Printing of the run of a circuit from the network of a plan.
+ghost use Rattle.std.specs.Prelude.{◌≡◌, ◌≤◌, ℕ, List, IfOk, length};
+ghost use Rattle.gg_cut_reference.specs.whole.Whole.{plan_circuit};
+ghost use Rattle.gg_build.specs.Build.{HasBridges};
+ghost use Rattle.gg_cut_plan.specs.Seated.{first_kept_tray, plan_bridges};
+ghost use Rattle.gg_rows.specs.Printed.{AreKept, out_columns, plan_stops, rows_to, text_of};
+ghost use Rattle.gg_io.specs.Endings.{PrintsOn};
+ghost use Rattle.gg_io.specs.WentOn.{SinkWentOn};
+ghost use Rattle.golden_commands.specs.Case.{IsFed, PrintsFedByNetwork};
+ghost use Rattle.golden_commands.specs.Partition.{to_run};
+ghost use Rattle.golden_commands.specs.Replayed.{IsToReplay};
+
+use crate::case::Fed;
+use crate::ports::shown_ports;
+use gg_bits::Name;
+use gg_bridge::Bridge;
+use gg_io::Ending;
+use gg_cut_plan::Models;
+use gg_flat::Ports;
+use gg_io::{Gate, Sink};
+use gg_net::Streams;
+use gg_rows::print_net;
+use std::alloc::Global;
+use std::marker::Brand;
+use std::thread::Threads;
+
+// Prints the run of a design on a trace, from the network of the plan, whose channels carry the values of a flow.
+fn print_flow<R: Threads + Sync, B: Bridge + Send + Drop, Z: Streams, K: Sink, G: Gate + Sync>(
+    rt: &R,
+    alloc: Global,
+    fed: &Fed,
+    _models: &Models,
+    ports: &Ports,
+    bridges: Vec<(Name, B)>,
+    workers: u32,
+    out: &mut K,
+    gate: &G,
+) -> Result<(), Ending>
+    requires few { workers ≤ 64 }
+    requires run { (run : IsToReplay fed.now Z.flow) × (run.design ≡ fed.now.case.design) × (length ports.now ≤ length (plan_circuit run.design run.request run.models).outs) }
+    requires bridges { HasBridges B.piece B.state fed.now.case.cut.plan bridges.items }
+    ensures prints { (run : IsToReplay fed.now Z.flow) → run.design ≡ fed.now.case.design
+        → PrintsOn K.Sink out.old out.new (text_of (plan_stops run.design run.request) (plan_circuit run.design run.request run.models) ports.now run.rows fed.now.trace.rows) result }
+    ensures kept { IfOk result (λ done. (run : IsToReplay fed.now Z.flow) → run.design ≡ fed.now.case.design
+        → AreKept fed.now.case.cut.plan fed.now.trace.columns fed.now.trace.rows (first_kept_tray (plan_bridges run.design.circuit run.design.tree run.request)) (rows_to (plan_stops run.design run.request) (plan_circuit run.design run.request run.models) ports.now run.rows fed.now.trace.rows) (out_columns (plan_circuit run.design run.request run.models) run.rows)) }
+    ensures out { SinkWentOn K.Sink out.old out.new }
+{
+    let case = &fed.case;
+    print_net::<R, B, Z, K, G>(
+        rt,
+        alloc,
+        &case.design,
+        &case.cut.plan,
+        &fed.trace,
+        ports,
+        workers,
+        bridges,
+        out,
+        gate,
+    )
+}
+
+// Prints the run of a design on a trace, with its pipes, clocks and bridges, from the network of the plan: the top's outputs that no bridge
+// sees, cycle by cycle, to the first cycle in which a stop acts. The network is run by this many workers. Host steps bring the rows to its
+// trays.
+///
+/// # Errors
+///
+/// Returns `Unwritten` if a put fails, and `NoMemory` if an allocation fails.
+pub fn print_fed<R: Threads + Sync, B: Bridge + Send + Drop, K: Sink, G: Gate + Sync>(
+    rt: &R,
+    alloc: Global,
+    fed: &Fed,
+    models: &Models,
+    bridges: Vec<(Name, B)>,
+    workers: u32,
+    out: &mut K,
+    gate: &G,
+) -> Result<(), Ending>
+    requires fed { (circuit : List ℕ) × (partition : List ℕ) × (trace : List ℕ) × (capacity : ℕ) × IsFed (to_run models.now) circuit partition trace capacity fed.now }
+    requires bridges { HasBridges B.piece B.state fed.now.case.cut.plan bridges.items }
+    requires few { workers ≤ 64 }
+    ensures prints { PrintsFedByNetwork models.now K.Sink out.old out.new fed.now result }
+    ensures out { SinkWentOn K.Sink out.old out.new }
+{
+    let ports = shown_ports(alloc, &fed.case.design, &fed.case.cut.request)?;
+    print_flow::<R, B, Brand, K, G>(rt, alloc, fed, models, &ports, bridges, workers, out, gate)
+}

@@ -1,0 +1,106 @@
+//! The program golden with a bridge of its own: `fifo8`, a FIFO with four places of 8 bits each, which it hands in. It shows what a program with
+//! bridges of its own has to do. The words of its call are those of golden.
+//!
+//! An example of a bridge that golden doesn't have: a FIFO with four places, in the host's own code.
+//!
+//! A [`Fifo`] keeps to a flat circuit, which specs/Fifo has. That it does is proved, so a run with it is a run of the circuit that has this
+//! flat circuit at the bridge's ports.
+#![tactic(auto)]
+
+ghost use Rattle.std.specs.Prelude.{◌≡◌, [], ◌∷◌, codes, length, IfOk};
+ghost use Rattle.gg_flat.specs.State.{opening};
+
+use crate::Fifo;
+use gg_bits::Name;
+use gg_bridge::Bridge;
+use gg_io::{FileShelf, NoGate, Shelf, Sink, StreamSink};
+use golden::golden_with;
+use std::alloc::{AllocError, Global};
+use std::process::ExitCode;
+use std::thread::Threads;
+use std::{env, io};
+
+// The status and the line for a call whose words or whose bridge can't be allocated.
+const OUT_OF_MEMORY: u8 = 5;
+
+const OUT_OF_MEMORY_LINE: &[u8] = b"golden: out of memory\n";
+
+// The words of the call: the program's own name, then the arguments.
+fn words(rt: &HostRuntime, alloc: Global) -> io::Result<Vec<String>> {
+    let mut words = Vec::new(alloc);
+    words.push(String::from_str(alloc, "golden")?)?;
+    for word in env::args(rt)?.skip(1) {
+        words.push(word)?;
+    }
+    Ok(words)
+}
+
+// A list of this bridge, with its name.
+fn named(
+    alloc: Global,
+    fifo: Box<dyn Bridge + Send + Drop>,
+) -> Result<Vec<(Name, Box<dyn Bridge + Send + Drop>)>, AllocError>
+    ensures { IfOk result (λ bridges. bridges.items ≡ (codes "fifo8", fifo) ∷ []) }
+{
+    let mut bridges = Vec::new(alloc);
+    bridges.push((Name::from_str(alloc, "fifo8")?, fifo))?;
+    Ok(bridges)
+}
+
+// Calls `golden_with` with these words and this bridge, which is in the state of zeros. Returns its status.
+fn call_with<R: Threads + Sync, S: Shelf, K: Sink, E: Sink>(
+    rt: &R,
+    alloc: Global,
+    words: &[String],
+    shelf: &mut S,
+    out: &mut K,
+    err: &mut E,
+    fifo: Box<dyn Bridge + Send + Drop>,
+) -> Result<u8, AllocError>
+    requires zeros { state fifo ≡ opening (piece fifo) }
+    requires few { length (piece fifo).signals ≡ 11 }
+{
+    let bridges = named(alloc, fifo)?;
+    Ok(golden_with(rt, alloc, words, shelf, out, err, &NoGate, bridges))
+}
+
+// Calls `golden_with` with these words and the FIFO. Returns its status.
+fn call<R: Threads + Sync, S: Shelf, K: Sink, E: Sink>(
+    rt: &R,
+    alloc: Global,
+    words: &[String],
+    shelf: &mut S,
+    out: &mut K,
+    err: &mut E,
+) -> Result<u8, AllocError> {
+    let fifo: Box<dyn Bridge + Send + Drop> = Box::new(alloc, Fifo::new(alloc, 8)?)?;
+    call_with(rt, alloc, words, shelf, out, err, fifo)
+}
+
+// The status for want of memory before the call, after its line.
+fn out_of_memory(rt: HostRuntime) -> ExitCode {
+    let mut err = StreamSink::new(rt.stderr());
+    let _ = err.put(OUT_OF_MEMORY_LINE);
+    ExitCode::from(OUT_OF_MEMORY)
+}
+
+fn main(rt: HostRuntime) -> ExitCode {
+    let alloc = rt.alloc();
+    let words = match words(&rt, alloc) {
+        Ok(words) => words,
+        Err(error) if error.kind() == io::ErrorKind::OutOfMemory => return out_of_memory(rt),
+        // An argument isn't UTF-8. `golden_with` gets no words, which aren't a command either.
+        Err(_) => Vec::new(alloc),
+    };
+    let mut shelf = FileShelf::new(rt);
+    let mut out = StreamSink::new(rt.stdout());
+    let mut err = StreamSink::new(rt.stderr());
+    match call(&rt, alloc, words.as_slice(), &mut shelf, &mut out, &mut err) {
+        Ok(status) => ExitCode::from(status),
+        Err(_) => out_of_memory(rt),
+    }
+}
+mod fifo;
+mod model;
+
+pub use fifo::Fifo;

@@ -1,0 +1,7 @@
+//! Tests of `golden_with` on how a run goes: clocks of several ratios, stops, more cycles than a tray keeps values, and workers. Its form is that of
+//! golden_tests.
+#![tactic(auto)]
+
+#[cfg(test)]
+mod tests;
+mod snaps;

@@ -1,6 +1,0 @@
-use Rattle.std.proofs.Common.{[], ◌∷◌}
-use Rattle.link_tests.proofs.calls.first_wrong.Given as goal
-
--- the one channel carries the values
-abbrev pub ghosts-answers : goal.ghosts-answers
-ghosts-answers g a = record { flow = record { lists = a.values.now ∷ []; runs = []; begin = 0; states = [] } }

@@ -1,6 +1,0 @@
-use Rattle.std.proofs.Common.{[], ◌∷◌}
-use Rattle.link_tests.proofs.threads.carries_a_million.Given as goal
-
--- the one channel carries the values
-abbrev pub ghosts-carries : goal.ghosts-carries
-ghosts-carries g a = record { flow = record { lists = a.values.now ∷ []; runs = []; begin = 0; states = [] } }

@@ -1,0 +1,3 @@
+pub mod BridgesLemmas
+pub mod CircuitsLemmas
+pub mod WorkersLemmas

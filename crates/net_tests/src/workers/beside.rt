@@ -1,0 +1,32 @@
+//! Two workers run side by side, with queues.
+use crate::workers::runs::{Row, Table, is_expected};
+use gg_ruled::Ruled;
+use net_helpers::{Meeting, PAIR, PAIR_TRACE};
+use std::alloc::Global;
+use std::sync::Wait;
+use std::thread::Threads;
+
+// A run of the two units. All of its 42 steps may be left but one, that of the source.
+const RUN: Row = (0, 2, 2, 0, 41);
+
+// Two units that feed each other in one cycle.
+static BOTH: Table = Table {
+    circuit: PAIR,
+    partition: "{\"units\":[\"a\",\"b\"]}",
+    trace: PAIR_TRACE,
+    beside: false,
+    kept: &[0x11, 0x83],
+    rows: &[RUN],
+};
+
+// Whether that run with queues, at this gate, leaves what is expected.
+fn meets<R: Threads + Wait + Copy + Send + Sync>(rt: R, alloc: Global, gate: &Meeting) -> bool {
+    is_expected::<R, Ruled<R>, Meeting>(&rt, rt, alloc, &BOTH, RUN, gate)
+}
+
+#[test]
+fn two_workers_meet(rt: HostRuntime) {
+    let gate = Meeting::new();
+    let is_right = meets(rt, rt.alloc(), &gate) && gate.has_met();
+    assert!(rt; is_right);
+}

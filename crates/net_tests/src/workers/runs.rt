@@ -1,0 +1,249 @@
+//! Runs of a network by workers.
+ghost use Rattle.std.specs.Prelude.{◌≡◌, []};
+ghost use Rattle.gg_build.specs.Build.{IsToRun, NeedsNone};
+ghost use Rattle.gg_cut_plan.specs.Fault.{IsSmall};
+ghost use Rattle.gg_flat.specs.Run.{IsColumns};
+ghost use Rattle.gg_part.specs.KeepsToTree.{KeepsToTree};
+ghost use Rattle.gg_cut_plan.specs.Held.{AreHeldOnce};
+ghost use Rattle.gg_cut_reference.specs.whole.Whole.{HasFreeFronts};
+
+use crate::workers::optional_node::{OptionalNode, beside_none};
+use gg_bridge::Echo;
+use gg_build::Node;
+use gg_cut::cut;
+use gg_cut_plan::{Models, Plan};
+use gg_io::Gate;
+use gg_link::Link;
+use gg_measure::{left, run_to, run_to_end};
+use gg_net::{Net, Streams};
+use gg_order::Design;
+use gg_partfile::Request;
+use gg_trace::Trace;
+use gg_workers::work;
+use net_helpers::{build_alone, design_of, inputs_of, is_at_most, keeps, request_of};
+use std::alloc::Global;
+use std::marker::Brand;
+use std::thread::Threads;
+
+// A run by workers, and what is expected of it: the cycle to which the network is brought before the run, the workers, the cycle up to
+// which they step its machines, and how many steps are left after it, at least and at most.
+pub(crate) type Row = (u64, u32, u64, u64, u64);
+
+// Runs of one network, each from the opening.
+pub(crate) struct Table {
+    pub(crate) circuit: &'static str,
+    pub(crate) partition: &'static str,
+    pub(crate) trace: &'static str,
+    // whether a host without threads is beside the others
+    pub(crate) beside: bool,
+    // what the last machine, a tray, keeps at the end
+    pub(crate) kept: &'static [u128],
+    pub(crate) rows: &'static [Row],
+}
+
+// Brings a network to a cycle, if that lies before it.
+fn bring<Z: Streams>(net: &mut Net<Node<'_, Echo>, Z>, cycle: u64) {
+    if cycle <= net.end() && is_at_most(net, cycle) {
+        run_to(net, cycle);
+    }
+}
+
+// Whether a network is as expected after a run, and at its end.
+fn ends<Z: Streams>(net: &mut Net<Node<'_, Echo>, Z>, table: &Table, row: Row) -> bool {
+    let (_, _, _, least, most) = row;
+    let rest = left(net);
+    run_to_end(net);
+    least <= rest && rest <= most && left(net) == 0 && keeps(net, table.kept)
+}
+
+// Whether the last machine keeps these values, one for each cycle from 0 on.
+fn keeps_beside<Z: Streams>(net: &Net<OptionalNode<'_>, Z>, values: &[u128]) -> bool {
+    net.within_limits();
+    let machines = net.machines();
+    if machines == 0 {
+        return false;
+    }
+    let tray = net.host((machines - 1) as u32);
+    for (cycle, value) in values.iter().enumerate() {
+        if tray.value(cycle as u64) != Some(*value) {
+            return false;
+        }
+    }
+    tray.value(values.len() as u64).is_none()
+}
+
+// Whether such a network is as expected after a run, and at its end.
+fn ends_beside<Z: Streams>(net: &mut Net<OptionalNode<'_>, Z>, table: &Table, row: Row) -> bool {
+    let (_, _, _, least, most) = row;
+    let rest = left(net);
+    run_to_end(net);
+    least <= rest && rest <= most && left(net) == 0 && keeps_beside(net, table.kept)
+}
+
+// Whether a run of such a network leaves what is expected.
+fn goes_beside<R: Threads + Sync, L: Link, Z: Streams, G: Gate + Sync>(
+    rt: &R,
+    home: L::Home,
+    alloc: Global,
+    net: Net<OptionalNode<'_>, Z>,
+    table: &Table,
+    row: Row,
+    gate: &G,
+) -> bool {
+    let (_, workers, upto, _, _) = row;
+    let workers = workers.min(64);
+    match work::<R, OptionalNode<'_>, L, Z, G>(rt, home, alloc, net, workers, upto, gate) {
+        Ok(mut net) => ends_beside(&mut net, table, row),
+        Err(_) => false,
+    }
+}
+
+// Whether a run of a network that is before its first cycle leaves what is expected.
+fn goes<R: Threads + Sync, L: Link, Z: Streams, G: Gate + Sync>(
+    rt: &R,
+    home: L::Home,
+    alloc: Global,
+    mut net: Net<Node<'_, Echo>, Z>,
+    table: &Table,
+    row: Row,
+    gate: &G,
+) -> bool {
+    let (begin, workers, upto, _, _) = row;
+    bring(&mut net, begin);
+    if table.beside {
+        return match beside_none::<Z>(alloc, net) {
+            Ok(net) => goes_beside::<R, L, Z, G>(rt, home, alloc, net, table, row, gate),
+            Err(_) => false,
+        };
+    }
+    let workers = workers.min(64);
+    match work::<R, Node<'_, Echo>, L, Z, G>(rt, home, alloc, net, workers, upto, gate) {
+        Ok(mut net) => ends(&mut net, table, row),
+        Err(_) => false,
+    }
+}
+
+// Whether a run of the network of a plan without bridges leaves what is expected. What it computes is picked where this is called, by the
+// design and the request.
+fn is_run<R: Threads + Sync, L: Link, Z: Streams, G: Gate + Sync>(
+    rt: &R,
+    home: L::Home,
+    alloc: Global,
+    _design: &Design,
+    _request: &Request,
+    _models: &Models,
+    plan: &Plan,
+    inputs: &Trace,
+    table: &Table,
+    row: Row,
+    gate: &G,
+) -> bool
+    requires run { IsToRun plan.now inputs.now.columns inputs.now.rows Z.flow }
+    requires alone { NeedsNone plan.now }
+{
+    match build_alone::<Z>(alloc, plan, inputs) {
+        Ok(net) => goes::<R, L, Z, G>(rt, home, alloc, net, table, row, gate),
+        Err(_) => false,
+    }
+}
+
+// Whether a run of the network of a design and a request without bridges, whose channels have capacity 1, leaves what is expected.
+fn is_planned<R: Threads + Sync, L: Link, G: Gate + Sync>(
+    rt: &R,
+    home: L::Home,
+    alloc: Global,
+    design: &Design,
+    request: &Request,
+    inputs: &Trace,
+    table: &Table,
+    row: Row,
+    gate: &G,
+) -> bool
+    requires small { IsSmall request.now }
+    requires keeps { KeepsToTree design.now.circuit design.now.tree }
+    requires held { AreHeldOnce design.now.circuit }
+    requires free { HasFreeFronts design.now.circuit }
+    requires fed { IsColumns design.now.circuit inputs.now.rows inputs.now.columns }
+    requires alone { request.now.bridges ≡ [] }
+{
+    // for the invariant alone
+    let _ = design.order();
+    let _ = design.piece();
+    let _ = inputs.rows();
+    let models = Models::new(alloc);
+    match cut(alloc, design, request, 1, &models) {
+        Ok(plan) => {
+            is_run::<R, L, Brand, G>(
+                rt, home, alloc, design, request, &models, &plan, inputs, table, row, gate,
+            )
+        }
+        Err(fault) => {
+            drop(fault);
+            false
+        }
+    }
+}
+
+// The same, where the request has to have no bridges.
+fn is_cut<R: Threads + Sync, L: Link, G: Gate + Sync>(
+    rt: &R,
+    home: L::Home,
+    alloc: Global,
+    design: &Design,
+    request: &Request,
+    inputs: &Trace,
+    table: &Table,
+    row: Row,
+    gate: &G,
+) -> bool
+    requires small { IsSmall request.now }
+    requires keeps { KeepsToTree design.now.circuit design.now.tree }
+    requires held { AreHeldOnce design.now.circuit }
+    requires free { HasFreeFronts design.now.circuit }
+    requires fed { IsColumns design.now.circuit inputs.now.rows inputs.now.columns }
+{
+    if !request.bridges.as_slice().is_empty() {
+        return false;
+    }
+    is_planned::<R, L, G>(rt, home, alloc, design, request, inputs, table, row, gate)
+}
+
+// Whether a run of the network of a design leaves what is expected.
+fn is_fed<R: Threads + Sync, L: Link, G: Gate + Sync>(
+    rt: &R,
+    home: L::Home,
+    alloc: Global,
+    design: &Design,
+    table: &Table,
+    row: Row,
+    gate: &G,
+) -> bool
+    requires keeps { KeepsToTree design.now.circuit design.now.tree }
+    requires held { AreHeldOnce design.now.circuit }
+    requires free { HasFreeFronts design.now.circuit }
+{
+    match request_of(alloc, table.partition) {
+        Some(request) => match inputs_of(alloc, design, table.trace) {
+            Some(inputs) => {
+                is_cut::<R, L, G>(rt, home, alloc, design, &request, &inputs, table, row, gate)
+            }
+            None => false,
+        },
+        None => false,
+    }
+}
+
+// Whether a run of the network of a table leaves what is expected. False, too, if an allocation fails.
+pub(crate) fn is_expected<R: Threads + Sync, L: Link, G: Gate + Sync>(
+    rt: &R,
+    home: L::Home,
+    alloc: Global,
+    table: &Table,
+    row: Row,
+    gate: &G,
+) -> bool {
+    match design_of(alloc, table.circuit) {
+        Some(design) => is_fed::<R, L, G>(rt, home, alloc, &design, table, row, gate),
+        None => false,
+    }
+}

@@ -1,0 +1,11 @@
+//! Tests of the lexer, the reader and the front end, on texts worked by hand from docs/FORMATS.md. They stand in a crate
+//! of their own, since a crate with tests is proved twice. Each is a table of texts, and a call on each of them:
+//!
+//! - `lines`: the tokens of a line;
+//! - `reading`: the circuit that is read of a text, or the fault of reading;
+//! - `fronts`: what `front` answers, on circuits with a line changed and on circuits at the limits;
+//! - `stages`: what the calls that `front` is made of answer one after another, which shows that `gg_shape::shape` and
+//!   `gg_types::types` accept a circuit and name a fault. No other code calls these two.
+
+#[cfg(test)]
+mod tests;
