@@ -8,8 +8,7 @@ ghost use Rattle.gg_bridge.specs.Joined.{CanJoin, joined, HasOrder};
 use crate::joining::join_circuit;
 use crate::laws::{joined_formed, joined_ordered};
 use gg_flat::Piece;
-use gg_order::no_loop;
-use gg_order::{Design, Order, OrderFault, order};
+use gg_order::{Design, Order, OrderFault, no_loop, order};
 use std::alloc::{AllocError, Global};
 
 /// The design with a model in it, whose signals have paths with this front. The bridge sees the signals `sees`, one for each

@@ -38,6 +38,7 @@ pub use bridge::Bridge;
 pub use echo::Echo;
 pub use hosted::Hosted;
 pub use ports::join;
+
 mod designs;
 mod joining;
 mod laws;

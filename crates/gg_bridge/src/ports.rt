@@ -4,8 +4,8 @@ ghost use Rattle.gg_bridge.specs.Joined.{HasPlaces};
 ghost use Rattle.gg_bridge.specs.Model.{IsModel};
 ghost use Rattle.gg_bridge.specs.Ports.{CanStand, earlier, first_called, front_of, joined_at, picked, place_by};
 
-use gg_bits::{Name, Names};
 use crate::{place_at, places_of};
+use gg_bits::{Name, Names};
 use gg_flat::Piece;
 use gg_order::Design;
 use std::alloc::{AllocError, Global};

@@ -9,7 +9,7 @@ use Rattle.gg_flat.specs.Run.{Start}
 use Rattle.gg_flat.specs.State.{IsState, State}
 use Rattle.gg_flat.specs.WellFormed.{IsWellFormed}
 use Rattle.gg_part.specs.Choice.{IsChoice}
-use Rattle.gg_part.specs.InOrder.{IsInOrder}
+use Rattle.gg_flat.specs.InOrder.{IsInOrder}
 use Rattle.gg_part.specs.declared.part.Part.{Part}
 use Rattle.gg_bridge.specs.Hosted.{ArePorts}
 use Rattle.gg_cut_plan.specs.Alike.{AreAlike, IsLike}

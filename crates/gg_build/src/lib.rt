@@ -41,5 +41,12 @@ pub use hosts::TRAY_ROWS;
 pub use node::Node;
 pub use opening::{build, build_from};
 pub use placement::{Placement, placement_of};
+
 mod plan;
-pub use plan::{all_begin_with_zeros, bridge_is_attached, columns_solve, machines_are_opening, memory_is_chosen, one_layout, plan_has_layout, plan_has_no_ring, plan_is_listed, plan_is_solved, plan_is_sound, plan_is_wired, plan_is_within, ports_are_named, source_has_column, unit_is_ordered};
+
+pub use plan::{
+    all_begin_with_zeros, bridge_is_attached, columns_solve, machines_are_opening,
+    memory_is_chosen, one_layout, plan_has_layout, plan_has_no_ring, plan_is_listed,
+    plan_is_solved, plan_is_sound, plan_is_wired, plan_is_within, ports_are_named,
+    source_has_column, unit_is_ordered,
+};

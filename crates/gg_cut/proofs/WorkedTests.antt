@@ -18,7 +18,7 @@ use Rattle.gg_flat.specs.Reads.{Names, NamesSignal, Reads, Reaches}
 use Rattle.gg_order.proofs.NeedsLemmas.ReachLemmas.{Reaches-on, along-reaches}
 use Rattle.gg_order.specs.Marks.{is_marked}
 use Rattle.gg_part.specs.Part.{NamesBelow}
-use Rattle.gg_part.specs.InOrder.{IsInOrder}
+use Rattle.gg_flat.specs.InOrder.{IsInOrder}
 use Rattle.gg_part.specs.declared.part.Part.{Part}
 use Rattle.gg_cut_plan.specs.declared.wires.Wire.{Wire}
 use Rattle.gg_cut_plan.specs.Direct.{Hub, is_gone, routes}

@@ -9,12 +9,11 @@ ghost use Rattle.gg_cut_plan.specs.Listed.{listed_of};
 ghost use Rattle.gg_cut_parts.specs.Draft.{IsDraft};
 ghost use Rattle.gg_cut.specs.Made.{IsCapacity};
 
-use gg_cut_split::listed_apart;
 use gg_cut_parts::Draft;
 use gg_cut_plan::{CutFault, Listed, Models, Wire};
 use gg_cut_routes::plan_routes;
 use gg_cut_rules::{judge_bridges, judge_channels, judge_clocks, judge_entries, judge_pipes};
-use gg_cut_split::split;
+use gg_cut_split::{listed_apart, split};
 use gg_order::Design;
 use gg_partfile::Request;
 use std::alloc::{AllocError, Global};

@@ -23,5 +23,7 @@ mod needs;
 mod shares;
 
 pub use build::{cut, deps};
+
 mod existence;
-pub use existence::{each_has_plan};
+
+pub use existence::each_has_plan;

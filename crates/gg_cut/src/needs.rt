@@ -7,8 +7,8 @@ ghost use Rattle.gg_cut.specs.Made.{IsFit, IsServed, ArePartNeeds, ArePut, AreGi
 
 use gg_bits::Ids;
 use gg_cut_plan::{Body, Machine, Wire};
-use gg_part::Part;
 use gg_order::needs_of;
+use gg_part::Part;
 use std::alloc::{AllocError, Global};
 use std::mem::replace;
 

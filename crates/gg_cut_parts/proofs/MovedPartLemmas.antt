@@ -26,7 +26,7 @@ use Rattle.gg_part.specs.declared.part.Clocking.{Clocking}
 use Rattle.gg_part.specs.declared.part.Part.{Part}
 use Rattle.gg_part.specs.Building.{Holds, AreHeld}
 use Rattle.gg_part.specs.Clocking.{AreTimed, IsTimed, LeadsTo, PortsFollow, clocks_of_ports}
-use Rattle.gg_part.specs.InOrder.{IsInOrder}
+use Rattle.gg_flat.specs.InOrder.{IsInOrder}
 use Rattle.gg_part.specs.Part.{IsPart, IsFrom, IsRegisterFrom, IsMemoryFrom, RegisterBelow, MemoryBelow, renamed_reader, renamed_register, renamed_memory, renamed_writer}
 use Rattle.gg_cut_plan.specs.declared.listed.Listed.{Listed}
 use Rattle.gg_cut_plan.specs.Alike.{IsAlike}

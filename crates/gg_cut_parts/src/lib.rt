@@ -41,6 +41,7 @@ pub use machine_draft::MachineDraft;
 pub use moved::moved_part;
 pub use parts::{copied, cut_part};
 pub use paths::signal_name;
+
 mod domains;
 mod tables;
 mod whole;

@@ -1,6 +1,6 @@
 //! `MachineDraft`: a machine in the making.
-use crate::draft::Draft;
 use crate::Domains;
+use crate::draft::Draft;
 use gg_cut_split::Share;
 
 /// A machine in the making: the draft, what clocks its machines follow, the machine's number, and what it has by the routed

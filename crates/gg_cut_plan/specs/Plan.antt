@@ -12,7 +12,7 @@ use Rattle.gg_order.specs.Design.{Ordered}
 use Rattle.gg_flat.specs.Reads.{Reaches}
 use Rattle.gg_part.specs.Part.{IsPart}
 use Rattle.gg_part.specs.Building.{AreHeld}
-use Rattle.gg_part.specs.InOrder.{IsInOrder}
+use Rattle.gg_flat.specs.InOrder.{IsInOrder}
 use Rattle.gg_part.specs.declared.part.Part.{Part}
 use Rattle.gg_partfile.specs.declared.request.BridgeEntry.{BridgeEntry}
 use Rattle.gg_partfile.specs.declared.request.Request.{Request}

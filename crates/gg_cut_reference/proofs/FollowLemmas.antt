@@ -17,7 +17,7 @@ use Rattle.gg_flat.specs.WellFormed.{IsWellFormed}
 use Rattle.gg_order.proofs.RunsLemmas.SinceLemmas.{later-since, row-dropped}
 use Rattle.gg_order.proofs.RunsLemmas.UniqueLemmas.{IsRunFrom-once}
 use Rattle.gg_flat.proofs.ListLemmas.{Contains-map}
-use Rattle.gg_part.proofs.AlongLemmas.{IsOrder-numbers}
+use Rattle.gg_flat.proofs.NumberLemmas.{IsOrder-numbers}
 use Rattle.gg_part.specs.PartRun.{part_rows, part_start}
 use Rattle.gg_part.specs.declared.part.Part.{Part}
 use Rattle.gg_cut_plan.specs.Plan.{wire_at, channels_to, channels_from}

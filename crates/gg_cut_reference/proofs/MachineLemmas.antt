@@ -16,7 +16,7 @@ use Rattle.gg_flat.specs.Run.{Start, column}
 use Rattle.gg_flat.proofs.ListLemmas.{map-same, once-apart, filter-cases, range-below}
 use Rattle.gg_part.specs.Part.{IsPart}
 use Rattle.gg_part.specs.Building.{AreHeld}
-use Rattle.gg_part.specs.InOrder.{IsInOrder}
+use Rattle.gg_flat.specs.InOrder.{IsInOrder}
 use Rattle.gg_part.specs.PartRun.{part_row, part_rows, part_columns, part_start}
 use Rattle.gg_part.specs.declared.part.Part.{Part}
 use Rattle.gg_part.proofs.RenameLemmas.{part_row-at}

@@ -17,9 +17,20 @@ pub use laws::{
     channels_follow, nothing_piped, one_reference, outputs_kept, parts_follow, reference_formed,
     sources_follow,
 };
+
 mod fitting;
-pub use fitting::{bridge_machines, bridge_ports, bridges_attach, bridges_fit, bridges_known, channels_kept, names_kept, open_ports, seats_apart, seats_known, seats_plain};
+
+pub use fitting::{
+    bridge_machines, bridge_ports, bridges_attach, bridges_fit, bridges_known, channels_kept,
+    names_kept, open_ports, seats_apart, seats_known, seats_plain,
+};
+
 mod whole;
-pub use whole::{bridges_stand, circuit_has_ports, circuit_is_formed, circuit_runs, starts_are_typed, zeros_stay};
+
+pub use whole::{
+    bridges_stand, circuit_has_ports, circuit_is_formed, circuit_runs, starts_are_typed, zeros_stay,
+};
+
 mod text;
+
 pub use text::{channel_line, machine_line, needs_are_told, one_fault, one_text, plan_is_told};

@@ -9,7 +9,7 @@ use Rattle.gg_flat.proofs.ListLemmas.{IsKept, Contains-map, Contains-filter, fil
 use Rattle.gg_part.specs.KeepsToTree.{KeepsToTree}
 use Rattle.gg_order.specs.Design.{Ordered, IsDesign}
 use Rattle.gg_order.specs.Marks.{is_marked}
-use Rattle.gg_part.specs.InOrder.{Precedes, IsAlong}
+use Rattle.gg_flat.specs.InOrder.{Precedes, IsAlong}
 use Rattle.gg_cut_plan.specs.declared.listed.Listed.{Listed}
 use Rattle.gg_cut_plan.specs.declared.wires.Wire.{Wire}
 use Rattle.gg_cut_plan.specs.Channels.{wires_of}

@@ -14,7 +14,7 @@ use Rattle.gg_flat_tree.specs.Tree.{InstanceTree, IsTree, memory_at}
 use Rattle.gg_flat_tree.specs.Scoped.{IsScoped}
 use Rattle.gg_flat.specs.Order.{IsOrder}
 use Rattle.gg_flat.proofs.ListLemmas.{Contains-map, Contains-filter, filter-cases, in-range, range-below}
-use Rattle.gg_part.specs.InOrder.{Precedes, IsAlong}
+use Rattle.gg_flat.specs.InOrder.{Precedes, IsAlong}
 use Rattle.gg_cut_plan.specs.declared.wires.Wire.{Wire}
 use Rattle.gg_cut_plan.specs.declared.listed.Listed.{Listed}
 use Rattle.gg_cut_plan.specs.Listed.{owner_of, first_place, has_signal, unit_or_hub, memory_owner}

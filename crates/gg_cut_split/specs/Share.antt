@@ -3,7 +3,7 @@
 -- and memories of a target as models of their own).
 use Rattle.std.specs.Prelude.{◌≡◌, ◌↔◌, ◌⊎◌, ℕ, ◌<◌, List, Contains, AllPairs}
 use Rattle.gg_order.specs.Design.{Ordered}
-use Rattle.gg_part.specs.InOrder.{IsAlong}
+use Rattle.gg_flat.specs.InOrder.{IsAlong}
 use Rattle.gg_part.specs.Choice.{IsChoice}
 use Rattle.gg_cut_plan.specs.declared.listed.Listed.{Listed}
 use Rattle.gg_cut_plan.specs.declared.wires.Wire.{Wire}

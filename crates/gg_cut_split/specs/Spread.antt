@@ -6,7 +6,7 @@ use Rattle.gg_flat.specs.Line.{value_at}
 use Rattle.gg_flat_tree.specs.Tree.{InstanceTree, memory_at}
 use Rattle.gg_cut_plan.specs.declared.wires.Wire.{Wire}
 use Rattle.gg_flat.specs.Circuit.{FlatCircuit}
-use Rattle.gg_part.specs.InOrder.{IsAlong}
+use Rattle.gg_flat.specs.InOrder.{IsAlong}
 use Rattle.gg_cut_plan.specs.declared.listed.Listed.{Listed}
 use Rattle.gg_cut_plan.specs.Channels.{wire, wires_of}
 use Rattle.gg_cut_plan.specs.Plan.{wire_at, Makes, Takes, HasMemory}

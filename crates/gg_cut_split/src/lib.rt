@@ -31,7 +31,13 @@ pub use parting::split;
 pub use pile::Pile;
 pub use share::{Share, Split};
 pub use spread::{Sides, sides_of};
+
 mod closed;
-pub use closed::{channels_once, listed_apart, machine_closed, machine_makes_part, owner_at_end, owner_by_path};
+
+pub use closed::{
+    channels_once, listed_apart, machine_closed, machine_makes_part, owner_at_end, owner_by_path,
+};
+
 mod again;
-pub use again::{units_stand_again};
+
+pub use again::units_stand_again;

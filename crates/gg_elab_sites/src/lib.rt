@@ -71,6 +71,7 @@ pub use own::{Origin, OwnSignal};
 pub use sites::{Around, Place, Step, places};
 pub use stops::OwnStop;
 pub use table::{Table, add_path, number, table_of};
+
 mod counts;
 mod pass;
 

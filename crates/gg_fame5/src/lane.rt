@@ -17,8 +17,8 @@ ghost use Rattle.gg_fame5.specs.Lane.{lane_machine, out_signal, started_lane, Is
 use gg_bits::Ids;
 use gg_clocks::{Ratio, Timing};
 use gg_flat::Piece;
-use gg_order::{State, settled_once};
 use gg_node::{clean, clear_flags, empty_latches, first_empty};
+use gg_order::{State, settled_once};
 use gg_program::{NoMemory, Program, Slots, Steps};
 use std::alloc::{AllocError, Global};
 use std::marker::Model;

@@ -2,6 +2,7 @@ pub mod ListLemmas
 pub mod PortLemmas
 pub mod NameLemmas
 pub mod OrderLemmas
+pub mod NumberLemmas
 pub mod TypedLemmas
 pub mod LineLemmas
 pub mod FormLemmas

@@ -10,6 +10,7 @@ pub mod Settled
 pub mod Depends
 pub mod Run
 pub mod Order
+pub mod InOrder
 pub mod Served
 pub mod Along
 pub mod Ports

@@ -16,15 +16,14 @@ ghost use Rattle.gg_front.specs.Accepted.{IsSound, IsAccepted, excess_of};
 ghost use Rattle.gg_front.specs.Fault.{HasFrontFault, IfFirstFault, IfTellsLoop, IsUnread, fault_by, over_limit};
 ghost use Rattle.gg_front.specs.Meaning.{MeansDesign};
 
+use crate::copies;
 use crate::fault::FrontFault;
 use gg_ast::Circuit;
 use gg_bits::{Name, Names};
 use gg_elab::{ElabFault, flatten, limit_of};
-use gg_elab_sites::Excess;
-use gg_elab_sites::one_flat;
+use gg_elab_sites::{Excess, one_flat};
 use gg_flat::Piece;
 use gg_flat_tree::Tree;
-use crate::copies;
 use gg_order::{Design, OrderFault, order};
 use gg_read::{ReadFault, read_circuit};
 use gg_shape::{CheckFault, Fault, shaped};

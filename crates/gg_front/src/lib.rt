@@ -37,6 +37,7 @@ pub use front_end::front;
 pub use laws::{
     acceptance_agrees, each_has_design, each_has_one_run, faults_apart, one_fault, one_meaning,
 };
+
 mod instances;
 mod paths;
 

@@ -46,6 +46,7 @@ pub use mem_sink::{FailingPut, MemSink, SureSink};
 pub use output::{PutFail, Sink};
 pub use stream_sink::StreamSink;
 pub use turns::{Gate, NoGate};
+
 mod endings;
 mod loading;
 mod writing;

@@ -17,7 +17,8 @@ use Rattle.gg_net.specs.markings.Counts.{counts_of, CanRun}
 use Rattle.gg_net.specs.markings.Measure.{left, sum_below, all_dues}
 use Rattle.gg_net.proofs.MarkingsLemmas.SumLemmas.{sum-same}
 use Rattle.gg_net.proofs.MarkingsLemmas.EndLemmas.{goes-or-ends, end-left, opening-left}
-use Rattle.gg_measure.specs.Nets.{AllStandAt, AreDrained, HaveKept, dues_at, net_left}
+use Rattle.gg_measure.specs.Nets.{AreDrained, HaveKept, dues_at, net_left}
+use Rattle.gg_net.specs.Network.{AllStandAt}
 use Rattle.gg_measure.proofs.NetLemmas.{can-run, shape-of, allowed-of, left-is, dues-are, kind-count}
 use Rattle.gg_measure.proofs.GoLemmas.{laid-out, step-falls, none-ready}
 use Rattle.gg_measure.proofs.DoneLemmas.{all-drained, all-kept, none-left}

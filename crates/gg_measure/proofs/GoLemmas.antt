@@ -23,7 +23,8 @@ use Rattle.gg_net.proofs.MarkingsLemmas.GoesLemmas.{ready-free, step-marks, step
 use Rattle.gg_net.specs.markings.Counts.{counts_of, dues, fires, latches, finishes, accesses, IsAllowed, Raises}
 use Rattle.gg_net.proofs.MarkingsLemmas.Free.{Free}
 use Rattle.gg_net.specs.markings.Measure.{left}
-use Rattle.gg_measure.specs.Nets.{IsAtWork, AllStandAt, IsIdle, StepBelow, StepsBelow, Goes, StaysWithin, cycle_at, dues_at, net_left}
+use Rattle.gg_measure.specs.Nets.{IsAtWork, IsIdle, StepBelow, StepsBelow, Goes, StaysWithin, dues_at, net_left}
+use Rattle.gg_net.specs.Network.{AllStandAt, cycle_at}
 use Rattle.gg_net.proofs.MarkingsLemmas.SumLemmas.{one-cases}
 use Rattle.gg_net.proofs.MarkingsLemmas.FreeLemmas.{is-free}
 use Rattle.gg_net.proofs.MarkingsLemmas.LeadLemmas.{Went, went}

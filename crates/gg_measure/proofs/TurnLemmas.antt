@@ -15,7 +15,8 @@ use Rattle.gg_net.proofs.WireLemmas.{one-in, one-out}
 use Rattle.gg_net.proofs.RowLemmas.{latch-goes, fire-goes, serve-goes, finish-goes}
 use Rattle.gg_net.proofs.TableLemmas.{port-there, latch-can, fire-can, serve-can, finish-can}
 use Rattle.gg_net.proofs.MarkingsLemmas.GoesLemmas.{step-frame}
-use Rattle.gg_measure.specs.Nets.{IsAtWork, NoLatch, NoFire, NoServe, IsIdle, AllStandAt, StepsBelow, StaysWithin, HasRun, Goes, cycle_at}
+use Rattle.gg_measure.specs.Nets.{IsAtWork, NoLatch, NoFire, NoServe, IsIdle, StepsBelow, StaysWithin, HasRun, Goes}
+use Rattle.gg_net.specs.Network.{AllStandAt, cycle_at}
 use Rattle.gg_measure.specs.Turns.{HasTried, HasServedOne, HadTurn, HasGoneRound, NoneFound}
 use Rattle.gg_measure.proofs.GoLemmas.{goes-none, goes-one, goes-then, goes-still, goes-falls, steps-kept, steps-within, all-stand, none-ready, machine-there, work-latch, work-fire, work-serve}
 

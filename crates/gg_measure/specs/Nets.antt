@@ -8,14 +8,10 @@ use Rattle.gg_node.specs.Machine.{KeepsLast, machine_at}
 use Rattle.gg_net.specs.declared.event.Event.{Event}
 use Rattle.gg_net.specs.declared.event.Event.TheVariants.{Latch, Fire, Serve, Finish}
 use Rattle.gg_net.specs.Network as network
-use Rattle.gg_net.specs.Network.{Network, wire_at, queue_at, opening_queue}
+use Rattle.gg_net.specs.Network.{Network, wire_at, queue_at, opening_queue, cycle_at}
 use Rattle.gg_net.specs.Kept.{list_at}
 use Rattle.gg_net.specs.Step.{Ready, Step, cycle_of}
 use Rattle.gg_net.specs.markings.Measure.{sum_below}
-
--- the cycle that a machine is in
-abbrev pub cycle_at : Network → ℕ → ℕ
-cycle_at net m = (machine_at net.machines m).cycle
 
 -- the number of ports that a machine serves in a cycle
 abbrev pub dues_at : Network → ℕ → ℕ
@@ -34,10 +30,6 @@ machine_left net m = (net.end - cycle_at net m) + (dues_at net m * net.end - net
 -- the number of steps that are still to be done
 abbrev pub net_left : Network → ℕ
 net_left net = sum_below (wire_left net) (length net.wires) + sum_below (machine_left net) (length net.machines)
-
--- all machines stand at this cycle
-abbrev pub AllStandAt : ℕ → Network → Type 0
-AllStandAt cycle net = (m : ℕ) → m < length net.machines → cycle_at net m ≡ cycle
 
 -- ---- which events can't be done
 

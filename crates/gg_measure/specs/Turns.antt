@@ -6,7 +6,8 @@ use Rattle.gg_net.specs.declared.event.Event.TheVariants.{Latch, Fire, Finish}
 use Rattle.gg_net.specs.declared.shape.Wire.{Wire}
 use Rattle.gg_net.specs.Network.{Network}
 use Rattle.gg_net.specs.Step.{Ready}
-use Rattle.gg_measure.specs.Nets.{IsAtWork, NoServe, IsIdle, Goes, cycle_at, net_left}
+use Rattle.gg_measure.specs.Nets.{IsAtWork, NoServe, IsIdle, Goes, net_left}
+use Rattle.gg_net.specs.Network.{cycle_at}
 
 -- The events of the channels at the first places of a machine were tried. If none was done, none can be done.
 pub record HasTried (event_of : ℕ → Event) (IsAt : List Wire → ℕ → ℕ → ℕ → Type 0) (cycle m count : ℕ) (old : Network) (moved : Bool) (new : Network) : Type 0 where

@@ -11,7 +11,8 @@ ghost use Rattle.gg_net.specs.markings.Steps.{Steps};
 ghost use Rattle.gg_net.specs.markings.Fits.{marking_of};
 ghost use Rattle.gg_measure.specs.At.{IsAt};
 ghost use Rattle.gg_measure.specs.Ways.{CanComeUp, LeadsTo, LeadsToCounts, LeadsToWith, OfEachKept, OfEachOpening, StepsBy, counts_in};
-ghost use Rattle.gg_measure.specs.Nets.{AllStandAt, AreDrained, HaveKept, dues_at, net_left};
+ghost use Rattle.gg_measure.specs.Nets.{AreDrained, HaveKept, dues_at, net_left};
+ghost use Rattle.gg_net.specs.Network.{AllStandAt};
 
 /// The layout of a network that is kept can run. The counts are allowed and have begun. The measure of the network is
 /// that of its marking. Before the first cycle it is a product: the number of cycles times the sum of twice the channels,

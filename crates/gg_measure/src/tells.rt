@@ -2,7 +2,8 @@
 ghost use Rattle.std.specs.Prelude.{◌≡◌, ℕ, ◌<◌, length, MatchOption};
 ghost use Rattle.gg_net.specs.declared.event.Event.TheVariants.{Latch, Fire, Finish};
 ghost use Rattle.gg_net.specs.Step.{Ready};
-ghost use Rattle.gg_measure.specs.Nets.{AllStandAt, NoServe, wire_left, machine_left, net_left};
+ghost use Rattle.gg_measure.specs.Nets.{NoServe, wire_left, machine_left, net_left};
+ghost use Rattle.gg_net.specs.Network.{AllStandAt};
 ghost use Rattle.gg_measure.specs.Turns.{NoneFound};
 
 use crate::try_event::may;

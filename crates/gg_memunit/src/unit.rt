@@ -10,8 +10,8 @@ ghost use Rattle.gg_memunit.specs.MemoryUnit.{IsMemoryPiece, opening_unit, start
 use crate::{access, ports};
 use gg_clocks::{Ratio, Timing};
 use gg_flat::{Latency, Memory, Piece};
-use gg_order::{Bank, State};
 use gg_node::{Host, clean, clear_flags, empty_latches};
+use gg_order::{Bank, State};
 use std::alloc::{AllocError, Global};
 use std::marker::Model;
 

@@ -46,6 +46,16 @@ producer_of net c = machine_at net.machines (wire_at net.wires c).producer
 abbrev pub consumer_of : Network → ℕ → Machine
 consumer_of net c = machine_at net.machines (wire_at net.wires c).consumer
 
+-- ---- cycles
+
+-- the cycle that a machine is in
+abbrev pub cycle_at : Network → ℕ → ℕ
+cycle_at net m = (machine_at net.machines m).cycle
+
+-- all machines stand at this cycle
+abbrev pub AllStandAt : ℕ → Network → Type 0
+AllStandAt cycle net = (m : ℕ) → m < length net.machines → cycle_at net m ≡ cycle
+
 -- ---- counts
 
 -- the number of tokens that an out has given, in a machine in this cycle, if the out has this flag

@@ -43,5 +43,11 @@ pub use parts::Parts;
 pub use queue::Queue;
 pub use shape::{ServedPort, Shape, Station, Wire};
 pub use waits::{first_missing, first_unfired, first_unlatched};
+
 mod markings;
-pub use markings::{counts_by_marking, each_has_layout, ends_so, goes_by_marking, keeps_allowed, leads_up, one_marking_by_counts, opens_allowed, opens_with_marking, puts_by_step, reached_by_counts, replays_while_left, steps_by_marking, steps_keep};
+
+pub use markings::{
+    counts_by_marking, each_has_layout, ends_so, goes_by_marking, keeps_allowed, leads_up,
+    one_marking_by_counts, opens_allowed, opens_with_marking, puts_by_step, reached_by_counts,
+    replays_while_left, steps_by_marking, steps_keep,
+};

@@ -23,7 +23,15 @@ pub use design::Design;
 pub use fault::OrderFault;
 pub use laws::orders_are_found;
 pub use ordering::{Order, order};
+
 mod runs;
-pub use runs::{Bank, State, all_served, depends_on_reached, driver_value, no_loop, one_served, room_of, run_once, runs_along, runs_on, runs_split, scratch_of, settled_once, settles_along, signal_zeros, states_typed, ticks, values_agree, zeros};
+
+pub use runs::{
+    Bank, State, all_served, depends_on_reached, driver_value, no_loop, one_served, room_of,
+    run_once, runs_along, runs_on, runs_split, scratch_of, settled_once, settles_along,
+    signal_zeros, states_typed, ticks, values_agree, zeros,
+};
+
 mod needs;
-pub use needs::{needs_of};
+
+pub use needs::needs_of;

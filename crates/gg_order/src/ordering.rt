@@ -9,9 +9,9 @@ ghost use Rattle.gg_order.specs.Loop.{IsToldLoop};
 use crate::fault::OrderFault;
 use crate::graph::Dependencies;
 use crate::loops::told;
+use crate::runs::no_loop;
 use gg_bits::Ids;
 use gg_flat::Piece;
-use crate::runs::no_loop;
 use gg_graph::{WalkFault, walk};
 use std::alloc::Global;
 

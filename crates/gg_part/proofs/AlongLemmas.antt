@@ -15,7 +15,7 @@ use Rattle.gg_flat.proofs.OrderLemmas.{read-before, not-before, place-of}
 use Rattle.gg_flat.proofs.ListLemmas.{once-apart}
 use Rattle.gg_part.specs.Part.{IsPart, IsFrom}
 use Rattle.gg_flat.proofs.RenamedLineLaws.{named-there}
-use Rattle.gg_part.specs.InOrder.{Precedes, IsAlong, IsInOrder}
+use Rattle.gg_flat.specs.InOrder.{Precedes, IsAlong, IsInOrder}
 
 -- s is a signal of the part, and the driver names the whole's signal that it stands for
 pub record IsNamedIn (globals : List ℕ) (driver : Driver) (s : ℕ) : Type 0 where
@@ -64,27 +64,3 @@ module _ (whole part : FlatCircuit) (globals held memories order : List ℕ) (cl
       by within read (inl lt) q = lt
       by within read (inr le) (inl lt) = absurd (no-later (value_at globals a) (value_at globals b) read (along a b 0 lt within))
       by within read (inr le) (inr ge) = absurd (no-self (value_at globals a) (subst (λ t. Reads whole (value_at globals a) (value_at globals t)) (let same : b ≡ a = omega arith in same) read))
-
--- ---- the numbers of a circuit in order
-
-at-number : (n i : ℕ) → i < n → value_at (range_with_len 0 n) i ≡ i
-at-number n i lt = get_or-range_with_len 0 n i 0 lt ∙ (let same : 0 + i ≡ i = omega arith in same)
-
-pub IsOrder-numbers : (circuit : FlatCircuit) → IsInOrder circuit → IsOrder circuit (range_with_len 0 (length circuit.signals))
-IsOrder-numbers circuit inside =
-    let n = length circuit.signals in
-    let numbers = range_with_len 0 n in
-    let count : length numbers ≡ n = length-range_with_len 0 n in
-    record {
-      signals = λ i lt. subst (λ s. s < n) (sym (at-number n i (omega (arith, lt, count)))) (omega (arith, lt, count));
-      once = λ i j d lt within same.
-          let first : value_at numbers i ≡ i = at-number n i (omega (arith, lt, within, count)) in
-          let second : value_at numbers j ≡ j = at-number n j (omega (arith, within, count)) in
-          let equal : i ≡ j = sym first ∙ get_or_default numbers i 0 d (omega (arith, lt, within)) ∙ same ∙ get_or_default numbers j d 0 within ∙ second in
-          omega (arith, lt, equal);
-      every = λ s lt. (s, omega (arith, lt, count), get_or_default numbers s s 0 (omega (arith, lt, count)) ∙ at-number n s lt);
-      after = λ i s lt reads.
-          let known : i < n = omega (arith, lt, count) in
-          let below : s < i = inside i s (subst (λ a. Reads circuit a s) (at-number n i known) reads) in
-          (s, omega (arith, below, lt, length-take i numbers), get_or-take i numbers s s below ∙ get_or_default numbers s s 0 (omega (arith, below, lt)) ∙ at-number n s (omega (arith, below, known)));
-    }

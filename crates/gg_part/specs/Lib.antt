@@ -1,7 +1,6 @@
 pub mod Part
 pub mod Local
 pub mod PartRun
-pub mod InOrder
 pub mod Choice
 pub mod Numbers
 pub mod Building

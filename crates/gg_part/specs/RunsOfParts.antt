@@ -7,7 +7,7 @@ use Rattle.gg_flat.specs.Line.{value_at}
 use Rattle.gg_flat.specs.Order.{IsOrder}
 use Rattle.gg_flat.specs.Run.{Start, later, IsRunFrom, IsColumns, clocked_start, row_at, inputs_at}
 use Rattle.gg_flat.specs.State.{IsState}
-use Rattle.gg_part.specs.InOrder.{IsAlong, IsInOrder}
+use Rattle.gg_flat.specs.InOrder.{IsAlong, IsInOrder}
 use Rattle.gg_part.specs.Part.{IsPart}
 use Rattle.gg_part.specs.PartRun.{part_rows, part_ratios, part_start, part_columns}
 

@@ -5,7 +5,7 @@ ghost use Rattle.gg_flat.specs.Circuit.{FlatCircuit};
 ghost use Rattle.gg_flat.specs.WellFormed.{IsWellFormed};
 ghost use Rattle.gg_flat.specs.Order.{IsOrder};
 ghost use Rattle.gg_part.specs.Part.{IsPart};
-ghost use Rattle.gg_part.specs.InOrder.{IsInOrder};
+ghost use Rattle.gg_flat.specs.InOrder.{IsInOrder};
 ghost use Rattle.gg_part.specs.RunsOfParts.{PartsRunFromStarts, PartsRunFromOpening, PartsTakeColumns, PartsKeepOrder};
 
 /// A part of a run is a run of the part, whose clocks have the ratios of those that they follow. From each start, this holds if the

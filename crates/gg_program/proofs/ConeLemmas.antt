@@ -13,8 +13,8 @@ use Rattle.gg_flat.specs.Settled.{Settled, driver_value}
 use Rattle.gg_flat.specs.Along.{settled_along}
 use Rattle.gg_order.proofs.RunsLemmas.AgreeLemmas.{driver_value-agree}
 use Rattle.gg_order.proofs.RunsLemmas.AlongLemmas.{Settled-along}
-use Rattle.gg_part.specs.InOrder.{IsInOrder}
-use Rattle.gg_part.proofs.AlongLemmas.{IsOrder-numbers}
+use Rattle.gg_flat.specs.InOrder.{IsInOrder}
+use Rattle.gg_flat.proofs.NumberLemmas.{IsOrder-numbers}
 use Rattle.gg_order.proofs.NeedsLemmas.ReachLemmas.{Reaches-itself, Reaches-on, Reaches-within}
 use Rattle.gg_program.specs.ConeValue.{HasNeeds, MaySettle, IsConeValue}
 use Rattle.gg_program.specs.Slots.{inputs_in}

@@ -15,7 +15,7 @@ use Rattle.gg_flat.specs.WellFormed.{IsWellFormed, MayDrive}
 use Rattle.gg_flat.specs.State.{State}
 use Rattle.gg_flat.specs.Settled.{Settled, in_shapes}
 use Rattle.gg_flat.proofs.TypedLemmas.{shape_at-in_shapes, AreTyped-zeros, AreTyped-set}
-use Rattle.gg_part.specs.InOrder.{IsInOrder}
+use Rattle.gg_flat.specs.InOrder.{IsInOrder}
 use Rattle.gg_order.specs.Marks.{is_marked}
 use Rattle.gg_order.proofs.NeedsLemmas.ReachLemmas.{Reaches-on, Reaches-within, along-reaches}
 use Rattle.gg_program.specs.Slots.{Slotted, IsDone, NoneDone, AreSlots, HasInput, HasInputs, HasNeeded, with_input, inputs_in, DoneWith}

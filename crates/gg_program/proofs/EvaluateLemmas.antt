@@ -15,7 +15,7 @@ use Rattle.gg_flat.specs.State.{State}
 use Rattle.gg_flat.specs.Settled.{driver_value}
 use Rattle.gg_flat.proofs.NameLemmas.{Contains-one}
 use Rattle.gg_flat.proofs.TypedLemmas.{AreTyped-set}
-use Rattle.gg_part.specs.InOrder.{IsInOrder}
+use Rattle.gg_flat.specs.InOrder.{IsInOrder}
 use Rattle.gg_order.specs.Marks.{is_marked}
 use Rattle.gg_program.specs.Slots.{inputs_in}
 use Rattle.gg_program.specs.Right.{AreRight, IsInner}

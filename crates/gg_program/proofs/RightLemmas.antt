@@ -15,7 +15,7 @@ use Rattle.gg_flat.specs.State.{State}
 use Rattle.gg_flat.specs.Settled.{IsInputs, HasSource, in_shapes, driver_value}
 use Rattle.gg_order.proofs.RunsLemmas.AgreeLemmas.{driver_value-agree}
 use Rattle.gg_flat.proofs.TypedLemmas.{shape_at-in_shapes}
-use Rattle.gg_part.specs.InOrder.{IsInOrder}
+use Rattle.gg_flat.specs.InOrder.{IsInOrder}
 use Rattle.gg_program.specs.Slots.{inputs_in}
 use Rattle.gg_program.specs.Right.{AreRight, IsInner}
 

@@ -7,7 +7,7 @@ ghost use Rattle.gg_flat.specs.WellFormed.{IsWellFormed};
 ghost use Rattle.gg_flat.specs.State.{IsState};
 ghost use Rattle.gg_flat.specs.Settled.{HasSource, driver_value};
 ghost use Rattle.gg_order.specs.runs.Room.{HasRoom, line_length};
-ghost use Rattle.gg_part.specs.InOrder.{IsInOrder};
+ghost use Rattle.gg_flat.specs.InOrder.{IsInOrder};
 ghost use Rattle.gg_order.specs.Marks.{is_marked};
 ghost use Rattle.gg_program.specs.Slots.{inputs_in};
 ghost use Rattle.gg_program.specs.Right.{IsInner, AreRight};

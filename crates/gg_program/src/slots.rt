@@ -5,7 +5,7 @@ ghost use Rattle.gg_order.specs.Marks.{is_marked};
 ghost use Rattle.gg_flat.specs.Line.{value_at};
 ghost use Rattle.gg_flat.specs.WellFormed.{IsWellFormed};
 ghost use Rattle.gg_flat.specs.State.{State, IsState};
-ghost use Rattle.gg_part.specs.InOrder.{IsInOrder};
+ghost use Rattle.gg_flat.specs.InOrder.{IsInOrder};
 ghost use Rattle.gg_flat.specs.Circuit.{FlatCircuit};
 ghost use Rattle.gg_program.specs.Slots.{AreSlots, inputs_in, HasInputs, HasNeeded, IsDone, NoneDone, DoneWith};
 ghost use Rattle.gg_program.specs.Right.{InCycle, IsCycle};

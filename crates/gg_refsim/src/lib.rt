@@ -16,6 +16,7 @@ mod mono;
 
 pub use laws::{run_begins, run_continues};
 pub use mono::{Mono, NoMemory};
+
 mod check;
 mod check_clocks;
 mod check_memory;

@@ -11,8 +11,7 @@ ghost use Rattle.gg_refsim.specs.Cycle.{Cycle, begun};
 
 use gg_clocks::{Ratio, Timing};
 use gg_flat::Piece;
-use gg_order::{State, scratch_of, signal_zeros};
-use gg_order::Design;
+use gg_order::{Design, State, scratch_of, signal_zeros};
 use std::alloc::{AllocError, Global};
 use std::error::Error;
 use std::fmt;

@@ -25,5 +25,7 @@ pub use laws::opens_with_first_tokens;
 pub use line::channel_line;
 pub use log::Log;
 pub use steps::replay;
+
 mod steps_file;
+
 pub use steps_file::{StepNames, cause_text, read_steps, steps_are_spelt, steps_have_lines};

@@ -25,12 +25,13 @@ use Rattle.gg_rows.proofs.CountLemmas.{trays-begin}
 use Rattle.gg_node.specs.Machine.{KeepsLast, Machine, kept_value, machine_at}
 use Rattle.gg_net.specs.Network.{Network, Frame, Kind, frame_of, kind_of, kind_at, wire_at}
 use Rattle.gg_net.specs.Kept.{Kept, list_at}
-use Rattle.gg_measure.specs.Nets.{AllStandAt}
+use Rattle.gg_net.specs.Network.{AllStandAt}
 use Rattle.gg_build.specs.plan.Built.{IsBuilt, body_start, machine_in, nameless, tray_rows, wires_of_plan}
 use Rattle.gg_build.proofs.PlanLemmas.FitLemmas.{kind-is}
 use Rattle.gg_build.proofs.PlanLemmas.LinkLemmas.{length-from, wire-from}
 use Rattle.gg_build.specs.Build.{IsOpeningFrom, IsToRunFrom, run_token}
-use Rattle.gg_rows.specs.Rows.{AreTraysOf, IsNetOfPlan, StillHas, outputs_in, told_value}
+use Rattle.gg_rows.specs.Rows.{AreTraysOf, StillHas, outputs_in, told_value}
+use Rattle.gg_build.specs.StandsAt.{IsNetOfPlan}
 use Rattle.gg_rows.proofs.TrayLemmas.{tray-keeps, tray-only, tray-tells}
 
 pub opening-is-net : (plan : Plan) (start : Start) (token : ℕ → ℕ) (columns : List (List ℕ)) (n : ℕ) (net : Network) → IsOpeningFrom plan start token columns n net → IsNetOfPlan plan start token columns n net

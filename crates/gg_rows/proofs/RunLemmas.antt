@@ -7,13 +7,14 @@ use Rattle.gg_flat.specs.Streams.{Flow}
 use Rattle.gg_build.specs.Build.{IsOpeningFrom, IsToRunFrom, run_token}
 use Rattle.gg_cut_plan.specs.Seated.{first_kept_tray, plan_bridges}
 use Rattle.gg_cut_plan.specs.declared.plan.Plan.{Plan}
-use Rattle.gg_measure.specs.Nets.{AllStandAt}
+use Rattle.gg_net.specs.Network.{AllStandAt}
 use Rattle.gg_net.specs.Kept.{Kept}
 use Rattle.gg_net.specs.Network.{Frame, Network, frame_of}
 use Rattle.gg_build.specs.plan.Built.{tray_rows}
 use Rattle.gg_io.specs.declared.endings.Ending.{Ending}
 use Rattle.gg_io.specs.declared.endings.Ending.TheVariants.{NoMemory}
-use Rattle.gg_rows.specs.Rows.{AreTraysOf, StandsAt, TraysKeep, run_row}
+use Rattle.gg_rows.specs.Rows.{AreTraysOf, TraysKeep, run_row}
+use Rattle.gg_build.specs.StandsAt.{StandsAt}
 use Rattle.gg_rows.specs.RunTaken.{TakesTheRow, TakesTheRun, TakesTheWindow}
 use Rattle.gg_rows.specs.Taken.{IsRanOut, Ran, TakesSome, Took, TookTo, WentBy}
 use Rattle.gg_rows.specs.Taken.Took.{Wants}

@@ -23,12 +23,13 @@ use Rattle.gg_net.proofs.MarkingsLemmas.OpeningLemmas.{opens-so}
 use Rattle.gg_net.proofs.MarkingsLemmas.StepsLemmas.{steps-frame, steps-kept}
 use Rattle.gg_net.specs.markings.Counts.{AreAtMost, counts_of}
 use Rattle.gg_net.proofs.MarkingsLemmas.EndLemmas.{opening-lowest}
-use Rattle.gg_measure.specs.Nets.{AllStandAt}
+use Rattle.gg_net.specs.Network.{AllStandAt}
 use Rattle.gg_measure.proofs.NetLemmas.{allowed-of, begun-of, can-run}
 use Rattle.gg_measure.proofs.WayLemmas.{steps-up}
 use Rattle.gg_build.specs.plan.Built.{tray_rows, wires_of_plan}
 use Rattle.gg_build.specs.Build.{IsOpeningFrom, IsToRunFrom, run_token}
-use Rattle.gg_rows.specs.Rows.{IsNetOfPlan, TraysKeep, outputs_in}
+use Rattle.gg_rows.specs.Rows.{TraysKeep, outputs_in}
+use Rattle.gg_build.specs.StandsAt.{IsNetOfPlan}
 use Rattle.gg_rows.proofs.OpeningLemmas.{begins-so, opening-kept}
 use Rattle.gg_rows.proofs.OutputLemmas.{keeps, keeps-only, net-stays, opening-is-net}
 

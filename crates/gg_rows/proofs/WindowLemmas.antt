@@ -5,7 +5,8 @@ use Rattle.std.proofs.lemmas.Result.{IfOk-weaker}
 use Rattle.gg_flat.specs.Streams.{Flow}
 use Rattle.gg_net.specs.Network as network
 use Rattle.gg_net.specs.Network.{Network, frame_of}
-use Rattle.gg_measure.specs.Nets.{StaysWithin, cycle_at, dues_at}
+use Rattle.gg_measure.specs.Nets.{StaysWithin, dues_at}
+use Rattle.gg_net.specs.Network.{cycle_at}
 use Rattle.gg_workers.specs.Work.{CountsRose, IsLater}
 use Rattle.gg_rows.specs.Window.{GoesWithin}
 use Rattle.gg_rows.proofs.FrameLemmas.{same-machines, same-wires, dues-same}

@@ -8,11 +8,12 @@ use Rattle.gg_cut_plan.specs.declared.plan.Plan.{Plan}
 use Rattle.gg_cut_reference.specs.Follows.{plan_start}
 use Rattle.gg_net.specs.Kept.{Kept}
 use Rattle.gg_net.specs.Network.{Network, frame_of}
-use Rattle.gg_measure.specs.Nets.{AllStandAt}
+use Rattle.gg_net.specs.Network.{AllStandAt}
 use Rattle.gg_cut_reference.specs.whole.Whole.{plan_circuit}
 use Rattle.gg_build.specs.Build.{IsOpeningFrom, IsOpeningOf, IsToRun, IsToRunFrom, run_from_zeros, run_token}
 use Rattle.gg_build.specs.plan.Built.{tray_rows}
-use Rattle.gg_rows.specs.Rows.{IsNetOfPlan, TraysKeep, outputs_in}
+use Rattle.gg_rows.specs.Rows.{TraysKeep, outputs_in}
+use Rattle.gg_build.specs.StandsAt.{IsNetOfPlan}
 
 -- All that holds of a network at all times holds of a plan's network before its first step.
 abbrev pub OpeningsAreKept : Type 0

@@ -10,7 +10,7 @@ use Rattle.gg_build.specs.Build.{IsToRunFrom}
 use Rattle.gg_cut_plan.specs.declared.plan.Plan.{Plan}
 use Rattle.gg_cut_plan.specs.Seated.{first_kept_tray, plan_bridges}
 use Rattle.gg_net.specs.markings.Steps.{Steps}
-use Rattle.gg_measure.specs.Nets.{AllStandAt}
+use Rattle.gg_net.specs.Network.{AllStandAt}
 use Rattle.gg_node.specs.Machine.{Behaviour, RunsPiece, GivesColumn, KeepsLast, Machine, machine_at, kept_value}
 use Rattle.gg_net.specs.declared.event.Event.{Event}
 use Rattle.gg_net.specs.Network.{Network, frame_of, wire_at}
@@ -42,19 +42,6 @@ pub record StillHas (net : Network) (m c begin cycle : ℕ) : Type 0 where
   pub last : (machine_at net.machines m).cycle ≤ cycle + rows
 
 -- ---- the network of a plan
-
--- A network of a plan, at any time of its run from a start, with these tokens in its pipes at the start: its frame is that of the plan's
--- network before its first step.
-pub record IsNetOfPlan (plan : Plan) (start : Start) (token : ℕ → ℕ) (columns : List (List ℕ)) (n : ℕ) (net : Network) : Type 0 where
-  pub machines : List Machine
-  pub built : AreBuilt plan (body_start start) columns machines
-  pub frame : frame_of net ≡ plan_frame token plan machines n
-
--- A network of a plan, all of whose machines stand at this cycle.
-pub record StandsAt (plan : Plan) (start : Start) (token : ℕ → ℕ) (columns : List (List ℕ)) (n cycle : ℕ) (net : Network) : Type 0 where
-  pub of_plan : IsNetOfPlan plan start token columns n net
-  pub all : AllStandAt cycle net
-  pub within : cycle ≤ n
 
 -- the values of a circuit's outputs in a row
 abbrev pub outputs_in : FlatCircuit → List (List ℕ) → ℕ → List ℕ

@@ -16,12 +16,13 @@ use Rattle.gg_flat.specs.Run.{Start}
 use Rattle.gg_flat.specs.Streams.{Flow}
 use Rattle.gg_flat.specs.declared.ports.Port.{Port}
 use Rattle.gg_io.specs.declared.output.Sink
-use Rattle.gg_measure.specs.Nets.{AllStandAt}
+use Rattle.gg_net.specs.Network.{AllStandAt}
 use Rattle.gg_net.specs.Network.{Network}
 use Rattle.gg_order.specs.Design.{Ordered}
 use Rattle.gg_partfile.specs.declared.request.Request.{Request}
 use Rattle.gg_rows.specs.Printed.{AreKept, IsFirst, RowsAreKept, ends_run, out_columns, plan_stops, rows_since, rows_to, text_of, text_since}
-use Rattle.gg_rows.specs.Rows.{AreTraysOf, IsNetOfPlan, outputs_in}
+use Rattle.gg_rows.specs.Rows.{AreTraysOf, outputs_in}
+use Rattle.gg_build.specs.StandsAt.{IsNetOfPlan}
 
 -- ---- the trays
 

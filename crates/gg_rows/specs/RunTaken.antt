@@ -10,7 +10,8 @@ use Rattle.gg_cut_plan.specs.declared.plan.Plan.{Plan}
 use Rattle.gg_flat.specs.Run.{Start}
 use Rattle.gg_flat.specs.Streams.{Flow}
 use Rattle.gg_net.specs.Network.{Network}
-use Rattle.gg_rows.specs.Rows.{AreTraysOf, StandsAt, run_row}
+use Rattle.gg_rows.specs.Rows.{AreTraysOf, run_row}
+use Rattle.gg_build.specs.StandsAt.{StandsAt}
 use Rattle.gg_rows.specs.Taken.{Ran, Took, TookTo}
 
 -- The row of a cycle was taken from a network. `takes` tells what the taking of a row does, as in `TookTo`.

@@ -1,7 +1,7 @@
 -- How the rows of a run were taken, one after another.
 -- Source: this program's own.
 use Rattle.std.specs.Prelude.{◌≡◌, ℕ, zero, suc, ◌<◌, ◌≤◌, ◌+◌, ◌⊎◌, List, Bool, true, false, Result, Ok, Err, IfErr}
-use Rattle.gg_measure.specs.Nets.{AllStandAt}
+use Rattle.gg_net.specs.Network.{AllStandAt}
 use Rattle.gg_net.specs.Network.{Network, frame_of}
 use Rattle.gg_io.specs.declared.endings.Ending.{Ending}
 use Rattle.gg_io.specs.declared.endings.Ending.TheVariants.{NoMemory}

@@ -59,6 +59,7 @@ pub use sums::{Sums, sum_net};
 pub use taking::Rows;
 pub use trays::{Trays, trays_of};
 pub use window::{run_window, window_end};
+
 mod circuit;
 mod digits;
 mod fold;

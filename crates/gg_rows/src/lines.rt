@@ -5,9 +5,8 @@ ghost use Rattle.gg_io.specs.Endings.{PrintsOn};
 ghost use Rattle.gg_io.specs.WentOn.{SinkWentOn};
 
 use crate::sums::Sums;
-use gg_io::{Ending, put};
 use crate::{fold_line, last_line, network_line, size_line};
-use gg_io::Sink;
+use gg_io::{Ending, Sink, put};
 use std::alloc::{AllocError, Global};
 
 // Writes a line, if it was allocated.

@@ -4,9 +4,8 @@ ghost use Rattle.gg_rows.specs.Printed.{PrintsRow};
 
 use crate::taking::Rows;
 use gg_clocks::Ratio;
-use gg_io::{Ending, put};
 use gg_flat::Ports;
-use gg_io::Sink;
+use gg_io::{Ending, Sink, put};
 use gg_trace::{acts, row_text};
 use std::alloc::Global;
 use std::marker::Model;

@@ -1,7 +1,7 @@
 //! `print_net`, `print_from`: the run of the reference circuit of a plan is printed from the plan's network.
 ghost use Rattle.std.specs.Prelude.{◌≡◌, ◌+◌, ◌≤◌, IfOk, length};
 ghost use Rattle.gg_build.specs.Build.{HasBridges, IsToRun};
-ghost use Rattle.gg_measure.specs.Nets.{AllStandAt};
+ghost use Rattle.gg_net.specs.Network.{AllStandAt};
 ghost use Rattle.gg_cut_reference.specs.whole.Whole.{plan_circuit};
 ghost use Rattle.gg_io.specs.WentOn.{SinkWentOn};
 ghost use Rattle.gg_rows.specs.RunPrinted.{PrintsTheRest, PrintsTheRun, RestIsKept, RunIsKept};
@@ -13,10 +13,9 @@ use gg_bits::Name;
 use gg_bridge::Bridge;
 use gg_build::{Node, build};
 use gg_clocks::Ratio;
-use gg_io::{Ending, put};
 use gg_cut_plan::{Plan, stop_ratios};
 use gg_flat::Ports;
-use gg_io::{Gate, Sink};
+use gg_io::{Ending, Gate, Sink, put};
 use gg_net::{Net, Streams};
 use gg_order::Design;
 use gg_trace::{Trace, header_text};

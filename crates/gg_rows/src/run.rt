@@ -1,7 +1,7 @@
 //! `run_rows`: a network is run window by window, and its rows are handed over.
 ghost use Rattle.std.specs.Prelude.{◌+◌, ◌≤◌, IfOk, length};
 ghost use Rattle.gg_bits.specs.Limits.{cycle_limit};
-ghost use Rattle.gg_measure.specs.Nets.{AllStandAt};
+ghost use Rattle.gg_net.specs.Network.{AllStandAt};
 ghost use Rattle.gg_rows.specs.RunTaken.{TakesTheRow, TakesTheRun, TakesTheWindow};
 ghost use Rattle.gg_rows.specs.Taken.{IsRanOut, TakesSome, WentBy, answer_of};
 
@@ -10,8 +10,7 @@ use crate::taking::Rows;
 use crate::window::{run_window, window_end};
 use gg_bridge::Bridge;
 use gg_build::Node;
-use gg_io::Ending;
-use gg_io::Gate;
+use gg_io::{Ending, Gate};
 use gg_measure::Order;
 use gg_net::{Net, Streams};
 use gg_node::Host;

@@ -1,6 +1,6 @@
 //! `run_to_stop`: a network is run, and looked at for a stop.
 ghost use Rattle.std.specs.Prelude.{◌≡◌, ◌+◌, ◌≤◌, IfOk, IfErr, None, length};
-ghost use Rattle.gg_measure.specs.Nets.{AllStandAt};
+ghost use Rattle.gg_net.specs.Network.{AllStandAt};
 ghost use Rattle.gg_net.specs.Network.{frame_of};
 ghost use Rattle.gg_rows.specs.Printed.{SeesStop};
 ghost use Rattle.gg_rows.specs.RunPrinted.{IsFirstStop};
@@ -11,8 +11,7 @@ use crate::trays::Trays;
 use gg_bridge::Bridge;
 use gg_build::Node;
 use gg_clocks::Ratio;
-use gg_io::Ending;
-use gg_io::Gate;
+use gg_io::{Ending, Gate};
 use gg_net::{Net, Streams};
 use gg_trace::acts;
 use std::alloc::Global;

@@ -4,16 +4,15 @@ ghost use Rattle.gg_cut_reference.specs.whole.Whole.{plan_circuit};
 ghost use Rattle.gg_build.specs.Build.{HasBridges, IsToRun};
 ghost use Rattle.gg_rows.specs.Sums.{AreSums, FoldsRow};
 
+use crate::Fold;
 use crate::run::run_rows;
 use crate::taking::Rows;
 use crate::trays::trays_of;
 use gg_bits::Name;
 use gg_bridge::Bridge;
 use gg_build::build;
-use gg_io::Ending;
 use gg_cut_plan::Plan;
-use crate::Fold;
-use gg_io::Gate;
+use gg_io::{Ending, Gate};
 use gg_measure::left;
 use gg_net::Streams;
 use gg_order::Design;

@@ -1,7 +1,7 @@
 //! The windows of a run.
 ghost use Rattle.std.specs.Prelude.{◌≡◌, ℕ, ◌<◌, ◌≤◌, length, IfOk, IfErr};
 ghost use Rattle.gg_net.specs.Network.{frame_of};
-ghost use Rattle.gg_measure.specs.Nets.{AllStandAt, cycle_at};
+ghost use Rattle.gg_net.specs.Network.{AllStandAt, cycle_at};
 ghost use Rattle.gg_rows.specs.Window.{GoesWithin, window_end};
 
 use gg_build::TRAY_ROWS;

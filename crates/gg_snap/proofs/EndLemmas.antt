@@ -12,7 +12,7 @@ use Rattle.gg_node.specs.Step.{fields_of}
 use Rattle.gg_net.specs.Network.{Kind, Network, frame_of, got_by, kind_at, opening_queue, queue_at, takes, wire_at}
 use Rattle.gg_net.specs.Kept.{Kept, list_at}
 use Rattle.gg_net.proofs.MayLemmas.{consumer-there}
-use Rattle.gg_measure.specs.Nets.{AllStandAt}
+use Rattle.gg_net.specs.Network.{AllStandAt}
 use Rattle.gg_measure.proofs.DoneLemmas.{all-drained}
 use Rattle.gg_snap.specs.Gathered.{newest}
 

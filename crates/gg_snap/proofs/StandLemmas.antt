@@ -42,7 +42,7 @@ use Rattle.gg_build.proofs.PlanLemmas.RowLemmas.{models_in, rows-at}
 use Rattle.gg_build.proofs.PlanLemmas.SeenLemmas.{seen-typed}
 use Rattle.gg_build.proofs.PlanLemmas.ShownLemmas.{rows-twice, seen-twice}
 use Rattle.gg_build.proofs.PlanLemmas.StateLemmas.{ratios-again}
-use Rattle.gg_rows.specs.Rows.{StandsAt}
+use Rattle.gg_build.specs.StandsAt.{StandsAt}
 use Rattle.gg_snap.specs.text.Parts.{IsPartState}
 use Rattle.gg_snap.specs.Gathered.{AreIn, HoldsBody}
 use Rattle.gg_snap.specs.Whole.{last_state}

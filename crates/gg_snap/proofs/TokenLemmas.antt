@@ -28,7 +28,7 @@ use Rattle.gg_build.specs.plan.Built.{first_token, wires_of_plan}
 use Rattle.gg_build.proofs.PlanLemmas.LinkLemmas.{length-from, wire-from}
 use Rattle.gg_build.proofs.PlanLemmas.SolvedLemmas.{stream-at}
 use Rattle.gg_build.specs.Build.{IsToRunFrom, run_token}
-use Rattle.gg_rows.specs.Rows.{StandsAt}
+use Rattle.gg_build.specs.StandsAt.{StandsAt}
 use Rattle.gg_snap.specs.Gathered.{ArePipes, IsAll, newest, newest_tokens, pipe_number}
 use Rattle.gg_snap.specs.Whole.{last_state}
 use Rattle.gg_snap.proofs.AloneLemmas.{run-alone}

@@ -10,7 +10,7 @@ use Rattle.gg_order.specs.Design.{Ordered}
 use Rattle.gg_cut_reference.specs.Made.{plan_reference}
 use Rattle.gg_net.specs.Network.{Network}
 use Rattle.gg_build.specs.Build.{IsToRunFrom, run_token}
-use Rattle.gg_rows.specs.Rows.{StandsAt}
+use Rattle.gg_build.specs.StandsAt.{StandsAt}
 
 -- The state of the reference circuit after the last cycle of a run. Without bridges the run is one of the reference circuit.
 abbrev pub last_state : {plan : Plan} {start : Start} {columns : List (List ℕ)} {n : ℕ} {flow : Flow} → IsToRunFrom plan start columns n flow → State

@@ -10,13 +10,13 @@ ghost use Rattle.gg_snap.specs.text.Parts.{HasPart, HasSizeOf};
 ghost use Rattle.gg_snap.specs.Gathered.{AreApart, AreDone, AreIn, HoldsBody, HoldsPart, IsAll, IsRunning, IsSized, held_by, kept_by, newest, newest_tokens};
 
 use crate::pipes::pipes_of;
+use crate::text::Draft;
 use gg_bridge::Bridge;
 use gg_build::Node;
 use gg_cut_plan::{Body, Machine, Plan};
 use gg_flat::{Piece, Streams};
-use gg_order::State;
 use gg_net::Net;
-use crate::text::Draft;
+use gg_order::State;
 use std::alloc::{AllocError, Global};
 
 // The state of a thread's machine, if it runs a piece. A bridge's host can't tell its state: the network of a plan without bridges has no

@@ -20,5 +20,7 @@ mod snaps;
 
 pub use laws::{networks_hold_states, plans_are_whole, plans_can_save, plans_have_all};
 pub use snaps::{restore, snapshot};
+
 mod text;
+
 pub use text::{Draft, Snap, SnapFault, one_snapshot, read_snap, snap_text, trees_can_save};

@@ -7,12 +7,12 @@ ghost use Rattle.gg_snap.specs.StatesHeld.{BeginsIn};
 
 use crate::gathering::gather;
 use crate::pipes::tokens_of;
+use crate::text::Snap;
 use gg_bridge::Bridge;
 use gg_build::{Begin, Node, build_from};
 use gg_cut_plan::Plan;
 use gg_net::{Net, Streams};
 use gg_order::Design;
-use crate::text::Snap;
 use gg_trace::Trace;
 use std::alloc::{AllocError, Global};
 

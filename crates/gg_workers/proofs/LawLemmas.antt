@@ -22,7 +22,8 @@ use Rattle.gg_net.specs.markings.Measure.{sum_below, left_in, left_at, left}
 use Rattle.gg_net.proofs.MarkingsLemmas.SumLemmas.{one-elsewhere, sum-same, sum-add, sum-one, sum-none}
 use Rattle.gg_net.proofs.MarkingsLemmas.KeepLemmas.{stays-below}
 use Rattle.gg_net.proofs.MarkingsLemmas.MeasureLemmas.{left-below}
-use Rattle.gg_measure.specs.Nets.{cycle_at, net_left}
+use Rattle.gg_measure.specs.Nets.{net_left}
+use Rattle.gg_net.specs.Network.{cycle_at}
 use Rattle.gg_measure.proofs.NetLemmas.{wire-there, machine-there, kind-count, allowed-of, serves-are, left-is}
 use Rattle.gg_measure.proofs.GoLemmas.{laid-out}
 use Rattle.gg_measure.proofs.WayLemmas.{steps-up}

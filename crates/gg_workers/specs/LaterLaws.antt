@@ -6,7 +6,8 @@ use Rattle.gg_net.specs.declared.event.Event.{Event}
 use Rattle.gg_net.specs.Network.{Network}
 use Rattle.gg_net.specs.Kept.{Kept}
 use Rattle.gg_net.specs.Step.{Ready, machine_of}
-use Rattle.gg_measure.specs.Nets.{cycle_at, net_left}
+use Rattle.gg_measure.specs.Nets.{net_left}
+use Rattle.gg_net.specs.Network.{cycle_at}
 use Rattle.gg_workers.specs.Work.{IsLater}
 
 -- The measure falls by at least the number of the events that could be done.

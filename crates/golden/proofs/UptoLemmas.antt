@@ -19,7 +19,7 @@ use Rattle.gg_cut_plan.specs.Listed.{listed_of}
 use Rattle.gg_cut_plan.specs.Plan.{IsBody, IsPlan}
 use Rattle.gg_cut_plan.specs.declared.plan.Body.{Body}
 use Rattle.gg_cut_plan.specs.declared.plan.Plan.{Plan}
-use Rattle.gg_measure.specs.Nets.{AllStandAt}
+use Rattle.gg_net.specs.Network.{AllStandAt}
 use Rattle.gg_rows.proofs.OpeningLemmas.{from-zeros}
 use Rattle.gg_rows.proofs.OutputLemmas.{net-stays, opening-is-net}
 use Rattle.gg_cut_reference.specs.whole.Whole.{plan_circuit}
@@ -30,7 +30,7 @@ use Rattle.gg_flat.specs.State.{State}
 use Rattle.gg_flat.specs.Streams.{Flow}
 use Rattle.gg_flat_tree.specs.Tree.{InstanceTree}
 use Rattle.gg_net.specs.Network.{Network, frame_of}
-use Rattle.gg_rows.specs.Rows.{StandsAt}
+use Rattle.gg_build.specs.StandsAt.{StandsAt}
 use Rattle.gg_snap.specs.Whole.{HasEnded, last_state}
 use Rattle.gg_snap.specs.text.Snap.{Snapshot}
 use Rattle.gg_snap.specs.text.Standing.{IsSnap}

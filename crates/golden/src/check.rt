@@ -11,11 +11,10 @@ ghost use Rattle.gg_io.specs.Order.{IsOnly, Write};
 ghost use Rattle.gg_io.specs.Ends.{loads_of, puts_of};
 ghost use Rattle.gg_io.specs.WentOn.{ShelfWentOn, SinkWentOn};
 
-use gg_io::Ending;
 use gg_cut_plan::Models;
 use gg_cut_reference::{one_text, plan_is_told};
 use gg_front::one_meaning;
-use gg_io::{Shelf, Sink};
+use gg_io::{Ending, Shelf, Sink};
 use golden_commands::{Case, print_plan, read_case};
 use std::alloc::Global;
 

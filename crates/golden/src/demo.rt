@@ -24,16 +24,13 @@ ghost use Rattle.golden_commands.specs.Replayed.{IsToReplay};
 ghost use Rattle.golden_commands.specs.RunText.{FeedsOnly, fed_ports};
 
 use gg_bridge::Echo;
-use gg_io::Ending;
 use gg_cut_plan::Models;
-use gg_rows::{circuit_text, partition_text, trace_text};
-use gg_order::run_once;
 use gg_front::{front, one_meaning};
-use gg_io::{Gate, Sink};
+use gg_io::{Ending, Gate, Sink};
 use gg_net::Streams;
-use gg_order::Design;
+use gg_order::{Design, run_once};
 use gg_partfile::Request;
-use gg_rows::{Sums, put_summary, sum_net};
+use gg_rows::{Sums, circuit_text, partition_text, put_summary, sum_net, trace_text};
 use gg_trace::Trace;
 use golden_commands::{
     CIRCUIT_LIMIT, Case, Cut, Fed, PARTITION_LIMIT, cut_request, inputs_of, request_of,

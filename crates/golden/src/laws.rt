@@ -15,8 +15,7 @@ ghost use Rattle.golden_commands.specs.GoesOn.{ResumedIsTheRest, RunsGoOn, Saved
 use gg_front::{faults_apart, one_meaning};
 use gg_partfile::one_answer;
 use gg_read::one_fault_line;
-use gg_snap::plans_can_save;
-use gg_snap::one_snapshot;
+use gg_snap::{one_snapshot, plans_can_save};
 use gg_trace::one_first_fault;
 
 /// Whatever models are handed in, nothing is reported for accepted bytes of a command's file, and all that is reported for other bytes has

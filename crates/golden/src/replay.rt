@@ -16,11 +16,10 @@ ghost use Rattle.golden_commands.specs.Stepped.{IsToldText, TellsToldStep, ToldB
 
 use gg_bits::Name;
 use gg_bridge::Bridge;
-use gg_io::{Ending, load};
 use gg_cut_plan::Models;
-use gg_order::run_once;
 use gg_front::one_meaning;
-use gg_io::{Shelf, Sink};
+use gg_io::{Ending, Shelf, Sink, load};
+use gg_order::run_once;
 use gg_replay::read_steps;
 use golden_commands::{Fed, STEPS_LIMIT, names_of, read_fed, replay_net};
 use std::alloc::Global;

@@ -23,16 +23,14 @@ ghost use Rattle.golden_commands.specs.Resumed.{CanBeResumed, IsResumedText, Tel
 ghost use Rattle.golden_commands.specs.Runs.{TellsSnapOf, meant_by, resumed_rows};
 
 use gg_bridge::Echo;
-use gg_io::{Ending, load};
 use gg_cut_plan::{Models, stop_ratios};
 use gg_flat::Ports;
 use gg_front::one_meaning;
-use gg_io::{Gate, Shelf, Sink};
+use gg_io::{Ending, Gate, Shelf, Sink, load};
 use gg_net::Streams;
 use gg_order::Design;
 use gg_rows::{print_from, trays_of};
-use gg_snap::{plans_are_whole, plans_can_save, restore};
-use gg_snap::{Snap, one_snapshot, read_snap};
+use gg_snap::{Snap, one_snapshot, plans_are_whole, plans_can_save, read_snap, restore};
 use golden_commands::{Fed, SNAP_LIMIT, end_at_snap, end_few, read_fed, reference_of, shown_ports};
 use std::alloc::Global;
 use std::marker::Brand;

@@ -11,9 +11,8 @@ ghost use Rattle.gg_io.specs.WentOn.{ShelfWentOn};
 
 use crate::partition::{Cut, read_cut};
 use crate::reading::{read_circuit, read_inputs};
-use gg_io::Ending;
 use gg_cut_plan::Models;
-use gg_io::Shelf;
+use gg_io::{Ending, Shelf};
 use gg_order::Design;
 use gg_trace::Trace;
 use std::alloc::Global;

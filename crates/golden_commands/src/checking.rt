@@ -4,10 +4,9 @@ ghost use Rattle.gg_cut_reference.specs.text.PlanText.{channel_names, line_of_ch
 ghost use Rattle.gg_io.specs.Endings.{PrintsOn};
 ghost use Rattle.gg_io.specs.WentOn.{SinkWentOn};
 
-use gg_io::{Ending, put};
 use gg_cut_plan::{Channel, Machine, Plan};
 use gg_cut_reference::{channel_line, machine_line};
-use gg_io::Sink;
+use gg_io::{Ending, Sink, put};
 use std::alloc::Global;
 
 // Writes the line of a machine.

@@ -13,12 +13,10 @@ use crate::case::Fed;
 use gg_bits::Name;
 use gg_bridge::Bridge;
 use gg_build::{Node, build};
-use gg_io::{Ending, end_with, make_refusal, put, text_with_number};
 use gg_cut_plan::{Models, Plan};
-use gg_io::Sink;
+use gg_io::{Ending, Sink, end_with, make_refusal, put, text_with_number};
 use gg_net::{Event, Net, StepRefusal, Streams};
-use gg_replay::{Log, ReplayFault, channel_line, replay};
-use gg_replay::{StepNames, cause_text};
+use gg_replay::{Log, ReplayFault, StepNames, cause_text, channel_line, replay};
 use std::alloc::{AllocError, Global};
 
 // Writes the line of a channel.

@@ -20,10 +20,9 @@ ghost use Rattle.gg_io.specs.Ends.{loads_of};
 ghost use Rattle.gg_io.specs.WentOn.{ShelfWentOn};
 
 use crate::limits::PARTITION_LIMIT;
-use gg_io::{Ending, end_with, load, make_refusal};
 use gg_cut::cut;
 use gg_cut_plan::{CutFault, Models, Plan};
-use gg_io::Shelf;
+use gg_io::{Ending, Shelf, end_with, load, make_refusal};
 use gg_order::Design;
 use gg_partfile::{PartFault, Request};
 use std::alloc::{AllocError, Global};

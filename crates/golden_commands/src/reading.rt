@@ -19,9 +19,8 @@ ghost use Rattle.gg_io.specs.WentOn.{ShelfWentOn};
 
 use crate::limits::{CIRCUIT_LIMIT, TRACE_LIMIT};
 use crate::ports::fed_ports;
-use gg_io::{Ending, end_with, load, make_refusal};
 use gg_front::{FrontFault, front};
-use gg_io::Shelf;
+use gg_io::{Ending, Shelf, end_with, load, make_refusal};
 use gg_order::Design;
 use gg_partfile::Request;
 use gg_trace::{Trace, TraceFault, read_trace};

@@ -100,6 +100,7 @@ fn main(rt: HostRuntime) -> ExitCode {
         Err(_) => out_of_memory(rt),
     }
 }
+
 mod fifo;
 mod model;
 

@@ -2,6 +2,6 @@
 //! golden_tests.
 #![tactic(auto)]
 
+mod snaps;
 #[cfg(test)]
 mod tests;
-mod snaps;

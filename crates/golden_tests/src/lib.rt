@@ -5,7 +5,7 @@
 //! beside this one have the tests of cuts, clocks, snapshots and bridges.
 #![tactic(auto)]
 
+mod bridges;
+mod cuts;
 #[cfg(test)]
 mod tests;
-mod cuts;
-mod bridges;

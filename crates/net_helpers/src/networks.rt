@@ -1,7 +1,7 @@
 //! The network of a plan, and what a test looks at in it.
 ghost use Rattle.std.specs.Prelude.{◌≡◌, ℕ, ◌<◌, ◌≤◌, true, length};
 ghost use Rattle.gg_build.specs.Build.{IsToRun, NeedsNone};
-ghost use Rattle.gg_measure.specs.Nets.{cycle_at};
+ghost use Rattle.gg_net.specs.Network.{cycle_at};
 
 use gg_bridge::Echo;
 use gg_build::{Node, build};

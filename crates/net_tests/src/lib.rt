@@ -9,8 +9,11 @@
 //! So a function that owns one has a single way out, and all others take references.
 #![tactic(auto)]
 
+mod bridges;
+mod circuits;
 #[cfg(test)]
 mod direct;
+mod links;
 #[cfg(test)]
 mod measures;
 #[cfg(test)]
@@ -27,7 +30,4 @@ mod refusals;
 mod sharing;
 #[cfg(test)]
 mod tables;
-mod bridges;
-mod links;
-mod circuits;
 mod workers;

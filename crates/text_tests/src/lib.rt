@@ -3,8 +3,10 @@
 //! worked out by hand.
 #![tactic(auto)]
 
+mod bits;
 #[cfg(test)]
 mod fakes;
+mod front;
 #[cfg(test)]
 mod partitions;
 #[cfg(test)]
@@ -13,12 +15,10 @@ mod ports;
 mod shelves;
 #[cfg(test)]
 mod sinks;
+mod snaps;
 #[cfg(test)]
 mod step_files;
 #[cfg(test)]
 mod traces;
 #[cfg(test)]
 mod walks;
-mod bits;
-mod front;
-mod snaps;

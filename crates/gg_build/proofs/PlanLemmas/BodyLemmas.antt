@@ -8,7 +8,7 @@ use Rattle.gg_flat.specs.WellFormed.{IsWellFormed}
 use Rattle.gg_flat.specs.Run.{Start}
 use Rattle.gg_order.specs.Design.{Ordered}
 use Rattle.gg_partfile.specs.declared.request.Request.{Request}
-use Rattle.gg_part.specs.InOrder.{IsInOrder}
+use Rattle.gg_flat.specs.InOrder.{IsInOrder}
 use Rattle.gg_part.specs.declared.part.Part.{Part}
 use Rattle.gg_part.proofs.FormedLemmas.{IsWellFormed-part}
 use Rattle.gg_cut_plan.specs.declared.plan.Body.{Body}

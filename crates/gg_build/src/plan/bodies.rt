@@ -1,7 +1,7 @@
 //! Laws: facts about a plan's units, sources and bridges, from which they can be built.
 ghost use Rattle.std.specs.Prelude.{◌≡◌, ℕ, ◌^◌, ◌<◌, length};
 ghost use Rattle.gg_flat.specs.WellFormed.{IsWellFormed};
-ghost use Rattle.gg_part.specs.InOrder.{IsInOrder};
+ghost use Rattle.gg_flat.specs.InOrder.{IsInOrder};
 ghost use Rattle.gg_cut_plan.specs.Bridges.{model_of};
 ghost use Rattle.gg_cut_plan.specs.Plan.{entry_at};
 ghost use Rattle.gg_bridge.specs.Model.{IsModel};

@@ -14,7 +14,7 @@ use Rattle.gg_flat.specs.Reads.{IsPath, Names, NamesSignal, Reaches, Reads}
 use Rattle.gg_flat.proofs.ListLemmas.{Contains-cases, Contains-filter, filter-cases, further, in-range, numbers-up, range-below}
 use Rattle.gg_order.specs.needs.Needs.{AreNeeds, AreNeedsOfOuts}
 use Rattle.gg_order.proofs.NeedsLemmas.ReachLemmas.{Reaches-itself}
-use Rattle.gg_part.specs.InOrder.{IsInOrder}
+use Rattle.gg_flat.specs.InOrder.{IsInOrder}
 use Rattle.gg_cut.proofs.ExistenceLemmas.DecideLemmas.{Decided, IsAny, any-below, both, either, holds, holds-true, is-below, true-holds}
 use Rattle.gg_cut.proofs.ExistenceLemmas.FilledLemmas.{IsFilled, filled}
 

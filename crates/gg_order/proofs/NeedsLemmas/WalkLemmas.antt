@@ -8,8 +8,8 @@ use Rattle.std.proofs.lemmas.Nat.Bits.{bit_at-zero, bit_at-pow_same, bit_at-pow_
 use Rattle.gg_flat.specs.Line.{value_at}
 use Rattle.gg_flat.specs.Circuit.{FlatCircuit}
 use Rattle.gg_flat.specs.Reads.{Reaches}
-use Rattle.gg_part.specs.InOrder.{IsInOrder}
-use Rattle.gg_part.proofs.AlongLemmas.{IsOrder-numbers}
+use Rattle.gg_flat.specs.InOrder.{IsInOrder}
+use Rattle.gg_flat.proofs.NumberLemmas.{IsOrder-numbers}
 use Rattle.gg_order.specs.Marks.{is_marked}
 use Rattle.gg_order.specs.needs.Walk.{IsWalk, ReadsMarked}
 use Rattle.gg_order.proofs.NeedsLemmas.ReachLemmas.{Reaches-itself}

@@ -3,7 +3,7 @@ ghost use Rattle.std.specs.Prelude.{◌≡◌, ℕ, ◌<◌, ◌≤◌, length, 
 ghost use Rattle.gg_flat.specs.declared.piece.Driver.TheVariants.{Input};
 ghost use Rattle.gg_flat.specs.Circuit.{driver_at};
 ghost use Rattle.gg_flat.specs.WellFormed.{IsWellFormed};
-ghost use Rattle.gg_part.specs.InOrder.{IsInOrder};
+ghost use Rattle.gg_flat.specs.InOrder.{IsInOrder};
 ghost use Rattle.gg_order.specs.needs.Needs.{AreNeedsOfOuts};
 ghost use Rattle.gg_order.specs.needs.Walk.{AreMarkedIns};
 ghost use Rattle.gg_order.specs.needs.Marks.{marks_of, any_marks};

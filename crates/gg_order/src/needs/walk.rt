@@ -1,7 +1,7 @@
 //! What the out-signals of a group reach: one pass over the signals, from the last to the first.
 ghost use Rattle.std.specs.Prelude.{◌≡◌, ℕ, ◌<◌, ◌≤◌, length, replicate, IfOk, All};
 ghost use Rattle.gg_flat.specs.WellFormed.{IsWellFormed};
-ghost use Rattle.gg_part.specs.InOrder.{IsInOrder};
+ghost use Rattle.gg_flat.specs.InOrder.{IsInOrder};
 ghost use Rattle.gg_order.specs.needs.Walk.{AreOwn, AreReached, HandsOn};
 
 use crate::needs::marks::{add_driver, add_mark, one_mark};

@@ -13,8 +13,7 @@ use crate::text::reading::take_lines;
 use crate::text::table::rows_of;
 use crate::text::writing::text_of;
 use gg_bits::Name;
-use gg_order::State;
-use gg_order::Design;
+use gg_order::{Design, State};
 use std::alloc::{AllocError, Global};
 use std::marker::Model;
 

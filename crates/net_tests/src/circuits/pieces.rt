@@ -1,17 +1,15 @@
 //! gg_flat, gg_order, gg_program and gg_fame1: calls on the circuit of a design.
 ghost use Rattle.std.specs.Prelude.{◌≡◌, [], length};
 ghost use Rattle.gg_flat.specs.WellFormed.{IsWellFormed};
-ghost use Rattle.gg_part.specs.InOrder.{IsInOrder};
+ghost use Rattle.gg_flat.specs.InOrder.{IsInOrder};
 
 use gg_bits::{Kind, Name, Ty};
 use gg_fame1::{NoMemory, Unit};
 use gg_flat::Piece;
-use gg_refsim::is_well_formed;
-use gg_order::{State, scratch_of, signal_zeros};
 use gg_node::Host;
-use gg_order::Design;
-use gg_order::needs_of;
+use gg_order::{Design, State, needs_of, scratch_of, signal_zeros};
 use gg_program::Program;
+use gg_refsim::is_well_formed;
 use net_helpers::{PASS, TOGGLE, design_of};
 use std::alloc::{AllocError, Global};
 

@@ -1,4 +1,5 @@
-use Rattle.gg_part.proofs.AlongLemmas.{IsInOrder-along, IsOrder-numbers}
+use Rattle.gg_part.proofs.AlongLemmas.{IsInOrder-along}
+use Rattle.gg_flat.proofs.NumberLemmas.{IsOrder-numbers}
 use Rattle.gg_part.proofs.laws.part_in_order.Goals as goal
 
 pub returns-clause-along : goal.returns-clause-along

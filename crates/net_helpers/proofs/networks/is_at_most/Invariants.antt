@@ -1,5 +1,5 @@
 use Rattle.std.proofs.Common.{ℕ, ◌<◌, ◌≤◌}
-use Rattle.gg_measure.specs.Nets.{cycle_at}
+use Rattle.gg_net.specs.Network.{cycle_at}
 use Rattle.net_helpers.proofs.networks.is_at_most.Given as goal
 
 abbrev pub invariant-loop-machine : goal.invariant-loop-machine
