@@ -1,7 +1,7 @@
 -- The limits of the definitions are those of the program.
 use Rattle.std.proofs.Common.{◌≡◌, refl}
-use Rattle.gg_bits.specs.Limits.{capacity_limit, circuit_limit, cycle_limit, most_channels, most_units, partition_limit, snap_limit, steps_limit, trace_limit}
-use Rattle.gg_bits.specs.declared.limits.TheConstants.{CAPACITY_LIMIT, CIRCUIT_LIMIT, CYCLE_LIMIT, LATEST_CYCLE, MOST_CHANNELS, MOST_UNITS, PARTITION_LIMIT, SNAP_LIMIT, STEPS_LIMIT, TRACE_LIMIT}
+use Rattle.gg_bits.specs.Limits.{capacity_limit, circuit_limit, cycle_limit, most_channels, most_units, partition_limit, snap_limit, steps_limit, trace_limit, tray_rows}
+use Rattle.gg_bits.specs.declared.limits.TheConstants.{CAPACITY_LIMIT, CIRCUIT_LIMIT, CYCLE_LIMIT, LATEST_CYCLE, MOST_CHANNELS, MOST_UNITS, PARTITION_LIMIT, SNAP_LIMIT, STEPS_LIMIT, TRACE_LIMIT, TRAY_ROWS}
 
 cycles : cycle_limit ≡ CYCLE_LIMIT
 cycles = refl
@@ -17,6 +17,9 @@ units = refl
 
 channels : most_channels ≡ MOST_CHANNELS
 channels = refl
+
+trays : tray_rows ≡ TRAY_ROWS
+trays = refl
 
 circuits : circuit_limit ≡ CIRCUIT_LIMIT
 circuits = refl

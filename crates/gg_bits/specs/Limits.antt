@@ -17,6 +17,10 @@ most_units = 256
 abbrev pub most_channels : ℕ
 most_channels = 16384
 
+-- the greatest number of values that a tray keeps: the last ones
+abbrev pub tray_rows : ℕ
+tray_rows = 1024
+
 -- ---- the most bytes that each file of a command may have
 
 -- 4 MiB for a circuit

@@ -16,6 +16,7 @@ mod binary;
 mod bitwise;
 mod choice;
 mod compare;
+mod flags;
 mod judge;
 mod limits;
 mod lists;
@@ -31,6 +32,7 @@ mod unary;
 
 pub use binary::{apply2, apply2_to, result2, shifted_width};
 pub use choice::{mux, result_mux};
+pub use flags::either;
 pub use limits::{
     CAPACITY_LIMIT, CIRCUIT_LIMIT, CYCLE_LIMIT, DEEPEST, GREATEST_SEED, LATEST_CYCLE,
     MOST_CHANNELS, MOST_STAGES, MOST_UNITS, MOST_WORKERS, PARTITION_LIMIT, SNAP_LIMIT, STEPS_LIMIT,

@@ -12,7 +12,7 @@ pub const MOST_UNITS: u64 = 256;
 /// The most channels of a plan.
 pub const MOST_CHANNELS: u64 = 16384;
 
-/// The most values that a tray keeps.
+/// The greatest number of values that a tray keeps: the last ones.
 pub const TRAY_ROWS: u64 = 1024;
 
 /// The most bytes of a circuit's file.
@@ -30,7 +30,7 @@ pub const STEPS_LIMIT: u64 = 67_108_864;
 /// The most bytes of a snapshot's file.
 pub const SNAP_LIMIT: u64 = 67_108_864;
 
-/// The most by which the `(` of a line may outnumber its `)` at some token.
+/// The most by which the `(` from a line's beginning up to a token may outnumber the `)`.
 pub const DEEPEST: usize = 256;
 
 /// The most workers.

@@ -12,10 +12,11 @@ ghost use Rattle.gg_bridge.specs.Model.{IsModel};
 ghost use Rattle.gg_bridge.specs.Joined.{CanJoin, behind_by, joined, copy_line, left_at, linked, linked_signal, place_at, with_model, driver_behind, signal_behind, globals_behind, held_behind, memories_behind, without};
 ghost use Rattle.gg_bits.specs.Lists.{by_number};
 
-use crate::numbers::{left_of, number_at, numbers_at, numbers_from, place_at, places_of};
+use crate::numbers::{left_of, numbers_at, numbers_from, place_at, places_of};
 use gg_bits::{AddError, Name, Ty};
 use gg_flat::{
-    Driver, Line, Lists, Node, Op, Piece, Signal, renamed_driver, renamed_memory, renamed_register,
+    Driver, Line, Lists, Node, Op, Piece, Signal, number_at, renamed_driver, renamed_memory,
+    renamed_register,
 };
 use std::alloc::{AllocError, Global};
 

@@ -4,17 +4,8 @@ ghost use Rattle.std.specs.List.{range_with_len};
 ghost use Rattle.gg_flat.specs.Line.{value_at};
 ghost use Rattle.gg_bridge.specs.Joined.{HasPlaces, is_free, place_at, without};
 
+use gg_flat::number_at;
 use std::alloc::{AllocError, Global};
-
-// The number at a place of a list; 0 past its end.
-pub(crate) fn number_at(list: &[u32], place: u32) -> u32
-    ensures { result ≡ value_at list.now place }
-{
-    match list.get(place as usize) {
-        Some(number) => *number,
-        None => 0,
-    }
-}
 
 /// For each of the first `count` numbers its first place in a list, if it is there.
 ///

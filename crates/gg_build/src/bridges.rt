@@ -8,7 +8,7 @@ ghost use Rattle.gg_build.specs.Bridges.{IsTold, KeepsOthers, TellsBridges};
 ghost use Rattle.gg_build.specs.Hosts.{IsHost};
 
 use crate::node::Node;
-use gg_bits::{Ids, Name};
+use gg_bits::{Name, copied};
 use gg_bridge::{Bridge, Hosted};
 use gg_cut_plan::BridgeBody;
 use std::alloc::{AllocError, Global};
@@ -32,17 +32,6 @@ pub(crate) fn table_of<B: Bridge + Drop>(
         table.insert(name, bridge)?;
     }
     Ok(table)
-}
-
-// A copy of these numbers.
-//
-// # Errors
-//
-// Returns `AllocError` if an allocation fails.
-pub(crate) fn copied(alloc: Global, numbers: &[u32]) -> Result<Ids, AllocError>
-    ensures { IfOk result (λ copy. copy ≡ numbers.now) }
-{
-    Ok(Ids::from(Vec::from_slice(alloc, numbers)?))
 }
 
 // The host of a bridge's machine. The bridge with its name is taken out of the table.

@@ -1,12 +1,12 @@
 //! The hosts of a plan's machines.
 ghost use Rattle.std.specs.Prelude.{◌≡◌, ℕ, ◌<◌, ◌≤◌, [], None, false, IfOk, OnOk, length, replicate, slice_index_or, map};
-ghost use Rattle.gg_bits.specs.Limits.{cycle_limit};
+ghost use Rattle.gg_bits.specs.Limits.{cycle_limit, tray_rows};
 ghost use Rattle.gg_flat.specs.Line.{value_at};
 ghost use Rattle.gg_cut_plan.specs.declared.plan.Body.TheVariants.{Cut, Memory};
 ghost use Rattle.gg_node.specs.Machine.{source_machine, tray_machine};
 ghost use Rattle.gg_fame5.specs.Shared as units;
 ghost use Rattle.gg_build.specs.plan.Alone.{IsCutAgain};
-ghost use Rattle.gg_build.specs.plan.Built.{IsUnitOf, IsMemoryOf, tray_rows};
+ghost use Rattle.gg_build.specs.plan.Built.{IsUnitOf, IsMemoryOf};
 ghost use Rattle.gg_build.specs.Begin.{starts_of};
 ghost use Rattle.gg_build.specs.Bridges.{HasOwn, KeepsOthers};
 ghost use Rattle.gg_build.specs.Groups.{group_at};
@@ -18,7 +18,7 @@ use crate::bridges::bridge_host;
 use crate::node::Node;
 use crate::starts::own_ratios;
 use crate::units::units_of;
-use gg_bits::Name;
+use gg_bits::{Name, TRAY_ROWS};
 use gg_bridge::Bridge;
 use gg_clocks::Ratio;
 use gg_cut_parts::{own_clocks, whole_clocking};
@@ -31,9 +31,6 @@ use gg_program::Program;
 use gg_trace::Trace;
 use std::alloc::{AllocError, Global};
 use std::collections::HashMap;
-
-/// The greatest number of values that a tray keeps: the last ones.
-pub const TRAY_ROWS: u64 = 1024;
 
 // The unit of a part, where the circuit's clocks have these ratios.
 fn unit_of<'a>(

@@ -8,7 +8,7 @@
 //!   empty but for the token 0 of a piped channel, and as many cycles to do as the trace has rows. The hub and the units
 //!   run their parts of the circuit, and need exactly what they depend on. Each listed memory is a machine of its own,
 //!   and its ports are served one by one. Each clock of a unit or of a listed memory has the ratio of the circuit's clock
-//!   that it follows. A source gives the column of its top input. A tray keeps the last 1,024 values ([`TRAY_ROWS`]). A
+//!   that it follows. A source gives the column of its top input. A tray keeps the last 1,024 values (`TRAY_ROWS` of gg_bits). A
 //!   source or a unit has an out for each channel that it gives, also where it gives one signal on several channels. The machine of a
 //!   bridge has the bridge with its name among those that are handed in, with its ports in the order of the machine's channels.
 //! - [`build_from`] builds the network that begins with any cycle, with any state of the reference circuit (`IsOpeningFrom`): each unit
@@ -37,7 +37,6 @@ mod units;
 mod wires;
 
 pub use begin::Begin;
-pub use hosts::TRAY_ROWS;
 pub use node::Node;
 pub use opening::{build, build_from};
 pub use placement::{Placement, placement_of};

@@ -11,12 +11,12 @@ ghost use Rattle.gg_build.specs.Hosts.{CanBuildAll, HasPorts, HaveNames, IsStati
 ghost use Rattle.gg_build.specs.Node.{machines_of};
 
 use crate::begin::Begin;
-use crate::bridges::{copied, table_of};
+use crate::bridges::table_of;
 use crate::groups::groups_of;
 use crate::hosts::hosts_of;
 use crate::node::Node;
 use crate::ports::ports_of;
-use gg_bits::{Ids, Items, Name};
+use gg_bits::{Ids, Items, Name, copied};
 use gg_bridge::Bridge;
 use gg_cut_plan::{Machine, Plan};
 use gg_flat::{Memory, Piece};

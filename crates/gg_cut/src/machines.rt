@@ -10,9 +10,9 @@ ghost use Rattle.gg_cut.specs.Drafted.{AreDraftMachines, AreEarlier, IsDraftBody
 ghost use Rattle.gg_cut.specs.Made.{HasAscending, IsTimedBody, IsTimedUnit};
 
 use crate::shares::plan_shares;
-use gg_bits::{Ids, Name};
+use gg_bits::{Ids, Name, copied};
 use gg_cut_machines::{hosts_of, machine_name};
-use gg_cut_parts::{Draft, MachineDraft, copied, cut_part, domains_of, moved_part};
+use gg_cut_parts::{Draft, MachineDraft, cut_part, domains_of, moved_part};
 use gg_cut_plan::{Body, Machine, Role};
 use gg_cut_split::units_stand_again;
 use std::alloc::{AllocError, Global};

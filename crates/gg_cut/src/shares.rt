@@ -3,7 +3,8 @@ ghost use Rattle.std.specs.Prelude.{◌≡◌, ◌==◌, ◌<◌, if◌then◌el
 ghost use Rattle.gg_cut_parts.specs.Draft.{draft_hub, IsDraft};
 ghost use Rattle.gg_cut.specs.Made.{ArePlanShares, IsRoutedShare};
 
-use gg_cut_parts::{Draft, copied};
+use gg_bits::copied;
+use gg_cut_parts::Draft;
 use gg_cut_routes::staying;
 use gg_cut_split::{Share, Sides, sides_of};
 use std::alloc::{AllocError, Global};

@@ -5,8 +5,8 @@ ghost use Rattle.gg_cut_machines.specs.Seating.{AreDraftPlaces, AreDraftSeats};
 
 use crate::hosts::{Hosts, hosts_of};
 use crate::seats::Seats;
-use gg_bits::Ids;
-use gg_cut_parts::{Draft, copied};
+use gg_bits::{Ids, copied};
+use gg_cut_parts::Draft;
 use gg_cut_split::{Sides, sides_of};
 use std::alloc::{AllocError, Global};
 

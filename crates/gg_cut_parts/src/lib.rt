@@ -39,7 +39,7 @@ pub use draft::Draft;
 pub use lists::{filled, numbers, picked, set_named};
 pub use machine_draft::MachineDraft;
 pub use moved::moved_part;
-pub use parts::{copied, cut_part};
+pub use parts::cut_part;
 pub use paths::signal_name;
 
 mod domains;

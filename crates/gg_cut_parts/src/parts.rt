@@ -5,7 +5,6 @@ ghost use Rattle.gg_cut_plan.specs.Plan.{signals_of, givens_of};
 ghost use Rattle.gg_cut_parts.specs.Draft.{IsMachineDraft, IsDraftPart, IsUnitTimed};
 
 use crate::machine_draft::MachineDraft;
-use gg_bits::Ids;
 use gg_cut_plan::Wire;
 use gg_part::{Part, part_in_order, part_of};
 use std::alloc::{AllocError, Global};
@@ -72,15 +71,4 @@ pub(crate) fn givens(
         givens.push(wires[*channel as usize].given)?;
     }
     Ok(givens)
-}
-
-/// A copy of a list of numbers.
-///
-/// # Errors
-///
-/// Returns `AllocError` if an allocation fails.
-pub fn copied(alloc: Global, numbers: &[u32]) -> Result<Ids, AllocError>
-    ensures { IfOk result (λ copy. copy ≡ numbers.now) }
-{
-    Ok(Ids::from(Vec::from_slice(alloc, numbers)?))
 }

@@ -7,11 +7,11 @@ ghost use Rattle.gg_order.specs.Marks.{is_marked};
 ghost use Rattle.gg_cut_plan.specs.Held.{AreHeldOnce};
 ghost use Rattle.gg_cut_pipes.specs.Tables.{IsFilled, AreHolding, held_by, piped_places, piped_signals, piped_takers, CanFill, AreTables};
 
-use crate::tables::{Tables, number_at};
-use gg_bits::Ids;
+use crate::tables::Tables;
+use gg_bits::{Ids, copied};
 use gg_cut_plan::{Channel, Wire, marks_of};
 use gg_cut_split::Owned;
-use gg_flat::{Driver, Piece};
+use gg_flat::{Driver, Piece, number_at};
 use std::alloc::{AllocError, Global};
 
 // The tables of a plan with these channels, and with the pipes of these signals.
@@ -154,14 +154,6 @@ fn table_of(
     let mut table = filled_with(alloc, 0, count)?;
     fill(&mut table, places, values);
     Ok(table)
-}
-
-// A copy of a list.
-fn copied(alloc: Global, list: &[u32]) -> Result<Ids, AllocError>
-    ensures { IfOk result (λ copy. copy ≡ list.now) }
-{
-    let copy = Vec::from_slice(alloc, list)?;
-    Ok(Ids::from(copy))
 }
 
 // This many times a number.

@@ -10,10 +10,10 @@ ghost use Rattle.gg_cut_reference.specs.Made.{seen_signal, pipe_signal, pipe_reg
 ghost use Rattle.gg_bits.specs.Lists.{by_number};
 ghost use Rattle.gg_cut_pipes.specs.Tables.{seen_in, kept_in, views_by};
 
-use crate::tables::{Tables, number_at};
+use crate::tables::Tables;
 use gg_bits::{AddError, Name};
 use gg_flat::{
-    Driver, Line, Node, Op, Piece, Register, Signal, renamed_driver, renamed_memory,
+    Driver, Line, Node, Op, Piece, Register, Signal, number_at, renamed_driver, renamed_memory,
     renamed_register,
 };
 use std::alloc::{AllocError, Global};

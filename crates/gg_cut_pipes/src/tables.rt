@@ -4,7 +4,7 @@ ghost use Rattle.gg_flat.specs.Line.{value_at};
 ghost use Rattle.gg_cut_pipes.specs.Tables.{kept_in, seen_in};
 
 use gg_bits::Ids;
-use gg_flat::Renames;
+use gg_flat::{Renames, number_at};
 
 // Who names what: for each signal the machine in which its driver stands, for each register the machine that holds it, and for
 // each memory the machine that has it. For each signal whose channel is piped, the machine that takes the channel, and the
@@ -100,15 +100,5 @@ impl<'a> Renames for Seen<'a> {
 
     fn clock(&self, clock: Option<u32>) -> Option<u32> {
         clock
-    }
-}
-
-// The number at a place of a list; 0 past its end.
-pub(crate) fn number_at(list: &[u32], place: u32) -> u32
-    ensures { result ≡ value_at list.now place }
-{
-    match list.get(place as usize) {
-        Some(number) => *number,
-        None => 0,
     }
 }

@@ -2,7 +2,7 @@
 -- other machines. A bridge takes the place of the sources of what it drives and of the trays of what it sees. The machines that are
 -- left keep their order, and the bridges are behind them.
 -- Source: ICCAD 2019 (bridges: models in the host's own code that stand at a target's ports).
-use Rattle.std.specs.Prelude.{◌≡◌, ℕ, zero, suc, ◌+◌, ◌-◌, ◌<◌, List, length, take, filter, not, Bool, true, false, if◌then◌else◌, nat_lt, Option, Some, None, is_none, map}
+use Rattle.std.specs.Prelude.{◌≡◌, ℕ, ◌+◌, ◌-◌, ◌<◌, List, length, take, filter, not, Bool, if◌then◌else◌, nat_lt, Option, Some, None, is_none, map}
 use Rattle.gg_bits.specs.Lists.{number_or, count_below}
 use Rattle.gg_flat.specs.Line.{value_at}
 use Rattle.gg_flat.specs.Circuit.{FlatCircuit}

@@ -1,7 +1,7 @@
 -- The two ends of a channel in the reference circuit: the signal by which its producer gives the value, and the signal by which
 -- its consumer gets it. They differ where the channel is direct or piped.
 -- Source: MEMOCODE 2009 (channels between the nodes of a dataflow network; tokens that are there at the start).
-use Rattle.std.specs.Prelude.{◌≡◌, ℕ, ◌<◌, ◌+◌, List, Bool, ◌==◌, ◌&&◌, if◌then◌else◌, Option, Some, None, length, filter, find, Contains}
+use Rattle.std.specs.Prelude.{◌≡◌, ℕ, ◌<◌, List, Bool, ◌==◌, ◌&&◌, if◌then◌else◌, Option, Some, None, length, filter, find, Contains}
 use Rattle.std.specs.List.{list_any, range_with_len}
 use Rattle.gg_bits.specs.Lists.{number_or}
 use Rattle.gg_flat.specs.Circuit.{driver_at}

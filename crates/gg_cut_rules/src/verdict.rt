@@ -17,19 +17,13 @@ use crate::entries::{
 use crate::overlap::none_overlap;
 use crate::pipes::{pipes_exist, pipes_once};
 use crate::signals::{listed_memories, listed_units};
-use gg_bits::Ids;
+use gg_bits::{Ids, MOST_CHANNELS, MOST_UNITS};
 use gg_cut_plan::{CutFault, Listed, marks_of};
 use gg_flat::Piece;
 use gg_flat_tree::Tree;
 use gg_order::Design;
 use gg_partfile::Request;
 use std::alloc::Global;
-
-// The most units and listed memories together.
-const MOST_UNITS: u64 = 256;
-
-// The most channels.
-const MOST_CHANNELS: u64 = 16384;
 
 /// Judges the entries of a request for a design whose circuit keeps to its tree: which name nothing or occur twice, lists of
 /// units with different modules, and memories. Returns what the request lists.

@@ -5,8 +5,6 @@ use Rattle.std.specs.Prelude.{ℕ, suc, ◌-◌, ◌^◌, min, max, Bool, true, 
 use Rattle.std.specs.List.{sum_by, list_any}
 use Rattle.gg_types.specs.Fields.{depth_said}
 use Rattle.gg_ast.specs.declared.statement.Field.{Field}
-use Rattle.gg_ast.specs.declared.statement.MemoryField.{MemoryField}
-use Rattle.gg_ast.specs.declared.statement.MemoryField.TheVariants as field
 use Rattle.gg_ast.specs.declared.statement.Stmt.{Stmt}
 use Rattle.gg_ast.specs.declared.statement.StmtKind.{StmtKind}
 use Rattle.gg_ast.specs.declared.statement.StmtKind.TheVariants as says

@@ -33,5 +33,5 @@ pub use ports::{Port, Ports};
 pub use renamed::{
     renamed_driver, renamed_memory, renamed_reader, renamed_register, renamed_writer,
 };
-pub use renames::{Lists, Renames};
+pub use renames::{Lists, Renames, number_at};
 pub use streams::Streams;

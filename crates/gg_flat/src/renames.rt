@@ -39,8 +39,8 @@ pub struct Lists<'a> {
     pub clock: Option<u32>,
 }
 
-// The number at a place of a list; 0 past its end.
-fn number_at(list: &[u32], place: u32) -> u32
+/// The number at a place of a list; 0 past its end.
+pub fn number_at(list: &[u32], place: u32) -> u32
     ensures { result ≡ value_at list.now place }
 {
     match list.get(place as usize) {

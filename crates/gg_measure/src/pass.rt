@@ -2,7 +2,7 @@
 ghost use Rattle.std.specs.Prelude.{◌≡◌, ◌<◌, true};
 ghost use Rattle.gg_measure.specs.Nets.{Goes, net_left};
 
-use crate::turn::either;
+use gg_bits::either;
 use gg_net::{Event, Net, Streams};
 use gg_node::Host;
 

@@ -1,5 +1,5 @@
 //! The turn of a machine, and a round of turns.
-ghost use Rattle.std.specs.Prelude.{◌≡◌, ℕ, ◌<◌, ◌||◌, false, length, MatchBool};
+ghost use Rattle.std.specs.Prelude.{◌≡◌, ℕ, ◌<◌, false, length, MatchBool};
 ghost use Rattle.gg_node.specs.Machine.{machine_at};
 ghost use Rattle.gg_measure.specs.Nets.{IsAtWork, IsIdle, NoLatch, NoFire, NoServe, Goes};
 ghost use Rattle.gg_net.specs.Network.{cycle_at};
@@ -7,15 +7,9 @@ ghost use Rattle.gg_measure.specs.Turns.{HasServedOne, HadTurn, HasGoneRound};
 
 use crate::order::Order;
 use crate::try_event::{attempt_noted, serve_due};
+use gg_bits::either;
 use gg_net::{Event, Net, Streams};
 use gg_node::Host;
-
-// Whether one of two is true.
-pub(crate) fn either(one: bool, other: bool) -> bool
-    ensures { result ≡ (one || other) }
-{
-    one || other
-}
 
 // Latches the front tokens of all channels into a machine for which that may be done. Returns whether it was for any.
 fn latch_all<H: Host, Z: Streams>(

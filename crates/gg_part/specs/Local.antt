@@ -1,6 +1,6 @@
 -- What a part has, under the part's own numbers, with a clock of the part for each port.
 -- Source: this program's own.
-use Rattle.std.specs.Prelude.{ℕ, suc, List, [], ◌∷◌, Option, None, length, slice_index_or}
+use Rattle.std.specs.Prelude.{ℕ, List, Option, None, length, slice_index_or}
 use Rattle.gg_bits.specs.Lists.{by_number}
 use Rattle.gg_flat.specs.declared.memory.Memory.{Memory}
 use Rattle.gg_flat.specs.declared.memory.Reader.{Reader}

@@ -1,7 +1,7 @@
 -- How many signals have still to be evaluated in a cycle.
 -- Source: MEMOCODE 2009 (a node gives each output as soon as it can); that no assignment is evaluated twice in a cycle is
 -- this program's own.
-use Rattle.std.specs.Prelude.{ℕ, zero, suc, ◌+◌, List, length, Bool, true, false}
+use Rattle.std.specs.Prelude.{ℕ, List, length, Bool, true, false}
 use Rattle.gg_bits.specs.Lists.{count_below}
 use Rattle.gg_flat.specs.declared.piece.Driver.{Driver}
 use Rattle.gg_flat.specs.declared.piece.Driver.TheVariants.{Input, Held, MemoryWord, ReadRegister, Computed}

@@ -4,12 +4,9 @@ ghost use Rattle.gg_read.specs.Causes.{IsFaultOf};
 ghost use Rattle.gg_read.specs.Text.{IsTooDeep, opened, closed, first_outside, outside_text, is_outside_word};
 
 use crate::text::ReadFault;
-use gg_bits::Name;
+use gg_bits::{DEEPEST, Name};
 use gg_lex::{Symbol, Tok};
 use std::alloc::{AllocError, Global};
-
-// The most by which the `(` from a line's beginning up to a token may outnumber the `)`.
-const DEEPEST: usize = 256;
 
 // The fault of the fault line with this number and these tokens.
 pub(crate) fn line_fault(alloc: Global, line: u64, tokens: &[Tok]) -> ReadFault

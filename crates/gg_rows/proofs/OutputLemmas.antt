@@ -23,10 +23,10 @@ use Rattle.gg_cut_reference.specs.whole.Whole.{plan_circuit}
 use Rattle.gg_rows.proofs.TrayLinkLemmas.{IsTrayLink, tray-link, trays-there}
 use Rattle.gg_rows.proofs.CountLemmas.{trays-begin}
 use Rattle.gg_node.specs.Machine.{KeepsLast, Machine, kept_value, machine_at}
-use Rattle.gg_net.specs.Network.{Network, Frame, Kind, frame_of, kind_of, kind_at, wire_at}
+use Rattle.gg_net.specs.Network.{Network, Frame, Kind, frame_of, kind_of, kind_at, wire_at, AllStandAt}
 use Rattle.gg_net.specs.Kept.{Kept, list_at}
-use Rattle.gg_net.specs.Network.{AllStandAt}
-use Rattle.gg_build.specs.plan.Built.{IsBuilt, body_start, machine_in, nameless, tray_rows, wires_of_plan}
+use Rattle.gg_build.specs.plan.Built.{IsBuilt, body_start, machine_in, nameless, wires_of_plan}
+use Rattle.gg_bits.specs.Limits.{tray_rows}
 use Rattle.gg_build.proofs.PlanLemmas.FitLemmas.{kind-is}
 use Rattle.gg_build.proofs.PlanLemmas.LinkLemmas.{length-from, wire-from}
 use Rattle.gg_build.specs.Build.{IsOpeningFrom, IsToRunFrom, run_token}

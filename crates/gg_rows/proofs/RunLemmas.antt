@@ -7,10 +7,9 @@ use Rattle.gg_flat.specs.Streams.{Flow}
 use Rattle.gg_build.specs.Build.{IsOpeningFrom, IsToRunFrom, run_token}
 use Rattle.gg_cut_plan.specs.Seated.{first_kept_tray, plan_bridges}
 use Rattle.gg_cut_plan.specs.declared.plan.Plan.{Plan}
-use Rattle.gg_net.specs.Network.{AllStandAt}
+use Rattle.gg_net.specs.Network.{AllStandAt, Frame, Network, frame_of}
 use Rattle.gg_net.specs.Kept.{Kept}
-use Rattle.gg_net.specs.Network.{Frame, Network, frame_of}
-use Rattle.gg_build.specs.plan.Built.{tray_rows}
+use Rattle.gg_bits.specs.Limits.{tray_rows}
 use Rattle.gg_io.specs.declared.endings.Ending.{Ending}
 use Rattle.gg_io.specs.declared.endings.Ending.TheVariants.{NoMemory}
 use Rattle.gg_rows.specs.Rows.{AreTraysOf, TraysKeep, run_row}

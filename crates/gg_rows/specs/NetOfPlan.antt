@@ -7,11 +7,10 @@ use Rattle.gg_cut_plan.specs.Seated.{first_kept_tray, plan_bridges}
 use Rattle.gg_cut_plan.specs.declared.plan.Plan.{Plan}
 use Rattle.gg_cut_reference.specs.Follows.{plan_start}
 use Rattle.gg_net.specs.Kept.{Kept}
-use Rattle.gg_net.specs.Network.{Network, frame_of}
-use Rattle.gg_net.specs.Network.{AllStandAt}
+use Rattle.gg_net.specs.Network.{Network, frame_of, AllStandAt}
 use Rattle.gg_cut_reference.specs.whole.Whole.{plan_circuit}
 use Rattle.gg_build.specs.Build.{IsOpeningFrom, IsOpeningOf, IsToRun, IsToRunFrom, run_from_zeros, run_token}
-use Rattle.gg_build.specs.plan.Built.{tray_rows}
+use Rattle.gg_bits.specs.Limits.{tray_rows}
 use Rattle.gg_rows.specs.Rows.{TraysKeep, outputs_in}
 use Rattle.gg_build.specs.StandsAt.{IsNetOfPlan}
 

@@ -4,7 +4,7 @@
 use Rattle.std.specs.Prelude.{◌≡◌, ℕ, ◌+◌, ◌-◌, ◌<◌, ◌≤◌, List, Option, Result, length}
 use Rattle.gg_cut_reference.specs.whole.Whole.{plan_circuit}
 use Rattle.gg_build.specs.Build.{IsOpeningFrom, IsOpeningOf, IsToRun, IsToRunFrom, run_from_zeros, run_token}
-use Rattle.gg_build.specs.plan.Built.{tray_rows}
+use Rattle.gg_bits.specs.Limits.{tray_rows}
 use Rattle.gg_io.specs.Endings.{PrintsOn}
 use Rattle.gg_io.specs.declared.endings.Ending.{Ending}
 use Rattle.gg_cut_plan.specs.Bridges.{Models}
@@ -16,8 +16,7 @@ use Rattle.gg_flat.specs.Run.{Start}
 use Rattle.gg_flat.specs.Streams.{Flow}
 use Rattle.gg_flat.specs.declared.ports.Port.{Port}
 use Rattle.gg_io.specs.declared.output.Sink
-use Rattle.gg_net.specs.Network.{AllStandAt}
-use Rattle.gg_net.specs.Network.{Network}
+use Rattle.gg_net.specs.Network.{AllStandAt, Network}
 use Rattle.gg_order.specs.Design.{Ordered}
 use Rattle.gg_partfile.specs.declared.request.Request.{Request}
 use Rattle.gg_rows.specs.Printed.{AreKept, IsFirst, RowsAreKept, ends_run, out_columns, plan_stops, rows_since, rows_to, text_of, text_since}

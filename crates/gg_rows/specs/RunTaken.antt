@@ -3,7 +3,7 @@
 -- cycle k, in whatever order the nodes go on).
 use Rattle.std.specs.Prelude.{◌≡◌, ℕ, ◌+◌, ◌-◌, ◌<◌, ◌≤◌, List, Bool, Result}
 use Rattle.gg_build.specs.Build.{IsOpeningFrom, IsToRunFrom, run_token}
-use Rattle.gg_build.specs.plan.Built.{tray_rows}
+use Rattle.gg_bits.specs.Limits.{tray_rows}
 use Rattle.gg_io.specs.declared.endings.Ending.{Ending}
 use Rattle.gg_cut_plan.specs.Seated.{first_kept_tray, plan_bridges}
 use Rattle.gg_cut_plan.specs.declared.plan.Plan.{Plan}

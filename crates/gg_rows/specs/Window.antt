@@ -4,7 +4,7 @@
 use Rattle.std.specs.Prelude.{◌≡◌, ℕ, ◌+◌, min}
 use Rattle.gg_net.specs.Network.{Network, frame_of}
 use Rattle.gg_measure.specs.Nets.{StaysWithin}
-use Rattle.gg_build.specs.plan.Built.{tray_rows}
+use Rattle.gg_bits.specs.Limits.{tray_rows}
 
 -- Where the window ends that begins at a cycle, if this many cycles have to be done. A window that isn't the last has as
 -- many cycles as a tray keeps values.

@@ -4,7 +4,7 @@ ghost use Rattle.gg_flat.specs.Run.{Start};
 ghost use Rattle.gg_cut_plan.specs.declared.plan.Plan.{Plan};
 ghost use Rattle.gg_net.specs.Network.{Network};
 ghost use Rattle.gg_build.specs.Build.{IsOpeningFrom};
-ghost use Rattle.gg_build.specs.plan.Built.{tray_rows};
+ghost use Rattle.gg_bits.specs.Limits.{tray_rows};
 ghost use Rattle.gg_build.specs.StandsAt.{IsNetOfPlan};
 ghost use Rattle.gg_rows.specs.Window.{window_end};
 ghost use Rattle.gg_rows.specs.NetOfPlan.{NetsStayOfThePlan, OpeningsAreKept, TraysGetNothingElse, TraysGetTheOutputs, ZerosAreAStart};

@@ -4,7 +4,7 @@ ghost use Rattle.gg_net.specs.Network.{frame_of};
 ghost use Rattle.gg_net.specs.Network.{AllStandAt, cycle_at};
 ghost use Rattle.gg_rows.specs.Window.{GoesWithin, window_end};
 
-use gg_build::TRAY_ROWS;
+use gg_bits::TRAY_ROWS;
 use gg_flat::Streams;
 use gg_io::Gate;
 use gg_link::Link;

@@ -5,7 +5,7 @@
 //! that has a fault is refused with its first fault. `header_text` and `row_text` return the exact bytes of the lines
 //! of an output trace. A value that is printed is read again as the same value. `Lines` gives the lines of any text,
 //! one after another. `run_len` gives the length of the run of blanks, or of other bytes, with which a text begins.
-//! `acts` tells whether a stop acts: its condition is one, and its clock has an edge. `row_count` (specs/Last) tells how many rows a run
+//! `same_bytes` compares two texts. `acts` tells whether a stop acts: its condition is one, and its clock has an edge. `row_count` (specs/Last) tells how many rows a run
 //! has that a stop may end.
 #![tactic(auto)]
 
@@ -30,4 +30,5 @@ pub use line_cuts::{Lines, lines_part_their_text};
 pub use printing::{header_text, printed_values_are_read, row_text};
 pub use reading::read_trace;
 pub use stops::{acts, rows_end_at_halts};
+pub use texts::same_bytes;
 pub use trace_table::Trace;

@@ -3,8 +3,8 @@
 ghost use Rattle.std.specs.Prelude.{◌≡◌, ◌≢◌};
 ghost use Rattle.std.specs.Bool.{OnTrue, OnFalse};
 
-// Whether two texts have the same bytes.
-pub(crate) fn same_bytes(one: &[u8], other: &[u8]) -> bool
+/// Whether two texts have the same bytes.
+pub fn same_bytes(one: &[u8], other: &[u8]) -> bool
     ensures same { OnTrue result (one.now ≡ other.now) }
     ensures differ { OnFalse result (one.now ≢ other.now) }
 {

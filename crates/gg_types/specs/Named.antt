@@ -1,6 +1,5 @@
 -- Lists of names, each with a value.
-use Rattle.std.specs.Prelude.{◌≡◌, ℕ, ◌+◌, Bool, false, List, [], ◌∷◌, ◌++◌, Option, Some, None, length, take, slice_index_or, if◌then◌else◌}
-use Rattle.std.specs.Str.{bytes_eq}
+use Rattle.std.specs.Prelude.{◌≡◌, ℕ, ◌+◌, Bool, false, List, [], ◌∷◌, ◌++◌, Option, Some, None, length, take, slice_index_or}
 use Rattle.gg_ast.specs.Places.{place_of}
 use Rattle.gg_types.specs.declared.sort.Own.{Own}
 

@@ -3,20 +3,6 @@ ghost use Rattle.std.specs.Prelude.{◌≡◌, ◌≤◌, ◌<◌, ◌^◌};
 ghost use Rattle.std.specs.Str.{all_ascii_digits};
 ghost use Rattle.gg_words.specs.Number.{number_in};
 
-use gg_bits::CYCLE_LIMIT;
-
-// The most workers.
-pub(crate) const MOST_WORKERS: u32 = 64;
-
-// The latest cycle at which a snapshot is saved.
-pub(crate) const LATEST_CYCLE: u32 = CYCLE_LIMIT as u32;
-
-// The greatest seed of a demo.
-pub(crate) const GREATEST_SEED: u32 = u32::MAX;
-
-// The most stages of a demo.
-pub(crate) const MOST_STAGES: u32 = 64;
-
 // Whether all bytes of a text are decimal digits.
 fn are_digits(text: &str) -> bool
     ensures { result ≡ all_ascii_digits text.now }

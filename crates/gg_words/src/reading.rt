@@ -15,10 +15,10 @@ ghost use Rattle.gg_words.specs.declared.command.WordFault.{WordFault};
 use crate::command::{Cmd, WordFault};
 use crate::laws::{one_meaning, words_are_given};
 use crate::line::golden_line;
-use crate::numbers::{GREATEST_SEED, LATEST_CYCLE, MOST_STAGES, MOST_WORKERS, number_in};
+use crate::numbers::number_in;
 use clap::ArgMatches;
 use clap::error::ErrorKind;
-use gg_bits::{CAPACITY_LIMIT, Name};
+use gg_bits::{CAPACITY_LIMIT, GREATEST_SEED, LATEST_CYCLE, MOST_STAGES, MOST_WORKERS, Name};
 use std::alloc::{AllocError, Global};
 
 // The text that was given to an argument.

@@ -9,8 +9,9 @@ ghost use Rattle.gg_workers_pass.specs.Pass.{MachineWentOn, HasSeatsAt, KnownDon
 
 use crate::era::Era;
 use crate::machine_seats::MachineSeats;
-use crate::rows::{either, fire_all, latch_all, serve_all};
+use crate::rows::{fire_all, latch_all, serve_all};
 use crate::tries::try_finish;
+use gg_bits::either;
 use gg_flat::Streams;
 use gg_link::Link;
 use gg_net::Station;

@@ -1,5 +1,5 @@
 //! A row of tries: all ins of one machine, all outs, or its ports as long as one can be served.
-ghost use Rattle.std.specs.Prelude.{◌≡◌, ℕ, ◌^◌, ◌<◌, ◌≤◌, ◌||◌, length, map, slice_set};
+ghost use Rattle.std.specs.Prelude.{◌≡◌, ℕ, ◌^◌, ◌<◌, ◌≤◌, length, map, slice_set};
 ghost use Rattle.gg_node.specs.Machine.{machine_at};
 ghost use Rattle.gg_net.specs.Network.{frame_of};
 ghost use Rattle.gg_net.specs.Net.{entry_of};
@@ -9,17 +9,11 @@ ghost use Rattle.gg_workers_pass.specs.Rows.{SeatsByPlace, LatchesTried, AreIns,
 
 use crate::era::Era;
 use crate::tries::{try_fire, try_latch, try_serve};
+use gg_bits::either;
 use gg_flat::Streams;
 use gg_link::Link;
 use gg_net::ServedPort;
 use gg_node::Host;
-
-// Whether one of two is true.
-pub(crate) fn either(one: bool, other: bool) -> bool
-    ensures { result ≡ (one || other) }
-{
-    one || other
-}
 
 // Tries each in of a machine once. Returns whether any token was latched.
 pub(crate) fn latch_all<H: Host, L: Link, Z: Streams, E: Era>(

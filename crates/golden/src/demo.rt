@@ -23,6 +23,7 @@ ghost use Rattle.golden_commands.specs.Partition.{Cuts, to_run};
 ghost use Rattle.golden_commands.specs.Replayed.{IsToReplay};
 ghost use Rattle.golden_commands.specs.RunText.{FeedsOnly, fed_ports};
 
+use gg_bits::{CIRCUIT_LIMIT, PARTITION_LIMIT};
 use gg_bridge::Echo;
 use gg_cut_plan::Models;
 use gg_front::{front, one_meaning};
@@ -32,9 +33,7 @@ use gg_order::{Design, run_once};
 use gg_partfile::Request;
 use gg_rows::{Sums, circuit_text, partition_text, put_summary, sum_net, trace_text};
 use gg_trace::Trace;
-use golden_commands::{
-    CIRCUIT_LIMIT, Case, Cut, Fed, PARTITION_LIMIT, cut_request, inputs_of, request_of,
-};
+use golden_commands::{Case, Cut, Fed, cut_request, inputs_of, request_of};
 use std::alloc::{AllocError, Global};
 use std::marker::Brand;
 use std::thread::Threads;

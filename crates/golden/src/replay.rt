@@ -14,14 +14,14 @@ ghost use Rattle.golden_commands.specs.Partition.{to_run};
 ghost use Rattle.golden_commands.specs.Replay.{IsReplayOf, steps_file_for};
 ghost use Rattle.golden_commands.specs.Stepped.{IsToldText, TellsToldStep, ToldBehind, ToldByNetwork};
 
-use gg_bits::Name;
+use gg_bits::{Name, STEPS_LIMIT};
 use gg_bridge::Bridge;
 use gg_cut_plan::Models;
 use gg_front::one_meaning;
 use gg_io::{Ending, Shelf, Sink, load};
 use gg_order::run_once;
 use gg_replay::read_steps;
-use golden_commands::{Fed, STEPS_LIMIT, names_of, read_fed, replay_net};
+use golden_commands::{Fed, names_of, read_fed, replay_net};
 use std::alloc::Global;
 use std::marker::Brand;
 

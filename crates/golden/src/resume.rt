@@ -22,6 +22,7 @@ ghost use Rattle.golden_commands.specs.Partition.{to_save};
 ghost use Rattle.golden_commands.specs.Resumed.{CanBeResumed, IsResumedText, TellsLate, TellsNoSnap, rest_text, snap_file_for};
 ghost use Rattle.golden_commands.specs.Runs.{TellsSnapOf, meant_by, resumed_rows};
 
+use gg_bits::SNAP_LIMIT;
 use gg_bridge::Echo;
 use gg_cut_plan::{Models, stop_ratios};
 use gg_flat::Ports;
@@ -31,7 +32,7 @@ use gg_net::Streams;
 use gg_order::Design;
 use gg_rows::{print_from, trays_of};
 use gg_snap::{Snap, one_snapshot, plans_are_whole, plans_can_save, read_snap, restore};
-use golden_commands::{Fed, SNAP_LIMIT, end_at_snap, end_few, read_fed, reference_of, shown_ports};
+use golden_commands::{Fed, end_at_snap, end_few, read_fed, reference_of, shown_ports};
 use std::alloc::Global;
 use std::marker::Brand;
 use std::thread::Threads;

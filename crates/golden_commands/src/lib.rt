@@ -15,7 +15,6 @@
 mod case;
 mod checking;
 mod handed;
-mod limits;
 mod naming;
 mod network;
 mod partition;
@@ -30,7 +29,6 @@ mod words;
 pub use case::{Case, Fed, read_case, read_fed};
 pub use checking::print_plan;
 pub use handed::models_of;
-pub use limits::{CIRCUIT_LIMIT, PARTITION_LIMIT, SNAP_LIMIT, STEPS_LIMIT};
 pub use naming::names_of;
 pub use network::replay_net;
 pub use partition::{Cut, cut_request, request_of};

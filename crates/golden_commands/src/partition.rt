@@ -19,7 +19,7 @@ ghost use Rattle.golden_commands.specs.Partition.{Cuts, partition_file_of};
 ghost use Rattle.gg_io.specs.Ends.{loads_of};
 ghost use Rattle.gg_io.specs.WentOn.{ShelfWentOn};
 
-use crate::limits::PARTITION_LIMIT;
+use gg_bits::PARTITION_LIMIT;
 use gg_cut::cut;
 use gg_cut_plan::{CutFault, Models, Plan};
 use gg_io::{Ending, Shelf, end_with, load, make_refusal};

@@ -17,8 +17,8 @@ ghost use Rattle.gg_io.specs.Endings.{IfRefused, IsRefusedBy};
 ghost use Rattle.gg_io.specs.Ends.{loads_of};
 ghost use Rattle.gg_io.specs.WentOn.{ShelfWentOn};
 
-use crate::limits::{CIRCUIT_LIMIT, TRACE_LIMIT};
 use crate::ports::fed_ports;
+use gg_bits::{CIRCUIT_LIMIT, TRACE_LIMIT};
 use gg_front::{FrontFault, front};
 use gg_io::{Ending, Shelf, end_with, load, make_refusal};
 use gg_order::Design;

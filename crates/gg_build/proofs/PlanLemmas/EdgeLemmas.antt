@@ -1,12 +1,11 @@
 -- What sources and trays do.
 use Rattle.std.proofs.Common.{◌≡◌, ℕ, ◌<◌, ◌≤◌, List, [], Bool, None, length, get_or, refl, sym, ◌∙◌, subst, arith}
-use Rattle.gg_bits.specs.Limits.{cycle_limit}
+use Rattle.gg_bits.specs.Limits.{cycle_limit, tray_rows}
 use Rattle.gg_flat.specs.Line.{value_at}
 use Rattle.gg_flat.specs.Run.{column}
 use Rattle.gg_node.specs.Machine.{Machine, no_state, source_machine, tray_machine}
 use Rattle.gg_net.specs.Network.{kind_of}
 use Rattle.gg_net.proofs.StateLemmas.{column-at}
-use Rattle.gg_build.specs.plan.Built.{tray_rows}
 use Rattle.gg_build.proofs.PlanLemmas.DoLemmas.{DoesCycles}
 
 -- ---- sources

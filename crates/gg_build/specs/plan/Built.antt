@@ -4,7 +4,7 @@
 -- 2019 (units and memories of a target as models of their own, with sources for its inputs and sinks for its outputs).
 use Rattle.std.specs.List.{range_with_len}
 use Rattle.std.specs.Prelude.{◌≡◌, ℕ, suc, ◌+◌, ◌^◌, ◌<◌, ◌≤◌, ◌==◌, ◌++◌, List, [], ◌∷◌, Bool, false, if◌then◌else◌, Option, None, Some, length, map, replicate, slice_index_or, unwrap_or}
-use Rattle.gg_bits.specs.Limits.{cycle_limit}
+use Rattle.gg_bits.specs.Limits.{tray_rows, cycle_limit}
 use Rattle.gg_flat.specs.Circuit.{FlatCircuit}
 use Rattle.gg_flat_tree.specs.Clocked.{clocks_from}
 use Rattle.gg_flat.specs.Line.{value_at}
@@ -131,10 +131,6 @@ pub record IsMemoryOf (own : Start) (part : Part) (machine : Machine) : Type 0 w
   pub memories : alone.memories ≡ 0 ∷ []
   pub is_memory : memory.IsMemoryPiece alone.piece
   pub is : machine ≡ memory.started_unit alone.piece own.ratios (part_state alone.held alone.memories own.state) own.cycle
-
--- the most values that a tray keeps
-abbrev pub tray_rows : ℕ
-tray_rows = 1024
 
 -- The machine of the network for a machine of the plan that gives this many channels and begins with this start. `columns` are the
 -- columns of the top's inputs that no bridge drives, by their places. A source has an out for each channel. A bridge's machine runs its

@@ -1,15 +1,6 @@
 //! Cuts of a text.
 ghost use Rattle.std.specs.Prelude.{◌≡◌, ◌≢◌, ℕ, ◌<◌, ◌≤◌, ◌++◌, ◌∷◌, [], List, MatchOption, length, slice_index};
-ghost use Rattle.std.specs.Bool.{OnTrue, OnFalse};
 ghost use Rattle.gg_snap.specs.text.Standing.{pieces};
-
-// Whether two texts have the same bytes.
-pub(crate) fn same_bytes(one: &[u8], other: &[u8]) -> bool
-    ensures same { OnTrue result (one.now ≡ other.now) }
-    ensures differ { OnFalse result (one.now ≢ other.now) }
-{
-    one == other
-}
 
 // What follows these bytes in a text that begins with them.
 pub(crate) fn strip<'a>(text: &'a [u8], front: &[u8]) -> Option<&'a [u8]>

@@ -5,11 +5,12 @@ ghost use Rattle.gg_snap.specs.text.Heading.{IsHeadingFault};
 ghost use Rattle.gg_snap.specs.text.Lines.{cycle_line, first_line};
 ghost use Rattle.gg_snap.specs.text.Standing.{IfFault, pieces};
 
-use crate::text::cutting::{cut_piece, same_bytes, strip, without_last};
+use crate::text::cutting::{cut_piece, strip, without_last};
 use crate::text::fault::SnapFault;
 use crate::text::parsing::number_of;
 use crate::text::writing::push_cycle;
 use gg_bits::CYCLE_LIMIT;
+use gg_trace::same_bytes;
 use std::alloc::{AllocError, Global};
 
 // The number in the line of a cycle. Other texts may give a number, too.

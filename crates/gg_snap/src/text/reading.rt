@@ -8,11 +8,12 @@ ghost use Rattle.gg_snap.specs.text.Known.{AreKnown, IsKnown};
 ghost use Rattle.gg_snap.specs.text.Lines.{head_of, line_of};
 ghost use Rattle.gg_snap.specs.text.Places.{Ends, Finds, IsLineOfNone, IsTaken, behind};
 
-use crate::text::cutting::{cut_piece, same_bytes};
+use crate::text::cutting::cut_piece;
 use crate::text::draft::Draft;
 use crate::text::parsing::{after_head, cell_of};
 use crate::text::row::Row;
 use crate::text::writing::push_line;
+use gg_trace::same_bytes;
 use std::alloc::{AllocError, Global};
 
 // How far a table was gone through: the row, and the address in it, that may come next.
