@@ -3,6 +3,7 @@
 use Rattle.std.specs.Prelude.{ℕ, List, [], ◌∷◌, Option, None, Some, codes, option_map, if◌then◌else◌}
 use Rattle.std.specs.Option.{option_or}
 use Rattle.std.specs.Str.{bytes_eq}
+use Rattle.gg_bits.specs.Lists.{find_word}
 use Rattle.gg_bits.specs.Spelling.{named1, named2, named_const}
 use Rattle.gg_bits.specs.declared.types.Kind.{Kind}
 use Rattle.gg_bits.specs.declared.types.Kind.TheVariants as kind
@@ -51,11 +52,6 @@ field_text field.WriteLatency = codes "write-latency"
 field_text field.Reader = codes "reader"
 field_text field.Writer = codes "writer"
 field_text field.ReadUnderWrite = codes "read-under-write"
-
--- what the first entry with this word has
-abbrev pub find_word : {A : Type 0} → List ℕ → List (List ℕ × A) → Option A
-find_word word [] = None
-find_word word (entry ∷ table) = if bytes_eq word entry.0 then Some entry.1 else find_word word table
 
 -- the operation that a word names
 abbrev pub operation_of : List ℕ → Option Operation

@@ -6,3 +6,5 @@ pub mod Spelling
 pub mod BadText
 pub mod AddErrorText
 pub mod Limits
+pub mod Lists
+pub mod Firsts

@@ -6,8 +6,8 @@
 //! - the pattern that it computes is the pattern of the operation's meaning over the whole numbers;
 //! - the type that it returns is the specification's, and otherwise the first thing that is wrong.
 //!
-//! No call of an operation allocates. How each operation is written is here too, in both directions. So are two limits of a
-//! run that several crates ask for: each constant is the number that the definitions in `specs/Limits` call by the same name.
+//! No call of an operation allocates. How each operation is written is here too, in both directions. So are the limits
+//! of the program: where the definitions in `specs/Limits` have a number of the same name, it is the constant.
 //! `Paths` keeps names apart: it numbers paths in their order, no two of them equal.
 #![tactic(auto)]
 
@@ -31,8 +31,12 @@ mod unary;
 
 pub use binary::{apply2, apply2_to, result2, shifted_width};
 pub use choice::{mux, result_mux};
-pub use limits::{CAPACITY_LIMIT, CYCLE_LIMIT};
-pub use lists::{Ids, Items, Names};
+pub use limits::{
+    CAPACITY_LIMIT, CIRCUIT_LIMIT, CYCLE_LIMIT, DEEPEST, GREATEST_SEED, LATEST_CYCLE,
+    MOST_CHANNELS, MOST_STAGES, MOST_UNITS, MOST_WORKERS, PARTITION_LIMIT, SNAP_LIMIT, STEPS_LIMIT,
+    TRACE_LIMIT, TRAY_ROWS,
+};
+pub use lists::{Ids, Items, Names, copied};
 pub use name::Name;
 pub use ops::{Op1, Op2, OpN};
 pub use parametric::{apply_const, apply_const_to, result_const};

@@ -1,10 +1,10 @@
 //! `Items`: a list that contracts see as a list.
-ghost use Rattle.std.specs.Prelude.{◌≡◌};
+ghost use Rattle.std.specs.Prelude.{◌≡◌, IfOk};
 ghost use Rattle.std.specs.List.{AllZip};
 ghost use Rattle.std.specs.Cmp.Lexicographic.{pointwise, lists_per, lists_equiv};
 
 use crate::name::Name;
-use std::alloc::AllocError;
+use std::alloc::{AllocError, Global};
 use std::marker::Model;
 
 /// A list. A contract sees it as the list of its items.
@@ -86,4 +86,15 @@ impl<T> From<Vec<T>> for Items<T> {
     fn from(items: Vec<T>) -> Items<T> {
         Items { items }
     }
+}
+
+/// A copy of a list of numbers.
+///
+/// # Errors
+///
+/// Returns `AllocError` if an allocation fails.
+pub fn copied(alloc: Global, numbers: &[u32]) -> Result<Ids, AllocError>
+    ensures { IfOk result (λ copy. copy ≡ numbers.now) }
+{
+    Ok(Ids::from(Vec::from_slice(alloc, numbers)?))
 }

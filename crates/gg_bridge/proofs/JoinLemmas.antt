@@ -10,7 +10,8 @@ use Rattle.gg_flat.specs.declared.piece.Register.{Register}
 use Rattle.gg_flat.specs.declared.memory.Memory.{Memory}
 use Rattle.gg_flat.specs.Circuit.{FlatCircuit}
 use Rattle.gg_flat.specs.Line.{value_at}
-use Rattle.gg_bridge.specs.Joined.{by_number, place_among}
+use Rattle.gg_bridge.specs.Joined.{place_among}
+use Rattle.gg_bits.specs.Lists.{by_number}
 
 -- ---- numbers
 

@@ -9,7 +9,8 @@ use Rattle.std.proofs.lemmas.List.Kept.{AllPairs-filter}
 use Rattle.std.proofs.lemmas.List.FromFn.{get_or-range_with_len}
 use Rattle.gg_flat.specs.Line.{value_at}
 use Rattle.gg_flat.proofs.ListLemmas.{Contains-cases, Contains-filter, filter-cases, once-apart}
-use Rattle.gg_bridge.specs.Joined.{by_number, place_among, without}
+use Rattle.gg_bridge.specs.Joined.{place_among, without}
+use Rattle.gg_bits.specs.Lists.{by_number}
 
 -- ---- items by number
 

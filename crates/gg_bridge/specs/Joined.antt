@@ -4,6 +4,7 @@
 -- Source: ICCAD 2019 (bridges: models in the host's own code that stand at a target's ports); FIRRTL Specification, "Connects".
 use Rattle.std.specs.Prelude.{◌≡◌, ◌≢◌, ℕ, suc, ◌<◌, List, [], ◌∷◌, ◌++◌, not, ◌==◌, if◌then◌else◌, Bool, nat_lt, ◌&&◌, Option, Some, None, is_none, option_map, unwrap_or, slice_index_or, length, map, filter, Contains, AllPairs}
 use Rattle.std.specs.List.{list_any, range_with_len}
+use Rattle.gg_bits.specs.Lists.{by_number}
 use Rattle.gg_bits.specs.declared.types.Ty.{Ty}
 use Rattle.gg_flat.specs.declared.line.Node.{Node}
 use Rattle.gg_flat.specs.declared.line.Op.TheVariants.{Ref}
@@ -39,11 +40,6 @@ pub record HasPlaces (list : List ℕ) (count : ℕ) (places : List (Option ℕ)
 -- the numbers of a list that aren't gone, in order
 abbrev pub without : List ℕ → List ℕ → List ℕ
 without gone list = filter (λ s. not (list_any (λ t. t == s) gone)) list
-
--- the items of a list, each with its number; the first number is n
-abbrev pub by_number : {A B : Type 0} → (ℕ → A → B) → ℕ → List A → List B
-by_number f n [] = []
-by_number f n (x ∷ xs) = f n x ∷ by_number f (suc n) xs
 
 -- ---- the numbers of what stands behind
 

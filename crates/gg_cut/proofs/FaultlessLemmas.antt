@@ -10,7 +10,8 @@ use Rattle.gg_cut_plan.specs.declared.fault.CutFault.TheVariants.{OutOfRange}
 use Rattle.gg_cut_plan.specs.Listed.{listed_of}
 use Rattle.gg_cut_plan.specs.Channels.{capacity_of}
 use Rattle.gg_cut_plan.specs.Direct.{plan_signals}
-use Rattle.gg_cut_plan.specs.Fault.{or_else, IsTold, first_of, entry_faults, channel_faults, pipe_faults, clock_faults, out_of_range, range_fault, first_fault}
+use Rattle.gg_cut_plan.specs.Fault.{IsTold, entry_faults, channel_faults, pipe_faults, clock_faults, out_of_range, range_fault, first_fault}
+use Rattle.gg_bits.specs.Lists.{or_else, first_of}
 use Rattle.gg_cut_plan.proofs.FindLemmas.{none-map, first-append}
 use Rattle.gg_cut_split.proofs.ClosedLemmas.FaultlessLemmas as closed
 use Rattle.gg_cut.specs.Made.{IsCapacity}

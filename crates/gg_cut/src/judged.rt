@@ -3,7 +3,8 @@ ghost use Rattle.std.specs.Prelude.{◌≡◌, ◌<◌, ◌^◌, length, map, No
 ghost use Rattle.gg_part.specs.KeepsToTree.{KeepsToTree};
 ghost use Rattle.gg_flat.specs.WellFormed.{IsWellFormed};
 ghost use Rattle.gg_cut_plan.specs.Direct.{plan_routes};
-ghost use Rattle.gg_cut_plan.specs.Fault.{IsSmall, Tells, first_of, entry_faults, first_fault, first_fault_with};
+ghost use Rattle.gg_cut_plan.specs.Fault.{IsSmall, Tells, entry_faults, first_fault, first_fault_with};
+ghost use Rattle.gg_bits.specs.Lists.{first_of};
 ghost use Rattle.gg_cut_plan.specs.Held.{AreHeldOnce};
 ghost use Rattle.gg_cut_plan.specs.Listed.{listed_of};
 ghost use Rattle.gg_cut_parts.specs.Draft.{IsDraft};

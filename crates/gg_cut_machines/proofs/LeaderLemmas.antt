@@ -9,7 +9,8 @@ use Rattle.gg_flat.proofs.ListLemmas.{here, further}
 use Rattle.gg_order.specs.Design.{Ordered}
 use Rattle.gg_partfile.specs.declared.request.Request.{Request}
 use Rattle.gg_cut_plan.specs.declared.fault.CutFault.TheVariants.{UnknownUnit, Doubled}
-use Rattle.gg_cut_plan.specs.Fault.{first_clash, same_path, entries, repeated, unshared, entry_faults, first_fault}
+use Rattle.gg_cut_plan.specs.Fault.{first_clash, same_path, repeated, unshared, entry_faults, first_fault}
+use Rattle.gg_partfile.specs.Size.{entries}
 use Rattle.gg_cut_plan.specs.Hosts.{machine_of, least_machine, group_of, leader_in, leader, host_of}
 use Rattle.gg_cut_plan.specs.Listed.{is_among}
 use Rattle.gg_cut_plan.proofs.FindLemmas.{first_clash-append, none-at, none-map}

@@ -25,7 +25,8 @@ use Rattle.gg_cut_plan.specs.Hosts.{machine_of, group_of, leader_in, leader}
 use Rattle.gg_cut_plan.specs.Listed.{listed_of, place_of, unit_or_hub}
 use Rattle.gg_cut_plan.specs.Machines.{numbering_of}
 use Rattle.gg_cut_plan.specs.Plan.{channels_to, channels_from, entry_at, port_place, wire_at, IsBody, IsBridgeBody, IsMachine, cut_names, machine_names}
-use Rattle.gg_cut_plan.specs.Seated.{Bridges, before, first_bridge, first_kept_tray, machine_end, one_if, or_bridge, plan_bridges, plan_wires, undriven, unseen}
+use Rattle.gg_cut_plan.specs.Seated.{Bridges, first_bridge, first_kept_tray, machine_end, plan_bridges, plan_wires, undriven, unseen}
+use Rattle.gg_bits.specs.Lists.{count_below, one_if, number_or}
 use Rattle.gg_cut_plan.proofs.PathLemmas.{first_place-Some}
 use Rattle.gg_cut_reference.proofs.FittingLemmas.NameLemmas.{bridge-named, kept-named}
 use Rattle.gg_cut_reference.proofs.FittingLemmas.OpenLemmas.{in-place}
@@ -62,11 +63,11 @@ leader-high units share m lt = by (group_of units share m) refl
 
 -- ---- how many are kept
 
-before-kept : (keeps : ℕ → Bool) (p : ℕ) → keeps p ≡ true → before keeps (p + 1) ≡ before keeps p + 1
-before-kept keeps p e = (let next : p + 1 ≡ suc p = omega arith in ap (before keeps) next) ∙ ap (λ t. before keeps p + one_if t) e
+before-kept : (keeps : ℕ → Bool) (p : ℕ) → keeps p ≡ true → count_below keeps (p + 1) ≡ count_below keeps p + 1
+before-kept keeps p e = (let next : p + 1 ≡ suc p = omega arith in ap (count_below keeps) next) ∙ ap (λ t. count_below keeps p + one_if t) e
 
-before-left : (keeps : ℕ → Bool) (p : ℕ) → keeps p ≡ false → before keeps (p + 1) ≡ before keeps p
-before-left keeps p e = (let next : p + 1 ≡ suc p = omega arith in ap (before keeps) next) ∙ ap (λ t. before keeps p + one_if t) e ∙ (let same : before keeps p + 0 ≡ before keeps p = omega arith in same)
+before-left : (keeps : ℕ → Bool) (p : ℕ) → keeps p ≡ false → count_below keeps (p + 1) ≡ count_below keeps p
+before-left keeps p e = (let next : p + 1 ≡ suc p = omega arith in ap (count_below keeps) next) ∙ ap (λ t. count_below keeps p + one_if t) e ∙ (let same : count_below keeps p + 0 ≡ count_below keeps p = omega arith in same)
 
 -- ---- one machine more
 
@@ -121,29 +122,29 @@ module _ (design : Ordered) (request : Request) (models : Models) where
 
     -- the source of an input that no bridge drives
     pub source-placed : (p : ℕ) (name : List ℕ) → p < bridges.ins → undriven bridges p ≡ true → name ≡ path_at (cut_names design request own_listed) (bridges.first + p)
-        → IsMachine design request models own_listed own_hub (bridges.first + before (undriven bridges) p) (machine_by hosts ins outs (bridges.first + before (undriven bridges) p) name (Source (before (undriven bridges) p)))
+        → IsMachine design request models own_listed own_hub (bridges.first + count_below (undriven bridges) p) (machine_by hosts ins outs (bridges.first + count_below (undriven bridges) p) name (Source (count_below (undriven bridges) p)))
     source-placed p name lt free called =
         let up = before-strict (undriven bridges) p bridges.ins free lt in
         let seat = seat-source bridges p lt ∙ own (bridges.driver p) free in
-        placed (bridges.first + before (undriven bridges) p) name (Source (before (undriven bridges) p)) (omega (arith, up))
+        placed (bridges.first + count_below (undriven bridges) p) name (Source (count_below (undriven bridges) p)) (omega (arith, up))
         (called ∙ sym (kept-named design request (bridges.first + p) (omega (arith, lt)) (omega (arith, seat, up))) ∙ ap (path_at (machine_names design request own_listed)) seat)
         ((in-place design.circuit design.tree request p lt free).within, refl)
       where
-        own : (o : Option ℕ) → is_none o ≡ true → or_bridge (first_bridge bridges) (bridges.first + before (undriven bridges) p) o ≡ bridges.first + before (undriven bridges) p
+        own : (o : Option ℕ) → is_none o ≡ true → number_or (first_bridge bridges) (bridges.first + count_below (undriven bridges) p) o ≡ bridges.first + count_below (undriven bridges) p
         own None e = refl
         own (Some k) e = absurd (cc)
 
     -- the tray of an output that no bridge sees, or of a stop
     pub tray-placed : (p : ℕ) (name : List ℕ) → p < bridges.outs → unseen bridges p ≡ true → name ≡ path_at (cut_names design request own_listed) (bridges.first + bridges.ins + p)
-        → IsMachine design request models own_listed own_hub (first_kept_tray bridges + before (unseen bridges) p) (machine_by hosts ins outs (first_kept_tray bridges + before (unseen bridges) p) name Tray)
+        → IsMachine design request models own_listed own_hub (first_kept_tray bridges + count_below (unseen bridges) p) (machine_by hosts ins outs (first_kept_tray bridges + count_below (unseen bridges) p) name Tray)
     tray-placed p name lt free called =
         let up = before-strict (unseen bridges) p bridges.outs free lt in
         let seat = seat-tray bridges p ∙ own (bridges.viewer p) free in
-        placed (first_kept_tray bridges + before (unseen bridges) p) name Tray (omega (arith, up))
+        placed (first_kept_tray bridges + count_below (unseen bridges) p) name Tray (omega (arith, up))
         (called ∙ sym (kept-named design request (bridges.first + bridges.ins + p) (omega (arith, lt)) (omega (arith, seat, up))) ∙ ap (path_at (machine_names design request own_listed)) seat)
         (omega arith, omega (arith, up))
       where
-        own : (o : Option ℕ) → is_none o ≡ true → or_bridge (first_bridge bridges) (first_kept_tray bridges + before (unseen bridges) p) o ≡ first_kept_tray bridges + before (unseen bridges) p
+        own : (o : Option ℕ) → is_none o ≡ true → number_or (first_bridge bridges) (first_kept_tray bridges + count_below (unseen bridges) p) o ≡ first_kept_tray bridges + count_below (unseen bridges) p
         own None e = refl
         own (Some k) e = absurd (cc)
 
@@ -218,32 +219,32 @@ module _ (design : Ordered) (request : Request) (models : Models) (hosts : List 
   -- a source more, or none
   pub source-more : (p place : ℕ) (name : List ℕ) (circuit : FlatCircuit) (signals : List ℕ) (old new : List Machine) → p < length drivers → value_at drivers p ≡ 0 → circuit ≡ design.circuit → signals ≡ circuit.ins
       → name ≡ codes "in:" ++ path_at circuit.paths (value_at signals p) → place ≡ length old - those.first → new ≡ old ++ machine_by hosts ins outs (length old) name (Source place) ∷ []
-      → SeatedTo (those.first + before (undriven those) p) old → SeatedTo (those.first + before (undriven those) (p + 1)) new
+      → SeatedTo (those.first + count_below (undriven those) p) old → SeatedTo (those.first + count_below (undriven those) (p + 1)) new
   source-more p place name circuit signals old new lt free f i called at made are =
       let low : p < those.ins = omega (arith, lt, takers.ins) in
       let none = sym (open-test (those.driver p) (value_at drivers p) (takers.driver p low)) ∙ eq-eqb (value_at drivers p) 0 free in
-      let count = those.first + before (undriven those) p in
+      let count = those.first + count_below (undriven those) p in
       let is = source-placed design request models hosts ins outs sides p name low none (called ∙ source-name design request all_listed circuit signals (numbering_of design.circuit all_listed) (those.first + p) p f i refl (units-count design request all_listed refl) low refl) in
-      let k : place ≡ before (undriven those) p = omega (arith, at, are.counted) in
+      let k : place ≡ count_below (undriven those) p = omega (arith, at, are.counted) in
       subst (λ n. SeatedTo n new) (let up = before-kept (undriven those) p none in omega (arith, up))
-      (seated-more design request models all_listed (plan_hub design.circuit design.tree request) count old new (machine_by hosts ins outs count name (Source (before (undriven those) p))) (let units = units-low in omega (arith, units)) are
+      (seated-more design request models all_listed (plan_hub design.circuit design.tree request) count old new (machine_by hosts ins outs count name (Source (count_below (undriven those) p))) (let units = units-low in omega (arith, units)) are
       (made ∙ ap (λ n. old ++ machine_by hosts ins outs n name (Source place) ∷ []) are.counted ∙ ap (λ n. old ++ machine_by hosts ins outs count name (Source n) ∷ []) k) is)
 
-  pub source-less : (p : ℕ) (machines : List Machine) → p < length drivers → value_at drivers p ≢ 0 → SeatedTo (those.first + before (undriven those) p) machines → SeatedTo (those.first + before (undriven those) (p + 1)) machines
+  pub source-less : (p : ℕ) (machines : List Machine) → p < length drivers → value_at drivers p ≢ 0 → SeatedTo (those.first + count_below (undriven those) p) machines → SeatedTo (those.first + count_below (undriven those) (p + 1)) machines
   source-less p machines lt taken are =
       let low : p < those.ins = omega (arith, lt, takers.ins) in
       let closed = sym (open-test (those.driver p) (value_at drivers p) (takers.driver p low)) ∙ not-zero (value_at drivers p) taken in
       subst (λ n. SeatedTo n machines) (let same = before-left (undriven those) p closed in omega (arith, same)) are
 
   -- there is room for a source, and for a tray
-  pub source-room : (p : ℕ) (machines : List Machine) → p < length drivers → value_at drivers p ≡ 0 → SeatedTo (those.first + before (undriven those) p) machines → length machines < machine_end those
+  pub source-room : (p : ℕ) (machines : List Machine) → p < length drivers → value_at drivers p ≡ 0 → SeatedTo (those.first + count_below (undriven those) p) machines → length machines < machine_end those
   source-room p machines lt free are =
       let low : p < those.ins = omega (arith, lt, takers.ins) in
       let none = sym (open-test (those.driver p) (value_at drivers p) (takers.driver p low)) ∙ eq-eqb (value_at drivers p) 0 free in
       let up = before-strict (undriven those) p those.ins none low in
       omega (arith, up, are.counted)
 
-  pub tray-room : (p : ℕ) (machines : List Machine) → p < length viewers → value_at viewers p ≡ 0 → SeatedTo (first_kept_tray those + before (unseen those) p) machines → length machines < machine_end those
+  pub tray-room : (p : ℕ) (machines : List Machine) → p < length viewers → value_at viewers p ≡ 0 → SeatedTo (first_kept_tray those + count_below (unseen those) p) machines → length machines < machine_end those
   tray-room p machines lt free are =
       let low : p < those.outs = omega (arith, lt, takers.outs) in
       let none = sym (open-test (those.viewer p) (value_at viewers p) (takers.viewer p low)) ∙ eq-eqb (value_at viewers p) 0 free in
@@ -255,17 +256,17 @@ module _ (design : Ordered) (request : Request) (models : Models) (hosts : List 
       → (p < length circuit.outs - length tree.stops → name ≡ codes "out:" ++ path_at circuit.paths (value_at circuit.outs p))
       → (length circuit.outs - length tree.stops ≤ p → name ≡ codes "halt:" ++ path_at circuit.paths (value_at circuit.outs p))
       → new ≡ old ++ machine_by hosts ins outs (length old) name Tray ∷ []
-      → SeatedTo (first_kept_tray those + before (unseen those) p) old → SeatedTo (first_kept_tray those + before (unseen those) (p + 1)) new
+      → SeatedTo (first_kept_tray those + count_below (unseen those) p) old → SeatedTo (first_kept_tray those + count_below (unseen those) (p + 1)) new
   tray-more p name circuit tree old new lt free f t output stop made are =
       let low : p < those.outs = omega (arith, lt, takers.outs) in
       let none = sym (open-test (those.viewer p) (value_at viewers p) (takers.viewer p low)) ∙ eq-eqb (value_at viewers p) 0 free in
-      let count = first_kept_tray those + before (unseen those) p in
+      let count = first_kept_tray those + count_below (unseen those) p in
       let is = tray-placed design request models hosts ins outs sides p name low none (tray-name design request all_listed circuit tree (numbering_of design.circuit all_listed) (those.first + those.ins + p) p name f t refl (units-count design request all_listed refl) low refl output stop) in
       subst (λ n. SeatedTo n new) (let up = before-kept (unseen those) p none in omega (arith, up))
       (seated-more design request models all_listed (plan_hub design.circuit design.tree request) count old new (machine_by hosts ins outs count name Tray) (let units = units-low in omega (arith, units)) are
       (made ∙ ap (λ n. old ++ machine_by hosts ins outs n name Tray ∷ []) are.counted) is)
 
-  pub tray-less : (p : ℕ) (machines : List Machine) → p < length viewers → value_at viewers p ≢ 0 → SeatedTo (first_kept_tray those + before (unseen those) p) machines → SeatedTo (first_kept_tray those + before (unseen those) (p + 1)) machines
+  pub tray-less : (p : ℕ) (machines : List Machine) → p < length viewers → value_at viewers p ≢ 0 → SeatedTo (first_kept_tray those + count_below (unseen those) p) machines → SeatedTo (first_kept_tray those + count_below (unseen those) (p + 1)) machines
   tray-less p machines lt taken are =
       let low : p < those.outs = omega (arith, lt, takers.outs) in
       let closed = sym (open-test (those.viewer p) (value_at viewers p) (takers.viewer p low)) ∙ not-zero (value_at viewers p) taken in
@@ -296,10 +297,10 @@ bridge-added paths models entry wires hosts ins outs old new n into from name br
 
 -- ---- counts
 
-pub counts-on : (base : ℕ) (keeps : ℕ → Bool) (n k : ℕ) → n ≡ k → base + before keeps n ≡ base + before keeps k
-counts-on base keeps n k e = ap (λ m. base + before keeps m) e
+pub counts-on : (base : ℕ) (keeps : ℕ → Bool) (n k : ℕ) → n ≡ k → base + count_below keeps n ≡ base + count_below keeps k
+counts-on base keeps n k e = ap (λ m. base + count_below keeps m) e
 
-pub counts-none : (base : ℕ) (keeps : ℕ → Bool) → base ≡ base + before keeps 0
+pub counts-none : (base : ℕ) (keeps : ℕ → Bool) → base ≡ base + count_below keeps 0
 counts-none base keeps = omega arith
 
 -- what one entry lists is among what all list

@@ -12,7 +12,8 @@ use Rattle.gg_order.specs.Design.{Ordered}
 use Rattle.gg_partfile.specs.declared.request.BridgeEntry.{BridgeEntry}
 use Rattle.gg_partfile.specs.declared.request.Request.{Request}
 use Rattle.gg_cut_plan.specs.declared.wires.Wire.{Wire}
-use Rattle.gg_cut_plan.specs.Seated.{Bridges, AreBridges, before, undriven, unseen, first_bridge, first_kept_tray, lister, machine_end, one_if, or_bridge, plan_bridges, seat_of, seated}
+use Rattle.gg_cut_plan.specs.Seated.{Bridges, AreBridges, undriven, unseen, first_bridge, first_kept_tray, lister, machine_end, plan_bridges, seat_of, seated}
+use Rattle.gg_bits.specs.Lists.{count_below, one_if, number_or}
 use Rattle.gg_cut_plan.specs.declared.listed.Listed.{Listed}
 use Rattle.gg_cut_plan.specs.Listed.{listed_of}
 use Rattle.gg_cut_reference.proofs.FittingLemmas.BridgeLemmas.{are-bridges}
@@ -30,26 +31,26 @@ open-test (Some k) v is = by (v == 0) refl
     by true e = let zero : v ≡ 0 = true-eqb v 0 (sym e) in absurd (omega (arith, zero, is))
     by false e = refl
 
-pub seat-as : (own bridge p : ℕ) (takers : List ℕ) (keeps : ℕ → Bool) (o : Option ℕ) → value_at takers p ≡ one_more o → before (is_open takers) p ≡ before keeps p → seat_by own bridge takers p ≡ or_bridge bridge (own + before keeps p) o
+pub seat-as : (own bridge p : ℕ) (takers : List ℕ) (keeps : ℕ → Bool) (o : Option ℕ) → value_at takers p ≡ one_more o → count_below (is_open takers) p ≡ count_below keeps p → seat_by own bridge takers p ≡ number_or bridge (own + count_below keeps p) o
 seat-as own bridge p takers keeps None is same =
-    ap (λ t. if t then own + before (is_open takers) p else bridge + (value_at takers p - 1)) (open-test None (value_at takers p) is) ∙ ap (λ n. own + n) same
+    ap (λ t. if t then own + count_below (is_open takers) p else bridge + (value_at takers p - 1)) (open-test None (value_at takers p) is) ∙ ap (λ n. own + n) same
 seat-as own bridge p takers keeps (Some k) is same =
-    ap (λ t. if t then own + before (is_open takers) p else bridge + (value_at takers p - 1)) (open-test (Some k) (value_at takers p) is) ∙ (let e : bridge + (value_at takers p - 1) ≡ bridge + k = omega (arith, is) in e)
+    ap (λ t. if t then own + count_below (is_open takers) p else bridge + (value_at takers p - 1)) (open-test (Some k) (value_at takers p) is) ∙ (let e : bridge + (value_at takers p - 1) ≡ bridge + k = omega (arith, is) in e)
 
 -- the count is at most the number
-pub before-few : (keeps : ℕ → Bool) (n : ℕ) → before keeps n ≤ n
+pub before-few : (keeps : ℕ → Bool) (n : ℕ) → count_below keeps n ≤ n
 before-few keeps zero = omega arith
 before-few keeps (suc n) = by (keeps n) (before-few keeps n)
   where
-    by : (t : Bool) → before keeps n ≤ n → before keeps n + one_if t ≤ suc n
+    by : (t : Bool) → count_below keeps n ≤ n → count_below keeps n + one_if t ≤ suc n
     by true le = omega (arith, le)
     by false le = omega (arith, le)
 
 -- one more, as at a step of a loop
-pub count-next : (takers : List ℕ) (n next own : ℕ) → next ≡ own + before (is_open takers) n → next + (if value_at takers n == 0 then 1 else 0) ≡ own + before (is_open takers) (n + 1)
-count-next takers n next own is = by (value_at takers n == 0) ∙ (let e : suc n ≡ n + 1 = omega arith in ap (λ k. own + before (is_open takers) k) e)
+pub count-next : (takers : List ℕ) (n next own : ℕ) → next ≡ own + count_below (is_open takers) n → next + (if value_at takers n == 0 then 1 else 0) ≡ own + count_below (is_open takers) (n + 1)
+count-next takers n next own is = by (value_at takers n == 0) ∙ (let e : suc n ≡ n + 1 = omega arith in ap (λ k. own + count_below (is_open takers) k) e)
   where
-    by : (t : Bool) → next + (if t then 1 else 0) ≡ own + (before (is_open takers) n + one_if t)
+    by : (t : Bool) → next + (if t then 1 else 0) ≡ own + (count_below (is_open takers) n + one_if t)
     by true = omega (arith, is)
     by false = omega (arith, is)
 
@@ -59,10 +60,10 @@ push-more init old new f n v was made is =
     ∙ ap (λ l. init ++ l) (ap (λ x. map f (range_with_len 0 n) ++ x ∷ []) is ∙ sym (map-range_with_len_more f 0 n n (omega arith)))
 
 module _ (b : Bridges) (are : AreBridges b) (drivers viewers : List ℕ) (takers : AreTakers b drivers viewers) where
-  pub drivers-open : (n : ℕ) → n ≤ b.ins → before (is_open drivers) n ≡ before (undriven b) n
+  pub drivers-open : (n : ℕ) → n ≤ b.ins → count_below (is_open drivers) n ≡ count_below (undriven b) n
   drivers-open n le = before-same (is_open drivers) (undriven b) n (λ p lt. open-test (b.driver p) (value_at drivers p) (takers.driver p (omega (arith, lt, le))))
 
-  pub viewers-open : (n : ℕ) → n ≤ b.outs → before (is_open viewers) n ≡ before (unseen b) n
+  pub viewers-open : (n : ℕ) → n ≤ b.outs → count_below (is_open viewers) n ≡ count_below (unseen b) n
   viewers-open n le = before-same (is_open viewers) (unseen b) n (λ p lt. open-test (b.viewer p) (value_at viewers p) (takers.viewer p (omega (arith, lt, le))))
 
   pub source-seat : (p : ℕ) → p < b.ins → seat_by b.first (first_bridge b) drivers p ≡ seat_of b (b.first + p)
@@ -198,7 +199,7 @@ pub record AreCounted (b : Bridges) (first trays bridges : ℕ) : Type 0 where
   pub bridge : bridges ≡ first_bridge b
 
 pub counted : (design : Ordered) (request : Request) (listed : Listed) (units memories d v : List ℕ) (n k : ℕ) (drivers viewers : List ℕ) → AreTakers (plan_bridges design.circuit design.tree request) drivers viewers → listed ≡ listed_of design.tree request → units ≡ listed.units → memories ≡ listed.memories
-    → d ≡ drivers → v ≡ viewers → n ≡ before (is_open d) (length d) → k ≡ before (is_open v) (length v)
+    → d ≡ drivers → v ≡ viewers → n ≡ count_below (is_open d) (length d) → k ≡ count_below (is_open v) (length v)
     → AreCounted (plan_bridges design.circuit design.tree request) (1 + length units + length memories) (1 + length units + length memories + n) (1 + length units + length memories + n + k)
 counted design request listed units memories d v n k drivers viewers takers same u m drive view ins outs =
     record { source = low; tray = omega (arith, low, one); bridge = omega (arith, low, one, two) }
@@ -206,8 +207,8 @@ counted design request listed units memories d v n k drivers viewers takers same
     low : 1 + length units + length memories ≡ (plan_bridges design.circuit design.tree request).first
     low = omega (arith, ap length u, ap length m, ap (λ (l : Listed). length l.units) same, ap (λ (l : Listed). length l.memories) same)
 
-    one : n ≡ before (undriven (plan_bridges design.circuit design.tree request)) (plan_bridges design.circuit design.tree request).ins
-    one = ins ∙ ap (λ l. before (is_open l) (length l)) drive ∙ ap (before (is_open drivers)) takers.ins ∙ drivers-open (plan_bridges design.circuit design.tree request) (plan-are design request) drivers viewers takers (plan_bridges design.circuit design.tree request).ins (omega arith)
+    one : n ≡ count_below (undriven (plan_bridges design.circuit design.tree request)) (plan_bridges design.circuit design.tree request).ins
+    one = ins ∙ ap (λ l. count_below (is_open l) (length l)) drive ∙ ap (count_below (is_open drivers)) takers.ins ∙ drivers-open (plan_bridges design.circuit design.tree request) (plan-are design request) drivers viewers takers (plan_bridges design.circuit design.tree request).ins (omega arith)
 
-    two : k ≡ before (unseen (plan_bridges design.circuit design.tree request)) (plan_bridges design.circuit design.tree request).outs
-    two = outs ∙ ap (λ l. before (is_open l) (length l)) view ∙ ap (before (is_open viewers)) takers.outs ∙ viewers-open (plan_bridges design.circuit design.tree request) (plan-are design request) drivers viewers takers (plan_bridges design.circuit design.tree request).outs (omega arith)
+    two : k ≡ count_below (unseen (plan_bridges design.circuit design.tree request)) (plan_bridges design.circuit design.tree request).outs
+    two = outs ∙ ap (λ l. count_below (is_open l) (length l)) view ∙ ap (count_below (is_open viewers)) takers.outs ∙ viewers-open (plan_bridges design.circuit design.tree request) (plan-are design request) drivers viewers takers (plan_bridges design.circuit design.tree request).outs (omega arith)

@@ -10,7 +10,8 @@ use Rattle.gg_cut_plan.specs.declared.plan.Machine.{Machine}
 use Rattle.gg_cut_plan.specs.declared.wires.Wire.{Wire}
 use Rattle.gg_cut_plan.specs.Listed.{listed_of}
 use Rattle.gg_cut_plan.specs.Plan.{channels_to, channels_from, entry_at}
-use Rattle.gg_cut_plan.specs.Seated.{Bridges, before, first_bridge, first_kept_tray, machine_end, undriven, unseen}
+use Rattle.gg_cut_plan.specs.Seated.{Bridges, first_bridge, first_kept_tray, machine_end, undriven, unseen}
+use Rattle.gg_bits.specs.Lists.{count_below}
 use Rattle.gg_cut_split.specs.Spread.{AreLists}
 use Rattle.gg_cut_parts.specs.declared.draft.Draft.{Draft}
 use Rattle.gg_cut_machines.specs.declared.hosts.Hosts.{Hosts}
@@ -50,17 +51,17 @@ module _ (seating : Seating) (seated : IsSeating seating) where
   -- a source more, or none
   pub source-more : (p place : ℕ) (name : List ℕ) (circuit : FlatCircuit) (signals : List ℕ) (old new : List Machine) → p < length drivers → value_at drivers p ≡ 0 → circuit ≡ draft.design.now.circuit → signals ≡ circuit.ins
       → name ≡ codes "in:" ++ path_at circuit.paths (value_at signals p) → place ≡ length old - those.first → new ≡ old ++ machine_by hosts ins outs (length old) name (Source place) ∷ []
-      → AreSeatedBy draft (those.first + before (undriven those) p) old → AreSeatedBy draft (those.first + before (undriven those) (p + 1)) new
+      → AreSeatedBy draft (those.first + count_below (undriven those) p) old → AreSeatedBy draft (those.first + count_below (undriven those) (p + 1)) new
   source-more = placed.source-more draft.design.now draft.request.now draft.models.now hosts ins outs seated.sides drivers viewers seated.numbers.numbers.takers
 
-  pub source-less : (p : ℕ) (machines : List Machine) → p < length drivers → value_at drivers p ≢ 0 → AreSeatedBy draft (those.first + before (undriven those) p) machines → AreSeatedBy draft (those.first + before (undriven those) (p + 1)) machines
+  pub source-less : (p : ℕ) (machines : List Machine) → p < length drivers → value_at drivers p ≢ 0 → AreSeatedBy draft (those.first + count_below (undriven those) p) machines → AreSeatedBy draft (those.first + count_below (undriven those) (p + 1)) machines
   source-less = placed.source-less draft.design.now draft.request.now draft.models.now hosts ins outs seated.sides drivers viewers seated.numbers.numbers.takers
 
   -- there is room for a source, and for a tray
-  pub source-room : (p : ℕ) (machines : List Machine) → p < length drivers → value_at drivers p ≡ 0 → AreSeatedBy draft (those.first + before (undriven those) p) machines → length machines < machine_end those
+  pub source-room : (p : ℕ) (machines : List Machine) → p < length drivers → value_at drivers p ≡ 0 → AreSeatedBy draft (those.first + count_below (undriven those) p) machines → length machines < machine_end those
   source-room = placed.source-room draft.design.now draft.request.now draft.models.now hosts ins outs seated.sides drivers viewers seated.numbers.numbers.takers
 
-  pub tray-room : (p : ℕ) (machines : List Machine) → p < length viewers → value_at viewers p ≡ 0 → AreSeatedBy draft (first_kept_tray those + before (unseen those) p) machines → length machines < machine_end those
+  pub tray-room : (p : ℕ) (machines : List Machine) → p < length viewers → value_at viewers p ≡ 0 → AreSeatedBy draft (first_kept_tray those + count_below (unseen those) p) machines → length machines < machine_end those
   tray-room = placed.tray-room draft.design.now draft.request.now draft.models.now hosts ins outs seated.sides drivers viewers seated.numbers.numbers.takers
 
   -- a tray more, or none
@@ -68,10 +69,10 @@ module _ (seating : Seating) (seated : IsSeating seating) where
       → (p < length circuit.outs - length tree.stops → name ≡ codes "out:" ++ path_at circuit.paths (value_at circuit.outs p))
       → (length circuit.outs - length tree.stops ≤ p → name ≡ codes "halt:" ++ path_at circuit.paths (value_at circuit.outs p))
       → new ≡ old ++ machine_by hosts ins outs (length old) name Tray ∷ []
-      → AreSeatedBy draft (first_kept_tray those + before (unseen those) p) old → AreSeatedBy draft (first_kept_tray those + before (unseen those) (p + 1)) new
+      → AreSeatedBy draft (first_kept_tray those + count_below (unseen those) p) old → AreSeatedBy draft (first_kept_tray those + count_below (unseen those) (p + 1)) new
   tray-more = placed.tray-more draft.design.now draft.request.now draft.models.now hosts ins outs seated.sides drivers viewers seated.numbers.numbers.takers
 
-  pub tray-less : (p : ℕ) (machines : List Machine) → p < length viewers → value_at viewers p ≢ 0 → AreSeatedBy draft (first_kept_tray those + before (unseen those) p) machines → AreSeatedBy draft (first_kept_tray those + before (unseen those) (p + 1)) machines
+  pub tray-less : (p : ℕ) (machines : List Machine) → p < length viewers → value_at viewers p ≢ 0 → AreSeatedBy draft (first_kept_tray those + count_below (unseen those) p) machines → AreSeatedBy draft (first_kept_tray those + count_below (unseen those) (p + 1)) machines
   tray-less = placed.tray-less draft.design.now draft.request.now draft.models.now hosts ins outs seated.sides drivers viewers seated.numbers.numbers.takers
 
   -- a bridge more

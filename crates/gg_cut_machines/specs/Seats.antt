@@ -17,7 +17,8 @@ use Rattle.gg_cut_plan.specs.Bridges.{Models, model_named}
 use Rattle.gg_cut_plan.specs.Direct.{Hub}
 use Rattle.gg_cut_plan.specs.Hosts.{host_of, leader}
 use Rattle.gg_cut_plan.specs.Plan.{channels_to, channels_from, port_place, wire_at, IsMachine}
-use Rattle.gg_cut_plan.specs.Seated.{Bridges, before, machine_end, seat_of, plan_bridges, plan_wires}
+use Rattle.gg_cut_plan.specs.Seated.{Bridges, machine_end, seat_of, plan_bridges, plan_wires}
+use Rattle.gg_bits.specs.Lists.{count_below}
 
 -- ---- who takes the place of a port
 
@@ -45,7 +46,7 @@ is_open takers p = value_at takers p == 0
 
 -- The number of the machine of the port at a place. The ports that no bridge has are numbered from `own` on, the bridges from `bridge` on.
 abbrev pub seat_by : (own bridge : ℕ) → (takers : List ℕ) → ℕ → ℕ
-seat_by own bridge takers p = if is_open takers p then own + before (is_open takers) p else bridge + (value_at takers p - 1)
+seat_by own bridge takers p = if is_open takers p then own + count_below (is_open takers) p else bridge + (value_at takers p - 1)
 
 -- the number of each machine by the number that it has without bridges, and how many machines there are
 pub record AreSeats (b : Bridges) (drivers viewers numbers : List ℕ) (total : ℕ) : Type 0 where

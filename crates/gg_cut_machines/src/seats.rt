@@ -2,7 +2,8 @@
 ghost use Rattle.std.specs.Prelude.{◌≡◌, ℕ, ◌+◌, ◌-◌, ◌<◌, ◌≤◌, ◌^◌, ◌++◌, ◌==◌, if◌then◌else◌, length, map, All, IfOk, OnOk};
 ghost use Rattle.std.specs.List.{range_with_len};
 ghost use Rattle.gg_flat.specs.Line.{value_at};
-ghost use Rattle.gg_cut_plan.specs.Seated.{before, machine_end, seat_of};
+ghost use Rattle.gg_cut_plan.specs.Seated.{machine_end, seat_of};
+ghost use Rattle.gg_bits.specs.Lists.{count_below};
 ghost use Rattle.gg_cut_parts.specs.Draft.{IsDraft};
 ghost use Rattle.gg_cut_machines.specs.Seating.{draft_bridges, AreDraftSeats, AreDraftTakers, AreStarts};
 ghost use Rattle.gg_cut_machines.specs.Seats.{is_open, seat_by, wire_by};
@@ -124,7 +125,7 @@ fn starts_of(draft: &Draft, takers: &Takers) -> Starts
 
 // How many ports no bridge has.
 fn open_count(takers: &[u32]) -> usize
-    ensures count { result ≡ before (is_open takers.now) (length takers.now) }
+    ensures count { result ≡ count_below (is_open takers.now) (length takers.now) }
     ensures few { result ≤ length takers.now }
 {
     let mut count = 0;

@@ -8,7 +8,8 @@ use Rattle.gg_part.specs.Clocking.{IsTimed}
 use Rattle.gg_part.specs.declared.part.Part.{Part}
 use Rattle.gg_cut_plan.specs.Bridges.{bridge_faults}
 use Rattle.gg_cut_plan.specs.Direct.{Hub, plan_hub, plan_routes, is_gone}
-use Rattle.gg_cut_plan.specs.Fault.{IsSmall, first_fault, first_of}
+use Rattle.gg_cut_plan.specs.Fault.{IsSmall, first_fault}
+use Rattle.gg_bits.specs.Lists.{first_of}
 use Rattle.gg_cut_plan.specs.Held.{AreHeldOnce}
 use Rattle.gg_cut_plan.specs.Listed.{listed_of}
 use Rattle.gg_cut_plan.specs.Machines.{first_unit, first_memory, machine_count}

@@ -10,7 +10,8 @@ use Rattle.gg_flat.specs.declared.piece.Register.{Register}
 use Rattle.gg_flat.specs.declared.memory.Memory.{Memory}
 use Rattle.gg_flat.specs.Circuit.{FlatCircuit}
 use Rattle.gg_flat.specs.Line.{value_at}
-use Rattle.gg_cut_reference.specs.Made.{by_number, pipe_signal, pipe_register, pipe_signals, pipe_registers}
+use Rattle.gg_cut_reference.specs.Made.{pipe_signal, pipe_register, pipe_signals, pipe_registers}
+use Rattle.gg_bits.specs.Lists.{by_number}
 
 number-push : {A B : Type 0} (f : ℕ → A → B) (n : ℕ) (xs : List A) (x : A) → by_number f n (xs ++ x ∷ []) ≡ by_number f n xs ++ f (n + length xs) x ∷ []
 number-push f n [] x = ap (λ k. f k x ∷ []) (let same : n ≡ n + 0 = omega arith in same)

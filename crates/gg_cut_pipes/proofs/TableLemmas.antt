@@ -28,7 +28,8 @@ use Rattle.gg_cut_split.specs.declared.owned.Owned.{Owned}
 use Rattle.gg_cut_pipes.specs.declared.tables.Tables.{Tables}
 use Rattle.gg_cut_pipes.specs.Tables.{kept_in, seen_in, IsFilled, held_by, AreHolding, AreTables, piped_places, piped_signals, piped_takers}
 use Rattle.gg_cut_plan.specs.Held.{AreHeldOnce}
-use Rattle.gg_cut_reference.specs.Links.{pipes_of, pipe_or, taken_as, seen_by, maker_of, maker_or}
+use Rattle.gg_cut_reference.specs.Links.{pipes_of, taken_as, seen_by, maker_of, maker_or}
+use Rattle.gg_bits.specs.Lists.{number_or}
 use Rattle.gg_cut_reference.proofs.AgreeLemmas.{filter-agree}
 use Rattle.gg_cut_reference.proofs.HolderLemmas.{first-found}
 use Rattle.gg_cut_reference.proofs.SeenLemmas.{HasPipe, pipe-out, pipes-known, maker-inner}
@@ -122,8 +123,8 @@ module _ (hub : Hub) (base : IsBase hub) where
     kept-is s = by (first_place (λ p. p == s) (pipes_of hub)) refl
       where
         by : (o : Option ℕ) → first_place (λ p. p == s) (pipes_of hub) ≡ o → kept_in tables s ≡ taken_as hub s
-        by None e = kept-plain s e ∙ sym (ap (pipe_or (length hub.circuit.signals) s) e)
-        by (Some k) e = kept-pipe s k e ∙ sym (ap (pipe_or (length hub.circuit.signals) s) e)
+        by None e = kept-plain s e ∙ sym (ap (number_or (length hub.circuit.signals) s) e)
+        by (Some k) e = kept-pipe s k e ∙ sym (ap (number_or (length hub.circuit.signals) s) e)
 
     -- the machines that take the piped channels, at numbers of their own
     module _ (seat : ℕ → ℕ) (takers : IsFilled (map (λ (r : Wire). r.signal) (piped_routes hub)) (map (λ (r : Wire). seat r.consumer) (piped_routes hub)) (length (map (λ (r : Wire). r.signal) (piped_routes hub))) (replicate (length hub.circuit.signals) 0) tables.takers) where
@@ -176,7 +177,7 @@ module _ (hub : Hub) (base : IsBase hub) where
           by : (o : Option ℕ) → first_place (λ p. p == s) (pipes_of hub) ≡ o → seen_in tables m s ≡ seen_by hub m s
           by None e =
               if-same (value_at tables.takers s == m) (kept_in tables s) s (kept-plain s e)
-              ∙ sym (if-same (list_any (λ (r : Wire). (r.consumer == m) && (r.signal == s)) (routes hub)) (taken_as hub s) s (ap (pipe_or (length hub.circuit.signals) s) e))
+              ∙ sym (if-same (list_any (λ (r : Wire). (r.consumer == m) && (r.signal == s)) (routes hub)) (taken_as hub s) s (ap (number_or (length hub.circuit.signals) s) e))
           by (Some k) e = ap₂ (λ (b : Bool) v. if b then v else s) (taker-is s k m same_seat e) (kept-is s)
 
   -- ---- makers

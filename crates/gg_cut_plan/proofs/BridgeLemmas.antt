@@ -11,7 +11,8 @@ use Rattle.gg_partfile.specs.declared.request.BridgeEntry.{BridgeEntry}
 use Rattle.gg_cut_plan.specs.declared.fault.CutFault.{CutFault}
 use Rattle.gg_cut_plan.specs.declared.fault.CutFault.TheVariants.{WrongPort}
 use Rattle.gg_cut_plan.specs.Listed.{is_among}
-use Rattle.gg_cut_plan.specs.Fault.{or_else, first_of, IsTold}
+use Rattle.gg_cut_plan.specs.Fault.{IsTold}
+use Rattle.gg_bits.specs.Lists.{or_else, first_of}
 use Rattle.gg_cut_plan.specs.Bridges.{Models, wrong_port, fit_ports, shapes_at, Before, before_next, own_faults, faults_after}
 use Rattle.gg_cut_plan.proofs.FindLemmas.{or_else-map, told-first, told-same, first-append, rest-at}
 

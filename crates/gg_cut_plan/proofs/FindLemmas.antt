@@ -6,7 +6,9 @@ use Rattle.gg_cut_plan.specs.declared.fault.CutFault.{CutFault}
 use Rattle.gg_cut_plan.specs.declared.fault.CutFault.TheVariants.{Doubled}
 use Rattle.std.proofs.lemmas.List.{length-append, append-nil}
 use Rattle.gg_cut_plan.specs.Listed.{is_among}
-use Rattle.gg_cut_plan.specs.Fault.{or_else, first_of, first_clash, same_path, repeated, entries, unshared, IsTold}
+use Rattle.gg_cut_plan.specs.Fault.{first_clash, same_path, repeated, unshared, IsTold}
+use Rattle.gg_bits.specs.Lists.{or_else, first_of}
+use Rattle.gg_partfile.specs.Size.{entries}
 
 -- the items from place i on are the item at place i and those after it
 pub rest-at : {A : Type 0} (xs : List A) (i : ℕ) (x : A) → i < length xs → x ≡ get_or xs i x → drop i xs ≡ x ∷ drop (i + 1) xs

@@ -4,7 +4,8 @@ use Rattle.gg_order.specs.Design.{Ordered}
 use Rattle.gg_partfile.specs.declared.request.Request.{Request}
 use Rattle.gg_cut_plan.specs.declared.fault.CutFault.{CutFault}
 use Rattle.gg_cut_plan.specs.Bridges.{Models, bridge_faults}
-use Rattle.gg_cut_plan.specs.Fault.{IsTold, or_else, first_of, first_fault, first_fault_with}
+use Rattle.gg_cut_plan.specs.Fault.{IsTold, first_fault, first_fault_with}
+use Rattle.gg_bits.specs.Lists.{or_else, first_of}
 use Rattle.gg_cut_plan.proofs.FindLemmas.{told-first, none-first, none-second}
 
 module _ (design : Ordered) (models : Models) (request : Request) where

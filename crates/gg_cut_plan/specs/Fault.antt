@@ -3,12 +3,13 @@
 use Rattle.std.specs.Prelude.{◌≡◌, ◌⊎◌, ◌<◌, ◌^◌, Ok, Err, Result, ℕ, ◌+◌, List, [], ◌∷◌, ◌++◌, Bool, false, not, ◌||◌, ◌==◌, if◌then◌else◌, Option, Some, None, option_map, length, flat_map, find, codes, nat_lt, bytes_eq}
 use Rattle.std.specs.Fmt.{decimal}
 use Rattle.std.specs.List.{list_any}
-use Rattle.gg_bits.specs.Limits.{capacity_limit}
+use Rattle.gg_bits.specs.Limits.{most_channels, most_units, capacity_limit}
+use Rattle.gg_partfile.specs.Size.{entries, all_driven, all_seen}
+use Rattle.gg_bits.specs.Lists.{first_of, or_else}
 use Rattle.gg_flat.specs.Circuit.{FlatCircuit}
 use Rattle.gg_flat_tree.specs.Tree.{InstanceTree, path_at, instance_at}
 use Rattle.gg_order.specs.Design.{Ordered}
 use Rattle.gg_partfile.specs.declared.request.Request.{Request}
-use Rattle.gg_partfile.specs.Size.{all_driven, all_seen}
 use Rattle.gg_cut_plan.specs.declared.fault.CutFault.{CutFault}
 use Rattle.gg_cut_plan.specs.declared.fault.CutFault.TheVariants.{UnknownUnit, Doubled, OtherModule, UnknownMemory, Unmatched, UnknownChannel, OutOfRange, TooManyUnits, TooManyChannels, UnknownPipe, DoubledPipe, UnknownClock, WrongRatio, UnknownBridge, WrongPort, UnfitBridge, NoMemory}
 use Rattle.gg_cut_plan.specs.Listed.{is_among, is_instance_path, is_memory_path, instance_of, lies, listed_of}
@@ -17,28 +18,6 @@ use Rattle.gg_cut_plan.specs.Channels.{channel_names}
 use Rattle.gg_cut_plan.specs.Clocks.{is_ratio}
 use Rattle.gg_cut_plan.specs.Direct.{plan_signals}
 use Rattle.gg_cut_plan.specs.Bridges.{Models, bridge_faults}
-
--- the most units and listed memories, and the most channels
-abbrev pub most_units : ℕ
-most_units = 256
-
--- at most 16,384 channels
-abbrev pub most_channels : ℕ
-most_channels = 16384
-
--- the first fault of two, and of a list
-abbrev pub or_else : {A : Type 0} → Option A → Option A → Option A
-or_else None later = later
-or_else (Some fault) later = Some fault
-
--- the first of a list that is there; none if none is
-abbrev pub first_of : {A : Type 0} → List (Option A) → Option A
-first_of [] = None
-first_of (fault ∷ faults) = or_else fault (first_of faults)
-
--- the entries of all lists of `share`, in order
-abbrev pub entries : List (List (List ℕ)) → List (List ℕ)
-entries share = flat_map (λ group. group) share
 
 -- ---- entries that name nothing
 

@@ -3,6 +3,7 @@
 -- left keep their order, and the bridges are behind them.
 -- Source: ICCAD 2019 (bridges: models in the host's own code that stand at a target's ports).
 use Rattle.std.specs.Prelude.{◌≡◌, ℕ, zero, suc, ◌+◌, ◌-◌, ◌<◌, List, length, take, filter, not, Bool, true, false, if◌then◌else◌, nat_lt, Option, Some, None, is_none, map}
+use Rattle.gg_bits.specs.Lists.{number_or, count_below}
 use Rattle.gg_flat.specs.Line.{value_at}
 use Rattle.gg_flat.specs.Circuit.{FlatCircuit}
 use Rattle.gg_flat_tree.specs.Tree.{InstanceTree, path_at}
@@ -30,16 +31,6 @@ pub record Bridges : Type 0 where
   -- the bridge that sees the output at a place, if one does
   pub viewer : ℕ → Option ℕ
 
--- 1 for true, 0 for false
-abbrev pub one_if : Bool → ℕ
-one_if true = 1
-one_if false = 0
-
--- how many of the numbers below n are kept
-abbrev pub before : (ℕ → Bool) → ℕ → ℕ
-before keeps zero = 0
-before keeps (suc n) = before keeps n + one_if (keeps n)
-
 -- no bridge drives the input at place p
 abbrev pub undriven : Bridges → ℕ → Bool
 undriven b p = is_none (b.driver p)
@@ -50,28 +41,23 @@ unseen b p = is_none (b.viewer p)
 
 -- the number of the first tray that is left, behind the sources that are left
 abbrev pub first_kept_tray : Bridges → ℕ
-first_kept_tray b = b.first + before (undriven b) b.ins
+first_kept_tray b = b.first + count_below (undriven b) b.ins
 
 -- the number of the first bridge, behind the trays that are left
 abbrev pub first_bridge : Bridges → ℕ
-first_bridge b = first_kept_tray b + before (unseen b) b.outs
+first_bridge b = first_kept_tray b + count_below (unseen b) b.outs
 
 -- how many machines there are
 abbrev pub machine_end : Bridges → ℕ
 machine_end b = first_bridge b + b.count
 
--- the number of a bridge, or this number if there is none
-abbrev pub or_bridge : ℕ → ℕ → Option ℕ → ℕ
-or_bridge base own None = own
-or_bridge base own (Some k) = base + k
-
 -- the machine that gives the input at a place
 abbrev pub giver_of : Bridges → ℕ → ℕ
-giver_of b p = or_bridge (first_bridge b) (b.first + before (undriven b) p) (b.driver p)
+giver_of b p = number_or (first_bridge b) (b.first + count_below (undriven b) p) (b.driver p)
 
 -- the machine that takes the output at a place
 abbrev pub keeper_of : Bridges → ℕ → ℕ
-keeper_of b p = or_bridge (first_bridge b) (first_kept_tray b + before (unseen b) p) (b.viewer p)
+keeper_of b p = number_or (first_bridge b) (first_kept_tray b + count_below (unseen b) p) (b.viewer p)
 
 -- the new number of machine m
 abbrev pub seat_of : Bridges → ℕ → ℕ

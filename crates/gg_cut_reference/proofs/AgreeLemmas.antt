@@ -22,7 +22,8 @@ use Rattle.gg_flat.specs.Line.{value_at}
 use Rattle.gg_flat.specs.Renaming.{signals_by, renamed_driver, renamed_memory, renamed_register}
 use Rattle.gg_flat.proofs.RenamedLaws as things
 use Rattle.gg_cut_reference.specs.Reference.{Views}
-use Rattle.gg_cut_reference.specs.Made.{by_number, seen_signal, pipe_signals, pipe_registers, reference_of}
+use Rattle.gg_cut_reference.specs.Made.{seen_signal, pipe_signals, pipe_registers, reference_of}
+use Rattle.gg_bits.specs.Lists.{by_number}
 
 -- The two say the same of what the signals, the registers and the memories of a circuit name.
 pub record AreAgreed (one : FlatCircuit) (mine views : Views) : Type 0 where

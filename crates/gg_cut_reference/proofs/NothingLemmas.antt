@@ -18,8 +18,9 @@ use Rattle.gg_cut_plan.specs.Direct.{Hub, routes, plan_hub}
 use Rattle.gg_flat.specs.Renaming.{signals_by, same_numbers, renamed_driver, renamed_memory, renamed_register}
 use Rattle.gg_flat.proofs.RenamedLaws as things
 use Rattle.gg_cut_reference.specs.Reference.{Views}
-use Rattle.gg_cut_reference.specs.Links.{is_carried, pipes_of, pipe_or, taken_as, seen_by, views_of}
-use Rattle.gg_cut_reference.specs.Made.{by_number, seen_signal, reference_of, reference, holder_of, keeper_of, plan_reference}
+use Rattle.gg_cut_reference.specs.Links.{is_carried, pipes_of, taken_as, seen_by, views_of}
+use Rattle.gg_cut_reference.specs.Made.{seen_signal, reference_of, reference, holder_of, keeper_of, plan_reference}
+use Rattle.gg_bits.specs.Lists.{number_or, by_number}
 
 -- a function that changes nothing leaves a list as it is
 all-same : {A : Type 0} (f : A → A) → ((x : A) → f x ≡ x) → (xs : List A) → map f xs ≡ xs
@@ -61,7 +62,7 @@ same-circuit circuit views seen kept =
 
 module _ (hub : Hub) (holder keeper : ℕ → ℕ) (none : pipes_of hub ≡ []) where
   pub taken-same : (s : ℕ) → taken_as hub s ≡ s
-  taken-same s = ap (λ pipes. pipe_or count s (first_place (λ p. p == s) pipes)) none
+  taken-same s = ap (λ pipes. number_or count s (first_place (λ p. p == s) pipes)) none
     where
       count : ℕ
       count = length hub.circuit.signals

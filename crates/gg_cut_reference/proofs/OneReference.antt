@@ -42,7 +42,8 @@ use Rattle.gg_cut_routes.proofs.RouteLemmas.{IsBase, routes-known}
 use Rattle.gg_cut_routes.proofs.RoutedLemmas.{routed-base}
 use Rattle.gg_cut_reference.specs.Made.{holder_of, keeper_of, plan_reference, reference_of, views_in, AllHeld}
 use Rattle.gg_cut_reference.specs.Follows.{plan_start}
-use Rattle.gg_cut_reference.specs.Links.{is_carried, pipes_of, pipe_or, taken_as, seen_by, maker_of}
+use Rattle.gg_cut_reference.specs.Links.{is_carried, pipes_of, taken_as, seen_by, maker_of}
+use Rattle.gg_bits.specs.Lists.{number_or}
 use Rattle.gg_cut_reference.proofs.AgreeLemmas.{AreAgreed, filter-agree, reference-agree}
 use Rattle.gg_cut_reference.proofs.HolderLemmas.{keeper-is, first_holder, holder-first, holder-found}
 use Rattle.gg_cut_reference.proofs.SeenLemmas.{HasPipe, pipe-out}
@@ -155,7 +156,7 @@ module _ (design : Ordered) (request other : Request) (is : IsDesign design) (ke
       ∙ sym (asked-pipes design other is keeps other-none)
 
   taken-alike : (t : ℕ) → taken_as (plan_hub design.circuit design.tree request) t ≡ taken_as (plan_hub design.circuit design.tree other) t
-  taken-alike t = ap (λ pipes. pipe_or (length circuit.signals) t (first_place (λ p. p == t) pipes)) pipes-alike
+  taken-alike t = ap (λ pipes. number_or (length circuit.signals) t (first_place (λ p. p == t) pipes)) pipes-alike
 
   -- a machine of the one and a machine of the other see a signal as the same, if they both take its pipe or both don't
   seen-alike : (m n t : ℕ) → (HasPipe (plan_hub design.circuit design.tree request) my-base t → HasPipe (plan_hub design.circuit design.tree other) their-base t → takes (plan_hub design.circuit design.tree request) m t ≡ takes (plan_hub design.circuit design.tree other) n t)
@@ -164,7 +165,7 @@ module _ (design : Ordered) (request other : Request) (is : IsDesign design) (ke
     where
       by : (o : Option ℕ) → first_place (λ p. p == t) (pipes_of mine) ≡ o → seen_by mine m t ≡ seen_by theirs n t
       by None e =
-          let plain : taken_as mine t ≡ t = ap (pipe_or (length circuit.signals) t) e in
+          let plain : taken_as mine t ≡ t = ap (number_or (length circuit.signals) t) e in
           if-same (takes mine m t) (taken_as mine t) t plain ∙ sym (if-same (takes theirs n t) (taken_as theirs t) t (sym (taken-alike t) ∙ plain))
       by (Some k) e =
           let at = first_place-Some (λ p. p == t) (pipes_of mine) k e in

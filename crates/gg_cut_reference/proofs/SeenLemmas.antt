@@ -13,7 +13,8 @@ use Rattle.gg_cut_split.proofs.ClosedLemmas.PlaceLemmas.{place-none}
 use Rattle.gg_cut_plan.specs.Plan.{Takes, MakesBy}
 use Rattle.gg_cut_plan.specs.Direct.{Hub, is_own, routes, origin_within}
 use Rattle.gg_cut_reference.specs.Reference.{IsSeen, IsPiped}
-use Rattle.gg_cut_reference.specs.Links.{is_carried, pipes_of, pipe_or, taken_as, seen_by, maker_or, maker_of}
+use Rattle.gg_cut_reference.specs.Links.{is_carried, pipes_of, taken_as, seen_by, maker_or, maker_of}
+use Rattle.gg_bits.specs.Lists.{number_or}
 use Rattle.gg_cut_plan.proofs.OriginLemmas.{any-finds, finds-any, clash, Chain, Here, Copy, chain}
 use Rattle.gg_cut_routes.proofs.RouteLemmas.{IsBase, routes-known, same-wire, own-no-wire, chosen-in, chosen-out, no-echo}
 use Rattle.gg_cut_plan.proofs.DirectLemmas.{find-some, IsFromBase}
@@ -84,7 +85,7 @@ module _ (hub : Hub) (base : IsBase hub) where
   -- ---- by which number a signal is seen
 
   pub unpiped : (s : ℕ) → hub.piped s ≡ false → taken_as hub s ≡ s
-  unpiped s plain = ap (pipe_or (length hub.circuit.signals) s) (place-none (λ p. p == s) (pipes_of hub) (λ i d lt. none (get_or (pipes_of hub) i d) (Contains-get_or (pipes_of hub) i d lt)))
+  unpiped s plain = ap (number_or (length hub.circuit.signals) s) (place-none (λ p. p == s) (pipes_of hub) (λ i d lt. none (get_or (pipes_of hub) i d) (Contains-get_or (pipes_of hub) i d lt)))
     where
       none : (p : ℕ) → Contains (pipes_of hub) p → (p == s) ≡ false
       none p h =
@@ -93,7 +94,7 @@ module _ (hub : Hub) (base : IsBase hub) where
   pub piped-as : (s k : ℕ) → first_place (λ p. p == s) (pipes_of hub) ≡ Some k → IsPiped hub.circuit (pipes_of hub) s (taken_as hub s)
   piped-as s k e =
       let at = first_place-Some (λ p. p == s) (pipes_of hub) k e in
-      record { pipe = k; known = at.within; of = eqb-true (value_at (pipes_of hub) k) s (at.passes 0); is = ap (pipe_or (length hub.circuit.signals) s) e }
+      record { pipe = k; known = at.within; of = eqb-true (value_at (pipes_of hub) k) s (at.passes 0); is = ap (number_or (length hub.circuit.signals) s) e }
 
   -- the place of a signal among the pipes
   pub record IsPipeAt (s k : ℕ) : Type 0 where
@@ -104,13 +105,13 @@ module _ (hub : Hub) (base : IsBase hub) where
   pub place-of : (s k : ℕ) → first_place (λ p. p == s) (pipes_of hub) ≡ Some k → IsPipeAt s k
   place-of s k e =
       let at = first_place-Some (λ p. p == s) (pipes_of hub) k e in
-      record { known = at.within; of = eqb-true (value_at (pipes_of hub) k) s (at.passes 0); is = ap (pipe_or (length hub.circuit.signals) s) e }
+      record { known = at.within; of = eqb-true (value_at (pipes_of hub) k) s (at.passes 0); is = ap (number_or (length hub.circuit.signals) s) e }
 
   pub taken-seen : (s : ℕ) → (taken_as hub s ≡ s) ⊎ IsPiped hub.circuit (pipes_of hub) s (taken_as hub s)
   taken-seen s = by (first_place (λ p. p == s) (pipes_of hub)) refl
     where
       by : (o : Option ℕ) → first_place (λ p. p == s) (pipes_of hub) ≡ o → (taken_as hub s ≡ s) ⊎ IsPiped hub.circuit (pipes_of hub) s (taken_as hub s)
-      by None e = inl (ap (pipe_or (length hub.circuit.signals) s) e)
+      by None e = inl (ap (number_or (length hub.circuit.signals) s) e)
       by (Some k) e = inr (piped-as s k e)
 
   pub seen-takes : (m t : ℕ) → list_any (λ (r : Wire). (r.consumer == m) && (r.signal == t)) (routes hub) ≡ true → seen_by hub m t ≡ taken_as hub t

@@ -3,6 +3,7 @@
 -- Source: MEMOCODE 2009 (channels between the nodes of a dataflow network; tokens that are there at the start).
 use Rattle.std.specs.Prelude.{◌≡◌, ℕ, ◌<◌, ◌+◌, List, Bool, ◌==◌, ◌&&◌, if◌then◌else◌, Option, Some, None, length, filter, find, Contains}
 use Rattle.std.specs.List.{list_any, range_with_len}
+use Rattle.gg_bits.specs.Lists.{number_or}
 use Rattle.gg_flat.specs.Circuit.{driver_at}
 use Rattle.gg_flat.specs.declared.piece.Driver.TheVariants.{Held}
 use Rattle.gg_cut_plan.specs.declared.wires.Wire.{Wire}
@@ -18,14 +19,9 @@ is_carried hub s = list_any (λ r. r.signal == s) (routes hub)
 abbrev pub pipes_of : Hub → List ℕ
 pipes_of hub = filter (λ s. hub.piped s && is_carried hub s) (range_with_len 0 (length hub.circuit.signals))
 
--- the number of the pipe at place k, which stands behind `count` signals; s itself if there is no pipe
-abbrev pub pipe_or : ℕ → ℕ → Option ℕ → ℕ
-pipe_or count s None = s
-pipe_or count s (Some k) = count + k
-
 -- the signal by which the consumer of the channel of signal s gets its value: the pipe's, or s itself
 abbrev pub taken_as : Hub → ℕ → ℕ
-taken_as hub s = pipe_or (length hub.circuit.signals) s (first_place (λ p. p == s) (pipes_of hub))
+taken_as hub s = number_or (length hub.circuit.signals) s (first_place (λ p. p == s) (pipes_of hub))
 
 -- the number by which machine m sees a signal
 abbrev pub seen_by : Hub → ℕ → ℕ → ℕ

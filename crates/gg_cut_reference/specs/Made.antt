@@ -5,6 +5,7 @@ use Rattle.gg_flat.specs.declared.line.Op.TheVariants.{Ref}
 use Rattle.gg_flat.specs.declared.piece.Signal.{Signal}
 use Rattle.gg_flat.specs.declared.piece.Register.{Register}
 use Rattle.std.specs.List.{range_with_len}
+use Rattle.gg_bits.specs.Lists.{by_number}
 use Rattle.gg_flat.specs.declared.piece.Driver.{Driver}
 use Rattle.gg_flat.specs.declared.piece.Driver.TheVariants.{Input, Held, MemoryWord, ReadRegister, Computed}
 use Rattle.gg_flat.specs.Circuit.{FlatCircuit, driver_at}
@@ -17,11 +18,6 @@ use Rattle.gg_partfile.specs.declared.request.Request.{Request}
 use Rattle.gg_cut_reference.specs.Reference.{Views}
 use Rattle.gg_cut_reference.specs.Links.{pipes_of, maker_of, seen_by, views_of}
 use Rattle.gg_flat.specs.Renaming.{renamed_driver, renamed_memory, renamed_register, signals_by}
-
--- the items of a list, each with its number; the first number is n
-abbrev pub by_number : {A B : Type 0} → (ℕ → A → B) → ℕ → List A → List B
-by_number f n [] = []
-by_number f n (x ∷ xs) = f n x ∷ by_number f (suc n) xs
 
 -- a signal whose driver names the others as the machine sees them in which it stands
 abbrev pub seen_signal : Views → ℕ → Signal → Signal

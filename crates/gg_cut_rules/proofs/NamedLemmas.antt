@@ -6,7 +6,8 @@ use Rattle.std.proofs.lemmas.List.{get_or_append_left, get_or_push, length_push,
 use Rattle.std.proofs.lemmas.Slice.Eq.{bytes_eq-Decides}
 use Rattle.gg_flat.specs.Clock.{Ratio}
 use Rattle.gg_cut_plan.specs.Clocks.{is_ratio, ratio_with}
-use Rattle.gg_cut_plan.specs.Fault.{or_else, ratio_fault, unknown_clock}
+use Rattle.gg_cut_plan.specs.Fault.{ratio_fault, unknown_clock}
+use Rattle.gg_bits.specs.Lists.{or_else}
 use Rattle.gg_cut_plan.specs.Listed.{is_among}
 use Rattle.gg_cut_plan.specs.Named.{AreNamed, ratio_named}
 use Rattle.gg_cut_plan.specs.declared.fault.CutFault.TheVariants.{WrongRatio}

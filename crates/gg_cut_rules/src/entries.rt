@@ -1,7 +1,8 @@
 //! The faults of a request's entries.
 ghost use Rattle.std.specs.Prelude.{◌≡◌, [], ◌∷◌, ◌+◌, ◌-◌, ◌<◌, ◌^◌, ◌++◌, ◌==◌, Some, not, option_map, find, length, OnOk};
 ghost use Rattle.gg_cut_plan.specs.Listed.{is_among};
-ghost use Rattle.gg_cut_plan.specs.Fault.{IsTold, Tells, unknown_unit, unshared, unknown_memory, first_clash, same_path, repeated, entries, other_in, other_module, module_of};
+ghost use Rattle.gg_cut_plan.specs.Fault.{IsTold, Tells, unknown_unit, unshared, unknown_memory, first_clash, same_path, repeated, other_in, other_module, module_of};
+ghost use Rattle.gg_partfile.specs.Size.{entries};
 ghost use Rattle.gg_cut_plan.specs.declared.fault.CutFault.TheVariants.{UnknownUnit, Doubled, OtherModule, UnknownMemory};
 
 use crate::paths::{copied, has, instance, is_instance, is_memory, set_of};

@@ -3,7 +3,9 @@ ghost use Rattle.std.specs.Prelude.{◌≡◌, ◌+◌, ◌<◌, ◌^◌, length
 ghost use Rattle.gg_flat_tree.specs.Tree.{IsTree};
 ghost use Rattle.gg_part.specs.KeepsToTree.{KeepsToTree};
 ghost use Rattle.gg_cut_plan.specs.Listed.{listed_of};
-ghost use Rattle.gg_cut_plan.specs.Fault.{IsSmall, Tells, first_of, entry_faults, channel_faults, pipe_faults, clock_faults, too_many_channels, most_units};
+ghost use Rattle.gg_cut_plan.specs.Fault.{IsSmall, Tells, entry_faults, channel_faults, pipe_faults, clock_faults, too_many_channels};
+ghost use Rattle.gg_bits.specs.Lists.{first_of};
+ghost use Rattle.gg_bits.specs.Limits.{most_units};
 ghost use Rattle.gg_cut_plan.specs.declared.fault.CutFault.TheVariants.{TooManyUnits, TooManyChannels, NoMemory};
 
 use crate::capacities::{capacities_in_range, channels_exist};

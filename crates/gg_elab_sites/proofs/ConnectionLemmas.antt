@@ -10,7 +10,7 @@ use Rattle.gg_ast.proofs.NamePlaces.{place_after, place_of-append, place_of-belo
 use Rattle.gg_elab_sites.specs.declared.connections.Source.{Source}
 use Rattle.gg_elab_sites.proofs.NameLemmas.{slice_get-at}
 use Rattle.gg_elab_sites.specs.Connection.{Connection, connection_by, connection_in}
-use Rattle.gg_types.specs.Fields.{or_later}
+use Rattle.gg_bits.specs.Lists.{or_else}
 use Rattle.gg_elab_sites.specs.Views.{connection, source_at, TellsConnections}
 
 -- the elements of a list are the same with one more after them
@@ -23,26 +23,26 @@ get-last : {A : Type 0} (xs : List A) (x : A) → slice_get (xs ++ x ∷ []) (le
 get-last [] x = refl
 get-last (y ∷ ys) x = get-last ys x
 
-is-there : {A B : Type 0} (f : A → B) (xs : List A) (i : ℕ) (other : Option B) → i < length xs → or_later (option_map f (slice_get xs i)) other ≡ option_map f (slice_get xs i)
+is-there : {A B : Type 0} (f : A → B) (xs : List A) (i : ℕ) (other : Option B) → i < length xs → or_else (option_map f (slice_get xs i)) other ≡ option_map f (slice_get xs i)
 is-there f [] i other lt = absurd (omega (arith, lt))
 is-there f (y ∷ ys) zero other lt = refl
 is-there f (y ∷ ys) (suc i) other lt = is-there f ys i other (omega (arith, lt))
 
 -- a new sink is noted with its source, and the other sinks keep theirs
-noted-new : (sources : List Source) (s : Source) (p : Option ℕ) (b : Bool) (n : ℕ) → length sources ≡ n → ((i : ℕ) → p ≡ Some i → i < n) → source_at (sources ++ s ∷ []) (place_after p b n) ≡ or_later (source_at sources p) (if b then Some (connection s) else None)
+noted-new : (sources : List Source) (s : Source) (p : Option ℕ) (b : Bool) (n : ℕ) → length sources ≡ n → ((i : ℕ) → p ≡ Some i → i < n) → source_at (sources ++ s ∷ []) (place_after p b n) ≡ or_else (source_at sources p) (if b then Some (connection s) else None)
 noted-new sources s (Some i) b n count within =
     let lt : i < length sources = omega (arith, within i refl, count) in
     ap (option_map connection) (get-push sources s i lt) ∙ sym (is-there connection sources i (if b then Some (connection s) else None) lt)
 noted-new sources s None true n count within = ap (λ k. option_map connection (slice_get (sources ++ s ∷ []) k)) (sym count) ∙ ap (option_map connection) (get-last sources s)
 noted-new sources s None false n count within = refl
 
-pub noted : (names : List (List ℕ)) (sources : List Source) (name : List ℕ) (s : Source) → length sources ≡ length names → (q : List ℕ) → source_at (sources ++ s ∷ []) (place_of q (names ++ name ∷ [])) ≡ or_later (source_at sources (place_of q names)) (if bytes_eq q name then Some (connection s) else None)
+pub noted : (names : List (List ℕ)) (sources : List Source) (name : List ℕ) (s : Source) → length sources ≡ length names → (q : List ℕ) → source_at (sources ++ s ∷ []) (place_of q (names ++ name ∷ [])) ≡ or_else (source_at sources (place_of q names)) (if bytes_eq q name then Some (connection s) else None)
 noted names sources name s count q =
     ap (source_at (sources ++ s ∷ [])) (place_of-append q names name)
     ∙ noted-new sources s (place_of q names) (bytes_eq q name) (length names) count (λ i e. place_of-below q names i e)
 
 -- a sink that is noted already keeps its source
-noted-old : (names : List (List ℕ)) (sources : List Source) (name q : List ℕ) (c : Connection) (p : Option ℕ) (b : Bool) → place_of q names ≡ p → Decides b (q ≡ name) → length sources ≡ length names → Contains names name → source_at sources p ≡ or_later (source_at sources p) (if b then Some c else None)
+noted-old : (names : List (List ℕ)) (sources : List Source) (name q : List ℕ) (c : Connection) (p : Option ℕ) (b : Bool) → place_of q names ≡ p → Decides b (q ≡ name) → length sources ≡ length names → Contains names name → source_at sources p ≡ or_else (source_at sources p) (if b then Some c else None)
 noted-old names sources name q c (Some i) b is d count there =
     sym (is-there connection sources i (if b then Some c else None) (omega (arith, place_of-below q names i is, count)))
 noted-old names sources name q c None false is d count there = refl
@@ -54,27 +54,27 @@ noted-old names sources name q c None true is d count there =
     at (m ∷ ms) n (zero, lt, e) = ap Some e
     at (m ∷ ms) n (suc k, lt, e) = at ms n (k, omega (arith, lt), e)
 
-pub noted-again : (names : List (List ℕ)) (sources : List Source) (name : List ℕ) (c : Connection) → length sources ≡ length names → Contains names name → (q : List ℕ) → source_at sources (place_of q names) ≡ or_later (source_at sources (place_of q names)) (if bytes_eq q name then Some c else None)
+pub noted-again : (names : List (List ℕ)) (sources : List Source) (name : List ℕ) (c : Connection) → length sources ≡ length names → Contains names name → (q : List ℕ) → source_at sources (place_of q names) ≡ or_else (source_at sources (place_of q names)) (if bytes_eq q name then Some c else None)
 noted-again names sources name c count there q =
     noted-old names sources name q c (place_of q names) (bytes_eq q name) refl (bytes_eq-Decides q name) count there
 
-or_later-assoc : {A : Type 0} (a b c : Option A) → or_later (or_later a b) c ≡ or_later a (or_later b c)
-or_later-assoc None b c = refl
-or_later-assoc (Some x) b c = refl
+or_else-assoc : {A : Type 0} (a b c : Option A) → or_else (or_else a b) c ≡ or_else a (or_else b c)
+or_else-assoc None b c = refl
+or_else-assoc (Some x) b c = refl
 
-pub connection_in-push : (ss : List Stmt) (s : Stmt) (name : List ℕ) → connection_in (ss ++ s ∷ []) name ≡ or_later (connection_in ss name) (connection_by name s.kind)
+pub connection_in-push : (ss : List Stmt) (s : Stmt) (name : List ℕ) → connection_in (ss ++ s ∷ []) name ≡ or_else (connection_in ss name) (connection_by name s.kind)
 connection_in-push [] s name = go (connection_by name s.kind)
   where
-    go : (o : Option Connection) → or_later o None ≡ o
+    go : (o : Option Connection) → or_else o None ≡ o
     go None = refl
     go (Some c) = refl
 connection_in-push (t ∷ ss) s name =
-    ap (or_later (connection_by name t.kind)) (connection_in-push ss s name)
-    ∙ sym (or_later-assoc (connection_by name t.kind) (connection_in ss name) (connection_by name s.kind))
+    ap (or_else (connection_by name t.kind)) (connection_in-push ss s name)
+    ∙ sym (or_else-assoc (connection_by name t.kind) (connection_in ss name) (connection_by name s.kind))
 
-pub tells-more : (ss : List Stmt) (s : Stmt) (names more : List (List ℕ)) (sources all : List Source) → TellsConnections ss names sources → ((name : List ℕ) → source_at all (place_of name more) ≡ or_later (source_at sources (place_of name names)) (connection_by name s.kind)) → TellsConnections (ss ++ s ∷ []) more all
+pub tells-more : (ss : List Stmt) (s : Stmt) (names more : List (List ℕ)) (sources all : List Source) → TellsConnections ss names sources → ((name : List ℕ) → source_at all (place_of name more) ≡ or_else (source_at sources (place_of name names)) (connection_by name s.kind)) → TellsConnections (ss ++ s ∷ []) more all
 tells-more ss s names more sources all tells step name =
-    step name ∙ ap (λ o. or_later o (connection_by name s.kind)) (tells name) ∙ sym (connection_in-push ss s name)
+    step name ∙ ap (λ o. or_else o (connection_by name s.kind)) (tells name) ∙ sym (connection_in-push ss s name)
 
 pub found-there : (names : List (List ℕ)) (name : List ℕ) (r : Option ℕ) → IfSome r (λ k. slice_get names k ≡ Some name) → is_some r ≡ true → Contains names name
 found-there names name None h e = absurd (true≢false (sym e))

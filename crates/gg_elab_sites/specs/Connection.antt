@@ -7,7 +7,7 @@ use Rattle.gg_ast.specs.declared.statement.StmtKind.TheVariants as says
 use Rattle.gg_ast.specs.declared.statement.Stmt.{Stmt}
 use Rattle.gg_ast.specs.Term.{Term}
 use Rattle.gg_shape_names.specs.Scope.{written}
-use Rattle.gg_types.specs.Fields.{or_later}
+use Rattle.gg_bits.specs.Lists.{or_else}
 
 -- an expression (`<=`), or 0 (`is invalid`)
 pub data Connection : Type 0 where
@@ -30,4 +30,4 @@ connection_by name (says.Report word arguments label) = None
 -- what the first statement that connects it connects it to
 abbrev pub connection_in : List Stmt → List ℕ → Option Connection
 connection_in [] name = None
-connection_in (s ∷ ss) name = or_later (connection_by name s.kind) (connection_in ss name)
+connection_in (s ∷ ss) name = or_else (connection_by name s.kind) (connection_in ss name)

@@ -3,6 +3,7 @@
 -- 2^64 - 1.
 use Rattle.std.specs.Prelude.{ℕ, suc, ◌-◌, ◌^◌, min, max, Bool, true, false, List, [], ◌∷◌, Option, Some, None, length, fold, slice_index_or, nat_lt, nat_eq, is_some, if◌then◌else◌}
 use Rattle.std.specs.List.{sum_by, list_any}
+use Rattle.gg_types.specs.Fields.{depth_said}
 use Rattle.gg_ast.specs.declared.statement.Field.{Field}
 use Rattle.gg_ast.specs.declared.statement.MemoryField.{MemoryField}
 use Rattle.gg_ast.specs.declared.statement.MemoryField.TheVariants as field
@@ -22,16 +23,6 @@ capped n = min n (2 ^ 64 - 1)
 
 -- ---- memories
 
--- the depth that a field gives
-abbrev pub depth_in : MemoryField → Option ℕ
-depth_in (field.DataType ty) = None
-depth_in (field.Depth n) = Some n
-depth_in (field.ReadLatency n) = None
-depth_in (field.WriteLatency n) = None
-depth_in (field.Readers names) = None
-depth_in (field.Writers names) = None
-depth_in (field.ReadUnderWrite word) = None
-
 -- the first value, if there is one, else the second
 abbrev pub first_of : Option ℕ → ℕ → ℕ
 first_of None other = other
@@ -40,7 +31,7 @@ first_of (Some n) other = n
 -- a memory's depth: what the first field that gives a depth gives; 0 if none does
 abbrev pub depth_of_fields : List Field → ℕ
 depth_of_fields [] = 0
-depth_of_fields (f ∷ fs) = first_of (depth_in f.kind) (depth_of_fields fs)
+depth_of_fields (f ∷ fs) = first_of (depth_said f.kind) (depth_of_fields fs)
 
 -- the words of a statement: a memory's depth
 abbrev pub words_of_kind : StmtKind → ℕ

@@ -4,7 +4,7 @@ ghost use Rattle.std.specs.Str.{bytes_eq};
 ghost use Rattle.gg_ast.specs.Places.{place_of};
 ghost use Rattle.gg_ast.specs.declared.statement.Stmt.{Stmt};
 ghost use Rattle.gg_shape_names.specs.Scope.{written as written_text};
-ghost use Rattle.gg_types.specs.Fields.{or_later};
+ghost use Rattle.gg_bits.specs.Lists.{or_else};
 ghost use Rattle.gg_elab_sites.specs.Connection.{connection_in, connection_by};
 ghost use Rattle.gg_elab_sites.specs.Views.{connection, seen, source_at, TellsConnections};
 
@@ -59,7 +59,7 @@ fn note<'a>(alloc: Global, sinks: &mut Sinks<'a>, kind: &'a StmtKind) -> Result<
     requires { length sinks.old.sources.items ≡ length sinks.old.names }
     ensures noted { OnOk result ((name : List ℕ)
         → source_at sinks.new.sources.items (place_of name sinks.new.names)
-        ≡ or_later (source_at sinks.old.sources.items (place_of name sinks.old.names)) (connection_by name kind.now)) }
+        ≡ or_else (source_at sinks.old.sources.items (place_of name sinks.old.names)) (connection_by name kind.now)) }
     ensures count { OnOk result (length sinks.new.sources.items ≡ length sinks.new.names) }
 {
     match kind {
@@ -80,7 +80,7 @@ fn note_sink<'a>(
     requires { length sinks.old.sources.items ≡ length sinks.old.names }
     ensures noted { OnOk result ((name : List ℕ)
         → source_at sinks.new.sources.items (place_of name sinks.new.names)
-        ≡ or_later (source_at sinks.old.sources.items (place_of name sinks.old.names))
+        ≡ or_else (source_at sinks.old.sources.items (place_of name sinks.old.names))
         (if bytes_eq name (written_text sink.now) then Some (connection source.entry) else None)) }
     ensures count { OnOk result (length sinks.new.sources.items ≡ length sinks.new.names) }
 {

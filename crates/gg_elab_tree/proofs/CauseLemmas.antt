@@ -17,7 +17,8 @@ use Rattle.gg_ast.specs.Tree.{ModuleTree, empty_module}
 use Rattle.gg_shape_names.specs.Scope.{written}
 use Rattle.gg_elab_tree.proofs.OwnLemmas.{front}
 use Rattle.gg_elab_sites.specs.Connection.{Connection, ConnectedTo, Zeroed, connection_by, connection_in}
-use Rattle.gg_types.specs.Memories.{Bank, bank_of, type_shape, or_later}
+use Rattle.gg_types.specs.Memories.{Bank, bank_of, type_shape}
+use Rattle.gg_bits.specs.Lists.{or_else}
 use Rattle.gg_elab_sites.specs.Signals.{Types, Cause, FromOutside, Connected, Expressed, Kept, Answered, Own, own, own_of_port, own_of_kind, cause_of_port, field_name, memory_signals, readers_signals, writer_signals}
 
 -- ---- names
@@ -61,7 +62,7 @@ AreNamesOfConnection None = Unit {0}
 AreNamesOfConnection (Some Zeroed) = Unit {0}
 AreNamesOfConnection (Some (ConnectedTo e)) = AreNamesOfTerm e
 
-later-names : (first later : Option Connection) → AreNamesOfConnection first → AreNamesOfConnection later → AreNamesOfConnection (or_later first later)
+later-names : (first later : Option Connection) → AreNamesOfConnection first → AreNamesOfConnection later → AreNamesOfConnection (or_else first later)
 later-names None later h k = k
 later-names (Some Zeroed) later h k = tt
 later-names (Some (ConnectedTo e)) later h k = h

@@ -23,7 +23,7 @@ use Rattle.gg_shape_names.specs.Scope.{same_reference, entry_of, first_name}
 use Rattle.gg_shape_names.specs.Namespace.{module_named, entry_by_port, entries_by, entries_by_kind, scope_of, instance_port, instance_ports, port_entries, port_field, name_by, name_by_kind}
 use Rattle.gg_shape_names.proofs.BlockLemmas.{at-place}
 use Rattle.gg_types.specs.declared.sort.Own.{Own}
-use Rattle.gg_types.specs.Named.{find_named}
+use Rattle.gg_bits.specs.Lists.{find_word}
 use Rattle.gg_types.specs.Owned.{typed, known_sort, sort_of_reference}
 use Rattle.gg_types.specs.Types.{known_in}
 use Rattle.gg_types.proofs.PlaceLemmas.{same_bytes}
@@ -58,7 +58,7 @@ shaped-entry : (scope : List (Reference × Role)) (known : List (List ℕ × Opt
 shaped-entry scope known r h = go (entry_of r scope) refl
   where
     go : (role : Option Role) → entry_of r scope ≡ role → EntryOf scope r
-    go None e = absurd (untyped (find_named (first_name r) known) (ap (λ role. is_some (value_shape (known_sort (typed (find_named (first_name r) known) role)))) (sym e) ∙ h))
+    go None e = absurd (untyped (find_word (first_name r) known) (ap (λ role. is_some (value_shape (known_sort (typed (find_word (first_name r) known) role)))) (sym e) ∙ h))
     go (Some role) e = entry-found scope r role e
 
 pub known-entry : (circuit : CircuitTree) (n : ℕ) (r : Reference) → is_some (types_of circuit n r) ≡ true → EntryOf (scope_of circuit.modules (module_at circuit.modules n)) r

@@ -7,7 +7,7 @@ use Rattle.gg_flat.specs.Line.{value_at}
 use Rattle.gg_flat.specs.Streams.{Flow}
 use Rattle.gg_node.specs.Machine.{Behaviour, RunsPiece, GivesColumn, KeepsLast, Machine, no_machine, machine_at, latch_at, flag_at}
 use Rattle.gg_net.specs.Network as network
-use Rattle.gg_net.specs.Network.{Network, Frame, Kind, IsAtIn, IsAtOut, wire_at, queue_at, kind_of, kind_at, frame_of, given_by, got_by, entered_by}
+use Rattle.gg_net.specs.Network.{Network, Frame, Kind, IsAtIn, IsAtOut, wire_at, queue_at, kind_of, kind_at, frame_of, and_one, got_by, entered_by}
 use Rattle.gg_net.specs.Kept.{Kept, MachineAt, BetweenAt, HasKept, IsSound, IsStateOf, Keeps, KeepsNone, Runs, list_at, rows_at, start_at}
 use Rattle.gg_net.specs.Step.{latch_of, flag_of}
 use Rattle.gg_net.proofs.CountLemmas.{same-machine, same-network}
@@ -29,7 +29,7 @@ latch-is : (cycle value : ℕ) (latch : Option ℕ) → ((v : ℕ) → latch ≡
 latch-is cycle value None is = ap (λ b. latch_if b value) (sym (le-ltb cycle cycle (omega arith)))
 latch-is cycle value (Some v) is = ap Some (is v refl) ∙ ap (λ b. latch_if b value) (sym (lt-ltb cycle (suc cycle) (omega arith)))
 
-flag-is : (cycle : ℕ) (flag : Bool) → flag ≡ nat_lt cycle (given_by cycle flag)
+flag-is : (cycle : ℕ) (flag : Bool) → flag ≡ nat_lt cycle (and_one cycle flag)
 flag-is cycle false = sym (le-ltb cycle cycle (omega arith))
 flag-is cycle true = sym (lt-ltb cycle (suc cycle) (omega arith))
 

@@ -6,13 +6,12 @@ use Rattle.gg_flat.specs.Line.{value_at}
 use Rattle.gg_flat.specs.Streams.{Flow}
 use Rattle.gg_node.specs.Machine.{Machine, machine_at}
 use Rattle.gg_net.specs.Network as network
-use Rattle.gg_net.specs.Network.{Network, wire_at, queue_at, opening_queue, frame_of, producer_of, given_by, got_by, entered_by}
+use Rattle.gg_net.specs.Network.{Network, wire_at, queue_at, opening_queue, frame_of, producer_of, and_one, got_by, entered_by, AllStandAt}
 use Rattle.gg_net.specs.Kept.{Kept, MachineAt, BetweenAt, HasKept, Keeps, list_at}
 use Rattle.gg_net.specs.Step.{latch_of, flag_of}
 use Rattle.gg_net.proofs.MayLemmas.{consumer-there, producer-there}
 use Rattle.gg_net.proofs.MarkingsLemmas.PutsLemmas.{puts-within}
 use Rattle.gg_measure.specs.Nets.{dues_at, net_left, wire_left, machine_left, AreDrained, AreLast, HaveKept}
-use Rattle.gg_net.specs.Network.{AllStandAt}
 use Rattle.gg_net.proofs.MarkingsLemmas.SumLemmas.{sum-each, sum-none}
 use Rattle.gg_measure.proofs.NetLemmas.{got-within}
 
@@ -20,7 +19,7 @@ got-least : (cycle : ℕ) (latch : Option ℕ) → cycle ≤ got_by cycle latch
 got-least cycle None = omega arith
 got-least cycle (Some value) = omega arith
 
-given-least : (cycle : ℕ) (flag : Bool) → cycle ≤ given_by cycle flag
+given-least : (cycle : ℕ) (flag : Bool) → cycle ≤ and_one cycle flag
 given-least cycle false = omega arith
 given-least cycle true = omega arith
 

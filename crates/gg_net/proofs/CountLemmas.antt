@@ -7,7 +7,7 @@ use Rattle.gg_flat.specs.State.{State}
 use Rattle.gg_flat.specs.Streams.{Flow}
 use Rattle.gg_node.specs.Machine.{Behaviour, RunsPiece, GivesColumn, KeepsLast, Machine, no_machine, machine_at, latch_at, flag_at}
 use Rattle.gg_net.specs.declared.shape.Wire.{Wire}
-use Rattle.gg_net.specs.Network.{wire_at, IsAtIn, IsAtOut, Network, queue_at, given_by, got_by, entered_by, puts, takes, entered, SameCounts, Kind, kind_of, kind_at, Frame, frame_of}
+use Rattle.gg_net.specs.Network.{wire_at, IsAtIn, IsAtOut, Network, queue_at, and_one, got_by, entered_by, puts, takes, entered, SameCounts, Kind, kind_of, kind_at, Frame, frame_of}
 use Rattle.gg_net.specs.Kept.{list_at, rows_at, start_at, Runs, IsSound, BetweenAt, IsStateOf, HasKept, Keeps, KeepsNone, MachineAt, Kept}
 use Rattle.gg_net.proofs.MachineLemmas.{state-once}
 
@@ -19,7 +19,7 @@ got-same cycle None (Some w) value is was same = absurd (omega (arith, same))
 got-same cycle (Some v) None value is was same = absurd (omega (arith, same))
 got-same cycle (Some v) (Some w) value is was same = ap Some (is v refl ∙ sym (was w refl))
 
-given-same : (cycle : ℕ) (a b : Bool) → given_by cycle a ≡ given_by cycle b → a ≡ b
+given-same : (cycle : ℕ) (a b : Bool) → and_one cycle a ≡ and_one cycle b → a ≡ b
 given-same cycle false false same = refl
 given-same cycle false true same = absurd (omega (arith, same))
 given-same cycle true false same = absurd (omega (arith, same))
@@ -88,7 +88,7 @@ module _ (flow : Flow) (frame : Frame) (sound : IsSound flow frame) (m : ℕ) (b
         (λ v is. (to.latched c v in_at.known in_at.machine is).1)
         (subst (λ n. got_by n (latch_at x.latches p) ≡ got_by y.cycle (latch_at y.latches p)) cycle (takes_same c in_at.known in_at.machine))))
 
-  module _ (puts_same : (c : ℕ) → c < length frame.wires → (wire_at frame.wires c).producer ≡ m → given_by x.cycle (flag_at x.flags (wire_at frame.wires c).out) ≡ given_by y.cycle (flag_at y.flags (wire_at frame.wires c).out)) where
+  module _ (puts_same : (c : ℕ) → c < length frame.wires → (wire_at frame.wires c).producer ≡ m → and_one x.cycle (flag_at x.flags (wire_at frame.wires c).out) ≡ and_one y.cycle (flag_at y.flags (wire_at frame.wires c).out)) where
     flags-same : x.flags ≡ y.flags
     flags-same =
         ext_get_or false x.flags y.flags (ap (λ (k : Kind). k.outs) kinds) (λ o lt.
@@ -98,7 +98,7 @@ module _ (flow : Flow) (frame : Frame) (sound : IsSound flow frame) (m : ℕ) (b
         let p : ℕ = (wire_at frame.wires c).out in
         subst (λ j. flag_at x.flags j ≡ flag_at y.flags j) out_at.out
         (given-same y.cycle (flag_at x.flags p) (flag_at y.flags p)
-        (subst (λ n. given_by n (flag_at x.flags p) ≡ given_by y.cycle (flag_at y.flags p)) cycle (puts_same c out_at.known out_at.machine))))
+        (subst (λ n. and_one n (flag_at x.flags p) ≡ and_one y.cycle (flag_at y.flags p)) cycle (puts_same c out_at.known out_at.machine))))
 
   state-same : x.state ≡ y.state
   state-same =
@@ -150,8 +150,8 @@ module _ (flow : Flow) (a b : Network) (is : Kept flow a) (was : Kept flow b) (f
       subst (λ k. got_by (machine_at a.machines k).cycle (latch_at (machine_at a.machines k).latches (wire_at a.wires c).place) ≡ got_by (machine_at b.machines k).cycle (latch_at (machine_at b.machines k).latches (wire_at a.wires c).place)) consumer
       (counts.takes c known ∙ ap (λ (wires : List Wire). got_by (machine_at b.machines (wire_at wires c).consumer).cycle (latch_at (machine_at b.machines (wire_at wires c).consumer).latches (wire_at wires c).place)) (sym wires-same))))
       (flags-same flow (frame_of a) is.sound m below x y at to cycle served (λ c known producer.
-      subst (λ k. given_by (machine_at a.machines k).cycle (flag_at (machine_at a.machines k).flags (wire_at a.wires c).out) ≡ given_by (machine_at b.machines k).cycle (flag_at (machine_at b.machines k).flags (wire_at a.wires c).out)) producer
-      (counts.puts c known ∙ ap (λ (wires : List Wire). given_by (machine_at b.machines (wire_at wires c).producer).cycle (flag_at (machine_at b.machines (wire_at wires c).producer).flags (wire_at wires c).out)) (sym wires-same))))
+      subst (λ k. and_one (machine_at a.machines k).cycle (flag_at (machine_at a.machines k).flags (wire_at a.wires c).out) ≡ and_one (machine_at b.machines k).cycle (flag_at (machine_at b.machines k).flags (wire_at a.wires c).out)) producer
+      (counts.puts c known ∙ ap (λ (wires : List Wire). and_one (machine_at b.machines (wire_at wires c).producer).cycle (flag_at (machine_at b.machines (wire_at wires c).producer).flags (wire_at wires c).out)) (sym wires-same))))
       (kept-same flow (frame_of a) is.sound m below x y at to cycle served)
 
   queue-same : (c : ℕ) → c < length a.wires → queue_at a.queues c ≡ queue_at b.queues c

@@ -4,7 +4,8 @@ use Rattle.std.specs.Prelude.{filter, find}
 use Rattle.std.specs.List.{range_with_len}
 use Rattle.std.proofs.lemmas.Bool.{cases_eq, cases_Bool, true≢false}
 use Rattle.gg_net.specs.declared.event.StepRefusal.{StepRefusal}
-use Rattle.gg_net.specs.Refusal.{or_next, unless, naming}
+use Rattle.gg_net.specs.Refusal.{unless, naming}
+use Rattle.gg_bits.specs.Lists.{or_else}
 
 -- ---- the first of the numbers in a range that are chosen
 
@@ -67,12 +68,12 @@ chosen-fail p q a (suc n) is c le lt chosen =
 -- ---- conditions
 
 -- a condition that holds is passed
-pub passed : (holds : Bool) (refusal : StepRefusal) (later : Option StepRefusal) → holds ≡ true → or_next (unless holds refusal) later ≡ later
-passed holds refusal later is = ap (λ b. or_next (unless b refusal) later) is
+pub passed : (holds : Bool) (refusal : StepRefusal) (later : Option StepRefusal) → holds ≡ true → or_else (unless holds refusal) later ≡ later
+passed holds refusal later is = ap (λ b. or_else (unless b refusal) later) is
 
 -- a condition that fails gives its refusal
-pub failed : (holds : Bool) (refusal : StepRefusal) (later : Option StepRefusal) → holds ≡ false → or_next (unless holds refusal) later ≡ Some refusal
-failed holds refusal later is = ap (λ b. or_next (unless b refusal) later) is
+pub failed : (holds : Bool) (refusal : StepRefusal) (later : Option StepRefusal) → holds ≡ false → or_else (unless holds refusal) later ≡ Some refusal
+failed holds refusal later is = ap (λ b. or_else (unless b refusal) later) is
 
 -- the last condition: it holds, or fails
 pub holds-last : (holds : Bool) (refusal : StepRefusal) → holds ≡ true → unless holds refusal ≡ None
@@ -82,14 +83,14 @@ pub fails-last : (holds : Bool) (refusal : StepRefusal) → holds ≡ false → 
 fails-last holds refusal is = ap (λ b. unless b refusal) is
 
 -- if the search finds no channel, the later conditions decide; if it finds one, the refusal names it
-pub names-none : (refusal : ℕ → StepRefusal) (first : Option ℕ) (later : Option StepRefusal) → first ≡ None → or_next (naming refusal first) later ≡ later
-names-none refusal first later is = ap (λ o. or_next (naming refusal o) later) is
+pub names-none : (refusal : ℕ → StepRefusal) (first : Option ℕ) (later : Option StepRefusal) → first ≡ None → or_else (naming refusal first) later ≡ later
+names-none refusal first later is = ap (λ o. or_else (naming refusal o) later) is
 
-pub names-some : (refusal : ℕ → StepRefusal) (first : Option ℕ) (later : Option StepRefusal) (d : ℕ) → first ≡ Some d → or_next (naming refusal first) later ≡ Some (refusal d)
-names-some refusal first later d is = ap (λ o. or_next (naming refusal o) later) is
+pub names-some : (refusal : ℕ → StepRefusal) (first : Option ℕ) (later : Option StepRefusal) (d : ℕ) → first ≡ Some d → or_else (naming refusal first) later ≡ Some (refusal d)
+names-some refusal first later d is = ap (λ o. or_else (naming refusal o) later) is
 
 -- if the refusals are none, the search finds no channel
-pub past-named : (f : ℕ → StepRefusal) (o : Option ℕ) (later : Option StepRefusal) → or_next (naming f o) later ≡ None → (o ≡ None) × (later ≡ None)
+pub past-named : (f : ℕ → StepRefusal) (o : Option ℕ) (later : Option StepRefusal) → or_else (naming f o) later ≡ None → (o ≡ None) × (later ≡ None)
 past-named f None later is = (refl, is)
 past-named f (Some d) later is = absurd (some-none (f d) is)
 

@@ -10,7 +10,7 @@ use Rattle.gg_node.specs.Machine.{Behaviour, RunsPiece, GivesColumn, KeepsLast, 
 use Rattle.gg_node.proofs.EmptyLemmas.{empty-after}
 use Rattle.gg_net.specs.declared.shape.Wire.{Wire}
 use Rattle.gg_net.specs.declared.shape.Station.{Station}
-use Rattle.gg_net.specs.Network.{Network, wire_at, queue_at, given_by, got_by, entered_by, opening_queue, puts, takes, entered, kind_of, kind_at, frame_of}
+use Rattle.gg_net.specs.Network.{Network, wire_at, queue_at, and_one, got_by, entered_by, opening_queue, puts, takes, entered, kind_of, kind_at, frame_of}
 use Rattle.gg_net.specs.Kept.{list_at, rows_at, start_at, ins_of, run_state, served_by, IsStateOf, Keeps, KeepsNone, MachineAt, Kept}
 use Rattle.gg_net.specs.Queue.{Held}
 use Rattle.gg_net.specs.Stations.{machines_by, stationed}
@@ -80,8 +80,8 @@ module _ (flow : Flow) (machines : List Machine) (wires : List Wire) (end : ℕ)
         rest = rest-open x.behaviour x.kept open_at.kept;
       }
 
-given-open : (flow : Flow) (m : ℕ) (x : Machine) (o : ℕ) → IsOpening flow m x → given_by x.cycle (flag_at x.flags o) ≡ flow.begin
-given-open flow m x o open_at = ap (λ flags. given_by x.cycle (flag_at flags o)) open_at.flags ∙ ap (given_by x.cycle) (clear-after (length x.flags) o) ∙ open_at.cycle
+given-open : (flow : Flow) (m : ℕ) (x : Machine) (o : ℕ) → IsOpening flow m x → and_one x.cycle (flag_at x.flags o) ≡ flow.begin
+given-open flow m x o open_at = ap (λ flags. and_one x.cycle (flag_at flags o)) open_at.flags ∙ ap (and_one x.cycle) (clear-after (length x.flags) o) ∙ open_at.cycle
 
 got-open : (flow : Flow) (m : ℕ) (x : Machine) (i : ℕ) → IsOpening flow m x → got_by x.cycle (latch_at x.latches i) ≡ flow.begin
 got-open flow m x i open_at = ap (λ latches. got_by x.cycle (latch_at latches i)) open_at.latches ∙ ap (got_by x.cycle) (empty-after (length x.latches) i) ∙ open_at.cycle

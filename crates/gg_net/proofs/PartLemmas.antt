@@ -12,7 +12,7 @@ use Rattle.gg_node.specs.Step.{FitsIn, MayLatch, MayFire, MayServe, MayFinish, H
 use Rattle.gg_node.proofs.EmptyLemmas.{empty-after}
 use Rattle.gg_net.specs.declared.shape.Wire.{Wire}
 use Rattle.gg_net.specs.declared.shape.Station.{Station}
-use Rattle.gg_net.specs.Network.{wire_at, Network, queue_at, given_by, got_by, entered_by, Kind, no_kind, kind_of, Frame, frame_of}
+use Rattle.gg_net.specs.Network.{wire_at, Network, queue_at, and_one, got_by, entered_by, Kind, no_kind, kind_of, Frame, frame_of}
 use Rattle.gg_net.specs.Readings.{fields_at, due_fields}
 use Rattle.gg_net.specs.Kept.{list_at, IsSound, MachineAt, BetweenAt, Kept}
 use Rattle.gg_net.specs.Parted.{takes_by, enters_by}
@@ -81,11 +81,11 @@ module _ (flow : Flow) (frame : Frame) (sound : IsSound flow frame) (m : ℕ) (b
   -- No more tokens enter a channel than its list has values.
   pub enters-short : (c : ℕ) → c < length frame.wires → (wire_at frame.wires c).producer ≡ m → enters_by frame x c ≤ length (list_at flow.lists c)
   enters-short c known from =
-      let within : given_by x.cycle (flag_at x.flags (wire_at frame.wires c).out) ≤ frame.end = by (flag_at x.flags (wire_at frame.wires c).out) refl in
-      let up : enters_by frame x c ≤ entered_by (wire_at frame.wires c).first frame.end = entered-up (wire_at frame.wires c).first (given_by x.cycle (flag_at x.flags (wire_at frame.wires c).out)) frame.end within in
+      let within : and_one x.cycle (flag_at x.flags (wire_at frame.wires c).out) ≤ frame.end = by (flag_at x.flags (wire_at frame.wires c).out) refl in
+      let up : enters_by frame x c ≤ entered_by (wire_at frame.wires c).first frame.end = entered-up (wire_at frame.wires c).first (and_one x.cycle (flag_at x.flags (wire_at frame.wires c).out)) frame.end within in
       omega (arith, up, sound.solves.long c known)
     where
-      by : (flag : Bool) → flag_at x.flags (wire_at frame.wires c).out ≡ flag → given_by x.cycle flag ≤ frame.end
+      by : (flag : Bool) → flag_at x.flags (wire_at frame.wires c).out ≡ flag → and_one x.cycle flag ≤ frame.end
       by false is = at.within
       by true is = let lt : x.cycle < frame.end = (at.fired (wire_at frame.wires c).out is).0 in omega (arith, lt)
 
@@ -106,19 +106,19 @@ module _ (flow : Flow) (frame : Frame) (sound : IsSound flow frame) (m : ℕ) (b
 
   pub enters-fire : (c : ℕ) → c < length frame.wires → (wire_at frame.wires c).producer ≡ m → flag_at x.flags (wire_at frame.wires c).out ≡ false → enters_by frame (with_flag x (wire_at frame.wires c).out) c ≡ suc (enters_by frame x c)
   enters-fire c known from clear =
-      ap (λ flag. entered_by (wire_at frame.wires c).first (given_by x.cycle flag)) (get_or-set_same x.flags (wire_at frame.wires c).out true false (out-within flow frame sound m below x at c known from))
+      ap (λ flag. entered_by (wire_at frame.wires c).first (and_one x.cycle flag)) (get_or-set_same x.flags (wire_at frame.wires c).out true false (out-within flow frame sound m below x at c known from))
       ∙ entered-suc (wire_at frame.wires c).first x.cycle
-      ∙ ap (λ flag. suc (entered_by (wire_at frame.wires c).first (given_by x.cycle flag))) (sym clear)
+      ∙ ap (λ flag. suc (entered_by (wire_at frame.wires c).first (and_one x.cycle flag))) (sym clear)
 
   pub enters-fire-other : (c d : ℕ) → c < length frame.wires → d < length frame.wires → (wire_at frame.wires c).producer ≡ m → (wire_at frame.wires d).producer ≡ m → d ≢ c → enters_by frame (with_flag x (wire_at frame.wires c).out) d ≡ enters_by frame x d
   enters-fire-other c d known lt from too other =
-      ap (λ flag. entered_by (wire_at frame.wires d).first (given_by x.cycle flag)) (get_or-set_other x.flags (wire_at frame.wires c).out (wire_at frame.wires d).out true false (λ same. other (one-out frame sound.wired d c lt known (too ∙ sym from) same)))
+      ap (λ flag. entered_by (wire_at frame.wires d).first (and_one x.cycle flag)) (get_or-set_other x.flags (wire_at frame.wires c).out (wire_at frame.wires d).out true false (λ same. other (one-out frame sound.wired d c lt known (too ∙ sym from) same)))
 
   pub enters-finish : (next : State) (c : ℕ) → c < length frame.wires → (wire_at frame.wires c).producer ≡ m → AllFired x → enters_by frame (finished x next) c ≡ enters_by frame x c
   enters-finish next c known from all =
       let o : ℕ = (wire_at frame.wires c).out in
-      ap (λ flag. entered_by (wire_at frame.wires c).first (given_by (suc x.cycle) flag)) (clear-after (length x.flags) o)
-      ∙ ap (λ flag. entered_by (wire_at frame.wires c).first (given_by x.cycle flag)) (sym (all o false (out-within flow frame sound m below x at c known from)))
+      ap (λ flag. entered_by (wire_at frame.wires c).first (and_one (suc x.cycle) flag)) (clear-after (length x.flags) o)
+      ∙ ap (λ flag. entered_by (wire_at frame.wires c).first (and_one x.cycle flag)) (sym (all o false (out-within flow frame sound m below x at c known from)))
 
 -- ---- the network from its machines and queues
 

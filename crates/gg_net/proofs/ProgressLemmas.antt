@@ -9,7 +9,7 @@ use Rattle.gg_node.specs.Machine.{Port, Machine, machine_at, latch_at, flag_at, 
 use Rattle.gg_node.specs.Step.{fields_of, AllFired, AllLatched}
 use Rattle.gg_net.specs.declared.event.Event.{Event}
 use Rattle.gg_net.specs.declared.event.Event.TheVariants.{Latch, Fire, Serve, Finish}
-use Rattle.gg_net.specs.Network.{Network, wire_at, IsAtIn, IsAtOut, queue_at, producer_of, consumer_of, given_by, got_by, entered_by, puts, takes, entered, Kind, kind_at, frame_of}
+use Rattle.gg_net.specs.Network.{Network, wire_at, IsAtIn, IsAtOut, queue_at, producer_of, consumer_of, and_one, got_by, entered_by, puts, takes, entered, Kind, kind_at, frame_of}
 use Rattle.gg_net.specs.Step.{latch_of, flag_of, Ready}
 use Rattle.gg_net.specs.Readings.{fields_at}
 use Rattle.gg_net.proofs.Can.{missing_of}
@@ -100,11 +100,11 @@ got-at : (t cycle : ℕ) (latch : Option ℕ) → t ≤ cycle → got_by cycle l
 got-at t cycle None le got = (omega (arith, le, got), refl)
 got-at t cycle (Some value) le got = absurd (omega (arith, le, got))
 
-given-at : (t cycle : ℕ) (flag : Bool) → t ≤ cycle → given_by cycle flag ≤ t → (cycle ≡ t) × (flag ≡ false)
+given-at : (t cycle : ℕ) (flag : Bool) → t ≤ cycle → and_one cycle flag ≤ t → (cycle ≡ t) × (flag ≡ false)
 given-at t cycle false le given = (omega (arith, le, given), refl)
 given-at t cycle true le given = absurd (omega (arith, le, given))
 
-given-least : (t cycle : ℕ) (flag : Bool) → t ≤ cycle → t ≤ given_by cycle flag
+given-least : (t cycle : ℕ) (flag : Bool) → t ≤ cycle → t ≤ and_one cycle flag
 given-least t cycle false le = le
 given-least t cycle true le = omega (arith, le)
 
@@ -146,7 +146,7 @@ module _ (flow : Flow) (net : Network) (kept : Kept flow net) (t : ℕ) (below :
   fires-by c None needed known at clear lower =
       let between : BetweenAt (list_at flow.lists c) (wire_at net.wires c).capacity (takes net c) (entered net c) (queue_at net.queues c) = kept.channels c known in
       let some : 0 < (wire_at net.wires c).capacity = kept.sound.wired.some c known in
-      let put : puts net c ≡ t = ap (given_by (producer_of net c).cycle) clear ∙ at in
+      let put : puts net c ≡ t = ap (and_one (producer_of net c).cycle) clear ∙ at in
       ⊎_elim
       (λ (lt : length (queue_at net.queues c) < (wire_at net.wires c).capacity). (Fire c, can-fire net kept.sound.wired c (record { can = (known, omega (arith, at, below)); clear = clear; needed = needed; room = lt })))
       (λ (le : (wire_at net.wires c).capacity ≤ length (queue_at net.queues c)).

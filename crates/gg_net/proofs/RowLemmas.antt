@@ -4,17 +4,18 @@ use Rattle.std.specs.Prelude.{not, nat_lt}
 use Rattle.std.proofs.lemmas.Bool.{lt-ltb, le-ltb, ltb-true, not-true, eqb-true, eq-eqb}
 use Rattle.gg_net.specs.declared.event.StepRefusal.{StepRefusal}
 use Rattle.gg_net.specs.declared.event.StepRefusal.TheVariants.{Stranger, NeedsInput, Order, Unfired, Unserved}
-use Rattle.gg_net.specs.Refusal.{Turn, Facts, ins_of_machine, outs_of_machine, or_next, unless, naming, first_without, not_due, unserved, latch_refusal, fire_refusal, serve_refusal, finish_refusal}
+use Rattle.gg_net.specs.Refusal.{Turn, Facts, ins_of_machine, outs_of_machine, unless, naming, first_without, not_due, unserved, latch_refusal, fire_refusal, serve_refusal, finish_refusal}
+use Rattle.gg_bits.specs.Lists.{or_else}
 use Rattle.gg_net.proofs.FindLemmas.{failed, some-none}
 
 -- ---- conditions in a row
 
-both-pass : (a b : Option StepRefusal) → or_next a b ≡ None → (a ≡ None) × (b ≡ None)
+both-pass : (a b : Option StepRefusal) → or_else a b ≡ None → (a ≡ None) × (b ≡ None)
 both-pass None b is = (refl, is)
 both-pass (Some cause) b is = absurd (some-none cause is)
 
-pass-both : (a b : Option StepRefusal) → a ≡ None → b ≡ None → or_next a b ≡ None
-pass-both a b one other = ap (λ o. or_next o b) one ∙ other
+pass-both : (a b : Option StepRefusal) → a ≡ None → b ≡ None → or_else a b ≡ None
+pass-both a b one other = ap (λ o. or_else o b) one ∙ other
 
 holds : (b : Bool) (cause : StepRefusal) → unless b cause ≡ None → b ≡ true
 holds true cause is = refl

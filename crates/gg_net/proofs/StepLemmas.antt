@@ -16,7 +16,7 @@ use Rattle.gg_node.proofs.EmptyLemmas.{empty-after}
 use Rattle.gg_net.specs.declared.event.Event.{Event}
 use Rattle.gg_net.specs.declared.event.Event.TheVariants.{Latch, Fire, Serve, Finish}
 use Rattle.gg_net.specs.declared.shape.Wire.{Wire}
-use Rattle.gg_net.specs.Network.{wire_at, Network, queue_at, producer_of, consumer_of, given_by, got_by, entered_by, puts, takes, entered, Kind, kind_of, frame_of}
+use Rattle.gg_net.specs.Network.{wire_at, Network, queue_at, producer_of, consumer_of, and_one, got_by, entered_by, puts, takes, entered, Kind, kind_of, frame_of}
 use Rattle.gg_net.specs.Step.{front_of, after_latch, after_fire, after_serve, after_finish, Step}
 use Rattle.gg_net.proofs.Can.{CanLatch, CanFire, CanServe, CanFinish}
 use Rattle.gg_net.specs.Kept.{list_at, IsSound, MachineAt, BetweenAt, Kept}
@@ -64,16 +64,16 @@ module _ (flow : Flow) (net : Network) (kept : Kept flow net) where
         (λ other. subst (MachineAt flow (frame_of net) k) (sym (get_or-set_other net.machines m k y no_machine other)) (kept.machines k lt))
         (cases_eq k m)
 
-    pub puts-same : (c : ℕ) → ((wire_at net.wires c).producer ≡ m → given_by y.cycle (flag_at y.flags (wire_at net.wires c).out) ≡ given_by (machine_at net.machines m).cycle (flag_at (machine_at net.machines m).flags (wire_at net.wires c).out)) → puts changed c ≡ puts net c
+    pub puts-same : (c : ℕ) → ((wire_at net.wires c).producer ≡ m → and_one y.cycle (flag_at y.flags (wire_at net.wires c).out) ≡ and_one (machine_at net.machines m).cycle (flag_at (machine_at net.machines m).flags (wire_at net.wires c).out)) → puts changed c ≡ puts net c
     puts-same c is =
-        let given : Machine → ℕ = λ z. given_by z.cycle (flag_at z.flags (wire_at net.wires c).out) in
+        let given : Machine → ℕ = λ z. and_one z.cycle (flag_at z.flags (wire_at net.wires c).out) in
         ⊎_elim
         (λ (same : (wire_at net.wires c).producer ≡ m).
         ap (λ k. given (machine_at (slice_set net.machines m y) k)) same ∙ ap given (get_or-set_same net.machines m y no_machine there) ∙ is same ∙ ap (λ k. given (machine_at net.machines k)) (sym same))
         (λ other. ap given (get_or-set_other net.machines m (wire_at net.wires c).producer y no_machine other))
         (cases_eq (wire_at net.wires c).producer m)
 
-    entered-same : (c : ℕ) → ((wire_at net.wires c).producer ≡ m → given_by y.cycle (flag_at y.flags (wire_at net.wires c).out) ≡ given_by (machine_at net.machines m).cycle (flag_at (machine_at net.machines m).flags (wire_at net.wires c).out)) → entered changed c ≡ entered net c
+    entered-same : (c : ℕ) → ((wire_at net.wires c).producer ≡ m → and_one y.cycle (flag_at y.flags (wire_at net.wires c).out) ≡ and_one (machine_at net.machines m).cycle (flag_at (machine_at net.machines m).flags (wire_at net.wires c).out)) → entered changed c ≡ entered net c
     entered-same c is = ap (entered_by (wire_at net.wires c).first) (puts-same c is)
 
     pub takes-same : (c : ℕ) → ((wire_at net.wires c).consumer ≡ m → got_by y.cycle (latch_at y.latches (wire_at net.wires c).place) ≡ got_by (machine_at net.machines m).cycle (latch_at (machine_at net.machines m).latches (wire_at net.wires c).place)) → takes changed c ≡ takes net c
@@ -138,7 +138,7 @@ module _ (flow : Flow) (net : Network) (kept : Kept flow net) where
       let there : m < length net.machines = machine-there net m below in
       let at : MachineAt flow (frame_of net) m x = kept.machines m there in
       let between : BetweenAt (list_at flow.lists c) w.capacity (takes net c) (entered net c) (queue_at net.queues c) = kept.channels c known in
-      let put : puts net c ≡ x.cycle = ap (given_by x.cycle) can.clear in
+      let put : puts net c ≡ x.cycle = ap (and_one x.cycle) can.clear in
       let is_next : token ≡ value_at (list_at flow.lists c) (entered net c) = token_is flow (frame_of net) kept.sound m below x at c token known refl can.can.1 can.clear gives ∙ ap (λ n. value_at (list_at flow.lists c) (entered_by w.first n)) (sym put) in
       let y : Machine = with_flag x w.out in
       let own : MachineAt flow (frame_of net) m y = own_fire flow (frame_of net) kept.sound m below x at c known refl can.can.1 can.clear can.needed in
@@ -149,13 +149,13 @@ module _ (flow : Flow) (net : Network) (kept : Kept flow net) where
       subst (λ k. BetweenAt (list_at flow.lists k) (wire_at net.wires k).capacity (takes (changed m there y own queues) k) (entered (changed m there y own queues) k) (queue_at queues k)) (sym same)
       (between-same (list_at flow.lists c) w.capacity (takes net c) (takes (changed m there y own queues) c) (suc (entered net c)) (entered (changed m there y own queues) c) (queue_at net.queues c ++ token ∷ []) (queue_at queues c)
       (takes-same m there y own queues c (λ is. refl))
-      (ap (λ (z : Machine). entered_by w.first (given_by z.cycle (flag_at z.flags w.out))) (get_or-set_same net.machines m y no_machine there) ∙ ap (λ flag. entered_by w.first (given_by x.cycle flag)) (get_or-set_same x.flags w.out true false within) ∙ entered-suc w.first x.cycle ∙ ap (λ n. suc (entered_by w.first n)) (sym put))
+      (ap (λ (z : Machine). entered_by w.first (and_one z.cycle (flag_at z.flags w.out))) (get_or-set_same net.machines m y no_machine there) ∙ ap (λ flag. entered_by w.first (and_one x.cycle flag)) (get_or-set_same x.flags w.out true false within) ∙ entered-suc w.first x.cycle ∙ ap (λ n. suc (entered_by w.first n)) (sym put))
       (get_or-set_same net.queues c (queue_at net.queues c ++ token ∷ []) [] (omega (arith, known, kept.queues)))
       (put-one (list_at flow.lists c) w.capacity (takes net c) (entered net c) (queue_at net.queues c) token between can.room is_next)))
       (λ (other : d ≢ c).
       between-same (list_at flow.lists d) (wire_at net.wires d).capacity (takes net d) (takes (changed m there y own queues) d) (entered net d) (entered (changed m there y own queues) d) (queue_at net.queues d) (queue_at queues d)
       (takes-same m there y own queues d (λ is. refl))
-      (entered-same m there y own queues d (λ is. ap (given_by x.cycle) (get_or-set_other x.flags w.out (wire_at net.wires d).out true false (λ same. other (one-out (frame_of net) kept.sound.wired d c lt known is same)))))
+      (entered-same m there y own queues d (λ is. ap (and_one x.cycle) (get_or-set_other x.flags w.out (wire_at net.wires d).out true false (λ same. other (one-out (frame_of net) kept.sound.wired d c lt known is same)))))
       (get_or-set_other net.queues c d (queue_at net.queues c ++ token ∷ []) [] other)
       (kept.channels d lt))
       (cases_eq d c))
@@ -192,7 +192,7 @@ module _ (flow : Flow) (net : Network) (kept : Kept flow net) where
       (entered-same m there y own net.queues d (λ is.
       let o : ℕ = (wire_at net.wires d).out in
       let within : o < length x.flags = out-within flow (frame_of net) kept.sound m below x at d lt is in
-      ap (given_by (suc x.cycle)) (clear-after (length x.flags) o) ∙ sym (ap (given_by x.cycle) (can.fired o false within))))
+      ap (and_one (suc x.cycle)) (clear-after (length x.flags) o) ∙ sym (ap (and_one x.cycle) (can.fired o false within))))
       refl
       (kept.channels d lt))
 

@@ -58,10 +58,10 @@ AllStandAt cycle net = (m : ℕ) → m < length net.machines → cycle_at net m 
 
 -- ---- counts
 
--- the number of tokens that an out has given, in a machine in this cycle, if the out has this flag
-abbrev pub given_by : ℕ → Bool → ℕ
-given_by cycle false = cycle
-given_by cycle true = suc cycle
+-- One more if the flag is true. An out of a machine in this cycle has given so many tokens, if it has this flag.
+abbrev pub and_one : ℕ → Bool → ℕ
+and_one n false = n
+and_one n true = suc n
 
 -- the number of tokens that an in has got, in a machine in this cycle, if the in has this latch
 abbrev pub got_by : ℕ → Option ℕ → ℕ
@@ -70,7 +70,7 @@ got_by cycle (Some value) = suc cycle
 
 -- the number of tokens that were put into a channel
 abbrev pub puts : Network → ℕ → ℕ
-puts net c = given_by (producer_of net c).cycle (flag_at (producer_of net c).flags (wire_at net.wires c).out)
+puts net c = and_one (producer_of net c).cycle (flag_at (producer_of net c).flags (wire_at net.wires c).out)
 
 -- the number of tokens that were taken from a channel
 abbrev pub takes : Network → ℕ → ℕ

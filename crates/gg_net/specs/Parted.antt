@@ -2,7 +2,7 @@
 -- Source: MEMOCODE 2009 (a queue lies between two nodes; each knows what it has put or taken).
 use Rattle.std.specs.Prelude.{ℕ}
 use Rattle.gg_node.specs.Machine.{Machine, latch_at, flag_at}
-use Rattle.gg_net.specs.Network.{wire_at, given_by, got_by, entered_by, Frame}
+use Rattle.gg_net.specs.Network.{wire_at, and_one, got_by, entered_by, Frame}
 
 -- the number of tokens that a machine has taken from a channel
 abbrev pub takes_by : Frame → Machine → ℕ → ℕ
@@ -10,4 +10,4 @@ takes_by frame x c = got_by x.cycle (latch_at x.latches (wire_at frame.wires c).
 
 -- the number of tokens that have entered a channel from a machine
 abbrev pub enters_by : Frame → Machine → ℕ → ℕ
-enters_by frame x c = entered_by (wire_at frame.wires c).first (given_by x.cycle (flag_at x.flags (wire_at frame.wires c).out))
+enters_by frame x c = entered_by (wire_at frame.wires c).first (and_one x.cycle (flag_at x.flags (wire_at frame.wires c).out))

@@ -4,6 +4,7 @@
 -- The order in which conditions are checked is this program's.
 use Rattle.std.specs.Prelude.{ℕ, ◌==◌, List, Bool, true, false, not, Option, Some, None, filter, find, nat_lt}
 use Rattle.std.specs.List.{range_with_len}
+use Rattle.gg_bits.specs.Lists.{or_else}
 use Rattle.gg_net.specs.declared.event.Event.{Event}
 use Rattle.gg_net.specs.declared.event.Event.TheVariants.{Latch, Fire, Serve, Finish}
 use Rattle.gg_net.specs.declared.event.StepRefusal.{StepRefusal}
@@ -46,11 +47,6 @@ outs_of_machine facts m = filter (λ c. facts.producer c == m) (range_with_len 0
 
 -- ---- the words of the table
 
--- the first refusal of two
-abbrev pub or_next : Option StepRefusal → Option StepRefusal → Option StepRefusal
-or_next None later = later
-or_next (Some refusal) later = Some refusal
-
 -- a refusal, if a condition fails
 abbrev pub unless : Bool → StepRefusal → Option StepRefusal
 unless true refusal = None
@@ -77,7 +73,7 @@ unfired facts m = naming Unfired (first_without facts.given (outs_of_machine fac
 -- number of ports
 abbrev pub not_due : Facts → ℕ → ℕ → Option Turn → Option StepRefusal
 not_due facts m p None = Some (Order (facts.ports m))
-not_due facts m p (Some turn) = or_next (unless (turn.number == p) (Order turn.number)) (needing facts turn.fields)
+not_due facts m p (Some turn) = or_else (unless (turn.number == p) (Order turn.number)) (needing facts turn.fields)
 
 -- refuses with the port that is due and not served
 abbrev pub unserved : Option Turn → Option StepRefusal
@@ -89,38 +85,38 @@ unserved (Some turn) = Some (Unserved turn.number)
 -- `Latch`: the channel exists; its consumer has cycles left; the latch is empty; the queue holds a token
 abbrev pub latch_refusal : Facts → ℕ → Option StepRefusal
 latch_refusal facts c =
-    or_next (unless (nat_lt c facts.channels) Stranger)
-    (or_next (unless (facts.below (facts.consumer c)) Ended)
-    (or_next (unless (not (facts.taken c)) Latched)
+    or_else (unless (nat_lt c facts.channels) Stranger)
+    (or_else (unless (facts.below (facts.consumer c)) Ended)
+    (or_else (unless (not (facts.taken c)) Latched)
     (unless (nat_lt 0 (facts.held c)) (NoToken c))))
 
 -- `Fire`: the channel exists; its producer has cycles left; the flag is clear; each needed channel is latched; the queue
 -- is shorter than its capacity
 abbrev pub fire_refusal : Facts → ℕ → Option StepRefusal
 fire_refusal facts c =
-    or_next (unless (nat_lt c facts.channels) Stranger)
-    (or_next (unless (facts.below (facts.producer c)) Ended)
-    (or_next (unless (not (facts.given c)) Fired)
-    (or_next (needing facts (facts.needs c))
+    or_else (unless (nat_lt c facts.channels) Stranger)
+    (or_else (unless (facts.below (facts.producer c)) Ended)
+    (or_else (unless (not (facts.given c)) Fired)
+    (or_else (needing facts (facts.needs c))
     (unless (nat_lt (facts.held c) (facts.capacity c)) (Full c (facts.held c))))))
 
 -- `Serve`: the machine has the port; it has cycles left; all its channels are fired; the port is the one that is due;
 -- the port's fields are latched
 abbrev pub serve_refusal : Facts → ℕ → ℕ → Option StepRefusal
 serve_refusal facts m p =
-    or_next (unless (nat_lt p (facts.ports m)) Stranger)
-    (or_next (unless (facts.below m) Ended)
-    (or_next (unfired facts m)
+    or_else (unless (nat_lt p (facts.ports m)) Stranger)
+    (or_else (unless (facts.below m) Ended)
+    (or_else (unfired facts m)
     (not_due facts m p (facts.due m))))
 
 -- `Finish`: the machine exists; it has cycles left; all its channels are fired; all ports are served; all its channels
 -- are latched
 abbrev pub finish_refusal : Facts → ℕ → Option StepRefusal
 finish_refusal facts m =
-    or_next (unless (nat_lt m facts.machines) Stranger)
-    (or_next (unless (facts.below m) Ended)
-    (or_next (unfired facts m)
-    (or_next (unserved (facts.due m))
+    or_else (unless (nat_lt m facts.machines) Stranger)
+    (or_else (unless (facts.below m) Ended)
+    (or_else (unfired facts m)
+    (or_else (unserved (facts.due m))
     (needing facts (ins_of_machine facts m)))))
 
 -- why an event is refused: the first of its conditions that fails; None if it may be done

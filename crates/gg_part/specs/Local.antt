@@ -1,15 +1,11 @@
 -- What a part has, under the part's own numbers, with a clock of the part for each port.
 -- Source: this program's own.
 use Rattle.std.specs.Prelude.{ℕ, suc, List, [], ◌∷◌, Option, None, length, slice_index_or}
+use Rattle.gg_bits.specs.Lists.{by_number}
 use Rattle.gg_flat.specs.declared.memory.Memory.{Memory}
 use Rattle.gg_flat.specs.declared.memory.Reader.{Reader}
 use Rattle.gg_flat.specs.declared.memory.Writer.{Writer}
 use Rattle.gg_flat.specs.Renaming.{Renaming, renamed_reader, renamed_writer}
-
--- the items of a list, each with its number; the first number is n
-abbrev pub by_number : {A B : Type 0} → (ℕ → A → B) → ℕ → List A → List B
-by_number f n [] = []
-by_number f n (x ∷ xs) = f n x ∷ by_number f (suc n) xs
 
 -- the numbers of signals by `back`, and this clock
 abbrev pub own_by : (back : ℕ → ℕ) → Option ℕ → Renaming

@@ -4,7 +4,8 @@ use Rattle.std.specs.Prelude.{⊤, is_some, codes, take}
 use Rattle.std.proofs.lemmas.Option.{none-some, same_Some}
 use Rattle.serde_json.specs.Data.{Data}
 use Rattle.serde_json.specs.Find.{get, as_bool, as_object}
-use Rattle.gg_partfile.specs.Fault.{IfKey, or_else, first_wrong, wrong_key, IsRefused}
+use Rattle.gg_partfile.specs.Fault.{IfKey, first_wrong, wrong_key, IsRefused}
+use Rattle.gg_bits.specs.Lists.{or_else}
 use Rattle.gg_partfile.specs.Keys.{Key, keys, is_known, has_shape, misshapen, or_default, under, unknown}
 use Rattle.gg_partfile.specs.Partition.{Asks, IsPartition}
 use Rattle.gg_partfile.specs.Shapes.{texts, groups, numbers, ratios, bridges}

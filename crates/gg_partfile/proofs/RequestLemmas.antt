@@ -13,7 +13,7 @@ use Rattle.serde_json.specs.Read.{read}
 use Rattle.gg_partfile.specs.Keys.{is_known, held, or_default, under}
 use Rattle.gg_partfile.specs.Partition.{Asks}
 use Rattle.gg_partfile.specs.Shapes.{each, texts, groups, whole, ratio, each_member, named, numbers, ratios, other_key, required, bridge_keys, bridge, bridges}
-use Rattle.gg_partfile.specs.Size.{HasAtMost, shared, all_seen, all_driven}
+use Rattle.gg_partfile.specs.Size.{HasAtMost, entries, all_seen, all_driven}
 use Rattle.gg_partfile.specs.declared.fault.PartFault.{PartFault}
 use Rattle.gg_partfile.specs.declared.request.BridgeEntry.{BridgeEntry}
 use Rattle.gg_partfile.specs.declared.request.Request.{Request}
@@ -74,15 +74,15 @@ texts-light d =
     array-light (λ (xs : List (List ℕ)). length xs) (each as_str)
     (each-light (λ (xs : List (List ℕ)). length xs) as_str refl (λ e a xs is. omega (arith, some-part e))) d
 
-group-light : (n : ℕ) (o : Option (List (List ℕ))) (a : List (List ℕ)) (xs : List (List (List ℕ))) → AtMost (λ (x : List (List ℕ)). length x) n o → o ≡ Some a → length (shared (a ∷ xs)) ≤ n + length (shared xs)
+group-light : (n : ℕ) (o : Option (List (List ℕ))) (a : List (List ℕ)) (xs : List (List (List ℕ))) → AtMost (λ (x : List (List ℕ)). length x) n o → o ≡ Some a → length (entries (a ∷ xs)) ≤ n + length (entries xs)
 group-light n o a xs h is =
     let few : length a ≤ n = subst (λ (x : Option (List (List ℕ))). AtMost (λ (y : List (List ℕ)). length y) n x) is h in
-    omega (arith, few, length-append a (shared xs))
+    omega (arith, few, length-append a (entries xs))
 
-groups-light : (d : Data) → AtMost (λ (xs : List (List (List ℕ))). length (shared xs)) (size d) (groups d)
+groups-light : (d : Data) → AtMost (λ (xs : List (List (List ℕ))). length (entries xs)) (size d) (groups d)
 groups-light d =
-    array-light (λ (xs : List (List (List ℕ))). length (shared xs)) (each texts)
-    (each-light (λ (xs : List (List (List ℕ))). length (shared xs)) texts refl (λ e a xs is. group-light (size e) (texts e) a xs (texts-light e) is)) d
+    array-light (λ (xs : List (List (List ℕ))). length (entries xs)) (each texts)
+    (each-light (λ (xs : List (List (List ℕ))). length (entries xs)) texts refl (λ e a xs is. group-light (size e) (texts e) a xs (texts-light e) is)) d
 
 -- an object has at most as many entries as members
 members-next : {A : Type 0} (k : List ℕ) (n m : ℕ) (o : Option A) (rest : Option (List (List ℕ × A))) → 1 ≤ n → AtMost (λ (xs : List (List ℕ × A)). length xs) m rest
@@ -168,7 +168,7 @@ few-entries bytes d request is asks =
     let all : size d ≤ suc (length bytes) = known-light size (suc (length bytes)) (read bytes) d (read-light bytes) is in
     record {
       units = omega (arith, all, under-light (λ (xs : List (List ℕ)). length xs) [] texts (codes "units") d request.units refl texts-light asks.units);
-      share = omega (arith, all, under-light (λ (xs : List (List (List ℕ))). length (shared xs)) [] groups (codes "share") d request.share refl groups-light asks.share);
+      share = omega (arith, all, under-light (λ (xs : List (List (List ℕ))). length (entries xs)) [] groups (codes "share") d request.share refl groups-light asks.share);
       memories = omega (arith, all, under-light (λ (xs : List (List ℕ)). length xs) [] texts (codes "memories") d request.memories refl texts-light asks.memories);
       capacity = omega (arith, all, under-light (λ (xs : List (List ℕ × ℕ)). length xs) [] numbers (codes "capacity") d request.capacity refl (named-light whole) asks.capacity);
       pipe = omega (arith, all, under-light (λ (xs : List (List ℕ)). length xs) [] texts (codes "pipe") d request.pipe refl texts-light asks.pipe);

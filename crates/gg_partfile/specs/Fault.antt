@@ -2,6 +2,7 @@
 -- Source: this program's own form; docs/FORMATS.md describes it.
 use Rattle.std.specs.Prelude.{◌≡◌, ℕ, List, ◌++◌, if◌then◌else◌, Option, Some, None, is_some, codes, ◌⊎◌}
 use Rattle.std.specs.Str.{IsUtf8}
+use Rattle.gg_bits.specs.Lists.{or_else}
 use Rattle.serde_json.specs.Data.{Data}
 use Rattle.serde_json.specs.Find.{as_object}
 use Rattle.serde_json.specs.Read.{read}
@@ -18,11 +19,6 @@ IfKey P NoMemory = Unit {0}
 abbrev pub fault_text : PartFault → List ℕ
 fault_text (WrongKey key) = codes "P1 " ++ key
 fault_text NoMemory = codes "out of memory"
-
--- the first key, if there is one, otherwise the later one
-abbrev pub or_else : Option (List ℕ) → Option (List ℕ) → Option (List ℕ)
-or_else None later = later
-or_else (Some key) later = Some key
 
 -- the first key whose value has a wrong shape, else the least unknown key
 abbrev pub first_wrong : Data → Option (List ℕ)

@@ -6,8 +6,8 @@ use Rattle.gg_partfile.specs.declared.request.BridgeEntry.{BridgeEntry}
 use Rattle.gg_partfile.specs.declared.request.Request.{Request}
 
 -- the entries of all lists of `share`, in order
-abbrev pub shared : List (List (List ℕ)) → List (List ℕ)
-shared share = flat_map (λ group. group) share
+abbrev pub entries : List (List (List ℕ)) → List (List ℕ)
+entries share = flat_map (λ group. group) share
 
 -- the ports that all entries of `bridges` see, and those that they drive, in order
 abbrev pub all_seen : List BridgeEntry → List (List ℕ)
@@ -20,7 +20,7 @@ all_driven bridges = flat_map (λ entry. entry.drives) bridges
 -- The request has at most n entries of each kind.
 pub record HasAtMost (n : ℕ) (request : Request) : Type 0 where
   pub units : length request.units ≤ n
-  pub share : length (shared request.share) ≤ n
+  pub share : length (entries request.share) ≤ n
   pub memories : length request.memories ≤ n
   pub capacity : length request.capacity ≤ n
   pub pipe : length request.pipe ≤ n

@@ -11,7 +11,8 @@ use Rattle.gg_program.specs.Slots.{Slotted, IsDone, with_input}
 use Rattle.gg_program.proofs.SearchLemmas.{mark-more}
 use Rattle.gg_program.specs.Search.{Searched, IsGathered}
 use Rattle.gg_program.specs.Right.{IsInner}
-use Rattle.gg_program.specs.Unset.{is_assignment, waits, one_if, count_below, unset_among, unset, assignments}
+use Rattle.gg_program.specs.Unset.{is_assignment, waits, unset_among, unset, assignments}
+use Rattle.gg_bits.specs.Lists.{one_if, count_below}
 
 -- ---- numbers that pass a test
 

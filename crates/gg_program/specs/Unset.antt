@@ -2,6 +2,7 @@
 -- Source: MEMOCODE 2009 (a node gives each output as soon as it can); that no assignment is evaluated twice in a cycle is
 -- this program's own.
 use Rattle.std.specs.Prelude.{ℕ, zero, suc, ◌+◌, List, length, Bool, true, false}
+use Rattle.gg_bits.specs.Lists.{count_below}
 use Rattle.gg_flat.specs.declared.piece.Driver.{Driver}
 use Rattle.gg_flat.specs.declared.piece.Driver.TheVariants.{Input, Held, MemoryWord, ReadRegister, Computed}
 use Rattle.gg_flat.specs.Circuit.{FlatCircuit, driver_at}
@@ -21,16 +22,6 @@ is_assignment (Computed line) = true
 abbrev pub waits : Bool → Driver → Bool
 waits true driver = false
 waits false driver = is_assignment driver
-
--- 1 if it is true
-abbrev pub one_if : Bool → ℕ
-one_if true = 1
-one_if false = 0
-
--- how many numbers below n pass
-abbrev pub count_below : (ℕ → Bool) → ℕ → ℕ
-count_below pass zero = 0
-count_below pass (suc n) = count_below pass n + one_if (pass n)
 
 -- the number of signals that aren't in-signals and aren't marked
 abbrev pub unset_among : FlatCircuit → List Bool → ℕ

@@ -7,7 +7,7 @@ use Rattle.gg_flat.specs.Line.{value_at}
 use Rattle.gg_flat.specs.Streams.{Flow}
 use Rattle.gg_node.specs.Machine.{Machine, no_machine, machine_at, flag_at}
 use Rattle.gg_net.specs.declared.shape.Wire.{Wire}
-use Rattle.gg_net.specs.Network.{Network, wire_at, given_by, puts, entered_by, opening_queue}
+use Rattle.gg_net.specs.Network.{Network, wire_at, and_one, puts, entered_by, opening_queue}
 use Rattle.gg_net.specs.Kept.{Kept, list_at}
 use Rattle.gg_net.specs.Net.{IsOpening, opening_net}
 use Rattle.gg_net.proofs.MarkingsLemmas.OpeningLemmas.{none-put}
@@ -31,7 +31,7 @@ module _ (flow : Flow) (machines : List Machine) (wires : List Wire) (end : ℕ)
       let m = (wire_at wires c).producer in
       ⊎_elim
       (λ (there : m < length machines). none-put flow machines wires end opening c there ∙ starts)
-      (λ (past : length machines ≤ m). ap (λ (x : Machine). given_by x.cycle (flag_at x.flags (wire_at wires c).out)) (get_or_past machines m no_machine past))
+      (λ (past : length machines ≤ m). ap (λ (x : Machine). and_one x.cycle (flag_at x.flags (wire_at wires c).out)) (get_or_past machines m no_machine past))
       (cases_lt m (length machines))
 
   -- the token with which a channel opens is the first of its list

@@ -16,7 +16,8 @@ use Rattle.gg_shape_names.specs.declared.table.Declared.{Declared}
 use Rattle.gg_shape_names.specs.Modules.{module_at}
 use Rattle.gg_shape_names.specs.Namespace.{role_of_instance_port, port_names, names_after, scope_of, scope_after, meaning_of}
 use Rattle.gg_shape_names.specs.Scope.{first_name}
-use Rattle.gg_shape_names.specs.Tables.{TellsModule, AreTold, ArePlaced, IsPlaced, names_told, value_of, found, role_of_port_named}
+use Rattle.gg_shape_names.specs.Tables.{TellsModule, AreTold, ArePlaced, IsPlaced, names_told, found, role_of_port_named}
+use Rattle.gg_bits.specs.Lists.{find_word}
 use Rattle.gg_shape_names.proofs.ScopeLemmas.{scope-found, found-before}
 use Rattle.gg_shape_names.proofs.TableLemmas.{if_before}
 
@@ -49,16 +50,16 @@ port-role name (p ∷ ps) others = go (bytes_eq name p.name) refl (place_of name
 -- ---- tables
 
 -- if all entries of a table are placed among the modules, so is the one under a name
-pub placed-of : (modules : List ModuleTree) (table : List (List ℕ × Declared)) (name : List ℕ) (declared : Declared) → ArePlaced modules table → value_of name table ≡ Some declared → IsPlaced modules declared
+pub placed-of : (modules : List ModuleTree) (table : List (List ℕ × Declared)) (name : List ℕ) (declared : Declared) → ArePlaced modules table → find_word name table ≡ Some declared → IsPlaced modules declared
 placed-of modules [] name declared placed h = absurd (true≢false (sym (ap is_some h)))
 placed-of modules (e ∷ es) name declared placed h = go (bytes_eq name e.0) refl (placed-of modules es name declared placed.1)
   where
-    go : (b : Bool) → bytes_eq name e.0 ≡ b → (value_of name es ≡ Some declared → IsPlaced modules declared) → IsPlaced modules declared
+    go : (b : Bool) → bytes_eq name e.0 ≡ b → (find_word name es ≡ Some declared → IsPlaced modules declared) → IsPlaced modules declared
     go true t rest =
-        let same : Some e.1 ≡ Some declared = sym (ap (λ b. if b then Some e.1 else value_of name es) t) ∙ h in
+        let same : Some e.1 ≡ Some declared = sym (ap (λ b. if b then Some e.1 else find_word name es) t) ∙ h in
         let is : e.1 ≡ declared = cc in
         subst (IsPlaced modules) is placed.0
-    go false t rest = rest (sym (ap (λ b. if b then Some e.1 else value_of name es) t) ∙ h)
+    go false t rest = rest (sym (ap (λ b. if b then Some e.1 else find_word name es) t) ∙ h)
 
 -- the k-th table is the table of the k-th module
 pub table-at : (modules : List ModuleTree) (tables : List (List (List ℕ × Declared))) (k : ℕ) (table : List (List ℕ × Declared)) → AreTold modules (length modules) tables → k < length modules → table ≡ get_or tables k table → TellsModule modules (module_at modules k) table

@@ -22,7 +22,8 @@ use Rattle.gg_shape_names.specs.Namespace.{role_of_port, entry_by_port, entries_
 use Rattle.gg_shape_names.specs.Repetitions.{repetition_if, repeated_in, repeated_by_kind, repeated_in_field}
 use Rattle.gg_shape_names.specs.Along.{along}
 use Rattle.gg_shape_names.specs.Scope.{entry_of, first_name}
-use Rattle.gg_shape_names.specs.Tables.{TellsScope, ArePlaced, IsPlaced, names_told, value_of, found, through, through_found, or_else}
+use Rattle.gg_shape_names.specs.Tables.{TellsScope, ArePlaced, IsPlaced, names_told, found, through, through_found}
+use Rattle.gg_bits.specs.Lists.{find_word, or_else}
 use Rattle.gg_shape_names.proofs.BlockLemmas.{IsBlock, entry_of-append, plain-block, instance-block, memory-block, at-place}
 use Rattle.gg_shape_names.proofs.TableLemmas.{some-value_of, none-is_some, value_of-take, if_before}
 
@@ -32,18 +33,18 @@ or_value : Option Declared → Option Declared → Option Declared
 or_value None b = b
 or_value (Some a) b = Some a
 
-value_of-append : (q : List ℕ) (xs ys : List (List ℕ × Declared)) → value_of q (xs ++ ys) ≡ or_value (value_of q xs) (value_of q ys)
+value_of-append : (q : List ℕ) (xs ys : List (List ℕ × Declared)) → find_word q (xs ++ ys) ≡ or_value (find_word q xs) (find_word q ys)
 unfolding or_value
 value_of-append q [] ys = refl
 value_of-append q (x ∷ xs) ys = go (bytes_eq q x.0) refl (value_of-append q xs ys)
   where
-    go : (b : Bool) → bytes_eq q x.0 ≡ b → value_of q (xs ++ ys) ≡ or_value (value_of q xs) (value_of q ys) → value_of q (x ∷ (xs ++ ys)) ≡ or_value (value_of q (x ∷ xs)) (value_of q ys)
+    go : (b : Bool) → bytes_eq q x.0 ≡ b → find_word q (xs ++ ys) ≡ or_value (find_word q xs) (find_word q ys) → find_word q (x ∷ (xs ++ ys)) ≡ or_value (find_word q (x ∷ xs)) (find_word q ys)
     go true e rest = rw e refl
     go false e rest = rw e rest
 
 -- a name that isn't in the table has no value in it
-lacks : (q : List ℕ) (table : List (List ℕ × Declared)) → list_any (bytes_eq q) (names_told table) ≡ false → value_of q table ≡ None
-lacks q table h = none-is_some (value_of q table) (some-value_of q table ∙ h)
+lacks : (q : List ℕ) (table : List (List ℕ × Declared)) → list_any (bytes_eq q) (names_told table) ≡ false → find_word q table ≡ None
+lacks q table h = none-is_some (find_word q table) (some-value_of q table ∙ h)
 
 pub Fresh : List ℕ → List (List ℕ × Declared) → Type 0
 Fresh name table = list_any (bytes_eq name) (names_told table) ≡ false
@@ -59,15 +60,15 @@ fresh-name name table line h = go (list_any (bytes_eq name) (names_told table)) 
 
 pub found-more : (modules : List ModuleTree) (scope : List (Reference × Role)) (table : List (List ℕ × Declared)) (name : List ℕ) (declared : Declared) (block : List (Reference × Role)) → Fresh name table → IsBlock modules name declared block → ((r : Reference) → entry_of r scope ≡ found modules table r) → (r : Reference) → entry_of r (scope ++ block) ≡ found modules (table ++ (name, declared) ∷ []) r
 unfolding Fresh IsBlock or_value
-found-more modules scope table name declared block fresh is_block tells r = go (value_of (first_name r) table) refl (bytes_eq (first_name r) name) refl
+found-more modules scope table name declared block fresh is_block tells r = go (find_word (first_name r) table) refl (bytes_eq (first_name r) name) refl
   where
     left : entry_of r (scope ++ block) ≡ or_else (found modules table r) (if bytes_eq (first_name r) name then through modules declared r else None)
     left = entry_of-append r scope block ∙ ap (λ o. or_else o (entry_of r block)) (tells r) ∙ ap (or_else (found modules table r)) (is_block r)
 
-    right : found modules (table ++ (name, declared) ∷ []) r ≡ through_found modules (or_value (value_of (first_name r) table) (if bytes_eq (first_name r) name then Some declared else None)) r
+    right : found modules (table ++ (name, declared) ∷ []) r ≡ through_found modules (or_value (find_word (first_name r) table) (if bytes_eq (first_name r) name then Some declared else None)) r
     right = ap (λ o. through_found modules o r) (value_of-append (first_name r) table ((name, declared) ∷ []))
 
-    go : (o : Option Declared) → value_of (first_name r) table ≡ o → (b : Bool) → bytes_eq (first_name r) name ≡ b → entry_of r (scope ++ block) ≡ found modules (table ++ (name, declared) ∷ []) r
+    go : (o : Option Declared) → find_word (first_name r) table ≡ o → (b : Bool) → bytes_eq (first_name r) name ≡ b → entry_of r (scope ++ block) ≡ found modules (table ++ (name, declared) ∷ []) r
     go None e true f = left ∙ ap (λ o. or_else (through_found modules o r) (if bytes_eq (first_name r) name then through modules declared r else None)) e ∙ ap (λ b. if b then through modules declared r else None) f
         ∙ sym (right ∙ ap (λ o. through_found modules (or_value o (if bytes_eq (first_name r) name then Some declared else None)) r) e ∙ ap (λ b. through_found modules (if b then Some declared else None) r) f)
     go None e false f = left ∙ ap (λ o. or_else (through_found modules o r) (if bytes_eq (first_name r) name then through modules declared r else None)) e ∙ ap (λ b. if b then through modules declared r else None) f
@@ -80,7 +81,7 @@ found-more modules scope table name declared block fresh is_block tells r = go (
         or_none None = refl
         or_none (Some x) = refl
     go (Some d) e true f =
-        let same : value_of (first_name r) table ≡ None = ap (λ q. value_of q table) ((bytes_eq-Decides (first_name r) name).0 f) ∙ lacks name table fresh in
+        let same : find_word (first_name r) table ≡ None = ap (λ q. find_word q table) ((bytes_eq-Decides (first_name r) name).0 f) ∙ lacks name table fresh in
         absurd (true≢false (ap is_some (sym e ∙ same)))
 
 -- ---- names
@@ -300,11 +301,11 @@ pub found-before : (modules : List ModuleTree) (table : List (List ℕ × Declar
 found-before modules table count r =
     ap (λ o. through_found modules o r) (value_of-take (first_name r) table count) ∙ go (place_of (first_name r) (names_told table))
   where
-    go : (o : Option ℕ) → through_found modules (if_before o count (value_of (first_name r) table)) r ≡ if_before o count (found modules table r)
+    go : (o : Option ℕ) → through_found modules (if_before o count (find_word (first_name r) table)) r ≡ if_before o count (found modules table r)
     go None = refl
     go (Some k) = pick (nat_lt k count)
       where
-        pick : (b : Bool) → through_found modules (if b then value_of (first_name r) table else None) r ≡ (if b then found modules table r else None)
+        pick : (b : Bool) → through_found modules (if b then find_word (first_name r) table else None) r ≡ (if b then found modules table r else None)
         pick true = refl
         pick false = refl
 

@@ -11,7 +11,7 @@ use Rattle.std.proofs.Math.Bool.{or-false, or-true}
 use Rattle.indexmap.specs.IndexSet.{insert_key}
 use denote.Ref.{Bor}
 use Rattle.gg_ast.specs.Places.{place_of}
-use Rattle.gg_shape_names.specs.Tables.{value_of}
+use Rattle.gg_bits.specs.Lists.{find_word}
 
 -- ---- what a contract sees
 
@@ -56,7 +56,7 @@ module _ {V : Type 0} where
   abbrev pub names_seen : List (Bor (List ℕ) × V) → List (List ℕ)
   names_seen entries = map (λ e. e.0) (seen entries)
 
-  pub lookup-seen : (q : List ℕ) (es : List (Bor (List ℕ) × V)) → lookup (is_text q) es ≡ value_of q (seen es)
+  pub lookup-seen : (q : List ℕ) (es : List (Bor (List ℕ) × V)) → lookup (is_text q) es ≡ find_word q (seen es)
   lookup-seen q [] = refl
   lookup-seen q (e ∷ es) = ap (λ r. cond (bytes_eq q e.0.now) (Some e.1) r) (lookup-seen q es)
 
@@ -66,11 +66,11 @@ module _ {V : Type 0} where
   seen-push (d ∷ es) e = ap (λ l. (d.0.now, d.1) ∷ l) (seen-push es e)
 
   -- a name has a value exactly if it is one of the names
-  pub some-value_of : (q : List ℕ) (es : List (List ℕ × V)) → is_some (value_of q es) ≡ list_any (bytes_eq q) (map (λ e. e.0) es)
+  pub some-value_of : (q : List ℕ) (es : List (List ℕ × V)) → is_some (find_word q es) ≡ list_any (bytes_eq q) (map (λ e. e.0) es)
   some-value_of q [] = refl
   some-value_of q (e ∷ es) = go (bytes_eq q e.0) refl (some-value_of q es)
     where
-      go : (b : Bool) → bytes_eq q e.0 ≡ b → is_some (value_of q es) ≡ list_any (bytes_eq q) (map (λ d. d.0) es) → is_some (value_of q (e ∷ es)) ≡ list_any (bytes_eq q) (map (λ d. d.0) (e ∷ es))
+      go : (b : Bool) → bytes_eq q e.0 ≡ b → is_some (find_word q es) ≡ list_any (bytes_eq q) (map (λ d. d.0) es) → is_some (find_word q (e ∷ es)) ≡ list_any (bytes_eq q) (map (λ d. d.0) (e ∷ es))
       go true t rest = rw t refl
       go false t rest = rw t rest
 
@@ -109,12 +109,12 @@ abbrev pub if_before : {V : Type 0} → Option ℕ → ℕ → Option V → Opti
 if_before None n value = None
 if_before (Some k) n value = if nat_lt k n then value else None
 
-pub value_of-take : {V : Type 0} (q : List ℕ) (ds : List (List ℕ × V)) (n : ℕ) → value_of q (take n ds) ≡ if_before (place_of q (map (λ d. d.0) ds)) n (value_of q ds)
+pub value_of-take : {V : Type 0} (q : List ℕ) (ds : List (List ℕ × V)) (n : ℕ) → find_word q (take n ds) ≡ if_before (place_of q (map (λ d. d.0) ds)) n (find_word q ds)
 value_of-take q [] zero = refl
 value_of-take q [] (suc n) = refl
 value_of-take {V} q (d ∷ ds) zero = go (bytes_eq q d.0) refl (place_of q (map (λ e. e.0) ds)) refl
   where
-    go : (b : Bool) → bytes_eq q d.0 ≡ b → (o : Option ℕ) → place_of q (map (λ (e : List ℕ × V). e.0) ds) ≡ o → None ≡ if_before (place_of q (map (λ (e : List ℕ × V). e.0) (d ∷ ds))) 0 (value_of q (d ∷ ds))
+    go : (b : Bool) → bytes_eq q d.0 ≡ b → (o : Option ℕ) → place_of q (map (λ (e : List ℕ × V). e.0) ds) ≡ o → None ≡ if_before (place_of q (map (λ (e : List ℕ × V). e.0) (d ∷ ds))) 0 (find_word q (d ∷ ds))
     go true t o u = rw t refl
     go false t None u = rw (t, u) refl
     go false t (Some k) u = rw (t, u, le-ltb (k + 1) 0 (omega arith)) refl
@@ -123,10 +123,10 @@ value_of-take {V} q (d ∷ ds) (suc n) = go (bytes_eq q d.0) refl (place_of q (m
     shift : (k : ℕ) → nat_lt k n ≡ nat_lt (k + 1) (suc n)
     shift k = grind (arith, nat_tests)
 
-    go : (b : Bool) → bytes_eq q d.0 ≡ b → (o : Option ℕ) → place_of q (map (λ (e : List ℕ × V). e.0) ds) ≡ o → value_of q (take n ds) ≡ if_before (place_of q (map (λ (e : List ℕ × V). e.0) ds)) n (value_of q ds) → value_of q (d ∷ take n ds) ≡ if_before (place_of q (map (λ (e : List ℕ × V). e.0) (d ∷ ds))) (suc n) (value_of q (d ∷ ds))
+    go : (b : Bool) → bytes_eq q d.0 ≡ b → (o : Option ℕ) → place_of q (map (λ (e : List ℕ × V). e.0) ds) ≡ o → find_word q (take n ds) ≡ if_before (place_of q (map (λ (e : List ℕ × V). e.0) ds)) n (find_word q ds) → find_word q (d ∷ take n ds) ≡ if_before (place_of q (map (λ (e : List ℕ × V). e.0) (d ∷ ds))) (suc n) (find_word q (d ∷ ds))
     go true t o u rest = rw (t, lt-ltb 0 (suc n) (omega arith)) refl
-    go false t None u rest = rw (t, u) (rest ∙ ap (λ o. if_before o n (value_of q ds)) u)
-    go false t (Some k) u rest = rw (t, u) (rest ∙ ap (λ o. if_before o n (value_of q ds)) u ∙ ap (λ b. if b then value_of q ds else None) (shift k))
+    go false t None u rest = rw (t, u) (rest ∙ ap (λ o. if_before o n (find_word q ds)) u)
+    go false t (Some k) u rest = rw (t, u) (rest ∙ ap (λ o. if_before o n (find_word q ds)) u ∙ ap (λ b. if b then find_word q ds else None) (shift k))
 
 pub none-is_some : {A : Type 0} (o : Option A) → is_some o ≡ false → o ≡ None
 none-is_some None h = refl

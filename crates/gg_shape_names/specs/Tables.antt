@@ -3,6 +3,7 @@
 use Rattle.std.specs.Prelude.{◌≡◌, ℕ, ◌<◌, ◌^◌, ◌||◌, List, [], ◌∷◌, Option, Some, None, map, flat_map, length, take, slice_index_or, if◌then◌else◌}
 use Rattle.std.specs.List.{list_any}
 use Rattle.std.specs.Str.{bytes_eq}
+use Rattle.gg_bits.specs.Lists.{or_else, find_word}
 use Rattle.gg_ast.specs.declared.expression.Reference.{Reference}
 use Rattle.gg_ast.specs.declared.expression.Reference.TheVariants.{Local, PortOf, FieldOf}
 use Rattle.gg_ast.specs.declared.module.Port.{Port}
@@ -47,11 +48,6 @@ pub record HavePorts (fields : List Field) (readers writers : List (List ℕ)) :
 
 -- ---- a table: the names that a module declares, each with its declaration
 
--- what the first entry of a name has with it
-abbrev pub value_of : {A : Type 0} → List ℕ → List (List ℕ × A) → Option A
-value_of name [] = None
-value_of name (e ∷ es) = if bytes_eq name e.0 then Some e.1 else value_of name es
-
 -- the names of a table's entries, in order
 abbrev pub names_told : List (List ℕ × Declared) → List (List ℕ)
 names_told table = map (λ e. e.0) table
@@ -71,11 +67,6 @@ role_of_port_named name (p ∷ ps) = if bytes_eq name p.name then Some (role_of_
 abbrev pub field_role : PortKind → Option PortField → Option Role
 field_role kind None = None
 field_role kind (Some field) = Some (roles.MemoryPort kind field)
-
--- the first, if there is one, otherwise the second
-abbrev pub or_else : Option Role → Option Role → Option Role
-or_else None b = b
-or_else (Some a) b = Some a
 
 -- the field of a port, by the names of the readers and of the writers
 abbrev pub role_of_field : List (List ℕ) → List (List ℕ) → List ℕ → List ℕ → Option Role
@@ -101,7 +92,7 @@ through_found modules (Some declared) r = through modules declared r
 
 -- what a table says of a reference
 abbrev pub found : List ModuleTree → List (List ℕ × Declared) → Reference → Option Role
-found modules table r = through_found modules (value_of (first_name r) table) r
+found modules table r = through_found modules (find_word (first_name r) table) r
 
 -- the place of an instance's module is the place of a module
 abbrev pub IsPlaced : List ModuleTree → Declared → Type 0

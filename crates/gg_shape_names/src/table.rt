@@ -3,7 +3,8 @@ ghost use Rattle.std.specs.Prelude.{◌≡◌, [], ◌∷◌, ◌++◌, ◌<◌,
 ghost use Rattle.std.specs.List.{list_any};
 ghost use Rattle.std.specs.Str.{bytes_eq};
 ghost use Rattle.gg_ast.specs.Places.{place_of};
-ghost use Rattle.gg_shape_names.specs.Tables.{names_told, value_of, own_role as role_told};
+ghost use Rattle.gg_shape_names.specs.Tables.{names_told, own_role as role_told};
+ghost use Rattle.gg_bits.specs.Lists.{find_word};
 
 use crate::role::Role;
 use gg_bits::Name;
@@ -147,7 +148,7 @@ impl<'a> Table<'a> {
 
     // The declaration of a name.
     pub(crate) fn get(&self, name: &Name) -> Option<&Declared<'a>>
-        ensures { option_copied result ≡ value_of name.now self.now }
+        ensures { option_copied result ≡ find_word name.now self.now }
     {
         self.items.get(name.as_str())
     }

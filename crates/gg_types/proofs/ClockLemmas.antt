@@ -10,7 +10,8 @@ use Rattle.gg_ast.specs.declared.statement.Stmt.{Stmt}
 use Rattle.gg_types.specs.declared.way.Way.{Way}
 use Rattle.gg_types.specs.declared.way.Way.TheVariants.{FromOutside, FromDriver, Nowhere}
 use Rattle.gg_types.specs.Clocks.{is_followed, is_outside, driven_by, led_on, lead_from, lead_of, next_of, stay_or, followed, leads}
-use Rattle.gg_types.specs.Named.{find_named, flag_at}
+use Rattle.gg_types.specs.Named.{flag_at}
+use Rattle.gg_bits.specs.Lists.{find_word}
 use Rattle.gg_types.specs.Places.{ArePlaces, TellsNext, Reaches, place_in, next_at, next_place, set_next, with_driven, iterate, way_at}
 use Rattle.gg_types.proofs.PlaceLemmas.{same_bytes, place-within, place-same, way-placed, placed-way}
 
@@ -24,7 +25,7 @@ if_same false x = refl
 pub own-tells : (ways : List (List ℕ × Way)) (next : List ℕ) → length next ≡ length ways → ((k : ℕ) → k < length ways → slice_index next k ≡ k) → TellsNext ways [] next
 own-tells ways next len own = record {
   places = record { length_is = len; within = λ k lt. subst (λ j. j < length ways) (sym (own k lt)) lt };
-  told = λ name k u. own k (place-within name ways k u) ∙ sym (if_same (is_followed (find_named name ways)) k);
+  told = λ name k u. own k (place-within name ways k u) ∙ sym (if_same (is_followed (find_word name ways)) k);
 }
 
 lead_from-push : (name : List ℕ) (so_far : Option (List ℕ)) (xs : List Stmt) (s : Stmt) → lead_from name so_far (xs ++ s ∷ []) ≡ led_on name (lead_from name so_far xs) (driven_by s.kind)
@@ -40,8 +41,8 @@ next_at-within ways place (Some name) lt = go (place_in name ways) refl
     go (Some j) u = subst (λ p. unwrap_or p place < length ways) (sym u) (place-within name ways j u)
 
 -- where a name leads after one more statement
-after : (ways : List (List ℕ × Way)) (before : List Stmt) (s : Stmt) (name : List ℕ) (place : ℕ) → next_place ways (before ++ s ∷ []) name place ≡ (if is_followed (find_named name ways) then next_at ways place (led_on name (lead_of name before) (driven_by s.kind)) else place)
-after ways before s name place = ap (λ l. if is_followed (find_named name ways) then next_at ways place l else place) (lead_from-push name None before s)
+after : (ways : List (List ℕ × Way)) (before : List Stmt) (s : Stmt) (name : List ℕ) (place : ℕ) → next_place ways (before ++ s ∷ []) name place ≡ (if is_followed (find_word name ways) then next_at ways place (led_on name (lead_of name before) (driven_by s.kind)) else place)
+after ways before s name place = ap (λ l. if is_followed (find_word name ways) then next_at ways place l else place) (lead_from-push name None before s)
 
 kept : (ways : List (List ℕ × Way)) (before : List Stmt) (s : Stmt) (next : List ℕ) → TellsNext ways before next → ((name : List ℕ) (place : ℕ) → place_in name ways ≡ Some place → next_place ways before name place ≡ next_place ways (before ++ s ∷ []) name place) → TellsNext ways (before ++ s ∷ []) next
 kept ways before s next tells same = record { places = tells.places; told = λ name k u. tells.told name k u ∙ same name k u }
@@ -51,7 +52,7 @@ pub follow-tells : (ways : List (List ℕ × Way)) (before : List Stmt) (s : Stm
 follow-tells ways before s next tells = go (driven_by s.kind) refl
   where
     Place : List ℕ → ℕ → Option (List ℕ × Option (List ℕ)) → ℕ
-    Place name k o = if is_followed (find_named name ways) then next_at ways k (led_on name (lead_of name before) o) else k
+    Place name k o = if is_followed (find_word name ways) then next_at ways k (led_on name (lead_of name before) o) else k
 
     go : (o : Option (List ℕ × Option (List ℕ))) → driven_by s.kind ≡ o → TellsNext ways (before ++ s ∷ []) (with_driven ways next o)
     go None is = kept ways before s next tells (λ name k u. sym (after ways before s name k ∙ ap (Place name k) is))
@@ -59,7 +60,7 @@ follow-tells ways before s next tells = go (driven_by s.kind) refl
       where
         -- any other name than the driven one leads where it did
         other : (name : List ℕ) (k : ℕ) → bytes_eq name d.0 ≡ false → next_place ways before name k ≡ next_place ways (before ++ s ∷ []) name k
-        other name k e = sym (after ways before s name k ∙ ap (Place name k) is ∙ ap (λ b. if is_followed (find_named name ways) then next_at ways k (if b then d.1 else lead_of name before) else k) e)
+        other name k e = sym (after ways before s name k ∙ ap (Place name k) is ∙ ap (λ b. if is_followed (find_word name ways) then next_at ways k (if b then d.1 else lead_of name before) else k) e)
 
         at : (p : Option ℕ) → place_in d.0 ways ≡ p → TellsNext ways (before ++ s ∷ []) (set_next ways next d p)
         at None v = kept ways before s next tells (λ name k u. by name k u (bytes_eq name d.0) refl)
@@ -67,18 +68,18 @@ follow-tells ways before s next tells = go (driven_by s.kind) refl
             by : (name : List ℕ) (k : ℕ) → place_in name ways ≡ Some k → (b : Bool) → bytes_eq name d.0 ≡ b → next_place ways before name k ≡ next_place ways (before ++ s ∷ []) name k
             by name k u false e = other name k e
             by name k u true e = absurd (none-some k (sym v ∙ ap (λ n. place_in n ways) (sym (same_bytes name d.0 e)) ∙ u))
-        at (Some p) v = role (is_followed (find_named d.0 ways)) refl
+        at (Some p) v = role (is_followed (find_word d.0 ways)) refl
           where
             lt : p < length ways
             lt = place-within d.0 ways p v
 
-            role : (b : Bool) → is_followed (find_named d.0 ways) ≡ b → TellsNext ways (before ++ s ∷ []) (if b then slice_set next p (next_at ways p d.1) else next)
+            role : (b : Bool) → is_followed (find_word d.0 ways) ≡ b → TellsNext ways (before ++ s ∷ []) (if b then slice_set next p (next_at ways p d.1) else next)
             role false r = kept ways before s next tells (λ name k u. by name k (bytes_eq name d.0) refl)
               where
                 by : (name : List ℕ) (k : ℕ) (b : Bool) → bytes_eq name d.0 ≡ b → next_place ways before name k ≡ next_place ways (before ++ s ∷ []) name k
                 by name k false e = other name k e
                 by name k true e =
-                    let f : is_followed (find_named name ways) ≡ false = ap (λ n. is_followed (find_named n ways)) (same_bytes name d.0 e) ∙ r in
+                    let f : is_followed (find_word name ways) ≡ false = ap (λ n. is_followed (find_word n ways)) (same_bytes name d.0 e) ∙ r in
                     ap (λ b. if b then next_at ways k (lead_of name before) else k) f
                     ∙ sym (ap (λ b. if b then next_at ways k (lead_of name (before ++ s ∷ [])) else k) f)
             role true r = record {
@@ -106,12 +107,12 @@ follow-tells ways before s next tells = go (driven_by s.kind) refl
                     let same : name ≡ d.0 = same_bytes name d.0 e in
                     let there : Some k ≡ Some p = sym u ∙ ap (λ n. place_in n ways) same ∙ v in
                     let k-is : k ≡ p = cc in
-                    let f : is_followed (find_named name ways) ≡ true = ap (λ n. is_followed (find_named n ways)) same ∙ r in
+                    let f : is_followed (find_word name ways) ≡ true = ap (λ n. is_followed (find_word n ways)) same ∙ r in
                     ap (slice_index (slice_set next p (next_at ways p d.1))) k-is
                     ∙ get_or-set_same next p (next_at ways p d.1) 0 bound
                     ∙ ap (λ j. next_at ways j d.1) (sym k-is)
                     ∙ sym (after ways before s name k ∙ ap (Place name k) is
-                    ∙ ap (λ b. if is_followed (find_named name ways) then next_at ways k (if b then d.1 else lead_of name before) else k) e
+                    ∙ ap (λ b. if is_followed (find_word name ways) then next_at ways k (if b then d.1 else lead_of name before) else k) e
                     ∙ ap (λ b. if b then next_at ways k d.1 else k) f)
 
 -- ---- steps
@@ -161,7 +162,7 @@ followed-not-outside (Some FromDriver) h = refl
 followed-not-outside (Some Nowhere) h = refl
 
 module _ (ways : List (List ℕ × Way)) (statements : List Stmt) where
-  undeclared-stays : (n : ℕ) (name : List ℕ) → find_named name ways ≡ None → followed ways statements n name ≡ name
+  undeclared-stays : (n : ℕ) (name : List ℕ) → find_word name ways ≡ None → followed ways statements n name ≡ name
   undeclared-stays zero name none = refl
   undeclared-stays (suc n) name none =
       ap (λ o. followed ways statements n (stay_or name (if is_followed o then lead_of name statements else None))) none ∙ undeclared-stays n name none
@@ -174,15 +175,15 @@ module _ (ways : List (List ℕ × Way)) (statements : List Stmt) where
   pub record IsSaid {X : Type 0} (nothing : X) (of_name : List ℕ → X) (of_place : ℕ → X) : Type 0 where
     pub placed : (name : List ℕ) (k : ℕ) → place_in name ways ≡ Some k → of_name name ≡ of_place k
     pub undeclared : (name : List ℕ) → place_in name ways ≡ None → of_name name ≡ nothing
-    pub leads_on : (name : List ℕ) → is_followed (find_named name ways) ≡ true → of_name name ≡ nothing
+    pub leads_on : (name : List ℕ) → is_followed (find_word name ways) ≡ true → of_name name ≡ nothing
 
   module _ {X : Type 0} (nothing : X) (of_name : List ℕ → X) (of_place : ℕ → X) (said : IsSaid nothing of_name of_place) where
     -- it is the same of where n steps from a name lead, and of where n steps from the name's place do
     follows : (next : List ℕ) → TellsNext ways statements next → (n : ℕ) (name : List ℕ) (k : ℕ) → place_in name ways ≡ Some k → of_name (followed ways statements n name) ≡ of_place (iterate n next k)
     follows next tells zero name k u = said.placed name k u
-    follows next tells (suc n) name k u = go (is_followed (find_named name ways)) refl (lead_of name statements) refl (follows next tells n)
+    follows next tells (suc n) name k u = go (is_followed (find_word name ways)) refl (lead_of name statements) refl (follows next tells n)
       where
-        go : (b : Bool) → is_followed (find_named name ways) ≡ b → (o : Option (List ℕ)) → lead_of name statements ≡ o → ((q : List ℕ) (j : ℕ) → place_in q ways ≡ Some j → of_name (followed ways statements n q) ≡ of_place (iterate n next j)) → of_name (followed ways statements n (stay_or name (next_of ways statements name))) ≡ of_place (iterate n next (slice_index next k))
+        go : (b : Bool) → is_followed (find_word name ways) ≡ b → (o : Option (List ℕ)) → lead_of name statements ≡ o → ((q : List ℕ) (j : ℕ) → place_in q ways ≡ Some j → of_name (followed ways statements n q) ≡ of_place (iterate n next j)) → of_name (followed ways statements n (stay_or name (next_of ways statements name))) ≡ of_place (iterate n next (slice_index next k))
         go false t o v rest =
             let here : slice_index next k ≡ k = tells.told name k u ∙ ap (λ b. if b then next_at ways k (lead_of name statements) else k) t in
             ap (λ b. of_name (followed ways statements n (stay_or name (if b then lead_of name statements else None)))) t
@@ -226,11 +227,11 @@ module _ (ways : List (List ℕ × Way)) (statements : List Stmt) where
     pub undeclared-told : (name : List ℕ) → place_in name ways ≡ None → nothing ≡ of_name (followed ways statements (length ways) name)
     undeclared-told name u = sym (ap of_name (undeclared-stays (length ways) name (way-placed name ways u)) ∙ said.undeclared name u)
 
-  outside-said : IsSaid false (λ name. is_outside (find_named name ways)) (λ place. is_outside (way_at ways place))
+  outside-said : IsSaid false (λ name. is_outside (find_word name ways)) (λ place. is_outside (way_at ways place))
   outside-said = record {
     placed = λ name k u. ap is_outside (placed-way name ways k u);
     undeclared = λ name u. ap is_outside (way-placed name ways u);
-    leads_on = λ name t. followed-not-outside (find_named name ways) t;
+    leads_on = λ name t. followed-not-outside (find_word name ways) t;
   }
 
   -- the flags of the places that are reached tell which names lead to an input port
@@ -238,5 +239,5 @@ module _ (ways : List (List ℕ × Way)) (statements : List Stmt) where
   traced next reached flags tells reaches is name = go (place_in name ways) refl
     where
       go : (p : Option ℕ) → place_in name ways ≡ p → flag_at flags (place_in name ways) ≡ leads ways statements name
-      go None u = ap (flag_at flags) u ∙ undeclared-told false (λ name. is_outside (find_named name ways)) (λ place. is_outside (way_at ways place)) outside-said name u
-      go (Some k) u = ap (flag_at flags) u ∙ reached-told false (λ name. is_outside (find_named name ways)) (λ place. is_outside (way_at ways place)) outside-said next reached flags tells reaches is name k u
+      go None u = ap (flag_at flags) u ∙ undeclared-told false (λ name. is_outside (find_word name ways)) (λ place. is_outside (way_at ways place)) outside-said name u
+      go (Some k) u = ap (flag_at flags) u ∙ reached-told false (λ name. is_outside (find_word name ways)) (λ place. is_outside (way_at ways place)) outside-said next reached flags tells reaches is name k u

@@ -10,7 +10,8 @@ use Rattle.gg_ast.specs.declared.module.Port.{Port}
 use Rattle.gg_ast.specs.declared.statement.Stmt.{Stmt}
 use Rattle.gg_types.specs.declared.way.Way.{Way}
 use Rattle.gg_types.specs.Clocks.{clock_from, clock_inputs, clock_named, clock_number, clock_numbers, counted_clock, followed, is_clock_input, is_followed, port_way, way_of_port}
-use Rattle.gg_types.specs.Named.{find_named, number_at}
+use Rattle.gg_types.specs.Named.{number_at}
+use Rattle.gg_bits.specs.Lists.{find_word}
 use Rattle.gg_types.specs.Places.{TellsNext, Reaches, place_in}
 use Rattle.gg_types.proofs.ClockLemmas.{IsSaid, reached-told, undeclared-told}
 
@@ -99,16 +100,16 @@ module _ (rest : List (List ℕ × Way)) where
       go false t None u later = ap (λ b. if b then clock_number count p else clock_from (counted_clock count p) ps name) t ∙ later u
       go false t (Some j) u later = absurd (none-some (j + 1) (sym (sym (ap (λ b. if b then Some 0 else option_map (λ k. k + 1) (place_in name (Ways ps))) t ∙ ap (option_map (λ k. k + 1)) u) ∙ h)))
 
-  followed-number : (count : ℕ) (ports : List Port) (name : List ℕ) → is_followed (find_named name (Ways ports)) ≡ true → clock_from count ports name ≡ None
+  followed-number : (count : ℕ) (ports : List Port) (name : List ℕ) → is_followed (find_word name (Ways ports)) ≡ true → clock_from count ports name ≡ None
   followed-number count [] name h = refl
   followed-number count (p ∷ ps) name h = go (bytes_eq name p.name) refl (followed-number (counted_clock count p) ps name)
     where
-      go : (b : Bool) → bytes_eq name p.name ≡ b → (is_followed (find_named name (Ways ps)) ≡ true → clock_from (counted_clock count p) ps name ≡ None) → clock_from count (p ∷ ps) name ≡ None
+      go : (b : Bool) → bytes_eq name p.name ≡ b → (is_followed (find_word name (Ways ps)) ≡ true → clock_from (counted_clock count p) ps name ≡ None) → clock_from count (p ∷ ps) name ≡ None
       go true t later =
-          absurd (true≢false (sym h ∙ ap (λ b. is_followed (if b then Some (way_of_port p.direction) else find_named name (Ways ps))) t ∙ port-not-followed p.direction))
+          absurd (true≢false (sym h ∙ ap (λ b. is_followed (if b then Some (way_of_port p.direction) else find_word name (Ways ps))) t ∙ port-not-followed p.direction))
       go false t later =
           ap (λ b. if b then clock_number count p else clock_from (counted_clock count p) ps name) t
-          ∙ later (sym (ap (λ b. is_followed (if b then Some (way_of_port p.direction) else find_named name (Ways ps))) t) ∙ h)
+          ∙ later (sym (ap (λ b. is_followed (if b then Some (way_of_port p.direction) else find_word name (Ways ps))) t) ∙ h)
 
   module _ (ports : List Port) (statements : List Stmt) where
     clock-said : IsSaid (Ways ports) statements None (clock_named ports) (λ k. get_or (clock_numbers 0 ports) k None)

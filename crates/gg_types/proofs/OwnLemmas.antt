@@ -4,7 +4,8 @@ use Rattle.std.specs.Option.{option_map}
 use Rattle.std.specs.Str.{bytes_eq}
 use Rattle.gg_ast.specs.Places.{place_of}
 use Rattle.gg_types.specs.declared.sort.Own.{Own}
-use Rattle.gg_types.specs.Named.{find_named, owned}
+use Rattle.gg_types.specs.Named.{owned}
+use Rattle.gg_bits.specs.Lists.{find_word}
 
 -- the list's entry at a place, if there is one
 abbrev pub entry_at : List Own → Option ℕ → Option (Option Own)
@@ -21,17 +22,17 @@ entry_at-empty : (o : Option ℕ) → entry_at [] o ≡ None
 entry_at-empty None = refl
 entry_at-empty (Some k) = refl
 
-pub entry-placed : (name : List ℕ) (ds : List (List ℕ)) (ts : List Own) → find_named name (owned ds ts) ≡ entry_at ts (place_of name ds)
+pub entry-placed : (name : List ℕ) (ds : List (List ℕ)) (ts : List Own) → find_word name (owned ds ts) ≡ entry_at ts (place_of name ds)
 entry-placed name [] ts = refl
 entry-placed name (d ∷ ds) [] = sym (entry_at-empty (place_of name (d ∷ ds)))
 entry-placed name (d ∷ ds) (t ∷ ts) = go (bytes_eq name d) refl (entry-placed name ds ts)
   where
-    go : (b : Bool) → bytes_eq name d ≡ b → find_named name (owned ds ts) ≡ entry_at ts (place_of name ds) → find_named name ((d, Some t) ∷ owned ds ts) ≡ entry_at (t ∷ ts) (place_of name (d ∷ ds))
+    go : (b : Bool) → bytes_eq name d ≡ b → find_word name (owned ds ts) ≡ entry_at ts (place_of name ds) → find_word name ((d, Some t) ∷ owned ds ts) ≡ entry_at (t ∷ ts) (place_of name (d ∷ ds))
     go true e rest =
-        ap (λ b. if b then Some (Some t) else find_named name (owned ds ts)) e
+        ap (λ b. if b then Some (Some t) else find_word name (owned ds ts)) e
         ∙ sym (ap (λ b. entry_at (t ∷ ts) (if b then Some 0 else option_map (λ k. k + 1) (place_of name ds))) e)
     go false e rest =
-        ap (λ b. if b then Some (Some t) else find_named name (owned ds ts)) e
+        ap (λ b. if b then Some (Some t) else find_word name (owned ds ts)) e
         ∙ rest ∙ sym (entry_at-next t ts (place_of name ds))
         ∙ sym (ap (λ b. entry_at (t ∷ ts) (if b then Some 0 else option_map (λ k. k + 1) (place_of name ds))) e)
 

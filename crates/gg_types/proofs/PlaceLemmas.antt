@@ -5,7 +5,7 @@ use Rattle.std.specs.Option.{option_map}
 use Rattle.std.specs.Str.{bytes_eq}
 use Rattle.std.proofs.lemmas.Option.{none-some}
 use Rattle.gg_types.specs.declared.way.Way.{Way}
-use Rattle.gg_types.specs.Named.{find_named}
+use Rattle.gg_bits.specs.Lists.{find_word}
 use Rattle.gg_types.specs.Places.{place_in, way_at}
 
 pub same_bytes : (a b : List ℕ) → bytes_eq a b ≡ true → a ≡ b
@@ -29,15 +29,15 @@ place-within name (d ∷ ds) k h = go (bytes_eq name d.0) refl (place_in name ds
         omega arith
 
 -- a name without a place has no way
-pub way-placed : (name : List ℕ) (ways : List (List ℕ × Way)) → place_in name ways ≡ None → find_named name ways ≡ None
+pub way-placed : (name : List ℕ) (ways : List (List ℕ × Way)) → place_in name ways ≡ None → find_word name ways ≡ None
 way-placed name [] h = refl
 way-placed name (d ∷ ds) h = go (bytes_eq name d.0) refl (place_in name ds) refl (way-placed name ds)
   where
-    go : (b : Bool) → bytes_eq name d.0 ≡ b → (o : Option ℕ) → place_in name ds ≡ o → (place_in name ds ≡ None → find_named name ds ≡ None) → find_named name (d ∷ ds) ≡ None
+    go : (b : Bool) → bytes_eq name d.0 ≡ b → (o : Option ℕ) → place_in name ds ≡ o → (place_in name ds ≡ None → find_word name ds ≡ None) → find_word name (d ∷ ds) ≡ None
     go true t o u rest =
         let e : Some 0 ≡ None = sym (ap (λ b. if b then Some 0 else option_map (λ k. k + 1) (place_in name ds)) t) ∙ h in
         cc
-    go false t None u rest = ap (λ b. if b then Some d.1 else find_named name ds) t ∙ rest u
+    go false t None u rest = ap (λ b. if b then Some d.1 else find_word name ds) t ∙ rest u
     go false t (Some j) u rest =
         let e : Some (j + 1) ≡ None = sym (ap (λ b. if b then Some 0 else option_map (λ k. k + 1) (place_in name ds)) t ∙ ap (option_map (λ k. k + 1)) u) ∙ h in
         cc
@@ -81,21 +81,21 @@ place-same a b (d ∷ ds) k h g = go (bytes_eq a d.0) refl (bytes_eq b d.0) refl
         rest i u (v ∙ ap Some z)
 
 -- the way of a name is the way at its place
-pub placed-way : (name : List ℕ) (ways : List (List ℕ × Way)) (k : ℕ) → place_in name ways ≡ Some k → find_named name ways ≡ way_at ways k
+pub placed-way : (name : List ℕ) (ways : List (List ℕ × Way)) (k : ℕ) → place_in name ways ≡ Some k → find_word name ways ≡ way_at ways k
 placed-way name [] k h = absurd (none-some k h)
 placed-way name (d ∷ ds) k h = go (bytes_eq name d.0) refl (place_in name ds) refl (placed-way name ds)
   where
     at : Bool → Option ℕ
     at t = if t then Some 0 else option_map (λ k. k + 1) (place_in name ds)
 
-    go : (b : Bool) → bytes_eq name d.0 ≡ b → (o : Option ℕ) → place_in name ds ≡ o → ((j : ℕ) → place_in name ds ≡ Some j → find_named name ds ≡ way_at ds j) → find_named name (d ∷ ds) ≡ way_at (d ∷ ds) k
+    go : (b : Bool) → bytes_eq name d.0 ≡ b → (o : Option ℕ) → place_in name ds ≡ o → ((j : ℕ) → place_in name ds ≡ Some j → find_word name ds ≡ way_at ds j) → find_word name (d ∷ ds) ≡ way_at (d ∷ ds) k
     go true t o u rest =
         let e : Some 0 ≡ Some k = sym (ap at t) ∙ h in
         let z : 0 ≡ k = cc in
-        ap (λ b. if b then Some d.1 else find_named name ds) t ∙ ap (way_at (d ∷ ds)) z
+        ap (λ b. if b then Some d.1 else find_word name ds) t ∙ ap (way_at (d ∷ ds)) z
     go false t None u rest = absurd (none-some k (sym (ap at t ∙ ap (option_map (λ k. k + 1)) u) ∙ h))
     go false t (Some j) u rest =
         let e : Some (j + 1) ≡ Some k = sym (ap at t ∙ ap (option_map (λ k. k + 1)) u) ∙ h in
         let z : j + 1 ≡ k = cc in
         let w : suc j ≡ k = omega arith in
-        ap (λ b. if b then Some d.1 else find_named name ds) t ∙ rest j u ∙ ap (way_at (d ∷ ds)) w
+        ap (λ b. if b then Some d.1 else find_word name ds) t ∙ rest j u ∙ ap (way_at (d ∷ ds)) w

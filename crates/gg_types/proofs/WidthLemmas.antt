@@ -41,9 +41,10 @@ use Rattle.gg_types.specs.declared.sort.Own.TheVariants as own
 use Rattle.gg_types.specs.declared.sort.Sort.{Sort}
 use Rattle.gg_types.specs.declared.sort.Sort.TheVariants.{Bits, Clock}
 use Rattle.gg_types.specs.Clocks.{leads_to_input}
-use Rattle.gg_types.specs.Fields.{first_said, or_later, type_said}
+use Rattle.gg_types.specs.Fields.{first_said, type_said}
+use Rattle.gg_bits.specs.Lists.{or_else, find_word}
 use Rattle.gg_types.specs.Literal.{literal_fits}
-use Rattle.gg_types.specs.Named.{find_named, owned}
+use Rattle.gg_types.specs.Named.{owned}
 use Rattle.gg_types.specs.Owned.{port_own, single, field_of, field_sort, typed_by, typed, known_entry, known_sort, sort_of_reference}
 use Rattle.gg_types.specs.Sorts.{is_clock, sort_of, bits}
 use Rattle.gg_types.specs.Typed.{IsTyped}
@@ -164,9 +165,9 @@ known-append : (xs ys : List (List ℕ × Option Own)) → KnownWide xs → Know
 known-append [] ys h g = g
 known-append (x ∷ xs) ys h g = (h.0, known-append xs ys h.1 g)
 
-find-wide : (name : List ℕ) (es : List (List ℕ × Option Own)) → KnownWide es → IfSome (find_named name es) (λ o. IfSome o OwnWide)
+find-wide : (name : List ℕ) (es : List (List ℕ × Option Own)) → KnownWide es → IfSome (find_word name es) (λ o. IfSome o OwnWide)
 find-wide name [] h = tt
-find-wide name (e ∷ es) h = either (λ o. IfSome o OwnWide) (bytes_eq name e.0) e.1 (find_named name es) h.0 (find-wide name es h.1)
+find-wide name (e ∷ es) h = either (λ o. IfSome o OwnWide) (bytes_eq name e.0) e.1 (find_word name es) h.0 (find-wide name es h.1)
 
 -- ---- roles
 
@@ -308,7 +309,7 @@ typed-wide (Some (Some o)) (Some r) h g = go (typed_by o r) (typed_by-wide o r h
 
 reference-wide : (rs : List (Reference × Role)) (known : List (List ℕ × Option Own)) → ScopeWide rs → KnownWide known → (r : Reference) → IfSome (sort_of_reference rs known r) IsWide
 reference-wide rs known h g r =
-    typed-wide (find_named (first_name r) known) (meaning_of rs r) (find-wide (first_name r) known g) (entry-wide r rs h)
+    typed-wide (find_word (first_name r) known) (meaning_of rs r) (find-wide (first_name r) known g) (entry-wide r rs h)
 
 -- ---- statements
 
@@ -317,7 +318,7 @@ word-wide [] h = tt
 word-wide (f ∷ fs) h =
     go f.kind (none-front (field_faults f.line f.kind) (memory_type_faults fs) h) (word-wide fs (none-back (field_faults f.line f.kind) (memory_type_faults fs) h))
   where
-    go : (k : MemoryField) → field_faults f.line k ≡ [] → IfSome (first_said type_said fs) (λ ty. IsWide (sort_of ty)) → IfSome (or_later (type_said k) (first_said type_said fs)) (λ ty. IsWide (sort_of ty))
+    go : (k : MemoryField) → field_faults f.line k ≡ [] → IfSome (first_said type_said fs) (λ ty. IsWide (sort_of ty)) → IfSome (or_else (type_said k) (first_said type_said fs)) (λ ty. IsWide (sort_of ty))
     go (field.DataType ty) e later = stored-wide f.line words.Memory ty e
     go (field.Depth n) e later = later
     go (field.ReadLatency n) e later = later

@@ -11,7 +11,7 @@ use Rattle.gg_ast.specs.declared.statement.StmtKind as statements
 use Rattle.gg_ast.specs.declared.statement.StmtKind.TheVariants as kinds
 use Rattle.gg_ast.specs.Term.{Term, NamedTerm, ConstantTerm, UnaryTerm, BinaryTerm, FixedTerm, MuxTerm}
 use Rattle.gg_ast.specs.Tree.{ModuleTree}
-use Rattle.gg_types.specs.Named.{find_named}
+use Rattle.gg_bits.specs.Lists.{find_word}
 use Rattle.gg_types.specs.declared.way.Way.{Way}
 use Rattle.gg_types.specs.declared.way.Way.TheVariants.{FromOutside, FromDriver, Nowhere}
 use Rattle.gg_types.specs.Sorts.{is_clock}
@@ -114,7 +114,7 @@ lead_of name statements = lead_from name None statements
 
 -- the next name after a name that is followed
 abbrev pub next_of : List (List ℕ × Way) → List Stmt → List ℕ → Option (List ℕ)
-next_of ways statements name = if is_followed (find_named name ways) then lead_of name statements else None
+next_of ways statements name = if is_followed (find_word name ways) then lead_of name statements else None
 
 -- the name that n steps lead to; if a name has no next one, it stays the same
 abbrev pub stay_or : List ℕ → Option (List ℕ) → List ℕ
@@ -129,7 +129,7 @@ followed ways statements (suc n) name = followed ways statements n (stay_or name
 -- A name leads to an input port if as many steps as there are names lead to one. A longer way would pass a name twice,
 -- and so be a ring.
 abbrev pub leads : List (List ℕ × Way) → List Stmt → List ℕ → Bool
-leads ways statements name = is_outside (find_named (followed ways statements (length ways) name) ways)
+leads ways statements name = is_outside (find_word (followed ways statements (length ways) name) ways)
 
 -- whether a name of a module leads to one of the module's inputs
 abbrev pub leads_to_input : ModuleTree → List ℕ → Bool

@@ -1,20 +1,16 @@
 -- What the fields of a memory say. This program's profile: if a field occurs twice, the first counts.
 -- Source: FIRRTL Specification, "Memories" (data type, depth).
 use Rattle.std.specs.Prelude.{ℕ, List, [], ◌∷◌, Option, Some, None}
+use Rattle.gg_bits.specs.Lists.{or_else}
 use Rattle.gg_ast.specs.declared.module.GroundType.{GroundType}
 use Rattle.gg_ast.specs.declared.statement.Field.{Field}
 use Rattle.gg_ast.specs.declared.statement.MemoryField.{MemoryField}
 use Rattle.gg_ast.specs.declared.statement.MemoryField.TheVariants as field
 
--- what a field says, else what the fields after it say
-abbrev pub or_later : {A : Type 0} → Option A → Option A → Option A
-or_later None later = later
-or_later (Some x) later = Some x
-
 -- what the first field says that says something
 abbrev pub first_said : {A : Type 0} → (MemoryField → Option A) → List Field → Option A
 first_said said [] = None
-first_said said (f ∷ fs) = or_later (said f.kind) (first_said said fs)
+first_said said (f ∷ fs) = or_else (said f.kind) (first_said said fs)
 
 -- the type of the words, `data-type`
 abbrev pub type_said : MemoryField → Option GroundType

@@ -1,7 +1,7 @@
 -- The types of signals, and the memory that fields make.
 -- Source: FIRRTL Specification, "Memories" (data type, depth, latencies, ports, read-under-write). This program's
 -- profile: if a field occurs twice, the first counts; if read-under-write is missing, it is `undefined`.
-pub use Rattle.gg_types.specs.Fields.{or_later, first_said, type_said, depth_said}
+pub use Rattle.gg_types.specs.Fields.{first_said, type_said, depth_said}
 use Rattle.std.specs.Prelude.{ℕ, zero, suc, List, [], Option, Some, None, ◌&&◌, nat_le, nat_lt, map, flat_map, if◌then◌else◌, option_and_then, unwrap_or}
 use Rattle.gg_bits.specs.Shape.{Shape, uint, sint, shape}
 use Rattle.gg_ast.specs.declared.module.GroundType.{GroundType}

@@ -4,11 +4,6 @@ use Rattle.std.specs.Str.{bytes_eq}
 use Rattle.gg_ast.specs.Places.{place_of}
 use Rattle.gg_types.specs.declared.sort.Own.{Own}
 
--- the value of the first entry of a name
-abbrev pub find_named : {A : Type 0} → List ℕ → List (List ℕ × A) → Option A
-find_named name [] = None
-find_named name (e ∷ es) = if bytes_eq name e.0 then Some e.1 else find_named name es
-
 -- names, each with its type data, as far as that list goes
 abbrev pub owned : List (List ℕ) → List Own → List (List ℕ × Option Own)
 owned [] os = []

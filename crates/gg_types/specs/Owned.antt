@@ -13,7 +13,7 @@ use Rattle.gg_shape_names.specs.declared.role.Role.TheVariants as roles
 use Rattle.gg_shape_names.specs.declared.role.PortField.{PortField}
 use Rattle.gg_shape_names.specs.declared.role.PortField.TheVariants.{Addr, En, Clk, Data, Mask}
 use Rattle.gg_types.specs.Fields.{first_said, type_said, depth_said}
-use Rattle.gg_types.specs.Named.{find_named}
+use Rattle.gg_bits.specs.Lists.{find_word}
 use Rattle.gg_shape_names.specs.Scope.{first_name}
 use Rattle.gg_shape_names.specs.Namespace.{meaning_of}
 use Rattle.gg_types.specs.declared.sort.Sort.{Sort}
@@ -80,7 +80,7 @@ typed (Some (Some o)) (Some role) = option_map (λ s. Some s) (typed_by o role)
 -- What a reference names, by the roles of all that can be written in the module and by the type data of the names that
 -- are declared so far: nothing, something with a type, or a node that has no type because its expression has a fault.
 abbrev pub known_entry : List (Reference × Role) → List (List ℕ × Option Own) → Reference → Option (Option Sort)
-known_entry roles known r = typed (find_named (first_name r) known) (meaning_of roles r)
+known_entry roles known r = typed (find_word (first_name r) known) (meaning_of roles r)
 
 -- the type, if there is one
 abbrev pub known_sort : Option (Option Sort) → Option Sort

@@ -3,7 +3,7 @@
 use Rattle.std.specs.Prelude.{◌≡◌, ℕ, zero, suc, ◌<◌, List, Option, Some, None, length, map, option_map, slice_get, slice_index, slice_set, if◌then◌else◌, unwrap_or}
 use Rattle.gg_ast.specs.declared.statement.Stmt.{Stmt}
 use Rattle.gg_ast.specs.Places.{place_of}
-use Rattle.gg_types.specs.Named.{find_named}
+use Rattle.gg_bits.specs.Lists.{find_word}
 use Rattle.gg_types.specs.declared.way.Way.{Way}
 use Rattle.gg_types.specs.Clocks.{is_followed, lead_of}
 
@@ -19,7 +19,7 @@ next_at ways place (Some name) = unwrap_or (place_in name ways) place
 -- the place that a name at this place leads to by these statements; the same place if its driver isn't followed
 abbrev pub next_place : List (List ℕ × Way) → List Stmt → List ℕ → ℕ → ℕ
 next_place ways statements name place =
-    if is_followed (find_named name ways) then next_at ways place (lead_of name statements) else place
+    if is_followed (find_word name ways) then next_at ways place (lead_of name statements) else place
 
 -- n places of n names
 pub record ArePlaces (n : ℕ) (places : List ℕ) : Type 0 where
@@ -36,7 +36,7 @@ pub record TellsNext (ways : List (List ℕ × Way)) (statements : List Stmt) (n
 abbrev pub set_next : List (List ℕ × Way) → List ℕ → List ℕ × Option (List ℕ) → Option ℕ → List ℕ
 set_next ways next d None = next
 set_next ways next d (Some place) =
-    if is_followed (find_named d.0 ways) then slice_set next place (next_at ways place d.1) else next
+    if is_followed (find_word d.0 ways) then slice_set next place (next_at ways place d.1) else next
 
 -- the places after a statement that may drive a name
 abbrev pub with_driven : List (List ℕ × Way) → List ℕ → Option (List ℕ × Option (List ℕ)) → List ℕ

@@ -3,7 +3,8 @@ ghost use Rattle.std.specs.Prelude.{◌≡◌, ◌<◌, Some, length};
 ghost use Rattle.std.specs.Option.{option_map};
 ghost use Rattle.gg_shape_names.specs.Modules.{module_at};
 ghost use Rattle.gg_shape_names.specs.Namespace.{names_in, scope_of};
-ghost use Rattle.gg_types.specs.Named.{find_named, owned};
+ghost use Rattle.gg_types.specs.Named.{owned};
+ghost use Rattle.gg_bits.specs.Lists.{find_word};
 ghost use Rattle.gg_types.specs.Owned.{known_entry, typed_by, single, field_of};
 
 use crate::sort::{Own, Sort, field_sort, sort_of};
@@ -31,7 +32,7 @@ pub fn sort_of_name(
 // The type data of a declared name, if it is known.
 fn own_of(names: &Namespace, number: u32, own: &[Own], name: &Name) -> Option<Own>
     requires there { number < length names.now.modules }
-    ensures { option_map (λ o. Some o) result ≡ find_named name.now (owned (names_in (module_at names.now.modules number)) own.now) }
+    ensures { option_map (λ o. Some o) result ≡ find_word name.now (owned (names_in (module_at names.now.modules number)) own.now) }
 {
     let place = names.place(number, name)?;
     if place < own.len() {

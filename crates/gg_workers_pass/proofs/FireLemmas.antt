@@ -10,7 +10,7 @@ use Rattle.gg_link.specs.Seats.{SeatState, SeatWentOn, Counted}
 use Rattle.gg_node.specs.Machine.{Machine, no_machine, machine_at, flag_at, missing}
 use Rattle.gg_node.specs.Token.{IsToken}
 use Rattle.gg_node.specs.Step.{MayFire, with_flag}
-use Rattle.gg_net.specs.Network.{Network, wire_at, IsAtOut, given_by, entered_by, takes, kind_of, frame_of}
+use Rattle.gg_net.specs.Network.{Network, wire_at, IsAtOut, and_one, entered_by, takes, kind_of, frame_of}
 use Rattle.gg_net.specs.Kept.{list_at, MachineAt, Kept}
 use Rattle.gg_net.specs.Parted.{enters_by}
 use Rattle.gg_net.proofs.MachineLemmas.{own_fire, token_is}
@@ -80,7 +80,7 @@ module _ {X S : Type 0} (of : X → S → Type 0) (part : S → SeatState) (flow
     token-next value clear none token =
         let is : value ≡ value_at (list_at flow.lists c) (entered_by (wire_at net.wires c).first y.cycle) =
         token_is flow (frame_of net) kept.sound m below y h.machine c value at.known at.machine goes (clear-here clear) (subst (λ j. IsToken y j value) (sym at.out) token) in
-        let now : takes net c + (part p).count ≡ entered_by (wire_at net.wires c).first y.cycle = counts.count ∙ ap (λ flag. entered_by (wire_at net.wires c).first (given_by y.cycle flag)) (clear-here clear) in
+        let now : takes net c + (part p).count ≡ entered_by (wire_at net.wires c).first y.cycle = counts.count ∙ ap (λ flag. entered_by (wire_at net.wires c).first (and_one y.cycle flag)) (clear-here clear) in
         let short : enters_by (frame_of net) (with_flag y n) c ≤ length (list_at flow.lists c) = enters-short flow (frame_of net) kept.sound m below (with_flag y n) (own-given clear none) c at.known at.machine in
         let within : (part p).count < length (drop (takes net c) (list_at flow.lists c)) = omega (arith, short, more-given clear, counts.count, length-drop (takes net c) (list_at flow.lists c)) in
         ap (λ s. slice_get s (part p).count) counts.stream

@@ -6,7 +6,7 @@ use Rattle.gg_flat.specs.State.{State}
 use Rattle.gg_flat.specs.Streams.{Flow}
 use Rattle.gg_node.specs.Machine.{Port, Machine, latch_at, flag_at}
 use Rattle.gg_node.specs.Step.{AllFired, AllLatched, finished}
-use Rattle.gg_net.specs.Network.{wire_at, given_by, got_by, entered_by, Kind, kind_of, Frame}
+use Rattle.gg_net.specs.Network.{wire_at, and_one, got_by, entered_by, Kind, kind_of, Frame}
 use Rattle.gg_net.specs.Kept.{IsSound, MachineAt}
 use Rattle.gg_net.specs.Parted.{takes_by}
 use Rattle.gg_net.proofs.StepLemmas.{clear-after}
@@ -30,7 +30,7 @@ got-rises n upto None (Some value) lt grows = record { up = omega arith; within 
 got-rises n upto (Some value) None lt grows = absurd (true≢false (sym (grows refl)))
 got-rises n upto (Some value) (Some other) lt grows = rises-not upto (suc n) (suc n) refl
 
-given-rises : (n upto : ℕ) (old new : Bool) → n < upto → (old ≡ true → new ≡ true) → RisesTo upto (given_by n old) (given_by n new)
+given-rises : (n upto : ℕ) (old new : Bool) → n < upto → (old ≡ true → new ≡ true) → RisesTo upto (and_one n old) (and_one n new)
 given-rises n upto false false lt grows = rises-not upto n n refl
 given-rises n upto false true lt grows = record { up = omega arith; within = omega (arith, lt) }
 given-rises n upto true false lt grows = absurd (true≢false (sym (grows refl)))
@@ -95,7 +95,7 @@ module _ (frame : Frame) (m upto : ℕ) where
           cycle = rises-not upto x.cycle y.cycle (ap (λ (z : Machine). z.cycle) same);
           takes = λ c known to. rises-not upto (takes_by frame x c) (takes_by frame y c) (ap (λ z. takes_by frame z c) same);
           puts = λ c known from.
-              subst (λ n. RisesTo upto (puts_by frame x c) (given_by n (flag_at y.flags (wire_at frame.wires c).out))) (sym (ap (λ (z : Machine). z.cycle) same))
+              subst (λ n. RisesTo upto (puts_by frame x c) (and_one n (flag_at y.flags (wire_at frame.wires c).out))) (sym (ap (λ (z : Machine). z.cycle) same))
               (given-rises x.cycle upto (flag_at x.flags (wire_at frame.wires c).out) (flag_at y.flags (wire_at frame.wires c).out) below (grows (wire_at frame.wires c).out));
           serves = rises-not (length x.ports * upto) (serves_by x) (serves_by y) (ap serves_by same);
         }
@@ -125,7 +125,7 @@ module _ (frame : Frame) (m upto : ℕ) where
           puts = λ c known from.
               let o : ℕ = (wire_at frame.wires c).out in
               rises-not upto (puts_by frame x c) (puts_by frame (finished x next) c)
-              (ap (given_by (suc x.cycle)) (clear-after (length x.flags) o) ∙ sym (ap (given_by x.cycle) (fired o false (out-within flow frame sound m there x at c known from))));
+              (ap (and_one (suc x.cycle)) (clear-after (length x.flags) o) ∙ sym (ap (and_one x.cycle) (fired o false (out-within flow frame sound m there x at c known from))));
           serves = record {
             up = serves-later (length x.ports) x.cycle (suc x.cycle) x.served 0 at.served (omega arith);
             within = omega (arith, mul-le-mul_left {m = suc x.cycle} {n = upto} (length x.ports) (omega (arith, below)));

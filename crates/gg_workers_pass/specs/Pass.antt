@@ -7,7 +7,7 @@ use Rattle.gg_flat.specs.Streams.{Flow}
 use Rattle.gg_link.specs.Seats.{SeatState}
 use Rattle.gg_node.specs.Machine.{Machine, machine_at, latch_at, flag_at, missing}
 use Rattle.gg_net.specs.declared.shape.Station.{Station}
-use Rattle.gg_net.specs.Network.{Network, wire_at, queue_at, given_by, kind_of, Frame, frame_of, takes, puts, serves}
+use Rattle.gg_net.specs.Network.{Network, wire_at, queue_at, and_one, kind_of, Frame, frame_of, takes, puts, serves}
 use Rattle.gg_net.specs.Kept.{MachineAt}
 use Rattle.gg_net.specs.Parted.{takes_by, enters_by}
 use Rattle.gg_net.specs.declared.event.Event.TheVariants.{Latch, Fire, Serve, Finish}
@@ -20,7 +20,7 @@ use Rattle.gg_workers_pass.specs.Rows.{SeatsByPlace}
 
 -- the number of tokens that a machine has put into a channel
 abbrev pub puts_by : Frame → Machine → ℕ → ℕ
-puts_by frame x c = given_by x.cycle (flag_at x.flags (wire_at frame.wires c).out)
+puts_by frame x c = and_one x.cycle (flag_at x.flags (wire_at frame.wires c).out)
 
 -- the number of times that a port of a machine was served since the first cycle
 abbrev pub serves_by : Machine → ℕ

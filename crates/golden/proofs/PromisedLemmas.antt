@@ -28,7 +28,7 @@ use Rattle.gg_words.specs.Meaning.{IsCommand}
 use Rattle.gg_words.specs.declared.command.Cmd.{Cmd}
 use Rattle.gg_words.specs.declared.command.Cmd.TheVariants.{Run, Replay, Check, Demo, Save, Resume}
 use Rattle.golden_commands.specs.Commands.{Asked, asked_by, asking, known_of, order_behind, order_by, order_of, read_order, trace_of}
-use Rattle.golden_commands.specs.Limits.{circuit_limit, partition_limit, snap_limit, steps_limit, trace_limit}
+use Rattle.gg_bits.specs.Limits.{circuit_limit, partition_limit, snap_limit, steps_limit, trace_limit}
 use Rattle.golden_commands.specs.GoesOn.{ResumedIsTheRest, SavedIsAccepted}
 use Rattle.golden_commands.specs.Lines.{TellsUnread, partition_fault, trace_fault}
 use Rattle.golden_commands.specs.Network.{RanNetwork}

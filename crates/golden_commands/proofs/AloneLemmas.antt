@@ -14,7 +14,8 @@ use Rattle.gg_partfile.specs.declared.request.Request.{Request}
 use Rattle.gg_cut_plan.specs.Bridges.{Models}
 use Rattle.gg_cut_plan.specs.Clocks.{ratios_of}
 use Rattle.gg_cut_plan.specs.Direct.{plan_hub}
-use Rattle.gg_cut_plan.specs.Fault.{first_fault, first_fault_with, or_else}
+use Rattle.gg_cut_plan.specs.Fault.{first_fault, first_fault_with}
+use Rattle.gg_bits.specs.Lists.{or_else}
 use Rattle.gg_cut_plan.specs.Listed.{is_among}
 use Rattle.gg_cut_reference.specs.Follows.{plan_start}
 use Rattle.gg_cut_reference.specs.Links.{taken_as}

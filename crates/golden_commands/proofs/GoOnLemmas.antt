@@ -24,7 +24,8 @@ use Rattle.gg_net.specs.declared.event.Event.TheVariants.{Latch, Fire, Serve, Fi
 use Rattle.gg_net.specs.declared.event.StepRefusal.{StepRefusal}
 use Rattle.gg_net.specs.declared.event.StepRefusal.TheVariants.{Stranger}
 use Rattle.gg_net.specs.markings.Goes.{after_step, replayed_from, step_refusal}
-use Rattle.gg_net.specs.Refusal.{or_next, unless}
+use Rattle.gg_net.specs.Refusal.{unless}
+use Rattle.gg_bits.specs.Lists.{or_else}
 use Rattle.gg_net.specs.markings.Marking.{Layout, Marking, opening_marking, refusal}
 use Rattle.gg_net.specs.markings.Marking as marks
 use Rattle.gg_net.specs.markings.Counts.{CanRun, IsAllowed, IsMarkingOf, counts_of}
@@ -46,7 +47,7 @@ use Rattle.golden_commands.proofs.AloneLemmas.{faultless-first}
 use Rattle.golden_commands.proofs.CutNameLemmas.{names-usable}
 
 -- the first condition of a step that may be done holds
-first-holds : (b : Bool) (cause : StepRefusal) (rest : Option StepRefusal) → or_next (unless b cause) rest ≡ None → b ≡ true
+first-holds : (b : Bool) (cause : StepRefusal) (rest : Option StepRefusal) → or_else (unless b cause) rest ≡ None → b ≡ true
 first-holds true cause rest e = refl
 first-holds false cause rest e = absurd (cc)
 

@@ -6,7 +6,6 @@ pub mod Commands
 pub mod Demo
 pub mod GoesOn
 pub mod Handed
-pub mod Limits
 pub mod Lines
 pub mod Meant
 pub mod Network

@@ -13,7 +13,7 @@ use Rattle.gg_partfile.specs.Partition.{IsPartition}
 use Rattle.gg_partfile.specs.declared.fault.PartFault.TheVariants.{WrongKey}
 use Rattle.gg_partfile.specs.declared.request.Request.{Request}
 use Rattle.gg_io.specs.Said.{Said}
-use Rattle.golden_commands.specs.Limits.{partition_limit}
+use Rattle.gg_bits.specs.Limits.{partition_limit}
 use Rattle.golden_commands.specs.Lines.{partition_fault}
 use Rattle.gg_io.specs.Order.{File}
 

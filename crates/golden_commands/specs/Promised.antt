@@ -22,7 +22,7 @@ use Rattle.gg_words.specs.Meaning.{IsCommand}
 use Rattle.gg_words.specs.declared.command.Cmd.{Cmd}
 use Rattle.gg_words.specs.declared.command.Cmd.TheVariants.{Replay, Resume, Run}
 use Rattle.golden_commands.specs.Commands.{Asked, asked_by, known_of, order_of, trace_of}
-use Rattle.golden_commands.specs.Limits.{circuit_limit, partition_limit, snap_limit, steps_limit, trace_limit}
+use Rattle.gg_bits.specs.Limits.{circuit_limit, partition_limit, snap_limit, steps_limit, trace_limit}
 use Rattle.golden_commands.specs.Lines.{TellsUnread, partition_fault, trace_fault}
 use Rattle.golden_commands.specs.Network.{RanNetwork}
 use Rattle.golden_commands.specs.Outcome.{Answered}

@@ -31,7 +31,7 @@ use Rattle.gg_replay.specs.steps_file.Steps.{steps_of}
 use Rattle.gg_replay.specs.steps_file.Cause.{cause_text}
 use Rattle.gg_replay.specs.ReplayText.{channel_line}
 use Rattle.gg_io.specs.Said.{Said}
-use Rattle.golden_commands.specs.Limits.{steps_limit}
+use Rattle.gg_bits.specs.Limits.{steps_limit}
 use Rattle.golden_commands.specs.Lines.{step_fault}
 use Rattle.gg_io.specs.Order.{File, IsOnly}
 use Rattle.golden_commands.specs.Partition.{Cuts, Known}

@@ -15,7 +15,7 @@ use Rattle.gg_io.specs.Order.{File}
 use Rattle.gg_io.specs.Said.{Said}
 use Rattle.gg_trace.specs.Last.{halts, row_count}
 use Rattle.gg_trace.specs.Printing.{text_from, trace_text}
-use Rattle.golden_commands.specs.Limits.{snap_limit}
+use Rattle.gg_bits.specs.Limits.{snap_limit}
 use Rattle.golden_commands.specs.Lines.{few_rows, snap_fault}
 use Rattle.golden_commands.specs.Meant.{AreMeant, Meant, meant_reference}
 use Rattle.golden_commands.specs.Partition.{Known}

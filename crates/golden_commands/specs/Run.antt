@@ -20,7 +20,7 @@ use Rattle.gg_trace.specs.FaultText.{fault_words}
 use Rattle.gg_trace.specs.Trace.{Columns, IsFirstFault}
 use Rattle.gg_trace.specs.declared.faults.TraceFault.{TraceFault}
 use Rattle.gg_io.specs.Said.{Said}
-use Rattle.golden_commands.specs.Limits.{circuit_limit, trace_limit}
+use Rattle.gg_bits.specs.Limits.{circuit_limit, trace_limit}
 use Rattle.golden_commands.specs.Lines.{circuit_fault, trace_fault}
 use Rattle.gg_io.specs.Order.{File}
 use Rattle.golden_commands.specs.Partition.{Known}

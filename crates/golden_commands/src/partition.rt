@@ -12,7 +12,7 @@ ghost use Rattle.gg_partfile.specs.Partition.{IsPartition};
 ghost use Rattle.gg_partfile.specs.declared.fault.PartFault.TheVariants as file_fault;
 ghost use Rattle.gg_io.specs.Endings.{IfRefused, IsRefusedBy};
 ghost use Rattle.golden_commands.specs.Handed.{AreHandedIn};
-ghost use Rattle.golden_commands.specs.Limits.{partition_limit};
+ghost use Rattle.gg_bits.specs.Limits.{partition_limit};
 ghost use Rattle.golden_commands.specs.Lines.{partition_fault};
 ghost use Rattle.gg_io.specs.Order.{CanBe};
 ghost use Rattle.golden_commands.specs.Partition.{Cuts, partition_file_of};

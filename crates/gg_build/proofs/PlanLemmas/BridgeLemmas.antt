@@ -23,7 +23,8 @@ use Rattle.gg_cut_plan.specs.Direct.{Hub, is_driven, is_input, plan_hub, plan_ro
 use Rattle.gg_cut_plan.specs.Listed.{listed_of}
 use Rattle.gg_cut_plan.specs.Machines.{first_source, first_tray}
 use Rattle.gg_cut_plan.specs.Plan.{wire_at as link_at, channels_to, channels_from, entry_at, port_place, signals_of, givens_of, IsBridgeBody}
-use Rattle.gg_cut_plan.specs.Seated.{Bridges, IsDriven as IsDrivenBy, IsSeen as IsSeenBy, first_bridge, or_bridge, output_count, plan_bridges, plan_wires, seat_of, first_kept_tray, before, unseen}
+use Rattle.gg_cut_plan.specs.Seated.{Bridges, IsDriven as IsDrivenBy, IsSeen as IsSeenBy, first_bridge, output_count, plan_bridges, plan_wires, seat_of, first_kept_tray, unseen}
+use Rattle.gg_bits.specs.Lists.{number_or, count_below}
 use Rattle.gg_cut_plan.proofs.OriginLemmas.{chain-end, clash}
 use Rattle.gg_cut_plan.proofs.PathLemmas.{among-contains}
 use Rattle.gg_cut_reference.specs.fitting.Fitting.{AreFitting, IsFitting}
@@ -224,7 +225,7 @@ module _ (design : Ordered) (request : Request) (models : Models) (can : CanBrid
       views = viewer-is circuit design.tree request p place_of_entry fits.sees below body.known (subst (Contains entry.sees) (sym is-name) (Contains-get_or entry.sees place [] inside))
 
       seat : seat_of b (first_tray circuit listed + p) ≡ m
-      seat = let at = seat-tray b p ∙ ap (or_bridge (first_bridge b) (first_kept_tray b + before (unseen b) p)) views in omega (arith, at, first)
+      seat = let at = seat-tray b p ∙ ap (number_or (first_bridge b) (first_kept_tray b + count_below (unseen b) p)) views in omega (arith, at, first)
 
       at : Somewhere (λ k. (link_at base k).signal ≡ value_at circuit.outs p) (channels_to base (first_tray circuit listed + p))
       at = map-cases (λ k. (link_at base k).signal) (channels_to base (first_tray circuit listed + p)) (value_at circuit.outs p) (is-routed.trays p known).one

@@ -28,7 +28,8 @@ use Rattle.gg_cut_plan.specs.Plan.{entry_at, IsBody, IsPlan}
 use Rattle.gg_cut_plan.specs.Seated.{Bridges, first_bridge, plan_bridges}
 use Rattle.gg_cut_plan.proofs.PathLemmas.{first_place-Some}
 use Rattle.gg_cut_reference.proofs.FittingLemmas.OpenLemmas.{ins-count}
-use Rattle.gg_cut_reference.specs.Links.{pipe_or, pipes_of, taken_as}
+use Rattle.gg_cut_reference.specs.Links.{pipes_of, taken_as}
+use Rattle.gg_bits.specs.Lists.{number_or}
 use Rattle.gg_cut_reference.specs.Made.{plan_reference}
 use Rattle.gg_cut_reference.proofs.PlanLemmas.{plan-made}
 use Rattle.gg_cut_reference.specs.whole.Whole.{CanBridge}
@@ -112,7 +113,7 @@ module _ (design : Ordered) (request : Request) (models : Models) (can : CanBrid
   pub taken-below : (s : ℕ) → s < length design.circuit.signals → taken_as (plan_hub design.circuit design.tree request) s < length (plan_reference design request).signals
   taken-below s lt = by (first_place (λ p. p == s) (pipes_of hub)) refl
     where
-      by : (o : Option ℕ) → first_place (λ p. p == s) (pipes_of hub) ≡ o → pipe_or (length design.circuit.signals) s o < length (plan_reference design request).signals
+      by : (o : Option ℕ) → first_place (λ p. p == s) (pipes_of hub) ≡ o → number_or (length design.circuit.signals) s o < length (plan_reference design request).signals
       by None e = omega (arith, lt, reference-many)
       by (Some k) e = let at = first_place-Some (λ p. p == s) (pipes_of hub) k e in omega (arith, at.within, reference-many)
 

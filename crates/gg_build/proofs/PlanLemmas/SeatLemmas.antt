@@ -12,7 +12,8 @@ use Rattle.gg_cut_plan.specs.Direct.{plan_hub, plan_routes}
 use Rattle.gg_cut_plan.specs.Listed.{listed_of}
 use Rattle.gg_cut_plan.specs.Machines.{first_source, first_tray, machine_count}
 use Rattle.gg_cut_plan.specs.Plan.{channels_to, channels_from}
-use Rattle.gg_cut_plan.specs.Seated.{AreBridges, Bridges, IsKept, before, first_bridge, first_kept_tray, open_ins, or_bridge, output_count, plan_bridges, plan_wires, seat_of, seated, seated_wire, undriven, unseen}
+use Rattle.gg_cut_plan.specs.Seated.{AreBridges, Bridges, IsKept, first_bridge, first_kept_tray, open_ins, output_count, plan_bridges, plan_wires, seat_of, seated, seated_wire, undriven, unseen}
+use Rattle.gg_bits.specs.Lists.{count_below, number_or}
 use Rattle.gg_cut_reference.proofs.FittingLemmas.BridgeLemmas.{are-bridges}
 use Rattle.gg_cut_reference.proofs.FittingLemmas.CountLemmas.{before-found}
 use Rattle.gg_cut_reference.proofs.FittingLemmas.OpenLemmas.{in-place, ins-count}
@@ -60,7 +61,7 @@ module _ (design : Ordered) (request : Request) (routed : AreRoutes design (list
   pub low-seat : (m : ℕ) → m < first_source (listed_of design.tree request) → IsSeatOf design request m m
   low-seat m lt = seat-of m m (omega (arith, lt)) (seat-low b m lt) (omega (arith, lt))
 
-  pub source-seat : (m p : ℕ) → p < length design.circuit.ins → undriven (plan_bridges design.circuit design.tree request) p ≡ true → m ≡ first_source (listed_of design.tree request) + before (undriven (plan_bridges design.circuit design.tree request)) p → IsSeatOf design request m (first_source (listed_of design.tree request) + p)
+  pub source-seat : (m p : ℕ) → p < length design.circuit.ins → undriven (plan_bridges design.circuit design.tree request) p ≡ true → m ≡ first_source (listed_of design.tree request) + count_below (undriven (plan_bridges design.circuit design.tree request)) p → IsSeatOf design request m (first_source (listed_of design.tree request) + p)
   source-seat m p lt kept is = by (b.driver p) refl
     where
       free : is_none (b.driver p) ≡ true
@@ -69,7 +70,7 @@ module _ (design : Ordered) (request : Request) (routed : AreRoutes design (list
       by : (o : Option ℕ) → b.driver p ≡ o → IsSeatOf design request m (first_source listed + p)
       by None e =
           let up = before-strict (undriven b) p b.ins kept lt in
-          seat-of m (first_source listed + p) (omega (arith, lt)) (seat-source b p lt ∙ ap (or_bridge (first_bridge b) (b.first + before (undriven b) p)) e ∙ sym is) (omega (arith, is, up))
+          seat-of m (first_source listed + p) (omega (arith, lt)) (seat-source b p lt ∙ ap (number_or (first_bridge b) (b.first + count_below (undriven b) p)) e ∙ sym is) (omega (arith, is, up))
       by (Some k) e = let clash : false ≡ true = sym (ap is_none e) ∙ free in absurd (cc)
 
   -- the source of an input that no bridge drives
@@ -95,16 +96,16 @@ module _ (design : Ordered) (request : Request) (routed : AreRoutes design (list
     pub place : ℕ
     pub known : place < length design.circuit.outs
     pub kept : unseen (plan_bridges design.circuit design.tree request) place ≡ true
-    pub count : m ≡ first_kept_tray (plan_bridges design.circuit design.tree request) + before (unseen (plan_bridges design.circuit design.tree request)) place
+    pub count : m ≡ first_kept_tray (plan_bridges design.circuit design.tree request) + count_below (unseen (plan_bridges design.circuit design.tree request)) place
     pub seat : IsSeatOf design request m (first_tray design.circuit (listed_of design.tree request) + place)
 
   pub tray-seat : (m : ℕ) → first_kept_tray (plan_bridges design.circuit design.tree request) ≤ m → m < first_bridge (plan_bridges design.circuit design.tree request) → IsTraySeat m
   tray-seat m low high =
       let at = before-found (unseen b) b.outs (m - first_kept_tray b) (omega (arith, low, high)) in
-      let is : m ≡ first_kept_tray b + before (unseen b) at.place = omega (arith, at.is, low) in
+      let is : m ≡ first_kept_tray b + count_below (unseen b) at.place = omega (arith, at.is, low) in
       record { place = at.place; known = at.known; kept = at.kept; count = is; seat = by (b.viewer at.place) refl at.kept is at.known }
     where
-      by : {p : ℕ} (o : Option ℕ) → b.viewer p ≡ o → is_none (b.viewer p) ≡ true → m ≡ first_kept_tray b + before (unseen b) p → p < b.outs → IsSeatOf design request m (first_tray design.circuit listed + p)
+      by : {p : ℕ} (o : Option ℕ) → b.viewer p ≡ o → is_none (b.viewer p) ≡ true → m ≡ first_kept_tray b + count_below (unseen b) p → p < b.outs → IsSeatOf design request m (first_tray design.circuit listed + p)
       by {p = p} None e free is lt =
-          seat-of m (first_tray design.circuit listed + p) (omega (arith, lt)) (seat-tray b p ∙ ap (or_bridge (first_bridge b) (first_kept_tray b + before (unseen b) p)) e ∙ sym is) high
+          seat-of m (first_tray design.circuit listed + p) (omega (arith, lt)) (seat-tray b p ∙ ap (number_or (first_bridge b) (first_kept_tray b + count_below (unseen b) p)) e ∙ sym is) high
       by {p = p} (Some k) e free is lt = let clash : false ≡ true = sym (ap is_none e) ∙ free in absurd (cc)

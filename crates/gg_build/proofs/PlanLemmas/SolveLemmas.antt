@@ -27,7 +27,8 @@ use Rattle.gg_cut_plan.specs.Listed.{listed_of}
 use Rattle.gg_cut_plan.specs.Machines.{first_source, first_tray}
 use Rattle.gg_cut_plan.specs.Direct.{Hub, is_piped, plan_hub, plan_routes}
 use Rattle.gg_cut_plan.specs.Plan.{wire_at as link_at, channels_to, channels_from, IsBody, IsBridgeBody}
-use Rattle.gg_cut_plan.specs.Seated.{before, first_bridge, first_kept_tray, open_outs, output_count, plan_bridges, plan_wires, unseen}
+use Rattle.gg_cut_plan.specs.Seated.{first_bridge, first_kept_tray, open_outs, output_count, plan_bridges, plan_wires, unseen}
+use Rattle.gg_bits.specs.Lists.{count_below}
 use Rattle.gg_cut_plan.specs.Solves.{AgreesFrom, Answers, AreRows, GivesSaid, columns_of, in_order, lists_of, model_start, stream, streams, Solves}
 use Rattle.gg_cut_reference.proofs.FittingLemmas.OpenLemmas.{outs-count, outs-place}
 use Rattle.gg_cut_routes.specs.Routes.{AreRoutes}
@@ -349,7 +350,7 @@ module _ (design : Ordered) (request : Request) (models : Models) (default : ℕ
       let c = value_at to 0 in
       let has = Contains-get_or to 0 0 (omega (arith, one)) in
       let at = outs-place design.circuit design.tree request tray.place tray.known tray.kept in
-      let place : before (unseen b) tray.place ≡ k = omega (arith, tray.count) in
+      let place : count_below (unseen b) tray.place ≡ k = omega (arith, tray.count) in
       record {
         channel = c;
         known = (links.taken-is base q c has).known;

@@ -15,11 +15,12 @@ use Rattle.gg_cut_plan.specs.declared.plan.Machine.{Machine}
 use Rattle.gg_cut_plan.specs.declared.wires.Wire.{Wire}
 use Rattle.gg_cut_plan.specs.Bridges.{Models, bridge_faults}
 use Rattle.gg_cut_plan.specs.Direct.{Hub, plan_hub}
-use Rattle.gg_cut_plan.specs.Fault.{IsSmall, first_fault, first_of}
+use Rattle.gg_cut_plan.specs.Fault.{IsSmall, first_fault}
+use Rattle.gg_bits.specs.Lists.{first_of, count_below}
 use Rattle.gg_cut_plan.specs.Hosts.{host_of}
 use Rattle.gg_cut_plan.specs.Listed.{listed_of}
 use Rattle.gg_cut_plan.specs.Plan.{channels_from, channels_to, entry_at, port_place, wire_at}
-use Rattle.gg_cut_plan.specs.Seated.{Bridges, before, first_bridge, first_kept_tray, machine_end, plan_bridges, plan_wires, undriven, unseen}
+use Rattle.gg_cut_plan.specs.Seated.{Bridges, first_bridge, first_kept_tray, machine_end, plan_bridges, plan_wires, undriven, unseen}
 use Rattle.gg_cut_split.proofs.ClosedLemmas.FaultlessLemmas.{faultless-few}
 use Rattle.gg_cut_reference.specs.fitting.Fitting.{AreFitting}
 use Rattle.gg_cut_reference.proofs.FittingLemmas.FittingLemmas.{all-fit}
@@ -102,17 +103,17 @@ module _ (design : Ordered) (request : Request) where
       machines : List Machine
       are : AreSeated design request models listed hub count machines
 
-    sources : HasSeated bridges.first → (p : ℕ) → p ≤ bridges.ins → HasSeated (bridges.first + before (undriven bridges) p)
+    sources : HasSeated bridges.first → (p : ℕ) → p ≤ bridges.ins → HasSeated (bridges.first + count_below (undriven bridges) p)
     sources first zero le = subst HasSeated (counts-none bridges.first (undriven bridges)) first
     sources first (suc p) le = by (cases_eq (value_at drivers p) 0) (sources first p (omega (arith, le)))
       where
         inside : p < length drivers
         inside = let many = takers.ins in omega (arith, le, many)
 
-        up : HasSeated (bridges.first + before (undriven bridges) (p + 1)) → HasSeated (bridges.first + before (undriven bridges) (suc p))
-        up h = subst (λ n. HasSeated (bridges.first + before (undriven bridges) n)) (let same : p + 1 ≡ suc p = omega arith in same) h
+        up : HasSeated (bridges.first + count_below (undriven bridges) (p + 1)) → HasSeated (bridges.first + count_below (undriven bridges) (suc p))
+        up h = subst (λ n. HasSeated (bridges.first + count_below (undriven bridges) n)) (let same : p + 1 ≡ suc p = omega arith in same) h
 
-        by : (value_at drivers p ≡ 0) ⊎ (value_at drivers p ≡ 0 → ⊥) → HasSeated (bridges.first + before (undriven bridges) p) → HasSeated (bridges.first + before (undriven bridges) (suc p))
+        by : (value_at drivers p ≡ 0) ⊎ (value_at drivers p ≡ 0 → ⊥) → HasSeated (bridges.first + count_below (undriven bridges) p) → HasSeated (bridges.first + count_below (undriven bridges) (suc p))
         by (inl free) old =
             let place = length old.machines - bridges.first in
             let name = codes "in:" ++ path_at design.circuit.paths (value_at design.circuit.ins p) in
@@ -120,26 +121,26 @@ module _ (design : Ordered) (request : Request) where
             up (record { machines = new; are = source-more design request models hosts ins outs sides drivers viewers takers p place name design.circuit design.circuit.ins old.machines new inside free refl refl refl refl refl old.are })
         by (inr closed) old = up (record { machines = old.machines; are = source-less design request models hosts ins outs sides drivers viewers takers p old.machines inside closed old.are })
 
-    trays : HasSeated (first_kept_tray bridges) → (p : ℕ) → p ≤ bridges.outs → HasSeated (first_kept_tray bridges + before (unseen bridges) p)
+    trays : HasSeated (first_kept_tray bridges) → (p : ℕ) → p ≤ bridges.outs → HasSeated (first_kept_tray bridges + count_below (unseen bridges) p)
     trays first zero le = subst HasSeated (counts-none (first_kept_tray bridges) (unseen bridges)) first
     trays first (suc p) le = by (cases_eq (value_at viewers p) 0) (cases_lt p (length design.circuit.outs - length design.tree.stops)) (trays first p (omega (arith, le)))
       where
         inside : p < length viewers
         inside = let many = takers.outs in omega (arith, le, many)
 
-        up : HasSeated (first_kept_tray bridges + before (unseen bridges) (p + 1)) → HasSeated (first_kept_tray bridges + before (unseen bridges) (suc p))
-        up h = subst (λ n. HasSeated (first_kept_tray bridges + before (unseen bridges) n)) (let same : p + 1 ≡ suc p = omega arith in same) h
+        up : HasSeated (first_kept_tray bridges + count_below (unseen bridges) (p + 1)) → HasSeated (first_kept_tray bridges + count_below (unseen bridges) (suc p))
+        up h = subst (λ n. HasSeated (first_kept_tray bridges + count_below (unseen bridges) n)) (let same : p + 1 ≡ suc p = omega arith in same) h
 
         named : (name : List ℕ) → value_at viewers p ≡ 0
             → (p < length design.circuit.outs - length design.tree.stops → name ≡ codes "out:" ++ path_at design.circuit.paths (value_at design.circuit.outs p))
             → (length design.circuit.outs - length design.tree.stops ≤ p → name ≡ codes "halt:" ++ path_at design.circuit.paths (value_at design.circuit.outs p))
-            → HasSeated (first_kept_tray bridges + before (unseen bridges) p) → HasSeated (first_kept_tray bridges + before (unseen bridges) (suc p))
+            → HasSeated (first_kept_tray bridges + count_below (unseen bridges) p) → HasSeated (first_kept_tray bridges + count_below (unseen bridges) (suc p))
         named name free output stop old =
             let new = old.machines ++ machine_by hosts ins outs (length old.machines) name Tray ∷ [] in
             up (record { machines = new; are = tray-more design request models hosts ins outs sides drivers viewers takers p name design.circuit design.tree old.machines new inside free refl refl output stop refl old.are })
 
         by : (value_at viewers p ≡ 0) ⊎ (value_at viewers p ≡ 0 → ⊥) → (p < length design.circuit.outs - length design.tree.stops) ⊎ (length design.circuit.outs - length design.tree.stops ≤ p)
-            → HasSeated (first_kept_tray bridges + before (unseen bridges) p) → HasSeated (first_kept_tray bridges + before (unseen bridges) (suc p))
+            → HasSeated (first_kept_tray bridges + count_below (unseen bridges) p) → HasSeated (first_kept_tray bridges + count_below (unseen bridges) (suc p))
         by (inl free) (inl lt) old = named (codes "out:" ++ path_at design.circuit.paths (value_at design.circuit.outs p)) free (λ low. refl) (λ high. absurd (omega (arith, lt, high))) old
         by (inl free) (inr ge) old = named (codes "halt:" ++ path_at design.circuit.paths (value_at design.circuit.outs p)) free (λ low. absurd (omega (arith, ge, low))) (λ high. refl) old
         by (inr closed) q old = up (record { machines = old.machines; are = tray-less design request models hosts ins outs sides drivers viewers takers p old.machines inside closed old.are })

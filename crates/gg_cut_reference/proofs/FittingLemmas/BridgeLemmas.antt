@@ -9,12 +9,13 @@ use Rattle.gg_partfile.specs.declared.request.BridgeEntry.{BridgeEntry}
 use Rattle.gg_cut_plan.specs.Listed.{is_among}
 use Rattle.gg_cut_plan.specs.declared.listed.Listed.{Listed}
 use Rattle.gg_cut_plan.proofs.PathLemmas.{first_place-Some}
-use Rattle.gg_cut_plan.specs.Seated.{Bridges, before, undriven, unseen, first_kept_tray, first_bridge, or_bridge, seat_of, AreBridges, IsSeen, IsDriven, lister, bridges_of}
+use Rattle.gg_cut_plan.specs.Seated.{Bridges, undriven, unseen, first_kept_tray, first_bridge, seat_of, AreBridges, IsSeen, IsDriven, lister, bridges_of}
+use Rattle.gg_bits.specs.Lists.{count_below, number_or}
 use Rattle.gg_cut_reference.proofs.FittingLemmas.SeatedLemmas.{seat-low, seat-source, seat-tray, before-strict}
 
 module _ (b : Bridges) where
   -- a number that is the bridge's own
-  same-bridge : (k base plain : ℕ) (o : Option ℕ) → (o ≡ None → plain < base) → or_bridge base plain o ≡ base + k → o ≡ Some k
+  same-bridge : (k base plain : ℕ) (o : Option ℕ) → (o ≡ None → plain < base) → number_or base plain o ≡ base + k → o ≡ Some k
   same-bridge k base plain None low is = absurd (let l = low refl in omega (arith, l, is))
   same-bridge k base plain (Some j) low is = ap Some (omega (arith, is))
 
@@ -29,7 +30,7 @@ module _ (b : Bridges) where
         place = p;
         known = inside;
         is = at;
-        viewer = same-bridge k (first_bridge b) (first_kept_tray b + before (unseen b) p) (b.viewer p) (λ none. let up = before-strict (unseen b) p b.outs (ap is_none none) inside in omega (arith, up)) (sym (seat-tray b p) ∙ ap (seat_of b) (sym at) ∙ is);
+        viewer = same-bridge k (first_bridge b) (first_kept_tray b + count_below (unseen b) p) (b.viewer p) (λ none. let up = before-strict (unseen b) p b.outs (ap is_none none) inside in omega (arith, up)) (sym (seat-tray b p) ∙ ap (seat_of b) (sym at) ∙ is);
       }
 
   pub driven-by : (k m : ℕ) → m < b.first + b.ins → seat_of b m ≡ first_bridge b + k → IsDriven b k m
@@ -45,7 +46,7 @@ module _ (b : Bridges) where
             place = p;
             known = inside;
             is = at;
-            driver = same-bridge k (first_bridge b) (b.first + before (undriven b) p) (b.driver p) (λ none. let up = before-strict (undriven b) p b.ins (ap is_none none) inside in omega (arith, up)) (sym (seat-source b p inside) ∙ ap (seat_of b) (sym at) ∙ is);
+            driver = same-bridge k (first_bridge b) (b.first + count_below (undriven b) p) (b.driver p) (λ none. let up = before-strict (undriven b) p b.ins (ap is_none none) inside in omega (arith, up)) (sym (seat-source b p inside) ∙ ap (seat_of b) (sym at) ∙ is);
           }
 
 -- ---- the bridges of a request

@@ -2,41 +2,41 @@
 use Rattle.std.proofs.Common.{◌≡◌, ℕ, zero, suc, ◌+◌, ◌<◌, ◌≤◌, List, [], ◌∷◌, length, get_or, filter, Bool, true, false, refl, sym, ◌∙◌, ap, ap₂, subst, inl, inr, ◌⊎◌, arith}
 use Rattle.std.specs.Prelude.{cond}
 use Rattle.std.proofs.lemmas.Bool.{cases_lt}
-use Rattle.gg_cut_plan.specs.Seated.{one_if, before}
+use Rattle.gg_bits.specs.Lists.{one_if, count_below}
 
 -- ---- numbers
 
 -- the first number apart
-pub before-front : (keeps : ℕ → Bool) (n : ℕ) → before keeps (suc n) ≡ one_if (keeps 0) + before (λ p. keeps (suc p)) n
+pub before-front : (keeps : ℕ → Bool) (n : ℕ) → count_below keeps (suc n) ≡ one_if (keeps 0) + count_below (λ p. keeps (suc p)) n
 before-front keeps zero = omega arith
 before-front keeps (suc n) = let rest = before-front keeps n in omega (arith, rest)
 
 -- tests that agree below n keep as many numbers below n
-pub before-same : (f g : ℕ → Bool) (n : ℕ) → ((p : ℕ) → p < n → f p ≡ g p) → before f n ≡ before g n
+pub before-same : (f g : ℕ → Bool) (n : ℕ) → ((p : ℕ) → p < n → f p ≡ g p) → count_below f n ≡ count_below g n
 before-same f g zero same = refl
 before-same f g (suc n) same = ap₂ (λ k b. k + one_if b) (before-same f g n (λ p lt. same p (omega (arith, lt)))) (same n (omega arith))
 
 -- where all are kept
-pub before-behind : (keeps : ℕ → Bool) (m k : ℕ) → ((p : ℕ) → m ≤ p → p < m + k → keeps p ≡ true) → before keeps (m + k) ≡ before keeps m + k
-before-behind keeps m zero all = let same : m + 0 ≡ m = omega arith in ap (before keeps) same ∙ (let more : before keeps m ≡ before keeps m + 0 = omega arith in more)
+pub before-behind : (keeps : ℕ → Bool) (m k : ℕ) → ((p : ℕ) → m ≤ p → p < m + k → keeps p ≡ true) → count_below keeps (m + k) ≡ count_below keeps m + k
+before-behind keeps m zero all = let same : m + 0 ≡ m = omega arith in ap (count_below keeps) same ∙ (let more : count_below keeps m ≡ count_below keeps m + 0 = omega arith in more)
 before-behind keeps m (suc k) all =
     let rest = before-behind keeps m k (λ p ge lt. all p ge (omega (arith, lt))) in
     let same : m + suc k ≡ suc (m + k) = omega arith in
     let one : one_if (keeps (m + k)) ≡ 1 = ap one_if (all (m + k) (omega arith) (omega arith)) in
-    ap (before keeps) same ∙ (let more : before keeps (m + k) + one_if (keeps (m + k)) ≡ before keeps m + suc k = omega (arith, rest, one) in more)
+    ap (count_below keeps) same ∙ (let more : count_below keeps (m + k) + one_if (keeps (m + k)) ≡ count_below keeps m + suc k = omega (arith, rest, one) in more)
 
 -- the number that is kept behind so many others
 pub record Found (keeps : ℕ → Bool) (n k : ℕ) : Type 0 where
   pub place : ℕ
   pub known : place < n
   pub kept : keeps place ≡ true
-  pub is : before keeps place ≡ k
+  pub is : count_below keeps place ≡ k
 
-pub before-found : (keeps : ℕ → Bool) (n k : ℕ) → k < before keeps n → Found keeps n k
+pub before-found : (keeps : ℕ → Bool) (n k : ℕ) → k < count_below keeps n → Found keeps n k
 before-found keeps zero k lt = absurd (omega (arith, lt))
-before-found keeps (suc n) k lt = by (cases_lt k (before keeps n)) (keeps n) refl (before-found keeps n k)
+before-found keeps (suc n) k lt = by (cases_lt k (count_below keeps n)) (keeps n) refl (before-found keeps n k)
   where
-    by : (k < before keeps n) ⊎ (before keeps n ≤ k) → (b : Bool) → keeps n ≡ b → (k < before keeps n → Found keeps n k) → Found keeps (suc n) k
+    by : (k < count_below keeps n) ⊎ (count_below keeps n ≤ k) → (b : Bool) → keeps n ≡ b → (k < count_below keeps n → Found keeps n k) → Found keeps (suc n) k
     by (inl less) b e rest = let found = rest less in record { place = found.place; known = omega (arith, found.known); kept = found.kept; is = found.is }
     by (inr ge) true e rest = let one : one_if (keeps n) ≡ 1 = ap one_if e in record { place = n; known = omega arith; kept = e; is = omega (arith, ge, lt, one) }
     by (inr ge) false e rest = absurd (let none : one_if (keeps n) ≡ 0 = ap one_if e in omega (arith, ge, lt, none))
@@ -44,7 +44,7 @@ before-found keeps (suc n) k lt = by (cases_lt k (before keeps n)) (keeps n) ref
 -- ---- lists
 
 -- how many items are kept
-pub filter-count : {A : Type 0} (test : A → Bool) (xs : List A) (d : A) → before (λ p. test (get_or xs p d)) (length xs) ≡ length (filter test xs)
+pub filter-count : {A : Type 0} (test : A → Bool) (xs : List A) (d : A) → count_below (λ p. test (get_or xs p d)) (length xs) ≡ length (filter test xs)
 filter-count test [] d = refl
 filter-count test (x ∷ xs) d = before-front (λ p. test (get_or (x ∷ xs) p d)) (length xs) ∙ ap (λ n. one_if (test x) + n) (filter-count test xs d) ∙ by (test x)
   where
@@ -58,12 +58,12 @@ pub record IsAt {A : Type 0} (xs : List A) (n : ℕ) (d x : A) : Type 0 where
   pub is : get_or xs n d ≡ x
 
 -- where an item that is kept stands
-pub filter-place : {A : Type 0} (test : A → Bool) (xs : List A) (d : A) (p : ℕ) → p < length xs → test (get_or xs p d) ≡ true → IsAt (filter test xs) (before (λ q. test (get_or xs q d)) p) d (get_or xs p d)
+pub filter-place : {A : Type 0} (test : A → Bool) (xs : List A) (d : A) (p : ℕ) → p < length xs → test (get_or xs p d) ≡ true → IsAt (filter test xs) (count_below (λ q. test (get_or xs q d)) p) d (get_or xs p d)
 filter-place test [] d p lt e = absurd (omega (arith, lt))
 filter-place test (x ∷ xs) d zero lt e = subst (λ b. IsAt (cond b (x ∷ filter test xs) (filter test xs)) 0 d x) (sym e) (record { within = omega arith; is = refl })
 filter-place test (x ∷ xs) d (suc p) lt e =
     subst (λ n. IsAt (filter test (x ∷ xs)) n d (get_or xs p d)) (sym (before-front (λ q. test (get_or (x ∷ xs) q d)) p))
-    (by (test x) (before (λ q. test (get_or xs q d)) p) (filter-place test xs d p (omega (arith, lt)) e))
+    (by (test x) (count_below (λ q. test (get_or xs q d)) p) (filter-place test xs d p (omega (arith, lt)) e))
   where
     by : (b : Bool) (n : ℕ) → IsAt (filter test xs) n d (get_or xs p d) → IsAt (cond b (x ∷ filter test xs) (filter test xs)) (one_if b + n) d (get_or xs p d)
     by true n at = let same : suc n ≡ 1 + n = omega arith in subst (λ m. IsAt (x ∷ filter test xs) m d (get_or xs p d)) same (record { within = omega (arith, at.within); is = at.is })

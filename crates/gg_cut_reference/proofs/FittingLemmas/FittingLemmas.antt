@@ -10,7 +10,7 @@ use Rattle.gg_partfile.specs.declared.request.BridgeEntry.{BridgeEntry}
 use Rattle.gg_cut_plan.specs.declared.fault.CutFault.TheVariants.{UnknownBridge, WrongPort, UnfitBridge}
 use Rattle.gg_cut_plan.specs.Listed.{is_among}
 use Rattle.gg_cut_plan.specs.Channels.{channel_names}
-use Rattle.gg_cut_plan.specs.Fault.{first_of}
+use Rattle.gg_bits.specs.Lists.{first_of}
 use Rattle.gg_cut_plan.specs.Bridges.{Models, unknown_bridge, wrong_port, model_named, fits_model, fit_ports, shapes_at, unfit_bridge, Before, none_before, before_next, own_faults, faults_after}
 use Rattle.gg_cut_plan.proofs.PathLemmas.{among-contains}
 use Rattle.gg_cut_plan.proofs.FindLemmas.{none-at, none-front, none-back, none-map}

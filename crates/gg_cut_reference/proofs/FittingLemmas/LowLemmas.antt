@@ -6,12 +6,13 @@ use Rattle.std.proofs.lemmas.List.{length-map}
 use Rattle.std.proofs.lemmas.List.FromFn.{get_or-range_with_len, length-range_with_len}
 use Rattle.gg_cut_plan.specs.declared.wires.Wire.{Wire}
 use Rattle.gg_cut_plan.specs.Plan.{wire_at, channels_to, channels_from, signals_of, givens_of}
-use Rattle.gg_cut_plan.specs.Seated.{Bridges, before, undriven, unseen, first_bridge, first_kept_tray, or_bridge, seat_of, seated_wire, seated}
+use Rattle.gg_cut_plan.specs.Seated.{Bridges, undriven, unseen, first_bridge, first_kept_tray, seat_of, seated_wire, seated}
+use Rattle.gg_bits.specs.Lists.{count_below, number_or}
 use Rattle.gg_cut_reference.proofs.FittingLemmas.SeatedLemmas.{seat-low, seat-source, seat-tray}
 use Rattle.gg_cut_reference.proofs.FittingLemmas.WireLemmas.{filter-alike, same-test}
 
 module _ (b : Bridges) where
-  at-least : (base own : ℕ) (o : Option ℕ) → b.first ≤ base → b.first ≤ own → b.first ≤ or_bridge base own o
+  at-least : (base own : ℕ) (o : Option ℕ) → b.first ≤ base → b.first ≤ own → b.first ≤ number_or base own o
   at-least base own None high low = low
   at-least base own (Some k) high low = omega (arith, high)
 
@@ -24,12 +25,12 @@ module _ (b : Bridges) where
           let p = m - b.first in
           let at : b.first + p ≡ m = omega (arith, le) in
           subst (λ n. b.first ≤ seat_of b n) at
-          (subst (λ n. b.first ≤ n) (sym (seat-source b p (omega (arith, less, le)))) (at-least (first_bridge b) (b.first + before (undriven b) p) (b.driver p) (omega arith) (omega arith)))
+          (subst (λ n. b.first ≤ n) (sym (seat-source b p (omega (arith, less, le)))) (at-least (first_bridge b) (b.first + count_below (undriven b) p) (b.driver p) (omega arith) (omega arith)))
       by (inr more) =
           let p = m - (b.first + b.ins) in
           let at : b.first + b.ins + p ≡ m = omega (arith, more) in
           subst (λ n. b.first ≤ seat_of b n) at
-          (subst (λ n. b.first ≤ n) (sym (seat-tray b p)) (at-least (first_bridge b) (first_kept_tray b + before (unseen b) p) (b.viewer p) (omega arith) (omega arith)))
+          (subst (λ n. b.first ≤ n) (sym (seat-tray b p)) (at-least (first_bridge b) (first_kept_tray b + count_below (unseen b) p) (b.viewer p) (omega arith) (omega arith)))
 
   -- no other machine gets the number of one below the first source
   pub seat-back : (m n : ℕ) → m < b.first → seat_of b n ≡ m → n ≡ m

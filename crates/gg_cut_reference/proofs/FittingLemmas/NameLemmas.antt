@@ -9,7 +9,8 @@ use Rattle.gg_partfile.specs.declared.request.Request.{Request}
 use Rattle.gg_cut_plan.specs.declared.listed.Listed.{Listed}
 use Rattle.gg_cut_plan.specs.Listed.{listed_of, instance_of}
 use Rattle.gg_cut_plan.specs.Plan.{cut_names, entry_at, machine_names, open_tray_names, tray_names}
-use Rattle.gg_cut_plan.specs.Seated.{Bridges, AreBridges, IsKept, before, undriven, unseen, first_bridge, machine_end, open_ins, open_outs, output_count, plan_bridges, seat_of}
+use Rattle.gg_cut_plan.specs.Seated.{Bridges, AreBridges, IsKept, undriven, unseen, first_bridge, machine_end, open_ins, open_outs, output_count, plan_bridges, seat_of}
+use Rattle.gg_bits.specs.Lists.{count_below}
 use Rattle.gg_cut_plan.proofs.TrayLemmas.{out-tray, halt-tray}
 use Rattle.gg_cut_reference.proofs.FittingLemmas.BridgeLemmas.{are-bridges}
 use Rattle.gg_cut_reference.proofs.FittingLemmas.OpenLemmas.{ins-count, in-place, outs-count, out-place, stop-before}
@@ -80,10 +81,10 @@ module _ (design : Ordered) (request : Request) where
         length-map request.units (instance_of design.tree),
       )
 
-  sources-count : length sources ≡ before (undriven bridges) bridges.ins
+  sources-count : length sources ≡ count_below (undriven bridges) bridges.ins
   sources-count = length-map (open_ins design.circuit request) in_name ∙ sym (ins-count design.circuit design.tree request)
 
-  trays-count : length trays ≡ before (unseen bridges) bridges.outs
+  trays-count : length trays ≡ count_below (unseen bridges) bridges.outs
   trays-count = omega (arith, length-append (map out_name outs) (map halt_name stops), length-map outs out_name, length-map stops halt_name, outs-count design.circuit design.tree request)
 
   front-count : suc (length (units ++ sources ++ trays)) ≡ first_bridge bridges
@@ -104,14 +105,14 @@ module _ (design : Ordered) (request : Request) where
       ∙ get_or-map bridge_name request.bridges k (record { name = []; sees = []; drives = [] }) [] lt
 
   -- the name of the tray of an out-signal that no bridge sees
-  tray-named : (p : ℕ) → p < length design.circuit.outs → unseen bridges p ≡ true → path_at trays (before (unseen bridges) p) ≡ path_at (tray_names design) p
+  tray-named : (p : ℕ) → p < length design.circuit.outs → unseen bridges p ≡ true → path_at trays (count_below (unseen bridges) p) ≡ path_at (tray_names design) p
   tray-named p lt keeps = by (cases_lt p (output_count design))
     where
-      by : (p < output_count design) ⊎ (output_count design ≤ p) → path_at trays (before (unseen bridges) p) ≡ path_at (tray_names design) p
+      by : (p < output_count design) ⊎ (output_count design ≤ p) → path_at trays (count_below (unseen bridges) p) ≡ path_at (tray_names design) p
       by (inl less) =
           let at = out-place design.circuit design.tree request p less keeps in
-          get_or_append_left (map out_name outs) (map halt_name stops) [] (before (unseen bridges) p) (let within = at.within in omega (arith, within, length-map outs out_name))
-          ∙ get_or-map out_name outs (before (unseen bridges) p) 0 [] at.within
+          get_or_append_left (map out_name outs) (map halt_name stops) [] (count_below (unseen bridges) p) (let within = at.within in omega (arith, within, length-map outs out_name))
+          ∙ get_or-map out_name outs (count_below (unseen bridges) p) 0 [] at.within
           ∙ ap out_name at.is
           ∙ out-tray design p less
       by (inr ge) =
@@ -121,7 +122,7 @@ module _ (design : Ordered) (request : Request) where
           let both = sym (length-append (take (output_count design) design.circuit.outs) stops) ∙ ap length (take-append-drop (output_count design) design.circuit.outs) in
           let inside : k < length stops = omega (arith, lt, ge, counted, both) in
           let place : length outs + k ≡ length (map out_name outs) + k = omega (arith, length-map outs out_name) in
-          ap (λ q. path_at trays (before (unseen bridges) q)) (sym whole)
+          ap (λ q. path_at trays (count_below (unseen bridges) q)) (sym whole)
           ∙ ap (path_at trays) (stop-before design.circuit design.tree request k ∙ place)
           ∙ get_or-append-add (map out_name outs) (map halt_name stops) k []
           ∙ get_or-map halt_name stops k 0 [] inside
@@ -145,23 +146,23 @@ module _ (design : Ordered) (request : Request) where
       by (low less is) = ap (path_at (machine_names design request listed)) is ∙ unit m less
       by (source p inside at keeps is) =
           let placed = in-place design.circuit design.tree request p inside keeps in
-          let within : before (undriven bridges) p < length sources = let low = placed.within in omega (arith, low, length-map (open_ins design.circuit request) in_name) in
-          let number : seat_of bridges m ≡ suc (length units + before (undriven bridges) p) = omega (arith, is, units-count) in
+          let within : count_below (undriven bridges) p < length sources = let low = placed.within in omega (arith, low, length-map (open_ins design.circuit request) in_name) in
+          let number : seat_of bridges m ≡ suc (length units + count_below (undriven bridges) p) = omega (arith, is, units-count) in
           let own : suc (length units + p) ≡ m = omega (arith, at, units-count) in
           ap (path_at (machine_names design request listed)) number
-          ∙ at-front (length units + before (undriven bridges) p) (omega (arith, within, length-append units sources, length-append (units ++ sources) trays))
-          ∙ at-source units sources trays (before (undriven bridges) p) within
-          ∙ get_or-map in_name (open_ins design.circuit request) (before (undriven bridges) p) 0 [] placed.within
+          ∙ at-front (length units + count_below (undriven bridges) p) (omega (arith, within, length-append units sources, length-append (units ++ sources) trays))
+          ∙ at-source units sources trays (count_below (undriven bridges) p) within
+          ∙ get_or-map in_name (open_ins design.circuit request) (count_below (undriven bridges) p) 0 [] placed.within
           ∙ ap in_name placed.is
           ∙ sym (get_or-map in_name design.circuit.ins p 0 [] inside)
           ∙ sym (at-source units all_sources (tray_names design) p (omega (arith, inside, length-map design.circuit.ins in_name)))
           ∙ ap (path_at (cut_names design request listed)) own
       by (tray p inside at keeps is) =
-          let number : seat_of bridges m ≡ suc (length units + length sources + before (unseen bridges) p) = omega (arith, is, units-count, sources-count) in
+          let number : seat_of bridges m ≡ suc (length units + length sources + count_below (unseen bridges) p) = omega (arith, is, units-count, sources-count) in
           let own : suc (length units + length all_sources + p) ≡ m = omega (arith, at, units-count, length-map design.circuit.ins in_name) in
           ap (path_at (machine_names design request listed)) number
-          ∙ at-front (length units + length sources + before (unseen bridges) p) (omega (arith, kept, number, front-count))
-          ∙ at-tray units sources trays (before (unseen bridges) p)
+          ∙ at-front (length units + length sources + count_below (unseen bridges) p) (omega (arith, kept, number, front-count))
+          ∙ at-tray units sources trays (count_below (unseen bridges) p)
           ∙ tray-named p inside keeps
           ∙ sym (at-tray units all_sources (tray_names design) p)
           ∙ ap (path_at (cut_names design request listed)) own

@@ -11,7 +11,8 @@ use Rattle.gg_partfile.specs.Size.{all_driven, all_seen}
 use Rattle.gg_partfile.specs.declared.request.BridgeEntry.{BridgeEntry}
 use Rattle.gg_partfile.specs.declared.request.Request.{Request}
 use Rattle.gg_cut_plan.specs.Listed.{is_among}
-use Rattle.gg_cut_plan.specs.Seated.{Bridges, before, undriven, unseen, lister, plan_bridges, open_ins, open_outs}
+use Rattle.gg_cut_plan.specs.Seated.{Bridges, undriven, unseen, lister, plan_bridges, open_ins, open_outs}
+use Rattle.gg_bits.specs.Lists.{count_below}
 use Rattle.gg_cut_reference.proofs.FittingLemmas.CountLemmas.{before-same, before-behind, filter-count, filter-place, IsAt}
 
 none-more : (o : Option ℕ) → is_none (option_map suc o) ≡ is_none o
@@ -45,13 +46,13 @@ module _ (circuit : FlatCircuit) (tree : InstanceTree) (request : Request) where
   pub undriven-is : (p : ℕ) → undriven bridges p ≡ in_test (value_at circuit.ins p)
   undriven-is p = lister-none (λ entry. entry.drives) request.bridges (path_at circuit.paths (value_at circuit.ins p))
 
-  ins-before : (n : ℕ) → before (undriven bridges) n ≡ before (λ p. in_test (value_at circuit.ins p)) n
+  ins-before : (n : ℕ) → count_below (undriven bridges) n ≡ count_below (λ p. in_test (value_at circuit.ins p)) n
   ins-before n = before-same (undriven bridges) (λ p. in_test (value_at circuit.ins p)) n (λ p lt. undriven-is p)
 
-  pub ins-count : before (undriven bridges) (length circuit.ins) ≡ length (open_ins circuit request)
+  pub ins-count : count_below (undriven bridges) (length circuit.ins) ≡ length (open_ins circuit request)
   ins-count = ins-before (length circuit.ins) ∙ filter-count in_test circuit.ins 0
 
-  pub in-place : (p : ℕ) → p < length circuit.ins → undriven bridges p ≡ true → IsAt (open_ins circuit request) (before (undriven bridges) p) 0 (value_at circuit.ins p)
+  pub in-place : (p : ℕ) → p < length circuit.ins → undriven bridges p ≡ true → IsAt (open_ins circuit request) (count_below (undriven bridges) p) 0 (value_at circuit.ins p)
   in-place p lt e = subst (λ n. IsAt (open_ins circuit request) n 0 (value_at circuit.ins p)) (sym (ins-before p)) (filter-place in_test circuit.ins 0 p lt (sym (undriven-is p) ∙ e))
 
   -- ---- outputs
@@ -70,46 +71,46 @@ module _ (circuit : FlatCircuit) (tree : InstanceTree) (request : Request) where
   first-test : (p : ℕ) → p < outputs → unseen bridges p ≡ out_test (value_at (take outputs circuit.outs) p)
   first-test p lt = unseen-is p lt ∙ ap out_test (sym (get_or-take outputs circuit.outs p 0 lt))
 
-  outs-before : (n : ℕ) → n ≤ outputs → before (unseen bridges) n ≡ before (λ p. out_test (value_at (take outputs circuit.outs) p)) n
+  outs-before : (n : ℕ) → n ≤ outputs → count_below (unseen bridges) n ≡ count_below (λ p. out_test (value_at (take outputs circuit.outs) p)) n
   outs-before n le = before-same (unseen bridges) (λ p. out_test (value_at (take outputs circuit.outs) p)) n (λ p lt. first-test p (omega (arith, lt, le)))
 
-  outputs-count : before (unseen bridges) outputs ≡ length (open_outs circuit outputs request)
+  outputs-count : count_below (unseen bridges) outputs ≡ length (open_outs circuit outputs request)
   outputs-count =
       outs-before outputs (omega arith)
-      ∙ ap (before (λ p. out_test (value_at (take outputs circuit.outs) p))) (sym (length-take-le outputs circuit.outs few))
+      ∙ ap (count_below (λ p. out_test (value_at (take outputs circuit.outs) p))) (sym (length-take-le outputs circuit.outs few))
       ∙ filter-count out_test (take outputs circuit.outs) 0
 
-  pub stop-before : (k : ℕ) → before (unseen bridges) (outputs + k) ≡ length (open_outs circuit outputs request) + k
+  pub stop-before : (k : ℕ) → count_below (unseen bridges) (outputs + k) ≡ length (open_outs circuit outputs request) + k
   stop-before k = before-behind (unseen bridges) outputs k (λ p ge lt. stop-unseen p ge) ∙ ap (λ n. n + k) outputs-count
 
-  pub outs-count : before (unseen bridges) (length circuit.outs) ≡ length (open_outs circuit outputs request) + length (drop outputs circuit.outs)
+  pub outs-count : count_below (unseen bridges) (length circuit.outs) ≡ length (open_outs circuit outputs request) + length (drop outputs circuit.outs)
   outs-count =
       let counted = length-take-le outputs circuit.outs few in
       let both = sym (length-append (take outputs circuit.outs) (drop outputs circuit.outs)) ∙ ap length (take-append-drop outputs circuit.outs) in
       let all : length circuit.outs ≡ outputs + length (drop outputs circuit.outs) = omega (arith, counted, both) in
-      ap (before (unseen bridges)) all ∙ stop-before (length (drop outputs circuit.outs))
+      ap (count_below (unseen bridges)) all ∙ stop-before (length (drop outputs circuit.outs))
 
-  pub out-place : (p : ℕ) → p < outputs → unseen bridges p ≡ true → IsAt (open_outs circuit outputs request) (before (unseen bridges) p) 0 (value_at circuit.outs p)
+  pub out-place : (p : ℕ) → p < outputs → unseen bridges p ≡ true → IsAt (open_outs circuit outputs request) (count_below (unseen bridges) p) 0 (value_at circuit.outs p)
   out-place p lt e =
-      subst (λ s. IsAt (open_outs circuit outputs request) (before (unseen bridges) p) 0 s) (get_or-take outputs circuit.outs p 0 lt)
+      subst (λ s. IsAt (open_outs circuit outputs request) (count_below (unseen bridges) p) 0 s) (get_or-take outputs circuit.outs p 0 lt)
       (subst (λ n. IsAt (open_outs circuit outputs request) n 0 (value_at (take outputs circuit.outs) p)) (sym (outs-before p (omega (arith, lt))))
       (filter-place out_test (take outputs circuit.outs) 0 p (omega (arith, lt, length-take-le outputs circuit.outs few)) (sym (first-test p lt) ∙ e)))
 
   -- the outputs that no bridge sees, and the stops behind them
-  pub outs-place : (p : ℕ) → p < length circuit.outs → unseen bridges p ≡ true → IsAt (open_outs circuit outputs request ++ drop outputs circuit.outs) (before (unseen bridges) p) 0 (value_at circuit.outs p)
+  pub outs-place : (p : ℕ) → p < length circuit.outs → unseen bridges p ≡ true → IsAt (open_outs circuit outputs request ++ drop outputs circuit.outs) (count_below (unseen bridges) p) 0 (value_at circuit.outs p)
   outs-place p lt e = by (cases_lt p outputs)
     where
-      by : (p < outputs) ⊎ (outputs ≤ p) → IsAt (open_outs circuit outputs request ++ drop outputs circuit.outs) (before (unseen bridges) p) 0 (value_at circuit.outs p)
+      by : (p < outputs) ⊎ (outputs ≤ p) → IsAt (open_outs circuit outputs request ++ drop outputs circuit.outs) (count_below (unseen bridges) p) 0 (value_at circuit.outs p)
       by (inl less) =
           let at = out-place p less e in
           record {
             within = let low = at.within in omega (arith, low, length-append (open_outs circuit outputs request) (drop outputs circuit.outs));
-            is = get_or_append_left (open_outs circuit outputs request) (drop outputs circuit.outs) 0 (before (unseen bridges) p) at.within ∙ at.is;
+            is = get_or_append_left (open_outs circuit outputs request) (drop outputs circuit.outs) 0 (count_below (unseen bridges) p) at.within ∙ at.is;
           }
       by (inr ge) =
           let k : ℕ = p - outputs in
           let whole : outputs + k ≡ p = omega (arith, ge) in
-          let number : before (unseen bridges) p ≡ length (open_outs circuit outputs request) + k = ap (before (unseen bridges)) (sym whole) ∙ stop-before k in
+          let number : count_below (unseen bridges) p ≡ length (open_outs circuit outputs request) + k = ap (count_below (unseen bridges)) (sym whole) ∙ stop-before k in
           let counted = length-take-le outputs circuit.outs few in
           let both = sym (length-append (take outputs circuit.outs) (drop outputs circuit.outs)) ∙ ap length (take-append-drop outputs circuit.outs) in
           record {

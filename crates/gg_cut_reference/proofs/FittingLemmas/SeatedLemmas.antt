@@ -2,7 +2,8 @@
 use Rattle.std.proofs.Common.{◌≡◌, ℕ, zero, suc, ◌+◌, ◌-◌, ◌<◌, ◌≤◌, Bool, true, false, nat_lt, if◌then◌else◌, Option, Some, None, refl, sym, ◌∙◌, ap, ap₂, subst, inl, inr, ◌⊎◌, arith}
 use Rattle.std.specs.Prelude.{is_none}
 use Rattle.std.proofs.lemmas.Bool.{cases_lt, lt-ltb, le-ltb}
-use Rattle.gg_cut_plan.specs.Seated.{Bridges, one_if, before, undriven, unseen, first_kept_tray, first_bridge, machine_end, or_bridge, giver_of, keeper_of, seat_of, AreBridges, IsKept}
+use Rattle.gg_cut_plan.specs.Seated.{Bridges, undriven, unseen, first_kept_tray, first_bridge, machine_end, giver_of, keeper_of, seat_of, AreBridges, IsKept}
+use Rattle.gg_bits.specs.Lists.{one_if, count_below, number_or}
 
 -- ---- how many are kept
 
@@ -10,27 +11,27 @@ one-or-none : (b : Bool) → one_if b ≤ 1
 one-or-none true = omega arith
 one-or-none false = omega arith
 
-before-more : (keeps : ℕ → Bool) (m k : ℕ) → before keeps m ≤ before keeps (m + k)
-before-more keeps m zero = let same : m + 0 ≡ m = omega arith in subst (λ n. before keeps m ≤ before keeps n) (sym same) (omega arith)
+before-more : (keeps : ℕ → Bool) (m k : ℕ) → count_below keeps m ≤ count_below keeps (m + k)
+before-more keeps m zero = let same : m + 0 ≡ m = omega arith in subst (λ n. count_below keeps m ≤ count_below keeps n) (sym same) (omega arith)
 before-more keeps m (suc k) =
     let rest = before-more keeps m k in
     let same : m + suc k ≡ suc (m + k) = omega arith in
-    subst (λ n. before keeps m ≤ before keeps n) (sym same) (omega (arith, rest))
+    subst (λ n. count_below keeps m ≤ count_below keeps n) (sym same) (omega (arith, rest))
 
-before-up : (keeps : ℕ → Bool) (m n : ℕ) → m ≤ n → before keeps m ≤ before keeps n
+before-up : (keeps : ℕ → Bool) (m n : ℕ) → m ≤ n → count_below keeps m ≤ count_below keeps n
 before-up keeps m n le =
     let same : m + (n - m) ≡ n = omega (arith, le) in
-    subst (λ n. before keeps m ≤ before keeps n) same (before-more keeps m (n - m))
+    subst (λ n. count_below keeps m ≤ count_below keeps n) same (before-more keeps m (n - m))
 
 -- a number that is kept is counted in what is behind it
-pub before-strict : (keeps : ℕ → Bool) (m n : ℕ) → keeps m ≡ true → m < n → before keeps m < before keeps n
+pub before-strict : (keeps : ℕ → Bool) (m n : ℕ) → keeps m ≡ true → m < n → count_below keeps m < count_below keeps n
 before-strict keeps m n kept lt =
     let up = before-up keeps (suc m) n (omega (arith, lt)) in
     let one : one_if (keeps m) ≡ 1 = ap one_if kept in
     omega (arith, up, one)
 
 -- two numbers that are kept and have as many before them are the same
-pub before-once : (keeps : ℕ → Bool) (m n : ℕ) → keeps m ≡ true → keeps n ≡ true → before keeps m ≡ before keeps n → m ≡ n
+pub before-once : (keeps : ℕ → Bool) (m n : ℕ) → keeps m ≡ true → keeps n ≡ true → count_below keeps m ≡ count_below keeps n → m ≡ n
 before-once keeps m n a b same = by (cases_lt m n) (cases_lt n m)
   where
     by : (m < n) ⊎ (n ≤ m) → (n < m) ⊎ (m ≤ n) → m ≡ n
@@ -62,8 +63,8 @@ seat-tray b p =
 -- what machine m was, and its new number: another machine, the source of an input, the tray of an output, or one whose place a bridge takes
 pub data Seat (b : Bridges) (m : ℕ) : Type 0 where
   low : m < b.first → seat_of b m ≡ m → Seat b m
-  source : (p : ℕ) → p < b.ins → m ≡ b.first + p → undriven b p ≡ true → seat_of b m ≡ b.first + before (undriven b) p → Seat b m
-  tray : (p : ℕ) → p < b.outs → m ≡ b.first + b.ins + p → unseen b p ≡ true → seat_of b m ≡ first_kept_tray b + before (unseen b) p → Seat b m
+  source : (p : ℕ) → p < b.ins → m ≡ b.first + p → undriven b p ≡ true → seat_of b m ≡ b.first + count_below (undriven b) p → Seat b m
+  tray : (p : ℕ) → p < b.outs → m ≡ b.first + b.ins + p → unseen b p ≡ true → seat_of b m ≡ first_kept_tray b + count_below (unseen b) p → Seat b m
   bridge : (k : ℕ) → k < b.count → seat_of b m ≡ first_bridge b + k → Seat b m
 
 module _ (b : Bridges) (are : AreBridges b) where
@@ -72,15 +73,15 @@ module _ (b : Bridges) (are : AreBridges b) where
     where
       driven : (p : ℕ) → p < b.ins → m ≡ b.first + p → (d : Option ℕ) → b.driver p ≡ d → Seat b m
       driven p inside is None e =
-          source p inside is (ap is_none e) (ap (seat_of b) is ∙ seat-source b p inside ∙ ap (or_bridge (first_bridge b) (b.first + before (undriven b) p)) e)
+          source p inside is (ap is_none e) (ap (seat_of b) is ∙ seat-source b p inside ∙ ap (number_or (first_bridge b) (b.first + count_below (undriven b) p)) e)
       driven p inside is (Some k) e =
-          bridge k (are.drivers p k e) (ap (seat_of b) is ∙ seat-source b p inside ∙ ap (or_bridge (first_bridge b) (b.first + before (undriven b) p)) e)
+          bridge k (are.drivers p k e) (ap (seat_of b) is ∙ seat-source b p inside ∙ ap (number_or (first_bridge b) (b.first + count_below (undriven b) p)) e)
 
       viewed : (p : ℕ) → p < b.outs → m ≡ b.first + b.ins + p → (d : Option ℕ) → b.viewer p ≡ d → Seat b m
       viewed p inside is None e =
-          tray p inside is (ap is_none e) (ap (seat_of b) is ∙ seat-tray b p ∙ ap (or_bridge (first_bridge b) (first_kept_tray b + before (unseen b) p)) e)
+          tray p inside is (ap is_none e) (ap (seat_of b) is ∙ seat-tray b p ∙ ap (number_or (first_bridge b) (first_kept_tray b + count_below (unseen b) p)) e)
       viewed p inside is (Some k) e =
-          bridge k (are.viewers p k e) (ap (seat_of b) is ∙ seat-tray b p ∙ ap (or_bridge (first_bridge b) (first_kept_tray b + before (unseen b) p)) e)
+          bridge k (are.viewers p k e) (ap (seat_of b) is ∙ seat-tray b p ∙ ap (number_or (first_bridge b) (first_kept_tray b + count_below (unseen b) p)) e)
 
       by : (m < b.first) ⊎ (b.first ≤ m) → (m < b.first + b.ins) ⊎ (b.first + b.ins ≤ m) → Seat b m
       by (inl less) other = low less (seat-low b m less)
@@ -118,7 +119,7 @@ module _ (b : Bridges) (are : AreBridges b) where
 
 -- ---- no bridge
 
-before-all : (keeps : ℕ → Bool) (n : ℕ) → ((p : ℕ) → keeps p ≡ true) → before keeps n ≡ n
+before-all : (keeps : ℕ → Bool) (n : ℕ) → ((p : ℕ) → keeps p ≡ true) → count_below keeps n ≡ n
 before-all keeps zero all = refl
 before-all keeps (suc n) all =
     let rest = before-all keeps n all in
@@ -129,10 +130,10 @@ before-all keeps (suc n) all =
 pub seat-plain : (b : Bridges) → ((p : ℕ) → b.driver p ≡ None) → ((p : ℕ) → b.viewer p ≡ None) → (m : ℕ) → seat_of b m ≡ m
 seat-plain b none neither m = by (cases_lt m b.first) (cases_lt m (b.first + b.ins))
   where
-    source : (p : ℕ) → before (undriven b) p ≡ p
+    source : (p : ℕ) → count_below (undriven b) p ≡ p
     source p = before-all (undriven b) p (λ q. ap is_none (none q))
 
-    tray : (p : ℕ) → before (unseen b) p ≡ p
+    tray : (p : ℕ) → count_below (unseen b) p ≡ p
     tray p = before-all (unseen b) p (λ q. ap is_none (neither q))
 
     by : (m < b.first) ⊎ (b.first ≤ m) → (m < b.first + b.ins) ⊎ (b.first + b.ins ≤ m) → seat_of b m ≡ m
@@ -141,9 +142,9 @@ seat-plain b none neither m = by (cases_lt m b.first) (cases_lt m (b.first + b.i
         let p = m - b.first in
         let at : b.first + p ≡ m = omega (arith, ge) in
         subst (λ n. seat_of b n ≡ n) at
-        (seat-source b p (omega (arith, ge, less)) ∙ ap (or_bridge (first_bridge b) (b.first + before (undriven b) p)) (none p) ∙ ap (λ n. b.first + n) (source p))
+        (seat-source b p (omega (arith, ge, less)) ∙ ap (number_or (first_bridge b) (b.first + count_below (undriven b) p)) (none p) ∙ ap (λ n. b.first + n) (source p))
     by (inr ge) (inr more) =
         let p = m - (b.first + b.ins) in
         let at : b.first + b.ins + p ≡ m = omega (arith, more) in
         subst (λ n. seat_of b n ≡ n) at
-        (seat-tray b p ∙ ap (or_bridge (first_bridge b) (first_kept_tray b + before (unseen b) p)) (neither p) ∙ ap₂ (λ i n. b.first + i + n) (source b.ins) (tray p))
+        (seat-tray b p ∙ ap (number_or (first_bridge b) (first_kept_tray b + count_below (unseen b) p)) (neither p) ∙ ap₂ (λ i n. b.first + i + n) (source b.ins) (tray p))

@@ -17,7 +17,8 @@ use Rattle.gg_cut_plan.specs.Bridges.{Models, bridge_faults}
 use Rattle.gg_cut_plan.specs.Channels.{channel_names}
 use Rattle.gg_cut_plan.specs.Direct.{Hub, is_driven, is_piped, plan_hub}
 use Rattle.gg_cut_plan.specs.declared.listed.Listed.{Listed}
-use Rattle.gg_cut_plan.specs.Fault.{first_fault, first_of, or_else}
+use Rattle.gg_cut_plan.specs.Fault.{first_fault}
+use Rattle.gg_bits.specs.Lists.{first_of, or_else}
 use Rattle.gg_cut_plan.specs.Listed.{listed_of}
 use Rattle.gg_cut_plan.specs.Seated.{output_count}
 use Rattle.gg_cut_split.specs.closed.Apart.{AreApart}

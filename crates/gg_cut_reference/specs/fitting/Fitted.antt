@@ -5,7 +5,7 @@ use Rattle.gg_flat.specs.Circuit.{FlatCircuit}
 use Rattle.gg_partfile.specs.declared.request.BridgeEntry.{BridgeEntry}
 use Rattle.gg_bridge.specs.All.{CanAttachEach}
 use Rattle.gg_cut_plan.specs.Bridges.{Models, bridge_faults}
-use Rattle.gg_cut_plan.specs.Fault.{first_of}
+use Rattle.gg_bits.specs.Lists.{first_of}
 use Rattle.gg_cut_reference.specs.fitting.Fitting.{AreFitting, AreModels, ArePortsAt, attached_of}
 
 -- Entries without a fault name models, list ports of their types, and list none twice.

@@ -8,13 +8,14 @@ use Rattle.gg_flat_tree.specs.Tree.{InstanceTree, path_at}
 use Rattle.gg_partfile.specs.Size.{all_driven, all_seen}
 use Rattle.gg_partfile.specs.declared.request.Request.{Request}
 use Rattle.gg_cut_plan.specs.Listed.{is_among}
-use Rattle.gg_cut_plan.specs.Seated.{before, open_ins, open_outs, plan_bridges, undriven, unseen}
+use Rattle.gg_cut_plan.specs.Seated.{open_ins, open_outs, plan_bridges, undriven, unseen}
+use Rattle.gg_bits.specs.Lists.{count_below}
 
 -- The out-signals that no bridge sees are counted: the outputs among them, and all stops.
 abbrev pub UnseenAreCounted : Type 0
 UnseenAreCounted =
     (circuit : FlatCircuit) (tree : InstanceTree) (request : Request)
-    → before (unseen (plan_bridges circuit tree request)) (length circuit.outs) ≡ length (open_outs circuit (length circuit.outs - length tree.stops) request) + length (drop (length circuit.outs - length tree.stops) circuit.outs)
+    → count_below (unseen (plan_bridges circuit tree request)) (length circuit.outs) ≡ length (open_outs circuit (length circuit.outs - length tree.stops) request) + length (drop (length circuit.outs - length tree.stops) circuit.outs)
 
 -- No bridge drives an input whose path no entry lists, and one drives each other input.
 abbrev pub UndrivenAreUnlisted : Type 0
@@ -37,8 +38,8 @@ UndrivenHaveAPlace =
     -- No bridge drives input p.
     → p < length circuit.ins → undriven (plan_bridges circuit tree request) p ≡ true
     -- Its place is how many of the inputs before it are left, and the input is found there.
-    → (before (undriven (plan_bridges circuit tree request)) p < length (open_ins circuit request))
-    × (value_at (open_ins circuit request) (before (undriven (plan_bridges circuit tree request)) p) ≡ value_at circuit.ins p)
+    → (count_below (undriven (plan_bridges circuit tree request)) p < length (open_ins circuit request))
+    × (value_at (open_ins circuit request) (count_below (undriven (plan_bridges circuit tree request)) p) ≡ value_at circuit.ins p)
 
 -- An output that no bridge sees has a place among those that are left.
 abbrev pub UnseenHaveAPlace : Type 0
@@ -47,15 +48,15 @@ UnseenHaveAPlace =
     -- The out-signal p is an output, and no bridge sees it.
     → p < length circuit.outs - length tree.stops → unseen (plan_bridges circuit tree request) p ≡ true
     -- Its place is how many of the outputs before it are left, and the output is found there.
-    → (before (unseen (plan_bridges circuit tree request)) p < length (open_outs circuit (length circuit.outs - length tree.stops) request))
-    × (value_at (open_outs circuit (length circuit.outs - length tree.stops) request) (before (unseen (plan_bridges circuit tree request)) p) ≡ value_at circuit.outs p)
+    → (count_below (unseen (plan_bridges circuit tree request)) p < length (open_outs circuit (length circuit.outs - length tree.stops) request))
+    × (value_at (open_outs circuit (length circuit.outs - length tree.stops) request) (count_below (unseen (plan_bridges circuit tree request)) p) ≡ value_at circuit.outs p)
 
 -- No bridge sees the k-th stop, and it has the k-th place behind the outputs that are left.
 abbrev pub StopsStandBehind : Type 0
 StopsStandBehind =
     (circuit : FlatCircuit) (tree : InstanceTree) (request : Request) (k : ℕ)
     → (unseen (plan_bridges circuit tree request) (length circuit.outs - length tree.stops + k) ≡ true)
-    × (before (unseen (plan_bridges circuit tree request)) (length circuit.outs - length tree.stops + k) ≡ length (open_outs circuit (length circuit.outs - length tree.stops) request) + k)
+    × (count_below (unseen (plan_bridges circuit tree request)) (length circuit.outs - length tree.stops + k) ≡ length (open_outs circuit (length circuit.outs - length tree.stops) request) + k)
 
 -- An out-signal that no bridge sees, output or stop, is found at its place among the outputs that are left and the stops behind them.
 abbrev pub LeftAreFound : Type 0
@@ -64,4 +65,4 @@ LeftAreFound =
     -- No bridge sees the out-signal p.
     → p < length circuit.outs → unseen (plan_bridges circuit tree request) p ≡ true
     -- Its place is how many of those before it no bridge sees.
-    → value_at (open_outs circuit (length circuit.outs - length tree.stops) request ++ drop (length circuit.outs - length tree.stops) circuit.outs) (before (unseen (plan_bridges circuit tree request)) p) ≡ value_at circuit.outs p
+    → value_at (open_outs circuit (length circuit.outs - length tree.stops) request ++ drop (length circuit.outs - length tree.stops) circuit.outs) (count_below (unseen (plan_bridges circuit tree request)) p) ≡ value_at circuit.outs p

@@ -8,7 +8,8 @@ ghost use Rattle.gg_partfile.specs.declared.request.Request.{Request};
 ghost use Rattle.gg_cut_plan.specs.Listed.{listed_of};
 ghost use Rattle.gg_cut_plan.specs.declared.listed.Listed.{Listed};
 ghost use Rattle.gg_cut_plan.specs.Plan.{machine_names};
-ghost use Rattle.gg_cut_plan.specs.Seated.{Bridges, AreBridges, IsKept, IsSeen, IsDriven, before, undriven, unseen, bridges_of, plan_bridges, first_bridge, open_ins, seat_of, machine_end};
+ghost use Rattle.gg_cut_plan.specs.Seated.{Bridges, AreBridges, IsKept, IsSeen, IsDriven, undriven, unseen, bridges_of, plan_bridges, first_bridge, open_ins, seat_of, machine_end};
+ghost use Rattle.gg_bits.specs.Lists.{count_below};
 ghost use Rattle.gg_cut_reference.specs.fitting.Fitted.{FaultlessAreFitting, FittingCanAttach};
 ghost use Rattle.gg_cut_reference.specs.fitting.Left.{LeftAreFound, StopsStandBehind, UndrivenAreUnlisted, UndrivenHaveAPlace, UnseenAreCounted, UnseenAreUnlisted, UnseenHaveAPlace};
 ghost use Rattle.gg_cut_reference.specs.fitting.Listers.{DriversListTheirInputs, ListedInputsAreDriven, ListedOutputsAreSeen, ViewersListTheirOutputs};
@@ -60,7 +61,7 @@ pub fn bridges_known()
 /// Counts and places of the ports that no bridge has. The top's first out-signals, as many as there are without the stops, are its
 /// outputs. What stands behind some ports that are kept is found again by their number.
 pub fn open_ports()
-    ensures ins { (circuit : FlatCircuit) (tree : InstanceTree) (request : Request) → before (undriven (plan_bridges circuit tree request)) (length circuit.ins) ≡ length (open_ins circuit request) }
+    ensures ins { (circuit : FlatCircuit) (tree : InstanceTree) (request : Request) → count_below (undriven (plan_bridges circuit tree request)) (length circuit.ins) ≡ length (open_ins circuit request) }
     ensures outs { UnseenAreCounted }
     ensures undriven { UndrivenAreUnlisted }
     ensures unseen { UnseenAreUnlisted }
@@ -68,7 +69,7 @@ pub fn open_ports()
     ensures output { UnseenHaveAPlace }
     ensures stop { StopsStandBehind }
     ensures left { LeftAreFound }
-    ensures found { (keeps : ℕ → Bool) (n k : ℕ) → k < before keeps n → (p : ℕ) × (p < n) × (keeps p ≡ true) × (before keeps p ≡ k) }
+    ensures found { (keeps : ℕ → Bool) (n k : ℕ) → k < count_below keeps n → (p : ℕ) × (p < n) × (keeps p ≡ true) × (count_below keeps p ≡ k) }
 {}
 
 /// There is a name for each machine of the plan. A machine whose place no bridge takes keeps its name, and those of the bridges are

@@ -9,7 +9,9 @@ use Rattle.std.proofs.lemmas.Option.{same_Some}
 use Rattle.std.proofs.lemmas.Slice.Eq.{bytes_eq-Decides}
 use Rattle.gg_flat_tree.specs.Tree.{InstanceTree, path_at}
 use Rattle.gg_flat.proofs.ListLemmas.{here, further, Contains-cases}
-use Rattle.gg_cut_plan.specs.Fault.{or_else, first_clash, same_path, entries, unshared, module_of, other_in, other_module}
+use Rattle.gg_cut_plan.specs.Fault.{first_clash, same_path, unshared, module_of, other_in, other_module}
+use Rattle.gg_bits.specs.Lists.{or_else}
+use Rattle.gg_partfile.specs.Size.{entries}
 use Rattle.gg_cut_plan.specs.Hosts.{machine_of, least_machine, group_of, leader_in, leader}
 use Rattle.gg_cut_plan.specs.Listed.{is_among, place_of, unit_or_hub}
 use Rattle.gg_cut_plan.proofs.FindLemmas.{first_clash-append}

@@ -10,7 +10,8 @@ use Rattle.gg_order.specs.Design.{Ordered, IsDesign}
 use Rattle.gg_partfile.specs.declared.request.Request.{Request}
 use Rattle.gg_cut_plan.specs.declared.listed.Listed.{Listed}
 use Rattle.gg_cut_plan.specs.declared.fault.CutFault.TheVariants.{UnknownUnit, Doubled, OtherModule, Unmatched}
-use Rattle.gg_cut_plan.specs.Fault.{first_fault, entry_faults, unshared, repeated, entries, other_module, unmatched}
+use Rattle.gg_cut_plan.specs.Fault.{first_fault, entry_faults, unshared, repeated, other_module, unmatched}
+use Rattle.gg_partfile.specs.Size.{entries}
 use Rattle.gg_cut_plan.specs.Hosts.{leader}
 use Rattle.gg_cut_plan.specs.Listed.{is_among, instance_of, listed_of}
 use Rattle.gg_cut_plan.specs.Machines.{unit_number}

@@ -18,7 +18,9 @@ use Rattle.gg_cut_plan.specs.Listed.{is_among, is_lower, is_instance_path, insta
 use Rattle.gg_cut_plan.specs.Channels.{channel_names, capacity_of}
 use Rattle.gg_cut_plan.specs.Direct.{plan_routes, plan_signals}
 use Rattle.gg_cut_plan.specs.declared.wires.Wire.{Wire}
-use Rattle.gg_cut_plan.specs.Fault.{unknown_unit, overlap, overlapping, first_clash, out_of_range, range_fault, too_many_units, too_many_channels, most_units, most_channels, first_of, same_path, repeated, ratio_fault, entry_faults, channel_faults, pipe_faults, clock_faults, later_faults, first_fault}
+use Rattle.gg_cut_plan.specs.Fault.{unknown_unit, overlap, overlapping, first_clash, out_of_range, range_fault, too_many_units, too_many_channels, same_path, repeated, ratio_fault, entry_faults, channel_faults, pipe_faults, clock_faults, later_faults, first_fault}
+use Rattle.gg_bits.specs.Limits.{most_units, most_channels, capacity_limit}
+use Rattle.gg_bits.specs.Lists.{first_of}
 use Rattle.gg_cut_plan.proofs.PathLemmas.{first_place-Some}
 use Rattle.gg_cut_plan.proofs.RangeLemmas.{filter-below}
 use Rattle.gg_cut_plan.proofs.FindLemmas.{none-at, none-front, none-back, none-map}
@@ -27,7 +29,6 @@ use Rattle.gg_cut_split.specs.closed.Apart.{AreFew}
 use Rattle.gg_cut_split.proofs.ClosedLemmas.ListLemmas.{AllPairs-map}
 use Rattle.std.specs.Prelude.{bytes_eq}
 use Rattle.std.proofs.lemmas.List.Elements.{All-map}
-use Rattle.gg_bits.specs.Limits.{capacity_limit}
 
 -- ---- nothing is found
 

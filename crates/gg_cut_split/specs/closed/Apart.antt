@@ -8,7 +8,7 @@ use Rattle.gg_cut_plan.specs.Listed.{lies, listed_of, owner_of}
 use Rattle.gg_cut_plan.specs.declared.listed.Listed.{Listed}
 use Rattle.gg_cut_plan.specs.declared.wires.Wire.{Wire}
 use Rattle.gg_cut_plan.specs.Direct.{plan_routes}
-use Rattle.gg_cut_plan.specs.Fault.{most_units, most_channels}
+use Rattle.gg_bits.specs.Limits.{most_units, most_channels}
 
 -- Units are instances below the top, and none of them is in another. Memories are the tree's, in its order.
 pub record AreApart (tree : InstanceTree) (listed : Listed) : Type 0 where

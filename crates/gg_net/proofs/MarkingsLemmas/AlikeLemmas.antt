@@ -7,7 +7,8 @@ use Rattle.gg_net.specs.declared.event.Event.{Event}
 use Rattle.gg_net.specs.declared.event.Event.TheVariants.{Latch, Fire, Serve, Finish}
 use Rattle.gg_net.specs.declared.event.StepRefusal.{StepRefusal}
 use Rattle.gg_net.specs.declared.event.StepRefusal.TheVariants.{Stranger, Ended, Latched, Fired, NoToken, NeedsInput, Full, Order, Unfired}
-use Rattle.gg_net.specs.Refusal.{Turn, Facts, ins_of_machine, outs_of_machine, or_next, unless, naming, first_without, needing, not_due, unserved, refusal, latch_refusal, fire_refusal, serve_refusal, finish_refusal}
+use Rattle.gg_net.specs.Refusal.{Turn, Facts, ins_of_machine, outs_of_machine, unless, naming, first_without, needing, not_due, unserved, refusal, latch_refusal, fire_refusal, serve_refusal, finish_refusal}
+use Rattle.gg_bits.specs.Lists.{or_else}
 use Rattle.gg_net.proofs.RowLemmas.{latch-stranger, fire-stranger, serve-stranger, finish-stranger}
 
 -- ---- searches
@@ -67,7 +68,7 @@ module _ (a b : Facts) (alike : AreAlike a b) where
 
   due-same : (m p : ℕ) (o : Option Turn) → m < a.machines → b.due m ≡ o → not_due a m p o ≡ not_due b m p o
   due-same m p None there is = ap (λ n. Some (Order n)) (alike.ports m)
-  due-same m p (Some turn) there is = ap (or_next (unless (turn.number == p) (Order turn.number))) (needing-same turn.fields turn.fields refl (alike.fields m turn there is))
+  due-same m p (Some turn) there is = ap (or_else (unless (turn.number == p) (Order turn.number))) (needing-same turn.fields turn.fields refl (alike.fields m turn there is))
 
   pub needs-same : (c : ℕ) → c < a.channels → first_without a.taken (a.needs c) ≡ first_without b.taken (b.needs c)
   needs-same c lt = ap (first_without a.taken) (alike.needs c lt) ∙ first-alike a.taken b.taken (b.needs c) (λ k any k_lt. alike.taken _ (alike.needed c lt k any k_lt))
@@ -75,7 +76,7 @@ module _ (a b : Facts) (alike : AreAlike a b) where
   -- ---- the rows
 
   abbrev latch_by : ℕ → ℕ → Bool → Bool → ℕ → Option StepRefusal
-  latch_by c n below taken held = or_next (unless (nat_lt c n) Stranger) (or_next (unless below Ended) (or_next (unless (not taken) Latched) (unless (nat_lt 0 held) (NoToken c))))
+  latch_by c n below taken held = or_else (unless (nat_lt c n) Stranger) (or_else (unless below Ended) (or_else (unless (not taken) Latched) (unless (nat_lt 0 held) (NoToken c))))
 
   same-latch : (c : ℕ) → latch_refusal a c ≡ latch_refusal b c
   same-latch c =
@@ -89,7 +90,7 @@ module _ (a b : Facts) (alike : AreAlike a b) where
       (cases_lt c a.channels)
 
   abbrev fire_by : ℕ → ℕ → Bool → Bool → Option StepRefusal → ℕ → ℕ → Option StepRefusal
-  fire_by c n below given needs held capacity = or_next (unless (nat_lt c n) Stranger) (or_next (unless below Ended) (or_next (unless (not given) Fired) (or_next needs (unless (nat_lt held capacity) (Full c held)))))
+  fire_by c n below given needs held capacity = or_else (unless (nat_lt c n) Stranger) (or_else (unless below Ended) (or_else (unless (not given) Fired) (or_else needs (unless (nat_lt held capacity) (Full c held)))))
 
   same-fire : (c : ℕ) → fire_refusal a c ≡ fire_refusal b c
   same-fire c =
@@ -105,7 +106,7 @@ module _ (a b : Facts) (alike : AreAlike a b) where
       (cases_lt c a.channels)
 
   abbrev serve_by : ℕ → ℕ → Bool → Option ℕ → Option StepRefusal → Option StepRefusal
-  serve_by p n below first due = or_next (unless (nat_lt p n) Stranger) (or_next (unless below Ended) (or_next (naming Unfired first) due))
+  serve_by p n below first due = or_else (unless (nat_lt p n) Stranger) (or_else (unless below Ended) (or_else (naming Unfired first) due))
 
   same-serve : (m p : ℕ) → serve_refusal a m p ≡ serve_refusal b m p
   same-serve m p =
@@ -120,7 +121,7 @@ module _ (a b : Facts) (alike : AreAlike a b) where
       (cases_lt p (a.ports m))
 
   abbrev finish_by : ℕ → ℕ → Bool → Option ℕ → Option Turn → Option ℕ → Option StepRefusal
-  finish_by m n below first due last = or_next (unless (nat_lt m n) Stranger) (or_next (unless below Ended) (or_next (naming Unfired first) (or_next (unserved due) (naming NeedsInput last))))
+  finish_by m n below first due last = or_else (unless (nat_lt m n) Stranger) (or_else (unless below Ended) (or_else (naming Unfired first) (or_else (unserved due) (naming NeedsInput last))))
 
   same-finish : (m : ℕ) → finish_refusal a m ≡ finish_refusal b m
   same-finish m =

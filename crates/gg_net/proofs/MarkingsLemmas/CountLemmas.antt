@@ -7,18 +7,14 @@ use Rattle.std.proofs.Math.ListN as exact
 use Rattle.gg_flat.specs.Line.{value_at}
 use Rattle.gg_flat.specs.Streams.{Flow}
 use Rattle.gg_node.specs.Machine.{Machine, no_machine, machine_at}
-use Rattle.gg_net.specs.Network.{Network, wire_at, queue_at, given_by, got_by, entered_by, kind_of, frame_of}
+use Rattle.gg_net.specs.Network.{Network, wire_at, queue_at, and_one, got_by, entered_by, kind_of, frame_of}
 use Rattle.gg_net.specs.Network as network
 use Rattle.gg_net.specs.Step.{latch_of, flag_of}
 use Rattle.gg_net.specs.Kept.{Kept, BetweenAt, list_at}
-use Rattle.gg_net.specs.markings.Marking.{Layout, Marking, is_set, and_one, puts, entered, takes, held}
+use Rattle.gg_net.specs.markings.Marking.{Layout, Marking, is_set, puts, entered, takes, held}
 use Rattle.gg_net.specs.markings.Fits.{HasLayout, marking_of}
 
 -- ---- over plain variables
-
-given-counts : (cycle : ℕ) (flag : Bool) → given_by cycle flag ≡ and_one cycle flag
-given-counts cycle false = refl
-given-counts cycle true = refl
 
 got-counts : (cycle : ℕ) (latch : Option ℕ) → got_by cycle latch ≡ and_one cycle (is_some latch)
 got-counts cycle None = refl
@@ -51,8 +47,7 @@ module _ (net : Network) where
 
     pub puts-are : (c : ℕ) → c < length net.wires → network.puts net c ≡ puts layout marking c
     puts-are c known =
-        given-counts (machine_at net.machines (wire_at net.wires c).producer).cycle (flag_of net c)
-        ∙ ap (λ b. and_one (machine_at net.machines (wire_at net.wires c).producer).cycle b) (sym (given-at c known))
+        ap (λ b. and_one (machine_at net.machines (wire_at net.wires c).producer).cycle b) (sym (given-at c known))
         ∙ ap (λ n. and_one n (is_set marking.given c)) (sym (cycle-at (wire_at net.wires c).producer))
         ∙ ap (λ m. and_one (value_at marking.cycles m) (is_set marking.given c)) (sym (has.link c known).producer)
 

@@ -4,7 +4,8 @@ use Rattle.std.specs.Prelude.{◌⊎◌, All, nat_lt, slice_index_or}
 use Rattle.std.proofs.lemmas.Bool.{lt-ltb, le-ltb}
 use Rattle.std.proofs.lemmas.List.FromFn.{length-map-range_with_len, get_or-map-range_with_len}
 use Rattle.gg_flat.specs.Line.{value_at}
-use Rattle.gg_net.specs.markings.Marking.{Layout, link_at, turns_at, is_set, and_one}
+use Rattle.gg_net.specs.markings.Marking.{Layout, link_at, turns_at, is_set}
+use Rattle.gg_net.specs.Network.{and_one}
 use Rattle.gg_net.specs.markings.Counts.{Counts, counts_of, dues, WasTaken, HasServed, IsAllowed, AreSame, CanRun, IsMarkingOf, marking_by}
 
 -- counts that agree with allowed counts are allowed

@@ -5,7 +5,8 @@ use Rattle.std.specs.Prelude.{◌⊎◌, replicate}
 use Rattle.std.proofs.lemmas.List.{length-replicate, get_or-replicate}
 use Rattle.gg_flat.specs.Line.{value_at}
 use Rattle.gg_net.specs.declared.event.Event.{Event}
-use Rattle.gg_net.specs.markings.Marking.{Layout, Marking, link_at, and_one, puts, held, opening_marking, refusal}
+use Rattle.gg_net.specs.markings.Marking.{Layout, Marking, link_at, puts, held, opening_marking, refusal}
+use Rattle.gg_net.specs.Network.{and_one}
 use Rattle.gg_net.specs.markings.Counts.{Counts, counts_of, early, dues, HasServed, IsAllowed, HasBegun, AreAtMost, CanRun, IsMarkingOf}
 use Rattle.gg_net.specs.markings.Measure.{left, left_in, left_at, all_dues, sum_below}
 use Rattle.gg_net.specs.markings.Leads.{Leads, IsStuck, end_marking}

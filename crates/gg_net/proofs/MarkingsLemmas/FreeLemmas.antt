@@ -10,7 +10,8 @@ use Rattle.gg_net.specs.declared.event.Event.TheVariants.{Latch, Fire, Serve, Fi
 use Rattle.gg_net.specs.Refusal.{Turn, Facts, first_without, ins_of_machine, outs_of_machine}
 use Rattle.gg_net.proofs.FindLemmas.{find-none, found-skips, chosen-fail}
 use Rattle.gg_net.proofs.RowLemmas.{LatchGoes, latch-goes, goes-latch, FireGoes, fire-goes, goes-fire, ServeGoes, serve-goes, goes-serve, FinishGoes, finish-goes, goes-finish}
-use Rattle.gg_net.specs.markings.Marking.{Layout, Marking, link_at, turns_at, is_set, and_one, port_count, due_turn, marked_facts, refusal}
+use Rattle.gg_net.specs.markings.Marking.{Layout, Marking, link_at, turns_at, is_set, port_count, due_turn, marked_facts, refusal}
+use Rattle.gg_net.specs.Network.{and_one}
 use Rattle.gg_net.specs.markings.Counts.{Counts, counts_of, early, dues, WasTaken, HasGiven, HasServed, IsAllowed, CanRun}
 use Rattle.gg_net.proofs.MarkingsLemmas.Free.{FreeLatch, FreeFire, FreeServe, FreeFinish, Free}
 use Rattle.gg_net.proofs.MarkingsLemmas.EarlyLemmas.{entered-is}

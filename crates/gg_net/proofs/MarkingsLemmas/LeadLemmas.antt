@@ -8,7 +8,8 @@ use Rattle.gg_flat.specs.Line.{value_at}
 use Rattle.gg_net.specs.declared.event.Event.{Event}
 use Rattle.gg_net.specs.declared.event.Event.TheVariants.{Latch, Fire, Serve, Finish}
 use Rattle.gg_net.specs.Refusal.{Turn}
-use Rattle.gg_net.specs.markings.Marking.{Layout, Marking, link_at, is_set, and_one, due_turn, refusal, after}
+use Rattle.gg_net.specs.markings.Marking.{Layout, Marking, link_at, is_set, due_turn, refusal, after}
+use Rattle.gg_net.specs.Network.{and_one}
 use Rattle.gg_net.proofs.MarkingsLemmas.ChangeLemmas.{same-parts}
 use Rattle.gg_net.specs.markings.Counts.{Counts, counts_of, dues, IsAllowed, AreAtMost, AreSame, IsBehind, Raises, CanRun, IsMarkingOf}
 use Rattle.gg_net.proofs.MarkingsLemmas.Free.{FreeServe, Free}

@@ -7,7 +7,7 @@ use Rattle.gg_flat.specs.Streams.{Flow}
 use Rattle.gg_node.specs.Machine.{Machine, no_machine, machine_at, latch_at, flag_at}
 use Rattle.gg_node.proofs.EmptyLemmas.{empty-after}
 use Rattle.gg_net.specs.declared.shape.Wire.{Wire}
-use Rattle.gg_net.specs.Network.{Network, wire_at, given_by, puts, kind_of, frame_of}
+use Rattle.gg_net.specs.Network.{Network, wire_at, and_one, puts, kind_of, frame_of}
 use Rattle.gg_net.specs.Net.{IsOpening, opening_net}
 use Rattle.gg_net.proofs.StepLemmas.{clear-after}
 use Rattle.gg_net.specs.markings.Marking.{Layout, opening_marking}
@@ -45,7 +45,7 @@ module _ (flow : Flow) (machines : List Machine) (wires : List Wire) (end : ℕ)
   pub none-put : (c : ℕ) → (wire_at wires c).producer < length machines → puts net c ≡ flow.begin
   none-put c there =
       let x : Machine = machine_at machines (wire_at wires c).producer in
-      ap (given_by x.cycle) (no-flag (wire_at wires c).producer (wire_at wires c).out) ∙ (opening (wire_at wires c).producer there).cycle
+      ap (and_one x.cycle) (no-flag (wire_at wires c).producer (wire_at wires c).out) ∙ (opening (wire_at wires c).producer there).cycle
 
   pub opens-so : (layout : Layout) → HasLayout (frame_of net) layout → marking_of net ≡ opening_marking layout flow.begin
   opens-so layout has =

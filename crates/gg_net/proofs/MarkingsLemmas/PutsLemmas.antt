@@ -12,7 +12,7 @@ use Rattle.gg_node.specs.Step.{with_latch, with_flag, with_served, finished}
 use Rattle.gg_net.specs.declared.event.Event.{Event}
 use Rattle.gg_net.specs.declared.event.Event.TheVariants.{Latch, Fire, Serve, Finish}
 use Rattle.gg_net.specs.declared.shape.Wire.{Wire}
-use Rattle.gg_net.specs.Network.{Network, Frame, wire_at, queue_at, consumer_of, producer_of, given_by, entered_by, puts, entered, kind_of, frame_of}
+use Rattle.gg_net.specs.Network.{Network, Frame, wire_at, queue_at, consumer_of, producer_of, and_one, entered_by, puts, entered, kind_of, frame_of}
 use Rattle.gg_net.specs.Step.{Step, front_of, after_latch, after_fire, after_serve, after_finish}
 use Rattle.gg_net.proofs.Can.{CanLatch, CanFire, CanServe, CanFinish}
 use Rattle.gg_net.proofs.WireLemmas.{one-out}
@@ -36,7 +36,7 @@ told-same told machines m y there k same =
     (cases_eq k m)
 
 -- an out has given no more tokens than there are cycles to do
-given-within : (cycle end : ℕ) (flag : Bool) → cycle ≤ end → (flag ≡ true → cycle < end) → given_by cycle flag ≤ end
+given-within : (cycle end : ℕ) (flag : Bool) → cycle ≤ end → (flag ≡ true → cycle < end) → and_one cycle flag ≤ end
 given-within cycle end false within lt = within
 given-within cycle end true within lt = omega (arith, lt refl)
 
@@ -51,7 +51,7 @@ module _ (flow : Flow) (net : Network) (kept : Kept flow net) where
   module _ (d : ℕ) where
     -- how many tokens a machine has given at the channel's out
     abbrev gave : Machine → ℕ
-    gave z = given_by z.cycle (flag_at z.flags (wire_at net.wires d).out)
+    gave z = and_one z.cycle (flag_at z.flags (wire_at net.wires d).out)
 
     latch-puts : (c : ℕ) → CanLatch net c → puts (after_latch net c) d ≡ puts net d
     latch-puts c can =
@@ -68,14 +68,14 @@ module _ (flow : Flow) (net : Network) (kept : Kept flow net) where
         told-same gave net.machines m (finished x next) can.there (wire_at net.wires d).producer (λ same.
         let below : m < length (frame_of net).kinds = omega (arith, can.there, length-map net.machines kind_of) in
         let within : o < length x.flags = out-within flow (frame_of net) kept.sound m below x (kept.machines m can.there) d known same in
-        ap (given_by (suc x.cycle)) (clear-after (length x.flags) o) ∙ sym (ap (given_by x.cycle) (can.fired o false within)))
+        ap (and_one (suc x.cycle)) (clear-after (length x.flags) o) ∙ sym (ap (and_one x.cycle) (can.fired o false within)))
 
     fire-other : (c token : ℕ) → CanFire net c → d < length net.wires → (d ≡ c → ⊥) → puts (after_fire net c token) d ≡ puts net d
     fire-other c token can known other =
         let w : Wire = wire_at net.wires c in
         let x : Machine = producer_of net c in
         told-same gave net.machines w.producer (with_flag x w.out) (producer-there flow net kept c can.can.0) (wire_at net.wires d).producer (λ same.
-        ap (given_by x.cycle) (get_or-set_other x.flags w.out (wire_at net.wires d).out true false (λ out. other (one-out (frame_of net) kept.sound.wired d c known can.can.0 same out))))
+        ap (and_one x.cycle) (get_or-set_other x.flags w.out (wire_at net.wires d).out true false (λ out. other (one-out (frame_of net) kept.sound.wired d c known can.can.0 same out))))
 
   -- `Fire` of a channel puts one more token into it
   pub fire-puts : (c token : ℕ) → CanFire net c → puts (after_fire net c token) c ≡ suc (puts net c)
@@ -85,9 +85,9 @@ module _ (flow : Flow) (net : Network) (kept : Kept flow net) where
       let there : w.producer < length net.machines = producer-there flow net kept c can.can.0 in
       let below : w.producer < length (frame_of net).kinds = omega (arith, there, length-map net.machines kind_of) in
       let within : w.out < length x.flags = out-within flow (frame_of net) kept.sound w.producer below x (kept.machines w.producer there) c can.can.0 refl in
-      ap (λ (z : Machine). given_by z.cycle (flag_at z.flags w.out)) (get_or-set_same net.machines w.producer (with_flag x w.out) no_machine there)
-      ∙ ap (given_by x.cycle) (get_or-set_same x.flags w.out true false within)
-      ∙ ap suc (sym (ap (given_by x.cycle) can.clear))
+      ap (λ (z : Machine). and_one z.cycle (flag_at z.flags w.out)) (get_or-set_same net.machines w.producer (with_flag x w.out) no_machine there)
+      ∙ ap (and_one x.cycle) (get_or-set_same x.flags w.out true false within)
+      ∙ ap suc (sym (ap (and_one x.cycle) can.clear))
 
   -- ---- each event
 

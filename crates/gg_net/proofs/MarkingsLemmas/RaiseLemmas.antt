@@ -7,7 +7,8 @@ use Rattle.std.proofs.lemmas.List.FromFn.{length-map-range_with_len, get_or-map-
 use Rattle.gg_flat.specs.Line.{value_at}
 use Rattle.gg_net.specs.declared.event.Event.{Event}
 use Rattle.gg_net.specs.declared.event.Event.TheVariants.{Latch, Fire, Serve, Finish}
-use Rattle.gg_net.specs.markings.Marking.{Layout, Marking, Link, link_at, is_set, and_one, one_more, cleared, after}
+use Rattle.gg_net.specs.markings.Marking.{Layout, Marking, Link, link_at, is_set, one_more, cleared, after}
+use Rattle.gg_net.specs.Network.{and_one}
 use Rattle.gg_net.specs.markings.Counts.{Counts, counts_of, dues, one_at, Raises, IsMarkingOf}
 use Rattle.gg_net.proofs.MarkingsLemmas.Free.{FreeLatch, FreeFire, FreeServe, FreeFinish, Free}
 use Rattle.gg_net.proofs.MarkingsLemmas.SumLemmas.{one-here, one-elsewhere}

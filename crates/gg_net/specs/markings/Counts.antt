@@ -8,6 +8,7 @@ use Rattle.gg_flat.specs.Line.{value_at}
 use Rattle.gg_net.specs.declared.event.Event.{Event}
 use Rattle.gg_net.specs.declared.event.Event.TheVariants.{Latch, Fire, Serve, Finish}
 use Rattle.gg_net.specs.Refusal.{Turn}
+use Rattle.gg_net.specs.Network.{and_one}
 use Rattle.gg_net.specs.markings.Marking as marks
 use Rattle.gg_net.specs.markings.Marking.{Layout, Marking, link_at, turns_at}
 
@@ -25,7 +26,7 @@ dues layout m = length (turns_at layout m)
 
 -- the number of tokens that a channel opens with
 abbrev pub early : Layout → ℕ → ℕ
-early layout c = marks.and_one 0 (link_at layout c).piped
+early layout c = and_one 0 (link_at layout c).piped
 
 -- how often each step was done to come to a marking
 abbrev pub counts_of : Layout → Marking → Counts

@@ -4,6 +4,7 @@
 -- MEMOCODE 2009 (when a node may take, give and finish); ICCAD 2019 for memories that are served port by port.
 use Rattle.std.specs.Prelude.{ℕ, suc, ◌-◌, ◌==◌, List, [], Bool, true, false, if◌then◌else◌, Option, length, map, replicate, slice_index_or, slice_set, slice_get, nat_lt}
 use Rattle.std.specs.List.{range_with_len}
+use Rattle.gg_net.specs.Network.{and_one}
 use Rattle.gg_flat.specs.Line.{value_at}
 use Rattle.gg_net.specs.declared.event.Event.{Event}
 use Rattle.gg_net.specs.declared.event.Event.TheVariants.{Latch, Fire, Serve, Finish}
@@ -61,11 +62,6 @@ opening_marking layout begin =
       taken = replicate (length layout.links) false;
       given = replicate (length layout.links) false;
     }
-
--- one more if the flag is true
-abbrev pub and_one : ℕ → Bool → ℕ
-and_one n false = n
-and_one n true = suc n
 
 -- the numbers of tokens that were put into a channel, have entered it, were taken from it, and are held
 abbrev pub puts : Layout → Marking → ℕ → ℕ

@@ -1,6 +1,7 @@
 use Rattle.std.proofs.Common.{◌≡◌, take}
 use Rattle.gg_flat.specs.Circuit.{no_circuit}
-use Rattle.gg_bridge.specs.Joined.{by_number, linked}
+use Rattle.gg_bridge.specs.Joined.{linked}
+use Rattle.gg_bits.specs.Lists.{by_number}
 use Rattle.gg_bridge.proofs.joining.add_front.Given as goal
 
 abbrev pub invariant-loop-place : goal.invariant-loop-place

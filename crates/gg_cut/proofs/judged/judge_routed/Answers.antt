@@ -7,7 +7,8 @@ use Rattle.gg_flat_tree.specs.Tree.{InstanceTree}
 use Rattle.gg_cut_plan.specs.declared.fault.CutFault.{CutFault}
 use Rattle.gg_cut_plan.specs.declared.listed.Listed.{Listed}
 use Rattle.gg_cut_plan.specs.declared.wires.Wire.{Wire}
-use Rattle.gg_cut_plan.specs.Fault.{IsTold, Tells, first_of, channel_faults, pipe_faults, clock_faults}
+use Rattle.gg_cut_plan.specs.Fault.{IsTold, Tells, channel_faults, pipe_faults, clock_faults}
+use Rattle.gg_bits.specs.Lists.{first_of}
 use Rattle.gg_cut.proofs.FaultlessLemmas.{channels-told, pipes-told, clocks-first}
 use Rattle.gg_cut.proofs.judged.judge_routed.Goals as goal
 

@@ -1,10 +1,10 @@
 use Rattle.std.proofs.Common.{◌≡◌, ◌+◌, ◌++◌, map}
 use Rattle.std.specs.List.{range_with_len}
-use Rattle.gg_cut_plan.specs.Seated.{before}
+use Rattle.gg_bits.specs.Lists.{count_below}
 use Rattle.gg_cut_machines.specs.Seats.{is_open, seat_by}
 use Rattle.gg_cut_machines.proofs.seats.push_seats.Given as goal
 
 abbrev pub invariant-loop-place : goal.invariant-loop-place
 invariant-loop-place l =
     (l.numbers.items ≡ l.initial.numbers.items ++ map (seat_by l.own l.bridge l.takers) (range_with_len 0 l.place))
-    × (l.next ≡ l.own + before (is_open l.takers) l.place)
+    × (l.next ≡ l.own + count_below (is_open l.takers) l.place)

@@ -2,7 +2,7 @@ use Rattle.gg_cut_pipes.specs.declared.tables.Tables.{Tables}
 use Rattle.std.proofs.Common.{refl, ◌≡◌, ◌<◌, ◌+◌, ℕ, List, length, take, get_or, ◌∙◌, ap, ap₂, arith}
 use Rattle.gg_flat.specs.declared.memory.Memory.{Memory}
 use Rattle.gg_flat.specs.Line.{value_at}
-use Rattle.gg_cut_reference.specs.Made.{by_number}
+use Rattle.gg_bits.specs.Lists.{by_number}
 use Rattle.gg_cut_pipes.specs.Tables.{seen_in}
 use Rattle.gg_cut_pipes.proofs.BuildLemmas.{number-more, memories-grow}
 use Rattle.gg_flat.specs.Renaming.{renamed_memory, signals_by}

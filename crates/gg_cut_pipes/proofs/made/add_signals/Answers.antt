@@ -4,7 +4,8 @@ use Rattle.std.proofs.lemmas.List.{take_more, length-take-le}
 use Rattle.gg_flat.specs.Circuit.{FlatCircuit, no_circuit}
 use Rattle.gg_flat_tree.specs.Tree.{path_at}
 use Rattle.gg_flat.proofs.ListLemmas.{some-item}
-use Rattle.gg_cut_reference.specs.Made.{by_number, seen_signal}
+use Rattle.gg_cut_reference.specs.Made.{seen_signal}
+use Rattle.gg_bits.specs.Lists.{by_number}
 use Rattle.gg_cut_pipes.specs.Tables.{views_by}
 use Rattle.gg_cut_reference.proofs.MadeLemmas.{length-by}
 use Rattle.gg_cut_pipes.proofs.BuildLemmas.{number-more, fresh-at, signals-grow}

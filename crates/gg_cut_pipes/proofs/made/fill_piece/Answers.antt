@@ -3,7 +3,8 @@ use Rattle.std.specs.Prelude.{AllPairs}
 use Rattle.gg_flat.specs.Circuit.{FlatCircuit}
 use Rattle.gg_flat_tree.specs.Tree.{path_at}
 use Rattle.gg_flat.specs.Line.{value_at}
-use Rattle.gg_cut_reference.specs.Made.{by_number, seen_signal, pipe_signals, pipe_registers}
+use Rattle.gg_cut_reference.specs.Made.{seen_signal, pipe_signals, pipe_registers}
+use Rattle.gg_bits.specs.Lists.{by_number}
 use Rattle.gg_cut_pipes.specs.Tables.{seen_in, kept_in, views_by}
 use Rattle.gg_cut_reference.proofs.MadeLemmas.{length-by}
 use Rattle.gg_flat.specs.Renaming.{renamed_memory, renamed_register, signals_by}

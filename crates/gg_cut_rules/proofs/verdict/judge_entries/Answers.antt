@@ -2,7 +2,8 @@ use Rattle.std.proofs.Common.{◌≡◌, subst}
 use Rattle.std.specs.Prelude.{IfOk}
 use Rattle.gg_flat_tree.specs.Tree.{InstanceTree}
 use Rattle.gg_cut_plan.specs.Listed.{listed_of}
-use Rattle.gg_cut_plan.specs.Fault.{Tells, first_of, entry_faults}
+use Rattle.gg_cut_plan.specs.Fault.{Tells, entry_faults}
+use Rattle.gg_bits.specs.Lists.{first_of}
 use Rattle.gg_cut_rules.proofs.verdict.judge_entries.Goals as goal
 
 pub returns-clause-told : goal.returns-clause-told

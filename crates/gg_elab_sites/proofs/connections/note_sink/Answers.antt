@@ -3,7 +3,7 @@ use Rattle.std.specs.Str.{bytes_eq}
 use Rattle.std.specs.Prelude.{is_some}
 use Rattle.gg_ast.specs.Places.{place_of}
 use Rattle.gg_elab_sites.specs.declared.connections.Source.{Source}
-use Rattle.gg_types.specs.Fields.{or_later}
+use Rattle.gg_bits.specs.Lists.{or_else}
 use Rattle.gg_elab_sites.specs.Views.{connection, source_at}
 use Rattle.gg_elab_sites.proofs.ConnectionLemmas.{noted, noted-again, found-there}
 use Rattle.gg_elab_sites.proofs.connections.note_sink.Goals as goal
@@ -17,7 +17,7 @@ returns-in-Ok-clause-noted c = λ q.
     ap (λ (l : List Source). source_at l (place_of q c.add.new.self)) more
     ∙ ap (λ (l : List (List ℕ)). source_at (sources ++ c.args.source ∷ []) (place_of q l)) named
     ∙ noted names sources c.in_ok-name.name c.args.source c.requires q
-    ∙ ap (λ (n : List ℕ). or_later (source_at sources (place_of q names)) (if bytes_eq q n then Some (connection c.args.source) else None)) c.in_ok-name.ensures
+    ∙ ap (λ (n : List ℕ). or_else (source_at sources (place_of q names)) (if bytes_eq q n then Some (connection c.args.source) else None)) c.in_ok-name.ensures
 
 pub returns-then-is_some-clause-noted : goal.returns-then-is_some-clause-noted
 returns-then-is_some-clause-noted c = λ q.
@@ -25,4 +25,4 @@ returns-then-is_some-clause-noted c = λ q.
     let sources = c.args.sinks.now.sources.items in
     let found : is_some c.find.result ≡ true = search rules in
     noted-again names sources c.in_ok-name.name (connection c.args.source) c.requires (found-there names c.in_ok-name.name c.find.result c.find.ensures.found found) q
-    ∙ ap (λ (n : List ℕ). or_later (source_at sources (place_of q names)) (if bytes_eq q n then Some (connection c.args.source) else None)) c.in_ok-name.ensures
+    ∙ ap (λ (n : List ℕ). or_else (source_at sources (place_of q names)) (if bytes_eq q n then Some (connection c.args.source) else None)) c.in_ok-name.ensures

@@ -1,7 +1,8 @@
 use Rattle.std.proofs.Common.{◌+◌, ◌≤◌}
 use Rattle.gg_flat.specs.Circuit.{driver_at}
 use Rattle.gg_order.specs.Marks.{is_marked}
-use Rattle.gg_program.specs.Unset.{waits, count_below}
+use Rattle.gg_program.specs.Unset.{waits}
+use Rattle.gg_bits.specs.Lists.{count_below}
 use Rattle.gg_program.proofs.EvaluateLemmas.{IsSettling}
 use Rattle.gg_program.proofs.evaluate.work_rest.Given as goal
 
